@@ -1,0 +1,3 @@
+pub mod TermLemmas
+pub mod SymbolLemmas
+pub mod EqualityLemmas

@@ -1,0 +1,11 @@
+pub mod Symbol
+pub mod Spelling
+pub mod Limits
+pub mod Term
+pub mod TermCode
+pub mod TermNode
+pub mod TermFalls
+pub mod TermSize
+pub mod Same
+pub mod Fault
+pub mod Flat

@@ -1,0 +1,17 @@
+//! Terms: integers, applications of symbols and lists, each with annotations.
+#![tactic(auto)]
+
+mod equality;
+pub mod fault;
+pub mod made;
+mod size;
+pub mod symbol;
+pub mod term;
+
+pub use fault::Fault;
+pub use made::Made;
+pub use symbol::{Kind, Sym};
+pub use term::{Head, Term};
+
+#[cfg(test)]
+mod tests;

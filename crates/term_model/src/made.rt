@@ -1,0 +1,11 @@
+// What making a term answers.
+
+/// A value that was made, or the answer that it would not fit: that it would weigh more than
+/// 16,777,216 or be deeper than 1,000.
+#[derive(Drop)]
+pub enum Made<R> {
+    /// The value, which fits.
+    Fits(R),
+    /// The value would not fit, and was not made.
+    Oversize,
+}

@@ -1,0 +1,162 @@
+// Each public call with ample memory; what is expected was worked out by hand.
+use crate::{Fault, Head, Kind, Made, Sym, Term};
+use std::alloc::{AllocError, AllocFailed, Global};
+use std::test::Fail;
+
+// The term, if it fits.
+fn fitting(made: Made<Term>) -> Option<Term> {
+    match made {
+        Made::Fits(term) => Some(term),
+        Made::Oversize => None,
+    }
+}
+
+// The symbol of this name applied to the parts.
+fn applied(alloc: Global, name: &[u8], parts: Vec<Term>) -> Result<Term, Fail> {
+    let symbol = Sym::plain(alloc, name)?.ok_or("no name")?;
+    let term = fitting(Term::app(alloc, symbol, parts)?).ok_or("oversize")?;
+    Ok(term)
+}
+
+// The string of these bytes.
+fn string(alloc: Global, bytes: &[u8]) -> Result<Term, Fail> {
+    let symbol = Sym::quoted(alloc, bytes)?;
+    let term = fitting(Term::app(alloc, symbol, Vec::new(alloc))?).ok_or("oversize")?;
+    Ok(term)
+}
+
+// The list of the integers from 0 on, of this length.
+fn count_up(alloc: Global, length: i32) -> Result<Term, Fail> {
+    let mut elements = Vec::new(alloc);
+    for i in 0..length {
+        elements.push(Term::int(alloc, i)?)?;
+    }
+    let list = fitting(Term::list(alloc, elements)?).ok_or("oversize")?;
+    Ok(list)
+}
+
+#[test]
+fn faults(rt: HostRuntime) -> Result<(), Fail> {
+    let table = [
+        (Fault::Memory, 1, "Memory"),
+        (Fault::Read, 2, "Read"),
+        (Fault::Write, 3, "Write"),
+        (Fault::DefsTooLong, 4, "DefsTooLong"),
+        (Fault::Lexical { at: 3 }, 5, "Lexical"),
+        (Fault::ReservedWord { at: 0 }, 6, "ReservedWord"),
+        (Fault::Syntax { at: 0 }, 7, "Syntax"),
+        (Fault::Nesting { at: 0 }, 8, "Nesting"),
+        (Fault::DuplicateDeclaration, 9, "DuplicateDeclaration"),
+        (Fault::Undeclared, 10, "Undeclared"),
+        (Fault::Parameters, 11, "Parameters"),
+        (Fault::Clash, 12, "Clash"),
+        (Fault::UnknownStrategy, 13, "UnknownStrategy"),
+        (Fault::NotBuildable, 14, "NotBuildable"),
+        (Fault::UnknownPrimitive, 15, "UnknownPrimitive"),
+        (Fault::NoMain, 16, "NoMain"),
+        (Fault::TermTooLong, 17, "TermTooLong"),
+        (Fault::TermSyntax { at: 0 }, 18, "TermSyntax"),
+        (Fault::TermOversize { at: 0 }, 19, "TermOversize"),
+        (Fault::TermUndeclared, 20, "TermUndeclared"),
+    ];
+    for (fault, number, word) in &table {
+        assert_eq!(rt; fault.number(), *number);
+        assert_eq!(rt; fault.word(), *word);
+    }
+    let message = format!(in rt.alloc(); "{}", Fault::Lexical { at: 3 })?;
+    assert_eq!(rt; message.as_str(), "the definitions have no token at byte 3");
+    assert!(rt; Fault::Lexical { at: 3 } != Fault::Lexical { at: 4 });
+    assert!(rt; Fault::from(AllocError) == Fault::Memory);
+    assert!(rt; Fault::from(AllocFailed { value: 7 }) == Fault::Memory);
+    Ok(())
+}
+
+#[test]
+fn symbols(rt: HostRuntime) -> Result<(), Fail> {
+    let alloc = rt.alloc();
+    for name in [b"a-1".as_slice(), b"_", b"Zero", b"x+*$0"] {
+        let symbol = Sym::plain(alloc, name)?.ok_or("no name")?;
+        assert_eq!(rt; symbol.kind(), Kind::Plain);
+        assert_eq!(rt; symbol.bytes(), name);
+    }
+    for text in [b"1a".as_slice(), b"", b"-", b"a b", b"a\xff"] {
+        assert!(rt; Sym::plain(alloc, text)?.is_none());
+        let symbol = Sym::quoted(alloc, text)?;
+        assert_eq!(rt; symbol.kind(), Kind::Quoted);
+        assert_eq!(rt; symbol.bytes(), text);
+    }
+    let tuple = Sym::tuple();
+    assert_eq!(rt; tuple.kind(), Kind::Tuple);
+    assert_eq!(rt; tuple.bytes(), b"".as_slice());
+    let quoted = Sym::quoted(alloc, b"f")?;
+    assert!(rt; Sym::plain(alloc, b"f")?.ok_or("no name")? != quoted);
+    assert!(rt; tuple != Sym::quoted(alloc, b"")?);
+    assert!(rt; quoted.clone()? == quoted);
+    Ok(())
+}
+
+#[test]
+fn terms(rt: HostRuntime) -> Result<(), Fail> {
+    let alloc = rt.alloc();
+    let seven = Term::int(alloc, 7)?;
+    assert!(rt; *seven.head() == Head::Int(7));
+    let text = string(alloc, b"a\"b")?;
+    let g = applied(alloc, b"g", Vec::new(alloc))?;
+    let x = applied(alloc, b"x", Vec::new(alloc))?;
+    let f = applied(alloc, b"f", vec![in alloc; seven.clone()?, text, g]?)?;
+    let annotated = fitting(f.with_annos(alloc, vec![in alloc; x]?)?).ok_or("oversize")?;
+    assert_eq!(rt; (annotated.weight(), annotated.depth()), (11, 2));
+    assert_eq!(rt;
+        (annotated.children().len(), annotated.annos().len()),
+        (3, 1)
+    );
+    assert!(rt; annotated != f);
+    assert!(rt; annotated.head().clone()? == f.head().clone()?);
+    let bare = fitting(annotated.with_annos(alloc, Vec::new(alloc))?).ok_or("oversize")?;
+    assert!(rt; bare == f);
+
+    let one = fitting(Term::list(alloc, vec![in alloc; Term::int(alloc, 1)?]?)?);
+    let a = applied(alloc, b"a", Vec::new(alloc))?;
+    let one = one
+        .ok_or("oversize")?
+        .with_annos(alloc, vec![in alloc; a.clone()?]?)?;
+    let two = Term::int(alloc, 2)?;
+    let one = fitting(one).ok_or("oversize")?;
+    assert_eq!(rt; one.children().len(), 1);
+    let built = fitting(one.rebuild(alloc, vec![in alloc; two.clone()?]?)?).ok_or("oversize")?;
+    assert!(rt; *built.head() == Head::List);
+    assert!(rt; built.children() == vec![in alloc; two]?.as_slice());
+    assert!(rt; built.annos() == vec![in alloc; a]?.as_slice());
+    assert!(rt; built != one);
+    Ok(())
+}
+
+#[test]
+fn limits(rt: HostRuntime) -> Result<(), Fail> {
+    let alloc = rt.alloc();
+    let bytes = vec![in alloc; b'x'; 8_388_607]?;
+    let longer = string(alloc, &bytes)?;
+    let shorter = string(alloc, &bytes[1..])?;
+    let heaviest = applied(
+        alloc,
+        b"F",
+        vec![in alloc; shorter.clone()?, shorter.clone()?]?,
+    )?;
+    assert_eq!(rt; heaviest.weight(), 16_777_216);
+    let symbol = Sym::plain(alloc, b"F")?.ok_or("no name")?;
+    let heavier = Term::app(alloc, symbol, vec![in alloc; shorter, longer]?)?;
+    assert!(rt; matches!(heavier, Made::Oversize));
+
+    let mut deep = Term::list(alloc, Vec::new(alloc))?;
+    for depth in 1..=1000 {
+        let term = fitting(deep).ok_or("oversize")?;
+        assert_eq!(rt; term.depth(), depth);
+        deep = Term::list(alloc, vec![in alloc; term]?)?;
+    }
+    assert!(rt; matches!(deep, Made::Oversize));
+
+    let list = count_up(alloc, 1_000_000)?;
+    assert!(rt; list == count_up(alloc, 1_000_000)?);
+    assert!(rt; list != count_up(alloc, 999_999)?);
+    Ok(())
+}
