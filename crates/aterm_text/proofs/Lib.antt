@@ -1,0 +1,17 @@
+pub mod Agree
+pub mod Basics
+pub mod Canonical
+pub mod Complete
+pub mod CompleteDepth
+pub mod Endings
+pub mod Items
+pub mod Joins
+pub mod Machine
+pub mod Meaning
+pub mod ReadLemmas
+pub mod ReadTokens
+pub mod RoundTrip
+pub mod RunLemmas
+pub mod Slices
+pub mod Sound
+pub mod WriteLemmas

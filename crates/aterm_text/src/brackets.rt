@@ -1,0 +1,151 @@
+// What stands behind a symbol and behind a term: brackets that open and close, and commas.
+ghost use Rattle.std.specs.Prelude.{◌≡◌, List, [], ◌∷◌, IfOk};
+ghost use Rattle.aterm_text.specs.Tokens.{is_blank};
+ghost use Rattle.aterm_text.specs.Reading.{item_of, closed, terms_in, add, closer as closing, stack_of, Gives, next as behind, whole as whole_then, named as named_then, At, opened, IsCalm};
+
+use crate::place::{Bracket, Level, Levels, Place};
+use std::alloc::{AllocError, Global};
+use term_model::{Fault, Made, Sym, Term};
+
+pub(crate) fn is_blank_byte(byte: u8) -> bool
+    ensures { result ≡ is_blank byte }
+{
+    matches!(byte, b' ' | b'\t' | b'\n' | b'\r')
+}
+
+// The term, if it fits.
+pub(crate) fn item(made: Made<Term>) -> Option<Term>
+    ensures { result ≡ item_of made }
+{
+    match made {
+        Made::Fits(term) => Some(term),
+        Made::Oversize => None,
+    }
+}
+
+// What is read once the bracket closes behind these terms.
+pub(crate) fn close(
+    alloc: Global,
+    bracket: Bracket,
+    earlier: Option<Vec<Term>>,
+) -> Result<Place, AllocError>
+    ensures gives { IfOk result (λ place. place ≡ closed bracket (terms_in earlier)) }
+    ensures calm { IfOk result IsCalm }
+{
+    let Some(terms) = earlier else {
+        return match bracket {
+            Bracket::Applied(_) | Bracket::Elements => Ok(Place::Whole(None)),
+            Bracket::Annotations(_) => Ok(Place::Done(None)),
+        };
+    };
+    match bracket {
+        Bracket::Applied(symbol) => Ok(Place::Whole(item(Term::app(alloc, symbol, terms)?))),
+        Bracket::Elements => Ok(Place::Whole(item(Term::list(alloc, terms)?))),
+        Bracket::Annotations(None) => Ok(Place::Done(None)),
+        Bracket::Annotations(Some(term)) => Ok(Place::Done(item(term.with_annos(alloc, terms)?))),
+    }
+}
+
+pub(crate) fn closer(bracket: &Bracket) -> u8
+    ensures { result ≡ closing bracket.now }
+{
+    match bracket {
+        Bracket::Applied(_) => b')',
+        Bracket::Elements => b']',
+        Bracket::Annotations(_) => b'}',
+    }
+}
+
+// These terms and one more, if all of them fit.
+pub(crate) fn with_term(
+    earlier: Option<Vec<Term>>,
+    term: Option<Term>,
+) -> Result<Option<Vec<Term>>, AllocError>
+    ensures { IfOk result (λ terms. terms_in terms ≡ add (terms_in earlier) term) }
+{
+    match (earlier, term) {
+        (Some(mut terms), Some(term)) => {
+            terms.push(term)?;
+            Ok(Some(terms))
+        }
+        _ => Ok(None),
+    }
+}
+
+// A byte behind a term that takes no annotations.
+pub(crate) fn next(
+    alloc: Global,
+    term: Option<Term>,
+    levels: &mut Levels,
+    byte: u8,
+    at: u64,
+) -> Result<Place, Fault>
+    ensures gives { Gives result (stack_of levels.new.items) (behind term (stack_of levels.old.items) byte) }
+    ensures calm { IfOk result IsCalm }
+{
+    let Some(Level { bracket, earlier }) = levels.pop() else {
+        return Err(Fault::TermSyntax { at });
+    };
+    let earlier = with_term(earlier, term)?;
+    if byte == b',' {
+        levels.push(Level { bracket, earlier })?;
+        return Ok(Place::Expect);
+    }
+    if byte == closer(&bracket) {
+        return Ok(close(alloc, bracket, earlier)?);
+    }
+    Err(Fault::TermSyntax { at })
+}
+
+pub(crate) fn open(levels: &mut Levels, bracket: Bracket, alloc: Global) -> Result<Place, Fault>
+    ensures gives { Gives result (stack_of levels.new.items) (At Place.Fresh (opened bracket ∷ stack_of levels.old.items)) }
+    ensures calm { IfOk result IsCalm }
+{
+    let level = Level {
+        bracket,
+        earlier: Some(Vec::new(alloc)),
+    };
+    levels.push(level)?;
+    Ok(Place::Fresh)
+}
+
+// A byte behind a term that may take annotations.
+pub(crate) fn whole(
+    alloc: Global,
+    term: Option<Term>,
+    levels: &mut Levels,
+    byte: u8,
+    at: u64,
+) -> Result<Place, Fault>
+    ensures gives { Gives result (stack_of levels.new.items) (whole_then term (stack_of levels.old.items) byte) }
+    ensures calm { IfOk result IsCalm }
+{
+    if is_blank_byte(byte) {
+        return Ok(Place::Whole(term));
+    }
+    if byte == b'{' {
+        return open(levels, Bracket::Annotations(term), alloc);
+    }
+    next(alloc, term, levels, byte, at)
+}
+
+// A byte behind a symbol.
+pub(crate) fn named(
+    alloc: Global,
+    symbol: Sym,
+    levels: &mut Levels,
+    byte: u8,
+    at: u64,
+) -> Result<Place, Fault>
+    ensures gives { Gives result (stack_of levels.new.items) (named_then symbol (stack_of levels.old.items) byte) }
+    ensures calm { IfOk result IsCalm }
+{
+    if is_blank_byte(byte) {
+        return Ok(Place::Named(symbol));
+    }
+    if byte == b'(' {
+        return open(levels, Bracket::Applied(symbol), alloc);
+    }
+    let term = item(Term::app(alloc, symbol, Vec::new(alloc))?);
+    whole(alloc, term, levels, byte, at)
+}

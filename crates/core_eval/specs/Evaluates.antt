@@ -1,0 +1,43 @@
+-- What an evaluation says.
+use Rattle.std.specs.Prelude.{◌≡◌, ◌≤◌, ℕ, Option, Some, None, List, []}
+use Rattle.term_model.specs.declared.made.Made.{Made}
+use Rattle.term_model.specs.declared.made.Made.TheVariants as made
+use Rattle.term_model.specs.Flat.{Meaning}
+use Rattle.term_model.specs.Term.{Tree}
+use Rattle.core_lang.specs.declared.place.Place.{Place}
+use Rattle.core_lang.specs.declared.run.Outcome.{Outcome}
+use Rattle.core_lang.specs.declared.run.Outcome.TheVariants.{Rewritten, Failed, Oversize, Spent}
+use Rattle.core_lang.specs.Ending.{Ending, ok, failed, oversize}
+use Rattle.core_lang.specs.Environment.{Environment, Bindings}
+use Rattle.core_lang.specs.Named.{Name}
+use Rattle.core_lang.specs.Program.{Strategy, Definitions}
+use Rattle.core_lang.specs.Resolved.{by_places}
+use Rattle.core_lang.specs.declared.run.Run.{Run}
+use Rattle.core_lang.specs.Run.{IsOutcome}
+use Rattle.core_lang.specs.Settled.{Verdict, ends, spent, Settled}
+
+-- how a made term ends a build
+abbrev pub made_ending : Option (Made Tree) → Bindings → Ending Tree
+made_ending None e = failed
+made_ending (Some (made.Fits t)) e = ok t e
+made_ending (Some made.Oversize) e = oversize
+
+abbrev pub verdict_of : Outcome Tree → Bindings → Verdict Tree
+verdict_of (Rewritten t) e = ends (ok t e)
+verdict_of Failed e = ends failed
+verdict_of Oversize e = ends oversize
+verdict_of Spent e = spent
+
+-- whatever primitives answer, the strategy comes to this verdict from the budget b, and leaves the budget c
+pub record Evaluates (V : Environment Place ℕ) (s : Strategy Place ℕ) (t : Tree) (e : Bindings) (b : ℕ) (v : Verdict Tree) (c : ℕ) : Type 0 where
+  pub settled : (M : Meaning) → Settled by_places M V s t e b v c
+  pub left : c ≤ b
+
+-- the same without bindings, with some or other at the end
+abbrev pub EvaluatesOn : Environment Place ℕ → Strategy Place ℕ → Tree → ℕ → Outcome Tree → ℕ → Type 0
+EvaluatesOn V s t b r c = (e : Bindings) × Evaluates V s t [] b (verdict_of r e) c
+
+-- a run by recursion: no machine takes a step
+pub record IsRun (M : Meaning) (P : Definitions Name (List Name)) (main : Name) (t : Tree) (budget : ℕ) (run : Run Tree) : Type 0 where
+  pub outcome : IsOutcome M P main t budget run.outcome run.rules
+  pub steps : run.steps ≡ 0

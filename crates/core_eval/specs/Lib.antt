@@ -1,0 +1,4 @@
+pub mod Frame
+pub mod Matching
+pub mod Instance
+pub mod Evaluates

@@ -1,0 +1,63 @@
+// Runs of a core.
+ghost use Rattle.std.specs.Prelude.{◌≡◌, ◌≤◌, IfOk, OnErr, IfErr, List, []};
+ghost use Rattle.core_lang.specs.Core.{program_of};
+ghost use Rattle.core_lang.specs.Named.{Name};
+ghost use Rattle.core_lang.specs.Program.{Definitions, call, no_strategies, no_patterns};
+ghost use Rattle.core_lang.specs.Environment.{definitions, outermost};
+ghost use Rattle.core_lang.specs.Resolution.{ResolvesProgram};
+ghost use Rattle.core_lang.specs.Resolved.{here};
+ghost use Rattle.term_model.specs.Flat.{Meaning};
+ghost use Rattle.core_eval.specs.Evaluates.{EvaluatesOn, IsRun};
+
+use crate::evaluation::evaluate;
+use crate::frame::Frame;
+use core_lang::{Core, Outcome, Run};
+use std::alloc::{AllocError, Global};
+use term_model::{Fault, Term};
+
+/// Runs the core on the term: main is called without arguments and without bindings.
+///
+/// `rules` is the number of nodes of the derivation, and the budget where the budget is spent before the derivation
+/// is complete; `steps` is 0. The only fault is want of memory.
+pub fn eval(alloc: Global, core: &Core, term: &Term, budget: u32) -> Result<Run<Term>, Fault>
+    requires { budget ≤ 2000 }
+    ensures run { IfOk result (λ run. (M : Meaning) (P : Definitions Name (List Name)) (main : Name) →
+        ResolvesProgram P main (program_of core.now) core.now.main → IsRun M P main term.now budget run) }
+    ensures fault { IfErr result (λ fault. fault ≡ Fault.Memory) }
+{
+    let mut left = budget;
+    let outcome = call_main(alloc, core, term, &mut left)?;
+    let rules = match &outcome {
+        Outcome::Spent => budget,
+        _ => budget - left,
+    };
+    Ok(Run {
+        outcome,
+        rules,
+        steps: 0,
+    })
+}
+
+// The call of main.
+fn call_main(
+    alloc: Global,
+    core: &Core,
+    term: &Term,
+    budget: &mut u32,
+) -> Result<Outcome<Term>, AllocError>
+    ensures { IfOk result (λ r. EvaluatesOn (definitions (program_of core.now) outermost) (call (here core.now.main) no_strategies no_patterns) term.now budget.old r budget.new) }
+{
+    if *budget == 0 {
+        return Ok(Outcome::Spent);
+    }
+    *budget -= 1;
+    let defs = core.defs();
+    let Some(main) = defs.get(core.main()) else {
+        return Ok(Outcome::Spent);
+    };
+    let program = Frame::Program(defs);
+    let frame = Frame::Layer(0, 0, &program);
+    let mut places = Vec::new(alloc);
+    let outcome = evaluate(alloc, &main.body, &frame, term, &mut places, budget)?;
+    Ok(outcome)
+}

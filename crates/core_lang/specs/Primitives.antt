@@ -1,0 +1,31 @@
+-- The primitives that occur in a program.
+use Rattle.std.specs.Prelude.{◌≡◌, ℕ, ◌⊎◌, List}
+use Rattle.core_lang.specs.Program.{Strategy, id, fail, seq, choice, match, build, scope, all, one, some, with_definitions, call, primitive, Strategies, no_strategies, more_strategies, Definitions, no_definitions, more_definitions, patterns_count}
+
+-- the primitive of this name, with k arguments
+module _ {X B : Type 0} (f : List ℕ) (k : ℕ) where
+  abbrev mutual
+    pub OccursIn : Strategy X B → Type 0
+    OccursIn id = ⊥
+    OccursIn fail = ⊥
+    OccursIn (seq s1 s2) = OccursIn s1 ⊎ OccursIn s2
+    OccursIn (choice s1 s2 s3) = OccursIn s1 ⊎ OccursIn s2 ⊎ OccursIn s3
+    OccursIn (match p) = ⊥
+    OccursIn (build p) = ⊥
+    OccursIn (scope xs s) = OccursIn s
+    OccursIn (all s) = OccursIn s
+    OccursIn (one s) = OccursIn s
+    OccursIn (some s) = OccursIn s
+    OccursIn (with_definitions ds s) = OccursInDefinitions ds ⊎ OccursIn s
+    OccursIn (call g ss ps) = OccursInAny ss
+    OccursIn (primitive g ps) = (g ≡ f) × (patterns_count ps ≡ k)
+
+    -- in an argument of a call
+    pub OccursInAny : Strategies X B → Type 0
+    OccursInAny no_strategies = ⊥
+    OccursInAny (more_strategies s ss) = OccursIn s ⊎ OccursInAny ss
+
+    -- in a body
+    pub OccursInDefinitions : Definitions X B → Type 0
+    OccursInDefinitions no_definitions = ⊥
+    OccursInDefinitions (more_definitions g fs xs s ds) = OccursIn s ⊎ OccursInDefinitions ds
