@@ -3,6 +3,7 @@ use Rattle.std.specs.Prelude.{ℕ, ◌+◌, ◌-◌, ◌*◌, Bool, true, false,
 use Rattle.term_model.specs.declared.term.Head.{Head}
 use Rattle.term_model.specs.declared.term.Head.TheVariants as heads
 use Rattle.term_model.specs.Symbol.{Symbol, Plain, Quoted, Tuple, is_between, begins_name, continues_name}
+use Rattle.term_model.specs.Limits.{max_depth}
 use Rattle.term_model.specs.Term.{Tree, node, Trees, end, trees_of}
 use Rattle.aterm_text.specs.Tokens.{is_blank, is_digit, integer, unescaped, is_octal}
 use Rattle.aterm_text.specs.Depth.{Opening, Applied, Elements, Annotations, Open, begins_term}
@@ -58,7 +59,7 @@ first s c =
     else Wrong
 
 abbrev pub begin : List Open → ℕ → State
-begin s c = if begins_term c then (if length s == 1000 then Deep else first s c) else Wrong
+begin s c = if begins_term c then (if length s == max_depth then Deep else first s c) else Wrong
 
 -- a byte behind a whole term
 abbrev pub next : Tree → List Open → ℕ → State

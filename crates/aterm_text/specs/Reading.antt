@@ -9,6 +9,7 @@ use Rattle.term_model.specs.declared.made.Made.TheVariants as made
 use Rattle.term_model.specs.declared.fault.Fault.{Fault}
 use Rattle.term_model.specs.declared.fault.Fault.TheVariants as faults
 use Rattle.term_model.specs.Symbol.{Symbol, Plain, Quoted, Tuple, is_between, begins_name, continues_name, is_name}
+use Rattle.term_model.specs.Limits.{max_depth}
 use Rattle.term_model.specs.Term.{Tree, term, head_of, parts_of, made_of}
 use Rattle.aterm_text.specs.Tokens.{is_blank, is_digit, is_octal, unescaped, integer}
 use Rattle.aterm_text.specs.Depth.{begins_term}
@@ -85,7 +86,7 @@ first at s c =
     else Wrong
 
 abbrev pub begin : ℕ → List Inside → ℕ → Spot
-begin at s c = if begins_term c then (if length s == 1000 then Deep else first at s c) else Wrong
+begin at s c = if begins_term c then (if length s == max_depth then Deep else first at s c) else Wrong
 
 -- a byte behind a term that takes no annotations
 abbrev pub next : Option Tree → List Inside → ℕ → Spot

@@ -51,17 +51,14 @@ pub fn write_term(term: &Term, out: &mut Vec<u8>) -> Result<(), AllocError>
     writer::write(term, out)
 }
 
-/// A law, with nothing to run: the canonical text of each term spells that term, holds no line feed
-/// and does not begin with `#`; where the term fits, reading that text answers it.
+/// Laws, with nothing to run. The canonical text of each term spells that term, holds no line feed
+/// and does not begin with `#`; where the term fits, reading that text answers it. No text that
+/// spells a term that fits is too deep.
 #[tactic(auto, using(crate::proofs::Canonical::canonical, crate::proofs::RoundTrip::reads_back))]
-pub fn canonical_text_law()
+pub fn text_laws()
     ensures canonical { (t : Tree) → IsTerm t → IsCanonical t }
     ensures reads_back { (t : Tree) → IsTerm t → Fits t → ReadsBack t }
-{}
-
-/// A law, with nothing to run: no text that spells a term that fits is too deep.
-pub fn depth_law()
-    ensures { (t : Tree) (bytes : List ℕ) → IsText t bytes → Fits t → ¬ (TooDeep bytes) }
+    ensures not_deep { (t : Tree) (bytes : List ℕ) → IsText t bytes → Fits t → ¬ (TooDeep bytes) }
 {}
 
 #[cfg(test)]

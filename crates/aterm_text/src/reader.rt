@@ -12,6 +12,7 @@ use crate::runs::resume;
 use smallvec::SmallVec;
 use std::alloc::{AllocError, Global};
 use term_model::symbol::{begins, continues};
+use term_model::term::MAX_DEPTH;
 use term_model::{Fault, Sym, Term};
 
 // One more digit.
@@ -46,7 +47,7 @@ fn begin(alloc: Global, levels: &mut Levels, byte: u8, index: usize) -> Result<P
     if !is_first(byte) {
         return Err(Fault::TermSyntax { at });
     }
-    if levels.len() == 1000 {
+    if levels.len() == MAX_DEPTH as usize {
         return Err(Fault::TermOversize { at });
     }
     if begins(byte) {

@@ -2,7 +2,7 @@
 ghost use Rattle.std.specs.Prelude.{◌≡◌, ◌+◌, ◌++◌, ◌∷◌, IfOk, OnOk, map};
 ghost use Rattle.core_lang.specs.Ending.{Ending, ok, failed, oversize};
 ghost use Rattle.core_lang.specs.Environment.{Bindings, empty_places};
-ghost use Rattle.core_lang.specs.Program.{scope};
+ghost use Rattle.core_lang.specs.Program.{scope, seq};
 ghost use Rattle.core_lang.specs.Settled.{ends};
 ghost use Rattle.core_lang.specs.Views.{strategy_of, arm_of, chain, first_of};
 ghost use Rattle.core_eval.specs.Frame.{environment_of};
@@ -35,26 +35,12 @@ pub fn evaluate(
         CoreStrategy::Id => Ok(Outcome::Rewritten(t.clone()?)),
         CoreStrategy::Fail => Ok(Outcome::Failed),
         CoreStrategy::Sequence(first, second, rest) => {
-            match evaluate(alloc, first, frame, t, places, budget)? {
-                Outcome::Rewritten(u) => {
-                    let rest = rest.as_slice();
-                    let ending = evaluate_chain(alloc, second, rest, frame, &u, places, budget)?;
-                    Ok(ending)
-                }
-                other => Ok(other),
-            }
+            let rest = rest.as_slice();
+            evaluate_in_turn(alloc, first, second, rest, frame, t, places, budget)
         }
         CoreStrategy::Choice(arm, more, otherwise) => {
-            evaluate_arms(
-                alloc,
-                arm,
-                more.as_slice(),
-                otherwise,
-                frame,
-                t,
-                places,
-                budget,
-            )
+            let more = more.as_slice();
+            evaluate_arm(alloc, arm, more, otherwise, frame, t, places, budget)
         }
         CoreStrategy::Match(p) => {
             if matches(p, frame, t, places)? {
@@ -67,6 +53,29 @@ pub fn evaluate(
         CoreStrategy::Scope(count, body) => {
             evaluate_scope(alloc, *count, body, frame, t, places, budget)
         }
+    }
+}
+
+// A sequence, whose node is paid: the strategy, and then the next and the others on what it made.
+#[cycle(eval)]
+fn evaluate_in_turn(
+    alloc: Global,
+    s: &CoreStrategy,
+    next: &CoreStrategy,
+    more: &[CoreStrategy],
+    frame: &Frame,
+    t: &Term,
+    places: &mut Vec<Option<Term>>,
+    budget: &mut u32,
+) -> Result<Outcome<Term>, AllocError>
+    ensures { IfOk result (λ r. Evaluates (environment_of frame.now) (seq (strategy_of s.now) (chain (strategy_of next.now) (map strategy_of more.now))) t.now places.old.items (1 + budget.old) (verdict_of r places.new.items) budget.new) }
+{
+    match evaluate(alloc, s, frame, t, places, budget)? {
+        Outcome::Rewritten(u) => {
+            let ending = evaluate_chain(alloc, next, more, frame, &u, places, budget)?;
+            Ok(ending)
+        }
+        other => Ok(other),
     }
 }
 
@@ -83,27 +92,21 @@ fn evaluate_chain(
 ) -> Result<Outcome<Term>, AllocError>
     ensures { IfOk result (λ r. Evaluates (environment_of frame.now) (chain (strategy_of s.now) (map strategy_of rest.now)) t.now places.old.items budget.old (verdict_of r places.new.items) budget.new) }
 {
-    match rest.split_first() {
-        None => evaluate(alloc, s, frame, t, places, budget),
-        Some((next, more)) => {
-            if *budget == 0 {
-                return Ok(Outcome::Spent);
-            }
-            *budget -= 1;
-            match evaluate(alloc, s, frame, t, places, budget)? {
-                Outcome::Rewritten(u) => {
-                    let ending = evaluate_chain(alloc, next, more, frame, &u, places, budget)?;
-                    Ok(ending)
-                }
-                other => Ok(other),
-            }
-        }
+    let Some((next, more)) = rest.split_first() else {
+        let ending = evaluate(alloc, s, frame, t, places, budget)?;
+        return Ok(ending);
+    };
+    if *budget == 0 {
+        return Ok(Outcome::Spent);
     }
+    *budget -= 1;
+    let ending = evaluate_in_turn(alloc, s, next, more, frame, t, places, budget)?;
+    Ok(ending)
 }
 
-// A choice, whose first node is paid.
+// A choice that begins with this arm, whose node is paid.
 #[cycle(eval)]
-fn evaluate_arms(
+fn evaluate_arm(
     alloc: Global,
     arm: &CoreArm,
     more: &[CoreArm],
@@ -123,25 +126,36 @@ fn evaluate_arms(
         }
         Outcome::Failed => {
             *places = saved;
-            match more.split_first() {
-                None => {
-                    let ending = evaluate(alloc, otherwise, frame, t, places, budget)?;
-                    Ok(ending)
-                }
-                Some((next, rest)) => {
-                    if *budget == 0 {
-                        return Ok(Outcome::Spent);
-                    }
-                    *budget -= 1;
-                    let ending = evaluate_arms(
-                        alloc, next, rest, otherwise, frame, t, places, budget,
-                    )?;
-                    Ok(ending)
-                }
-            }
+            let ending = evaluate_others(alloc, more, otherwise, frame, t, places, budget)?;
+            Ok(ending)
         }
         other => Ok(other),
     }
+}
+
+// The choice among the arms that are left, or the last strategy.
+#[cycle(eval)]
+fn evaluate_others(
+    alloc: Global,
+    arms: &[CoreArm],
+    otherwise: &CoreStrategy,
+    frame: &Frame,
+    t: &Term,
+    places: &mut Vec<Option<Term>>,
+    budget: &mut u32,
+) -> Result<Outcome<Term>, AllocError>
+    ensures { IfOk result (λ r. Evaluates (environment_of frame.now) (first_of (map arm_of arms.now) (strategy_of otherwise.now)) t.now places.old.items budget.old (verdict_of r places.new.items) budget.new) }
+{
+    let Some((arm, rest)) = arms.split_first() else {
+        let ending = evaluate(alloc, otherwise, frame, t, places, budget)?;
+        return Ok(ending);
+    };
+    if *budget == 0 {
+        return Ok(Outcome::Spent);
+    }
+    *budget -= 1;
+    let ending = evaluate_arm(alloc, arm, rest, otherwise, frame, t, places, budget)?;
+    Ok(ending)
 }
 
 // A scope, whose node is paid.

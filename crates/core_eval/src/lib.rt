@@ -8,3 +8,6 @@ mod matching;
 mod run;
 
 pub use run::eval;
+
+#[cfg(test)]
+mod tests;

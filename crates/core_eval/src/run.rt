@@ -15,10 +15,11 @@ use core_lang::{Core, Outcome, Run};
 use std::alloc::{AllocError, Global};
 use term_model::{Fault, Term};
 
-/// Runs the core on the term: main is called without arguments and without bindings.
+/// Runs the core on the term: a call of its main, without arguments and without bindings, by plain recursion.
 ///
-/// `rules` is the number of nodes of the derivation, and the budget where the budget is spent before the derivation
-/// is complete; `steps` is 0. The only fault is want of memory.
+/// The answer is that of every program over names that the core is resolved from. `rules` is the number of nodes of the
+/// derivation; where no derivation has as few nodes as the budget, the outcome is `Spent` and `rules` is the budget.
+/// `steps` is 0. The only fault is `Memory`; the term and the core stay as they were.
 pub fn eval(alloc: Global, core: &Core, term: &Term, budget: u32) -> Result<Run<Term>, Fault>
     requires { budget ≤ 2000 }
     ensures run { IfOk result (λ run. (M : Meaning) (P : Definitions Name (List Name)) (main : Name) →

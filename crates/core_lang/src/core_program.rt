@@ -1,4 +1,4 @@
-// Cores: programs over places that are in range.
+//! Cores: programs over places that are in range.
 ghost use Rattle.std.specs.Prelude.{◌≡◌, ◌↔◌, IsTrue};
 ghost use Rattle.core_lang.specs.Views.{definitions_of};
 ghost use Rattle.core_lang.specs.Core.{program_of};
@@ -8,7 +8,9 @@ use crate::program::CoreDef;
 use crate::range;
 use std::marker::Model;
 
-/// A core program: definitions, one of which is main. Each place in it leads to a variable that is there.
+/// A program over places, as it is run: definitions, one of which is main.
+///
+/// It is in range: each place in it leads to a variable that is there, and main is there and has no parameters.
 #[derive(Drop)]
 pub struct Core {
     defs: Vec<CoreDef>,
@@ -34,15 +36,16 @@ impl Model for Core {
 }
 
 impl Core {
-    /// Whether these definitions, with the one at `main` as main, are a core: `main` is there and has no parameters,
-    /// and each place in a body is that of a variable.
+    /// Whether these definitions, with the one at position `main` (from 0) as main, are a core: that one is there and has
+    /// no parameters, and each place in a body is that of a variable. It takes no memory.
     pub fn in_range(defs: &[CoreDef], main: usize) -> bool
         ensures { IsTrue result ↔ InRange (definitions_of defs.now) main }
     {
         range::has_main(defs, main) && range::definitions_in_range(defs)
     }
 
-    /// The core of these definitions, with the one at `main` as main.
+    /// The core of these definitions, with the one at position `main` (from 0) as main; they must be in range. It takes no
+    /// memory.
     pub fn new(defs: Vec<CoreDef>, main: usize) -> Core
         requires { InRange (definitions_of defs.items) main }
         ensures definitions { result.defs ≡ defs.items }
@@ -51,7 +54,7 @@ impl Core {
         Core { defs, main }
     }
 
-    /// The definitions.
+    /// The definitions, main among them.
     pub fn defs(&self) -> &[CoreDef]
         ensures same { result.now ≡ self.now.defs }
         ensures in_range { InRange (program_of self.now) self.now.main }
@@ -59,7 +62,7 @@ impl Core {
         self.defs.as_slice()
     }
 
-    /// The position of main among the definitions.
+    /// The position of main among the definitions, from 0.
     pub fn main(&self) -> usize
         ensures { result ≡ self.now.main }
     {

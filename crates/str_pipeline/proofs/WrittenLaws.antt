@@ -1,0 +1,106 @@
+-- What is written follows from the run of a program.
+use Rattle.std.proofs.Common.{◌≡◌, ℕ, List, length, ◌≤◌, refl, Ok, inl, ap}
+use Rattle.term_model.specs.Term.{Tree}
+use Rattle.term_model.specs.Flat.{Meaning}
+use Rattle.core_lang.specs.declared.run.Outcome.{Outcome}
+use Rattle.core_lang.specs.declared.run.Outcome.TheVariants.{Rewritten, Failed, Oversize, Spent}
+use Rattle.core_lang.specs.Run.{IsOutcome}
+use Rattle.str_pipeline.specs.SourceTree.{FileTree}
+use Rattle.str_pipeline.specs.Reduction.{program_core, main_name}
+use Rattle.aterm_text.specs.ReadTerm.{IsReading}
+use Rattle.core_lang.specs.declared.run.Run.{Run}
+use Rattle.core_lang.specs.Program.{Definitions}
+use Rattle.core_lang.specs.Named.{Name}
+use Rattle.core_lang.specs.Resolution.{ResolvesProgram}
+use Rattle.core_lang.specs.Core.{CoreParts, program_of}
+use Rattle.core_eval.specs.Evaluates.{IsRun}
+use Rattle.std.specs.Prelude.{Option, None, Some, IfSome, IsSomeAnd, IsErrAnd, Result, Err}
+use Rattle.term_model.specs.declared.fault.Fault.{Fault}
+use Rattle.term_model.specs.declared.fault.Fault.TheVariants as faults
+use Rattle.str_pipeline.specs.declared.status.Status.TheVariants.{Refused}
+use Rattle.str_pipeline.specs.Device.{Gains, GainsPrefix}
+use Rattle.str_pipeline.specs.Joined.{IsSplit}
+use Rattle.str_pipeline.specs.Judged.{max_definitions, max_term, AreAccepted, IsAccepted, IsOnlyFile, IsProgram}
+use Rattle.str_pipeline.specs.Statuses.{IsRefusal}
+use Rattle.str_pipeline.specs.Written.{IsWritten, status_of, outcome_line, refusal_line, IsFirstFault, IsResult, HasWritten, HasBegun}
+use Rattle.str_pipeline.proofs.CutLemmas.{one_split}
+
+-- the line and the status of a run
+pub run_written : (M : Meaning) (defs term : List ℕ) (f : FileTree) (t : Tree) (budget : ℕ) (outcome : Outcome Tree) (rules : ℕ)
+    → AreAccepted defs f → IsAccepted term t → IsOutcome M (program_core f) main_name t budget outcome rules
+    → IsWritten M defs term budget (status_of outcome) (outcome_line outcome)
+run_written M defs term f t budget (Rewritten u) rules file spelled (e, ending) = (f, t, file, spelled, (u, e, rules, ending.derived, ending.within, refl))
+run_written M defs term f t budget Failed rules file spelled ending = (f, t, file, spelled, (rules, ending.derived, ending.within, refl))
+run_written M defs term f t budget Oversize rules file spelled ending = (f, t, file, spelled, (rules, ending.derived, ending.within, refl))
+run_written M defs term f t budget Spent rules file spelled (none, all) = (f, t, file, spelled, (none, refl))
+
+-- what a run says of each file that the core is resolved from
+pub run_result : (core : CoreParts) (term : List ℕ) (t : Tree) (budget : ℕ) (run : Run Tree) → length term ≤ max_term → IsReading term (Ok t)
+    → ((M : Meaning) (P : Definitions Name (List Name)) (x : Name) → ResolvesProgram P x (program_of core) core.main → IsRun M P x t budget run)
+    → (defs : List ℕ) (f : FileTree) → AreAccepted defs f → ResolvesProgram (program_core f) main_name (program_of core) core.main
+    → IsResult defs term budget (Ok run.outcome)
+run_result core term t budget run short reading runs defs f file resolved =
+    λ M. run_written M defs term f t budget run.outcome run.rules file (short, reading) (runs M (program_core f) main_name resolved).outcome
+
+pub outcome_has_written : (old new : Option (List ℕ)) (o : Outcome Tree) (d t : List ℕ) (n : ℕ) → Gains old new (outcome_line o) → IsResult d t n (Ok o)
+    → HasWritten d t n (status_of o) old new
+outcome_has_written old new o d t n gained result = record { line = outcome_line o; gained = gained; is_written = result }
+
+pub outcome_has_begun : (old new : Option (List ℕ)) (o : Outcome Tree) (d t : List ℕ) (n : ℕ) → GainsPrefix old new (outcome_line o) → IsResult d t n (Ok o)
+    → HasBegun d t n old new
+outcome_has_begun old new o d t n gained result = record { status = status_of o; line = outcome_line o; gained = gained; is_written = result }
+
+first_fault : (d t : List ℕ) (n : ℕ) (fault : Fault) → IsRefusal fault → IsResult d t n (Err fault) → IsFirstFault d t fault
+first_fault d t n faults.Memory refusal result = absurd refusal
+first_fault d t n faults.Read refusal result = absurd refusal
+first_fault d t n _ refusal result = result
+
+pub refusal_has_written : (old new : Option (List ℕ)) (fault : Fault) (d t : List ℕ) (n : ℕ) → Gains old new (refusal_line fault) → IsRefusal fault
+    → IsResult d t n (Err fault) → HasWritten d t n (Refused fault) old new
+refusal_has_written old new fault d t n gained refusal result =
+    record { line = refusal_line fault; gained = gained; is_written = λ M. (first_fault d t n fault refusal result, refl) }
+
+pub refusal_has_begun : (old new : Option (List ℕ)) (fault : Fault) (d t : List ℕ) (n : ℕ) → GainsPrefix old new (refusal_line fault) → IsRefusal fault
+    → IsResult d t n (Err fault) → HasBegun d t n old new
+refusal_has_begun old new fault d t n gained refusal result =
+    record { status = Refused fault; line = refusal_line fault; gained = gained; is_written = λ M. (first_fault d t n fault refusal result, refl) }
+
+-- what is known of the bytes that were read holds of the bytes that the readers told
+pub of_told : (defs term : Option (List ℕ)) (d t : List ℕ) (X : List ℕ → List ℕ → Type 0) → IfSome defs (λ told. d ≡ told) → IfSome term (λ told. t ≡ told)
+    → X d t → IfSome defs (λ d. IfSome term (λ t. X d t))
+of_told None term d t X same_defs same_term known = tt
+of_told (Some told) None d t X same_defs same_term known = tt
+of_told (Some told) (Some text) d t X same_defs same_term known = rw (← same_defs, ← same_term) known
+
+-- what is known at the split that was found holds at each split
+pub of_split : (old new : Option (List ℕ)) (defs : List ℕ) (rest : List ℕ → List ℕ) (X : List ℕ → List ℕ → Type 0)
+    → IfSome old (λ told. IsSomeAnd new (λ left. IsSplit told defs (rest left)))
+    → IfSome new (λ left. X defs (rest left)) → IfSome old (λ told. (d t : List ℕ) → IsSplit told d t → X d t)
+of_split None new defs rest X split known = tt
+of_split (Some told) None defs rest X split known = absurd split
+of_split (Some told) (Some left) defs rest X split known =
+    λ d t other. let same = one_split told defs (rest left) d t split other in rw (← same.0, ← same.1) known
+
+pub accepted : (defs : List ℕ) (f : FileTree) → length defs ≤ max_definitions → IsOnlyFile defs f → AreAccepted defs f
+accepted defs f short file = (short, record { tokens = file.tokens; lexes = file.only_tokens.tokens; phrase = file.only_phrase.phrase })
+
+pub for_each_told : (told : Option (List ℕ)) (X : List ℕ → Type 0) → ((bytes : List ℕ) → X bytes) → IfSome told X
+for_each_told None X known = tt
+for_each_told (Some bytes) X known = known bytes
+
+pub told_then : (told : Option (List ℕ)) (X Y : List ℕ → Type 0) → IfSome told X → ((bytes : List ℕ) → X bytes → Y bytes) → IfSome told Y
+told_then None X Y known then = tt
+told_then (Some bytes) X Y known then = then bytes known
+
+-- a fault of the definitions is the first
+pub program_fault : (defs term : List ℕ) (budget : ℕ) (fault : Fault) → length defs ≤ max_definitions → IsProgram defs (Err fault)
+    → IsResult defs term budget (Err fault)
+program_fault defs term budget faults.Memory short made = tt
+program_fault defs term budget (faults.Lexical at) short made = inl (short, made)
+program_fault defs term budget (faults.Syntax at) short made = inl (short, made)
+program_fault defs term budget _ short made = absurd made
+
+-- a result that is this fault
+pub passed : {A : Type 0} (result : Result A Fault) (fault : Fault) → IsErrAnd result (λ e. e ≡ fault) → result ≡ Err fault
+passed (Ok x) fault is = absurd is
+passed (Err e) fault is = ap (λ (f : Fault). Err f) is

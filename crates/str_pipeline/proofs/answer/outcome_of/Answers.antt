@@ -1,0 +1,6 @@
+use Rattle.str_pipeline.proofs.WrittenLaws.{run_result}
+use Rattle.str_pipeline.proofs.answer.outcome_of.Goals as goal
+
+pub returns-clause-result : goal.returns-clause-result
+returns-clause-result c =
+    run_result c.args.core.now c.args.text.now _ c.args.budget c.in_ok-run.run' c.requires.fits c.in_ok-term.ensures c.in_ok-run.ensures.run

@@ -1,0 +1,19 @@
+use Rattle.std.proofs.Common.{◌≡◌, ◌+◌, ◌≤◌, ◌-◌, vec_len, false, if◌then◌else◌, IsTrue}
+use Rattle.str_pipeline.specs.Device.{Loses, IsDry}
+use Rattle.str_pipeline.specs.Search.{IsSearched}
+use Rattle.str_pipeline.proofs.joined.read_front.Given as goal
+
+abbrev pub invariant-loop-definitions : goal.invariant-loop-definitions
+invariant-loop-definitions g l =
+    let S = g.S.Source in
+    record {
+      searched : IsSearched false l.bytes.items l.search;
+      given : Loses (S.coming l.initial.input) (S.coming l.input) l.bytes.items;
+      ended : IsTrue l.is_ended → IsDry (S.coming l.input);
+      few : S.reads l.input ≤ S.reads l.initial.input + vec_len l.bytes + (if l.is_ended then 1 else 0);
+      bounded : S.reads l.input ≤ S.reads l.initial.input + l.limit + 7;
+      unfailed : S.failed_reads l.input ≡ S.failed_reads l.initial.input;
+    }
+
+abbrev pub decreases-loop-definitions : goal.decreases-loop-definitions
+decreases-loop-definitions g l = l.limit + 7 - vec_len l.bytes + (if l.is_ended then 0 else 1)

@@ -1,0 +1,72 @@
+-- Which definitions and which term texts are refused, and what the others stand for.
+use Rattle.std.specs.Prelude.{ℕ, ◌<◌, ◌≤◌, List, length, Result, Ok, Err}
+use Rattle.term_model.specs.declared.fault.Fault.{Fault}
+use Rattle.term_model.specs.declared.fault.Fault.TheVariants.{Memory, DefsTooLong, Lexical, Syntax, TermTooLong, TermOversize, TermSyntax}
+use Rattle.term_model.specs.Term.{Tree}
+use Rattle.aterm_text.specs.ReadTerm.{IsReading}
+use Rattle.core_lang.specs.Resolution.{ResolvesProgram}
+use Rattle.core_lang.specs.Core.{CoreParts, program_of}
+use Rattle.str_pipeline.specs.declared.token.Token.{Token}
+use Rattle.str_pipeline.specs.Tokens.{Lexes, OnlyTokens}
+use Rattle.str_pipeline.specs.SourceTree.{FileTree}
+use Rattle.str_pipeline.specs.Phrases.{IsPhrase, OnlyPhrase}
+use Rattle.str_pipeline.specs.Reduction.{program_core, main_name}
+
+-- the most bytes of definitions, and of the text of a term
+abbrev pub max_definitions : ℕ
+max_definitions = 1_048_576
+
+abbrev pub max_term : ℕ
+max_term = 16_777_216
+
+-- the bytes are no tokens
+abbrev pub HasNoTokens : List ℕ → Type 0
+HasNoTokens bytes = (ts : List Token) → ¬ (Lexes bytes ts)
+
+-- the bytes are tokens that are no phrase
+pub record HasNoPhrase (bytes : List ℕ) : Type 0 where
+  pub tokens : List Token
+  pub lexes : Lexes bytes tokens
+  pub none : (f : FileTree) → ¬ (IsPhrase tokens f)
+
+-- the bytes are the tokens of the phrase of this file
+pub record IsFile (bytes : List ℕ) (f : FileTree) : Type 0 where
+  pub tokens : List Token
+  pub lexes : Lexes bytes tokens
+  pub phrase : IsPhrase tokens f
+
+-- the definitions are refused with this fault
+abbrev pub AreRefused : List ℕ → Fault → Type 0
+AreRefused defs DefsTooLong = max_definitions < length defs
+AreRefused defs (Lexical at) = (length defs ≤ max_definitions) × HasNoTokens defs
+AreRefused defs (Syntax at) = (length defs ≤ max_definitions) × HasNoPhrase defs
+AreRefused defs fault = ⊥
+
+-- the definitions are those of this file
+abbrev pub AreAccepted : List ℕ → FileTree → Type 0
+AreAccepted defs f = (length defs ≤ max_definitions) × IsFile defs f
+
+-- the text of the term is refused with this fault
+abbrev pub IsRefused : List ℕ → Fault → Type 0
+IsRefused text TermTooLong = max_term < length text
+IsRefused text (TermOversize at) = (length text ≤ max_term) × IsReading text (Err (TermOversize at))
+IsRefused text (TermSyntax at) = (length text ≤ max_term) × IsReading text (Err (TermSyntax at))
+IsRefused text fault = ⊥
+
+-- the text is that of this term
+abbrev pub IsAccepted : List ℕ → Tree → Type 0
+IsAccepted text t = (length text ≤ max_term) × IsReading text (Ok t)
+
+-- the bytes are these tokens alone, and these the phrase of this file alone
+pub record IsOnlyFile (bytes : List ℕ) (f : FileTree) : Type 0 where
+  pub tokens : List Token
+  pub only_tokens : OnlyTokens bytes tokens
+  pub only_phrase : OnlyPhrase tokens f
+
+-- what making a program of definitions answers: a core that the program of the file is resolved to
+abbrev pub IsProgram : List ℕ → Result CoreParts Fault → Type 0
+IsProgram defs (Ok core) = (f : FileTree) × IsOnlyFile defs f × ResolvesProgram (program_core f) main_name (program_of core) core.main
+IsProgram defs (Err Memory) = Unit {0}
+IsProgram defs (Err (Lexical at)) = HasNoTokens defs
+IsProgram defs (Err (Syntax at)) = HasNoPhrase defs
+IsProgram defs (Err fault) = ⊥

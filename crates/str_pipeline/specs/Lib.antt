@@ -1,0 +1,15 @@
+pub mod Device
+pub mod Transfer
+pub mod Asked
+pub mod Joined
+pub mod Search
+pub mod Tokens
+pub mod SourceTree
+pub mod Phrases
+pub mod Reduction
+pub mod Judged
+pub mod Written
+pub mod Statuses
+pub mod Beginnings
+pub mod Placement
+pub mod Runs

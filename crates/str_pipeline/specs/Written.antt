@@ -1,0 +1,81 @@
+-- What is written for definitions and the text of a term, and with which status.
+use Rattle.std.specs.Prelude.{◌≡◌, ℕ, ◌<◌, ◌≤◌, ◌⊎◌, List, [], ◌∷◌, ◌++◌, codes, Option, Result, Ok, Err}
+use Rattle.term_model.specs.declared.fault.Fault.{Fault}
+use Rattle.term_model.specs.Fault.{word_of}
+use Rattle.term_model.specs.Term.{Tree}
+use Rattle.term_model.specs.Flat.{Meaning}
+use Rattle.aterm_text.specs.Text.{text}
+use Rattle.core_lang.specs.Environment.{Bindings}
+use Rattle.core_lang.specs.Ending.{Ending, ok, failed, oversize}
+use Rattle.core_lang.specs.Named as named
+use Rattle.str_pipeline.specs.SourceTree.{FileTree}
+use Rattle.str_pipeline.specs.Reduction.{program_core, main_name}
+use Rattle.str_pipeline.specs.Judged.{AreRefused, AreAccepted, IsRefused, IsAccepted}
+use Rattle.str_pipeline.specs.Device.{Gains, GainsPrefix}
+use Rattle.term_model.specs.declared.fault.Fault.TheVariants.{Memory, Read}
+use Rattle.core_lang.specs.declared.run.Outcome.{Outcome}
+use Rattle.core_lang.specs.declared.run.Outcome.TheVariants as outcomes
+use Rattle.str_pipeline.specs.declared.status.Status.{Status}
+use Rattle.str_pipeline.specs.declared.status.Status.TheVariants.{Rewritten, Failed, Oversize, Spent, Refused}
+
+-- the text and the line feed that ends it
+abbrev pub line_of : List ℕ → List ℕ
+line_of bytes = bytes ++ 10 ∷ []
+
+abbrev pub refusal_line : Fault → List ℕ
+refusal_line fault = line_of (codes "#refused " ++ word_of fault)
+
+-- the file rewrites the term so, by n nodes, where primitives mean M
+abbrev pub Rewrites : Meaning → FileTree → Tree → Ending Tree → ℕ → Type 0
+Rewrites M f t o n = named.Rewrites M (program_core f) main_name t o n
+
+-- the first fault: of the definitions, and of the term only where the definitions have none
+abbrev pub IsFirstFault : List ℕ → List ℕ → Fault → Type 0
+IsFirstFault defs term fault = AreRefused defs fault ⊎ ((f : FileTree) × AreAccepted defs f × IsRefused term fault)
+
+-- what a file does with a term within the budget: the line and the status
+abbrev pub IsAnswer : Meaning → FileTree → Tree → ℕ → Status → List ℕ → Type 0
+IsAnswer M f t budget Rewritten line = (u : Tree) × (e : Bindings) × (n : ℕ) × Rewrites M f t (ok u e) n × (n ≤ budget) × (line ≡ line_of (text u))
+IsAnswer M f t budget Failed line = (n : ℕ) × Rewrites M f t failed n × (n ≤ budget) × (line ≡ line_of (codes "#failed"))
+IsAnswer M f t budget Oversize line = (n : ℕ) × Rewrites M f t oversize n × (n ≤ budget) × (line ≡ line_of (codes "#oversize"))
+IsAnswer M f t budget Spent line = ((o : Ending Tree) (n : ℕ) → Rewrites M f t o n → budget < n) × (line ≡ line_of (codes "#spent"))
+IsAnswer M f t budget (Refused fault) line = ⊥
+
+-- the line and the status for these definitions, this text of a term and this budget
+abbrev pub IsWritten : Meaning → List ℕ → List ℕ → ℕ → Status → List ℕ → Type 0
+IsWritten M defs term budget (Refused fault) line = IsFirstFault defs term fault × (line ≡ refusal_line fault)
+IsWritten M defs term budget status line = (f : FileTree) × (t : Tree) × AreAccepted defs f × IsAccepted term t × IsAnswer M f t budget status line
+
+-- a writer that tells its bytes has gained the line, whatever primitives mean
+pub record HasWritten (defs term : List ℕ) (budget : ℕ) (status : Status) (old new : Option (List ℕ)) : Type 0 where
+  pub line : List ℕ
+  pub gained : Gains old new line
+  pub is_written : (M : Meaning) → IsWritten M defs term budget status line
+
+-- it has gained a beginning of the line
+pub record HasBegun (defs term : List ℕ) (budget : ℕ) (old new : Option (List ℕ)) : Type 0 where
+  pub status : Status
+  pub line : List ℕ
+  pub gained : GainsPrefix old new line
+  pub is_written : (M : Meaning) → IsWritten M defs term budget status line
+
+-- ---- the outcome of a run, or a fault in place of one
+
+abbrev pub status_of : Outcome Tree → Status
+status_of (outcomes.Rewritten u) = Rewritten
+status_of outcomes.Failed = Failed
+status_of outcomes.Oversize = Oversize
+status_of outcomes.Spent = Spent
+
+abbrev pub outcome_line : Outcome Tree → List ℕ
+outcome_line (outcomes.Rewritten u) = line_of (text u)
+outcome_line outcomes.Failed = line_of (codes "#failed")
+outcome_line outcomes.Oversize = line_of (codes "#oversize")
+outcome_line outcomes.Spent = line_of (codes "#spent")
+
+-- what is known of the definitions and the term by the outcome, or by the fault
+abbrev pub IsResult : List ℕ → List ℕ → ℕ → Result (Outcome Tree) Fault → Type 0
+IsResult defs term budget (Ok outcome) = (M : Meaning) → IsWritten M defs term budget (status_of outcome) (outcome_line outcome)
+IsResult defs term budget (Err Memory) = Unit {0}
+IsResult defs term budget (Err Read) = Unit {0}
+IsResult defs term budget (Err fault) = IsFirstFault defs term fault

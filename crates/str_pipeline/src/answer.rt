@@ -1,0 +1,112 @@
+//! What a file does with a term, and the line that says so.
+ghost use Rattle.std.specs.Prelude.{◌≡◌, ◌+◌, ◌≤◌, ◌++◌, ℕ, List, length, is_err, if◌then◌else◌, IfOk, IfErr, OnOk, IsErrOf};
+ghost use Rattle.term_model.specs.Flat.{Meaning};
+ghost use Rattle.core_lang.specs.Core.{program_of};
+ghost use Rattle.core_lang.specs.Resolution.{ResolvesProgram};
+ghost use Rattle.str_pipeline.specs.SourceTree.{FileTree};
+ghost use Rattle.str_pipeline.specs.Reduction.{program_core, main_name};
+ghost use Rattle.str_pipeline.specs.Device.{Gains, GainsPrefix};
+ghost use Rattle.str_pipeline.specs.Judged.{max_term, AreAccepted};
+ghost use Rattle.str_pipeline.specs.Written.{IsResult, status_of, outcome_line, line_of, refusal_line};
+ghost use Rattle.str_pipeline.specs.Statuses.{IsStop, IsOfTerm, IsWritingFault};
+ghost use Rattle.str_pipeline.specs.Transfer.{is_write_fault};
+
+use crate::sink::{Sink, write_all};
+use crate::status::Status;
+use aterm_text::{read_term, write_term};
+use core_eval::eval;
+use core_lang::{Core, Outcome};
+use std::alloc::{AllocError, Global};
+use term_model::{Fault, Term};
+
+/// The most bytes of definitions.
+pub const MAX_DEFINITIONS: usize = 1_048_576;
+
+/// The most bytes of the text of a term.
+pub const MAX_TERM: usize = 16_777_216;
+
+/// What the program does with the term of this text. The fault is one of the term's, or `Memory`.
+#[tactic(auto, using(crate::proofs::WrittenLaws::run_written))]
+pub(crate) fn outcome_of(
+    alloc: Global,
+    core: &Core,
+    text: &[u8],
+    budget: u32,
+) -> Result<Outcome<Term>, Fault>
+    requires budget { budget ≤ 2000 }
+    requires fits { length text.now ≤ max_term }
+    ensures result { (defs : List ℕ) (f : FileTree) → AreAccepted defs f →
+        ResolvesProgram (program_core f) main_name (program_of core.now) core.now.main → IsResult defs text.now budget result }
+    ensures kinds { IfErr result IsOfTerm }
+{
+    let term = read_term(alloc, text)?;
+    let run = eval(alloc, core, &term, budget)?;
+    Ok(run.outcome)
+}
+
+/// The status of an outcome.
+fn status_of(outcome: &Outcome<Term>) -> Status
+    ensures { result ≡ status_of outcome.now }
+{
+    match outcome {
+        Outcome::Rewritten(_) => Status::Rewritten,
+        Outcome::Failed => Status::Failed,
+        Outcome::Oversize => Status::Oversize,
+        Outcome::Spent => Status::Spent,
+    }
+}
+
+/// The line of an outcome, without the line feed that ends it.
+fn outcome_text(alloc: Global, outcome: &Outcome<Term>) -> Result<Vec<u8>, AllocError>
+    ensures { IfOk result (λ bytes. outcome_line outcome.now ≡ line_of bytes.items) }
+{
+    match outcome {
+        Outcome::Rewritten(term) => {
+            let mut text = Vec::new(alloc);
+            write_term(term, &mut text)?;
+            Ok(text)
+        }
+        Outcome::Failed => b"#failed".to_vec(alloc),
+        Outcome::Oversize => b"#oversize".to_vec(alloc),
+        Outcome::Spent => b"#spent".to_vec(alloc),
+    }
+}
+
+/// Writes the line of an outcome.
+pub(crate) fn write_outcome<W: Sink>(
+    alloc: Global,
+    outcome: &Outcome<Term>,
+    out: &mut W,
+) -> Result<Status, Fault>
+    ensures status { IfOk result (λ status. status ≡ status_of outcome.now) }
+    ensures whole { OnOk result (Gains (W.written out.old) (W.written out.new) (outcome_line outcome.now)) }
+    ensures prefix { IsErrOf result Fault.Write → GainsPrefix (W.written out.old) (W.written out.new) (outcome_line outcome.now) }
+    ensures untouched { IsErrOf result Fault.Memory → out.new ≡ out.old }
+    ensures failed { W.failed_writes out.new ≡ W.failed_writes out.old + (if is_write_fault result then 1 else 0) }
+    ensures kinds { IfErr result IsWritingFault }
+{
+    let mut line = outcome_text(alloc, outcome)?;
+    line.push(b'\n')?;
+    write_all(out, &line)?;
+    Ok(status_of(outcome))
+}
+
+/// Writes the line of a refusal.
+pub(crate) fn write_refusal<W: Sink>(
+    alloc: Global,
+    fault: Fault,
+    out: &mut W,
+) -> Result<Status, Fault>
+    ensures status { IfOk result (λ status. status ≡ Status.Refused fault) }
+    ensures whole { OnOk result (Gains (W.written out.old) (W.written out.new) (refusal_line fault)) }
+    ensures prefix { IsErrOf result Fault.Write → GainsPrefix (W.written out.old) (W.written out.new) (refusal_line fault) }
+    ensures untouched { IsErrOf result Fault.Memory → out.new ≡ out.old }
+    ensures failed { W.failed_writes out.new ≡ W.failed_writes out.old + (if is_write_fault result then 1 else 0) }
+    ensures kinds { IfErr result IsWritingFault }
+{
+    let mut line = b"#refused ".to_vec(alloc)?;
+    line.extend_from_slice(fault.word().as_bytes())?;
+    line.push(b'\n')?;
+    write_all(out, &line)?;
+    Ok(Status::Refused(fault))
+}

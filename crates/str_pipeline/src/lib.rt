@@ -1,0 +1,31 @@
+//! From the bytes of definitions and of a term to the bytes of the answer.
+#![tactic(auto)]
+
+mod answer;
+mod counted;
+mod faulty;
+mod joined;
+mod lexer;
+mod parser;
+mod laws;
+mod pipeline;
+mod program;
+mod reduction;
+mod sink;
+mod source;
+mod source_tree;
+mod status;
+mod tally;
+#[cfg(test)]
+mod tests;
+mod token;
+mod variables;
+
+pub use answer::{MAX_DEFINITIONS, MAX_TERM};
+pub use counted::Counted;
+pub use faulty::Faulty;
+pub use laws::joined_form_law;
+pub use pipeline::{transform, transform_joined};
+pub use sink::{Sink, write_all};
+pub use source::{Source, read_all};
+pub use status::{Options, Status};

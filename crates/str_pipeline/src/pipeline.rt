@@ -1,0 +1,181 @@
+//! From the bytes of definitions and of a term to the bytes of the answer.
+ghost use Rattle.std.specs.Prelude.{◌≡◌, ◌+◌, ◌≤◌, ℕ, List, Result, Err, if◌then◌else◌, IfOk, IfErr, IfSome, IsErrOf, IsErrAnd};
+ghost use Rattle.term_model.specs.declared.fault.Fault.{Fault};
+ghost use Rattle.str_pipeline.specs.Joined.{IsSplit};
+ghost use Rattle.str_pipeline.specs.Judged.{AreRefused};
+ghost use Rattle.str_pipeline.specs.Written.{IsResult, HasWritten, HasBegun};
+ghost use Rattle.str_pipeline.specs.Statuses.{HoldsRefusal, IsRefusal, IsStop, IsTransferFault, IsOfDefinitions, RefusesDefinitions};
+ghost use Rattle.str_pipeline.specs.Transfer.{is_read, is_read_fault, is_write_fault};
+
+use crate::answer::{MAX_DEFINITIONS, MAX_TERM, outcome_of, write_outcome, write_refusal};
+use crate::joined::read_front;
+use crate::program::program_of;
+use crate::sink::Sink;
+use crate::source::{Source, read_all};
+use crate::status::{Options, Status};
+use core_lang::Outcome;
+use std::alloc::Global;
+use term_model::{Fault, Term};
+
+/// What the definitions do with the term. The fault is the first refusal, or `Memory` or `Read`.
+fn outcome_apart<D: Source, T: Source>(
+    alloc: Global,
+    defs: &mut D,
+    term: &mut T,
+    budget: u32,
+) -> Result<Outcome<Term>, Fault>
+    requires { budget ≤ 2000 }
+    ensures result { IfSome (D.coming defs.old) (λ d. IfSome (T.coming term.old) (λ t. IsResult d t budget result)) }
+    ensures kinds { IfErr result IsStop }
+    ensures failed { D.failed_reads defs.new + T.failed_reads term.new
+        ≡ D.failed_reads defs.old + T.failed_reads term.old + (if is_read_fault result then 1 else 0) }
+    ensures unread { IfErr result (λ fault. IsOfDefinitions fault → term.new ≡ term.old) }
+    ensures unread_told { IfSome (D.coming defs.old) (λ d. (fault : Fault) → AreRefused d fault → term.new ≡ term.old) }
+    ensures defs_bounded { D.reads defs.new ≤ D.reads defs.old + 1_048_577 }
+    ensures term_bounded { T.reads term.new ≤ T.reads term.old + 16_777_217 }
+{
+    let Some(text) = read_all(alloc, defs, MAX_DEFINITIONS)? else {
+        return Err(Fault::DefsTooLong);
+    };
+    let core = program_of(alloc, &text)?;
+    let Some(text) = read_all(alloc, term, MAX_TERM)? else {
+        return Err(Fault::TermTooLong);
+    };
+    outcome_of(alloc, &core, &text, budget)
+}
+
+/// The same over one reader of the joined form.
+fn outcome_joined<S: Source>(
+    alloc: Global,
+    input: &mut S,
+    budget: u32,
+) -> Result<Outcome<Term>, Fault>
+    requires { budget ≤ 2000 }
+    ensures result { IfSome (S.coming input.old) (λ told. (d t : List ℕ) → IsSplit told d t → IsResult d t budget result) }
+    ensures kinds { IfErr result IsStop }
+    ensures failed { S.failed_reads input.new ≡ S.failed_reads input.old + (if is_read_fault result then 1 else 0) }
+    ensures bounded { S.reads input.new ≤ S.reads input.old + 1_048_593 + 16_777_217 }
+    ensures defs_bounded { IfErr result (λ fault. IsOfDefinitions fault → S.reads input.new ≤ S.reads input.old + 1_048_593) }
+{
+    let Some(front) = read_front(alloc, input, MAX_DEFINITIONS)? else {
+        return Err(Fault::DefsTooLong);
+    };
+    let core = program_of(alloc, front.definitions())?;
+    let Some(text) = front.read_term(alloc, input, MAX_TERM)? else {
+        return Err(Fault::TermTooLong);
+    };
+    outcome_of(alloc, &core, &text, budget)
+}
+
+/// Writes the line of the outcome, or of the refusal that came in place of it, and answers its
+/// status. A fault of reading or of memory is answered as it is.
+#[tactic(auto, using(crate::proofs::WrittenLaws::outcome_has_written, crate::proofs::WrittenLaws::outcome_has_begun))]
+fn finish<W: Sink>(
+    alloc: Global,
+    outcome: Result<Outcome<Term>, Fault>,
+    out: &mut W,
+) -> Result<Status, Fault>
+    requires { IfErr outcome IsStop }
+    ensures written { IfOk result (λ status. (d t : List ℕ) (n : ℕ) → IsResult d t n outcome → HasWritten d t n status (W.written out.old) (W.written out.new)) }
+    ensures begun { IsErrOf result Fault.Write → (d t : List ℕ) (n : ℕ) → IsResult d t n outcome → HasBegun d t n (W.written out.old) (W.written out.new) }
+    ensures status { IfOk result HoldsRefusal }
+    ensures definitions { IfOk result (λ status. RefusesDefinitions status → IsErrAnd outcome IsOfDefinitions) }
+    ensures read { is_read_fault result ≡ is_read_fault outcome }
+    ensures untouched_memory { IsErrOf result Fault.Memory → out.new ≡ out.old }
+    ensures untouched_read { IsErrOf result Fault.Read → out.new ≡ out.old }
+    ensures failed { W.failed_writes out.new ≡ W.failed_writes out.old + (if is_write_fault result then 1 else 0) }
+    ensures kinds { IfErr result IsTransferFault }
+{
+    match outcome {
+        Ok(outcome) => write_outcome(alloc, &outcome, out),
+        Err(fault) => write_fault(alloc, fault, out),
+    }
+}
+
+/// Writes the line of a refusal. A fault of reading or of memory is answered as it is.
+#[tactic(auto, using(crate::proofs::WrittenLaws::refusal_has_written, crate::proofs::WrittenLaws::refusal_has_begun))]
+fn write_fault<W: Sink>(alloc: Global, fault: Fault, out: &mut W) -> Result<Status, Fault>
+    requires { IsStop fault }
+    ensures written { IfOk result (λ status. (d t : List ℕ) (n : ℕ) → IsResult d t n (Err fault) → HasWritten d t n status (W.written out.old) (W.written out.new)) }
+    ensures begun { IsErrOf result Fault.Write → (d t : List ℕ) (n : ℕ) → IsResult d t n (Err fault) → HasBegun d t n (W.written out.old) (W.written out.new) }
+    ensures status { IfOk result (λ status. (status ≡ Status.Refused fault) × IsRefusal fault) }
+    ensures read { is_read_fault result ≡ is_read fault }
+    ensures untouched_memory { IsErrOf result Fault.Memory → out.new ≡ out.old }
+    ensures untouched_read { IsErrOf result Fault.Read → out.new ≡ out.old }
+    ensures failed { W.failed_writes out.new ≡ W.failed_writes out.old + (if is_write_fault result then 1 else 0) }
+    ensures kinds { IfErr result IsTransferFault }
+{
+    match fault {
+        Fault::Memory => Err(Fault::Memory),
+        Fault::Read => Err(Fault::Read),
+        fault => write_refusal(alloc, fault, out),
+    }
+}
+
+/// Reads definitions and then the text of a term, lets the definitions rewrite the term, and writes
+/// one line with its line feed: the canonical text of the result, `#failed`, `#oversize`, `#spent`,
+/// or `#refused ` and the word of the first fault. The definitions are read and judged first; where
+/// they are refused the term is not read. Nothing is written before the whole line is made. At most
+/// 1,048,577 reads of definitions and 16,777,217 of the term are made.
+///
+/// # Errors
+/// `Read` where a read failed, and `Memory` where a growth was refused: nothing was written.
+/// `Write` where a write failed or took no byte: a beginning of the line was written.
+pub fn transform<D: Source, T: Source, W: Sink>(
+    alloc: Global,
+    defs: &mut D,
+    term: &mut T,
+    options: &Options,
+    out: &mut W,
+) -> Result<Status, Fault>
+    requires { options.now.budget ≤ 2000 }
+    ensures written { IfOk result (λ status. IfSome (D.coming defs.old) (λ d. IfSome (T.coming term.old) (λ t.
+        HasWritten d t options.now.budget status (W.written out.old) (W.written out.new)))) }
+    ensures begun { IsErrOf result Fault.Write → IfSome (D.coming defs.old) (λ d. IfSome (T.coming term.old) (λ t.
+        HasBegun d t options.now.budget (W.written out.old) (W.written out.new))) }
+    ensures status { IfOk result HoldsRefusal }
+    ensures kinds { IfErr result IsTransferFault }
+    ensures untouched_memory { IsErrOf result Fault.Memory → out.new ≡ out.old }
+    ensures untouched_read { IsErrOf result Fault.Read → out.new ≡ out.old }
+    ensures read_failed { D.failed_reads defs.new + T.failed_reads term.new
+        ≡ D.failed_reads defs.old + T.failed_reads term.old + (if is_read_fault result then 1 else 0) }
+    ensures write_failed { W.failed_writes out.new ≡ W.failed_writes out.old + (if is_write_fault result then 1 else 0) }
+    ensures unread { IfOk result (λ status. RefusesDefinitions status → term.new ≡ term.old) }
+    ensures unread_told { IfSome (D.coming defs.old) (λ d. (fault : Fault) → AreRefused d fault → term.new ≡ term.old) }
+    ensures defs_bounded { D.reads defs.new ≤ D.reads defs.old + 1_048_577 }
+    ensures term_bounded { T.reads term.new ≤ T.reads term.old + 16_777_217 }
+{
+    let outcome = outcome_apart(alloc, defs, term, options.budget);
+    finish(alloc, outcome, out)
+}
+
+/// The same over one reader of the joined form: the definitions are the bytes before the first line
+/// that is `#term`, ended by a line feed, by CR and line feed or by the end of the input, and the
+/// text of the term is what comes after it; where no such line comes, all is definitions and that
+/// text is empty. At most 16 further reads are made for the line.
+///
+/// # Errors
+/// As of `transform`.
+pub fn transform_joined<S: Source, W: Sink>(
+    alloc: Global,
+    input: &mut S,
+    options: &Options,
+    out: &mut W,
+) -> Result<Status, Fault>
+    requires { options.now.budget ≤ 2000 }
+    ensures written { IfOk result (λ status. IfSome (S.coming input.old) (λ told. (d t : List ℕ) → IsSplit told d t →
+        HasWritten d t options.now.budget status (W.written out.old) (W.written out.new))) }
+    ensures begun { IsErrOf result Fault.Write → IfSome (S.coming input.old) (λ told. (d t : List ℕ) → IsSplit told d t →
+        HasBegun d t options.now.budget (W.written out.old) (W.written out.new)) }
+    ensures status { IfOk result HoldsRefusal }
+    ensures kinds { IfErr result IsTransferFault }
+    ensures untouched_memory { IsErrOf result Fault.Memory → out.new ≡ out.old }
+    ensures untouched_read { IsErrOf result Fault.Read → out.new ≡ out.old }
+    ensures read_failed { S.failed_reads input.new ≡ S.failed_reads input.old + (if is_read_fault result then 1 else 0) }
+    ensures write_failed { W.failed_writes out.new ≡ W.failed_writes out.old + (if is_write_fault result then 1 else 0) }
+    ensures bounded { S.reads input.new ≤ S.reads input.old + 1_048_593 + 16_777_217 }
+    ensures defs_bounded { IfOk result (λ status. RefusesDefinitions status → S.reads input.new ≤ S.reads input.old + 1_048_593) }
+{
+    let outcome = outcome_joined(alloc, input, options.budget);
+    finish(alloc, outcome, out)
+}

@@ -1,0 +1,80 @@
+//! What is read from.
+ghost use Rattle.std.specs.Prelude.{◌≡◌, ◌+◌, ◌^◌, ◌<◌, ◌≤◌, ◌++◌, ℕ, List, Option, is_none, length, vec_len, IfSome, IfOk, IfErr, MatchOption, if◌then◌else◌};
+ghost use Rattle.str_pipeline.specs.Device.{ReadsFront};
+ghost use Rattle.str_pipeline.specs.Transfer.{is_read_fault, IsReadingFault};
+
+use std::alloc::Allocator;
+use term_model::Fault;
+
+/// A reader. A call that answers `None` failed.
+pub trait Source {
+    /// The bytes still to come, where the device tells them.
+    ghost coming: { Self → Option (List ℕ) };
+
+    /// How many reads it has had.
+    ghost reads: { Self → ℕ };
+
+    /// How many of them failed.
+    ghost failed_reads: { Self → ℕ };
+
+    /// Puts the next bytes at the front of `piece` and answers how many. It answers 0 only at the
+    /// end, or where `piece` is empty.
+    fn read(&mut self, piece: &mut [u8]) -> Option<usize>
+        ensures bound { IfSome result (λ n. n ≤ length piece.new) }
+        ensures bytes { ReadsFront (coming self.old) (coming self.new) result piece.new }
+        ensures reads { reads self.new ≡ reads self.old + 1 }
+        ensures failed { failed_reads self.new ≡ failed_reads self.old + (if is_none result then 1 else 0) };
+}
+
+/// How many bytes a read asks for.
+pub(crate) const PIECE: usize = 16_384;
+
+/// All that is still to come, where it has at most `limit` bytes, and `None` where it has more. It
+/// stops as soon as that is known. The fault is `Read` where a read failed, and `Memory`.
+pub fn read_all<S: Source, A: Allocator + Drop>(
+    alloc: A,
+    source: &mut S,
+    limit: usize,
+) -> Result<Option<Vec<u8, A>>, Fault>
+    ensures whole { IfOk result (λ text. IfSome (S.coming source.old) (λ told.
+        MatchOption text (limit < length told) (λ bytes. bytes.items ≡ told))) }
+    ensures fits { IfOk result (λ text. IfSome text (λ bytes. vec_len bytes ≤ limit)) }
+    ensures failed { S.failed_reads source.new ≡ S.failed_reads source.old + (if is_read_fault result then 1 else 0) }
+    ensures kinds { IfErr result IsReadingFault }
+    ensures bounded { S.reads source.new ≤ S.reads source.old + limit + 1 }
+{
+    read_onto(Vec::new(alloc), source, limit)
+}
+
+/// The bytes with all behind them that is still to come, where these are at most `limit` bytes
+/// together, and `None` where they are more.
+pub(crate) fn read_onto<S: Source, A: Allocator + Drop>(
+    bytes: Vec<u8, A>,
+    source: &mut S,
+    limit: usize,
+) -> Result<Option<Vec<u8, A>>, Fault>
+    ensures whole { IfOk result (λ text. IfSome (S.coming source.old) (λ told.
+        MatchOption text (limit < vec_len bytes + length told) (λ all. all.items ≡ bytes.items ++ told))) }
+    ensures fits { IfOk result (λ text. IfSome text (λ all. vec_len all ≤ limit)) }
+    ensures failed { S.failed_reads source.new ≡ S.failed_reads source.old + (if is_read_fault result then 1 else 0) }
+    ensures kinds { IfErr result IsReadingFault }
+    ensures bounded { S.reads source.new ≤ S.reads source.old + limit + 1 }
+{
+    if limit < bytes.len() {
+        return Ok(None);
+    }
+    let mut bytes = bytes;
+    let mut piece = [0u8; PIECE];
+    loop {
+        let Some(count) = source.read(&mut piece) else {
+            return Err(Fault::Read);
+        };
+        if count == 0 {
+            return Ok(Some(bytes));
+        }
+        if limit - bytes.len() < count {
+            return Ok(None);
+        }
+        bytes.extend_from_slice(&piece[..count])?;
+    }
+}

@@ -1,0 +1,24 @@
+//! What is asked, and how it ended.
+use term_model::Fault;
+
+/// How a transformation is to be done.
+#[derive(Debug, Drop)]
+pub struct Options {
+    /// The most nodes of a derivation.
+    pub budget: u32,
+}
+
+/// How a transformation ended.
+#[derive(Debug, Drop)]
+pub enum Status {
+    /// The term was rewritten, and the result is written.
+    Rewritten,
+    /// The strategy failed.
+    Failed,
+    /// A term was to be made that is too large.
+    Oversize,
+    /// No derivation is within the budget.
+    Spent,
+    /// The definitions or the text of the term were refused.
+    Refused(Fault),
+}

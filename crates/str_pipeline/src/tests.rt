@@ -1,0 +1,4 @@
+//! What no clause says: outside vectors and whole runs.
+mod devices;
+mod pipeline;
+mod rows;

@@ -1,0 +1,206 @@
+//! Whole runs, from bytes to bytes.
+use crate::tests::rows::{JOINED_ROWS, Pieces, ROWS};
+use crate::{Faulty, Options, Status, transform, transform_joined};
+use std::alloc::{AllocError, Global};
+use std::test::Fail;
+use term_model::Fault;
+
+/// How much a reader gives and a writer takes in a call.
+const PIECE: usize = 65_536;
+
+/// Room for the longest line.
+const ROOM: usize = 4_096;
+
+fn text_of(alloc: Global, pieces: Pieces) -> Result<Vec<u8>, AllocError> {
+    let mut text = Vec::new(alloc);
+    for (piece, times) in pieces {
+        for _ in 0..*times {
+            text.extend_from_slice(piece.as_bytes())?;
+        }
+    }
+    Ok(text)
+}
+
+fn line_of(alloc: Global, pieces: Pieces) -> Result<Vec<u8>, AllocError> {
+    let mut line = text_of(alloc, pieces)?;
+    line.push(b'\n')?;
+    Ok(line)
+}
+
+/// Whether the status is that of the line.
+fn fits(status: &Status, line: &[u8]) -> bool {
+    match status {
+        Status::Rewritten => !line.starts_with(b"#"),
+        Status::Failed => line == b"#failed\n".as_slice(),
+        Status::Oversize => line == b"#oversize\n".as_slice(),
+        Status::Spent => line == b"#spent\n".as_slice(),
+        Status::Refused(fault) => line
+            .strip_prefix(b"#refused ")
+            .is_some_and(|rest| rest.starts_with(fault.word().as_bytes())),
+    }
+}
+
+/// Whether definitions and a term give this line, in both forms.
+fn gives(alloc: Global, defs: &[u8], term: &[u8], budget: u32, line: &[u8]) -> Result<bool, Fault> {
+    let options = Options { budget };
+    let mut out = Faulty::writer(alloc, ROOM, PIECE, None, false)?;
+    let mut first = Faulty::reader(defs.to_vec(alloc)?, PIECE, None);
+    let mut second = Faulty::reader(term.to_vec(alloc)?, PIECE, None);
+    let status = transform(alloc, &mut first, &mut second, &options, &mut out)?;
+    let is_apart = fits(&status, line) && out.written() == line;
+    let mut text = defs.to_vec(alloc)?;
+    text.extend_from_slice(b"\n#term\n")?;
+    text.extend_from_slice(term)?;
+    Ok(is_apart && gives_joined(alloc, &text, PIECE, budget, line)?)
+}
+
+fn gives_joined(
+    alloc: Global,
+    text: &[u8],
+    piece: usize,
+    budget: u32,
+    line: &[u8],
+) -> Result<bool, Fault>
+    requires { 1 ≤ piece }
+{
+    let options = Options { budget };
+    let mut out = Faulty::writer(alloc, ROOM, PIECE, None, false)?;
+    let mut input = Faulty::reader(text.to_vec(alloc)?, piece, None);
+    let status = transform_joined(alloc, &mut input, &options, &mut out)?;
+    Ok(fits(&status, line) && out.written() == line)
+}
+
+#[test]
+fn rows(rt: HostRuntime) -> Result<(), Fail> {
+    let alloc = rt.alloc();
+    for (index, row) in ROWS.iter().enumerate() {
+        let defs = text_of(alloc, row.defs)?;
+        let term = text_of(alloc, row.term)?;
+        let line = line_of(alloc, row.line)?;
+        assert!(rt; gives(alloc, &defs, &term, 2_000, &line)?, "row {index}");
+        let Some(rules) = row.rules else {
+            continue;
+        };
+        assert!(rt;
+            gives(alloc, &defs, &term, rules.min(2_000), &line)?,
+            "row {index}"
+        );
+        let less = rules.saturating_sub(1).min(2_000);
+        assert!(rt;
+            gives(alloc, &defs, &term, less, b"#spent\n")?,
+            "row {index}"
+        );
+        assert!(rt; gives(alloc, &defs, &term, 0, b"#spent\n")?, "row {index}");
+    }
+    Ok(())
+}
+
+#[test]
+fn joined_rows(rt: HostRuntime) -> Result<(), Fail> {
+    let alloc = rt.alloc();
+    for (index, row) in JOINED_ROWS.iter().enumerate() {
+        let text = text_of(alloc, row.text)?;
+        let line = line_of(alloc, row.line)?;
+        assert!(rt;
+            gives_joined(alloc, &text, PIECE, 2_000, &line)?,
+            "row {index}"
+        );
+        if text.len() < PIECE {
+            assert!(rt;
+                gives_joined(alloc, &text, 1, 2_000, &line)?,
+                "row {index} by 1"
+            );
+            assert!(rt;
+                gives_joined(alloc, &text, 7, 2_000, &line)?,
+                "row {index} by 7"
+            );
+        }
+    }
+    Ok(())
+}
+
+#[test]
+fn failing_readers(rt: HostRuntime) -> Result<(), Fail> {
+    let alloc = rt.alloc();
+    let options = Options { budget: 2_000 };
+    let defs = b"strategies main = ?(x,_); !x";
+    let term = b"(7,f(1))";
+    let joined = b"strategies main = ?(x,_); !x\n#term\n(7,f(1))";
+    for bad in 1..60u64 {
+        let mut out = Faulty::writer(alloc, ROOM, PIECE, None, false)?;
+        let mut first = Faulty::reader(defs.to_vec(alloc)?, 1, Some(bad));
+        let mut second = Faulty::reader(term.to_vec(alloc)?, 1, None);
+        let answer = transform(alloc, &mut first, &mut second, &options, &mut out);
+        assert_eq!(rt;
+            matches!(answer, Err(Fault::Read)),
+            bad <= defs.len() as u64 + 1
+        );
+
+        let mut first = Faulty::reader(defs.to_vec(alloc)?, 1, None);
+        let mut second = Faulty::reader(term.to_vec(alloc)?, 1, Some(bad));
+        let mut out = Faulty::writer(alloc, ROOM, PIECE, None, false)?;
+        let answer = transform(alloc, &mut first, &mut second, &options, &mut out);
+        let is_bad = bad <= term.len() as u64 + 1;
+        assert_eq!(rt; matches!(answer, Err(Fault::Read)), is_bad);
+        assert_eq!(rt; out.written().is_empty(), is_bad);
+
+        let mut input = Faulty::reader(joined.to_vec(alloc)?, 1, Some(bad));
+        let mut out = Faulty::writer(alloc, ROOM, PIECE, None, false)?;
+        let answer = transform_joined(alloc, &mut input, &options, &mut out);
+        let is_bad = bad <= joined.len() as u64 + 1;
+        assert_eq!(rt; matches!(answer, Err(Fault::Read)), is_bad);
+        assert_eq!(rt; out.written().is_empty(), is_bad);
+    }
+    Ok(())
+}
+
+#[test]
+fn refused_definitions_leave_the_term(rt: HostRuntime) -> Result<(), Fail> {
+    let alloc = rt.alloc();
+    let options = Options { budget: 2_000 };
+    for (defs, line) in [
+        ("strategies main = #", b"#refused Lexical\n".as_slice()),
+        ("strategies main = id;", b"#refused Syntax\n".as_slice()),
+    ] {
+        let mut first = Faulty::reader(defs.as_bytes().to_vec(alloc)?, 9, None);
+        let mut second = Faulty::reader(b"1".to_vec(alloc)?, 9, Some(1));
+        let mut out = Faulty::writer(alloc, ROOM, 1, None, false)?;
+        let answer = transform(alloc, &mut first, &mut second, &options, &mut out);
+        assert!(rt; matches!(answer, Ok(Status::Refused(_))), "{defs}");
+        assert_eq!(rt; out.written(), line);
+    }
+    Ok(())
+}
+
+#[test]
+fn failing_writers(rt: HostRuntime) -> Result<(), Fail> {
+    let alloc = rt.alloc();
+    let options = Options { budget: 2_000 };
+    let line = b"f(1)\n";
+    for (bad, silent) in [
+        (1u64, false),
+        (2, true),
+        (3, false),
+        (4, true),
+        (5, false),
+        (6, true),
+        (7, false),
+    ] {
+        let is_bad = bad <= 5;
+        let wrote = line.len().min((bad as usize).saturating_sub(1));
+        let mut first = Faulty::reader(b"strategies main = ?(_,x); !x".to_vec(alloc)?, 9, None);
+        let mut second = Faulty::reader(b"(7,f(1))".to_vec(alloc)?, 9, None);
+        let mut out = Faulty::writer(alloc, ROOM, 1, Some(bad), silent)?;
+        let answer = transform(alloc, &mut first, &mut second, &options, &mut out);
+        assert_eq!(rt; matches!(answer, Err(Fault::Write)), is_bad);
+        assert_eq!(rt; out.written(), &line[..wrote]);
+
+        let text = b"strategies main = ?(_,x); !x\n#term\n(7,f(1))";
+        let mut input = Faulty::reader(text.to_vec(alloc)?, 9, None);
+        let mut out = Faulty::writer(alloc, ROOM, 1, Some(bad), silent)?;
+        let answer = transform_joined(alloc, &mut input, &options, &mut out);
+        assert_eq!(rt; matches!(answer, Err(Fault::Write)), is_bad);
+        assert_eq!(rt; out.written(), &line[..wrote]);
+    }
+    Ok(())
+}

@@ -1,0 +1,25 @@
+-- What a writer has gained after several writes in a row.
+use Rattle.std.proofs.Common.{◌≡◌, ◌+◌, ◌≤◌, ℕ, List, ◌++◌, length, take, Option, None, Some, sym, ◌∙◌, ap, refl, arith, append_assoc, length-append}
+use Rattle.std.proofs.lemmas.List.{take-append-le, take-append-drop, take_at, take_all, drop_at}
+use Rattle.std.proofs.Math.Seq.{take-add}
+use Rattle.std.proofs.lemmas.Grind.{common_steps}
+use Rattle.str_pipeline.specs.Device.{Gains, GainsPrefix}
+
+pub gains_both : (a b c : Option (List ℕ)) (xs ys : List ℕ) → Gains a b xs → Gains b c ys → Gains a c (xs ++ ys)
+gains_both None None c xs ys first second = second
+gains_both None (Some told) c xs ys first second = cc
+gains_both (Some all) None c xs ys first second = cc
+gains_both (Some all) (Some told) c xs ys first second = grind (arith, common_steps)
+
+-- a beginning of the first text
+pub begins_first : (a b : Option (List ℕ)) (xs ys : List ℕ) → GainsPrefix a b xs → GainsPrefix a b (xs ++ ys)
+begins_first a b xs ys (k, within, gained) =
+    let long : k ≤ length (xs ++ ys) = rw length-append (omega arith) in
+    (k, long, rw (take-append-le k xs ys within) gained)
+
+-- the first text, and a beginning of the second
+pub begins_second : (a b c : Option (List ℕ)) (xs ys : List ℕ) → Gains a b xs → GainsPrefix b c ys → GainsPrefix a c (xs ++ ys)
+begins_second a b c xs ys first (k, within, gained) =
+    let long : length xs + k ≤ length (xs ++ ys) = rw length-append (omega arith) in
+    let front : take (length xs + k) (xs ++ ys) ≡ xs ++ take k ys = rw (take-add, take_at xs ys (length xs) refl, drop_at xs ys (length xs) refl) in
+    (length xs + k, long, rw front (gains_both a b c xs (take k ys) first gained))

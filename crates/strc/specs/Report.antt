@@ -1,0 +1,37 @@
+-- The exit status, and the line of a fault on the diagnostic stream.
+use Rattle.std.specs.Prelude.{◌≡◌, ℕ, List, [], ◌∷◌, ◌++◌, codes, decimal, Option, None, Some}
+use Rattle.term_model.specs.declared.fault.Fault.{Fault}
+use Rattle.term_model.specs.declared.fault.Fault.TheVariants.{Lexical, ReservedWord, Syntax, Nesting, TermSyntax, TermOversize}
+use Rattle.term_model.specs.Fault.{word_of}
+use Rattle.str_pipeline.specs.declared.status.Status.{Status}
+use Rattle.str_pipeline.specs.declared.status.Status.TheVariants.{Rewritten, Failed, Oversize, Spent, Refused}
+use Rattle.str_pipeline.specs.Device.{GainsPrefix}
+
+abbrev pub exit_of : Status → ℕ
+exit_of Rewritten = 0
+exit_of Failed = 1
+exit_of (Refused fault) = 2
+exit_of Oversize = 3
+exit_of Spent = 3
+
+-- the byte at which a text was refused
+abbrev pub place_of : Fault → Option ℕ
+place_of (Lexical at) = Some at
+place_of (ReservedWord at) = Some at
+place_of (Syntax at) = Some at
+place_of (Nesting at) = Some at
+place_of (TermSyntax at) = Some at
+place_of (TermOversize at) = Some at
+place_of fault = None
+
+abbrev pub place_text : Option ℕ → List ℕ
+place_text None = []
+place_text (Some at) = codes " at byte " ++ decimal at
+
+abbrev pub diagnostic : Fault → List ℕ
+diagnostic fault = codes "strc: " ++ (word_of fault ++ (place_text (place_of fault) ++ 10 ∷ []))
+
+-- a refusal is reported, as far as the stream takes it; nothing else is
+abbrev pub IsReported : Status → Option (List ℕ) → Option (List ℕ) → Type 0
+IsReported (Refused fault) old new = GainsPrefix old new (diagnostic fault)
+IsReported status old new = new ≡ old

@@ -1,0 +1,55 @@
+//! The work of the program, over any streams.
+ghost use Rattle.std.specs.Prelude.{◌≡◌, ◌+◌, ◌<◌, ◌≤◌, ◌⊎◌, ℕ, List, IfSome};
+ghost use Rattle.term_model.specs.declared.fault.Fault.{Fault};
+ghost use Rattle.str_pipeline.specs.declared.status.Status.{Status};
+ghost use Rattle.str_pipeline.specs.Device.{GainsPrefix};
+ghost use Rattle.str_pipeline.specs.Joined.{IsSplit};
+ghost use Rattle.str_pipeline.specs.Written.{HasWritten, HasBegun};
+ghost use Rattle.str_pipeline.specs.Statuses.{HoldsRefusal, IsTransferFault};
+ghost use Rattle.strc.specs.Report.{exit_of, diagnostic, IsReported};
+
+use crate::report::report;
+use std::alloc::Global;
+use str_pipeline::{Options, Sink, Source, Status, transform_joined};
+
+/// The most nodes of a derivation.
+pub const BUDGET: u32 = 2_000;
+
+/// Transforms what comes from `input`, in the joined form, writes the line of the answer to `out`,
+/// and answers the exit status: 0 where the term was rewritten, 1 where the strategy failed, 2 where
+/// the definitions or the term were refused, 3 where the budget was spent or a term was too large,
+/// and 4 where memory, reading or writing failed. For 2 and 4 a line on `diagnostics` says the
+/// fault; a write there that fails changes nothing.
+pub fn run<I: Source, W: Sink, E: Sink>(
+    alloc: Global,
+    input: &mut I,
+    out: &mut W,
+    diagnostics: &mut E,
+) -> u8
+    ensures status { result ≤ 4 }
+    ensures ended { result < 4 → (status : Status) × (exit_of status ≡ result) × HoldsRefusal status
+        × IfSome (I.coming input.old) (λ told. (d t : List ℕ) → IsSplit told d t → HasWritten d t 2000 status (W.written out.old) (W.written out.new))
+        × IsReported status (E.written diagnostics.old) (E.written diagnostics.new) }
+    ensures stopped { result ≡ 4 → (fault : Fault) × IsTransferFault fault × GainsPrefix (E.written diagnostics.old) (E.written diagnostics.new) (diagnostic fault) }
+    ensures unwritten { result ≡ 4 → W.failed_writes out.new ≡ W.failed_writes out.old → out.new ≡ out.old }
+    ensures begun { W.failed_writes out.old < W.failed_writes out.new →
+        IfSome (I.coming input.old) (λ told. (d t : List ℕ) → IsSplit told d t → HasBegun d t 2000 (W.written out.old) (W.written out.new)) }
+    ensures read_failed { I.failed_reads input.old < I.failed_reads input.new → result ≡ 4 }
+    ensures write_failed { W.failed_writes out.old < W.failed_writes out.new → result ≡ 4 }
+    ensures bounded { I.reads input.new ≤ I.reads input.old + 1_048_593 + 16_777_217 }
+{
+    let options = Options { budget: BUDGET };
+    match transform_joined(alloc, input, &options, out) {
+        Ok(Status::Rewritten) => 0,
+        Ok(Status::Failed) => 1,
+        Ok(Status::Refused(fault)) => {
+            let _ = report(&fault, diagnostics);
+            2
+        }
+        Ok(Status::Oversize | Status::Spent) => 3,
+        Err(fault) => {
+            let _ = report(&fault, diagnostics);
+            4
+        }
+    }
+}

@@ -1,0 +1,48 @@
+//! The diagnostic line of a fault.
+ghost use Rattle.std.specs.Prelude.{◌≡◌, OnOk};
+ghost use Rattle.str_pipeline.specs.Device.{Gains, GainsPrefix};
+ghost use Rattle.strc.specs.Report.{place_of, place_text, diagnostic};
+
+use itoa::Buffer;
+use str_pipeline::{Sink, write_all};
+use term_model::Fault;
+
+/// The byte at which the text was refused.
+fn place_of(fault: &Fault) -> Option<u64>
+    ensures { result ≡ place_of fault.now }
+{
+    match fault {
+        Fault::Lexical { at }
+        | Fault::ReservedWord { at }
+        | Fault::Syntax { at }
+        | Fault::Nesting { at }
+        | Fault::TermSyntax { at }
+        | Fault::TermOversize { at } => Some(*at),
+        _ => None,
+    }
+}
+
+/// Writes the place of a fault, where it has one.
+fn write_place<E: Sink>(place: Option<u64>, diagnostics: &mut E) -> Result<(), Fault>
+    ensures whole { OnOk result (Gains (E.written diagnostics.old) (E.written diagnostics.new) (place_text place)) }
+    ensures prefix { GainsPrefix (E.written diagnostics.old) (E.written diagnostics.new) (place_text place) }
+{
+    let Some(at) = place else {
+        return Ok(());
+    };
+    write_all(diagnostics, b" at byte ")?;
+    let mut digits = Buffer::new();
+    write_all(diagnostics, digits.format(at).as_bytes())
+}
+
+/// Writes the diagnostic line of a fault: `strc: `, its word and, where a text was refused at some
+/// byte, ` at byte ` and its place.
+pub(crate) fn report<E: Sink>(fault: &Fault, diagnostics: &mut E) -> Result<(), Fault>
+    ensures whole { OnOk result (Gains (E.written diagnostics.old) (E.written diagnostics.new) (diagnostic fault.now)) }
+    ensures prefix { GainsPrefix (E.written diagnostics.old) (E.written diagnostics.new) (diagnostic fault.now) }
+{
+    write_all(diagnostics, b"strc: ")?;
+    write_all(diagnostics, fault.word().as_bytes())?;
+    write_place(place_of(fault), diagnostics)?;
+    write_all(diagnostics, b"\n")
+}

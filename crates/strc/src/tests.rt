@@ -1,0 +1,98 @@
+//! The exit statuses and what is on the streams.
+use crate::program::run;
+use std::test::Fail;
+use str_pipeline::Faulty;
+
+#[test]
+fn statuses(rt: HostRuntime) -> Result<(), Fail> {
+    let alloc = rt.alloc();
+    // input, its first bad read, the first bad write; status, output, diagnostics
+    let rows = [
+        (
+            "strategies main = ?(x,_); !x\n#term\n(7,f(1))\n",
+            None,
+            None,
+            0,
+            "7\n",
+            "",
+        ),
+        (
+            "strategies main = fail\n#term\n1",
+            None,
+            None,
+            1,
+            "#failed\n",
+            "",
+        ),
+        (
+            "strategies main = #\n#term\n1",
+            None,
+            None,
+            2,
+            "#refused Lexical\n",
+            "strc: Lexical at byte ",
+        ),
+        (
+            "strategies main = foo\n#term\n1",
+            None,
+            None,
+            2,
+            "#refused Syntax\n",
+            "strc: Syntax at byte ",
+        ),
+        (
+            "strategies main = id\n#term\nF(1",
+            None,
+            None,
+            2,
+            "#refused TermSyntax\n",
+            "strc: TermSyntax at byte 3\n",
+        ),
+        (
+            "strategies main = id\n#term\n1",
+            Some(1),
+            None,
+            4,
+            "",
+            "strc: Read\n",
+        ),
+        (
+            "strategies main = id\n#term\n1",
+            None,
+            Some(1),
+            4,
+            "",
+            "strc: Write\n",
+        ),
+    ];
+    for (text, bad_read, bad_write, status, written, diagnostics) in rows {
+        let mut input = Faulty::reader(text.as_bytes().to_vec(alloc)?, 5, bad_read);
+        let mut out = Faulty::writer(alloc, 100, 3, bad_write, false)?;
+        let mut diag = Faulty::writer(alloc, 100, 3, None, false)?;
+        assert_eq!(rt;
+            run(alloc, &mut input, &mut out, &mut diag),
+            status,
+            "{text}"
+        );
+        assert_eq!(rt; out.written(), written.as_bytes(), "{text}");
+        assert!(rt;
+            diag.written().starts_with(diagnostics.as_bytes()),
+            "{text}"
+        );
+        assert_eq!(rt; diag.written().is_empty(), diagnostics.is_empty(), "{text}");
+    }
+    Ok(())
+}
+
+#[test]
+fn a_failing_diagnostic_changes_nothing(rt: HostRuntime) -> Result<(), Fail> {
+    let alloc = rt.alloc();
+    for bad in 1..5u64 {
+        let mut input = Faulty::reader(b"#\n#term\n1".to_vec(alloc)?, 5, None);
+        let mut out = Faulty::writer(alloc, 100, 3, None, false)?;
+        let mut diag = Faulty::writer(alloc, 100, 3, Some(bad), false)?;
+        assert_eq!(rt; run(alloc, &mut input, &mut out, &mut diag), 2);
+        assert_eq!(rt; out.written(), b"#refused Lexical\n".as_slice());
+    }
+    Ok(())
+}
