@@ -1,7 +1,5 @@
-pub mod DeviceLemmas
 pub mod CutLemmas
-pub mod WrittenLaws
-pub mod SplitLaws
+pub mod DeviceLemmas
 pub mod FileLaws
 pub mod KeywordLaws
 pub mod LexLaws
@@ -13,6 +11,8 @@ pub mod ReductionSteps
 pub mod ResolutionLaws
 pub mod RunLaws
 pub mod SlotLaws
+pub mod SplitLaws
 pub mod StrategyLaws
 pub mod TokenLaws
 pub mod TreeLaws
+pub mod WrittenLaws

@@ -1,5 +1,5 @@
 -- What is written follows from the run of a program.
-use Rattle.std.proofs.Common.{◌≡◌, ℕ, List, length, ◌≤◌, refl, Ok, inl, ap}
+use Rattle.std.proofs.Common.{◌≡◌, ℕ, List, length, ◌≤◌, refl, Ok, inl, ap, subst}
 use Rattle.term_model.specs.Term.{Tree}
 use Rattle.term_model.specs.Flat.{Meaning}
 use Rattle.core_lang.specs.declared.run.Outcome.{Outcome}
@@ -20,8 +20,12 @@ use Rattle.term_model.specs.declared.fault.Fault.TheVariants as faults
 use Rattle.str_pipeline.specs.declared.status.Status.TheVariants.{Refused}
 use Rattle.str_pipeline.specs.Device.{Gains, GainsPrefix}
 use Rattle.str_pipeline.specs.Joined.{IsSplit}
-use Rattle.str_pipeline.specs.Judged.{max_definitions, max_term, AreAccepted, IsAccepted, IsOnlyFile, IsProgram}
-use Rattle.str_pipeline.specs.Statuses.{IsRefusal}
+use Rattle.str_pipeline.specs.Judged.{max_definitions, max_term, AreAccepted, IsAccepted, IsProgram}
+use Rattle.str_pipeline.specs.Statuses.{IsRefusal, IsStop, IsWritingFault, IsTransferFault}
+use Rattle.str_pipeline.specs.declared.status.Status.{Status}
+use Rattle.std.specs.Prelude.{IfOk, OnOk, IfErr, IsErrOf}
+use Rattle.str_pipeline.specs.Transfer.{is_read, is_read_fault}
+use Rattle.std.specs.Prelude.{false}
 use Rattle.str_pipeline.specs.Written.{IsWritten, status_of, outcome_line, refusal_line, IsFirstFault, IsResult, HasWritten, HasBegun}
 use Rattle.str_pipeline.proofs.CutLemmas.{one_split}
 
@@ -81,9 +85,6 @@ of_split (Some told) None defs rest X split known = absurd split
 of_split (Some told) (Some left) defs rest X split known =
     λ d t other. let same = one_split told defs (rest left) d t split other in rw (← same.0, ← same.1) known
 
-pub accepted : (defs : List ℕ) (f : FileTree) → length defs ≤ max_definitions → IsOnlyFile defs f → AreAccepted defs f
-accepted defs f short file = (short, record { tokens = file.tokens; lexes = file.only_tokens.tokens; phrase = file.only_phrase.phrase })
-
 pub for_each_told : (told : Option (List ℕ)) (X : List ℕ → Type 0) → ((bytes : List ℕ) → X bytes) → IfSome told X
 for_each_told None X known = tt
 for_each_told (Some bytes) X known = known bytes
@@ -104,3 +105,39 @@ program_fault defs term budget _ short made = absurd made
 pub passed : {A : Type 0} (result : Result A Fault) (fault : Fault) → IsErrAnd result (λ e. e ≡ fault) → result ≡ Err fault
 passed (Ok x) fault is = absurd is
 passed (Err e) fault is = ap (λ (f : Fault). Err f) is
+
+-- a fault before anything is written that is none of memory or reading
+pub is_refusal : (fault : Fault) → IsStop fault → (fault ≡ faults.Memory → ⊥) → (fault ≡ faults.Read → ⊥) → IsRefusal fault
+is_refusal faults.Memory stop not_memory not_read = absurd (not_memory refl)
+is_refusal faults.Read stop not_memory not_read = absurd (not_read refl)
+is_refusal _ stop not_memory not_read = stop
+
+pub is_no_read : (fault : Fault) → (fault ≡ faults.Read → ⊥) → is_read fault ≡ false
+is_no_read faults.Read not_read = absurd (not_read refl)
+is_no_read _ not_read = refl
+
+-- what writing the line of a refusal answers
+pub refusal_written : (r : Result Status Fault) (old new : Option (List ℕ)) (fault : Fault) → IfOk r (λ s. s ≡ Refused fault)
+    → OnOk r (Gains old new (refusal_line fault)) → IsRefusal fault
+    → IfOk r (λ s. (d t : List ℕ) (n : ℕ) → IsResult d t n (Err fault) → HasWritten d t n s old new)
+refusal_written (Ok s) old new fault is gained refusal = λ d t n known. rw is (refusal_has_written old new fault d t n gained refusal known)
+refusal_written (Err e) old new fault is gained refusal = tt
+
+pub refusal_status : (r : Result Status Fault) (fault : Fault) → IfOk r (λ s. s ≡ Refused fault) → IsRefusal fault
+    → IfOk r (λ s. (s ≡ Refused fault) × IsRefusal fault)
+refusal_status (Ok s) fault is refusal = (is, refusal)
+refusal_status (Err e) fault is refusal = tt
+
+pub writes_no_read : (r : Result Status Fault) → IfErr r IsWritingFault → is_read_fault r ≡ false
+writes_no_read (Ok s) kinds = refl
+writes_no_read (Err faults.Read) kinds = absurd kinds
+writes_no_read (Err _) kinds = refl
+
+pub writes_not_read : (r : Result Status Fault) → IfErr r IsWritingFault → IsErrOf r faults.Read → ⊥
+writes_not_read r kinds is = subst (λ (x : Result Status Fault). IfErr x IsWritingFault) is kinds
+
+pub writing_kinds : (r : Result Status Fault) → IfErr r IsWritingFault → IfErr r IsTransferFault
+writing_kinds (Ok s) kinds = tt
+writing_kinds (Err faults.Memory) kinds = tt
+writing_kinds (Err faults.Write) kinds = tt
+writing_kinds (Err _) kinds = absurd kinds

@@ -29,11 +29,11 @@ pub record HasNoPhrase (bytes : List ℕ) : Type 0 where
   pub lexes : Lexes bytes tokens
   pub none : (f : FileTree) → ¬ (IsPhrase tokens f)
 
--- the bytes are the tokens of the phrase of this file
+-- the bytes are these tokens and no others, and these the phrase of this file and of no other
 pub record IsFile (bytes : List ℕ) (f : FileTree) : Type 0 where
   pub tokens : List Token
-  pub lexes : Lexes bytes tokens
-  pub phrase : IsPhrase tokens f
+  pub only_tokens : OnlyTokens bytes tokens
+  pub only_phrase : OnlyPhrase tokens f
 
 -- the definitions are refused with this fault
 abbrev pub AreRefused : List ℕ → Fault → Type 0
@@ -57,15 +57,9 @@ IsRefused text fault = ⊥
 abbrev pub IsAccepted : List ℕ → Tree → Type 0
 IsAccepted text t = (length text ≤ max_term) × IsReading text (Ok t)
 
--- the bytes are these tokens alone, and these the phrase of this file alone
-pub record IsOnlyFile (bytes : List ℕ) (f : FileTree) : Type 0 where
-  pub tokens : List Token
-  pub only_tokens : OnlyTokens bytes tokens
-  pub only_phrase : OnlyPhrase tokens f
-
 -- what making a program of definitions answers: a core that the program of the file is resolved to
 abbrev pub IsProgram : List ℕ → Result CoreParts Fault → Type 0
-IsProgram defs (Ok core) = (f : FileTree) × IsOnlyFile defs f × ResolvesProgram (program_core f) main_name (program_of core) core.main
+IsProgram defs (Ok core) = (f : FileTree) × IsFile defs f × ResolvesProgram (program_core f) main_name (program_of core) core.main
 IsProgram defs (Err Memory) = Unit {0}
 IsProgram defs (Err (Lexical at)) = HasNoTokens defs
 IsProgram defs (Err (Syntax at)) = HasNoPhrase defs

@@ -1,9 +1,9 @@
 use Rattle.std.proofs.Common.{◌≡◌, ◌<◌, ◌≤◌, inr, subst, List, ℕ, length, Err}
 use Rattle.term_model.specs.declared.fault.Fault.TheVariants.{TermTooLong}
 use Rattle.str_pipeline.specs.Search.{definitions_of, term_of}
-use Rattle.str_pipeline.specs.Judged.{IsOnlyFile, IsProgram, max_term, max_definitions}
+use Rattle.str_pipeline.specs.Judged.{IsFile, IsProgram, max_term, max_definitions}
 use Rattle.str_pipeline.specs.Written.{IsResult, IsFirstFault}
-use Rattle.str_pipeline.proofs.WrittenLaws.{of_split, accepted, for_each_told, told_then, program_fault, passed}
+use Rattle.str_pipeline.proofs.WrittenLaws.{of_split, for_each_told, told_then, program_fault, passed}
 use Rattle.str_pipeline.proofs.pipeline.outcome_joined.Goals as goal
 
 pub returns-in_err-core-clause-result : goal.returns-in_err-core-clause-result
@@ -20,22 +20,22 @@ returns-in_err-core-clause-result g c =
 pub returns-in_default-2-clause-result : goal.returns-in_default-2-clause-result
 returns-in_default-2-clause-result g c =
     let made = c.in_ok-core.ensures in
-    let file : IsOnlyFile (definitions_of c.in-Some.front) made.0 = rw c.definitions.ensures at made.1 in
+    let file : IsFile (definitions_of c.in-Some.front) made.0 = rw c.definitions.ensures at made.1 in
     let short : length (definitions_of c.in-Some.front) ≤ max_definitions = rw c.in-Some.is at c.in_ok-front.ensures.fits in
     of_split (g.S.Source.coming c.args.input.now) (g.S.Source.coming c.read_front.new.input) (definitions_of c.in-Some.front) (term_of c.in-Some.front)
     (λ d t. IsFirstFault d t TermTooLong)
     (rw c.in-Some.is at c.in_ok-front.ensures.split)
     (told_then _ (λ left. max_term < length (term_of c.in-Some.front left)) _ (rw c.in_default-2.is at c.in_ok-text.ensures.whole)
-    (λ left long. inr (made.0, accepted (definitions_of c.in-Some.front) made.0 short file, long)))
+    (λ left long. inr (made.0, (short, file), long)))
 
 pub returns-clause-result : goal.returns-clause-result
 returns-clause-result g c =
     let made = c.in_ok-core.ensures in
-    let file : IsOnlyFile (definitions_of c.in-Some.front) made.0 = rw c.definitions.ensures at made.1 in
+    let file : IsFile (definitions_of c.in-Some.front) made.0 = rw c.definitions.ensures at made.1 in
     let short : length (definitions_of c.in-Some.front) ≤ max_definitions = rw c.in-Some.is at c.in_ok-front.ensures.fits in
     of_split (g.S.Source.coming c.args.input.now) (g.S.Source.coming c.read_front.new.input) (definitions_of c.in-Some.front) (term_of c.in-Some.front)
     (λ d t. IsResult d t c.args.budget c.outcome_of.result)
     (rw c.in-Some.is at c.in_ok-front.ensures.split)
     (told_then _ (λ left. c.in-Some-2.text.items ≡ term_of c.in-Some.front left) _ (rw c.in-Some-2.is at c.in_ok-text.ensures.whole)
     (λ left same. rw (← same, ← c.deref.ensures.value)
-    (c.outcome_of.ensures.result (definitions_of c.in-Some.front) made.0 (accepted (definitions_of c.in-Some.front) made.0 short file) made.2)))
+    (c.outcome_of.ensures.result (definitions_of c.in-Some.front) made.0 (short, file) made.2)))
