@@ -16,3 +16,4 @@ pub mod StrategyLaws
 pub mod TokenLaws
 pub mod TreeLaws
 pub mod WrittenLaws
+pub mod OneLine

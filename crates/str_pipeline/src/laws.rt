@@ -1,10 +1,20 @@
 //! Laws of the definitions, with nothing to run.
 ghost use Rattle.std.specs.Prelude.{◌≡◌, ℕ, List};
+ghost use Rattle.term_model.specs.Flat.{Meaning};
+ghost use Rattle.str_pipeline.specs.declared.status.Status.{Status};
 ghost use Rattle.str_pipeline.specs.Joined.{IsSplit};
+ghost use Rattle.str_pipeline.specs.Written.{IsWritten};
 
 /// Each text of the joined form has a split, and only one.
 #[tactic(auto, using(crate::proofs::CutLemmas::one_split, crate::proofs::SplitLaws::some_split))]
 pub fn joined_form_law()
     ensures one { (text d t e u : List ℕ) → IsSplit text d t → IsSplit text e u → (d ≡ e) × (t ≡ u) }
     ensures some { (text : List ℕ) → (d : List ℕ) × (t : List ℕ) × IsSplit text d t }
+{}
+
+/// Definitions, the text of a term and a budget have at most one line, whatever primitives mean.
+#[tactic(auto, using(crate::proofs::OneLine::one_line))]
+pub fn one_line_law()
+    ensures { (M : Meaning) (defs term : List ℕ) (budget : ℕ) (s r : Status) (line other : List ℕ) →
+        IsWritten M defs term budget s line → IsWritten M defs term budget r other → line ≡ other }
 {}

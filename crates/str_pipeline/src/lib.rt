@@ -24,7 +24,7 @@ mod variables;
 pub use answer::{MAX_DEFINITIONS, MAX_TERM};
 pub use counted::Counted;
 pub use faulty::Faulty;
-pub use laws::joined_form_law;
+pub use laws::{joined_form_law, one_line_law};
 pub use pipeline::{transform, transform_joined};
 pub use sink::{Sink, write_all};
 pub use source::{Source, read_all};

@@ -1,0 +1,174 @@
+-- Definitions, the text of a term and a budget have at most one line.
+use Rattle.std.proofs.Common.{◌≡◌, ℕ, ◌<◌, ◌≤◌, List, length, refl, sym, ◌∙◌, ap, subst, arith, inl, inr, Ok, Err, ◌++◌, codes}
+use Rattle.term_model.specs.declared.fault.Fault.{Fault}
+use Rattle.term_model.specs.declared.fault.Fault.TheVariants.{DefsTooLong, Lexical, Syntax, TermTooLong, TermOversize, TermSyntax}
+use Rattle.term_model.specs.Fault.{word_of}
+use Rattle.term_model.specs.Flat.{Meaning}
+use Rattle.term_model.specs.Term.{Tree}
+use Rattle.aterm_text.specs.ReadTerm.{IsReading}
+use Rattle.core_lang.specs.Ending.{Ending}
+use Rattle.core_lang.proofs.Unique.{unique}
+use Rattle.str_pipeline.specs.declared.status.Status.{Status}
+use Rattle.str_pipeline.specs.declared.status.Status.TheVariants.{Rewritten, Failed, Oversize, Spent, Refused}
+use Rattle.str_pipeline.specs.SourceTree.{FileTree}
+use Rattle.str_pipeline.specs.Judged.{max_definitions, max_term, HasNoTokens, HasNoPhrase, AreRefused, AreAccepted, IsRefused, IsAccepted}
+use Rattle.str_pipeline.specs.Written.{Rewrites, IsAnswer, IsFirstFault, IsWritten, line_of, refusal_line}
+
+-- ---- refusals of definitions
+
+-- the causes, without the place
+data Cause (defs : List ℕ) : Fault → Type 0 where
+  too_long : max_definitions < length defs → Cause defs DefsTooLong
+  no_tokens : {at : ℕ} → length defs ≤ max_definitions → HasNoTokens defs → Cause defs (Lexical at)
+  no_phrase : {at : ℕ} → length defs ≤ max_definitions → HasNoPhrase defs → Cause defs (Syntax at)
+
+cause_of : (defs : List ℕ) (fault : Fault) → AreRefused defs fault → Cause defs fault
+cause_of defs DefsTooLong long = too_long long
+cause_of defs (Lexical at) (short, none) = no_tokens short none
+cause_of defs (Syntax at) (short, none) = no_phrase short none
+cause_of defs _ refused = absurd refused
+
+same_cause : {defs : List ℕ} {f g : Fault} → Cause defs f → Cause defs g → word_of f ≡ word_of g
+same_cause (too_long long) (too_long also) = refl
+same_cause (no_tokens short none) (no_tokens also nothing) = refl
+same_cause (no_phrase short none) (no_phrase also nothing) = refl
+same_cause (too_long long) (no_tokens short none) = absurd (omega arith)
+same_cause (too_long long) (no_phrase short none) = absurd (omega arith)
+same_cause (no_tokens short none) (too_long long) = absurd (omega arith)
+same_cause (no_phrase short none) (too_long long) = absurd (omega arith)
+same_cause (no_tokens short none) (no_phrase also some) = absurd (none some.tokens some.lexes)
+same_cause (no_phrase short some) (no_tokens also none) = absurd (none some.tokens some.lexes)
+
+-- definitions that are refused are not those of a file
+no_file : {defs : List ℕ} {fault : Fault} {f : FileTree} → Cause defs fault → AreAccepted defs f → ⊥
+no_file (too_long long) (short, file) = omega arith
+no_file (no_tokens short none) (also, file) = none file.tokens file.only_tokens.tokens
+no_file {f = f} (no_phrase short some) (also, file) =
+    let same : some.tokens ≡ file.tokens = file.only_tokens.only some.tokens some.lexes in
+    some.none f (rw same file.only_phrase.phrase)
+
+-- they are those of one file
+one_file : {defs : List ℕ} {f g : FileTree} → AreAccepted defs f → AreAccepted defs g → f ≡ g
+one_file {f = f} (short, file) (also, other) =
+    let same : file.tokens ≡ other.tokens = other.only_tokens.only file.tokens file.only_tokens.tokens in
+    other.only_phrase.only f (rw (← same) file.only_phrase.phrase)
+
+-- ---- refusals of terms
+
+data TermCause (text : List ℕ) : Fault → Type 0 where
+  long_term : max_term < length text → TermCause text TermTooLong
+  large_term : {at : ℕ} → length text ≤ max_term → IsReading text (Err (TermOversize at)) → TermCause text (TermOversize at)
+  no_term : {at : ℕ} → length text ≤ max_term → IsReading text (Err (TermSyntax at)) → TermCause text (TermSyntax at)
+
+term_cause_of : (text : List ℕ) (fault : Fault) → IsRefused text fault → TermCause text fault
+term_cause_of text TermTooLong long = long_term long
+term_cause_of text (TermOversize at) (short, reading) = large_term short reading
+term_cause_of text (TermSyntax at) (short, reading) = no_term short reading
+term_cause_of text _ refused = absurd refused
+
+-- a text that is too large is not one that spells no term
+large_or_none : {text : List ℕ} (at place : ℕ) → IsReading text (Err (TermOversize at)) → IsReading text (Err (TermSyntax place)) → ⊥
+large_or_none at place (inl deep) (flat, none) = flat deep
+large_or_none at place (inr (t, spelled, large)) (flat, none) = none t spelled
+
+same_term_cause : {text : List ℕ} {f g : Fault} → TermCause text f → TermCause text g → word_of f ≡ word_of g
+same_term_cause (long_term long) (long_term also) = refl
+same_term_cause (large_term short r) (large_term also q) = refl
+same_term_cause (no_term short r) (no_term also q) = refl
+same_term_cause (long_term long) (large_term short r) = absurd (omega arith)
+same_term_cause (long_term long) (no_term short r) = absurd (omega arith)
+same_term_cause (large_term short r) (long_term long) = absurd (omega arith)
+same_term_cause (no_term short r) (long_term long) = absurd (omega arith)
+same_term_cause (large_term {at = at} short r) (no_term {at = place} also q) = absurd (large_or_none at place r q)
+same_term_cause (no_term {at = place} also q) (large_term {at = at} short r) = absurd (large_or_none at place r q)
+
+large_or_term : {text : List ℕ} (at : ℕ) {t : Tree} → IsReading text (Err (TermOversize at)) → IsReading text (Ok t) → ⊥
+large_or_term at (inl deep) spelled = spelled.not_deep deep
+large_or_term at {t = t} (inr (u, spells, large)) spelled =
+    let same : u ≡ t = spelled.only u spells in large (rw same spelled.fits)
+
+no_accepted_term : {text : List ℕ} {fault : Fault} {t : Tree} → TermCause text fault → IsAccepted text t → ⊥
+no_accepted_term (long_term long) (short, spelled) = omega arith
+no_accepted_term (large_term {at = at} short r) (also, spelled) = large_or_term at r spelled
+no_accepted_term {t = t} (no_term short r) (also, spelled) = r.1 t spelled.spells
+
+one_term : {text : List ℕ} {t u : Tree} → IsAccepted text t → IsAccepted text u → t ≡ u
+one_term {t = t} (short, spelled) (also, other) = other.only t spelled.spells
+
+-- ---- the line
+
+-- the first fault
+one_fault : (defs term : List ℕ) (f g : Fault) → IsFirstFault defs term f → IsFirstFault defs term g → word_of f ≡ word_of g
+one_fault defs term f g (inl x) (inl y) = same_cause (cause_of _ f x) (cause_of _ g y)
+one_fault defs term f g (inl x) (inr (file, accepted, y)) = absurd (no_file (cause_of _ f x) accepted)
+one_fault defs term f g (inr (file, accepted, x)) (inl y) = absurd (no_file (cause_of _ g y) accepted)
+one_fault defs term f g (inr (file, accepted, x)) (inr (other, also, y)) = same_term_cause (term_cause_of _ f x) (term_cause_of _ g y)
+
+-- a refusal leaves no file and term
+no_run : (defs term : List ℕ) (fault : Fault) {f : FileTree} {t : Tree} → IsFirstFault defs term fault → AreAccepted defs f → IsAccepted term t → ⊥
+no_run defs term fault (inl x) accepted spelled = no_file (cause_of _ fault x) accepted
+no_run defs term fault (inr (file, also, x)) accepted spelled = no_accepted_term (term_cause_of _ fault x) spelled
+
+-- a status of a run
+data IsRun : Status → Type 0 where
+  rewritten : IsRun Rewritten
+  failing : IsRun Failed
+  too_large : IsRun Oversize
+  spending : IsRun Spent
+
+-- ended within the budget, and no derivation within it
+ended_or_spent : {M : Meaning} (f : FileTree) {t : Tree} {budget n : ℕ} {o : Ending Tree} →
+    Rewrites M f t o n → n ≤ budget → ((p : Ending Tree) (m : ℕ) → Rewrites M f t p m → budget < m) → ⊥
+ended_or_spent f {n = n} {o = o} derived within none = let more : _ < n = none o n derived in omega arith
+
+-- the lines of one file and one term
+one_answer : (M : Meaning) (f : FileTree) (t : Tree) (budget : ℕ) (s r : Status) (line other : List ℕ) →
+    IsRun s → IsRun r → IsAnswer M f t budget s line → IsAnswer M f t budget r other → line ≡ other
+one_answer M f t budget _ _ line other rewritten rewritten (u, e, n, x, within, is) (v, g, m, y, also, be) =
+    let same = (unique x y).outcome in cc
+one_answer M f t budget _ _ line other rewritten failing (u, e, n, x, within, is) (m, y, also, be) = let same = (unique x y).outcome in cc
+one_answer M f t budget _ _ line other rewritten too_large (u, e, n, x, within, is) (m, y, also, be) = let same = (unique x y).outcome in cc
+one_answer M f t budget _ _ line other rewritten spending (u, e, n, x, within, is) (none, be) = absurd (ended_or_spent f x within none)
+one_answer M f t budget _ _ line other failing rewritten (n, x, within, is) (v, g, m, y, also, be) = let same = (unique x y).outcome in cc
+one_answer M f t budget _ _ line other failing failing (n, x, within, is) (m, y, also, be) = cc
+one_answer M f t budget _ _ line other failing too_large (n, x, within, is) (m, y, also, be) = let same = (unique x y).outcome in cc
+one_answer M f t budget _ _ line other failing spending (n, x, within, is) (none, be) = absurd (ended_or_spent f x within none)
+one_answer M f t budget _ _ line other too_large rewritten (n, x, within, is) (v, g, m, y, also, be) = let same = (unique x y).outcome in cc
+one_answer M f t budget _ _ line other too_large failing (n, x, within, is) (m, y, also, be) = let same = (unique x y).outcome in cc
+one_answer M f t budget _ _ line other too_large too_large (n, x, within, is) (m, y, also, be) = cc
+one_answer M f t budget _ _ line other too_large spending (n, x, within, is) (none, be) = absurd (ended_or_spent f x within none)
+one_answer M f t budget _ _ line other spending rewritten (none, is) (v, g, m, y, also, be) = absurd (ended_or_spent f y also none)
+one_answer M f t budget _ _ line other spending failing (none, is) (m, y, also, be) = absurd (ended_or_spent f y also none)
+one_answer M f t budget _ _ line other spending too_large (none, is) (m, y, also, be) = absurd (ended_or_spent f y also none)
+one_answer M f t budget _ _ line other spending spending (none, is) (nothing, be) = cc
+
+-- the line of a run, or of a refusal
+data Line (M : Meaning) (defs term : List ℕ) (budget : ℕ) : List ℕ → Type 0 where
+  of_run : {line : List ℕ} (status : Status) → IsRun status → (f : FileTree) (t : Tree) → AreAccepted defs f → IsAccepted term t →
+      IsAnswer M f t budget status line → Line M defs term budget line
+  of_fault : {line : List ℕ} (fault : Fault) → IsFirstFault defs term fault → line ≡ refusal_line fault → Line M defs term budget line
+
+line_of_status : (M : Meaning) (defs term : List ℕ) (budget : ℕ) (status : Status) (line : List ℕ) →
+    IsWritten M defs term budget status line → Line M defs term budget line
+line_of_status M defs term budget (Refused fault) line (first, is) = of_fault fault first is
+line_of_status M defs term budget Rewritten line (f, t, file, spelled, answer) = of_run Rewritten rewritten f t file spelled answer
+line_of_status M defs term budget Failed line (f, t, file, spelled, answer) = of_run Failed failing f t file spelled answer
+line_of_status M defs term budget Oversize line (f, t, file, spelled, answer) = of_run Oversize too_large f t file spelled answer
+line_of_status M defs term budget Spent line (f, t, file, spelled, answer) = of_run Spent spending f t file spelled answer
+
+one_of_lines : {M : Meaning} {defs term : List ℕ} {budget : ℕ} {line other : List ℕ} → Line M defs term budget line → Line M defs term budget other → line ≡ other
+one_of_lines {M = M} {budget = budget} {line = line} {other = other} (of_run s x f t file spelled answer) (of_run r y g u also spells reply) =
+    let same_file : g ≡ f = one_file also file in
+    let same_term : u ≡ t = one_term spells spelled in
+    let P : FileTree → Tree → Type 0 = λ h v. IsAnswer M h v budget r other in
+    one_answer M f t budget s r line other x y answer (subst (λ v. P f v) same_term (subst (λ h. P h u) same_file reply))
+one_of_lines {defs = defs} {term = term} (of_run s x f t file spelled answer) (of_fault fault first is) = absurd (no_run defs term fault first file spelled)
+one_of_lines {defs = defs} {term = term} (of_fault fault first is) (of_run s x f t file spelled answer) = absurd (no_run defs term fault first file spelled)
+one_of_lines {defs = defs} {term = term} (of_fault f x is) (of_fault g y be) =
+    let word : word_of f ≡ word_of g = one_fault defs term f g x y in
+    is ∙ (ap (λ w. line_of (codes "#refused " ++ w)) word ∙ sym be)
+
+-- definitions, a term's text and a budget have one line
+pub one_line : (M : Meaning) (defs term : List ℕ) (budget : ℕ) (s r : Status) (line other : List ℕ) →
+    IsWritten M defs term budget s line → IsWritten M defs term budget r other → line ≡ other
+one_line M defs term budget s r line other x y = one_of_lines (line_of_status M defs term budget s line x) (line_of_status M defs term budget r other y)
