@@ -3,7 +3,10 @@ use Rattle.std.proofs.Common.{◌≡◌, ◌+◌, ◌≤◌, ℕ, List, ◌++◌
 use Rattle.std.proofs.lemmas.List.{take-append-le, take-append-drop, take_at, take_all, drop_at}
 use Rattle.std.proofs.Math.Seq.{take-add}
 use Rattle.std.proofs.lemmas.Grind.{common_steps}
+use Rattle.std.specs.Prelude.{Result, Ok, Err, OnOk, is_err, if◌then◌else◌}
+use Rattle.term_model.specs.declared.fault.Fault.{Fault}
 use Rattle.str_pipeline.specs.Device.{Gains, GainsPrefix}
+use Rattle.strc.specs.Report.{diagnostic, Tells}
 
 pub gains_both : (a b c : Option (List ℕ)) (xs ys : List ℕ) → Gains a b xs → Gains b c ys → Gains a c (xs ++ ys)
 gains_both None None c xs ys first second = second
@@ -23,3 +26,10 @@ begins_second a b c xs ys first (k, within, gained) =
     let long : length xs + k ≤ length (xs ++ ys) = rw length-append (omega arith) in
     let front : take (length xs + k) (xs ++ ys) ≡ xs ++ take k ys = rw (take-add, take_at xs ys (length xs) refl, drop_at xs ys (length xs) refl) in
     (length xs + k, long, rw front (gains_both a b c xs (take k ys) first gained))
+
+-- a report that was written as far as its result says
+pub tells : {A : Type 0} (r : Result A Fault) (fault : Fault) (before after : ℕ) (old new : Option (List ℕ)) →
+    OnOk r (Gains old new (diagnostic fault)) → GainsPrefix old new (diagnostic fault) → after ≡ before + (if is_err r then 1 else 0) →
+    Tells fault before after old new
+tells (Ok v) fault before after old new gained begun failed = record { beginning = begun; whole = λ _. gained }
+tells (Err e) fault before after old new gained begun failed = record { beginning = begun; whole = λ same. absurd (omega arith) }

@@ -5,7 +5,7 @@ use Rattle.term_model.specs.declared.fault.Fault.TheVariants.{Lexical, ReservedW
 use Rattle.term_model.specs.Fault.{word_of}
 use Rattle.str_pipeline.specs.declared.status.Status.{Status}
 use Rattle.str_pipeline.specs.declared.status.Status.TheVariants.{Rewritten, Failed, Oversize, Spent, Refused}
-use Rattle.str_pipeline.specs.Device.{GainsPrefix}
+use Rattle.str_pipeline.specs.Device.{Gains, GainsPrefix}
 
 abbrev pub exit_of : Status → ℕ
 exit_of Rewritten = 0
@@ -31,7 +31,13 @@ place_text (Some at) = codes " at byte " ++ decimal at
 abbrev pub diagnostic : Fault → List ℕ
 diagnostic fault = codes "strc: " ++ (word_of fault ++ (place_text (place_of fault) ++ 10 ∷ []))
 
--- a refusal is reported, as far as the stream takes it; nothing else is
-abbrev pub IsReported : Status → Option (List ℕ) → Option (List ℕ) → Type 0
-IsReported (Refused fault) old new = GainsPrefix old new (diagnostic fault)
-IsReported status old new = new ≡ old
+-- the line of the fault is on a stream with so many failed writes before and after: a beginning of it, and the whole
+-- where no write failed
+pub record Tells (fault : Fault) (before after : ℕ) (old new : Option (List ℕ)) : Type 0 where
+  pub beginning : GainsPrefix old new (diagnostic fault)
+  pub whole : after ≡ before → Gains old new (diagnostic fault)
+
+-- a refusal is told, and nothing else is
+abbrev pub IsReported : Status → ℕ → ℕ → Option (List ℕ) → Option (List ℕ) → Type 0
+IsReported (Refused fault) before after old new = Tells fault before after old new
+IsReported status before after old new = new ≡ old

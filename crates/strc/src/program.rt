@@ -2,11 +2,10 @@
 ghost use Rattle.std.specs.Prelude.{◌≡◌, ◌+◌, ◌<◌, ◌≤◌, ◌⊎◌, ℕ, List, IfSome};
 ghost use Rattle.term_model.specs.declared.fault.Fault.{Fault};
 ghost use Rattle.str_pipeline.specs.declared.status.Status.{Status};
-ghost use Rattle.str_pipeline.specs.Device.{GainsPrefix};
 ghost use Rattle.str_pipeline.specs.Joined.{IsSplit};
 ghost use Rattle.str_pipeline.specs.Written.{HasWritten, HasBegun};
 ghost use Rattle.str_pipeline.specs.Statuses.{HoldsRefusal, IsTransferFault};
-ghost use Rattle.strc.specs.Report.{exit_of, diagnostic, IsReported};
+ghost use Rattle.strc.specs.Report.{exit_of, Tells, IsReported};
 
 use crate::report::report;
 use std::alloc::Global;
@@ -20,6 +19,7 @@ pub const BUDGET: u32 = 2_000;
 /// the definitions or the term were refused, 3 where the budget was spent or a term was too large,
 /// and 4 where memory, reading or writing failed. For 2 and 4 a line on `diagnostics` says the
 /// fault; a write there that fails changes nothing.
+#[tactic(auto, using(crate::proofs::PrefixLaws::tells))]
 pub fn run<I: Source, W: Sink, E: Sink>(
     alloc: Global,
     input: &mut I,
@@ -29,8 +29,9 @@ pub fn run<I: Source, W: Sink, E: Sink>(
     ensures status { result ≤ 4 }
     ensures ended { result < 4 → (status : Status) × (exit_of status ≡ result) × HoldsRefusal status
         × IfSome (I.coming input.old) (λ told. (d t : List ℕ) → IsSplit told d t → HasWritten d t 2000 status (W.written out.old) (W.written out.new))
-        × IsReported status (E.written diagnostics.old) (E.written diagnostics.new) }
-    ensures stopped { result ≡ 4 → (fault : Fault) × IsTransferFault fault × GainsPrefix (E.written diagnostics.old) (E.written diagnostics.new) (diagnostic fault) }
+        × IsReported status (E.failed_writes diagnostics.old) (E.failed_writes diagnostics.new) (E.written diagnostics.old) (E.written diagnostics.new) }
+    ensures stopped { result ≡ 4 → (fault : Fault) × IsTransferFault fault
+        × Tells fault (E.failed_writes diagnostics.old) (E.failed_writes diagnostics.new) (E.written diagnostics.old) (E.written diagnostics.new) }
     ensures unwritten { result ≡ 4 → W.failed_writes out.new ≡ W.failed_writes out.old → out.new ≡ out.old }
     ensures begun { W.failed_writes out.old < W.failed_writes out.new →
         IfSome (I.coming input.old) (λ told. (d t : List ℕ) → IsSplit told d t → HasBegun d t 2000 (W.written out.old) (W.written out.new)) }
