@@ -1,5 +1,5 @@
 //! The diagnostic line of a fault.
-ghost use Rattle.std.specs.Prelude.{◌≡◌, ◌+◌, OnOk, is_err, if◌then◌else◌};
+ghost use Rattle.std.specs.Prelude.{◌≡◌, ◌+◌, OnOk, IfErr, is_err, if◌then◌else◌};
 ghost use Rattle.str_pipeline.specs.Device.{Gains, GainsPrefix};
 ghost use Rattle.strc.specs.Report.{place_of, place_text, diagnostic};
 
@@ -27,6 +27,7 @@ fn write_place<E: Sink>(place: Option<u64>, diagnostics: &mut E) -> Result<(), F
     ensures whole { OnOk result (Gains (E.written diagnostics.old) (E.written diagnostics.new) (place_text place)) }
     ensures prefix { GainsPrefix (E.written diagnostics.old) (E.written diagnostics.new) (place_text place) }
     ensures failed { E.failed_writes diagnostics.new ≡ E.failed_writes diagnostics.old + (if is_err result then 1 else 0) }
+    ensures kinds { IfErr result (λ e. e ≡ Fault.Write) }
 {
     let Some(at) = place else {
         return Ok(());
@@ -42,6 +43,7 @@ pub(crate) fn report<E: Sink>(fault: &Fault, diagnostics: &mut E) -> Result<(), 
     ensures whole { OnOk result (Gains (E.written diagnostics.old) (E.written diagnostics.new) (diagnostic fault.now)) }
     ensures prefix { GainsPrefix (E.written diagnostics.old) (E.written diagnostics.new) (diagnostic fault.now) }
     ensures failed { E.failed_writes diagnostics.new ≡ E.failed_writes diagnostics.old + (if is_err result then 1 else 0) }
+    ensures kinds { IfErr result (λ e. e ≡ Fault.Write) }
 {
     write_all(diagnostics, b"strc: ")?;
     write_all(diagnostics, fault.word().as_bytes())?;

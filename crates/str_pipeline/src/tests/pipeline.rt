@@ -1,4 +1,6 @@
 //! Whole runs, from bytes to bytes.
+ghost use Rattle.std.specs.Prelude.{◌≤◌};
+
 use crate::tests::rows::{JOINED_ROWS, Pieces, ROWS};
 use crate::{Faulty, Options, Status, transform, transform_joined};
 use std::alloc::{AllocError, Global};
@@ -41,7 +43,9 @@ fn fits(status: &Status, line: &[u8]) -> bool {
 }
 
 /// Whether definitions and a term give this line, in both forms.
-fn gives(alloc: Global, defs: &[u8], term: &[u8], budget: u32, line: &[u8]) -> Result<bool, Fault> {
+fn gives(alloc: Global, defs: &[u8], term: &[u8], budget: u32, line: &[u8]) -> Result<bool, Fault>
+    requires { budget ≤ 2000 }
+{
     let options = Options { budget };
     let mut out = Faulty::writer(alloc, ROOM, PIECE, None, false)?;
     let mut first = Faulty::reader(defs.to_vec(alloc)?, PIECE, None);
@@ -61,7 +65,8 @@ fn gives_joined(
     budget: u32,
     line: &[u8],
 ) -> Result<bool, Fault>
-    requires { 1 ≤ piece }
+    requires piece { 1 ≤ piece }
+    requires budget { budget ≤ 2000 }
 {
     let options = Options { budget };
     let mut out = Faulty::writer(alloc, ROOM, PIECE, None, false)?;
@@ -177,15 +182,8 @@ fn failing_writers(rt: HostRuntime) -> Result<(), Fail> {
     let alloc = rt.alloc();
     let options = Options { budget: 2_000 };
     let line = b"f(1)\n";
-    for (bad, silent) in [
-        (1u64, false),
-        (2, true),
-        (3, false),
-        (4, true),
-        (5, false),
-        (6, true),
-        (7, false),
-    ] {
+    for bad in 1..8u64 {
+        let silent = bad % 2 == 0;
         let is_bad = bad <= 5;
         let wrote = line.len().min((bad as usize).saturating_sub(1));
         let mut first = Faulty::reader(b"strategies main = ?(_,x); !x".to_vec(alloc)?, 9, None);
