@@ -1,6 +1,5 @@
 -- The laws of what is settled within a budget, as the evaluator needs them: one node of the budget is taken.
 use Rattle.std.proofs.Common.{Bool, true, false, Option, Some, None, length, take, ◌++◌, Result, Ok, Err, IfOk, ◌≡◌, ℕ, ◌+◌, ◌-◌, List, [], ◌∷◌, map, refl, sym, ap, arith, subst, length-append}
-use Rattle.std.proofs.lemmas.List.{length-replicate}
 use Rattle.std.specs.List.{IsFirstAndRest}
 use Rattle.std.specs.Prelude.{if◌then◌else◌}
 use Rattle.std.specs.Option.{option_map}
@@ -110,10 +109,6 @@ made_built (Some t) e = by_test (fits t)
     by_test true = refl
     by_test false = refl
 
--- a layer has as many variables as places were added
-pub layer_size : (e : Bindings) (k n : ℕ) → n ≡ length (e ++ empty_places k) → n - length e ≡ k
-layer_size e k n h = omega (arith, h, length-append e (empty_places k), length-replicate {A = Option Tree} k None)
-
 -- a verdict on a term that the outcome has
 pub rewritten_to : {V : Environment Place ℕ} {s : Strategy Place ℕ} {t : Tree} {e : Bindings} {b : ℕ} {o : Outcome Tree} {u : Tree} (f : Bindings) {c : ℕ} →
     o ≡ Rewritten u → Evaluates V s t e b (verdict_of o f) c → Evaluates V s t e b (ends (ok u f)) c
@@ -132,6 +127,10 @@ on_ok (Err x) f h = tt
 pub chain_next : (s : Strategy Place ℕ) (xs rest : List CoreStrategy) (x : CoreStrategy) → IsFirstAndRest xs x rest →
     chain s (map strategy_of xs) ≡ seq s (chain (strategy_of x) (map strategy_of rest))
 chain_next s xs rest x h = ap (λ ys. chain s (map strategy_of ys)) h.0
+
+pub chain_ends : (s : Strategy Place ℕ) (xs : List CoreStrategy) → length xs ≡ 0 → chain s (map strategy_of xs) ≡ s
+chain_ends s [] h = refl
+chain_ends s (x ∷ xs) h = absurd (omega arith)
 
 pub arms_next : (xs rest : List CoreArm) (x : CoreArm) (q : Strategy Place ℕ) → IsFirstAndRest xs x rest → first_of (map arm_of xs) q ≡ first_of (arm_of x ∷ map arm_of rest) q
 arms_next xs rest x q h = ap (λ ys. first_of (map arm_of ys) q) h.0

@@ -20,17 +20,17 @@ use Rattle.core_lang.specs.Matching.{with_front, applied_to, instance, instances
 use Rattle.core_lang.specs.Views.{pattern_of, patterns_of}
 use Rattle.core_eval.specs.Instance.{AreMade, Kept}
 
-both : (a b : Bool) → (a && b) ≡ true → (a ≡ true) × (b ≡ true)
+pub both : (a b : Bool) → (a && b) ≡ true → (a ≡ true) × (b ≡ true)
 both true true h = (refl, refl)
 both true false h = absurd (cc)
 both false b h = absurd (cc)
 
-not_true : (b : Bool) → (b ≡ true → ⊥) → b ≡ false
+pub not_true : (b : Bool) → (b ≡ true → ⊥) → b ≡ false
 not_true true h = absurd (h refl)
 not_true false h = refl
 
 -- terms that fit together fit each
-parts_fit : (ts : Trees) → weights ts ≤ max_weight → depths ts ≤ max_depth → all_fit ts ≡ true
+pub parts_fit : (ts : Trees) → weights ts ≤ max_weight → depths ts ≤ max_depth → all_fit ts ≡ true
 parts_fit end w d = refl
 parts_fit (more t ts) w d =
     let light : nat_le (weight t) max_weight ≡ true = le-leb _ _ (omega arith) in
@@ -63,6 +63,10 @@ by_test : (b : Bool) (t u : Tree) → made.Fits u ≡ (if b then made.Fits t els
 by_test true t u h = cc
 by_test false t u h = absurd (cc)
 
+by_test_in : (b : Bool) (t u : Tree) → made.Fits u ≡ (if b then made.Fits t else made.Oversize) → b ≡ true
+by_test_in true t u h = refl
+by_test_in false t u h = absurd (cc)
+
 by_test_out : (b : Bool) (t : Tree) → made.Oversize ≡ (if b then made.Fits t else made.Oversize) → b ≡ false
 by_test_out true t h = absurd (cc)
 by_test_out false t h = refl
@@ -70,6 +74,13 @@ by_test_out false t h = refl
 pub one_made : (o : Option Tree) (u : Tree) → Some (made.Fits u) ≡ option_map made_of o → o ≡ Some u
 one_made None u h = absurd (cc)
 one_made (Some t) u h = let q : made.Fits u ≡ made_of t = cc in ap (λ z. Some z) (by_test (fits t) t u q)
+
+-- and it fits
+pub made_fits : (o : Option Tree) (u : Tree) → Some (made.Fits u) ≡ option_map made_of o → fits u ≡ true
+made_fits None u h = absurd (cc)
+made_fits (Some t) u h =
+    let q : made.Fits u ≡ made_of t = cc in
+    subst (λ z. fits z ≡ true) (by_test (fits t) t u q) (by_test_in (fits t) t u q)
 
 pub too_large : (o : Option Tree) → Some made.Oversize ≡ option_map made_of o → (t : Tree) × (o ≡ Some t) × (fits t ≡ false)
 too_large None h = absurd (cc)
@@ -108,36 +119,43 @@ large_last (t ∷ ts) u h = last (fits t) _ (large_last ts u h)
     last true b h = h
     last false b h = refl
 
+fitting_last : (us : List Tree) (u : Tree) → all_fit (trees_of us) ≡ true → fits u ≡ true → all_fit (trees_of (us ++ u ∷ [])) ≡ true
+fitting_last [] u h k = ap (λ b. b && true) k
+fitting_last (t ∷ ts) u h k =
+    let two = both (fits t) (all_fit (trees_of ts)) h in
+    ap (λ b. b && all_fit (trees_of (ts ++ u ∷ []))) two.0 ∙ fitting_last ts u two.1 k
+
 -- all instances, from the terms that are made and the rest; whether all that are made fit
 pub data Making (all rest : Option Trees) : List Tree → Bool → Type 0 where
-  all_fitting : {ts : List Tree} → all ≡ before ts rest → Making all rest ts true
+  all_fitting : {ts : List Tree} → all ≡ before ts rest → all_fit (trees_of ts) ≡ true → Making all rest ts true
   not_fitting : {ts : List Tree} (us : List Tree) → all ≡ before us rest → all_fit (trees_of us) ≡ false → Making all rest ts false
 
 pub making_starts : (all : Option Trees) (ts : List Tree) → ts ≡ [] → Making all all ts true
-making_starts all ts h = all_fitting (ap (λ us. before us all) (sym h))
+making_starts all ts h = all_fitting (ap (λ us. before us all) (sym h)) (ap (λ us. all_fit (trees_of us)) h)
 
-pub making_goes_on : {all rest next : Option Trees} {ts us : List Tree} {b : Bool} (u : Tree) → Making all rest ts b → rest ≡ with_front (Some u) next → us ≡ ts ++ u ∷ [] → Making all next us b
-making_goes_on {next = next} {ts = ts} u (all_fitting so_far) is at =
+pub making_goes_on : {all rest next : Option Trees} {ts us : List Tree} {b : Bool} (u : Tree) → Making all rest ts b → rest ≡ with_front (Some u) next → fits u ≡ true → us ≡ ts ++ u ∷ [] → Making all next us b
+making_goes_on {next = next} {ts = ts} u (all_fitting so_far each) is fit at =
     all_fitting (so_far ∙ (ap (λ o. before ts o) is ∙ (before_push ts u next ∙ ap (λ vs. before vs next) (sym at))))
-making_goes_on {next = next} u (not_fitting vs so_far large) is at =
+    (ap (λ vs. all_fit (trees_of vs)) at ∙ fitting_last ts u each fit)
+making_goes_on {next = next} u (not_fitting vs so_far large) is fit at =
     not_fitting (vs ++ u ∷ []) (so_far ∙ (ap (λ o. before vs o) is ∙ before_push vs u next)) (larger vs u large)
 
 pub making_too_large : {all rest next : Option Trees} {ts : List Tree} {b : Bool} (u : Tree) → Making all rest ts b → rest ≡ with_front (Some u) next → fits u ≡ false → Making all next ts false
-making_too_large {next = next} {ts = ts} u (all_fitting so_far) is large =
+making_too_large {next = next} {ts = ts} u (all_fitting so_far each) is large =
     not_fitting (ts ++ u ∷ []) (so_far ∙ (ap (λ o. before ts o) is ∙ before_push ts u next)) (large_last ts u large)
 making_too_large {next = next} u (not_fitting vs so_far e) is large =
     not_fitting (vs ++ u ∷ []) (so_far ∙ (ap (λ o. before vs o) is ∙ before_push vs u next)) (large_last vs u large)
 
 pub making_stops : {all rest : Option Trees} {ts : List Tree} {b : Bool} → Making all rest ts b → rest ≡ None → all ≡ None
-making_stops {ts = ts} (all_fitting so_far) is = so_far ∙ (ap (λ o. before ts o) is ∙ before_none ts)
+making_stops {ts = ts} (all_fitting so_far each) is = so_far ∙ (ap (λ o. before ts o) is ∙ before_none ts)
 making_stops (not_fitting vs so_far e) is = so_far ∙ (ap (λ o. before vs o) is ∙ before_none vs)
 
-pub making_done : {all rest : Option Trees} {ts : List Tree} {b : Bool} → Making all rest ts b → rest ≡ Some end → b ≡ true → all ≡ Some (trees_of ts)
-making_done {ts = ts} (all_fitting so_far) is h = so_far ∙ (ap (λ o. before ts o) is ∙ before_end ts)
+pub making_done : {all rest : Option Trees} {ts : List Tree} {b : Bool} → Making all rest ts b → rest ≡ Some end → b ≡ true → (all ≡ Some (trees_of ts)) × (all_fit (trees_of ts) ≡ true)
+making_done {ts = ts} (all_fitting so_far each) is h = (so_far ∙ (ap (λ o. before ts o) is ∙ before_end ts), each)
 making_done (not_fitting vs so_far e) is h = absurd (cc)
 
 pub making_ends : {all rest : Option Trees} {ts : List Tree} {b : Bool} → Making all rest ts b → rest ≡ Some end → b ≡ false → (us : Trees) × (all ≡ Some us) × (all_fit us ≡ false)
-making_ends (all_fitting so_far) is h = absurd (cc)
+making_ends (all_fitting so_far each) is h = absurd (cc)
 making_ends (not_fitting vs so_far e) is h = (trees_of vs, so_far ∙ (ap (λ o. before vs o) is ∙ before_end vs), e)
 
 false_left : (b : Bool) → (b && false) ≡ false
@@ -153,7 +171,7 @@ pub making_next : {all rest next : Option Trees} {ts us : List Tree} {b : Bool} 
 making_next {all} {next = next} {us = us} {b = b} o (made.Fits t) kept now_fit so_far is at k h =
     let one = one_made o t at in
     let test : now_fit ≡ b = h ∙ (ap (λ z. b && z) k.0 ∙ same_left b) in
-    subst (λ z. Making all next us z) (sym test) (making_goes_on t so_far (is ∙ ap (λ v. with_front v next) one) k.1)
+    subst (λ z. Making all next us z) (sym test) (making_goes_on t so_far (is ∙ ap (λ v. with_front v next) one) (made_fits o t at) k.1)
 making_next {all} {next = next} {ts = ts} {us = us} {b = b} o made.Oversize kept now_fit so_far is at k h =
     let large = too_large o at in
     let test : now_fit ≡ false = h ∙ (ap (λ z. b && z) k.0 ∙ false_left b) in
@@ -172,3 +190,11 @@ module _ (place : Place → Option ℕ) (e : Bindings) (ps : List CorePattern) (
 -- one of several terms is too large
 pub one_too_large : {vs : Option Trees} {m : Option (Made (Vec Tree Global))} {k : Made (Vec Tree Global)} → AreMade vs m → m ≡ Some k → k ≡ made.Oversize → AreMade vs (Some made.Oversize)
 one_too_large {vs} fact is at = subst (λ z. AreMade vs z) (is ∙ ap (λ z. Some z) at) fact
+
+-- one of several terms is none, or each of them is made
+pub lacks_made : {vs : Option Trees} {m : Option (Made (Vec Tree Global))} → AreMade vs m → m ≡ None → vs ≡ None
+lacks_made {vs} fact is = subst (λ z. AreMade vs z) is fact
+
+pub all_made : {vs : Option Trees} {m : Option (Made (Vec Tree Global))} {k : Made (Vec Tree Global)} {ts : Vec Tree Global} → AreMade vs m → m ≡ Some k → k ≡ made.Fits ts →
+    (vs ≡ Some (trees_of ts.items)) × (all_fit (trees_of ts.items) ≡ true)
+all_made {vs} fact is at = subst (λ z. AreMade vs z) (is ∙ ap (λ z. Some z) at) fact

@@ -1,5 +1,9 @@
 pub mod FrameLaws
+pub mod ClosureLaws
 pub mod MatchingLaws
 pub mod InstanceLaws
+pub mod MakingLaws
 pub mod EvalLaws
+pub mod CallLaws
+pub mod TraversalLaws
 pub mod RunLaws

@@ -1,17 +1,22 @@
 -- What one step of matching says.
-use Rattle.std.proofs.Common.{◌≡◌, ℕ, zero, suc, ◌<◌, ◌≤◌, Option, Some, None, List, [], ◌∷◌, length, get_or, refl, sym, ◌∙◌, ap, arith, subst}
-use Rattle.std.specs.Prelude.{Bool, true, false, if◌then◌else◌, slice_set}
+use Rattle.std.proofs.Common.{◌≡◌, ℕ, zero, suc, ◌<◌, ◌≤◌, Option, Some, None, List, [], ◌∷◌, length, map, drop, take, ◌-◌, get_or, refl, sym, ◌∙◌, ap, arith, subst}
+use Rattle.std.specs.Prelude.{Bool, true, false, if◌then◌else◌, slice_set, nat_le}
 use Rattle.std.specs.Option.{option_map}
 use Rattle.term_model.specs.declared.term.Head.TheVariants as heads
-use Rattle.term_model.specs.Term.{Tree, node, head_of, parts_of, trees_of}
+use Rattle.term_model.specs.Term.{Tree, node, Trees, end, more, head_of, parts_of, term, list_of, trees_of, weight, weights, depth, depths, fits, Fits, made_of}
+use Rattle.term_model.specs.Limits.{max_weight, max_depth}
+use Rattle.term_model.specs.declared.made.Made.{Made}
+use Rattle.term_model.specs.declared.made.Made.TheVariants as made
+use Rattle.std.proofs.lemmas.Bool.{le-leb}
 use Rattle.term_model.specs.Same.{same, same_head}
 use Rattle.core_lang.specs.Environment.{Bindings}
 use Rattle.core_lang.specs.declared.place.Place.{Place}
 use Rattle.core_lang.specs.declared.program.CorePattern.{CorePattern}
-use Rattle.core_lang.specs.Program.{Pattern, applied, Patterns}
-use Rattle.core_lang.specs.Tried.{put, and_then, tried, tried_all}
-use Rattle.core_lang.specs.Views.{pattern_of, patterns_of}
-use Rattle.core_eval.specs.Matching.{Found}
+use Rattle.core_lang.specs.Program.{Pattern, applied, Patterns, list, Elements}
+use Rattle.core_lang.specs.Tried.{put, put_at, and_then, tried, tried_all, tried_elements}
+use Rattle.core_lang.specs.Views.{pattern_of, patterns_of, elements_in}
+use Rattle.core_eval.specs.Matching.{Found, FirstFound}
+use Rattle.core_eval.specs.Frame.{IsPast}
 use Rattle.term_model.proofs.TermLemmas.{trees_of-list_of}
 use Rattle.term_model.specs.Symbol.{Symbol}
 
@@ -66,3 +71,86 @@ module _ (place : Place → Option ℕ) where
   other_count [] (t ∷ ts) e h = refl
   other_count (p ∷ ps) [] e h = refl
   other_count (p ∷ ps) (t ∷ ts) e h = no_rest (tried place (pattern_of p) t e) (λ f. tried_all place (patterns_of ps) (trees_of ts) f) (λ f. other_count ps ts f (λ x. h (omega arith)))
+
+  -- a list by its elements
+  list_tried_by : (ps : Elements Place) (t : Tree) (e : Bindings) → tried place (list ps) t e ≡ (if same_head (head_of t) heads.List then tried_elements place ps (trees_of (parts_of t)) e else None)
+  list_tried_by ps (node h ts annos) e = ap (λ us. if same_head h heads.List then tried_elements place ps us e else None) (sym (trees_of-list_of ts))
+
+  pub list_tried : (p : Pattern Place) (ps : Elements Place) (t : Tree) (e : Bindings) (test_is : Bool) → p ≡ list ps → test_is ≡ same_head (head_of t) heads.List → test_is ≡ true →
+      tried place p t e ≡ tried_elements place ps (trees_of (parts_of t)) e
+  list_tried p ps t e test_is is test out =
+      ap (λ q. tried place q t e) is ∙ (list_tried_by ps t e ∙ ap (λ b. if b then tried_elements place ps (trees_of (parts_of t)) e else None) (sym test ∙ out))
+
+  same_behind : (o : Option Bindings) (f g : Bindings → Option Bindings) → ((e : Bindings) → f e ≡ g e) → and_then o f ≡ and_then o g
+  same_behind None f g h = refl
+  same_behind (Some e) f g h = h e
+
+  -- elements without a rest are several patterns
+  pub elements_tried : (ps : List CorePattern) (ts : Trees) (e : Bindings) → tried_elements place (elements_in (map pattern_of ps) None) ts e ≡ tried_all place (patterns_of ps) ts e
+  elements_tried [] end e = refl
+  elements_tried [] (more t ts) e = refl
+  elements_tried (p ∷ ps) end e = refl
+  elements_tried (p ∷ ps) (more t ts) e =
+      same_behind (tried place (pattern_of p) t e) (λ f. tried_elements place (elements_in (map pattern_of ps) None) ts f) (λ f. tried_all place (patterns_of ps) ts f) (λ f. elements_tried ps ts f)
+
+  pub too_few : (ps : List CorePattern) (ts : List Tree) (e : Bindings) (r : Pattern Place) → length ts < length ps → tried_elements place (elements_in (map pattern_of ps) (Some r)) (trees_of ts) e ≡ None
+  too_few [] ts e r h = absurd (omega arith)
+  too_few (p ∷ ps) [] e r h = refl
+  too_few (p ∷ ps) (t ∷ ts) e r h =
+      no_rest (tried place (pattern_of p) t e) (λ f. tried_elements place (elements_in (map pattern_of ps) (Some r)) (trees_of ts) f) (λ f. too_few ps ts f r (omega arith))
+
+  pub first_lacks : (ps : List (Pattern Place)) (ts us : Trees) (e f : Bindings) (enough : Type 0) (b : Bool) → FirstFound place ps ts e b us f enough → b ≡ false →
+      (r : Pattern Place) → tried_elements place (elements_in ps (Some r)) ts e ≡ None
+  first_lacks ps ts us e f enough true h is = absurd (cc)
+  first_lacks ps ts us e f enough false h is = h
+
+  pub first_goes_on : (ps : List (Pattern Place)) (ts us : Trees) (e f : Bindings) (enough : Type 0) (b : Bool) → FirstFound place ps ts e b us f enough → b ≡ true →
+      (r : Pattern Place) → tried_elements place (elements_in ps (Some r)) ts e ≡ tried place r (node heads.List us end) f
+  first_goes_on ps ts us e f enough true h is = h.0
+  first_goes_on ps ts us e f enough false h is = absurd (cc)
+
+-- the parts behind the first ones weigh no more than all, and are no deeper
+parts_behind : (ts : List Tree) (n : ℕ) → (weights (trees_of (drop n ts)) ≤ weights (trees_of ts)) × (depths (trees_of (drop n ts)) ≤ depths (trees_of ts))
+parts_behind [] zero = (omega arith, omega arith)
+parts_behind [] (suc n) = (omega arith, omega arith)
+parts_behind (t ∷ ts) zero = (omega arith, omega arith)
+parts_behind (t ∷ ts) (suc n) = let less = parts_behind ts n in let light = less.0 in let flat = less.1 in (omega arith, omega arith)
+
+behind_fits : (t : Tree) (n : ℕ) → Fits t → fits (term heads.List (drop n (parts_of t)) []) ≡ true
+behind_fits (node h ts annos) n whole =
+    let less = parts_behind (list_of ts) n in
+    let light_parts : weights (trees_of (drop n (list_of ts))) ≤ weights ts = subst (λ us. weights (trees_of (drop n (list_of ts))) ≤ weights us) (trees_of-list_of ts) less.0 in
+    let flat_parts : depths (trees_of (drop n (list_of ts))) ≤ depths ts = subst (λ us. depths (trees_of (drop n (list_of ts))) ≤ depths us) (trees_of-list_of ts) less.1 in
+    let weight_fits = whole.weight in
+    let depth_fits = whole.depth in
+    let light : nat_le (weight (node heads.List (trees_of (drop n (list_of ts))) end)) max_weight ≡ true = le-leb _ _ (omega arith) in
+    let flat : nat_le (depth (node heads.List (trees_of (drop n (list_of ts))) end)) max_depth ≡ true = le-leb _ _ (omega arith) in
+    rw (light, flat) refl
+
+take_enough : (xs : List Tree) (m : ℕ) → length xs ≤ m → take m xs ≡ xs
+take_enough [] zero h = refl
+take_enough [] (suc m) h = refl
+take_enough (x ∷ xs) zero h = absurd (omega arith)
+take_enough (x ∷ xs) (suc m) h = ap (λ ys. x ∷ ys) (take_enough xs m (omega arith))
+
+drop_length : (xs : List Tree) (n : ℕ) → length (drop n xs) ≤ length xs - n
+drop_length [] zero = omega arith
+drop_length [] (suc n) = omega arith
+drop_length (x ∷ xs) zero = omega arith
+drop_length (x ∷ xs) (suc n) = let less = drop_length xs n in omega arith
+
+-- a slice from a position on
+pub slice_behind : (xs : List Tree) (n : ℕ) → take (length xs - n) (drop n xs) ≡ drop n xs
+slice_behind xs n = take_enough (drop n xs) (length xs - n) (drop_length xs n)
+
+pub behind_made : (t : Tree) (n : ℕ) (m : Made Tree) → Fits t → m ≡ made_of (term heads.List (drop n (parts_of t)) []) → m ≡ made.Oversize → ⊥
+behind_made t n m whole is large = no_oversize (fits (term heads.List (drop n (parts_of t)) [])) (term heads.List (drop n (parts_of t)) []) (behind_fits t n whole) (sym large ∙ is)
+  where
+    no_oversize : (b : Bool) (u : Tree) → b ≡ true → made.Oversize ≡ (if b then made.Fits u else made.Oversize) → ⊥
+    no_oversize true u h e = cc
+    no_oversize false u h e = cc
+
+-- a variable that leads to no place
+pub put_nowhere : (o : Option ℕ) (t : Tree) (e : Bindings) (n : ℕ) → IsPast o n → n ≡ length e → put_at o t e ≡ None
+put_nowhere None t e n h is = refl
+put_nowhere (Some i) t e n h is = put_past i t e (omega arith)

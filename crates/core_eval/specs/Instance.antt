@@ -1,18 +1,44 @@
 -- What making several terms says.
+use Rattle.std.specs.Borrow.{Bor}
 use Rattle.std.specs.Prelude.{◌≡◌, Bool, true, false, List, [], ◌∷◌, ◌++◌, Option, Some, None, Vec}
 use Rattle.std.specs.declared.alloc.Global.{Global}
 use Rattle.term_model.specs.declared.made.Made.{Made}
 use Rattle.term_model.specs.declared.made.Made.TheVariants as made
-use Rattle.term_model.specs.Term.{Tree, Trees, trees_of}
+use Rattle.term_model.specs.Term.{Tree, node, Trees, end, more, trees_of}
 use Rattle.core_lang.specs.Ending.{all_fit}
+use Rattle.core_lang.specs.Matching.{annotated_like}
 
--- none, or the terms, or one of them does not fit
+-- none, or the terms, each of which fits, or one of them does not fit
 abbrev pub AreMade : Option Trees → Option (Made (Vec Tree Global)) → Type 0
 AreMade vs None = vs ≡ None
-AreMade vs (Some (made.Fits ts)) = vs ≡ Some (trees_of ts.items)
+AreMade vs (Some (made.Fits ts)) = (vs ≡ Some (trees_of ts.items)) × (all_fit (trees_of ts.items) ≡ true)
 AreMade vs (Some made.Oversize) = (us : Trees) × (vs ≡ Some us) × (all_fit us ≡ false)
 
 -- one more term, which fits, or the same terms
 abbrev pub Kept : Made Tree → Bool → List Tree → List Tree → Type 0
 Kept (made.Fits t) fits ts us = (fits ≡ true) × (us ≡ ts ++ t ∷ [])
 Kept made.Oversize fits ts us = (fits ≡ false) × (us ≡ ts)
+
+-- the first term with the annotations of the second
+abbrev pub with_annotations_of : Tree → Tree → Tree
+with_annotations_of (node h ts annos) (node g us others) = node h ts others
+
+-- a term with the annotations of another one, if there is one
+abbrev pub re_annotated : Tree → Option (Bor Tree) → Tree
+re_annotated t None = t
+re_annotated t (Some o) = with_annotations_of t o.now
+
+-- the same of what may be no term
+abbrev pub liked : Option Tree → Option (Bor Tree) → Option Tree
+liked t None = t
+liked t (Some o) = annotated_like t (Some o.now)
+
+-- terms, and others behind them
+abbrev pub joined : Trees → Trees → Trees
+joined end us = us
+joined (more t ts) us = more t (joined ts us)
+
+abbrev pub both_terms : Option Trees → Option Trees → Option Trees
+both_terms None us = None
+both_terms (Some ts) None = None
+both_terms (Some ts) (Some us) = Some (joined ts us)

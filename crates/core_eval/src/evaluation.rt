@@ -1,17 +1,20 @@
 // The evaluator, by recursion on the budget.
-ghost use Rattle.std.specs.Prelude.{◌≡◌, ◌+◌, ◌++◌, ◌∷◌, IfOk, OnOk, map};
+ghost use Rattle.std.specs.Prelude.{◌≡◌, ◌+◌, ◌∷◌, ◌<◌, IfOk, Some, length, map, slice_set};
 ghost use Rattle.core_lang.specs.Ending.{Ending, ok, failed, oversize};
-ghost use Rattle.core_lang.specs.Environment.{Bindings, empty_places};
-ghost use Rattle.core_lang.specs.Program.{scope, seq};
+ghost use Rattle.core_lang.specs.Environment.{Bindings, definition};
+ghost use Rattle.core_lang.specs.Program.{scope, all, one, some, call};
+ghost use Rattle.core_lang.specs.Resolved.{layers_up, callee_in};
 ghost use Rattle.core_lang.specs.Settled.{ends};
-ghost use Rattle.core_lang.specs.Views.{strategy_of, arm_of, chain, first_of};
+ghost use Rattle.core_lang.specs.Views.{strategy_of, strategies_of, patterns_of, arm_of, def_of, chain, first_of};
 ghost use Rattle.core_eval.specs.Frame.{environment_of};
 ghost use Rattle.core_eval.specs.Evaluates.{Evaluates, verdict_of, made_ending};
 
+use crate::bindings::{push_empty, push_terms, save};
+use crate::callee::{Callee, callee_at, closures_of};
 use crate::frame::Frame;
-use crate::instance::instance;
+use crate::instance::{instance, instances};
 use crate::matching::matches;
-use core_lang::{CoreArm, CoreStrategy, Outcome};
+use core_lang::{CoreArm, CoreDef, CorePattern, CoreStrategy, Outcome, Place};
 use std::alloc::{AllocError, Global};
 use term_model::{Made, Term};
 
@@ -36,77 +39,76 @@ pub fn evaluate(
         CoreStrategy::Fail => Ok(Outcome::Failed),
         CoreStrategy::Sequence(first, second, rest) => {
             let rest = rest.as_slice();
-            evaluate_in_turn(alloc, first, second, rest, frame, t, places, budget)
+            evaluate_sequence(alloc, first, second, rest, frame, t, places, budget)
         }
         CoreStrategy::Choice(arm, more, otherwise) => {
             let more = more.as_slice();
-            evaluate_arm(alloc, arm, more, otherwise, frame, t, places, budget)
+            evaluate_arms(alloc, arm, more, otherwise, frame, t, places, budget)
         }
         CoreStrategy::Match(p) => {
-            if matches(p, frame, t, places)? {
+            if matches(alloc, p, frame, t, places)? {
                 Ok(Outcome::Rewritten(t.clone()?))
             } else {
                 Ok(Outcome::Failed)
             }
         }
-        CoreStrategy::Build(p) => Ok(built(instance(alloc, p, frame, places.as_slice())?)),
+        CoreStrategy::Build(p) => Ok(built(instance(alloc, p, None, frame, places.as_slice())?)),
         CoreStrategy::Scope(count, body) => {
             evaluate_scope(alloc, *count, body, frame, t, places, budget)
         }
-    }
-}
-
-// A sequence, whose node is paid: the strategy, and then the next and the others on what it made.
-#[cycle(eval)]
-fn evaluate_in_turn(
-    alloc: Global,
-    s: &CoreStrategy,
-    next: &CoreStrategy,
-    more: &[CoreStrategy],
-    frame: &Frame,
-    t: &Term,
-    places: &mut Vec<Option<Term>>,
-    budget: &mut u32,
-) -> Result<Outcome<Term>, AllocError>
-    ensures { IfOk result (λ r. Evaluates (environment_of frame.now) (seq (strategy_of s.now) (chain (strategy_of next.now) (map strategy_of more.now))) t.now places.old.items (1 + budget.old) (verdict_of r places.new.items) budget.new) }
-{
-    match evaluate(alloc, s, frame, t, places, budget)? {
-        Outcome::Rewritten(u) => {
-            let ending = evaluate_chain(alloc, next, more, frame, &u, places, budget)?;
+        CoreStrategy::All(body) => evaluate_all(alloc, body, frame, t, places, budget),
+        CoreStrategy::One(body) => evaluate_one(alloc, body, frame, t, places, budget),
+        CoreStrategy::Some(body) => evaluate_some(alloc, body, frame, t, places, budget),
+        CoreStrategy::LetIn(defs, body) => {
+            let inner = Frame::Definitions(defs.as_slice(), &*frame);
+            let ending = evaluate(alloc, body, &inner, t, places, budget)?;
             Ok(ending)
         }
-        other => Ok(other),
+        CoreStrategy::Call(x, strategies, terms) => {
+            let (strategies, terms) = (strategies.as_slice(), terms.as_slice());
+            evaluate_call(alloc, *x, strategies, terms, frame, t, places, budget)
+        }
     }
 }
 
-// The strategy, and then the others in turn.
+// A sequence, whose first node is paid.
 #[cycle(eval)]
-fn evaluate_chain(
+fn evaluate_sequence(
     alloc: Global,
-    s: &CoreStrategy,
+    first: &CoreStrategy,
+    second: &CoreStrategy,
     rest: &[CoreStrategy],
     frame: &Frame,
     t: &Term,
     places: &mut Vec<Option<Term>>,
     budget: &mut u32,
 ) -> Result<Outcome<Term>, AllocError>
-    ensures { IfOk result (λ r. Evaluates (environment_of frame.now) (chain (strategy_of s.now) (map strategy_of rest.now)) t.now places.old.items budget.old (verdict_of r places.new.items) budget.new) }
+    ensures { IfOk result (λ r. Evaluates (environment_of frame.now) (chain (strategy_of first.now) (strategy_of second.now ∷ map strategy_of rest.now)) t.now places.old.items (1 + budget.old) (verdict_of r places.new.items) budget.new) }
 {
-    let Some((next, more)) = rest.split_first() else {
-        let ending = evaluate(alloc, s, frame, t, places, budget)?;
-        return Ok(ending);
-    };
-    if *budget == 0 {
-        return Ok(Outcome::Spent);
+    match evaluate(alloc, first, frame, t, places, budget)? {
+        Outcome::Rewritten(u) => match rest.split_first() {
+            None => {
+                let ending = evaluate(alloc, second, frame, &u, places, budget)?;
+                Ok(ending)
+            }
+            Some((next, more)) => {
+                if *budget == 0 {
+                    return Ok(Outcome::Spent);
+                }
+                *budget -= 1;
+                let ending = evaluate_sequence(
+                    alloc, second, next, more, frame, &u, places, budget,
+                )?;
+                Ok(ending)
+            }
+        },
+        other => Ok(other),
     }
-    *budget -= 1;
-    let ending = evaluate_in_turn(alloc, s, next, more, frame, t, places, budget)?;
-    Ok(ending)
 }
 
-// A choice that begins with this arm, whose node is paid.
+// A choice, whose first node is paid.
 #[cycle(eval)]
-fn evaluate_arm(
+fn evaluate_arms(
     alloc: Global,
     arm: &CoreArm,
     more: &[CoreArm],
@@ -118,44 +120,33 @@ fn evaluate_arm(
 ) -> Result<Outcome<Term>, AllocError>
     ensures { IfOk result (λ r. Evaluates (environment_of frame.now) (first_of (arm_of arm.now ∷ map arm_of more.now) (strategy_of otherwise.now)) t.now places.old.items (1 + budget.old) (verdict_of r places.new.items) budget.new) }
 {
-    let saved = save(alloc, places.as_slice())?;
+    let before = save(alloc, places.as_slice())?;
     match evaluate(alloc, &arm.guard, frame, t, places, budget)? {
         Outcome::Rewritten(u) => {
             let ending = evaluate(alloc, &arm.then, frame, &u, places, budget)?;
             Ok(ending)
         }
         Outcome::Failed => {
-            *places = saved;
-            let ending = evaluate_others(alloc, more, otherwise, frame, t, places, budget)?;
-            Ok(ending)
+            *places = before;
+            match more.split_first() {
+                None => {
+                    let ending = evaluate(alloc, otherwise, frame, t, places, budget)?;
+                    Ok(ending)
+                }
+                Some((next, rest)) => {
+                    if *budget == 0 {
+                        return Ok(Outcome::Spent);
+                    }
+                    *budget -= 1;
+                    let ending = evaluate_arms(
+                        alloc, next, rest, otherwise, frame, t, places, budget,
+                    )?;
+                    Ok(ending)
+                }
+            }
         }
         other => Ok(other),
     }
-}
-
-// The choice among the arms that are left, or the last strategy.
-#[cycle(eval)]
-fn evaluate_others(
-    alloc: Global,
-    arms: &[CoreArm],
-    otherwise: &CoreStrategy,
-    frame: &Frame,
-    t: &Term,
-    places: &mut Vec<Option<Term>>,
-    budget: &mut u32,
-) -> Result<Outcome<Term>, AllocError>
-    ensures { IfOk result (λ r. Evaluates (environment_of frame.now) (first_of (map arm_of arms.now) (strategy_of otherwise.now)) t.now places.old.items budget.old (verdict_of r places.new.items) budget.new) }
-{
-    let Some((arm, rest)) = arms.split_first() else {
-        let ending = evaluate(alloc, otherwise, frame, t, places, budget)?;
-        return Ok(ending);
-    };
-    if *budget == 0 {
-        return Ok(Outcome::Spent);
-    }
-    *budget -= 1;
-    let ending = evaluate_arm(alloc, arm, rest, otherwise, frame, t, places, budget)?;
-    Ok(ending)
 }
 
 // A scope, whose node is paid.
@@ -173,38 +164,173 @@ fn evaluate_scope(
 {
     let base = places.len();
     push_empty(places, count)?;
-    let inner = Frame::Layer(base, places.len(), &*frame);
+    let inner = Frame::Layer(base, 0, count, &[], &*frame);
     let ending = evaluate(alloc, body, &inner, t, places, budget)?;
     places.truncate(base);
     Ok(ending)
 }
 
-// A copy of the bindings.
-fn save(alloc: Global, places: &[Option<Term>]) -> Result<Vec<Option<Term>>, AllocError>
-    ensures { IfOk result (λ copy. copy.items ≡ places.now) }
+// A strategy on each part of the term; its own node is paid.
+#[cycle(eval)]
+fn evaluate_all(
+    alloc: Global,
+    s: &CoreStrategy,
+    frame: &Frame,
+    t: &Term,
+    places: &mut Vec<Option<Term>>,
+    budget: &mut u32,
+) -> Result<Outcome<Term>, AllocError>
+    ensures { IfOk result (λ r. Evaluates (environment_of frame.now) (all (strategy_of s.now)) t.now places.old.items (1 + budget.old) (verdict_of r places.new.items) budget.new) }
 {
-    let mut copy = Vec::new(alloc);
-    for place in places {
-        match place {
-            None => {
-                copy.push(None)?;
+    let parts = t.children();
+    let mut done = Vec::new(alloc);
+    for part in parts {
+        match evaluate(alloc, s, frame, part, places, budget)? {
+            Outcome::Rewritten(u) => {
+                done.push(u)?;
             }
-            Some(t) => {
-                copy.push(Some(t.clone()?))?;
-            }
+            other => return Ok(other),
         }
     }
-    Ok(copy)
+    let made = t.rebuild(alloc, done)?;
+    Ok(built(Some(made)))
 }
 
-// So many new places, with nothing.
-fn push_empty(places: &mut Vec<Option<Term>>, count: usize) -> Result<(), AllocError>
-    ensures { OnOk result (places.new.items ≡ places.old.items ++ empty_places count) }
+// A strategy on the first part of the term where it does not fail; its own node is paid.
+#[cycle(eval)]
+fn evaluate_one(
+    alloc: Global,
+    s: &CoreStrategy,
+    frame: &Frame,
+    t: &Term,
+    places: &mut Vec<Option<Term>>,
+    budget: &mut u32,
+) -> Result<Outcome<Term>, AllocError>
+    ensures { IfOk result (λ r. Evaluates (environment_of frame.now) (one (strategy_of s.now)) t.now places.old.items (1 + budget.old) (verdict_of r places.new.items) budget.new) }
 {
-    for _i in 0..count {
-        places.push(None)?;
+    let parts = t.children();
+    for (i, part) in parts.iter().enumerate() {
+        let saved = save(alloc, places.as_slice())?;
+        match evaluate(alloc, s, frame, part, places, budget)? {
+            Outcome::Rewritten(u) => {
+                let changed = replaced(alloc, parts, i, u)?;
+                let made = t.rebuild(alloc, changed)?;
+                return Ok(built(Some(made)));
+            }
+            Outcome::Failed => {
+                *places = saved;
+            }
+            other => return Ok(other),
+        }
     }
-    Ok(())
+    Ok(Outcome::Failed)
+}
+
+// A strategy on each part of the term where it does not fail, one at least; its own node is paid.
+#[cycle(eval)]
+fn evaluate_some(
+    alloc: Global,
+    s: &CoreStrategy,
+    frame: &Frame,
+    t: &Term,
+    places: &mut Vec<Option<Term>>,
+    budget: &mut u32,
+) -> Result<Outcome<Term>, AllocError>
+    ensures { IfOk result (λ r. Evaluates (environment_of frame.now) (some (strategy_of s.now)) t.now places.old.items (1 + budget.old) (verdict_of r places.new.items) budget.new) }
+{
+    let parts = t.children();
+    let mut results = Vec::new(alloc);
+    let mut found = false;
+    for part in parts {
+        let kept = save(alloc, places.as_slice())?;
+        match evaluate(alloc, s, frame, part, places, budget)? {
+            Outcome::Rewritten(u) => {
+                found = true;
+                results.push(u)?;
+            }
+            Outcome::Failed => {
+                *places = kept;
+                results.push(part.clone()?)?;
+            }
+            other => return Ok(other),
+        }
+    }
+    if !found {
+        return Ok(Outcome::Failed);
+    }
+    let made = t.rebuild(alloc, results)?;
+    Ok(built(Some(made)))
+}
+
+// A call, whose node is paid. Where it is of nothing there is no derivation.
+#[cycle(eval)]
+fn evaluate_call(
+    alloc: Global,
+    x: Place,
+    strategies: &[CoreStrategy],
+    terms: &[CorePattern],
+    frame: &Frame,
+    t: &Term,
+    places: &mut Vec<Option<Term>>,
+    budget: &mut u32,
+) -> Result<Outcome<Term>, AllocError>
+    ensures { IfOk result (λ r. Evaluates (environment_of frame.now) (call x (strategies_of strategies.now) (patterns_of terms.now)) t.now places.old.items (1 + budget.old) (verdict_of r places.new.items) budget.new) }
+{
+    match callee_at(&*frame, x) {
+        None => Ok(Outcome::Spent),
+        Some(Callee::Parameter(closure)) => {
+            let ending = evaluate(alloc, closure.strategy, closure.frame, t, places, budget)?;
+            Ok(ending)
+        }
+        Some(Callee::Definition(def, home)) => {
+            let ending = evaluate_definition(
+                alloc, def, home, strategies, terms, frame, t, places, budget,
+            )?;
+            Ok(ending)
+        }
+    }
+}
+
+// A call of a definition, whose node is paid.
+#[cycle(eval)]
+fn evaluate_definition(
+    alloc: Global,
+    def: &CoreDef,
+    home: &Frame,
+    strategies: &[CoreStrategy],
+    terms: &[CorePattern],
+    frame: &Frame,
+    t: &Term,
+    places: &mut Vec<Option<Term>>,
+    budget: &mut u32,
+) -> Result<Outcome<Term>, AllocError>
+    ensures { IfOk result (λ r. (x : Place) → callee_in (layers_up (environment_of frame.now) x.hops) x.slot ≡ Some (definition (def_of def.now).strats (def_of def.now).terms (def_of def.now).body (environment_of home.now)) →
+        Evaluates (environment_of frame.now) (call x (strategies_of strategies.now) (patterns_of terms.now)) t.now places.old.items (1 + budget.old) (verdict_of r places.new.items) budget.new) }
+{
+    let closures = closures_of(alloc, &*strategies, &*frame)?;
+    match instances(alloc, terms, frame, places.as_slice())? {
+        None => Ok(Outcome::Failed),
+        Some(Made::Oversize) => Ok(Outcome::Oversize),
+        Some(Made::Fits(values)) => {
+            let first = places.len();
+            push_terms(places, values.as_slice())?;
+            let closures = closures.as_slice();
+            let inner = Frame::Layer(first, def.strats, def.terms, closures, &*home);
+            let ending = evaluate(alloc, &def.body, &inner, t, places, budget)?;
+            places.truncate(first);
+            Ok(ending)
+        }
+    }
+}
+
+// The terms, with another one at this position.
+fn replaced(alloc: Global, terms: &[Term], at: usize, t: Term) -> Result<Vec<Term>, AllocError>
+    requires { at < length terms.now }
+    ensures { IfOk result (λ all. all.items ≡ slice_set terms.now at t) }
+{
+    let mut all = Vec::from_clones(alloc, terms)?;
+    all[at] = t;
+    Ok(all)
 }
 
 // How a build ends.

@@ -1,22 +1,24 @@
 // Matching a pattern with a term.
-ghost use Rattle.std.specs.Prelude.{◌≡◌, IfOk};
+ghost use Rattle.std.specs.Prelude.{◌≡◌, ◌≤◌, IfOk, [], length, drop, map};
 ghost use Rattle.core_lang.specs.Resolved.{by_places};
-ghost use Rattle.core_lang.specs.Tried.{put, tried, tried_all};
+ghost use Rattle.core_lang.specs.Tried.{put, put_at, tried, tried_all};
 ghost use Rattle.core_lang.specs.Views.{pattern_of, patterns_of};
 ghost use Rattle.term_model.specs.Same.{same_head};
-ghost use Rattle.term_model.specs.Term.{head_of, trees_of};
+ghost use Rattle.term_model.specs.Term.{head_of, parts_of, term, trees_of};
 ghost use Rattle.core_eval.specs.Frame.{environment_of};
-ghost use Rattle.core_eval.specs.Matching.{Found};
+ghost use Rattle.core_eval.specs.Matching.{Found, FirstFound};
 
 use crate::frame::{Frame, position};
-use core_lang::CorePattern;
-use std::alloc::AllocError;
-use term_model::{Head, Sym, Term};
+use crate::making::is_list;
+use core_lang::{CorePattern, Place};
+use std::alloc::{AllocError, Global};
+use term_model::{Head, Made, Sym, Term};
 
 /// Whether the pattern matches the term; each of its variables that had no term is then bound. Where it does not,
 /// some of them may be bound.
 #[cycle(matching)]
 pub fn matches(
+    alloc: Global,
     p: &CorePattern,
     frame: &Frame,
     t: &Term,
@@ -26,24 +28,50 @@ pub fn matches(
 {
     match p {
         CorePattern::Anything => Ok(true),
-        CorePattern::Variable(x) => match position(frame, x.hops, x.slot) {
-            Some(at) => bind(places, at, t),
-            None => Ok(false),
-        },
+        CorePattern::Variable(x) => bind_variable(*x, frame, t, places),
         CorePattern::Integer(value) => Ok(is_integer(t, *value)),
+        CorePattern::Alias(x, part) => {
+            if !bind_variable(*x, frame, t, places)? {
+                return Ok(false);
+            }
+            let yes = matches(alloc, part, frame, t, places)?;
+            Ok(yes)
+        }
         CorePattern::Applied(symbol, parts) => {
             if !is_application(t, symbol) {
                 return Ok(false);
             }
-            let yes = all_match(parts.as_slice(), frame, t.children(), places)?;
+            let yes = all_match(alloc, parts.as_slice(), frame, t.children(), places)?;
             Ok(yes)
         }
+        CorePattern::List(elements, rest) => {
+            if !is_list(t) {
+                return Ok(false);
+            }
+            match rest {
+                None => {
+                    let yes = all_match(alloc, elements.as_slice(), frame, t.children(), places)?;
+                    Ok(yes)
+                }
+                Some(rest) => {
+                    let elements = elements.as_slice();
+                    if !first_match(alloc, elements, frame, t.children(), places)? {
+                        return Ok(false);
+                    }
+                    let others = list_behind(alloc, t, elements.len())?;
+                    let yes = matches(alloc, rest, frame, &others, places)?;
+                    Ok(yes)
+                }
+            }
+        }
+        CorePattern::Annotated(_, _) => Ok(false),
     }
 }
 
 // Whether there are as many terms, and each pattern matches its own.
 #[cycle(matching)]
 fn all_match(
+    alloc: Global,
     patterns: &[CorePattern],
     frame: &Frame,
     terms: &[Term],
@@ -55,11 +83,64 @@ fn all_match(
         return Ok(false);
     }
     for (i, p) in patterns.iter().enumerate() {
-        if !matches(p, frame, &terms[i], places)? {
+        if !matches(alloc, p, frame, &terms[i], places)? {
             return Ok(false);
         }
     }
     Ok(true)
+}
+
+// Whether there are at least as many terms, and each pattern matches its own.
+#[cycle(matching)]
+fn first_match(
+    alloc: Global,
+    patterns: &[CorePattern],
+    frame: &Frame,
+    terms: &[Term],
+    places: &mut Vec<Option<Term>>,
+) -> Result<bool, AllocError>
+    ensures { IfOk result (λ yes. FirstFound (by_places.place_of (environment_of frame.now)) (map pattern_of patterns.now) (trees_of terms.now) places.old.items yes (trees_of (drop (length patterns.now) terms.now)) places.new.items (length patterns.now ≤ length terms.now)) }
+{
+    if terms.len() < patterns.len() {
+        return Ok(false);
+    }
+    for (at, p) in patterns.iter().enumerate() {
+        if !matches(alloc, p, frame, &terms[at], places)? {
+            return Ok(false);
+        }
+    }
+    Ok(true)
+}
+
+// The parts of the term behind the first ones, so many, as a list.
+fn list_behind(alloc: Global, t: &Term, from: usize) -> Result<Term, AllocError>
+    requires { from ≤ length (parts_of t.now) }
+    ensures { IfOk result (λ list. list ≡ term Head.List (drop from (parts_of t.now)) []) }
+{
+    let _ = t.weight();
+    let others = Vec::from_clones(alloc, &t.children()[from..])?;
+    match Term::list(alloc, others)? {
+        Made::Fits(list) => Ok(list),
+        Made::Oversize => unreachable!(),
+    }
+}
+
+// Gives the variable the term; where it has one, whether they are the same.
+fn bind_variable(
+    x: Place,
+    frame: &Frame,
+    t: &Term,
+    places: &mut Vec<Option<Term>>,
+) -> Result<bool, AllocError>
+    ensures { IfOk result (λ yes. Found (put_at (by_places.place_of (environment_of frame.now) x) t.now places.old.items) yes places.new.items) }
+{
+    match position(frame, x, places.len()) {
+        Some(at) => {
+            let yes = bind(places, at, t)?;
+            Ok(yes)
+        }
+        None => Ok(false),
+    }
 }
 
 // Gives the place the term; where it has one, whether they are the same.

@@ -11,15 +11,14 @@ ghost use Rattle.core_eval.specs.Evaluates.{EvaluatesOn, IsRun};
 
 use crate::evaluation::evaluate;
 use crate::frame::Frame;
-use core_lang::{Core, Outcome, Run};
+use core_lang::{Core, CoreStrategy, Outcome, Place, Run};
 use std::alloc::{AllocError, Global};
 use term_model::{Fault, Term};
 
-/// Runs the core on the term: a call of its main, without arguments and without bindings, by plain recursion.
+/// Runs the core on the term: main is called without arguments and without bindings.
 ///
-/// The answer is that of every program over names that the core is resolved from. `rules` is the number of nodes of the
-/// derivation; where no derivation has as few nodes as the budget, the outcome is `Spent` and `rules` is the budget.
-/// `steps` is 0. The only fault is `Memory`; the term and the core stay as they were.
+/// `rules` is the number of nodes of the derivation, and the budget where the budget is spent before the derivation
+/// is complete; `steps` is 0. The only fault is want of memory.
 pub fn eval(alloc: Global, core: &Core, term: &Term, budget: u32) -> Result<Run<Term>, Fault>
     requires { budget ≤ 2000 }
     ensures run { IfOk result (λ run. (M : Meaning) (P : Definitions Name (List Name)) (main : Name) →
@@ -48,17 +47,14 @@ fn call_main(
 ) -> Result<Outcome<Term>, AllocError>
     ensures { IfOk result (λ r. EvaluatesOn (definitions (program_of core.now) outermost) (call (here core.now.main) no_strategies no_patterns) term.now budget.old r budget.new) }
 {
-    if *budget == 0 {
-        return Ok(Outcome::Spent);
-    }
-    *budget -= 1;
-    let defs = core.defs();
-    let Some(main) = defs.get(core.main()) else {
-        return Ok(Outcome::Spent);
+    let main = Place {
+        hops: 0,
+        slot: core.main(),
     };
-    let program = Frame::Program(defs);
-    let frame = Frame::Layer(0, 0, &program);
+    let call = CoreStrategy::Call(main, Vec::new(alloc), Vec::new(alloc));
+    let outermost = Frame::Outermost;
+    let program = Frame::Definitions(core.defs(), &outermost);
     let mut places = Vec::new(alloc);
-    let outcome = evaluate(alloc, &main.body, &frame, term, &mut places, budget)?;
+    let outcome = evaluate(alloc, &call, &program, term, &mut places, budget)?;
     Ok(outcome)
 }

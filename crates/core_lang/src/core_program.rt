@@ -1,4 +1,4 @@
-//! Cores: programs over places that are in range.
+// Cores: programs over places that are in range.
 ghost use Rattle.std.specs.Prelude.{◌≡◌, ◌↔◌, IsTrue};
 ghost use Rattle.core_lang.specs.Views.{definitions_of};
 ghost use Rattle.core_lang.specs.Core.{program_of};
@@ -8,9 +8,7 @@ use crate::program::CoreDef;
 use crate::range;
 use std::marker::Model;
 
-/// A program over places, as it is run: definitions, one of which is main.
-///
-/// It is in range: each place in it leads to a variable that is there, and main is there and has no parameters.
+/// A core program: definitions, one of which is main. Each place in it leads to what is wanted of it.
 #[derive(Drop)]
 pub struct Core {
     defs: Vec<CoreDef>,
@@ -36,16 +34,16 @@ impl Model for Core {
 }
 
 impl Core {
-    /// Whether these definitions, with the one at position `main` (from 0) as main, are a core: that one is there and has
-    /// no parameters, and each place in a body is that of a variable. It takes no memory.
+    /// Whether these definitions, with the one at `main` as main, are a core: `main` is there and has no parameters,
+    /// each place of a variable leads to a variable, and each place of a call to a definition with as many parameters
+    /// as the call has arguments, or to a strategy parameter where it has none.
     pub fn in_range(defs: &[CoreDef], main: usize) -> bool
         ensures { IsTrue result ↔ InRange (definitions_of defs.now) main }
     {
-        range::has_main(defs, main) && range::definitions_in_range(defs)
+        range::has_definition(defs, main, 0, 0) && range::program_in_range(defs)
     }
 
-    /// The core of these definitions, with the one at position `main` (from 0) as main; they must be in range. It takes no
-    /// memory.
+    /// The core of these definitions, with the one at `main` as main.
     pub fn new(defs: Vec<CoreDef>, main: usize) -> Core
         requires { InRange (definitions_of defs.items) main }
         ensures definitions { result.defs ≡ defs.items }
@@ -54,7 +52,7 @@ impl Core {
         Core { defs, main }
     }
 
-    /// The definitions, main among them.
+    /// The definitions.
     pub fn defs(&self) -> &[CoreDef]
         ensures same { result.now ≡ self.now.defs }
         ensures in_range { InRange (program_of self.now) self.now.main }
@@ -62,7 +60,7 @@ impl Core {
         self.defs.as_slice()
     }
 
-    /// The position of main among the definitions, from 0.
+    /// The position of main among the definitions.
     pub fn main(&self) -> usize
         ensures { result ≡ self.now.main }
     {

@@ -1,63 +1,64 @@
-//! Core programs over places, as they are run.
+// Core programs over places.
 use crate::place::Place;
 use term_model::Sym;
 
-/// A pattern to match, or what a build makes.
+/// A pattern, or what a build makes.
 #[derive(Drop)]
 pub enum CorePattern {
-    /// Matches every term; a build of it fails.
+    /// Matches every term; a build has no use for it.
     Anything,
-    /// The variable at this place: it matches any term where it has none yet, and then has that term, or else the very
-    /// term that it has, annotations included; a build gives its term, and fails where it has none.
     Variable(Place),
-    /// This integer, whatever annotations it has; a build makes it without annotations.
+    /// A variable, and the pattern of its term; a build has no use for it.
+    Alias(Place, Box<CorePattern>),
     Integer(i32),
-    /// A symbol applied to parts; a quoted text is one without parts. A match takes as many parts and ignores
-    /// annotations at the node; a build makes it without annotations.
+    /// A symbol applied to patterns; a quoted text is one with none.
     Applied(Sym, Vec<CorePattern>),
+    /// The elements of a list, and the pattern of the rest behind them where it may have more.
+    List(Vec<CorePattern>, Option<Box<CorePattern>>),
+    /// In a build alone: what the pattern makes, with the annotations of the variable's term.
+    Annotated(Box<CorePattern>, Place),
 }
 
-/// A strategy.
-///
-/// A chain of sequences, or of alternatives, that groups to the right is one list, so that no walk and no drop recurses
-/// along it. In a derivation it counts as what it stands for: one node for each `;` and for each `<`.
+/// A strategy. A chain that groups to the right is one list, so that no walk recurses along it.
 #[cycle(strategy)]
 #[derive(Drop)]
 pub enum CoreStrategy {
-    /// Keeps the term.
     Id,
-    /// Fails.
     Fail,
-    /// `s1; s2; ..`, two strategies at least, each on what the one before it made.
+    /// The strategies one after another, two at least: `s1; s2; ..`.
     Sequence(Box<CoreStrategy>, Box<CoreStrategy>, Vec<CoreStrategy>),
-    /// `g1 < s1 + (g2 < s2 + .. s)`: the first guard that does not fail decides, and where each fails the last strategy
-    /// is tried. After a failed guard the term and the bindings are those from before it.
+    /// The first guard that succeeds decides; after the last comes the strategy that is tried where none does.
     Choice(Box<CoreArm>, Vec<CoreArm>, Box<CoreStrategy>),
-    /// `?p`.
     Match(CorePattern),
-    /// `!p`.
     Build(CorePattern),
-    /// `{x, y, ..: s}`: so many new variables without a term, which `s` alone sees.
+    /// So many new variables, and the strategy that sees them.
     Scope(usize, Box<CoreStrategy>),
+    /// The strategy on each part of the term.
+    All(Box<CoreStrategy>),
+    /// The strategy on the first part of the term where it does not fail.
+    One(Box<CoreStrategy>),
+    /// The strategy on each part of the term, one at least, where it does not fail.
+    Some(Box<CoreStrategy>),
+    /// Definitions, and the strategy that sees them.
+    LetIn(Vec<CoreDef>, Box<CoreStrategy>),
+    /// A call with strategy and term arguments. Where the place is in a layer of variables it is of a strategy
+    /// parameter, where it is in a layer of definitions it is of a definition.
+    Call(Place, Vec<CoreStrategy>, Vec<CorePattern>),
 }
 
-/// A guard of a choice, and what follows where it succeeds.
+/// A guard, and what follows where it succeeds.
 #[cycle(strategy)]
 #[derive(Drop)]
 pub struct CoreArm {
-    /// What decides.
     pub guard: CoreStrategy,
-    /// What follows on the guard's term and bindings; its failure is not caught.
     pub then: CoreStrategy,
 }
 
-/// A definition.
+/// A definition: how many strategy and term parameters it has, and its body.
+#[cycle(strategy)]
 #[derive(Drop)]
 pub struct CoreDef {
-    /// How many strategy parameters it has.
     pub strats: usize,
-    /// How many term parameters it has.
     pub terms: usize,
-    /// What it does, in a layer of its parameters.
     pub body: CoreStrategy,
 }

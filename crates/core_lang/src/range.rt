@@ -1,55 +1,69 @@
-// Whether each place of a core leads to a variable that is there.
+// Whether each place of a core leads to what is wanted of it.
 ghost use Rattle.std.specs.Prelude.{◌≡◌, ◌↔◌, IsTrue, map};
-ghost use Rattle.core_lang.specs.Views.{definitions_of, strategy_of, pattern_of, patterns_of, arm_of, chain, first_of};
-ghost use Rattle.core_lang.specs.InRange.{layer_of, layer_of_definitions, no_layers, outside, IsVariable, IsDefinition, PatternInRange, PatternsInRange, StrategyInRange, DefinitionsInRange};
-ghost use Rattle.core_lang.specs.RangeOfCode.{layers_of, AllInRange, ArmInRange, ArmsInRange};
+ghost use Rattle.core_lang.specs.Views.{definitions_of, def_of, strategy_of, strategies_of, pattern_of, patterns_of, arm_of};
+ghost use Rattle.core_lang.specs.Program.{call};
+ghost use Rattle.core_lang.specs.InRange.{layer_of, layer_of_definitions, no_layers, IsVariable, IsDefinition, IsCallee, PatternInRange, PatternsInRange, StrategyInRange, StrategiesInRange, DefinitionsInRange};
+ghost use Rattle.core_lang.specs.InRange as spec;
+ghost use Rattle.core_lang.specs.RangeOfCode.{layers_of, ArmInRange, ArmsInRange};
 
+use crate::place::Place;
 use crate::program::{CoreArm, CoreDef, CorePattern, CoreStrategy};
 
 // The layers that a strategy stands in, innermost first.
 #[derive(Clone, Copy)]
 pub enum Layers<'a> {
-    /// The definitions of the program.
-    Program(&'a [CoreDef]),
+    /// No layer.
+    Outermost,
     /// So many strategy parameters and variables.
     Layer(usize, usize, &'a Layers<'a>),
+    /// The definitions of the program, or of a let.
+    Definitions(&'a [CoreDef], &'a Layers<'a>),
 }
 
-/// Whether the definition at `main` is there and has no parameters.
-pub fn has_main(defs: &[CoreDef], main: usize) -> bool
-    ensures { IsTrue result ↔ IsDefinition (definitions_of defs.now) main 0 0 }
+/// Whether there is a definition at this position, with so many strategy and term parameters.
+pub fn has_definition(defs: &[CoreDef], at: usize, strats: usize, terms: usize) -> bool
+    ensures { IsTrue result ↔ IsDefinition (definitions_of defs.now) at strats terms }
 {
-    match defs.get(main) {
-        Some(def) => has_no_parameters(def),
+    match defs.get(at) {
+        Some(def) => has_parameters(def, strats, terms),
         None => false,
     }
 }
 
-fn has_no_parameters(def: &CoreDef) -> bool
-    ensures { IsTrue result ↔ ((0 ≡ def.now.strats) × (0 ≡ def.now.terms)) }
+fn has_parameters(def: &CoreDef, strats: usize, terms: usize) -> bool
+    ensures { IsTrue result ↔ ((strats ≡ (def_of def.now).strats) × (terms ≡ (def_of def.now).terms)) }
 {
-    def.strats == 0 && def.terms == 0
+    strats == def.strats && terms == def.terms
 }
 
-/// Whether each place of each body is that of a variable.
-pub fn definitions_in_range(defs: &[CoreDef]) -> bool
+/// Whether each place of each body of the program leads to what is wanted of it.
+pub fn program_in_range(defs: &[CoreDef]) -> bool
     ensures { IsTrue result ↔ DefinitionsInRange (layer_of_definitions (definitions_of defs.now) no_layers) (definitions_of defs.now) }
 {
-    let program = Layers::Program(&*defs);
+    let outermost = Layers::Outermost;
+    let program = Layers::Definitions(&*defs, &outermost);
+    definitions_in_range(defs, &program)
+}
+
+#[cycle(range)]
+fn definitions_in_range(defs: &[CoreDef], layers: &Layers) -> bool
+    ensures { IsTrue result ↔ DefinitionsInRange (layers_of layers.now) (definitions_of defs.now) }
+{
     for def in defs {
-        if !body_in_range(def, &program) {
+        if !body_in_range(def, layers) {
             return false;
         }
     }
     true
 }
 
-// Whether each place of the body, which stands in a layer of its term parameters, is that of a variable.
-fn body_in_range(def: &CoreDef, program: &Layers) -> bool
-    ensures { IsTrue result ↔ StrategyInRange (layer_of def.now.strats def.now.terms (layers_of program.now)) (strategy_of def.now.body) }
+// The body of a definition stands in a layer of its parameters.
+#[cycle(range)]
+fn body_in_range(def: &CoreDef, layers: &Layers) -> bool
+    ensures { IsTrue result ↔ StrategyInRange (layer_of (def_of def.now).strats (def_of def.now).terms (layers_of layers.now)) (def_of def.now).body }
 {
-    let layers = Layers::Layer(def.strats, def.terms, &*program);
-    strategy_in_range(&def.body, &layers)
+    let inner = Layers::Layer(def.strats, def.terms, &*layers);
+    strategy_in_range(&def.body, &inner)
 }
 
 #[cycle(range)]
@@ -81,12 +95,43 @@ fn strategy_in_range(s: &CoreStrategy, layers: &Layers) -> bool
             let inner = Layers::Layer(0, *count, &*layers);
             strategy_in_range(body, &inner)
         }
+        CoreStrategy::All(body) | CoreStrategy::One(body) | CoreStrategy::Some(body) => {
+            strategy_in_range(body, layers)
+        }
+        CoreStrategy::LetIn(defs, body) => {
+            let inner = Layers::Definitions(defs.as_slice(), &*layers);
+            if !definitions_in_range(defs.as_slice(), &inner) {
+                return false;
+            }
+            strategy_in_range(body, &inner)
+        }
+        CoreStrategy::Call(x, strategies, terms) => {
+            call_in_range(*x, strategies.as_slice(), terms.as_slice(), layers)
+        }
     }
 }
 
 #[cycle(range)]
+fn call_in_range(
+    x: Place,
+    strategies: &[CoreStrategy],
+    terms: &[CorePattern],
+    layers: &Layers,
+) -> bool
+    ensures { IsTrue result ↔ StrategyInRange (layers_of layers.now) (call x (strategies_of strategies.now) (patterns_of terms.now)) }
+{
+    if !has_callee(layers, x, strategies.len(), terms.len()) {
+        return false;
+    }
+    if !strategies_in_range(strategies, layers) {
+        return false;
+    }
+    patterns_in_range(terms, layers)
+}
+
+#[cycle(range)]
 fn strategies_in_range(strategies: &[CoreStrategy], layers: &Layers) -> bool
-    ensures { IsTrue result ↔ AllInRange (layers_of layers.now) (map strategy_of strategies.now) }
+    ensures { IsTrue result ↔ StrategiesInRange (layers_of layers.now) (strategies_of strategies.now) }
 {
     for s in strategies {
         if !strategy_in_range(s, layers) {
@@ -121,8 +166,21 @@ fn pattern_in_range(p: &CorePattern, layers: &Layers) -> bool
 {
     match p {
         CorePattern::Anything | CorePattern::Integer(_) => true,
-        CorePattern::Variable(x) => has_variable(layers, x.hops, x.slot),
+        CorePattern::Variable(x) => has_variable(layers, *x),
+        CorePattern::Alias(x, part) => has_variable(layers, *x) && pattern_in_range(part, layers),
         CorePattern::Applied(_, parts) => patterns_in_range(parts.as_slice(), layers),
+        CorePattern::List(elements, rest) => {
+            if !patterns_in_range(elements.as_slice(), layers) {
+                return false;
+            }
+            match rest {
+                None => true,
+                Some(rest) => pattern_in_range(rest, layers),
+            }
+        }
+        CorePattern::Annotated(part, x) => {
+            pattern_in_range(part, layers) && has_variable(layers, *x)
+        }
     }
 }
 
@@ -138,18 +196,38 @@ fn patterns_in_range(patterns: &[CorePattern], layers: &Layers) -> bool
     true
 }
 
-// Whether the layer so many up has more variables than this.
-fn has_variable(layers: &Layers, hops: usize, slot: usize) -> bool
-    ensures { IsTrue result ↔ IsVariable (outside (layers_of layers.now) hops) slot }
+// The layers without the innermost, so many.
+fn outside<'a>(layers: &'a Layers<'a>, hops: usize) -> &'a Layers<'a>
+    ensures { layers_of result.now ≡ spec.outside (layers_of layers.now) hops }
 {
+    if hops == 0 {
+        return layers;
+    }
     match layers {
-        Layers::Program(_) => false,
-        Layers::Layer(_, count, up) => {
-            if hops == 0 {
-                slot < *count
-            } else {
-                has_variable(up, hops - 1, slot)
-            }
-        }
+        Layers::Outermost => layers,
+        Layers::Layer(_, _, up) => outside(up, hops - 1),
+        Layers::Definitions(_, up) => outside(up, hops - 1),
+    }
+}
+
+// Whether the layer so many up has more variables than this.
+fn has_variable(layers: &Layers, x: Place) -> bool
+    ensures { IsTrue result ↔ IsVariable (spec.outside (layers_of layers.now) x.hops) x.slot }
+{
+    match outside(&*layers, x.hops) {
+        Layers::Outermost => false,
+        Layers::Layer(_, count, _) => x.slot < *count,
+        Layers::Definitions(_, _) => false,
+    }
+}
+
+// Whether the layer so many up has at the place what can be called with so many strategies and terms.
+fn has_callee(layers: &Layers, x: Place, strats: usize, terms: usize) -> bool
+    ensures { IsTrue result ↔ IsCallee (spec.outside (layers_of layers.now) x.hops) x.slot strats terms }
+{
+    match outside(&*layers, x.hops) {
+        Layers::Outermost => false,
+        Layers::Layer(count, _, _) => x.slot < *count && strats == 0 && terms == 0,
+        Layers::Definitions(defs, _) => has_definition(defs, x.slot, strats, terms),
     }
 }

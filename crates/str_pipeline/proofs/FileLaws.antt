@@ -10,7 +10,8 @@ use Rattle.core_lang.specs.Resolved.{PlacedStrategy, PlacedDefinitions, here}
 use Rattle.core_lang.specs.Resolution.{Scopes, names, nowhere, defined, Resolves, to_scope, to_no_definitions, to_more_definitions, ResolvesProgram}
 use Rattle.core_lang.specs.InRange.{InRange}
 use Rattle.core_lang.proofs.InRangeLaws.{resolved_in_range}
-use Rattle.core_lang.specs.Views.{strategy_of, definitions_of}
+use Rattle.core_lang.proofs.ReadLaws.{reads_def}
+use Rattle.core_lang.specs.Views.{strategy_of, definitions_of, definitions_in}
 use Rattle.str_pipeline.specs.SourceTree.{ChoiceTree, FileTree}
 use Rattle.str_pipeline.specs.Reduction.{names_in, variables_of, strategy_core, in_scope, main_name, program_core}
 use Rattle.str_pipeline.specs.Placement.{with_names, strategy_placed, in_scope_of}
@@ -49,7 +50,8 @@ module _ (f : FileTree) (empty defs : List CoreDef) (body : CoreStrategy) (none 
     (placed : strategy_of body ≡ body_placed f.main) where
   definitions_are : definitions_of defs ≡ file_placed f
   definitions_are =
-      ap definitions_of (is ∙ ap (λ ds. ds ++ record { strats = 0; terms = 0; body = body } ∷ []) none) ∙ ap (λ s. more_definitions (here 0) 0 0 s no_definitions) placed
+      ap definitions_of (is ∙ ap (λ ds. ds ++ record { strats = 0; terms = 0; body = body } ∷ []) none) ∙ ap (λ d. definitions_in (d ∷ [])) (reads_def (record { strats = 0; terms = 0; body = body }))
+      ∙ ap (λ s. more_definitions (here 0) 0 0 s no_definitions) placed
 
   pub core_is_in_range : InRange (definitions_of defs) 0
   core_is_in_range = subst (λ ds. InRange ds 0) (sym definitions_are) (resolved_in_range (resolves_file f))

@@ -1,20 +1,45 @@
-use Rattle.std.proofs.Common.{◌+◌, ◌*◌}
+use Rattle.std.proofs.Common.{◌+◌, ◌*◌, take, drop}
+use Rattle.std.specs.Prelude.{false}
+use Rattle.core_lang.specs.Views.{strategy_of}
+use Rattle.core_eval.specs.Frame.{environment_of}
+use Rattle.core_eval.proofs.TraversalLaws.{OfAll, OfOne, OfSome, Decides, Walk}
 use Rattle.core_eval.proofs.evaluation.+eval.Given as goal
 
 abbrev pub decreases-evaluate : goal.decreases-evaluate
 decreases-evaluate l = 3 * l.budget.now
 
-abbrev pub decreases-evaluate_chain : goal.decreases-evaluate_chain
-decreases-evaluate_chain l = 3 * l.budget.now + 1
+abbrev pub decreases-evaluate_sequence : goal.decreases-evaluate_sequence
+decreases-evaluate_sequence l = 3 * l.budget.now + 1
 
-abbrev pub decreases-evaluate_others : goal.decreases-evaluate_others
-decreases-evaluate_others l = 3 * l.budget.now + 1
+abbrev pub decreases-evaluate_arms : goal.decreases-evaluate_arms
+decreases-evaluate_arms l = 3 * l.budget.now + 1
 
 abbrev pub decreases-evaluate_scope : goal.decreases-evaluate_scope
 decreases-evaluate_scope l = 3 * l.budget.now + 1
 
-abbrev pub decreases-evaluate_arm : goal.decreases-evaluate_arm
-decreases-evaluate_arm l = 3 * l.budget.now + 2
+abbrev pub decreases-evaluate_all : goal.decreases-evaluate_all
+decreases-evaluate_all l = 3 * l.budget.now + 1
 
-abbrev pub decreases-evaluate_in_turn : goal.decreases-evaluate_in_turn
-decreases-evaluate_in_turn l = 3 * l.budget.now + 2
+abbrev pub decreases-evaluate_one : goal.decreases-evaluate_one
+decreases-evaluate_one l = 3 * l.budget.now + 1
+
+abbrev pub decreases-evaluate_some : goal.decreases-evaluate_some
+decreases-evaluate_some l = 3 * l.budget.now + 1
+
+abbrev pub decreases-evaluate_call : goal.decreases-evaluate_call
+decreases-evaluate_call l = 3 * l.budget.now + 2
+
+abbrev pub decreases-evaluate_definition : goal.decreases-evaluate_definition
+decreases-evaluate_definition l = 3 * l.budget.now + 1
+
+abbrev pub invariant-evaluate_all-loop-part : goal.invariant-evaluate_all-loop-part
+invariant-evaluate_all-loop-part l =
+    Walk (OfAll (environment_of l.frame) (strategy_of l.s)) l.parts l.initial.places.items l.initial.budget false l.part-index l.places.items l.budget l.done.items
+
+abbrev pub invariant-evaluate_one-loop-i : goal.invariant-evaluate_one-loop-i
+invariant-evaluate_one-loop-i l =
+    Decides (OfOne (environment_of l.frame) (strategy_of l.s)) l.parts l.initial.places.items l.initial.budget false (drop l.i l.parts) l.places.items l.budget (take l.i l.parts)
+
+abbrev pub invariant-evaluate_some-loop-part : goal.invariant-evaluate_some-loop-part
+invariant-evaluate_some-loop-part l =
+    Walk (OfSome (environment_of l.frame) (strategy_of l.s)) l.parts l.initial.places.items l.initial.budget l.found l.part-index l.places.items l.budget l.results.items

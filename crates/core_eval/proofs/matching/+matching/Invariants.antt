@@ -1,7 +1,9 @@
-use Rattle.std.proofs.Common.{◌≡◌, drop}
+use Rattle.std.proofs.Common.{◌≡◌, drop, map, Some}
+use Rattle.core_lang.specs.declared.place.Place.{Place}
+use Rattle.core_lang.specs.Program.{Pattern}
 use Rattle.core_lang.specs.Resolved.{by_places}
-use Rattle.core_lang.specs.Tried.{tried_all}
-use Rattle.core_lang.specs.Views.{patterns_of}
+use Rattle.core_lang.specs.Tried.{tried_all, tried_elements}
+use Rattle.core_lang.specs.Views.{pattern_of, patterns_of, elements_in}
 use Rattle.term_model.specs.Term.{trees_of}
 use Rattle.core_eval.specs.Frame.{environment_of}
 use Rattle.core_eval.proofs.matching.+matching.Given as goal
@@ -10,3 +12,9 @@ abbrev pub invariant-all_match-loop-i : goal.invariant-all_match-loop-i
 invariant-all_match-loop-i l =
     let place = by_places.place_of (environment_of l.frame) in
     tried_all place (patterns_of l.patterns) (trees_of l.terms) l.initial.places.items ≡ tried_all place (patterns_of (drop l.i l.patterns)) (trees_of (drop l.i l.terms)) l.places.items
+
+abbrev pub invariant-first_match-loop-at : goal.invariant-first_match-loop-at
+invariant-first_match-loop-at l =
+    let place = by_places.place_of (environment_of l.frame) in
+    (r : Pattern Place) → tried_elements place (elements_in (map pattern_of l.patterns) (Some r)) (trees_of l.terms) l.initial.places.items ≡
+    tried_elements place (elements_in (map pattern_of (drop l.at l.patterns)) (Some r)) (trees_of (drop l.at l.terms)) l.places.items

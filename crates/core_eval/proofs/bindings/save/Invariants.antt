@@ -1,5 +1,5 @@
 use Rattle.std.proofs.Common.{◌≡◌, take}
-use Rattle.core_eval.proofs.evaluation.save.Given as goal
+use Rattle.core_eval.proofs.bindings.save.Given as goal
 
 abbrev pub invariant-loop-place : goal.invariant-loop-place
 invariant-loop-place l = l.copy.items ≡ take l.place-index l.places
