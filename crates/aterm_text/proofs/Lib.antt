@@ -6,12 +6,15 @@ pub mod CompleteDepth
 pub mod Endings
 pub mod Items
 pub mod Joins
+pub mod LengthLemmas
 pub mod Machine
 pub mod Meaning
+pub mod QuotingLemmas
 pub mod ReadLemmas
 pub mod ReadTokens
 pub mod RoundTrip
 pub mod RunLemmas
 pub mod Slices
 pub mod Sound
+pub mod StackLemmas
 pub mod WriteLemmas

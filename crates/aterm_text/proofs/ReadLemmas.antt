@@ -7,7 +7,7 @@ use Rattle.aterm_text.specs.declared.place.Place.{Place}
 use Rattle.aterm_text.specs.declared.place.Place.TheVariants.{Expect}
 use Rattle.aterm_text.specs.Reading.{At, Deep, Wrong, Inside, run, step, outcome, outcome_of, Gives, Answers}
 
-drop_past : (at : ℕ) (xs : List ℕ) → length xs ≤ at → drop at xs ≡ []
+pub drop_past : (at : ℕ) (xs : List ℕ) → length xs ≤ at → drop at xs ≡ []
 drop_past zero [] h = refl
 drop_past zero (x ∷ xs) h = absurd (omega arith)
 drop_past (suc at) [] h = refl

@@ -57,6 +57,7 @@ pub(crate) fn closer(bracket: &Bracket) -> u8
 }
 
 // These terms and one more, if all of them fit.
+#[inline(always)]
 pub(crate) fn with_term(
     earlier: Option<Vec<Term>>,
     term: Option<Term>,
@@ -72,7 +73,25 @@ pub(crate) fn with_term(
     }
 }
 
+// A comma behind a term.
+#[inline(always)]
+fn comma(term: Option<Term>, levels: &mut Levels, at: u64) -> Result<Place, Fault>
+    ensures gives { Gives result (stack_of levels.new.items) (behind term (stack_of levels.old.items) 44) }
+    ensures calm { IfOk result IsCalm }
+{
+    if levels.is_empty() {
+        return Err(Fault::TermSyntax { at });
+    }
+    let innermost = levels.len() - 1;
+    let Some(level) = levels.get_mut(innermost) else {
+        return Err(Fault::TermSyntax { at });
+    };
+    level.earlier = with_term(level.earlier.take(), term)?;
+    Ok(Place::Expect)
+}
+
 // A byte behind a term that takes no annotations.
+#[inline(always)]
 pub(crate) fn next(
     alloc: Global,
     term: Option<Term>,
@@ -83,16 +102,15 @@ pub(crate) fn next(
     ensures gives { Gives result (stack_of levels.new.items) (behind term (stack_of levels.old.items) byte) }
     ensures calm { IfOk result IsCalm }
 {
+    if byte == b',' {
+        return comma(term, levels, at);
+    }
     let Some(Level { bracket, earlier }) = levels.pop() else {
         return Err(Fault::TermSyntax { at });
     };
-    let earlier = with_term(earlier, term)?;
-    if byte == b',' {
-        levels.push(Level { bracket, earlier })?;
-        return Ok(Place::Expect);
-    }
     if byte == closer(&bracket) {
-        return Ok(close(alloc, bracket, earlier)?);
+        let terms = with_term(earlier, term)?;
+        return Ok(close(alloc, bracket, terms)?);
     }
     Err(Fault::TermSyntax { at })
 }
@@ -110,6 +128,7 @@ pub(crate) fn open(levels: &mut Levels, bracket: Bracket, alloc: Global) -> Resu
 }
 
 // A byte behind a term that may take annotations.
+#[inline(always)]
 pub(crate) fn whole(
     alloc: Global,
     term: Option<Term>,
@@ -130,6 +149,7 @@ pub(crate) fn whole(
 }
 
 // A byte behind a symbol.
+#[inline(always)]
 pub(crate) fn named(
     alloc: Global,
     symbol: Sym,

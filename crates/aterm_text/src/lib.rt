@@ -2,6 +2,7 @@
 #![tactic(auto)]
 
 mod brackets;
+mod length;
 mod output;
 mod place;
 mod quoted;
@@ -10,7 +11,7 @@ mod reader;
 mod runs;
 mod writer;
 
-ghost use Rattle.std.specs.Prelude.{◌≡◌, ◌++◌, ℕ, List, is_ok, if◌then◌else◌};
+ghost use Rattle.std.specs.Prelude.{◌≡◌, ◌++◌, ℕ, List, length, is_ok, if◌then◌else◌};
 ghost use Rattle.aterm_text.specs.Grammar.{IsText};
 ghost use Rattle.aterm_text.specs.Depth.{TooDeep};
 ghost use Rattle.aterm_text.specs.ReadTerm.{IsReading};
@@ -51,6 +52,13 @@ pub fn write_term(term: &Term, out: &mut Vec<u8>) -> Result<(), AllocError>
     writer::write(term, out)
 }
 
+/// The length of the canonical text of the term in bytes. It takes no memory.
+pub fn text_len(term: &Term) -> u64
+    ensures { result ≡ length (text term.now) }
+{
+    length::text_len(term)
+}
+
 /// Laws, with nothing to run. The canonical text of each term spells that term, holds no line feed
 /// and does not begin with `#`; where the term fits, reading that text answers it. No text that
 /// spells a term that fits is too deep.
@@ -63,7 +71,7 @@ pub fn text_laws()
 
 #[cfg(test)]
 mod tests {
-    use crate::{read_term, write_term};
+    use crate::{read_term, text_len, write_term};
     use std::test::Fail;
     use term_model::{Fault, Term};
 
@@ -100,15 +108,16 @@ mod tests {
             let mut out = Vec::from_slice(rt.alloc(), b">")?;
             write_term(&term, &mut out)?;
             assert_eq!(rt; &out.as_slice()[1..], canonical);
+            assert_eq!(rt; text_len(&term), canonical.len() as u64);
         }
         let term = read_term(rt.alloc(), rows[0].0)?;
-        assert_eq!(rt; (term.weight(), term.depth()), (11, 2));
+        assert_eq!(rt; (text_len(&term), term.weight(), term.depth()), (16, 11, 2));
         Ok(())
     }
 
     #[test]
     fn refusals(rt: HostRuntime) -> Result<(), Fail> {
-        let rows: [(&[u8], usize); 20] = [
+        let rows: [(&[u8], usize); 23] = [
             (b"F(1", 3),
             (b"1.5", 1),
             (b"F(1) 2", 5),
@@ -128,19 +137,40 @@ mod tests {
             (b"\"\\400\"", 2),
             (b"\"\\18\"", 3),
             (b"\"\\a\"", 2),
+            (b"\"\\", 2),
+            (b"\"\\1", 3),
+            (b"\"\\12", 4),
             (b"\"a\" \"b\"", 4),
         ];
         for (text, place) in rows {
             assert!(rt; is_syntax(&read_term(rt.alloc(), text), place));
         }
-        let text = b" f ( 007 , \"a\\\"b\" , g() ) { x }";
+        Ok(())
+    }
+
+    // What a front of the text below spells, where it spells a term.
+    fn spelled(length: usize) -> Option<&'static [u8]> {
+        match length {
+            1 | 2 => Some(b"f"),
+            24 | 25 => Some(b"f(7,\"a\\\"b\",g)"),
+            30 => Some(b"f(7,\"a\\\"b\",g){x}"),
+            _ => None,
+        }
+    }
+
+    #[test]
+    fn fronts(rt: HostRuntime) -> Result<(), Fail> {
+        let text = b"f ( 007 , \"a\\\"b\" , g() ) { x }";
+        assert_eq!(rt; text.len(), 30);
         for length in 0..=text.len() {
             let answer = read_term(rt.alloc(), &text[..length]);
-            if matches!(length, 2 | 3 | 25 | 26 | 31) {
-                assert!(rt; answer.is_ok());
-            } else {
+            let Some(canonical) = spelled(length) else {
                 assert!(rt; is_syntax(&answer, length));
-            }
+                continue;
+            };
+            let mut out = Vec::new(rt.alloc());
+            write_term(&answer?, &mut out)?;
+            assert_eq!(rt; out.as_slice(), canonical);
         }
         Ok(())
     }
@@ -154,10 +184,10 @@ mod tests {
         let mut out = Vec::new(rt.alloc());
         write_term(&term, &mut out)?;
         assert!(rt; out == text);
-        let text = vec![in rt.alloc(); b'['; 1001]?;
-        assert!(rt; is_oversize(&read_term(rt.alloc(), &text), 1000));
-        let text = vec![in rt.alloc(); b'('; 1_000_000]?;
-        assert!(rt; is_oversize(&read_term(rt.alloc(), &text), 1000));
+        for (bracket, length) in [(b'[', 1001), (b'[', 1_000_000), (b'(', 1_000_000)] {
+            let text = vec![in rt.alloc(); bracket; length]?;
+            assert!(rt; is_oversize(&read_term(rt.alloc(), &text), 1000));
+        }
         let mut text = vec![in rt.alloc(); b'a'; 16_777_216]?;
         assert!(rt; is_oversize(&read_term(rt.alloc(), &text), 16_777_216));
         text.push(b',')?;
@@ -174,6 +204,7 @@ mod tests {
         text.extend_from_slice(b"1]")?;
         let term = read_term(rt.alloc(), &text)?;
         assert_eq!(rt; (term.weight(), term.depth()), (1_000_001, 2));
+        assert_eq!(rt; text_len(&term), text.len() as u64);
         let mut out = Vec::new(rt.alloc());
         write_term(&term, &mut out)?;
         assert!(rt; out == text);

@@ -1,5 +1,5 @@
 // Reading a term one byte at a time, with a stack of open brackets.
-ghost use Rattle.std.specs.Prelude.{true, ◌==◌, ℕ, ◌≡◌, ◌<◌, ◌+◌, ◌^◌, List, [], ◌∷◌, ◌≤◌, IsTrue, ◌↔◌, IfOk, length, slice_index, slice_range, reverse, map};
+ghost use Rattle.std.specs.Prelude.{true, ◌==◌, ℕ, ◌≡◌, ◌<◌, ◌+◌, ◌*◌, ◌-◌, ◌^◌, MatchOption, List, [], ◌∷◌, ◌≤◌, IsTrue, ◌↔◌, IfOk, length, slice_index, slice_range, reverse, map};
 ghost use Rattle.aterm_text.specs.Tokens.{integer as signed, is_digit};
 ghost use Rattle.aterm_text.specs.Depth.{begins_term};
 ghost use Rattle.aterm_text.specs.Reading.{stack_of, Gives, digits as counted, limit, begin as begun, fresh as fresh_then, step as stepped, At, Inside, IsCalm, IsPlaced, outcome, outcome_of, Answers};
@@ -15,29 +15,38 @@ use term_model::symbol::{begins, continues};
 use term_model::term::MAX_DEPTH;
 use term_model::{Fault, Sym, Term};
 
+// The number with one more digit, if it is in range.
+pub(crate) fn with_digit(negative: bool, value: u32, byte: u8) -> Option<u32>
+    requires { IsTrue (is_digit byte) }
+    ensures { MatchOption result (limit negative < 10 * value + (byte - 48)) (λ longer. (longer ≡ 10 * value + (byte - 48)) × (longer ≤ limit negative)) }
+{
+    let longer = 10 * u64::from(value) + u64::from(byte - b'0');
+    let most = if negative {
+        2_147_483_648
+    } else {
+        2_147_483_647
+    };
+    if longer > most {
+        return None;
+    }
+    Some(longer as u32)
+}
+
 // One more digit.
 fn digits(negative: bool, value: u32, byte: u8, at: u64) -> Result<Place, Fault>
     requires { IsTrue (is_digit byte) }
     ensures gives { (s : List Inside) → Gives result s (counted negative value byte s) }
     ensures calm { IfOk result IsCalm }
 {
-    let value = 10 * u64::from(value) + u64::from(byte - b'0');
-    let most = if negative {
-        2_147_483_648
-    } else {
-        2_147_483_647
-    };
-    if value > most {
-        return Err(Fault::TermSyntax { at });
+    match with_digit(negative, value, byte) {
+        Some(value) => Ok(Place::Digits { negative, value }),
+        None => Err(Fault::TermSyntax { at }),
     }
-    Ok(Place::Digits {
-        negative,
-        value: value as u32,
-    })
 }
 
 // The first byte of a term.
 #[tactic(auto, using(crate::proofs::Slices::name_begins))]
+#[inline(always)]
 fn begin(alloc: Global, levels: &mut Levels, byte: u8, index: usize) -> Result<Place, Fault>
     requires { index + 1 < 2 ^ 64 }
     ensures gives { Gives result (stack_of levels.new.items) (begun index (stack_of levels.old.items) byte) }
@@ -72,7 +81,7 @@ fn is_first(byte: u8) -> bool
     begins(byte) || is_digit_byte(byte) || matches!(byte, b'-' | b'"' | b'(' | b'[')
 }
 
-fn is_digit_byte(byte: u8) -> bool
+pub(crate) fn is_digit_byte(byte: u8) -> bool
     ensures { result ≡ is_digit byte }
 {
     matches!(byte, b'0'..=b'9')
@@ -96,6 +105,7 @@ fn fresh(alloc: Global, levels: &mut Levels, byte: u8, index: usize) -> Result<P
 }
 
 // The symbol of a name in the text.
+#[inline(always)]
 fn symbol(alloc: Global, text: &[u8], from: usize, to: usize) -> Result<Sym, AllocError>
     requires low { from ≤ to }
     requires high { to ≤ length text.now }
@@ -205,7 +215,7 @@ pub(crate) fn read(alloc: Global, text: &[u8]) -> Result<Term, Fault>
     let mut index = 0;
     while index < text.len() {
         place = step(alloc, text, index, place, &mut levels)?;
-        index = resume(text, index + 1, &place);
+        index = resume(text, index + 1, &mut place);
     }
     finish(alloc, text, place, levels.is_empty())
 }

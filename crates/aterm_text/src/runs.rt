@@ -1,26 +1,57 @@
-// Runs of bytes that leave the reader's place as it is: within a name, and raw bytes in quoted text.
-ghost use Rattle.std.specs.Prelude.{◌≡◌, ◌≤◌, ◌<◌, ℕ, List, length, drop, slice_index, true};
+// Runs of bytes that are read at once: names, raw bytes in quoted text, and digits.
+ghost use Rattle.std.specs.Prelude.{◌≡◌, ◌≤◌, ◌<◌, ◌+◌, ◌*◌, ◌-◌, ℕ, List, length, drop, slice_index, true, Bool};
 ghost use Rattle.aterm_text.specs.Tokens.{is_raw};
-ghost use Rattle.aterm_text.specs.Reading.{Inside, IsPlaced, run, At};
+ghost use Rattle.aterm_text.specs.Reading.{Inside, IsPlaced, run, At, limit};
+ghost use Rattle.aterm_text.specs.declared.place.Place.TheVariants.{Digits};
 ghost use Rattle.term_model.specs.Symbol.{continues_name};
 
 use crate::place::Place;
+use crate::reader::{is_digit_byte, with_digit};
 use term_model::symbol::continues;
 
-// The index at which to go on.
+// Reads on as far as the bytes go on with what the reader is in, and answers the index at which it
+// is not so.
 #[tactic(auto, using(crate::proofs::RunLemmas::runs))]
-pub(crate) fn resume(text: &[u8], index: usize, place: &Place) -> usize
-    requires { index ≤ length text.now }
+pub(crate) fn resume(text: &[u8], index: usize, place: &mut Place) -> usize
+    requires bound { index ≤ length text.now }
+    requires placed { IsPlaced text.now index place.old }
     ensures high { result ≤ length text.now }
     ensures low { index ≤ result }
-    ensures same { (s : List Inside) → run text.now index (At place.now s) (drop index text.now) ≡ run text.now result (At place.now s) (drop result text.now) }
-    ensures placed { IsPlaced text.now index place.now → IsPlaced text.now result place.now }
+    ensures same { (s : List Inside) → run text.now index (At place.old s) (drop index text.now) ≡ run text.now result (At place.new s) (drop result text.now) }
+    ensures placed { IsPlaced text.now result place.new }
 {
     match place {
         Place::Name { .. } => name_end(text, index),
         Place::Text { .. } => raw_end(text, index),
+        Place::Digits { negative, value } => {
+            let (end, longer) = digits_end(text, index, *negative, *value);
+            *value = longer;
+            end
+        }
         _ => index,
     }
+}
+
+// Where the digits end that keep the number in range, and the number up to there.
+#[tactic(auto, using(crate::proofs::RunLemmas::run_digit))]
+fn digits_end(text: &[u8], index: usize, negative: bool, value: u32) -> (usize, u32)
+    requires bound { index ≤ length text.now }
+    requires value { value ≤ limit negative }
+    ensures high { result.0 ≤ length text.now }
+    ensures low { index ≤ result.0 }
+    ensures value { result.1 ≤ limit negative }
+    ensures same { (s : List Inside) → run text.now index (At (Digits negative value) s) (drop index text.now) ≡ run text.now result.0 (At (Digits negative result.1) s) (drop result.0 text.now) }
+{
+    let mut end = index;
+    let mut value = value;
+    while end < text.len() && is_digit_byte(text[end]) {
+        let Some(longer) = with_digit(negative, value, text[end]) else {
+            break;
+        };
+        value = longer;
+        end += 1;
+    }
+    (end, value)
 }
 
 // Where the bytes of a name end.

@@ -11,3 +11,12 @@ mod matching;
 mod run;
 
 pub use run::eval;
+
+#[cfg(test)]
+mod form_tests;
+#[cfg(test)]
+mod range_tests;
+#[cfg(test)]
+mod samples;
+#[cfg(test)]
+mod tests;

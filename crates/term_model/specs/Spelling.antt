@@ -6,6 +6,8 @@ use Rattle.term_model.specs.declared.symbol.Spelling.TheVariants as parts
 
 -- the symbol that is spelled so
 abbrev pub symbol_of : Spelling → Symbol
+symbol_of (parts.ShortPlain text) = Plain text
 symbol_of (parts.Plain text) = Plain (rc_slice_items text)
+symbol_of (parts.ShortQuoted text) = Quoted text
 symbol_of (parts.Quoted text) = Quoted (rc_slice_items text)
 symbol_of parts.Tuple = Tuple

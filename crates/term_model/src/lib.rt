@@ -3,6 +3,7 @@
 
 mod equality;
 pub mod fault;
+mod inline;
 pub mod made;
 mod size;
 pub mod symbol;

@@ -3,6 +3,7 @@ ghost use Rattle.std.specs.Prelude.{true, false, ◌≡◌, ◌↔◌, IsTrue, I
 ghost use Rattle.std.specs.List.{list_all};
 ghost use Rattle.term_model.specs.Symbol.{Plain, Quoted, Tuple, kind_of, bytes_of, is_name, begins_name, continues_name, IsSymbol};
 
+use crate::inline::Inline;
 use std::alloc::{AllocError, Global};
 use std::marker::Model;
 use std::rc::RcSlice;
@@ -18,16 +19,18 @@ pub enum Kind {
     Tuple,
 }
 
-// Where the bytes of a symbol are.
+// Where the bytes of a symbol are: short ones stand in place, others are shared.
 #[derive(Drop)]
 enum Spelling {
+    ShortPlain(Inline),
     Plain(RcSlice<u8>),
+    ShortQuoted(Inline),
     Quoted(RcSlice<u8>),
     Tuple,
 }
 
-/// A symbol, whose bytes are shared among its clones. Symbols of different kinds are different,
-/// whatever their bytes. `clone` takes no memory: it answers `AllocError` only where 2^64 - 1
+/// A symbol. Its bytes are shared among its clones, or, where they are few, copied with it. Symbols
+/// of different kinds are different, whatever their bytes. `clone` takes no memory: it answers `AllocError` only where 2^64 - 1
 /// owners exist.
 #[derive(Drop)]
 pub struct Sym {
@@ -87,10 +90,11 @@ impl Sym {
         if !is_plain(bytes) {
             return Ok(None);
         }
-        let text = RcSlice::from_slice(alloc, bytes)?;
-        Ok(Some(Sym {
-            spelling: Spelling::Plain(text),
-        }))
+        let spelling = match Inline::new(bytes) {
+            Some(text) => Spelling::ShortPlain(text),
+            None => Spelling::Plain(RcSlice::from_slice(alloc, bytes)?),
+        };
+        Ok(Some(Sym { spelling }))
     }
 
     /// The quoted symbol of these bytes, which stand for themselves, with no escapes. Copies the
@@ -98,6 +102,11 @@ impl Sym {
     pub fn quoted(alloc: Global, bytes: &[u8]) -> Result<Sym, AllocError>
         ensures { IfOk result (λ s. s ≡ Quoted bytes.now) }
     {
+        if let Some(text) = Inline::new(bytes) {
+            return Ok(Sym {
+                spelling: Spelling::ShortQuoted(text),
+            });
+        }
         let text = RcSlice::from_slice(alloc, bytes)?;
         Ok(Sym {
             spelling: Spelling::Quoted(text),
@@ -119,8 +128,8 @@ impl Sym {
         ensures symbol { IsSymbol self.now }
     {
         match &self.spelling {
-            Spelling::Plain(_) => Kind::Plain,
-            Spelling::Quoted(_) => Kind::Quoted,
+            Spelling::ShortPlain(_) | Spelling::Plain(_) => Kind::Plain,
+            Spelling::ShortQuoted(_) | Spelling::Quoted(_) => Kind::Quoted,
             Spelling::Tuple => Kind::Tuple,
         }
     }
@@ -130,8 +139,8 @@ impl Sym {
         ensures { result.now ≡ bytes_of self.now }
     {
         match &self.spelling {
-            Spelling::Plain(text) => text.as_slice(),
-            Spelling::Quoted(text) => text.as_slice(),
+            Spelling::ShortPlain(text) | Spelling::ShortQuoted(text) => text.as_slice(),
+            Spelling::Plain(text) | Spelling::Quoted(text) => text.as_slice(),
             Spelling::Tuple => &[],
         }
     }
@@ -142,7 +151,9 @@ impl Clone for Sym {
 
     fn clone(&self) -> Result<Sym, AllocError> {
         let spelling = match &self.spelling {
+            Spelling::ShortPlain(text) => Spelling::ShortPlain(text.copy()),
             Spelling::Plain(text) => Spelling::Plain(text.clone()?),
+            Spelling::ShortQuoted(text) => Spelling::ShortQuoted(text.copy()),
             Spelling::Quoted(text) => Spelling::Quoted(text.clone()?),
             Spelling::Tuple => Spelling::Tuple,
         };
@@ -160,12 +171,7 @@ impl PartialEq for Sym {
         ensures same { result ≡ same_symbol self.now other.now }
         ensures equal { IsTrue result ↔ (self.now ≡ other.now) }
     {
-        match (&self.spelling, &other.spelling) {
-            (Spelling::Plain(x), Spelling::Plain(y)) => x == y,
-            (Spelling::Quoted(x), Spelling::Quoted(y)) => x == y,
-            (Spelling::Tuple, Spelling::Tuple) => true,
-            _ => false,
-        }
+        self.kind() == other.kind() && self.bytes() == other.bytes()
     }
 
     ghost laws = { same_symbol_partial_equiv };

@@ -110,6 +110,7 @@ impl Model for Term {
 
 // The term of these three, which are a term's.
 #[tactic(auto, using(crate::proofs::TermLemmas::made))]
+#[inline(always)]
 fn make(
     alloc: Global,
     head: Head,

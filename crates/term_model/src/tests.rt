@@ -74,16 +74,35 @@ fn faults(rt: HostRuntime) -> Result<(), Fail> {
 #[test]
 fn symbols(rt: HostRuntime) -> Result<(), Fail> {
     let alloc = rt.alloc();
-    for name in [b"a-1".as_slice(), b"_", b"Zero", b"x+*$0"] {
+    let names: [&[u8]; 6] = [
+        b"a-1",
+        b"_",
+        b"Zero",
+        b"x+*$0",
+        b"of_14_letters_",
+        b"of_15_letters__",
+    ];
+    for name in names {
         let symbol = Sym::plain(alloc, name)?.ok_or("no name")?;
         assert_eq!(rt; symbol.kind(), Kind::Plain);
         assert_eq!(rt; symbol.bytes(), name);
+        assert!(rt; symbol.clone()? == symbol);
     }
-    for text in [b"1a".as_slice(), b"", b"-", b"a b", b"a\xff"] {
+    let texts: [&[u8]; 7] = [
+        b"1a",
+        b"",
+        b"-",
+        b"a b",
+        b"a\xff",
+        b"14 bytes long.",
+        b"15 bytes long..",
+    ];
+    for text in texts {
         assert!(rt; Sym::plain(alloc, text)?.is_none());
         let symbol = Sym::quoted(alloc, text)?;
         assert_eq!(rt; symbol.kind(), Kind::Quoted);
         assert_eq!(rt; symbol.bytes(), text);
+        assert!(rt; symbol.clone()? == symbol);
     }
     let tuple = Sym::tuple();
     assert_eq!(rt; tuple.kind(), Kind::Tuple);

@@ -1,0 +1,10 @@
+pub mod ByteLaws
+pub mod RunLaws
+pub mod GapLaws
+pub mod QuotedLaws
+pub mod WordLaws
+pub mod MarkLaws
+pub mod IntegerLaws
+pub mod TokenLaws
+pub mod LexLaws
+pub mod SliceLaws

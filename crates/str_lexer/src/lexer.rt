@@ -1,0 +1,119 @@
+// Tokens from bytes, in one pass.
+ghost use Rattle.std.specs.Prelude.{true, ◌≡◌, ◌==◌, IfOk};
+ghost use Rattle.str_lexer.specs.Tokens.{first_is};
+ghost use Rattle.str_lexer.specs.Lexes.{left_out, AreSlices, IsLexing};
+ghost use Rattle.str_lexer.specs.Readings.{begins_integer, IsTokenRead, IsCutting, IsSearch};
+
+use crate::gap::gap;
+use crate::mark::mark;
+use crate::quoted::quoted;
+use crate::token::{Token, TokenKind};
+use crate::word::word;
+use crate::{integer, runs};
+use std::alloc::{AllocError, Global};
+use term_model::Fault;
+
+// The integer that the bytes begin with, and the bytes behind it.
+fn integer_token<'a>(text: &'a [u8]) -> Option<(TokenKind, &'a [u8])>
+    requires { begins_integer text.now ≡ true }
+    ensures { IsTokenRead text.now result }
+{
+    let Some((value, rest)) = integer::integer(text) else {
+        return None;
+    };
+    Some((TokenKind::Integer(value), rest))
+}
+
+// The quoted text that the bytes begin with, and the bytes behind it.
+fn quoted_token<'a>(
+    alloc: Global,
+    text: &'a [u8],
+) -> Result<Option<(TokenKind, &'a [u8])>, AllocError>
+    requires { first_is (λ b. b == 34) text.now ≡ true }
+    ensures { IfOk result (λ found. IsTokenRead text.now found) }
+{
+    let Some((value, rest)) = quoted(alloc, text)? else {
+        return Ok(None);
+    };
+    Ok(Some((TokenKind::Quoted(value), rest)))
+}
+
+// The token that the bytes begin with, and the bytes behind it.
+fn token<'a>(alloc: Global, text: &'a [u8]) -> Result<Option<(TokenKind, &'a [u8])>, AllocError>
+    ensures { IfOk result (λ found. IsTokenRead text.now found) }
+{
+    let Some((first, _)) = text.split_first() else {
+        return Ok(None);
+    };
+    if runs::begins(*first) {
+        return Ok(Some(word(text)));
+    }
+    if integer::begins(text) {
+        return Ok(integer_token(text));
+    }
+    if *first == b'"' {
+        return quoted_token(alloc, text);
+    }
+    let Some((mark, rest)) = mark(text) else {
+        return Ok(None);
+    };
+    Ok(Some((TokenKind::Mark(mark), rest)))
+}
+
+// The tokens that the bytes are, the words of left-out parts among them.
+fn cut(alloc: Global, text: &[u8]) -> Result<Vec<Token>, Fault>
+    ensures { IsCutting text.now result }
+{
+    let mut tokens = Vec::new(alloc);
+    let mut rest = text;
+    while !rest.is_empty() {
+        if let Some(behind) = gap(rest) {
+            rest = behind;
+            continue;
+        }
+        let from = text.len() - rest.len();
+        let Some((kind, behind)) = token(alloc, rest)? else {
+            return Err(Fault::Lexical { at: from as u64 });
+        };
+        let to = text.len() - behind.len();
+        tokens.push(Token { kind, from, to })?;
+        rest = behind;
+    }
+    Ok(tokens)
+}
+
+fn is_left_out(token: &Token) -> bool
+    ensures { result ≡ left_out token.now }
+{
+    matches!(token.kind, TokenKind::LeftOut(_))
+}
+
+// Where the first word of a left-out part stands.
+fn first_left_out(tokens: &[Token]) -> Option<usize>
+    ensures { IsSearch tokens.now result }
+{
+    for token in tokens {
+        if is_left_out(token) {
+            return Some(token.from);
+        }
+    }
+    None
+}
+
+/// The tokens that the bytes are, each the longest at its place, with blanks and comments between
+/// them.
+///
+/// `Lexical` where the bytes are no tokens: `at` is the offset, in bytes, of the first byte that
+/// begins no token, or of a comment or a quoted text that is not closed, or of an integer that is
+/// out of range. `ReservedWord` where they are tokens and one is a word of a left-out part: `at`
+/// is the offset of the first such word. `Memory` where a growth is refused.
+pub fn lex(alloc: Global, text: &[u8]) -> Result<Vec<Token>, Fault>
+    ensures exact { IsLexing text.now result }
+    ensures slices { IfOk result (λ ts. AreSlices text.now 0 ts.items) }
+{
+    let tokens = cut(alloc, text)?;
+    if let Some(from) = first_left_out(&tokens) {
+        return Err(Fault::ReservedWord { at: from as u64 });
+    }
+    Ok(tokens)
+}

@@ -1,0 +1,17 @@
+//! The tokens of definition files.
+#![tactic(auto)]
+
+mod gap;
+mod integer;
+pub mod lexer;
+mod mark;
+mod quoted;
+mod runs;
+pub mod token;
+mod word;
+
+pub use lexer::lex;
+pub use token::{Keyword, LeftOut, Mark, QuotedText, Token, TokenKind};
+
+#[cfg(test)]
+mod tests;

@@ -1,0 +1,57 @@
+// Short texts that stand where their owner does, and take no memory of their own.
+ghost use Rattle.std.specs.Prelude.{◌≡◌, ◌<◌, length, MatchOption};
+
+use std::marker::Model;
+
+// The most bytes that stand in place: with them, a symbol takes as many bytes as with a share.
+const MOST: usize = 14;
+
+// At most 14 bytes.
+#[derive(Drop)]
+pub(crate) struct Inline {
+    length: u8,
+    bytes: [u8; MOST],
+}
+
+impl Model for Inline {
+    ghost use Rattle.std.specs.Prelude.{List, ℕ, take, ◌≤◌};
+
+    ghost Value = { List ℕ };
+
+    ghost view = { λ s. take s.length s.bytes };
+
+    ghost invariant = { λ s. s.length ≤ 14 };
+}
+
+impl Inline {
+    // These bytes, where they are at most 14.
+    pub(crate) fn new(text: &[u8]) -> Option<Inline>
+        ensures { MatchOption result (14 < length text.now) (λ short. short ≡ text.now) }
+    {
+        if text.len() > MOST {
+            return None;
+        }
+        let mut bytes = [0; MOST];
+        bytes[..text.len()].copy_from_slice(text);
+        Some(Inline {
+            length: text.len() as u8,
+            bytes,
+        })
+    }
+
+    // These bytes once more.
+    pub(crate) fn copy(&self) -> Inline
+        ensures { result ≡ self.now }
+    {
+        Inline {
+            length: self.length,
+            bytes: self.bytes,
+        }
+    }
+
+    pub(crate) fn as_slice(&self) -> &[u8]
+        ensures { result.now ≡ self.now }
+    {
+        &self.bytes[..usize::from(self.length)]
+    }
+}
