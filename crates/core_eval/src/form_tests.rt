@@ -3,9 +3,9 @@ ghost use Rattle.std.specs.Prelude.{◌≤◌};
 
 use crate::eval;
 use crate::samples::{
-    Table, alias, all, at, call, cons, def, either, failed, given, gives, heavy, holding, int,
-    let_in, like, list, listed, marked, number, one, pair, passing, rule, scope, some, takes, then,
-    to, too_large, tuple, var,
+    Table, alias, all, application, applied, at, call, cons, def, either, failed, given, gives,
+    heavy, holding, int, let_in, like, list, listed, marked, number, one, pair, passing, rule,
+    scope, some, takes, then, to, too_large, tuple, var,
 };
 use core_lang::{Core, CoreArm, CorePattern, CoreStrategy, Outcome};
 use std::alloc::Global;
@@ -313,20 +313,21 @@ fn closure_binds_at_its_maker(a: Global, table: &mut Table) -> Result<(), Fail> 
     let bound = then(a, gives(number(5)), takes(var(1, 0)))?;
     let back = then(a, bound, gives(var(0, 0)))?;
     let five = scope(a, 1, then(a, takes(var(0, 0)), back)?)?;
-    let last = then(a, takes(var(0, 1)), gives(pair(a, var(0, 1), var(1, 0))?))?;
+    let paired = applied(a, b"Pair", vec![in a; var(0, 1), var(1, 0)]?)?;
+    let last = then(a, takes(var(0, 1)), gives(paired))?;
     let then_last = then(a, CoreStrategy::Id, last)?;
     let rebuilt = then(a, gives(var(0, 0)), then_last)?;
     let builds = scope(a, 2, then(a, takes(var(0, 0)), rebuilt)?)?;
-    let both = pair(a, var(0, 0), var(0, 0))?;
+    let part = applied(a, b"F", vec![in a; var(0, 0)]?)?;
     let shown = then(a, gives(var(0, 0)), call(a, at(1, 0)))?;
     let body = scope(a, 1, then(a, five, passing(a, at(2, 1), builds)?)?)?;
-    let other = def(1, 0, scope(a, 1, then(a, takes(both), shown)?)?);
+    let other = def(1, 0, scope(a, 1, then(a, takes(part), shown)?)?);
     table.with(
         "a closure binds at its maker",
         body,
         other,
-        tuple(a, &[2, 2])?,
-        to(tuple(a, &[2, 5])?),
+        application(a, b"F", &[2])?,
+        to(application(a, b"Pair", &[2, 5])?),
         28,
     )?;
     Ok(())

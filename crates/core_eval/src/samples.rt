@@ -152,6 +152,25 @@ fn integers(a: Global, values: &[i32]) -> Result<Vec<Term>, AllocError> {
 }
 
 // The tuple of the integers.
+// The plain symbol of this name.
+fn named(a: Global, name: &[u8]) -> Result<Sym, Fail> {
+    match Sym::plain(a, name)? {
+        Some(symbol) => Ok(symbol),
+        None => Err(Fail::new("not a name")),
+    }
+}
+
+// A plain symbol applied to patterns.
+pub fn applied(a: Global, name: &[u8], parts: Vec<CorePattern>) -> Result<CorePattern, Fail> {
+    Ok(CorePattern::Applied(named(a, name)?, parts))
+}
+
+// A plain symbol applied to integers.
+pub fn application(a: Global, name: &[u8], values: &[i32]) -> Result<Term, Fail> {
+    let term = fits(Term::app(a, named(a, name)?, integers(a, values)?)?)?;
+    Ok(term)
+}
+
 pub fn tuple(a: Global, values: &[i32]) -> Result<Term, Fail> {
     let term = fits(Term::app(a, Sym::tuple(), integers(a, values)?)?)?;
     Ok(term)

@@ -2,3 +2,4 @@
 mod devices;
 mod pipeline;
 mod rows;
+mod term_rows;

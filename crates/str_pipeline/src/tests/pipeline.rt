@@ -2,6 +2,7 @@
 ghost use Rattle.std.specs.Prelude.{◌≤◌};
 
 use crate::tests::rows::{JOINED_ROWS, Pieces, ROWS};
+use crate::tests::term_rows::TERM_ROWS;
 use crate::{Faulty, Options, Status, transform, transform_joined};
 use std::alloc::{AllocError, Global};
 use std::test::Fail;
@@ -78,7 +79,7 @@ fn gives_joined(
 #[test]
 fn rows(rt: HostRuntime) -> Result<(), Fail> {
     let alloc = rt.alloc();
-    for (index, row) in ROWS.iter().enumerate() {
+    for (index, row) in ROWS.iter().chain(TERM_ROWS).enumerate() {
         let defs = text_of(alloc, row.defs)?;
         let term = text_of(alloc, row.term)?;
         let line = line_of(alloc, row.line)?;
