@@ -1,0 +1,102 @@
+-- The first token of a pattern, and what stands behind it.
+use Rattle.std.proofs.Common.{◌≡◌, inl, inr, ℕ, ℤ, ◌+◌, ◌≤◌, Bool, true, false, List, [], ◌∷◌, refl, sym, ◌∙◌, ap, subst, arith}
+use Rattle.str_lexer.specs.declared.token.Mark.TheVariants as M
+use Rattle.str_syntax.specs.Trees.{Bytes, PatternTree, variable, wildcard, alias, integer, quoted, application, grouped, tuple, list, list_with_tail, applied, applied_to, PatternTrees, StrategyTree}
+use Rattle.str_parser.specs.Lexemes.{Lexeme, Lexeme as L, build_part, first_begins, begins_pattern}
+use Rattle.str_parser.specs.Items.{Item, token, part, no_build, only, either, Runs}
+use Rattle.str_parser.specs.Phrases.{sign, is_not, is_constructor, are_parts, any_patterns, pattern_part, pattern, patterns}
+use Rattle.str_parser.specs.Readings.{NotAt, strength, lexeme_strength}
+use Rattle.str_parser.specs.Begun.{inner_pattern, inner_strategy}
+
+-- the tree begins with this token, and these run along the rest of it and the items behind it
+pub data Led (m : Bool) (k : ℕ) (ts : List Lexeme) : Lexeme → PatternTree → List Item → Type 0 where
+  led_variable : {x : Bytes} {is : List Item} → Runs either is ts → Led m k ts (L.name x) (variable x) is
+  led_wildcard : {is : List Item} → Runs either is ts → Led m k ts L.wildcard wildcard is
+  led_alias : {x : Bytes} (p : PatternTree) {is : List Item} → Runs either (sign M.At ∷ inner_pattern m (k + 1) p is) ts → Led m k ts (L.name x) (alias x p) is
+  led_integer : {z : ℤ} {is : List Item} → Runs either is ts → Led m k ts (L.integer z) (integer z) is
+  led_quoted : {text : Bytes} {is : List Item} → Runs either is ts → Led m k ts (L.quoted text) (quoted text) is
+  led_application : {x : Bytes} (ps : PatternTrees) {is : List Item} → is_constructor x ≡ true →
+      Runs either (sign M.OpenParenthesis ∷ patterns m (k + 1) ps (sign M.CloseParenthesis ∷ is)) ts → Led m k ts (L.name x) (application x ps) is
+  led_grouped : (p : PatternTree) {is : List Item} → Runs either (inner_pattern m (k + 1) p (sign M.CloseParenthesis ∷ is)) ts → Led m k ts (L.mark M.OpenParenthesis) (grouped p) is
+  led_tuple : (ps : PatternTrees) {is : List Item} → are_parts ps ≡ true →
+      Runs either (patterns m (k + 1) ps (sign M.CloseParenthesis ∷ is)) ts → Led m k ts (L.mark M.OpenParenthesis) (tuple ps) is
+  led_list : (ps : PatternTrees) {is : List Item} → Runs either (patterns m (k + 1) ps (sign M.CloseBracket ∷ is)) ts → Led m k ts (L.mark M.OpenBracket) (list ps) is
+  led_list_with_tail : (ps : PatternTrees) (p : PatternTree) {is : List Item} → any_patterns ps ≡ true →
+      Runs either (patterns m (k + 1) ps (sign M.Bar ∷ inner_pattern m (k + 1) p (sign M.CloseBracket ∷ is))) ts → Led m k ts (L.mark M.OpenBracket) (list_with_tail ps p) is
+  led_applied : (s : StrategyTree) {is : List Item} → is_not m ≡ true →
+      Runs either (inner_strategy (k + 1) s (sign M.Greater ∷ no_build ∷ is)) ts → Led m k ts (L.mark M.Less) (applied s) is
+  led_applied_to : (s : StrategyTree) (p : PatternTree) {is : List Item} → is_not m ≡ true →
+      Runs either (inner_strategy (k + 1) s (sign M.Greater ∷ part build_part (k + 1) ∷ pattern m (k + 1) p is)) ts → Led m k ts (L.mark M.Less) (applied_to s p) is
+
+pub led : (m : Bool) (k : ℕ) (t : Lexeme) (ts : List Lexeme) (u : PatternTree) (is : List Item) → Runs either (pattern m k u is) (t ∷ ts) → Led m k ts t u is
+led m k t ts (variable x) is r = subst (λ v. Led m k ts v (variable x) is) (sym r.0) (led_variable r.1)
+led m k t ts wildcard is r = subst (λ v. Led m k ts v wildcard is) (sym r.0) (led_wildcard r.1)
+led m k t ts (alias x p) is r = subst (λ v. Led m k ts v (alias x p) is) (sym r.0) (led_alias p r.1)
+led m k t ts (integer z) is r = subst (λ v. Led m k ts v (integer z) is) (sym r.0) (led_integer r.1)
+led m k t ts (quoted text) is r = subst (λ v. Led m k ts v (quoted text) is) (sym r.0) (led_quoted r.1)
+led m k t ts (application x ps) is r = subst (λ v. Led m k ts v (application x ps) is) (sym r.1.0) (led_application ps r.0 r.1.1)
+led m k t ts (grouped p) is r = subst (λ v. Led m k ts v (grouped p) is) (sym r.0) (led_grouped p r.1)
+led m k t ts (tuple ps) is r = subst (λ v. Led m k ts v (tuple ps) is) (sym r.1.0) (led_tuple ps r.0 r.1.1)
+led m k t ts (list ps) is r = subst (λ v. Led m k ts v (list ps) is) (sym r.0) (led_list ps r.1)
+led m k t ts (list_with_tail ps p) is r = subst (λ v. Led m k ts v (list_with_tail ps p) is) (sym r.1.0) (led_list_with_tail ps p r.0 r.1.1)
+led m k t ts (applied s) is r = subst (λ v. Led m k ts v (applied s) is) (sym r.1.0) (led_applied s r.0 r.1.1)
+led m k t ts (applied_to s p) is r = subst (λ v. Led m k ts v (applied_to s p) is) (sym r.1.0) (led_applied_to s p r.0 r.1.1)
+
+-- ---- what a pattern begins with
+
+pub part_begins : (m : Bool) (t : Lexeme) (ts : List Lexeme) → first_begins (pattern_part m) (t ∷ ts) ≡ begins_pattern m t
+part_begins true t ts = refl
+part_begins false t ts = refl
+
+pub led_begins : (m : Bool) (k : ℕ) (ts : List Lexeme) (t : Lexeme) (u : PatternTree) (is : List Item) → Led m k ts t u is → begins_pattern m t ≡ true
+led_begins m k ts t u is (led_variable r) = refl
+led_begins m k ts t u is (led_wildcard r) = refl
+led_begins m k ts t u is (led_alias p r) = refl
+led_begins m k ts t u is (led_integer r) = refl
+led_begins m k ts t u is (led_quoted r) = refl
+led_begins m k ts t u is (led_application ps h r) = refl
+led_begins m k ts t u is (led_grouped p r) = refl
+led_begins m k ts t u is (led_tuple ps h r) = refl
+led_begins m k ts t u is (led_list ps r) = refl
+led_begins m k ts t u is (led_list_with_tail ps p h r) = refl
+led_begins true k ts t u is (led_applied s h r) = cc
+led_begins false k ts t u is (led_applied s h r) = refl
+led_begins true k ts t u is (led_applied_to s p h r) = cc
+led_begins false k ts t u is (led_applied_to s p h r) = refl
+
+pub no_tokens : (m : Bool) (k : ℕ) (u : PatternTree) (is : List Item) → Runs either (pattern m k u is) [] → ⊥
+no_tokens m k (variable x) is r = r
+no_tokens m k wildcard is r = r
+no_tokens m k (alias x p) is r = r
+no_tokens m k (integer z) is r = r
+no_tokens m k (quoted text) is r = r
+no_tokens m k (application x ps) is r = r.1
+no_tokens m k (grouped p) is r = r
+no_tokens m k (tuple ps) is r = r.1
+no_tokens m k (list ps) is r = r
+no_tokens m k (list_with_tail ps p) is r = r.1
+no_tokens m k (applied s) is r = r.1
+no_tokens m k (applied_to s p) is r = r.1
+
+pub pattern_begins : (m : Bool) (k : ℕ) (u : PatternTree) (is : List Item) (ts : List Lexeme) → Runs either (pattern m k u is) ts → first_begins (pattern_part m) ts ≡ true
+pattern_begins m k u is [] r = absurd (no_tokens m k u is r)
+pattern_begins m k u is (t ∷ ts) r = part_begins m t ts ∙ led_begins m k ts t u is (led m k t ts u is r)
+
+pub inner_begins : (m : Bool) (k : ℕ) (p : PatternTree) (is : List Item) (ts : List Lexeme) → Runs either (inner_pattern m k p is) ts → first_begins (pattern_part m) ts ≡ true
+inner_begins m k p is ts (inl b) = b.1
+inner_begins m k p is ts (inr r) = pattern_begins m k p is ts r
+
+pub no_inner : (m : Bool) (k : ℕ) (p : PatternTree) (is : List Item) (t : Lexeme) (ts : List Lexeme) → begins_pattern m t ≡ false → Runs either (inner_pattern m k p is) (t ∷ ts) → ⊥
+no_inner m k p is t ts e r = let b = inner_begins m k p is (t ∷ ts) r in let f = part_begins m t ts in cc
+
+pub no_sign : (t : Lexeme) (is : List Item) (ts : List Lexeme) → NotAt t ts → Runs either (token t ∷ is) ts → ⊥
+no_sign t is [] h r = r
+no_sign t is (v ∷ ts) h r = h ts (ap (λ w. w ∷ ts) r.0)
+
+-- the first token binds no stronger than the items
+pub runs_strength : (is : List Item) (t : Lexeme) (ts : List Lexeme) → Runs either is (t ∷ ts) → strength is ≤ 3 → lexeme_strength t ≤ 3
+runs_strength [] t ts r h = cc
+runs_strength (token u ∷ is) t ts r h = rw r.0 h
+runs_strength (part p k ∷ is) t ts r h = absurd (omega arith)
+runs_strength (no_build ∷ is) t ts r h = absurd (omega arith)
+runs_strength (only b ∷ is) t ts r h = runs_strength is t ts r.1 h

@@ -1,0 +1,264 @@
+-- Each way that reading can go is a law.
+use Rattle.std.proofs.Common.{◌≡◌, ◌∷◌, ◌+◌, ◌≤◌, arith, refl, sym, ◌∙◌, ap, false, true, length}
+use Rattle.str_syntax.proofs.ReadLaws.{reads_plain_sequence, reads_left_choice, reads_guarded_choice, reads_last, reads_then, reads_plain_step, reads_matching}
+use Rattle.str_syntax.specs.Trees.{plain_sequence, left_choice, guarded_choice, last, then, plain_step, matching}
+use Rattle.std.proofs.lemmas.Result.{err_from_is_err_and}
+use Rattle.str_syntax.specs.Views.{strategy_of, pattern_of, primary_of, sequence_of, step_of}
+use Rattle.str_parser.specs.Phrases.{step, primary, pattern_part}
+use Rattle.str_parser.specs.Readings.{AtMost, Leads}
+use Rattle.str_parser.specs.Begun.{inner_strategy, inner_sequence, inner_pattern, Written, WrittenPattern, Continues, ContinuesPattern, HasStrategy, HasPattern, HasInner, GoesApplied, wants_match}
+use Rattle.str_parser.proofs.FaultLaws.{fault_means}
+use Rattle.str_parser.proofs.DescentFaults.{beyond_fault, syntax_fault, next_fault, next_pattern_fault}
+use Rattle.str_parser.proofs.ChoiceLaws.{strategy_nested, strategy_beyond, missing_sequence, nested_sequence, found_plain, missing_right, nested_right, found_choice, missing_first, nested_first, missing_plus, missing_second, nested_second, found_guarded}
+use Rattle.str_parser.proofs.SequenceLaws.{sequence_nested, sequence_beyond, missing_step, nested_step, found_last, missing_others, nested_others, found_then, missing_primary, nested_primary, found_plain_step, missing_matched, nested_matched, found_matching}
+use Rattle.str_parser.proofs.LoopLaws.{leads_on, found_whole, missing_run, missing_all, leads_strategy, missing_strategy, nested_strategy, leads_pattern, missing_pattern, nested_pattern}
+use Rattle.str_parser.proofs.PatternLoopLaws.{pattern_nested, pattern_beyond, found_whole_pattern, missing_pattern_run, missing_all_patterns, leads_applied, missing_applied, nested_applied, leads_inner, missing_inner, nested_inner}
+use Rattle.str_parser.proofs.descent.+phrase.Goals as goal
+
+-- ---- patterns
+
+pub pattern-returns-then-level-gt-MOST_LEVELS : goal.pattern-returns-then-level-gt-MOST_LEVELS
+pattern-returns-then-level-gt-MOST_LEVELS t c =
+    beyond_fault (inner_pattern c.args.in_match c.args.level) (AtMost 3) c.args.input c.begins_pattern.result c.beyond.result
+    (λ b. pattern_nested _ _ _ (omega arith) (sym c.begins_pattern.ensures ∙ b))
+    (λ b. pattern_beyond _ _ _ (sym c.begins_pattern.ensures ∙ b))
+    c.beyond.ensures
+
+pub pattern-returns-in_err-begun : goal.pattern-returns-in_err-begun
+pattern-returns-in_err-begun t c =
+    let p = err_from_is_err_and c.from_residual.result c.from_residual.ensures.1 in
+    rw (p.1, p.2) (next_pattern_fault WrittenPattern c.args.in_match c.args.input (inner_pattern c.args.in_match c.args.level) (AtMost 3) c.args.input _ (λ n. missing_all_patterns _ _ _ (omega arith) (n c.args.level)) c.in_err-begun.ensures)
+
+pub pattern-loop-begun-init : goal.pattern-loop-begun-init
+pattern-loop-begun-init t c = c.in_ok-begun.ensures c.args.level
+
+pub pattern-returns-in-Whole : goal.pattern-returns-in-Whole
+pattern-returns-in-Whole t c =
+    let i = rw c.in-Whole.is at c.loop-begun.invariant in
+    found_whole_pattern _ _ _ _ _ (omega arith) i
+
+pub pattern-returns-in_err-part-in-ToStrategy : goal.pattern-returns-in_err-part-in-ToStrategy
+pattern-returns-in_err-part-in-ToStrategy t c =
+    let i = rw c.in-ToStrategy.is at c.loop-begun.invariant in
+    let p = err_from_is_err_and c.from_residual-in_err-part-in-ToStrategy.result c.from_residual-in_err-part-in-ToStrategy.ensures.1 in
+    rw (p.1, p.2) (fault_means (inner_strategy (c.args.level + 1)) (AtMost 0) c.in-ToStrategy.rest (inner_pattern c.args.in_match c.args.level) (AtMost 3) c.args.input _
+    (missing_applied _ _ _ _ (omega arith) i) (nested_applied _ _ _ _ (omega arith) i) c.in_err-part-in-ToStrategy.ensures)
+
+pub pattern-returns-in_err-begun-in-ToStrategy : goal.pattern-returns-in_err-begun-in-ToStrategy
+pattern-returns-in_err-begun-in-ToStrategy t c =
+    let i = rw c.in-ToStrategy.is at c.loop-begun.invariant in
+    let p = err_from_is_err_and c.from_residual-in_err-begun-in-ToStrategy.result c.from_residual-in_err-begun-in-ToStrategy.ensures.1 in
+    rw (p.1, p.2) (next_pattern_fault (GoesApplied (strategy_of c.in_ok-part-in-ToStrategy.part)) c.args.in_match c.in_ok-part-in-ToStrategy.rest (inner_pattern c.args.in_match c.args.level) (AtMost 3) c.args.input _
+    (λ n. missing_pattern_run _ _ _ _ _ (omega arith) (leads_on i (leads_applied _ _ _ _ _ c.in_ok-part-in-ToStrategy.ensures)) (n c.args.level)) (c.in_err-begun-in-ToStrategy.ensures c.args.in_match))
+
+pub pattern-returns-in_err-part-in-ToPattern : goal.pattern-returns-in_err-part-in-ToPattern
+pattern-returns-in_err-part-in-ToPattern t c =
+    let i = rw c.in-ToPattern.is at c.loop-begun.invariant in
+    let p = err_from_is_err_and c.from_residual-in_err-part-in-ToPattern.result c.from_residual-in_err-part-in-ToPattern.ensures.1 in
+    rw (p.1, p.2) (fault_means (inner_pattern c.args.in_match (c.args.level + 1)) (AtMost 3) c.in-ToPattern.rest (inner_pattern c.args.in_match c.args.level) (AtMost 3) c.args.input _
+    (missing_inner _ _ c.in-ToPattern.before _ _ (omega arith) i) (nested_inner _ _ c.in-ToPattern.before _ _ (omega arith) i) c.in_err-part-in-ToPattern.ensures)
+
+pub pattern-returns-in_err-begun-in-ToPattern : goal.pattern-returns-in_err-begun-in-ToPattern
+pattern-returns-in_err-begun-in-ToPattern t c =
+    let i = rw c.in-ToPattern.is at c.loop-begun.invariant in
+    let p = err_from_is_err_and c.from_residual-in_err-begun-in-ToPattern.result c.from_residual-in_err-begun-in-ToPattern.ensures.1 in
+    rw (p.1, p.2) (next_pattern_fault (HasInner c.in-ToPattern.before (pattern_of c.in_ok-part-in-ToPattern.part)) c.args.in_match c.in_ok-part-in-ToPattern.rest (inner_pattern c.args.in_match c.args.level) (AtMost 3) c.args.input _
+    (λ n. missing_pattern_run _ _ _ _ _ (omega arith) (leads_on i (leads_inner _ _ _ _ _ _ c.in_ok-part-in-ToPattern.ensures)) (n c.args.level)) (c.in_err-begun-in-ToPattern.ensures c.args.in_match))
+
+pub pattern-loop-begun-smaller-in_ok-begun-in-ToStrategy : goal.pattern-loop-begun-smaller-in_ok-begun-in-ToStrategy
+pattern-loop-begun-smaller-in_ok-begun-in-ToStrategy t c =
+    let a = c.in_ok-begun-in-ToStrategy.ensures c.args.in_match c.args.level in
+    let b = c.in_ok-part-in-ToStrategy.ensures in
+    rw c.in-ToStrategy.is (omega (arith, a.no_longer, b.shorter))
+
+pub pattern-loop-begun-preserved-in_ok-begun-in-ToStrategy : goal.pattern-loop-begun-preserved-in_ok-begun-in-ToStrategy
+pattern-loop-begun-preserved-in_ok-begun-in-ToStrategy t c =
+    let i = rw c.in-ToStrategy.is at c.loop-begun.invariant in
+    let a = c.in_ok-begun-in-ToStrategy.ensures c.args.in_match c.args.level in
+    let b = c.in_ok-part-in-ToStrategy.ensures in
+    leads_on i (leads_on (leads_applied _ _ _ _ _ b) a)
+
+pub pattern-loop-begun-smaller : goal.pattern-loop-begun-smaller
+pattern-loop-begun-smaller t c =
+    let a = c.in_ok-begun-in-ToPattern.ensures c.args.in_match c.args.level in
+    let b = c.in_ok-part-in-ToPattern.ensures in
+    rw c.in-ToPattern.is (omega (arith, a.no_longer, b.shorter))
+
+pub pattern-loop-begun-preserved : goal.pattern-loop-begun-preserved
+pattern-loop-begun-preserved t c =
+    let i = rw c.in-ToPattern.is at c.loop-begun.invariant in
+    let a = c.in_ok-begun-in-ToPattern.ensures c.args.in_match c.args.level in
+    let b = c.in_ok-part-in-ToPattern.ensures in
+    leads_on i (leads_on (leads_inner _ _ c.in-ToPattern.before _ _ _ b) a)
+
+-- ---- primaries
+
+pub primary-returns-in_err-begun : goal.primary-returns-in_err-begun
+primary-returns-in_err-begun t c =
+    let p = err_from_is_err_and c.from_residual.result c.from_residual.ensures.1 in
+    rw (p.1, p.2) (next_fault Written c.args.input (primary c.args.level) (AtMost 3) c.args.input _ (λ n. missing_all _ _ (n c.args.level)) c.in_err-begun.ensures)
+
+pub primary-loop-begun-init : goal.primary-loop-begun-init
+primary-loop-begun-init t c =
+    c.in_ok-begun.ensures c.args.level
+
+pub primary-returns-in-Whole : goal.primary-returns-in-Whole
+primary-returns-in-Whole t c =
+    let i = rw c.in-Whole.is at c.loop-begun.invariant in
+    found_whole _ _ _ c.in-Whole.made i
+
+pub primary-returns-in_err-part-in-ToStrategy : goal.primary-returns-in_err-part-in-ToStrategy
+primary-returns-in_err-part-in-ToStrategy t c =
+    let i = rw c.in-ToStrategy.is at c.loop-begun.invariant in
+    let p = err_from_is_err_and c.from_residual-in_err-part-in-ToStrategy.result c.from_residual-in_err-part-in-ToStrategy.ensures.1 in
+    rw (p.1, p.2) (fault_means (inner_strategy (c.args.level + 1)) (AtMost 0) c.in-ToStrategy.rest (primary c.args.level) (AtMost 3) c.args.input _
+    (missing_strategy _ c.in-ToStrategy.before _ _ i) (nested_strategy _ c.in-ToStrategy.before _ _ i) c.in_err-part-in-ToStrategy.ensures)
+
+pub primary-returns-in_err-begun-in-ToStrategy : goal.primary-returns-in_err-begun-in-ToStrategy
+primary-returns-in_err-begun-in-ToStrategy t c =
+    let i = rw c.in-ToStrategy.is at c.loop-begun.invariant in
+    let p = err_from_is_err_and c.from_residual-in_err-begun-in-ToStrategy.result c.from_residual-in_err-begun-in-ToStrategy.ensures.1 in
+    rw (p.1, p.2) (next_fault (HasStrategy c.in-ToStrategy.before (strategy_of c.in_ok-part-in-ToStrategy.part)) c.in_ok-part-in-ToStrategy.rest (primary c.args.level) (AtMost 3) c.args.input _
+    (λ n. missing_run _ _ _ _ (leads_on i (leads_strategy _ c.in-ToStrategy.before _ _ _ c.in_ok-part-in-ToStrategy.ensures)) (n c.args.level)) c.in_err-begun-in-ToStrategy.ensures)
+
+pub primary-returns-in_err-part-in-ToPattern : goal.primary-returns-in_err-part-in-ToPattern
+primary-returns-in_err-part-in-ToPattern t c =
+    let i = rw c.in-ToPattern.is at c.loop-begun.invariant in
+    let p = err_from_is_err_and c.from_residual-in_err-part-in-ToPattern.result c.from_residual-in_err-part-in-ToPattern.ensures.1 in
+    let e = rw c.in_match.ensures at c.in_err-part-in-ToPattern.ensures in
+    rw (p.1, p.2) (fault_means (inner_pattern (wants_match c.in-ToPattern.before) (c.args.level + 1)) (AtMost 3) c.in-ToPattern.rest (primary c.args.level) (AtMost 3) c.args.input _
+    (missing_pattern _ c.in-ToPattern.before _ _ i) (nested_pattern _ c.in-ToPattern.before _ _ i) e)
+
+pub primary-returns-in_err-begun-in-ToPattern : goal.primary-returns-in_err-begun-in-ToPattern
+primary-returns-in_err-begun-in-ToPattern t c =
+    let i = rw c.in-ToPattern.is at c.loop-begun.invariant in
+    let p = err_from_is_err_and c.from_residual-in_err-begun-in-ToPattern.result c.from_residual-in_err-begun-in-ToPattern.ensures.1 in
+    let f = rw c.in_match.ensures at c.in_ok-part-in-ToPattern.ensures in
+    rw (p.1, p.2) (next_fault (HasPattern c.in-ToPattern.before (pattern_of c.in_ok-part-in-ToPattern.part)) c.in_ok-part-in-ToPattern.rest (primary c.args.level) (AtMost 3) c.args.input _
+    (λ n. missing_run _ _ _ _ (leads_on i (leads_pattern _ c.in-ToPattern.before _ _ _ f)) (n c.args.level)) c.in_err-begun-in-ToPattern.ensures)
+
+pub primary-loop-begun-smaller-in_ok-begun-in-ToStrategy : goal.primary-loop-begun-smaller-in_ok-begun-in-ToStrategy
+primary-loop-begun-smaller-in_ok-begun-in-ToStrategy t c =
+    let a = c.in_ok-begun-in-ToStrategy.ensures c.args.level in
+    let b = c.in_ok-part-in-ToStrategy.ensures in
+    rw c.in-ToStrategy.is (omega (arith, a.no_longer, b.shorter))
+
+pub primary-loop-begun-preserved-in_ok-begun-in-ToStrategy : goal.primary-loop-begun-preserved-in_ok-begun-in-ToStrategy
+primary-loop-begun-preserved-in_ok-begun-in-ToStrategy t c =
+    let i = rw c.in-ToStrategy.is at c.loop-begun.invariant in
+    let a = c.in_ok-begun-in-ToStrategy.ensures c.args.level in
+    let b = c.in_ok-part-in-ToStrategy.ensures in
+    leads_on i (leads_on (leads_strategy _ c.in-ToStrategy.before _ _ _ b) a)
+
+pub primary-loop-begun-smaller : goal.primary-loop-begun-smaller
+primary-loop-begun-smaller t c =
+    let a = c.in_ok-begun-in-ToPattern.ensures c.args.level in
+    let b = c.in_ok-part-in-ToPattern.ensures in
+    rw c.in-ToPattern.is (omega (arith, a.no_longer, b.shorter))
+
+pub primary-loop-begun-preserved : goal.primary-loop-begun-preserved
+primary-loop-begun-preserved t c =
+    let i = rw c.in-ToPattern.is at c.loop-begun.invariant in
+    let a = c.in_ok-begun-in-ToPattern.ensures c.args.level in
+    let f = rw c.in_match.ensures at c.in_ok-part-in-ToPattern.ensures in
+    leads_on i (leads_on (leads_pattern _ c.in-ToPattern.before _ _ _ f) a)
+
+-- ---- sequences
+
+pub sequence-returns-then-level-gt-MOST_LEVELS : goal.sequence-returns-then-level-gt-MOST_LEVELS
+sequence-returns-then-level-gt-MOST_LEVELS t c =
+    beyond_fault (inner_sequence c.args.level) (AtMost 1) c.args.input c.begins_strategy.result c.beyond.result
+    (λ b. sequence_nested _ _ (omega arith) (sym c.begins_strategy.ensures ∙ b)) (λ b. sequence_beyond _ _ (sym c.begins_strategy.ensures ∙ b)) c.beyond.ensures
+
+pub sequence-returns-in_err-first : goal.sequence-returns-in_err-first
+sequence-returns-in_err-first t c =
+    let p = err_from_is_err_and c.from_residual.result c.from_residual.ensures.1 in
+    rw (p.1, p.2) (fault_means (step c.args.level) (AtMost 2) c.args.input (inner_sequence c.args.level) (AtMost 1) c.args.input _ (missing_step _ _ (omega arith)) (nested_step _ _ (omega arith)) c.in_err-first.ensures)
+
+pub sequence-returns-in_default : goal.sequence-returns-in_default
+sequence-returns-in_default t c =
+    rw reads_last (found_last _ _ _ _ (omega arith) c.in_ok-first.ensures c.in_default.ensures)
+
+pub sequence-returns-in_err-others : goal.sequence-returns-in_err-others
+sequence-returns-in_err-others t c =
+    let p = err_from_is_err_and c.from_residual-in_err-others.result c.from_residual-in_err-others.ensures.1 in
+    let f = rw c.in-Some.ensures at c.in_ok-first.ensures in
+    rw (p.1, p.2) (fault_means (inner_sequence (c.args.level + 1)) (AtMost 1) c.in-Some.behind (inner_sequence c.args.level) (AtMost 1) c.args.input _ (missing_others _ _ _ _ (omega arith) f) (nested_others _ _ _ _ (omega arith) f) c.in_err-others.ensures)
+
+pub sequence-returns : goal.sequence-returns
+sequence-returns t c =
+    let f = rw c.in-Some.ensures at c.in_ok-first.ensures in
+    rw (reads_then, c.in_ok-new.ensures.ok) (found_then _ _ _ _ _ _ (omega arith) f c.in_ok-others.ensures)
+
+-- ---- steps
+
+pub step-returns-in_err-first : goal.step-returns-in_err-first
+step-returns-in_err-first t c =
+    let p = err_from_is_err_and c.from_residual.result c.from_residual.ensures.1 in
+    rw (p.1, p.2) (fault_means (primary c.args.level) (AtMost 3) c.args.input (step c.args.level) (AtMost 2) c.args.input _ (missing_primary _ _) (nested_primary _ _) c.in_err-first.ensures)
+
+pub step-returns-in_default : goal.step-returns-in_default
+step-returns-in_default t c =
+    rw reads_plain_step (found_plain_step _ _ _ _ c.in_ok-first.ensures c.in_default.ensures)
+
+pub step-returns-in_err-matched : goal.step-returns-in_err-matched
+step-returns-in_err-matched t c =
+    let p = err_from_is_err_and c.from_residual-in_err-matched.result c.from_residual-in_err-matched.ensures.1 in
+    let f = rw c.in-Some.ensures at c.in_ok-first.ensures in
+    rw (p.1, p.2) (fault_means (inner_pattern true (c.args.level + 1)) (AtMost 3) c.in-Some.behind (step c.args.level) (AtMost 2) c.args.input _ (missing_matched _ _ _ _ f) (nested_matched _ _ _ _ f) c.in_err-matched.ensures)
+
+pub step-returns : goal.step-returns
+step-returns t c =
+    let f = rw c.in-Some.ensures at c.in_ok-first.ensures in
+    rw (reads_matching, c.in_ok-new.ensures.ok) (found_matching _ _ _ _ _ _ f c.in_ok-matched.ensures)
+
+-- ---- strategies
+
+pub strategy-returns-then-level-gt-MOST_LEVELS : goal.strategy-returns-then-level-gt-MOST_LEVELS
+strategy-returns-then-level-gt-MOST_LEVELS t c =
+    beyond_fault (inner_strategy c.args.level) (AtMost 0) c.args.input c.begins_strategy.result c.beyond.result
+    (λ b. strategy_nested _ _ (omega arith) (sym c.begins_strategy.ensures ∙ b)) (λ b. strategy_beyond _ _ (sym c.begins_strategy.ensures ∙ b)) c.beyond.ensures
+
+pub strategy-returns-in_err-first : goal.strategy-returns-in_err-first
+strategy-returns-in_err-first t c =
+    let p = err_from_is_err_and c.from_residual.result c.from_residual.ensures.1 in
+    rw (p.1, p.2) (fault_means (inner_sequence c.args.level) (AtMost 1) c.args.input (inner_strategy c.args.level) (AtMost 0) c.args.input _ (missing_sequence _ _) (nested_sequence _ _) c.in_err-first.ensures)
+
+pub strategy-returns-in_err-other : goal.strategy-returns-in_err-other
+strategy-returns-in_err-other t c =
+    let p = err_from_is_err_and c.from_residual-in_err-other.result c.from_residual-in_err-other.ensures.1 in
+    let f = rw c.in-Some.ensures at c.in_ok-first.ensures in
+    rw (p.1, p.2) (fault_means (inner_strategy (c.args.level + 1)) (AtMost 0) c.in-Some.behind (inner_strategy c.args.level) (AtMost 0) c.args.input _ (missing_right _ _ _ _ f) (nested_right _ _ _ _ f) c.in_err-other.ensures)
+
+pub strategy-returns-in-Some : goal.strategy-returns-in-Some
+strategy-returns-in-Some t c =
+    let f = rw c.in-Some.ensures at c.in_ok-first.ensures in
+    rw (reads_left_choice, c.in_ok-new.ensures.ok) (found_choice _ _ _ _ _ _ f c.in_ok-other.ensures)
+
+pub strategy-returns-in_default-after : goal.strategy-returns-in_default-after
+strategy-returns-in_default-after t c =
+    rw reads_plain_sequence (found_plain _ _ _ _ c.in_ok-first.ensures c.in_default.ensures c.in_default-after.ensures)
+
+pub strategy-returns-in_err-then : goal.strategy-returns-in_err-then
+strategy-returns-in_err-then t c =
+    let p = err_from_is_err_and c.from_residual-in_err-then.result c.from_residual-in_err-then.ensures.1 in
+    let f = rw c.in-Some-after.ensures at c.in_ok-first.ensures in
+    rw (p.1, p.2) (fault_means (inner_strategy (c.args.level + 1)) (AtMost 0) c.in-Some-after.behind (inner_strategy c.args.level) (AtMost 0) c.args.input _ (missing_first _ _ _ _ f) (nested_first _ _ _ _ f) c.in_err-then.ensures)
+
+pub strategy-returns-in_default-after-2 : goal.strategy-returns-in_default-after-2
+strategy-returns-in_default-after-2 t c =
+    let f = rw c.in-Some-after.ensures at c.in_ok-first.ensures in
+    syntax_fault (inner_strategy c.args.level) (AtMost 0) c.args.input c.syntax.result (missing_plus _ _ _ _ _ _ f c.in_ok-then.ensures c.in_default-after-2.ensures) c.syntax.ensures
+
+pub strategy-returns-in_err-other-2 : goal.strategy-returns-in_err-other-2
+strategy-returns-in_err-other-2 t c =
+    let p = err_from_is_err_and c.from_residual-in_err-other-2.result c.from_residual-in_err-other-2.ensures.1 in
+    let f = rw c.in-Some-after.ensures at c.in_ok-first.ensures in
+    let g = rw c.in-Some-after-2.ensures at c.in_ok-then.ensures in
+    rw (p.1, p.2) (fault_means (inner_strategy (c.args.level + 1)) (AtMost 0) c.in-Some-after-2.behind (inner_strategy c.args.level) (AtMost 0) c.args.input _ (missing_second _ _ _ _ _ _ f g) (nested_second _ _ _ _ _ _ f g) c.in_err-other-2.ensures)
+
+pub strategy-returns : goal.strategy-returns
+strategy-returns t c =
+    let f = rw c.in-Some-after.ensures at c.in_ok-first.ensures in
+    let g = rw c.in-Some-after-2.ensures at c.in_ok-then.ensures in
+    rw (reads_guarded_choice, c.in_ok-then-2.ensures.ok, c.in_ok-new-2.ensures.ok) (found_guarded _ _ _ _ _ _ _ _ f g c.in_ok-other-2.ensures)

@@ -1,0 +1,32 @@
+use Rattle.std.proofs.Common.{◌<◌, ◌+◌, ◌-◌, ◌*◌, length}
+use Rattle.str_parser.specs.Readings.{Leads}
+use Rattle.str_parser.specs.Begun.{Written, Continues, behind, WrittenPattern, ContinuesPattern, behind_pattern}
+use Rattle.str_parser.proofs.descent.+phrase.Given as goal
+
+abbrev pub decreases-strategy : goal.decreases-strategy
+decreases-strategy l = 4 * (201 - l.level) + 3
+
+abbrev pub decreases-sequence : goal.decreases-sequence
+decreases-sequence l = 4 * (201 - l.level) + 2
+
+abbrev pub decreases-step : goal.decreases-step
+decreases-step l = 4 * (201 - l.level) + 1
+
+abbrev pub decreases-primary : goal.decreases-primary
+decreases-primary l = 4 * (201 - l.level)
+
+abbrev pub decreases-pattern : goal.decreases-pattern
+decreases-pattern l = 4 * (201 - l.level)
+
+-- what has been read leads here
+abbrev pub invariant-primary-loop-begun : goal.invariant-primary-loop-begun
+invariant-primary-loop-begun l = Leads (Written l.level) (Continues l.level l.begun) l.fn.input (behind l.begun)
+
+abbrev pub decreases-primary-loop-begun : goal.decreases-primary-loop-begun
+decreases-primary-loop-begun l = length (behind l.begun)
+
+abbrev pub invariant-pattern-loop-begun : goal.invariant-pattern-loop-begun
+invariant-pattern-loop-begun l = Leads (WrittenPattern l.in_match l.level) (ContinuesPattern l.in_match l.level l.begun) l.fn.input (behind_pattern l.begun)
+
+abbrev pub decreases-pattern-loop-begun : goal.decreases-pattern-loop-begun
+decreases-pattern-loop-begun l = length (behind_pattern l.begun)

@@ -1,0 +1,12 @@
+use Rattle.std.proofs.Common.{ap, ◌∙◌}
+use Rattle.str_syntax.specs.Trees.{application}
+use Rattle.str_syntax.proofs.ReadLaws.{reads_application}
+use Rattle.str_parser.proofs.PatternLists.{pushed_last}
+use Rattle.str_parser.proofs.InnerLaws.{application_more, application_end}
+use Rattle.str_parser.proofs.pattern_part.application.Goals as goal
+
+pub returns-in-Some : goal.returns-in-Some
+returns-in-Some c = λ m k. rw c.in-Some.ensures (application_more m k _ _ _ _ _ c.in_ok-push.ensures.items)
+
+pub returns : goal.returns
+returns c = λ m k. rw c.in-Some-after.ensures (application_end m k _ _ _ _ _ (reads_application _ _ ∙ ap (application c.args.name) (pushed_last c.args.done c.push.new.self c.args.part c.in_ok-push.ensures.items)))

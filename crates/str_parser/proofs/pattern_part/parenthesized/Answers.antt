@@ -1,0 +1,22 @@
+use Rattle.std.proofs.Common.{◌≡◌, ◌<◌, ap, ◌∙◌, sym, length, arith}
+use Rattle.str_syntax.specs.Trees.{grouped}
+use Rattle.str_syntax.specs.Views.{pattern_of}
+use Rattle.str_syntax.proofs.ReadLaws.{reads_grouped, reads_tuple}
+use Rattle.str_parser.proofs.PatternLists.{one_grouped, more_tuple, zero_told, some_told}
+use Rattle.str_parser.proofs.InnerLaws.{grouped_more, grouped_end}
+use Rattle.str_parser.proofs.pattern_part.parenthesized.Goals as goal
+
+pub returns-in-Some : goal.returns-in-Some
+returns-in-Some c = λ m k. rw c.in-Some.ensures (grouped_more m k _ _ _ _ c.in_ok-push.ensures.items)
+
+pub returns-then-is_empty : goal.returns-then-is_empty
+returns-then-is_empty c =
+    let z = zero_told _ _ c.is_empty.ensures c.if-is_empty.true in
+    let none : length c.args.done.items ≡ 0 = omega arith in
+    λ m k. rw c.in-Some-after.ensures (grouped_end m k _ _ _ _ (reads_grouped _ ∙ ap (λ b. grouped (pattern_of b)) c.in_ok-new.ensures.ok ∙ sym (one_grouped c.args.done (pattern_of c.args.part) none)))
+
+pub returns : goal.returns
+returns c =
+    let z = some_told _ _ c.is_empty.ensures c.if-is_empty.false in
+    let some : 0 < length c.args.done.items = omega arith in
+    λ m k. rw c.in-Some-after.ensures (grouped_end m k _ _ _ _ (reads_tuple _ ∙ sym (more_tuple c.args.done c.push-2.new.self c.args.part c.in_ok-push-2.ensures.items some)))

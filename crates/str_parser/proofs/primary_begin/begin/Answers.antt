@@ -1,0 +1,13 @@
+use Rattle.str_parser.specs.Begun.{Written}
+use Rattle.str_parser.proofs.BeginFaults.{syntax_at}
+use Rattle.str_parser.proofs.PrimaryLeads.{tokens_left}
+use Rattle.str_parser.proofs.PrimaryBegins.{no_tokens, begins_no_primary}
+use Rattle.str_parser.proofs.primary_begin.begin.Goals as goal
+
+pub returns-in_default : goal.returns-in_default
+returns-in_default c = syntax_at Written _ _ _ c.syntax.ensures c.in_default.ensures no_tokens
+
+pub returns-in_default-first : goal.returns-in_default-first
+returns-in_default-first c =
+    syntax_at Written _ _ _ c.syntax-in_default-first.ensures c.in-Some.ensures
+    (λ k. begins_no_primary k _ _ (tokens_left _ (λ x f. c.in_default-first.not-Name x f) (λ x f. c.in_default-first.not-Mark x f) (λ x f. c.in_default-first.not-Keyword x f)))

@@ -1,0 +1,17 @@
+use Rattle.std.proofs.Common.{◌∙◌, ap}
+use Rattle.str_syntax.specs.Trees.{call_with_terms}
+use Rattle.str_syntax.specs.Views.{strategies_of, patterns_of}
+use Rattle.str_syntax.proofs.ReadLaws.{reads_call_with_terms}
+use Rattle.str_parser.specs.Begun.{GoesBehindBar}
+use Rattle.str_parser.proofs.WholeLaws.{made_next}
+use Rattle.str_parser.proofs.CallBeginLaws.{no_terms_end, terms_lead}
+use Rattle.str_parser.proofs.primary_begin.begin_terms.Goals as goal
+
+pub returns-in-Some : goal.returns-in-Some
+returns-in-Some c =
+    rw c.in-Some.ensures
+    (made_next (GoesBehindBar c.args.called c.args.strategies) _ _ _ _ _ (reads_call_with_terms _ _ _ ∙ ap (λ ps. call_with_terms c.args.called (strategies_of c.args.strategies.items) (patterns_of ps)) c.new-terms.ensures.items)
+    c.whole.ensures (λ k. no_terms_end k _ _ _))
+
+pub returns : goal.returns
+returns c = λ k. terms_lead k _ _ _ _ c.new-terms.ensures.items c.in_default.ensures

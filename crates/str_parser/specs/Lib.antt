@@ -1,0 +1,10 @@
+pub mod Lexemes
+pub mod Items
+pub mod Phrases
+pub mod Within
+pub mod Readings
+pub mod Begun
+pub mod Beyond
+pub mod Runs
+pub mod Sorts
+pub mod Parsing

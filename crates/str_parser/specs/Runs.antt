@@ -1,0 +1,36 @@
+-- Phrases of any length: where they end, and what reading them answers.
+use Rattle.std.specs.Prelude.{◌≡◌, ◌≤◌, Bool, true, false, length, List, ◌∷◌, Result, Ok, Err}
+use Rattle.str_lexer.specs.declared.token.Mark.TheVariants as M
+use Rattle.term_model.specs.declared.fault.Fault.{Fault}
+use Rattle.str_parser.specs.Lexemes.{Lexeme, name, mark}
+use Rattle.str_parser.specs.Items.{Item, Way, either, Runs}
+use Rattle.str_parser.specs.Readings.{IsFault}
+
+-- what runs along the items begins with none of these tokens
+abbrev pub NoneOf : (Lexeme → Bool) → List Item → Type 0
+NoneOf these is = (t : Lexeme) (rest : List Lexeme) → Runs either is (t ∷ rest) → these t ≡ false
+
+-- The tokens begin with the tree, written so, which may be of no token, and the rest stands behind it. No other tree runs along
+-- them, in front of items that stop it.
+pub record FoundAny {T : Type 0} (write : T → List Item → List Item) (Stops : List Item → Type 0) (ts : List Lexeme) (t : T) (rest : List Lexeme) : Type 0 where
+  pub sound : (way : Way) (is : List Item) → Runs way is rest → Runs way (write t is) ts
+  pub only_one : (u : T) (is : List Item) → Stops is → Runs either (write u is) ts → (u ≡ t) × Runs either is rest
+  pub no_longer : length rest ≤ length ts
+
+-- the tree, which may be of no token, and the rest, or a fault
+abbrev pub IsReadingAny : {T X : Type 0} → (T → List Item → List Item) → (List Item → Type 0) → (X → T) → List Lexeme → Result (X × List Lexeme) Fault → Type 0
+IsReadingAny write Stops tree_of ts (Ok (x, rest)) = FoundAny write Stops ts (tree_of x) rest
+IsReadingAny write Stops tree_of ts (Err e) = IsFault write Stops ts e
+
+-- ---- names
+
+-- with a comma, some names go on
+abbrev pub names_go_on : Lexeme → Bool
+names_go_on (mark M.Comma) = true
+names_go_on _ = false
+
+-- with a name, names begin where there are none yet
+abbrev pub any_names_go_on : Lexeme → Bool
+any_names_go_on (mark M.Comma) = true
+any_names_go_on (name x) = true
+any_names_go_on _ = false

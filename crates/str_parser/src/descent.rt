@@ -1,0 +1,187 @@
+// Strategies and patterns from tokens, by recursive descent with one token of look-ahead.
+ghost use Rattle.std.specs.Prelude.{◌≡◌, ◌≤◌, Bool, true, false};
+ghost use Rattle.str_syntax.specs.Views.{pattern_of, sequence_of, step_of, strategy_of};
+ghost use Rattle.str_parser.specs.Lexemes.{strategy_part, first_begins};
+ghost use Rattle.str_parser.specs.Phrases.{step, primary};
+ghost use Rattle.str_parser.specs.Readings.{AtMost, IsReading};
+ghost use Rattle.str_parser.specs.Begun.{inner_strategy, inner_sequence, inner_pattern, boxed_primary_of};
+ghost use Rattle.str_parser.specs.Beyond.{IsBeyondFault};
+
+use crate::begun::{Begun, BegunPattern};
+use crate::input::{Input, Lexeme};
+use crate::pattern_part::{applied, begins_pattern};
+use crate::{pattern_begin, primary_begin};
+use std::alloc::Global;
+use str_lexer::{Keyword, Mark};
+use str_syntax::{Pattern, Primary, Sequence, Step, Strategy};
+use term_model::Fault;
+
+// The greatest level of a part of a phrase.
+const MOST_LEVELS: u32 = 200;
+
+// The fault where a part would stand at level 201: whether the tokens can begin it decides.
+fn beyond(input: &Input<'_>, begins: bool) -> Fault
+    ensures { IsBeyondFault begins result }
+{
+    if begins {
+        return Fault::Nesting { at: input.at() };
+    }
+    input.syntax()
+}
+
+// Whether the first token can begin a strategy.
+fn begins_strategy(input: &Input<'_>) -> bool
+    ensures { result ≡ first_begins strategy_part input.now }
+{
+    let Some((first, _)) = input.first() else {
+        return false;
+    };
+    match first {
+        Lexeme::Name(_) => true,
+        Lexeme::Mark(mark) => matches!(
+            mark,
+            Mark::Question
+                | Mark::Exclamation
+                | Mark::Less
+                | Mark::OpenParenthesis
+                | Mark::OpenBracket
+                | Mark::OpenBrace
+                | Mark::Backslash
+        ),
+        Lexeme::Keyword(keyword) => matches!(
+            keyword,
+            Keyword::Id
+                | Keyword::Fail
+                | Keyword::Where
+                | Keyword::Not
+                | Keyword::All
+                | Keyword::One
+                | Keyword::Some
+                | Keyword::If
+                | Keyword::Rec
+                | Keyword::Let
+                | Keyword::Prim
+        ),
+        _ => false,
+    }
+}
+
+// The strategy at this level that the tokens begin with, and the tokens behind it.
+#[cycle(phrase)]
+pub(crate) fn strategy<'a>(
+    alloc: Global,
+    input: Input<'a>,
+    level: u32,
+) -> Result<(Strategy, Input<'a>), Fault>
+    requires { level ≤ 201 }
+    ensures { IsReading (inner_strategy level) (AtMost 0) strategy_of input.entry result }
+{
+    if level > MOST_LEVELS {
+        return Err(beyond(&input, begins_strategy(&input)));
+    }
+    let (first, rest) = sequence(alloc, input, level)?;
+    if let Some(behind) = rest.after(Mark::LeftChoice) {
+        let (other, rest) = strategy(alloc, behind, level + 1)?;
+        return Ok((Strategy::LeftChoice(first, Box::new(alloc, other)?), rest));
+    }
+    let Some(behind) = rest.after(Mark::Less) else {
+        return Ok((Strategy::Sequence(first), rest));
+    };
+    let (then, rest) = strategy(alloc, behind, level + 1)?;
+    let Some(behind) = rest.after(Mark::Plus) else {
+        return Err(rest.syntax());
+    };
+    let (other, rest) = strategy(alloc, behind, level + 1)?;
+    let then = Box::new(alloc, then)?;
+    Ok((
+        Strategy::GuardedChoice(first, then, Box::new(alloc, other)?),
+        rest,
+    ))
+}
+
+// The sequence at this level that the tokens begin with, and the tokens behind it.
+#[cycle(phrase)]
+fn sequence<'a>(alloc: Global, input: Input<'a>, level: u32) -> Result<(Sequence, Input<'a>), Fault>
+    requires { level ≤ 201 }
+    ensures { IsReading (inner_sequence level) (AtMost 1) sequence_of input.entry result }
+{
+    if level > MOST_LEVELS {
+        return Err(beyond(&input, begins_strategy(&input)));
+    }
+    let (first, rest) = step(alloc, input, level)?;
+    let Some(behind) = rest.after(Mark::Semicolon) else {
+        return Ok((Sequence::Last(first), rest));
+    };
+    let (others, rest) = sequence(alloc, behind, level + 1)?;
+    Ok((Sequence::Then(first, Box::new(alloc, others)?), rest))
+}
+
+// The step at this level that the tokens begin with, and the tokens behind it.
+#[cycle(phrase)]
+fn step<'a>(alloc: Global, input: Input<'a>, level: u32) -> Result<(Step, Input<'a>), Fault>
+    requires { level ≤ 200 }
+    ensures { IsReading (step level) (AtMost 2) step_of input.entry result }
+{
+    let (first, rest) = primary(alloc, input, level)?;
+    let Some(behind) = rest.after(Mark::DoubleArrow) else {
+        return Ok((Step::Plain(first), rest));
+    };
+    let (matched, rest) = pattern(alloc, behind, true, level + 1)?;
+    Ok((Step::Matching(first, Box::new(alloc, matched)?), rest))
+}
+
+// The primary at this level that the tokens begin with, and the tokens behind it.
+#[cycle(phrase)]
+fn primary<'a>(
+    alloc: Global,
+    input: Input<'a>,
+    level: u32,
+) -> Result<(Box<Primary>, Input<'a>), Fault>
+    requires { level ≤ 200 }
+    ensures { IsReading (primary level) (AtMost 3) boxed_primary_of input.entry result }
+{
+    let mut begun = primary_begin::begin(alloc, input)?;
+    loop {
+        begun = match begun {
+            Begun::Whole(made, rest) => return Ok((made, rest)),
+            Begun::ToStrategy(before, rest) => {
+                let (part, rest) = strategy(alloc, rest, level + 1)?;
+                before.with(alloc, part, rest)?
+            }
+            Begun::ToPattern(before, rest) => {
+                let (part, rest) = pattern(alloc, rest, before.in_match(), level + 1)?;
+                before.with(alloc, part, rest)?
+            }
+        };
+    }
+}
+
+// The pattern at this level that the tokens begin with, in a match or in a build, and the tokens behind it.
+#[cycle(phrase)]
+pub(crate) fn pattern<'a>(
+    alloc: Global,
+    input: Input<'a>,
+    in_match: bool,
+    level: u32,
+) -> Result<(Pattern, Input<'a>), Fault>
+    requires { level ≤ 201 }
+    ensures { IsReading (inner_pattern in_match level) (AtMost 3) pattern_of input.entry result }
+{
+    if level > MOST_LEVELS {
+        return Err(beyond(&input, begins_pattern(&input, in_match)));
+    }
+    let mut begun = pattern_begin::begin(alloc, input, in_match)?;
+    loop {
+        begun = match begun {
+            BegunPattern::Whole(made, rest) => return Ok((made, rest)),
+            BegunPattern::ToStrategy(rest) => {
+                let (part, rest) = strategy(alloc, rest, level + 1)?;
+                applied(alloc, part, rest)?
+            }
+            BegunPattern::ToPattern(before, rest) => {
+                let (part, rest) = pattern(alloc, rest, in_match, level + 1)?;
+                before.with(alloc, part, rest)?
+            }
+        };
+    }
+}

@@ -1,0 +1,62 @@
+// The sections of files, and whole files, from tokens.
+ghost use Rattle.std.specs.Prelude.{◌≡◌};
+ghost use Rattle.str_syntax.specs.Views.{section_of};
+ghost use Rattle.str_lexer.specs.Lexes.{AreSlices};
+ghost use Rattle.str_parser.specs.Lexemes.{lexemes};
+ghost use Rattle.str_parser.specs.Phrases;
+ghost use Rattle.str_parser.specs.Readings.{IsReading};
+ghost use Rattle.str_parser.specs.Parsing.{EndsSection, AtEnd, IsReadingAll, sections_of, IsParsing};
+
+use crate::form::definitions;
+use crate::input::Input;
+use crate::sorts::signature_parts;
+use std::alloc::Global;
+use str_lexer::{Keyword, Token};
+use str_syntax::{File, Section};
+use term_model::Fault;
+
+// The section that the tokens begin with, and the tokens behind it.
+fn section<'a>(alloc: Global, input: Input<'a>) -> Result<(Section, Input<'a>), Fault>
+    ensures { IsReading Phrases.section EndsSection section_of input.entry result }
+{
+    if let Some(behind) = input.after_keyword(Keyword::Signature) {
+        let (parts, rest) = signature_parts(alloc, behind)?;
+        return Ok((Section::Signature(parts), rest));
+    }
+    if let Some(behind) = input.after_keyword(Keyword::Rules) {
+        let (definitions, rest) = definitions(alloc, behind)?;
+        return Ok((Section::Rules(definitions), rest));
+    }
+    let Some(behind) = input.after_keyword(Keyword::Strategies) else {
+        return Err(input.syntax());
+    };
+    let (definitions, rest) = definitions(alloc, behind)?;
+    Ok((Section::Strategies(definitions), rest))
+}
+
+// The sections that the tokens are.
+fn sections<'a>(alloc: Global, input: Input<'a>) -> Result<Vec<Section>, Fault>
+    ensures { IsReadingAll Phrases.sections sections_of input.entry result }
+{
+    let mut sections = Vec::new(alloc);
+    let mut rest = input;
+    while !rest.is_empty() {
+        let (section, behind) = section(alloc, rest)?;
+        sections.push(section)?;
+        rest = behind;
+    }
+    Ok(sections)
+}
+
+/// The file whose phrase these tokens of this text are; each of its definitions is marked as the file's.
+///
+/// `Syntax` where they are the phrase of no file: at the first token that makes the tokens up to it the beginning of none, or at the
+/// length of the text where more tokens would have to follow. `Nesting` where a part begins at level 201 before any fault of syntax:
+/// at the first token of that part. `Memory` where a growth is refused.
+pub fn parse(alloc: Global, text: &[u8], tokens: &[Token]) -> Result<File, Fault>
+    requires { AreSlices text.now 0 tokens.now }
+    ensures { IsParsing (lexemes text.now tokens.now) result }
+{
+    let sections = sections(alloc, Input::new(text, tokens))?;
+    Ok(File { sections })
+}

@@ -1,0 +1,22 @@
+//! The trees of definition files from their tokens.
+#![tactic(auto)]
+
+mod begun;
+mod descent;
+pub mod file;
+mod form;
+mod input;
+mod names;
+mod pattern_begin;
+mod pattern_part;
+mod primary_begin;
+mod primary_let;
+mod primary_pattern;
+mod primary_rule;
+mod primary_strategy;
+mod sorts;
+
+pub use file::parse;
+
+#[cfg(test)]
+mod tests;

@@ -1,0 +1,70 @@
+// Names and parameters from tokens.
+ghost use Rattle.str_syntax.specs.Views.{parameters_of};
+ghost use Rattle.str_parser.specs.Phrases.{some_names, names as any_names, parameters as written_parameters};
+ghost use Rattle.str_parser.specs.Readings.{IsReading, AtMost, one_name, itself, names_of};
+ghost use Rattle.str_parser.specs.Runs.{IsReadingAny, NoneOf, names_go_on, any_names_go_on};
+
+use crate::input::{Input, Lexeme};
+use std::alloc::Global;
+use str_lexer::Mark;
+use str_syntax::{Name, Parameters};
+use term_model::Fault;
+
+// The name that the tokens begin with, and the tokens behind it.
+pub(crate) fn name<'a>(alloc: Global, input: Input<'a>) -> Result<(Name, Input<'a>), Fault>
+    ensures { IsReading one_name (AtMost 4) itself input.entry result }
+{
+    let Some((Lexeme::Name(bytes), rest)) = input.first() else {
+        return Err(input.syntax());
+    };
+    Ok((Name::new(alloc, bytes)?, rest))
+}
+
+// The names with commas between that the tokens begin with, one at least, and the tokens behind them.
+pub(crate) fn names<'a>(alloc: Global, input: Input<'a>) -> Result<(Vec<Name>, Input<'a>), Fault>
+    ensures { IsReading some_names (NoneOf names_go_on) names_of input.entry result }
+{
+    let (first, mut rest) = name(alloc, input)?;
+    let mut found = Vec::new(alloc);
+    found.push(first)?;
+    while let Some(behind) = rest.after(Mark::Comma) {
+        let (other, behind) = name(alloc, behind)?;
+        found.push(other)?;
+        rest = behind;
+    }
+    Ok((found, rest))
+}
+
+// The names with commas between that the tokens begin with, if any, and the tokens behind them.
+fn names_up_to<'a>(alloc: Global, input: Input<'a>) -> Result<(Vec<Name>, Input<'a>), Fault>
+    ensures { IsReadingAny any_names (NoneOf any_names_go_on) names_of input.entry result }
+{
+    match input.first() {
+        Some((Lexeme::Name(_), _)) => names(alloc, input),
+        _ => Ok((Vec::new(alloc), input)),
+    }
+}
+
+// The parameters that the tokens begin with, and the tokens behind them.
+pub(crate) fn parameters<'a>(
+    alloc: Global,
+    input: Input<'a>,
+) -> Result<(Parameters, Input<'a>), Fault>
+    ensures { IsReadingAny written_parameters (AtMost 3) parameters_of input.entry result }
+{
+    let Some(behind) = input.after(Mark::OpenParenthesis) else {
+        return Ok((Parameters::Absent, input));
+    };
+    let (strategies, rest) = names_up_to(alloc, behind)?;
+    if let Some(rest) = rest.after(Mark::CloseParenthesis) {
+        return Ok((Parameters::Strategies(strategies), rest));
+    }
+    let Some(behind) = rest.after(Mark::Bar) else {
+        return Err(rest.syntax());
+    };
+    let (terms, rest) = names_up_to(alloc, behind)?;
+    let Some(rest) = rest.after(Mark::CloseParenthesis) else {
+        return Err(rest.syntax());
+    };
+    Ok((Parameters::WithTerms(strategies, terms), rest))
+}

@@ -1,0 +1,178 @@
+// The tokens of a pattern behind a part of it.
+ghost use Rattle.std.specs.Prelude.{◌≡◌, Bool, false};
+ghost use Rattle.str_syntax.specs.Views.{pattern_of, strategy_of};
+ghost use Rattle.str_parser.specs.Lexemes.{first_begins};
+ghost use Rattle.str_parser.specs.Phrases.{pattern_part};
+ghost use Rattle.str_parser.specs.Begun.{IsNextPattern, HasInner, GoesApplied};
+
+use crate::begun::{BeforeInner, BegunPattern};
+use crate::input::{Input, Lexeme};
+use std::alloc::Global;
+use str_lexer::Mark;
+use str_syntax::{Name, Pattern, Strategy};
+use term_model::Fault;
+
+impl BeforeInner {
+    // The pattern with this pattern behind what has been read, up to its next part.
+    pub(crate) fn with<'a>(
+        self,
+        alloc: Global,
+        part: Pattern,
+        input: Input<'a>,
+    ) -> Result<BegunPattern<'a>, Fault>
+        ensures { (in_match : Bool) → IsNextPattern (HasInner self (pattern_of part)) in_match input.entry result }
+    {
+        match self {
+            BeforeInner::Alias(name) => alias(alloc, name, part, input),
+            BeforeInner::Application(name, done) => application(name, done, part, input),
+            BeforeInner::Parenthesized(done) => parenthesized(alloc, done, part, input),
+            BeforeInner::Bracketed(done) => bracketed(done, part, input),
+            BeforeInner::Tail(parts) => tail(alloc, parts, part, input),
+            BeforeInner::AppliedTo(applied) => applied_to(alloc, applied, part, input),
+        }
+    }
+}
+
+fn alias<'a>(
+    alloc: Global,
+    name: Name,
+    part: Pattern,
+    input: Input<'a>,
+) -> Result<BegunPattern<'a>, Fault>
+    ensures { (in_match : Bool) → IsNextPattern (HasInner (BeforeInner.Alias name) (pattern_of part)) in_match input.entry result }
+{
+    let made = Pattern::Alias(name, Box::new(alloc, part)?);
+    Ok(BegunPattern::Whole(made, input))
+}
+
+fn application<'a>(
+    name: Name,
+    done: Vec<Pattern>,
+    part: Pattern,
+    input: Input<'a>,
+) -> Result<BegunPattern<'a>, Fault>
+    ensures { (in_match : Bool) → IsNextPattern (HasInner (BeforeInner.Application name done) (pattern_of part)) in_match input.entry result }
+{
+    let mut parts = done;
+    parts.push(part)?;
+    if let Some(behind) = input.after(Mark::Comma) {
+        return Ok(BegunPattern::ToPattern(BeforeInner::Application(name, parts), behind));
+    }
+    let Some(rest) = input.after(Mark::CloseParenthesis) else {
+        return Err(input.syntax());
+    };
+    Ok(BegunPattern::Whole(Pattern::Application(name, parts), rest))
+}
+
+fn parenthesized<'a>(
+    alloc: Global,
+    done: Vec<Pattern>,
+    part: Pattern,
+    input: Input<'a>,
+) -> Result<BegunPattern<'a>, Fault>
+    ensures { (in_match : Bool) → IsNextPattern (HasInner (BeforeInner.Parenthesized done) (pattern_of part)) in_match input.entry result }
+{
+    let mut parts = done;
+    if let Some(behind) = input.after(Mark::Comma) {
+        parts.push(part)?;
+        return Ok(BegunPattern::ToPattern(BeforeInner::Parenthesized(parts), behind));
+    }
+    let Some(rest) = input.after(Mark::CloseParenthesis) else {
+        return Err(input.syntax());
+    };
+    if parts.is_empty() {
+        return Ok(BegunPattern::Whole(Pattern::Parenthesized(Box::new(alloc, part)?), rest));
+    }
+    parts.push(part)?;
+    Ok(BegunPattern::Whole(Pattern::Tuple(parts), rest))
+}
+
+fn bracketed<'a>(
+    done: Vec<Pattern>,
+    part: Pattern,
+    input: Input<'a>,
+) -> Result<BegunPattern<'a>, Fault>
+    ensures { (in_match : Bool) → IsNextPattern (HasInner (BeforeInner.Bracketed done) (pattern_of part)) in_match input.entry result }
+{
+    let mut parts = done;
+    parts.push(part)?;
+    if let Some(behind) = input.after(Mark::Comma) {
+        return Ok(BegunPattern::ToPattern(BeforeInner::Bracketed(parts), behind));
+    }
+    if let Some(behind) = input.after(Mark::Bar) {
+        return Ok(BegunPattern::ToPattern(BeforeInner::Tail(parts), behind));
+    }
+    let Some(rest) = input.after(Mark::CloseBracket) else {
+        return Err(input.syntax());
+    };
+    Ok(BegunPattern::Whole(Pattern::List(parts), rest))
+}
+
+fn tail<'a>(
+    alloc: Global,
+    parts: Vec<Pattern>,
+    part: Pattern,
+    input: Input<'a>,
+) -> Result<BegunPattern<'a>, Fault>
+    ensures { (in_match : Bool) → IsNextPattern (HasInner (BeforeInner.Tail parts) (pattern_of part)) in_match input.entry result }
+{
+    let Some(rest) = input.after(Mark::CloseBracket) else {
+        return Err(input.syntax());
+    };
+    let made = Pattern::ListWithTail(parts, Box::new(alloc, part)?);
+    Ok(BegunPattern::Whole(made, rest))
+}
+
+fn applied_to<'a>(
+    alloc: Global,
+    applied: Box<Strategy>,
+    part: Pattern,
+    input: Input<'a>,
+) -> Result<BegunPattern<'a>, Fault>
+    ensures { (in_match : Bool) → IsNextPattern (HasInner (BeforeInner.AppliedTo applied) (pattern_of part)) in_match input.entry result }
+{
+    let made = Pattern::AppliedTo(applied, Box::new(alloc, part)?);
+    Ok(BegunPattern::Whole(made, input))
+}
+
+// The build `<s>`, where this strategy is s and its `<` and itself have been read, up to its next part.
+pub(crate) fn applied<'a>(
+    alloc: Global,
+    applied: Strategy,
+    input: Input<'a>,
+) -> Result<BegunPattern<'a>, Fault>
+    ensures { (in_match : Bool) → IsNextPattern (GoesApplied (strategy_of applied)) in_match input.entry result }
+{
+    let Some(rest) = input.after(Mark::Greater) else {
+        return Err(input.syntax());
+    };
+    let applied = Box::new(alloc, applied)?;
+    if begins_pattern(&rest, false) {
+        return Ok(BegunPattern::ToPattern(BeforeInner::AppliedTo(applied), rest));
+    }
+    let made = Pattern::Applied(applied);
+    Ok(BegunPattern::Whole(made, rest))
+}
+
+// Whether the first token can begin a pattern, in a match or in a build.
+pub(crate) fn begins_pattern(input: &Input<'_>, in_match: bool) -> bool
+    ensures { result ≡ first_begins (pattern_part in_match) input.now }
+{
+    let Some((first, _)) = input.first() else {
+        return false;
+    };
+    match first {
+        Lexeme::Name(_) => true,
+        Lexeme::Wildcard => true,
+        Lexeme::Integer(_) => true,
+        Lexeme::Quoted(_) => true,
+        Lexeme::Mark(mark) => match mark {
+            Mark::OpenParenthesis => true,
+            Mark::OpenBracket => true,
+            Mark::Less => !in_match,
+            _ => false,
+        },
+        Lexeme::Keyword(_) => false,
+        Lexeme::LeftOut => false,
+    }
+}

@@ -1,0 +1,193 @@
+// The first tokens of a primary.
+ghost use Rattle.std.specs.Prelude.{◌∷◌};
+ghost use Rattle.str_syntax.specs.Views.{primary_of};
+ghost use Rattle.str_parser.specs.Lexemes.{Lexeme as L};
+ghost use Rattle.str_parser.specs.Phrases.{keyword_of};
+ghost use Rattle.str_parser.specs.Begun.{IsWhole, IsNext, Written, GoesBehindBar};
+
+use crate::begun::{BeforePattern, BeforeStrategy, Begun};
+use crate::input::{Input, Lexeme};
+use crate::names::{name, names};
+use crate::primary_let::begin_definition;
+use std::alloc::Global;
+use str_lexer::{Keyword, Mark};
+use str_syntax::{Name, Operator, Pattern, Primary, Strategy, Text};
+use term_model::Fault;
+
+// This primary as a whole.
+pub(crate) fn whole<'a>(alloc: Global, made: Primary, input: Input<'a>) -> Result<Begun<'a>, Fault>
+    ensures { IsWhole (primary_of made) input.entry result }
+{
+    Ok(Begun::Whole(Box::new(alloc, made)?, input))
+}
+
+// The primary that the tokens begin with, up to its first part.
+pub(crate) fn begin<'a>(alloc: Global, input: Input<'a>) -> Result<Begun<'a>, Fault>
+    ensures { IsNext Written input.entry result }
+{
+    let Some((first, rest)) = input.first() else {
+        return Err(input.syntax());
+    };
+    match first {
+        Lexeme::Name(name) => begin_name(alloc, name, rest),
+        Lexeme::Mark(mark) => begin_mark(alloc, mark, input.at(), rest),
+        Lexeme::Keyword(keyword) => begin_keyword(alloc, keyword, input.at(), rest),
+        _ => Err(input.syntax()),
+    }
+}
+
+// The primary whose mark, at this byte, stands before the tokens.
+fn begin_mark<'a>(alloc: Global, mark: Mark, at: u64, input: Input<'a>) -> Result<Begun<'a>, Fault>
+    ensures { IsNext Written (L.mark mark ∷ input.entry) result }
+{
+    match mark {
+        Mark::Question => Ok(Begun::ToPattern(BeforePattern::Match, input)),
+        Mark::Exclamation => Ok(Begun::ToPattern(BeforePattern::Build, input)),
+        Mark::Backslash => Ok(Begun::ToPattern(BeforePattern::RuleLeft, input)),
+        Mark::Less => Ok(Begun::ToStrategy(BeforeStrategy::Apply, input)),
+        Mark::OpenParenthesis => begin_parenthesized(alloc, input),
+        Mark::OpenBracket => begin_bracketed(alloc, input),
+        Mark::OpenBrace => begin_scope(alloc, input),
+        _ => Err(Fault::Syntax { at }),
+    }
+}
+
+// The congruence or strategy whose `(` stands before the tokens.
+fn begin_parenthesized<'a>(alloc: Global, input: Input<'a>) -> Result<Begun<'a>, Fault>
+    ensures { IsNext Written (L.mark Mark.OpenParenthesis ∷ input.entry) result }
+{
+    if let Some(rest) = input.after(Mark::CloseParenthesis) {
+        return whole(alloc, Primary::TupleCongruence(Vec::new(alloc)), rest);
+    }
+    Ok(Begun::ToStrategy(BeforeStrategy::Parenthesized(Vec::new(alloc)), input))
+}
+
+// The congruence whose `[` stands before the tokens.
+fn begin_bracketed<'a>(alloc: Global, input: Input<'a>) -> Result<Begun<'a>, Fault>
+    ensures { IsNext Written (L.mark Mark.OpenBracket ∷ input.entry) result }
+{
+    if let Some(rest) = input.after(Mark::CloseBracket) {
+        return whole(alloc, Primary::ListCongruence(Vec::new(alloc)), rest);
+    }
+    Ok(Begun::ToStrategy(BeforeStrategy::Bracketed(Vec::new(alloc)), input))
+}
+
+// The scope whose `{` stands before the tokens.
+fn begin_scope<'a>(alloc: Global, input: Input<'a>) -> Result<Begun<'a>, Fault>
+    ensures { IsNext Written (L.mark Mark.OpenBrace ∷ input.entry) result }
+{
+    let (variables, rest) = names(alloc, input)?;
+    let Some(behind) = rest.after(Mark::Colon) else {
+        return Err(rest.syntax());
+    };
+    Ok(Begun::ToStrategy(BeforeStrategy::Scope(variables), behind))
+}
+
+// The primary whose keyword, at this byte, stands before the tokens.
+fn begin_keyword<'a>(
+    alloc: Global,
+    keyword: Keyword,
+    at: u64,
+    input: Input<'a>,
+) -> Result<Begun<'a>, Fault>
+    ensures { IsNext Written (L.keyword keyword ∷ input.entry) result }
+{
+    match keyword {
+        Keyword::Id => whole(alloc, Primary::Id, input),
+        Keyword::Fail => whole(alloc, Primary::Fail, input),
+        Keyword::Where => begin_operator(Operator::Where, input),
+        Keyword::Not => begin_operator(Operator::Not, input),
+        Keyword::All => begin_operator(Operator::All, input),
+        Keyword::One => begin_operator(Operator::One, input),
+        Keyword::Some => begin_operator(Operator::Some, input),
+        Keyword::If => Ok(Begun::ToStrategy(BeforeStrategy::Condition, input)),
+        Keyword::Rec => begin_recursive(alloc, input),
+        Keyword::Let => begin_definition(alloc, Vec::new(alloc), input),
+        Keyword::Prim => begin_primitive(alloc, input),
+        _ => Err(Fault::Syntax { at }),
+    }
+}
+
+// The operator whose keyword stands before the tokens.
+fn begin_operator<'a>(operator: Operator, input: Input<'a>) -> Result<Begun<'a>, Fault>
+    ensures { IsNext Written (L.keyword (keyword_of operator) ∷ input.entry) result }
+{
+    let Some(behind) = input.after(Mark::OpenParenthesis) else {
+        return Err(input.syntax());
+    };
+    Ok(Begun::ToStrategy(BeforeStrategy::Operator(operator), behind))
+}
+
+// The recursive strategy whose `rec` stands before the tokens.
+fn begin_recursive<'a>(alloc: Global, input: Input<'a>) -> Result<Begun<'a>, Fault>
+    ensures { IsNext Written (L.keyword Keyword.Rec ∷ input.entry) result }
+{
+    let (recursive, rest) = name(alloc, input)?;
+    let Some(behind) = rest.after(Mark::OpenParenthesis) else {
+        return Err(rest.syntax());
+    };
+    Ok(Begun::ToStrategy(BeforeStrategy::Recursive(recursive), behind))
+}
+
+// The primitive whose `prim` stands before the tokens.
+fn begin_primitive<'a>(alloc: Global, input: Input<'a>) -> Result<Begun<'a>, Fault>
+    ensures { IsNext Written (L.keyword Keyword.Prim ∷ input.entry) result }
+{
+    let Some(behind) = input.after(Mark::OpenParenthesis) else {
+        return Err(input.syntax());
+    };
+    let Some((first, rest)) = behind.first() else {
+        return Err(behind.syntax());
+    };
+    let Lexeme::Quoted(text) = first else {
+        return Err(behind.syntax());
+    };
+    let text = Text::new(alloc, text)?;
+    if let Some(rest) = rest.after(Mark::CloseParenthesis) {
+        return whole(alloc, Primary::Primitive(text, Vec::new(alloc)), rest);
+    }
+    let Some(behind) = rest.after(Mark::Comma) else {
+        return Err(rest.syntax());
+    };
+    let before = BeforePattern::Primitive(text, Vec::new(alloc));
+    Ok(Begun::ToPattern(before, behind))
+}
+
+// The call whose name stands before the tokens.
+fn begin_name<'a>(alloc: Global, called: &'a [u8], input: Input<'a>) -> Result<Begun<'a>, Fault>
+    ensures { IsNext Written (L.name called.now ∷ input.entry) result }
+{
+    let called = Name::new(alloc, called)?;
+    let Some(behind) = input.after(Mark::OpenParenthesis) else {
+        return whole(alloc, Primary::Call(called), input);
+    };
+    if let Some(rest) = behind.after(Mark::CloseParenthesis) {
+        return whole(alloc, Primary::CallWith(called, Vec::new(alloc)), rest);
+    }
+    if let Some(rest) = behind.after(Mark::Bar) {
+        return begin_terms(alloc, called, Vec::new(alloc), rest);
+    }
+    let before = BeforeStrategy::Arguments(called, Vec::new(alloc));
+    Ok(Begun::ToStrategy(before, behind))
+}
+
+// The call with these strategies whose `|` stands before the tokens.
+pub(crate) fn begin_terms<'a>(
+    alloc: Global,
+    called: Name,
+    strategies: Vec<Strategy>,
+    input: Input<'a>,
+) -> Result<Begun<'a>, Fault>
+    ensures { IsNext (GoesBehindBar called strategies) input.entry result }
+{
+    let terms: Vec<Pattern> = Vec::new(alloc);
+    if let Some(rest) = input.after(Mark::CloseParenthesis) {
+        return whole(
+            alloc,
+            Primary::CallWithTerms(called, strategies, terms),
+            rest,
+        );
+    }
+    let before = BeforePattern::Terms(called, strategies, terms);
+    Ok(Begun::ToPattern(before, input))
+}

@@ -1,0 +1,69 @@
+// The tokens of a let.
+ghost use Rattle.str_syntax.specs.Views.{strategy_of};
+ghost use Rattle.str_parser.specs.Begun.{IsNext, HasStrategy, GoesToDefinition};
+
+use crate::begun::{BeforeStrategy, Begun};
+use crate::input::Input;
+use crate::names::{name, parameters};
+use crate::primary_begin::whole;
+use std::alloc::Global;
+use str_lexer::{Keyword, Mark};
+use str_syntax::{Name, Parameters, Primary, Strategy, StrategyDefinition};
+use term_model::Fault;
+
+// The next definition of a let, behind these.
+pub(crate) fn begin_definition<'a>(
+    alloc: Global,
+    done: Vec<StrategyDefinition>,
+    input: Input<'a>,
+) -> Result<Begun<'a>, Fault>
+    ensures { IsNext (GoesToDefinition done) input.entry result }
+{
+    let (defined, rest) = name(alloc, input)?;
+    let (parameters, rest) = parameters(alloc, rest)?;
+    let Some(behind) = rest.after(Mark::Equals) else {
+        return Err(rest.syntax());
+    };
+    let before = BeforeStrategy::Definition(done, defined, parameters);
+    Ok(Begun::ToStrategy(before, behind))
+}
+
+// The let behind this body of a definition.
+pub(crate) fn definition<'a>(
+    alloc: Global,
+    done: Vec<StrategyDefinition>,
+    name: Name,
+    parameters: Parameters,
+    body: Strategy,
+    input: Input<'a>,
+) -> Result<Begun<'a>, Fault>
+    ensures { IsNext (HasStrategy (BeforeStrategy.Definition done name parameters) (strategy_of body)) input.entry result }
+{
+    let mut definitions = done;
+    let body = Box::new(alloc, body)?;
+    definitions.push(StrategyDefinition {
+        name,
+        parameters,
+        body,
+    })?;
+    if let Some(behind) = input.after_keyword(Keyword::In) {
+        return Ok(Begun::ToStrategy(BeforeStrategy::LetBody(definitions), behind));
+    }
+    begin_definition(alloc, definitions, input)
+}
+
+// The let behind what its definitions scope over.
+pub(crate) fn let_body<'a>(
+    alloc: Global,
+    definitions: Vec<StrategyDefinition>,
+    part: Strategy,
+    input: Input<'a>,
+) -> Result<Begun<'a>, Fault>
+    ensures { IsNext (HasStrategy (BeforeStrategy.LetBody definitions) (strategy_of part)) input.entry result }
+{
+    let Some(rest) = input.after_keyword(Keyword::End) else {
+        return Err(input.syntax());
+    };
+    let made = Primary::Let(definitions, Box::new(alloc, part)?);
+    whole(alloc, made, rest)
+}

@@ -1,0 +1,102 @@
+// The tokens of a primary behind a pattern in it.
+ghost use Rattle.std.specs.Prelude.{◌≡◌};
+ghost use Rattle.str_syntax.specs.Views.{pattern_of, primary_of};
+ghost use Rattle.str_parser.specs.Begun.{IsNext, HasPattern, wants_match};
+
+use crate::begun::{BeforePattern, Begun};
+use crate::input::Input;
+use crate::primary_begin::whole;
+use crate::primary_rule::{rule_left, rule_right};
+use std::alloc::Global;
+use str_lexer::Mark;
+use str_syntax::{Name, Pattern, Primary, Strategy, Text};
+use term_model::Fault;
+
+impl BeforePattern {
+    // Whether the pattern that comes next is in a match.
+    pub(crate) fn in_match(&self) -> bool
+        ensures { result ≡ wants_match self.now }
+    {
+        matches!(self, BeforePattern::Match | BeforePattern::RuleLeft)
+    }
+
+    // The primary with this pattern behind what has been read, up to its next part.
+    pub(crate) fn with<'a>(
+        self,
+        alloc: Global,
+        part: Pattern,
+        input: Input<'a>,
+    ) -> Result<Begun<'a>, Fault>
+        ensures { IsNext (HasPattern self (pattern_of part)) input.entry result }
+    {
+        match self {
+            BeforePattern::Match => whole(alloc, Primary::Match(part), input),
+            BeforePattern::Build => whole(alloc, Primary::Build(part), input),
+            BeforePattern::ApplyTo(applied) => apply_to(alloc, applied, part, input),
+            BeforePattern::Terms(name, strategies, done) => {
+                terms(alloc, name, strategies, done, part, input)
+            }
+            BeforePattern::Primitive(text, done) => primitive(alloc, text, done, part, input),
+            BeforePattern::RuleLeft => rule_left(alloc, part, input),
+            BeforePattern::RuleRight(left) => rule_right(alloc, left, part, input),
+        }
+    }
+}
+
+fn apply_to<'a>(
+    alloc: Global,
+    applied: Box<Strategy>,
+    part: Pattern,
+    input: Input<'a>,
+) -> Result<Begun<'a>, Fault>
+    ensures { IsNext (HasPattern (BeforePattern.ApplyTo applied) (pattern_of part)) input.entry result }
+{
+    let made = Primary::Apply(applied, Box::new(alloc, part)?);
+    whole(alloc, made, input)
+}
+
+fn terms<'a>(
+    alloc: Global,
+    called: Name,
+    strategies: Vec<Strategy>,
+    done: Vec<Pattern>,
+    part: Pattern,
+    input: Input<'a>,
+) -> Result<Begun<'a>, Fault>
+    ensures { IsNext (HasPattern (BeforePattern.Terms called strategies done) (pattern_of part)) input.entry result }
+{
+    let mut parts = done;
+    parts.push(part)?;
+    if let Some(behind) = input.after(Mark::Comma) {
+        let before = BeforePattern::Terms(called, strategies, parts);
+        return Ok(Begun::ToPattern(before, behind));
+    }
+    let Some(rest) = input.after(Mark::CloseParenthesis) else {
+        return Err(input.syntax());
+    };
+    whole(
+        alloc,
+        Primary::CallWithTerms(called, strategies, parts),
+        rest,
+    )
+}
+
+fn primitive<'a>(
+    alloc: Global,
+    text: Text,
+    done: Vec<Pattern>,
+    part: Pattern,
+    input: Input<'a>,
+) -> Result<Begun<'a>, Fault>
+    ensures { IsNext (HasPattern (BeforePattern.Primitive text done) (pattern_of part)) input.entry result }
+{
+    let mut parts = done;
+    parts.push(part)?;
+    if let Some(behind) = input.after(Mark::Comma) {
+        return Ok(Begun::ToPattern(BeforePattern::Primitive(text, parts), behind));
+    }
+    let Some(rest) = input.after(Mark::CloseParenthesis) else {
+        return Err(input.syntax());
+    };
+    whole(alloc, Primary::Primitive(text, parts), rest)
+}

@@ -1,0 +1,64 @@
+// The tokens of a rule between backslashes.
+ghost use Rattle.str_syntax.specs.Views.{pattern_of, strategy_of};
+ghost use Rattle.str_parser.specs.Begun.{IsNext, HasStrategy, HasPattern};
+
+use crate::begun::{BeforePattern, BeforeStrategy, Begun};
+use crate::input::Input;
+use crate::primary_begin::whole;
+use std::alloc::Global;
+use str_lexer::{Keyword, Mark};
+use str_syntax::{Pattern, Primary, Rule, Strategy};
+use term_model::Fault;
+
+// The rule behind its left side.
+pub(crate) fn rule_left<'a>(
+    alloc: Global,
+    left: Pattern,
+    input: Input<'a>,
+) -> Result<Begun<'a>, Fault>
+    ensures { IsNext (HasPattern BeforePattern.RuleLeft (pattern_of left)) input.entry result }
+{
+    let Some(behind) = input.after(Mark::Arrow) else {
+        return Err(input.syntax());
+    };
+    let before = BeforePattern::RuleRight(Box::new(alloc, left)?);
+    Ok(Begun::ToPattern(before, behind))
+}
+
+// The rule behind its right side.
+pub(crate) fn rule_right<'a>(
+    alloc: Global,
+    left: Box<Pattern>,
+    right: Pattern,
+    input: Input<'a>,
+) -> Result<Begun<'a>, Fault>
+    ensures { IsNext (HasPattern (BeforePattern.RuleRight left) (pattern_of right)) input.entry result }
+{
+    let right = Box::new(alloc, right)?;
+    if let Some(behind) = input.after_keyword(Keyword::Where) {
+        let before = BeforeStrategy::RuleCondition(left, right);
+        return Ok(Begun::ToStrategy(before, behind));
+    }
+    let Some(rest) = input.after(Mark::Backslash) else {
+        return Err(input.syntax());
+    };
+    let rule = Box::new(alloc, Rule::Plain(left, right))?;
+    whole(alloc, Primary::Lambda(rule), rest)
+}
+
+// The rule behind its condition.
+pub(crate) fn rule_condition<'a>(
+    alloc: Global,
+    left: Box<Pattern>,
+    right: Box<Pattern>,
+    part: Strategy,
+    input: Input<'a>,
+) -> Result<Begun<'a>, Fault>
+    ensures { IsNext (HasStrategy (BeforeStrategy.RuleCondition left right) (strategy_of part)) input.entry result }
+{
+    let Some(rest) = input.after(Mark::Backslash) else {
+        return Err(input.syntax());
+    };
+    let rule = Rule::Conditional(left, right, Box::new(alloc, part)?);
+    whole(alloc, Primary::Lambda(Box::new(alloc, rule)?), rest)
+}

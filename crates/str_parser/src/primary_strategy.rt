@@ -1,0 +1,232 @@
+// The tokens of a primary behind a strategy in it.
+ghost use Rattle.str_syntax.specs.Views.{strategy_of};
+ghost use Rattle.str_parser.specs.Begun.{IsNext, HasStrategy};
+
+use crate::begun::{BeforePattern, BeforeStrategy, Begun};
+use crate::input::Input;
+use crate::primary_begin::{begin_terms, whole};
+use crate::primary_let::{definition, let_body};
+use crate::primary_rule::rule_condition;
+use std::alloc::Global;
+use str_lexer::{Keyword, Mark};
+use str_syntax::{Name, Operator, Primary, Strategy};
+use term_model::Fault;
+
+impl BeforeStrategy {
+    // The primary with this strategy behind what has been read, up to its next part.
+    pub(crate) fn with<'a>(
+        self,
+        alloc: Global,
+        part: Strategy,
+        input: Input<'a>,
+    ) -> Result<Begun<'a>, Fault>
+        ensures { IsNext (HasStrategy self (strategy_of part)) input.entry result }
+    {
+        match self {
+            BeforeStrategy::Apply => apply(alloc, part, input),
+            BeforeStrategy::Parenthesized(done) => parenthesized(alloc, done, part, input),
+            BeforeStrategy::Bracketed(done) => bracketed(alloc, done, part, input),
+            BeforeStrategy::Tail(done) => tail(alloc, done, part, input),
+            BeforeStrategy::Arguments(name, done) => arguments(alloc, name, done, part, input),
+            BeforeStrategy::Scope(names) => scope(alloc, names, part, input),
+            BeforeStrategy::Operator(operator) => operated(alloc, operator, part, input),
+            BeforeStrategy::Recursive(name) => recursive(alloc, name, part, input),
+            BeforeStrategy::Condition => condition(alloc, part, input),
+            BeforeStrategy::Consequence(condition) => consequence(alloc, condition, part, input),
+            BeforeStrategy::Alternative(condition, then) => {
+                alternative(alloc, condition, then, part, input)
+            }
+            BeforeStrategy::Definition(done, name, parameters) => {
+                definition(alloc, done, name, parameters, part, input)
+            }
+            BeforeStrategy::LetBody(definitions) => let_body(alloc, definitions, part, input),
+            BeforeStrategy::RuleCondition(left, right) => {
+                rule_condition(alloc, left, right, part, input)
+            }
+        }
+    }
+}
+
+fn apply<'a>(alloc: Global, applied: Strategy, input: Input<'a>) -> Result<Begun<'a>, Fault>
+    ensures { IsNext (HasStrategy BeforeStrategy.Apply (strategy_of applied)) input.entry result }
+{
+    let Some(behind) = input.after(Mark::Greater) else {
+        return Err(input.syntax());
+    };
+    let before = BeforePattern::ApplyTo(Box::new(alloc, applied)?);
+    Ok(Begun::ToPattern(before, behind))
+}
+
+fn parenthesized<'a>(
+    alloc: Global,
+    done: Vec<Strategy>,
+    part: Strategy,
+    input: Input<'a>,
+) -> Result<Begun<'a>, Fault>
+    ensures { IsNext (HasStrategy (BeforeStrategy.Parenthesized done) (strategy_of part)) input.entry result }
+{
+    let mut parts = done;
+    if let Some(behind) = input.after(Mark::Comma) {
+        parts.push(part)?;
+        return Ok(Begun::ToStrategy(BeforeStrategy::Parenthesized(parts), behind));
+    }
+    let Some(rest) = input.after(Mark::CloseParenthesis) else {
+        return Err(input.syntax());
+    };
+    if parts.is_empty() {
+        return whole(alloc, Primary::Parenthesized(Box::new(alloc, part)?), rest);
+    }
+    parts.push(part)?;
+    whole(alloc, Primary::TupleCongruence(parts), rest)
+}
+
+fn bracketed<'a>(
+    alloc: Global,
+    done: Vec<Strategy>,
+    part: Strategy,
+    input: Input<'a>,
+) -> Result<Begun<'a>, Fault>
+    ensures { IsNext (HasStrategy (BeforeStrategy.Bracketed done) (strategy_of part)) input.entry result }
+{
+    let mut parts = done;
+    parts.push(part)?;
+    if let Some(behind) = input.after(Mark::Comma) {
+        return Ok(Begun::ToStrategy(BeforeStrategy::Bracketed(parts), behind));
+    }
+    if let Some(behind) = input.after(Mark::Bar) {
+        return Ok(Begun::ToStrategy(BeforeStrategy::Tail(parts), behind));
+    }
+    let Some(rest) = input.after(Mark::CloseBracket) else {
+        return Err(input.syntax());
+    };
+    whole(alloc, Primary::ListCongruence(parts), rest)
+}
+
+fn tail<'a>(
+    alloc: Global,
+    parts: Vec<Strategy>,
+    part: Strategy,
+    input: Input<'a>,
+) -> Result<Begun<'a>, Fault>
+    ensures { IsNext (HasStrategy (BeforeStrategy.Tail parts) (strategy_of part)) input.entry result }
+{
+    let Some(rest) = input.after(Mark::CloseBracket) else {
+        return Err(input.syntax());
+    };
+    let made = Primary::ListCongruenceWithTail(parts, Box::new(alloc, part)?);
+    whole(alloc, made, rest)
+}
+
+fn arguments<'a>(
+    alloc: Global,
+    called: Name,
+    done: Vec<Strategy>,
+    part: Strategy,
+    input: Input<'a>,
+) -> Result<Begun<'a>, Fault>
+    ensures { IsNext (HasStrategy (BeforeStrategy.Arguments called done) (strategy_of part)) input.entry result }
+{
+    let mut parts = done;
+    parts.push(part)?;
+    if let Some(behind) = input.after(Mark::Comma) {
+        return Ok(Begun::ToStrategy(BeforeStrategy::Arguments(called, parts), behind));
+    }
+    if let Some(behind) = input.after(Mark::Bar) {
+        return begin_terms(alloc, called, parts, behind);
+    }
+    let Some(rest) = input.after(Mark::CloseParenthesis) else {
+        return Err(input.syntax());
+    };
+    whole(alloc, Primary::CallWith(called, parts), rest)
+}
+
+fn scope<'a>(
+    alloc: Global,
+    variables: Vec<Name>,
+    part: Strategy,
+    input: Input<'a>,
+) -> Result<Begun<'a>, Fault>
+    ensures { IsNext (HasStrategy (BeforeStrategy.Scope variables) (strategy_of part)) input.entry result }
+{
+    let Some(rest) = input.after(Mark::CloseBrace) else {
+        return Err(input.syntax());
+    };
+    let made = Primary::Scope(variables, Box::new(alloc, part)?);
+    whole(alloc, made, rest)
+}
+
+fn operated<'a>(
+    alloc: Global,
+    operator: Operator,
+    part: Strategy,
+    input: Input<'a>,
+) -> Result<Begun<'a>, Fault>
+    ensures { IsNext (HasStrategy (BeforeStrategy.Operator operator) (strategy_of part)) input.entry result }
+{
+    let Some(rest) = input.after(Mark::CloseParenthesis) else {
+        return Err(input.syntax());
+    };
+    let made = Primary::Operator(operator, Box::new(alloc, part)?);
+    whole(alloc, made, rest)
+}
+
+fn recursive<'a>(
+    alloc: Global,
+    name: Name,
+    part: Strategy,
+    input: Input<'a>,
+) -> Result<Begun<'a>, Fault>
+    ensures { IsNext (HasStrategy (BeforeStrategy.Recursive name) (strategy_of part)) input.entry result }
+{
+    let Some(rest) = input.after(Mark::CloseParenthesis) else {
+        return Err(input.syntax());
+    };
+    let made = Primary::Recursive(name, Box::new(alloc, part)?);
+    whole(alloc, made, rest)
+}
+
+fn condition<'a>(alloc: Global, part: Strategy, input: Input<'a>) -> Result<Begun<'a>, Fault>
+    ensures { IsNext (HasStrategy BeforeStrategy.Condition (strategy_of part)) input.entry result }
+{
+    let Some(behind) = input.after_keyword(Keyword::Then) else {
+        return Err(input.syntax());
+    };
+    let before = BeforeStrategy::Consequence(Box::new(alloc, part)?);
+    Ok(Begun::ToStrategy(before, behind))
+}
+
+fn consequence<'a>(
+    alloc: Global,
+    condition: Box<Strategy>,
+    part: Strategy,
+    input: Input<'a>,
+) -> Result<Begun<'a>, Fault>
+    ensures { IsNext (HasStrategy (BeforeStrategy.Consequence condition) (strategy_of part)) input.entry result }
+{
+    let part = Box::new(alloc, part)?;
+    if let Some(behind) = input.after_keyword(Keyword::Else) {
+        let before = BeforeStrategy::Alternative(condition, part);
+        return Ok(Begun::ToStrategy(before, behind));
+    }
+    let Some(rest) = input.after_keyword(Keyword::End) else {
+        return Err(input.syntax());
+    };
+    let made = Primary::If(condition, part);
+    whole(alloc, made, rest)
+}
+
+fn alternative<'a>(
+    alloc: Global,
+    condition: Box<Strategy>,
+    then: Box<Strategy>,
+    part: Strategy,
+    input: Input<'a>,
+) -> Result<Begun<'a>, Fault>
+    ensures { IsNext (HasStrategy (BeforeStrategy.Alternative condition then) (strategy_of part)) input.entry result }
+{
+    let Some(rest) = input.after_keyword(Keyword::End) else {
+        return Err(input.syntax());
+    };
+    let made = Primary::IfElse(condition, then, Box::new(alloc, part)?);
+    whole(alloc, made, rest)
+}

@@ -1,0 +1,259 @@
+// Sorts, declarations and the parts of signatures from tokens.
+ghost use Rattle.std.specs.Prelude.{◌≡◌, ◌≤◌, ◌∷◌};
+ghost use Rattle.str_syntax.specs.Views.{sort_tree_of, sorts_of, declaration_of, signature_of};
+ghost use Rattle.str_parser.specs.Lexemes.{mark, begins_sort};
+ghost use Rattle.str_parser.specs.Phrases.{sort_run as written_run, declaration as written_declaration, declarations as written_declarations, signature_part as written_part, signature_parts as written_parts};
+ghost use Rattle.str_parser.specs.Readings.{IsReading};
+ghost use Rattle.str_parser.specs.Runs.{IsReadingAny, NoneOf};
+ghost use Rattle.str_parser.specs.Sorts.{inner_sort, some_sorts, some_factors, typed, type_of, sorts_from, declarations_from, signatures_from, IsSole, first_is, IsFirstName, begins_declaration, begins_signature_part, sort_goes_on, sort_list_goes_on, sort_run_goes_on, factors_go_on, declaration_goes_on, signature_part_goes_on, signature_goes_on};
+
+use crate::input::{Input, Lexeme};
+use crate::pattern_begin::is_constructor;
+use std::alloc::Global;
+use str_lexer::{Keyword, Mark};
+use str_syntax::{Declaration, Name, SignaturePart, Sort};
+use term_model::Fault;
+
+// The greatest level of a sort.
+const MOST_LEVELS: u32 = 200;
+
+// What stands behind the colon of a declaration.
+#[derive(Drop)]
+enum SortType {
+    // `A`
+    Plain(Sort),
+    // `A * B -> D`
+    Mapping(Vec<Sort>, Sort),
+}
+
+// The name that the tokens begin with, where they do, and the tokens behind it.
+fn first_name<'a>(input: &Input<'a>) -> Option<(&'a [u8], Input<'a>)>
+    ensures { IsFirstName input.now result }
+{
+    let (first, rest) = input.first()?;
+    match first {
+        Lexeme::Name(bytes) => Some((bytes, rest)),
+        _ => None,
+    }
+}
+
+// Whether a declaration can begin with the first of the tokens.
+fn at_declaration(input: &Input) -> bool
+    ensures { result ≡ first_is begins_declaration input.now }
+{
+    let Some((first, _)) = input.first() else {
+        return false;
+    };
+    match first {
+        Lexeme::Name(_) => true,
+        Lexeme::Mark(Mark::Colon) => true,
+        _ => false,
+    }
+}
+
+// Whether a part of a signature can begin with the first of the tokens.
+fn at_signature_part(input: &Input) -> bool
+    ensures { result ≡ first_is begins_signature_part input.now }
+{
+    let Some((first, _)) = input.first() else {
+        return false;
+    };
+    match first {
+        Lexeme::Keyword(Keyword::Sorts) => true,
+        Lexeme::Keyword(Keyword::Constructors) => true,
+        _ => false,
+    }
+}
+
+// Whether a sort can begin with the first of the tokens.
+fn at_sort(input: &Input) -> bool
+    ensures { result ≡ first_is begins_sort input.now }
+{
+    let Some((first, _)) = input.first() else {
+        return false;
+    };
+    match first {
+        Lexeme::Name(_) => true,
+        _ => false,
+    }
+}
+
+// The sort at this level that the tokens begin with, and the tokens behind it.
+#[cycle(sort)]
+fn sort<'a>(alloc: Global, input: Input<'a>, level: u32) -> Result<(Sort, Input<'a>), Fault>
+    requires { level ≤ 201 }
+    ensures { IsReading (inner_sort level) (NoneOf sort_goes_on) sort_tree_of input.entry result }
+{
+    let Some((bytes, behind)) = first_name(&input) else {
+        return Err(input.syntax());
+    };
+    if level > MOST_LEVELS {
+        return Err(Fault::Nesting { at: input.at() });
+    }
+    let name = Name::new(alloc, bytes)?;
+    let Some(inner) = behind.after(Mark::OpenParenthesis) else {
+        return Ok((Sort::Named(name), behind));
+    };
+    let (parts, rest) = sort_list(alloc, inner, level + 1)?;
+    let Some(rest) = rest.after(Mark::CloseParenthesis) else {
+        return Err(rest.syntax());
+    };
+    Ok((Sort::Applied(name, parts), rest))
+}
+
+// The sorts at this level with commas between that the tokens begin with, one at least, and the tokens behind them.
+#[cycle(sort)]
+fn sort_list<'a>(
+    alloc: Global,
+    input: Input<'a>,
+    level: u32,
+) -> Result<(Vec<Sort>, Input<'a>), Fault>
+    requires { level ≤ 201 }
+    ensures { IsReading (some_sorts level) (NoneOf sort_list_goes_on) sorts_from input.entry result }
+{
+    let (first, mut rest) = sort(alloc, input, level)?;
+    let mut parts = Vec::new(alloc);
+    parts.push(first)?;
+    while let Some(behind) = rest.after(Mark::Comma) {
+        let (other, behind) = sort(alloc, behind, level)?;
+        parts.push(other)?;
+        rest = behind;
+    }
+    Ok((parts, rest))
+}
+
+// The sorts that the tokens begin with, one behind the other, and the tokens behind them.
+fn sort_run<'a>(alloc: Global, input: Input<'a>) -> Result<(Vec<Sort>, Input<'a>), Fault>
+    ensures { IsReadingAny written_run (NoneOf sort_run_goes_on) sorts_from input.entry result }
+{
+    let mut found = Vec::new(alloc);
+    let mut rest = input;
+    'sorts: while at_sort(&rest) {
+        let (other, behind) = sort(alloc, rest, 1)?;
+        found.push(other)?;
+        rest = behind;
+    }
+    Ok((found, rest))
+}
+
+// The sorts with * between that the tokens begin with, one at least, and the tokens behind them.
+fn factors<'a>(alloc: Global, input: Input<'a>) -> Result<(Vec<Sort>, Input<'a>), Fault>
+    ensures { IsReading some_factors (NoneOf factors_go_on) sorts_from input.entry result }
+{
+    let (first, mut rest) = sort(alloc, input, 1)?;
+    let mut parts = Vec::new(alloc);
+    parts.push(first)?;
+    while let Some(behind) = rest.after(Mark::Star) {
+        let (other, behind) = sort(alloc, behind, 1)?;
+        parts.push(other)?;
+        rest = behind;
+    }
+    Ok((parts, rest))
+}
+
+// The one sort, where there is one only.
+fn sole(parts: Vec<Sort>) -> Option<Sort>
+    ensures { IsSole (sorts_of parts.items) result }
+{
+    let mut parts = parts;
+    if parts.len() != 1 {
+        return None;
+    }
+    parts.pop()
+}
+
+// What the tokens behind the colon of a declaration begin with, and the tokens behind that.
+fn sort_type<'a>(alloc: Global, input: Input<'a>) -> Result<(SortType, Input<'a>), Fault>
+    ensures { IsReading typed (NoneOf declaration_goes_on) type_of input.entry result }
+{
+    let (parts, rest) = factors(alloc, input)?;
+    if let Some(behind) = rest.after(Mark::Arrow) {
+        let (made, rest) = sort(alloc, behind, 1)?;
+        return Ok((SortType::Mapping(parts, made), rest));
+    }
+    let Some(made) = sole(parts) else {
+        return Err(rest.syntax());
+    };
+    Ok((SortType::Plain(made), rest))
+}
+
+// The injection whose colon stands before the tokens, and the tokens behind it.
+fn injection<'a>(alloc: Global, input: Input<'a>) -> Result<(Declaration, Input<'a>), Fault>
+    ensures { IsReading written_declaration (NoneOf declaration_goes_on) declaration_of (mark Mark.Colon ∷ input.entry) result }
+{
+    let (found, rest) = sort_type(alloc, input)?;
+    match found {
+        SortType::Plain(_) => Err(rest.syntax()),
+        SortType::Mapping(parts, made) => Ok((Declaration::Injection(parts, made), rest)),
+    }
+}
+
+// The declaration that the tokens begin with, and the tokens behind it.
+fn declaration<'a>(alloc: Global, input: Input<'a>) -> Result<(Declaration, Input<'a>), Fault>
+    ensures { IsReading written_declaration (NoneOf declaration_goes_on) declaration_of input.entry result }
+{
+    if let Some(behind) = input.after(Mark::Colon) {
+        return injection(alloc, behind);
+    }
+    let Some((bytes, behind)) = first_name(&input) else {
+        return Err(input.syntax());
+    };
+    if !is_constructor(bytes) {
+        return Err(input.syntax());
+    }
+    let Some(behind) = behind.after(Mark::Colon) else {
+        return Err(behind.syntax());
+    };
+    let name = Name::new(alloc, bytes)?;
+    let (found, rest) = sort_type(alloc, behind)?;
+    match found {
+        SortType::Plain(made) => Ok((Declaration::Constant(name, made), rest)),
+        SortType::Mapping(parts, made) => Ok((Declaration::Constructor(name, parts, made), rest)),
+    }
+}
+
+// The declarations that the tokens begin with, and the tokens behind them.
+fn declarations<'a>(alloc: Global, input: Input<'a>) -> Result<(Vec<Declaration>, Input<'a>), Fault>
+    ensures { IsReadingAny written_declarations (NoneOf signature_part_goes_on) declarations_from input.entry result }
+{
+    let mut found = Vec::new(alloc);
+    let mut rest = input;
+    'declarations: while at_declaration(&rest) {
+        let (other, behind) = declaration(alloc, rest)?;
+        found.push(other)?;
+        rest = behind;
+    }
+    Ok((found, rest))
+}
+
+// The part of a signature that the tokens begin with, and the tokens behind it.
+fn signature_part<'a>(alloc: Global, input: Input<'a>) -> Result<(SignaturePart, Input<'a>), Fault>
+    ensures { IsReading written_part (NoneOf signature_part_goes_on) signature_of input.entry result }
+{
+    if let Some(behind) = input.after_keyword(Keyword::Sorts) {
+        let (found, rest) = sort_run(alloc, behind)?;
+        return Ok((SignaturePart::Sorts(found), rest));
+    }
+    let Some(behind) = input.after_keyword(Keyword::Constructors) else {
+        return Err(input.syntax());
+    };
+    let (found, rest) = declarations(alloc, behind)?;
+    Ok((SignaturePart::Constructors(found), rest))
+}
+
+// The parts of a signature that the tokens begin with, and the tokens behind them.
+pub(crate) fn signature_parts<'a>(
+    alloc: Global,
+    input: Input<'a>,
+) -> Result<(Vec<SignaturePart>, Input<'a>), Fault>
+    ensures { IsReadingAny written_parts (NoneOf signature_goes_on) signatures_from input.entry result }
+{
+    let mut found = Vec::new(alloc);
+    let mut rest = input;
+    'parts: while at_signature_part(&rest) {
+        let (other, behind) = signature_part(alloc, rest)?;
+        found.push(other)?;
+        rest = behind;
+    }
+    Ok((found, rest))
+}

@@ -1,0 +1,175 @@
+-- What the trees in the code stand for.
+use Rattle.std.specs.Prelude.{List, [], ◌∷◌, map}
+use Rattle.str_syntax.specs.declared.sort.Sort.{Sort}
+use Rattle.str_syntax.specs.declared.sort.Sort.TheOpen as sort_forms
+use Rattle.str_syntax.specs.declared.sort.Sort.TheOpen.{Sort-F}
+use Rattle.str_syntax.specs.declared.sort.Sort.TheFolds.{fold-Sort}
+use Rattle.str_syntax.specs.declared.sort.Declaration.{Declaration}
+use Rattle.str_syntax.specs.declared.sort.Declaration.TheVariants as declaration_forms
+use Rattle.str_syntax.specs.declared.sort.SignaturePart.{SignaturePart}
+use Rattle.str_syntax.specs.declared.sort.SignaturePart.TheVariants as part_forms
+use Rattle.str_syntax.specs.declared.strategy.Parameters.{Parameters}
+use Rattle.str_syntax.specs.declared.strategy.Parameters.TheVariants as parameter_forms
+use Rattle.str_syntax.specs.declared.strategy.Pattern.{Pattern}
+use Rattle.str_syntax.specs.declared.strategy.Primary.{Primary}
+use Rattle.str_syntax.specs.declared.strategy.Rule.{Rule}
+use Rattle.str_syntax.specs.declared.strategy.Sequence.{Sequence}
+use Rattle.str_syntax.specs.declared.strategy.Step.{Step}
+use Rattle.str_syntax.specs.declared.strategy.Strategy.{Strategy}
+use Rattle.str_syntax.specs.declared.strategy.StrategyDefinition.{StrategyDefinition}
+use Rattle.str_syntax.specs.declared.strategy.Pattern.TheOpen as forms
+use Rattle.str_syntax.specs.declared.strategy.Pattern.TheOpen.{Pattern-F, Primary-F, Rule-F, Sequence-F, Step-F, Strategy-F, StrategyDefinition-F}
+use Rattle.str_syntax.specs.declared.strategy.Pattern.TheFolds.{fold-Pattern, fold-Primary, fold-Rule, fold-Sequence, fold-Step, fold-Strategy, fold-StrategyDefinition}
+use Rattle.str_syntax.specs.declared.definition.RuleDefinition.{RuleDefinition}
+use Rattle.str_syntax.specs.declared.definition.DefinitionForm.{DefinitionForm}
+use Rattle.str_syntax.specs.declared.definition.DefinitionForm.TheVariants as definition_forms
+use Rattle.str_syntax.specs.declared.definition.Definition.{Definition}
+use Rattle.str_syntax.specs.declared.definition.Section.{Section}
+use Rattle.str_syntax.specs.declared.definition.Section.TheVariants as section_forms
+use Rattle.str_syntax.specs.declared.definition.File.{File}
+use Rattle.str_syntax.specs.Trees.{ParameterTree, absent, strategies_only, with_terms, PatternTree, variable, wildcard, alias, integer, quoted, application, grouped, tuple, list, list_with_tail, applied, applied_to, PatternTrees, no_patterns, more_patterns, StrategyTree, plain_sequence, left_choice, guarded_choice, StrategyTrees, no_strategies, more_strategies, SequenceTree, last, then, StepTree, plain_step, matching, PrimaryTree, identity, failure, match, build, apply, parenthesized, scope, operator, conditional, conditional_else, recursive, let_in, primitive, lambda, call, call_with, call_with_terms, tuple_congruence, list_congruence, list_congruence_with_tail, RuleTree, plain_rule, conditional_rule, DefinitionTree, definition, DefinitionTrees, no_definitions, more_definitions, SortTree, sort, sort_of, SortTrees, no_sorts, more_sorts, DeclarationTree, constant, constructor, injection, SignatureTree, sorts, constructors, FormTree, rule_form, strategy_form, TopTree, SectionTree, signature, rules, strategies, FileTree}
+
+abbrev pub patterns_in : List PatternTree → PatternTrees
+patterns_in [] = no_patterns
+patterns_in (p ∷ ps) = more_patterns p (patterns_in ps)
+
+abbrev pub strategies_in : List StrategyTree → StrategyTrees
+strategies_in [] = no_strategies
+strategies_in (s ∷ ss) = more_strategies s (strategies_in ss)
+
+abbrev pub definitions_in : List DefinitionTree → DefinitionTrees
+definitions_in [] = no_definitions
+definitions_in (d ∷ ds) = more_definitions d (definitions_in ds)
+
+abbrev pub sorts_in : List SortTree → SortTrees
+sorts_in [] = no_sorts
+sorts_in (a ∷ more) = more_sorts a (sorts_in more)
+
+abbrev pub parameters_of : Parameters → ParameterTree
+parameters_of parameter_forms.Absent = absent
+parameters_of (parameter_forms.Strategies fs) = strategies_only fs.items
+parameters_of (parameter_forms.WithTerms fs xs) = with_terms fs.items xs.items
+
+-- one level of each tree, where the trees in it are known
+abbrev pub pattern_step : Pattern-F PatternTree PrimaryTree RuleTree SequenceTree StepTree StrategyTree DefinitionTree → PatternTree
+pattern_step (forms.Variable x) = variable x
+pattern_step forms.Wildcard = wildcard
+pattern_step (forms.Alias x p) = alias x p.value
+pattern_step (forms.Integer z) = integer z
+pattern_step (forms.Quoted text) = quoted text
+pattern_step (forms.Application f ps) = application f (patterns_in ps.items)
+pattern_step (forms.Pattern::Parenthesized p) = grouped p.value
+pattern_step (forms.Tuple ps) = tuple (patterns_in ps.items)
+pattern_step (forms.List ps) = list (patterns_in ps.items)
+pattern_step (forms.ListWithTail ps p) = list_with_tail (patterns_in ps.items) p.value
+pattern_step (forms.Applied s) = applied s.value
+pattern_step (forms.AppliedTo s p) = applied_to s.value p.value
+
+abbrev pub primary_step : Primary-F PatternTree PrimaryTree RuleTree SequenceTree StepTree StrategyTree DefinitionTree → PrimaryTree
+primary_step forms.Id = identity
+primary_step forms.Fail = failure
+primary_step (forms.Match p) = match p
+primary_step (forms.Build p) = build p
+primary_step (forms.Apply s p) = apply s.value p.value
+primary_step (forms.Primary::Parenthesized s) = parenthesized s.value
+primary_step (forms.Scope xs s) = scope xs.items s.value
+primary_step (forms.Operator o s) = operator o s.value
+primary_step (forms.If s t) = conditional s.value t.value
+primary_step (forms.IfElse s t u) = conditional_else s.value t.value u.value
+primary_step (forms.Recursive x s) = recursive x s.value
+primary_step (forms.Let ds s) = let_in (definitions_in ds.items) s.value
+primary_step (forms.Primitive name ps) = primitive name (patterns_in ps.items)
+primary_step (forms.Lambda r) = lambda r.value
+primary_step (forms.Call f) = call f
+primary_step (forms.CallWith f ss) = call_with f (strategies_in ss.items)
+primary_step (forms.CallWithTerms f ss ps) = call_with_terms f (strategies_in ss.items) (patterns_in ps.items)
+primary_step (forms.TupleCongruence ss) = tuple_congruence (strategies_in ss.items)
+primary_step (forms.ListCongruence ss) = list_congruence (strategies_in ss.items)
+primary_step (forms.ListCongruenceWithTail ss s) = list_congruence_with_tail (strategies_in ss.items) s.value
+
+abbrev pub rule_step : Rule-F PatternTree PrimaryTree RuleTree SequenceTree StepTree StrategyTree DefinitionTree → RuleTree
+rule_step (forms.Rule::Plain p q) = plain_rule p.value q.value
+rule_step (forms.Conditional p q s) = conditional_rule p.value q.value s.value
+
+abbrev pub sequence_step : Sequence-F PatternTree PrimaryTree RuleTree SequenceTree StepTree StrategyTree DefinitionTree → SequenceTree
+sequence_step (forms.Last s) = last s
+sequence_step (forms.Then s q) = then s q.value
+
+abbrev pub step_step : Step-F PatternTree PrimaryTree RuleTree SequenceTree StepTree StrategyTree DefinitionTree → StepTree
+step_step (forms.Step::Plain s) = plain_step s.value
+step_step (forms.Matching s p) = matching s.value p.value
+
+abbrev pub strategy_step : Strategy-F PatternTree PrimaryTree RuleTree SequenceTree StepTree StrategyTree DefinitionTree → StrategyTree
+strategy_step (forms.Sequence q) = plain_sequence q
+strategy_step (forms.LeftChoice q s) = left_choice q s.value
+strategy_step (forms.GuardedChoice q s t) = guarded_choice q s.value t.value
+
+abbrev pub definition_step : StrategyDefinition-F PatternTree PrimaryTree RuleTree SequenceTree StepTree StrategyTree DefinitionTree → DefinitionTree
+definition_step d = definition d.name (parameters_of d.parameters) d.body.value
+
+abbrev pub pattern_of : Pattern → PatternTree
+pattern_of = fold-Pattern PatternTree PrimaryTree RuleTree SequenceTree StepTree StrategyTree DefinitionTree pattern_step primary_step rule_step sequence_step step_step strategy_step definition_step
+
+abbrev pub primary_of : Primary → PrimaryTree
+primary_of = fold-Primary PatternTree PrimaryTree RuleTree SequenceTree StepTree StrategyTree DefinitionTree pattern_step primary_step rule_step sequence_step step_step strategy_step definition_step
+
+abbrev pub rule_of : Rule → RuleTree
+rule_of = fold-Rule PatternTree PrimaryTree RuleTree SequenceTree StepTree StrategyTree DefinitionTree pattern_step primary_step rule_step sequence_step step_step strategy_step definition_step
+
+abbrev pub sequence_of : Sequence → SequenceTree
+sequence_of = fold-Sequence PatternTree PrimaryTree RuleTree SequenceTree StepTree StrategyTree DefinitionTree pattern_step primary_step rule_step sequence_step step_step strategy_step definition_step
+
+abbrev pub step_of : Step → StepTree
+step_of = fold-Step PatternTree PrimaryTree RuleTree SequenceTree StepTree StrategyTree DefinitionTree pattern_step primary_step rule_step sequence_step step_step strategy_step definition_step
+
+abbrev pub strategy_of : Strategy → StrategyTree
+strategy_of = fold-Strategy PatternTree PrimaryTree RuleTree SequenceTree StepTree StrategyTree DefinitionTree pattern_step primary_step rule_step sequence_step step_step strategy_step definition_step
+
+abbrev pub definition_of : StrategyDefinition → DefinitionTree
+definition_of = fold-StrategyDefinition PatternTree PrimaryTree RuleTree SequenceTree StepTree StrategyTree DefinitionTree pattern_step primary_step rule_step sequence_step step_step strategy_step definition_step
+
+abbrev pub patterns_of : List Pattern → PatternTrees
+patterns_of ps = patterns_in (map pattern_of ps)
+
+abbrev pub strategies_of : List Strategy → StrategyTrees
+strategies_of ss = strategies_in (map strategy_of ss)
+
+abbrev pub definitions_of : List StrategyDefinition → DefinitionTrees
+definitions_of ds = definitions_in (map definition_of ds)
+
+abbrev pub sort_step : Sort-F SortTree → SortTree
+sort_step (sort_forms.Named a) = sort a
+sort_step (sort_forms.Applied a parts) = sort_of a (sorts_in parts.items)
+
+abbrev pub sort_tree_of : Sort → SortTree
+sort_tree_of = fold-Sort SortTree sort_step
+
+abbrev pub sorts_of : List Sort → SortTrees
+sorts_of parts = sorts_in (map sort_tree_of parts)
+
+abbrev pub declaration_of : Declaration → DeclarationTree
+declaration_of (declaration_forms.Constant c a) = constant c (sort_tree_of a)
+declaration_of (declaration_forms.Constructor c parts a) = constructor c (sorts_of parts.items) (sort_tree_of a)
+declaration_of (declaration_forms.Injection parts a) = injection (sorts_of parts.items) (sort_tree_of a)
+
+abbrev pub signature_of : SignaturePart → SignatureTree
+signature_of (part_forms.Sorts parts) = sorts (sorts_of parts.items)
+signature_of (part_forms.Constructors declarations) = constructors (map declaration_of declarations.items)
+
+abbrev pub rule_definition_of : RuleDefinition → FormTree
+rule_definition_of d = rule_form d.name (parameters_of d.parameters) (rule_of d.rule)
+
+abbrev pub form_of : DefinitionForm → FormTree
+form_of (definition_forms.Rule d) = rule_definition_of d
+form_of (definition_forms.Strategy d) = strategy_form (definition_of d)
+
+abbrev pub top_of : Definition → TopTree
+top_of d = record { origin = d.origin; form = form_of d.form }
+
+abbrev pub section_of : Section → SectionTree
+section_of (section_forms.Signature parts) = signature (map signature_of parts.items)
+section_of (section_forms.Rules definitions) = rules (map top_of definitions.items)
+section_of (section_forms.Strategies definitions) = strategies (map top_of definitions.items)
+
+abbrev pub file_of : File → FileTree
+file_of f = record { sections = map section_of f.sections.items }

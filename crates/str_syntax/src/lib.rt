@@ -1,0 +1,19 @@
+//! The trees of definition files.
+#![tactic(auto)]
+
+mod copy;
+pub mod definition;
+#[cfg(test)]
+mod samples;
+pub mod sort;
+pub mod strategy;
+#[cfg(test)]
+mod tests;
+pub mod text;
+
+pub use definition::{Definition, DefinitionForm, File, Origin, RuleDefinition, Section};
+pub use sort::{Declaration, SignaturePart, Sort};
+pub use strategy::{
+    Operator, Parameters, Pattern, Primary, Rule, Sequence, Step, Strategy, StrategyDefinition,
+};
+pub use text::{Name, Text};
