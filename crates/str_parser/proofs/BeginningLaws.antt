@@ -1,9 +1,9 @@
 -- What tokens begin with along which a strategy or a pattern runs.
-use Rattle.std.proofs.Common.{◌≡◌, ◌⊎◌, inl, inr, ℕ, ◌+◌, Bool, true, false, List, [], ◌∷◌, refl, sym, ap}
+use Rattle.std.proofs.Common.{◌≡◌, ℕ, Bool, true, false, List, [], ◌∷◌, refl}
 use Rattle.str_syntax.specs.declared.strategy.Operator.TheVariants as O
-use Rattle.str_syntax.specs.Trees.{PatternTree, variable, wildcard, alias, integer, quoted, application, grouped, tuple, list, list_with_tail, applied, applied_to, StrategyTree, plain_sequence, left_choice, guarded_choice, SequenceTree, last, then, StepTree, plain_step, matching, PrimaryTree, identity, failure, match, build, apply, parenthesized, scope, operator, conditional, conditional_else, recursive, let_in, primitive, lambda, call, call_with, call_with_terms, tuple_congruence, list_congruence, list_congruence_with_tail, DefinitionTrees, no_definitions, more_definitions}
-use Rattle.str_parser.specs.Lexemes.{Lexeme, strategy_part, begins, begins_strategy, begins_pattern, first_begins}
-use Rattle.str_parser.specs.Items.{Item, Way, either, Runs}
+use Rattle.str_syntax.specs.Trees.{PatternTree, variable, wildcard, alias, integer, quoted, application, grouped, tuple, list, list_with_tail, applied, applied_to, StrategyTree, plain_sequence, left_choice, guarded_choice, SequenceTree, last, then, StepTree, plain_step, matching, PrimaryTree, identity, failure, match, build, apply, parenthesized, scope, operator, conditional, conditional_else, recursive, let_in, primitive, lambda, call, call_with, call_with_terms, tuple_congruence, list_congruence, list_congruence_with_tail, no_definitions, more_definitions}
+use Rattle.str_parser.specs.Lexemes.{Lexeme, strategy_part, first_begins}
+use Rattle.str_parser.specs.Items.{Item, either, Runs}
 use Rattle.str_parser.specs.Phrases.{pattern_part, pattern, strategy, sequence, step, primary}
 
 primary_begins : (k : ℕ) (u : PrimaryTree) (is : List Item) (ts : List Lexeme) → Runs either (primary k u is) ts → first_begins strategy_part ts ≡ true

@@ -4,12 +4,12 @@ use Rattle.std.specs.declared.vec.Vec.{Vec}
 use Rattle.str_lexer.specs.declared.token.Mark.TheVariants as M
 use Rattle.str_syntax.specs.declared.strategy.Pattern.{Pattern}
 use Rattle.str_syntax.specs.declared.strategy.Strategy.{Strategy}
-use Rattle.str_syntax.specs.Trees.{Bytes, PatternTree, PatternTrees, no_patterns, more_patterns, StrategyTree, StrategyTrees, no_strategies, more_strategies, PrimaryTree, call, call_with, call_with_terms}
-use Rattle.str_syntax.specs.Views.{pattern_of, strategy_of, strategies_of}
+use Rattle.str_syntax.specs.Trees.{Bytes, PatternTree, PatternTrees, no_patterns, more_patterns, no_strategies, more_strategies, PrimaryTree, call, call_with, call_with_terms}
+use Rattle.str_syntax.specs.Views.{pattern_of, strategies_of}
 use Rattle.str_parser.specs.Lexemes.{Lexeme, name, mark}
 use Rattle.str_parser.specs.Items.{Item, Way, either, Runs}
 use Rattle.str_parser.specs.Readings.{Run, Leads, NotAt, strength}
-use Rattle.str_parser.specs.Begun.{strategies_then, patterns_then, strategies_with, patterns_with, Written, goes_arguments, goes_to_terms, goes_terms, GoesBehindBar, goes_behind_bar, Continues, at_strategy, at_pattern}
+use Rattle.str_parser.specs.Begun.{patterns_then, patterns_with, Written, goes_arguments, goes_to_terms, goes_terms, GoesBehindBar, goes_behind_bar, Continues, at_strategy, at_pattern}
 use Rattle.str_parser.specs.declared.begun.BeforeStrategy.TheVariants as B
 use Rattle.str_parser.specs.declared.begun.BeforePattern.TheVariants as P
 use Rattle.str_parser.specs.declared.begun.Begun.TheVariants as states

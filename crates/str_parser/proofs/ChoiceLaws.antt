@@ -1,14 +1,14 @@
 -- Reading strategies: one law for each way that it can go.
-use Rattle.std.proofs.Common.{◌≡◌, ◌⊎◌, inl, inr, ℕ, ◌+◌, ◌≤◌, ◌<◌, Bool, true, false, List, [], ◌∷◌, refl, sym, ◌∙◌, ap, arith, length}
+use Rattle.std.proofs.Common.{◌≡◌, inl, inr, ℕ, ◌+◌, ◌<◌, true, false, List, ◌∷◌, refl, ◌∙◌, ap, arith}
 use Rattle.str_lexer.specs.declared.token.Mark.TheVariants as M
 use Rattle.str_syntax.specs.Trees.{StrategyTree, plain_sequence, left_choice, guarded_choice, SequenceTree, last, plain_step, identity}
 use Rattle.str_parser.specs.Lexemes.{Lexeme, mark, strategy_part, first_begins}
-use Rattle.str_parser.specs.Items.{Item, Way, too_deep, either, Runs}
-use Rattle.str_parser.specs.Phrases.{sign, strategy, sequence}
-use Rattle.str_parser.specs.Readings.{NotAt, lexeme_strength, strength, AtMost, Found, Missing, Nested}
+use Rattle.str_parser.specs.Items.{Item, too_deep, either, Runs}
+use Rattle.str_parser.specs.Phrases.{sign}
+use Rattle.str_parser.specs.Readings.{NotAt, lexeme_strength, AtMost, Found, Missing, Nested}
 use Rattle.str_parser.specs.Begun.{inner_strategy, inner_sequence}
-use Rattle.str_parser.proofs.PartLaws.{passes, passed, passed_deep, binds_less, not_at_runs}
-use Rattle.str_parser.proofs.BeginningLaws.{strategy_begins, sequence_begins}
+use Rattle.str_parser.proofs.PartLaws.{binds_less, not_at_runs}
+use Rattle.str_parser.proofs.BeginningLaws.{strategy_begins}
 
 -- ---- at level 201
 

@@ -1,5 +1,5 @@
 -- What the faults of the descent mean.
-use Rattle.std.proofs.Common.{◌≡◌, ℕ, Bool, true, false, List, refl, Result, Ok, Err}
+use Rattle.std.proofs.Common.{◌≡◌, ℕ, Bool, true, false, List, refl, Err}
 use Rattle.term_model.specs.declared.fault.Fault.{Fault}
 use Rattle.term_model.specs.declared.fault.Fault.TheVariants as faults
 use Rattle.str_syntax.specs.Trees.{PrimaryTree, PatternTree}

@@ -3,9 +3,9 @@ use Rattle.std.proofs.Common.{◌≡◌, ℕ, ◌+◌, ◌≤◌, ◌<◌, Bool,
 use Rattle.str_lexer.specs.declared.token.Mark.TheVariants as M
 use Rattle.str_lexer.specs.declared.token.Keyword.TheVariants as K
 use Rattle.str_syntax.specs.Trees.{ParameterTree, absent, strategies_only, with_terms, PatternTree, variable, wildcard, alias, integer, quoted, application, grouped, tuple, list, list_with_tail, applied, applied_to, PatternTrees, no_patterns, more_patterns, StrategyTree, plain_sequence, left_choice, guarded_choice, StrategyTrees, no_strategies, more_strategies, SequenceTree, last, then, StepTree, plain_step, matching, PrimaryTree, identity, failure, match, build, apply, parenthesized, scope, operator, conditional, conditional_else, recursive, let_in, primitive, lambda, call, call_with, call_with_terms, tuple_congruence, list_congruence, list_congruence_with_tail, RuleTree, plain_rule, conditional_rule, DefinitionTree, definition, DefinitionTrees, no_definitions, more_definitions}
-use Rattle.str_parser.specs.Lexemes.{Lexeme, Lexeme as L, strategy_part, match_part, build_part}
-use Rattle.str_parser.specs.Items.{Item, token, part, no_build, only, Way, whole, Runs}
-use Rattle.str_parser.specs.Phrases.{sign, word, named, keyword_of, pattern_part, other_names, names, some_names, parameters, is_constructor, is_not, are_parts, are_operands, any_patterns, any_strategies, pattern, patterns, other_patterns, strategy, strategy_list, other_strategies, sequence, step, primary, rule, defined, definitions}
+use Rattle.str_parser.specs.Lexemes.{Lexeme, strategy_part, match_part, build_part}
+use Rattle.str_parser.specs.Items.{Item, token, part, no_build, only, whole, Runs}
+use Rattle.str_parser.specs.Phrases.{sign, word, named, pattern_part, other_names, names, some_names, parameters, is_constructor, is_not, are_parts, are_operands, any_patterns, any_strategies, pattern, patterns, other_patterns, strategy, strategy_list, other_strategies, sequence, step, primary, rule, defined, definitions}
 
 abbrev if_not : Bool → ℕ → ℕ
 if_not true n = n

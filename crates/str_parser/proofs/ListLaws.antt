@@ -1,5 +1,5 @@
 -- Lists of trees in the code: one to which a tree is pushed, one that ends, and one without trees.
-use Rattle.std.proofs.Common.{◌≡◌, ℕ, ◌==◌, Bool, true, false, arith, length, List, [], ◌∷◌, ◌++◌, map, refl, ap, sym, ◌∙◌, Global}
+use Rattle.std.proofs.Common.{◌≡◌, ◌==◌, Bool, true, false, arith, length, List, [], ◌∷◌, ◌++◌, map, refl, ap, sym, ◌∙◌, Global}
 use Rattle.std.specs.declared.vec.Vec.{Vec}
 use Rattle.str_syntax.specs.declared.strategy.Pattern.{Pattern}
 use Rattle.str_syntax.specs.declared.strategy.Strategy.{Strategy}

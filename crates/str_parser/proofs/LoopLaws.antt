@@ -1,20 +1,18 @@
 -- Reading a primary part by part.
-use Rattle.std.proofs.Common.{◌≡◌, ◌⊎◌, inl, inr, ℕ, ◌+◌, ◌≤◌, ◌<◌, Bool, true, false, List, [], ◌∷◌, refl, sym, ◌∙◌, ap, arith, length, Box, Global}
-use Rattle.str_lexer.specs.declared.token.Mark.TheVariants as M
+use Rattle.std.proofs.Common.{◌≡◌, ℕ, ◌+◌, List, [], refl, sym, arith, Box, Global}
 use Rattle.str_syntax.specs.declared.strategy.Primary.{Primary}
-use Rattle.str_syntax.specs.Trees.{PatternTree, variable, StrategyTree, StrategyTrees, no_strategies, more_strategies, PrimaryTree, PatternTrees, no_patterns, more_patterns, DefinitionTrees, no_definitions, more_definitions, definition}
+use Rattle.str_syntax.specs.Trees.{PatternTree, variable, StrategyTree, no_strategies, more_strategies, PrimaryTree, no_patterns, more_patterns, no_definitions, more_definitions, definition}
 use Rattle.str_syntax.specs.Views.{primary_of}
 use Rattle.str_parser.specs.Lexemes.{Lexeme}
 use Rattle.str_parser.specs.Items.{Item, Way, whole, too_deep, either, Runs}
-use Rattle.str_parser.specs.Phrases.{primary, other_strategies, other_patterns, definitions, defined}
-use Rattle.str_parser.specs.Readings.{strength, AtMost, Found, Missing, Nested, Run, Leads, NoRun}
-use Rattle.str_parser.specs.Begun.{Written, written, Goes, goes_apply, goes_parenthesized, goes_bracketed, goes_to_tail, goes_tail, goes_arguments, goes_to_terms, goes_scope, goes_operator, goes_recursive, goes_condition, goes_condition_else, goes_consequence, goes_consequence_else, goes_alternative, goes_definition, goes_let_body, goes_rule_condition, GoesBy, goes_match, goes_build, goes_apply_to, goes_terms, goes_primitive, goes_rule_left, goes_rule_left_where, goes_rule_right, goes_rule_right_where, Continues, at_end, at_strategy, at_pattern, HasStrategy, HasPattern, wants_match, inner_strategy, inner_pattern, behind}
+use Rattle.str_parser.specs.Phrases.{primary}
+use Rattle.str_parser.specs.Readings.{AtMost, Found, Missing, Nested, Run, Leads, NoRun}
+use Rattle.str_parser.specs.Begun.{Written, written, Goes, goes_apply, goes_parenthesized, goes_bracketed, goes_to_tail, goes_tail, goes_arguments, goes_to_terms, goes_scope, goes_operator, goes_recursive, goes_condition, goes_condition_else, goes_consequence, goes_consequence_else, goes_alternative, goes_definition, goes_let_body, goes_rule_condition, GoesBy, goes_match, goes_build, goes_apply_to, goes_terms, goes_primitive, goes_rule_left, goes_rule_left_where, goes_rule_right, goes_rule_right_where, Continues, at_end, at_strategy, at_pattern, HasStrategy, HasPattern, wants_match, inner_strategy, inner_pattern}
 use Rattle.str_parser.proofs.GrowthLaws.{just, just_runs, primary_shorter}
 use Rattle.str_parser.specs.declared.begun.BeforeStrategy.{BeforeStrategy}
 use Rattle.str_parser.specs.declared.begun.BeforeStrategy.TheVariants as B
 use Rattle.str_parser.specs.declared.begun.BeforePattern.{BeforePattern}
 use Rattle.str_parser.specs.declared.begun.BeforePattern.TheVariants as P
-use Rattle.str_parser.specs.declared.begun.Begun.{Begun}
 use Rattle.str_parser.specs.declared.begun.Begun.TheVariants as states
 
 -- ---- what leads on leads on

@@ -1,10 +1,10 @@
 -- Parts at a level that is allowed, and at the first that is not.
-use Rattle.std.proofs.Common.{◌≡◌, ◌⊎◌, inl, inr, ℕ, ◌+◌, ◌≤◌, ◌<◌, Bool, true, false, List, [], ◌∷◌, refl, sym, arith, length}
+use Rattle.std.proofs.Common.{◌≡◌, inl, inr, ℕ, ◌≤◌, List, [], ◌∷◌, refl, arith}
 use Rattle.str_lexer.specs.declared.token.Mark.{Mark}
 use Rattle.str_lexer.specs.declared.token.Mark.TheVariants as M
-use Rattle.str_parser.specs.Lexemes.{Lexeme, name, wildcard, integer, quoted, mark, keyword, left_out, Part, first_begins}
+use Rattle.str_parser.specs.Lexemes.{Lexeme, name, wildcard, integer, quoted, mark, keyword, left_out, Part}
 use Rattle.str_parser.specs.Items.{Item, token, part, no_build, only, Way, whole, too_deep, either, Runs}
-use Rattle.str_parser.specs.Readings.{mark_strength, lexeme_strength, strength, AtMost, Found, Missing, Nested}
+use Rattle.str_parser.specs.Readings.{mark_strength, lexeme_strength, strength}
 
 -- ---- a part at level 200 or below
 

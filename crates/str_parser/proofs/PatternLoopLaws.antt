@@ -1,12 +1,12 @@
 -- Reading a pattern part by part.
-use Rattle.std.proofs.Common.{◌≡◌, ◌⊎◌, inl, inr, ℕ, ◌+◌, ◌≤◌, ◌<◌, Bool, true, false, List, [], ◌∷◌, refl, sym, ◌∙◌, ap, arith, length, Box, Global}
+use Rattle.std.proofs.Common.{◌≡◌, inl, inr, ℕ, ◌+◌, ◌≤◌, Bool, true, false, List, refl, sym, arith}
 use Rattle.str_syntax.specs.declared.strategy.Pattern.{Pattern}
-use Rattle.str_syntax.specs.Trees.{PatternTree, wildcard, applied, StrategyTree, PatternTrees, no_patterns, more_patterns}
+use Rattle.str_syntax.specs.Trees.{PatternTree, wildcard, applied, StrategyTree, no_patterns, more_patterns}
 use Rattle.str_syntax.specs.Views.{pattern_of}
 use Rattle.str_parser.specs.Lexemes.{Lexeme, first_begins}
 use Rattle.str_parser.specs.Items.{Item, Way, whole, too_deep, either, Runs}
-use Rattle.str_parser.specs.Phrases.{pattern_part, pattern, other_patterns}
-use Rattle.str_parser.specs.Readings.{strength, AtMost, Found, Missing, Nested, Run, Leads, NoRun}
+use Rattle.str_parser.specs.Phrases.{pattern_part, pattern}
+use Rattle.str_parser.specs.Readings.{AtMost, Found, Missing, Nested, Run, Leads, NoRun}
 use Rattle.str_parser.specs.Begun.{WrittenPattern, written_pattern, GoesIn, goes_alias, goes_application, goes_grouped, goes_list, goes_list_to_tail, goes_list_tail, goes_applied_to, GoesApplied, goes_applied, goes_applied_then, ContinuesPattern, pattern_at_end, pattern_at_strategy, pattern_at_pattern, HasInner, inner_strategy, inner_pattern}
 use Rattle.str_parser.specs.declared.begun.BeforeInner.{BeforeInner}
 use Rattle.str_parser.specs.declared.begun.BeforeInner.TheVariants as I

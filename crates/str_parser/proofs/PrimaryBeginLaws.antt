@@ -9,13 +9,13 @@ use Rattle.str_syntax.specs.declared.strategy.Pattern.{Pattern}
 use Rattle.str_syntax.specs.declared.strategy.Strategy.{Strategy}
 use Rattle.str_syntax.specs.declared.strategy.StrategyDefinition.{StrategyDefinition}
 use Rattle.str_syntax.specs.Trees.{Bytes, PatternTree, PatternTrees, no_patterns, more_patterns, StrategyTree, StrategyTrees, no_strategies, more_strategies, identity, failure, scope, recursive, primitive, tuple_congruence, list_congruence, list_congruence_with_tail, plain_rule, conditional_rule, DefinitionTree, DefinitionTrees, more_definitions, let_in}
-use Rattle.str_syntax.specs.Views.{pattern_of, strategy_of, definition_of}
+use Rattle.str_syntax.specs.Views.{pattern_of, definition_of}
 use Rattle.str_parser.specs.Lexemes.{Lexeme, quoted, mark, keyword}
 use Rattle.str_parser.specs.Items.{Item, token, Way, either, Runs}
 use Rattle.str_parser.specs.Phrases.{keyword_of, some_names, other_patterns, other_strategies, primary, sign}
 use Rattle.str_parser.specs.Readings.{Run, Leads, NoRun, NotAt, Found, Missing, one_name, AtMost}
 use Rattle.str_parser.specs.Runs.{NoneOf, names_go_on}
-use Rattle.str_parser.specs.Begun.{inner_strategy, inner_pattern, strategies_then, patterns_then, definitions_then, strategies_with, patterns_with, definitions_with, in_parentheses, Written, goes_apply, goes_parenthesized, goes_bracketed, goes_to_tail, goes_scope, goes_operator, goes_recursive, goes_condition, goes_condition_else, goes_match, goes_build, goes_primitive, goes_rule_left, goes_rule_left_where, GoesToDefinition, goes_to_definition, Continues, at_strategy, at_pattern}
+use Rattle.str_parser.specs.Begun.{inner_strategy, inner_pattern, patterns_then, definitions_then, patterns_with, definitions_with, in_parentheses, Written, goes_apply, goes_parenthesized, goes_bracketed, goes_to_tail, goes_scope, goes_operator, goes_recursive, goes_condition, goes_condition_else, goes_match, goes_build, goes_primitive, goes_rule_left, goes_rule_left_where, GoesToDefinition, goes_to_definition, Continues, at_strategy, at_pattern}
 use Rattle.str_parser.specs.declared.begun.BeforeStrategy.TheVariants as B
 use Rattle.str_parser.specs.declared.begun.BeforePattern.TheVariants as P
 use Rattle.str_parser.specs.declared.begun.Begun.TheVariants as states

@@ -5,7 +5,7 @@ use Rattle.str_syntax.specs.declared.strategy.Strategy.{Strategy}
 use Rattle.str_syntax.specs.Trees.{StrategyTree, StrategyTrees, more_strategies, PrimaryTree}
 use Rattle.str_syntax.specs.Views.{strategy_of}
 use Rattle.str_parser.specs.Lexemes.{Lexeme, begins_strategy}
-use Rattle.str_parser.specs.Items.{Item, token, Way, either, Runs}
+use Rattle.str_parser.specs.Items.{Item, Way, either, Runs}
 use Rattle.str_parser.specs.Phrases.{primary}
 use Rattle.str_parser.specs.Readings.{Run, Leads, NoRun, strength}
 use Rattle.str_parser.specs.Begun.{strategies_then, strategies_with, Written, written}

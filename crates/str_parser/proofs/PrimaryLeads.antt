@@ -1,5 +1,5 @@
 -- Which primaries, strategies and patterns tokens can run along, by the first token.
-use Rattle.std.proofs.Common.{◌≡◌, ℕ, ◌+◌, ◌≤◌, Bool, true, false, List, [], ◌∷◌, inl, inr, refl, ap, arith}
+use Rattle.std.proofs.Common.{◌≡◌, ℕ, ◌≤◌, true, false, List, [], ◌∷◌, inl, inr, refl, ap, arith}
 use Rattle.std.specs.Borrow.{Bor}
 use Rattle.str_lexer.specs.declared.token.Mark.{Mark}
 use Rattle.str_lexer.specs.declared.token.Mark.TheVariants as M

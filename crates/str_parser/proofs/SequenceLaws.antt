@@ -1,11 +1,11 @@
 -- Reading sequences and steps: one law for each way that it can go.
-use Rattle.std.proofs.Common.{◌≡◌, ◌⊎◌, inl, inr, ℕ, ◌+◌, ◌≤◌, ◌<◌, Bool, true, false, List, [], ◌∷◌, refl, sym, ◌∙◌, ap, arith, length}
+use Rattle.std.proofs.Common.{◌≡◌, inl, inr, ℕ, ◌+◌, ◌≤◌, true, false, List, ◌∷◌, refl, ◌∙◌, ap, arith}
 use Rattle.str_lexer.specs.declared.token.Mark.TheVariants as M
 use Rattle.str_syntax.specs.Trees.{SequenceTree, last, then, StepTree, plain_step, matching, PrimaryTree, identity, PatternTree}
-use Rattle.str_parser.specs.Lexemes.{Lexeme, mark, strategy_part, match_part, first_begins}
-use Rattle.str_parser.specs.Items.{Item, Way, too_deep, either, Runs}
-use Rattle.str_parser.specs.Phrases.{sign, sequence, step, primary}
-use Rattle.str_parser.specs.Readings.{NotAt, strength, AtMost, Found, Missing, Nested}
+use Rattle.str_parser.specs.Lexemes.{Lexeme, mark, strategy_part, first_begins}
+use Rattle.str_parser.specs.Items.{Item, too_deep, either, Runs}
+use Rattle.str_parser.specs.Phrases.{sign, step, primary}
+use Rattle.str_parser.specs.Readings.{NotAt, AtMost, Found, Missing, Nested}
 use Rattle.str_parser.specs.Begun.{inner_sequence, inner_pattern}
 use Rattle.str_parser.proofs.PartLaws.{passes, passed, binds_less, not_at_runs}
 use Rattle.str_parser.proofs.BeginningLaws.{sequence_begins}

@@ -1,15 +1,15 @@
 -- How a primary goes on behind a strategy in it: one law for each way.
-use Rattle.std.proofs.Common.{◌≡◌, ℕ, ◌+◌, ◌≤◌, ◌++◌, ◌∙◌, sym, ap, List, [], ◌∷◌, map, refl, arith, length, Box, Global}
+use Rattle.std.proofs.Common.{◌≡◌, ℕ, ◌++◌, ◌∙◌, sym, ap, List, [], ◌∷◌, map, refl, arith, Box, Global}
 use Rattle.std.specs.declared.vec.Vec.{Vec}
 use Rattle.str_lexer.specs.declared.token.Keyword.TheVariants as K
 use Rattle.str_lexer.specs.declared.token.Mark.TheVariants as M
-use Rattle.str_syntax.specs.Trees.{Bytes, StrategyTree, StrategyTrees, no_strategies, more_strategies, PrimaryTree, parenthesized, tuple_congruence, list_congruence, list_congruence_with_tail, scope, operator, conditional, conditional_else, recursive, call_with, call_with_terms}
+use Rattle.str_syntax.specs.Trees.{Bytes, StrategyTree, no_strategies, more_strategies, PrimaryTree, parenthesized, tuple_congruence, list_congruence, list_congruence_with_tail, scope, operator, conditional, conditional_else, recursive, call_with, call_with_terms}
 use Rattle.str_syntax.specs.declared.strategy.Operator.{Operator}
 use Rattle.str_syntax.specs.declared.strategy.Strategy.{Strategy}
 use Rattle.str_syntax.specs.Views.{strategy_of, strategies_of}
 use Rattle.str_parser.specs.Lexemes.{Lexeme, keyword, mark}
 use Rattle.str_parser.specs.Items.{Item, Way, either, Runs}
-use Rattle.str_parser.specs.Readings.{Run, Leads, NoRun, NotAt, strength}
+use Rattle.str_parser.specs.Readings.{Run, Leads, NoRun, NotAt}
 use Rattle.str_parser.specs.Begun.{strategies_then, strategies_with, in_parentheses, Goes, goes_apply, goes_parenthesized, goes_bracketed, goes_to_tail, goes_tail, goes_arguments, goes_to_terms, goes_scope, goes_operator, goes_recursive, goes_condition, goes_condition_else, goes_consequence, goes_consequence_else, goes_alternative, GoesBehindBar, goes_behind_bar, goes_apply_to, Continues, at_strategy, at_pattern}
 use Rattle.str_parser.specs.declared.begun.BeforeStrategy.TheVariants as B
 use Rattle.str_parser.specs.declared.begun.BeforePattern.TheVariants as P

@@ -12,10 +12,10 @@ use Rattle.str_syntax.specs.declared.strategy.Pattern.{Pattern}
 use Rattle.str_syntax.specs.declared.strategy.Primary.{Primary}
 use Rattle.str_syntax.specs.declared.strategy.Strategy.{Strategy}
 use Rattle.str_syntax.specs.declared.strategy.StrategyDefinition.{StrategyDefinition}
-use Rattle.str_syntax.specs.Trees.{Bytes, PatternTree, alias, application, grouped, tuple, list, list_with_tail, applied, applied_to, PatternTrees, no_patterns, more_patterns, StrategyTree, StrategyTrees, no_strategies, more_strategies, SequenceTree, PrimaryTree, match, build, apply, parenthesized, scope, operator, conditional, conditional_else, recursive, let_in, primitive, lambda, call, call_with, call_with_terms, tuple_congruence, list_congruence, list_congruence_with_tail, plain_rule, conditional_rule, DefinitionTree, definition, DefinitionTrees, no_definitions, more_definitions}
+use Rattle.str_syntax.specs.Trees.{Bytes, PatternTree, alias, application, grouped, tuple, list, list_with_tail, applied, applied_to, PatternTrees, no_patterns, more_patterns, StrategyTree, StrategyTrees, no_strategies, more_strategies, SequenceTree, PrimaryTree, match, build, apply, parenthesized, scope, operator, conditional, conditional_else, recursive, let_in, primitive, lambda, call_with, call_with_terms, tuple_congruence, list_congruence, list_congruence_with_tail, plain_rule, conditional_rule, DefinitionTree, definition, DefinitionTrees, no_definitions, more_definitions}
 use Rattle.str_syntax.specs.Views.{pattern_of, strategy_of, primary_of, definition_of, parameters_of, strategies_of, patterns_of}
 use Rattle.str_parser.specs.Lexemes.{Lexeme, strategy_part}
-use Rattle.str_parser.specs.Items.{Item, token, part, no_build}
+use Rattle.str_parser.specs.Items.{Item, part, no_build}
 use Rattle.str_parser.specs.Phrases.{sign, word, pattern_part, pattern, patterns, other_patterns, strategy, other_strategies, sequence, defined, definitions, primary}
 use Rattle.str_parser.specs.Readings.{Leads, NoRun}
 use Rattle.str_parser.specs.declared.begun.BeforeStrategy.{BeforeStrategy}

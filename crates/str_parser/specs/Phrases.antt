@@ -11,7 +11,7 @@ use Rattle.str_syntax.specs.declared.definition.Origin.TheVariants as origins
 use Rattle.str_syntax.specs.Trees.{Bytes, ParameterTree, absent, strategies_only, with_terms, PatternTree, variable, wildcard, alias, integer, quoted, application, grouped, tuple, list, list_with_tail, applied, applied_to, PatternTrees, no_patterns, more_patterns, StrategyTree, plain_sequence, left_choice, guarded_choice, StrategyTrees, no_strategies, more_strategies, SequenceTree, last, then, StepTree, plain_step, matching, PrimaryTree, identity, failure, match, build, apply, parenthesized, scope, operator, conditional, conditional_else, recursive, let_in, primitive, lambda, call, call_with, call_with_terms, tuple_congruence, list_congruence, list_congruence_with_tail, RuleTree, plain_rule, conditional_rule, DefinitionTree, definition, DefinitionTrees, no_definitions, more_definitions, SortTree, sort, sort_of, SortTrees, no_sorts, more_sorts, DeclarationTree, constant, constructor, injection, SignatureTree, sorts, constructors, FormTree, rule_form, strategy_form, TopTree, SectionTree, signature, rules, strategies, FileTree}
 use Rattle.str_parser.specs.Lexemes.{Lexeme, Part, strategy_part, match_part, build_part, sort_part}
 use Rattle.str_parser.specs.Lexemes.{Lexeme as L}
-use Rattle.str_parser.specs.Items.{Item, token, part, no_build, only, Way, whole, too_deep, Runs}
+use Rattle.str_parser.specs.Items.{Item, token, part, no_build, only, whole, too_deep, Runs}
 
 abbrev pub sign : Mark → Item
 sign m = token (L.mark m)

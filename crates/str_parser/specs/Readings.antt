@@ -1,5 +1,5 @@
 -- What reading from the front of tokens answers.
-use Rattle.std.specs.Prelude.{◌≡◌, ℕ, ◌<◌, ◌≤◌, Bool, true, length, List, [], ◌∷◌, Option, Some, None, Result, Ok, Err}
+use Rattle.std.specs.Prelude.{◌≡◌, ℕ, ◌<◌, ◌≤◌, length, List, [], ◌∷◌, Option, Some, None, Result, Ok, Err}
 use Rattle.std.specs.declared.vec.Vec.{Vec}
 use Rattle.std.specs.declared.alloc.Global.{Global}
 use Rattle.str_lexer.specs.declared.token.Mark.{Mark}
@@ -8,7 +8,7 @@ use Rattle.str_lexer.specs.declared.token.Keyword.{Keyword}
 use Rattle.term_model.specs.declared.fault.Fault.{Fault}
 use Rattle.term_model.specs.declared.fault.Fault.TheVariants as faults
 use Rattle.str_parser.specs.Lexemes.{Lexeme, name, wildcard, integer, quoted, mark, keyword, left_out}
-use Rattle.str_parser.specs.Items.{Item, token, part, no_build, only, Way, whole, too_deep, either, Runs}
+use Rattle.str_parser.specs.Items.{Item, token, part, no_build, only, Way, too_deep, either, Runs}
 use Rattle.str_parser.specs.declared.input.Lexeme.{Lexeme as CodeLexeme}
 use Rattle.str_parser.specs.declared.input.Lexeme.TheVariants as C
 

@@ -1,12 +1,11 @@
 -- Each way that reading can go is a law.
-use Rattle.std.proofs.Common.{◌≡◌, ◌∷◌, ◌+◌, ◌≤◌, arith, refl, sym, ◌∙◌, ap, false, true, length}
+use Rattle.std.proofs.Common.{◌+◌, arith, sym, ◌∙◌, true}
 use Rattle.str_syntax.proofs.ReadLaws.{reads_plain_sequence, reads_left_choice, reads_guarded_choice, reads_last, reads_then, reads_plain_step, reads_matching}
-use Rattle.str_syntax.specs.Trees.{plain_sequence, left_choice, guarded_choice, last, then, plain_step, matching}
 use Rattle.std.proofs.lemmas.Result.{err_from_is_err_and}
-use Rattle.str_syntax.specs.Views.{strategy_of, pattern_of, primary_of, sequence_of, step_of}
-use Rattle.str_parser.specs.Phrases.{step, primary, pattern_part}
-use Rattle.str_parser.specs.Readings.{AtMost, Leads}
-use Rattle.str_parser.specs.Begun.{inner_strategy, inner_sequence, inner_pattern, Written, WrittenPattern, Continues, ContinuesPattern, HasStrategy, HasPattern, HasInner, GoesApplied, wants_match}
+use Rattle.str_syntax.specs.Views.{strategy_of, pattern_of}
+use Rattle.str_parser.specs.Phrases.{step, primary}
+use Rattle.str_parser.specs.Readings.{AtMost}
+use Rattle.str_parser.specs.Begun.{inner_strategy, inner_sequence, inner_pattern, Written, WrittenPattern, HasStrategy, HasPattern, HasInner, GoesApplied, wants_match}
 use Rattle.str_parser.proofs.FaultLaws.{fault_means}
 use Rattle.str_parser.proofs.DescentFaults.{beyond_fault, syntax_fault, next_fault, next_pattern_fault}
 use Rattle.str_parser.proofs.ChoiceLaws.{strategy_nested, strategy_beyond, missing_sequence, nested_sequence, found_plain, missing_right, nested_right, found_choice, missing_first, nested_first, missing_plus, missing_second, nested_second, found_guarded}

@@ -1,4 +1,4 @@
-use Rattle.std.proofs.Common.{◌<◌, ◌+◌, ◌-◌, ◌*◌, length}
+use Rattle.std.proofs.Common.{◌+◌, ◌-◌, ◌*◌, length}
 use Rattle.str_parser.specs.Readings.{Leads}
 use Rattle.str_parser.specs.Begun.{Written, Continues, behind, WrittenPattern, ContinuesPattern, behind_pattern}
 use Rattle.str_parser.proofs.descent.+phrase.Given as goal
