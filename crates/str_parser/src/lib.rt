@@ -20,3 +20,5 @@ pub use file::parse;
 
 #[cfg(test)]
 mod tests;
+#[cfg(test)]
+mod mutations;

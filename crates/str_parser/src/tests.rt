@@ -21,51 +21,57 @@ fn shown(alloc: Global, text: &[u8]) -> Result<String, Fail> {
     Ok(shown)
 }
 
+// Files of sections of all kinds.
+const SECTIONS: &[&str] = &[
+    "",
+    "signature",
+    "rules",
+    "strategies",
+    "signature sorts",
+    "signature sorts A B List(A, B) List(List(A))",
+    "signature constructors",
+    "signature constructors Nil : List(A) Cons : A * List(A) -> List(A)",
+    "signature constructors : A -> B C : A : A * B -> C(D)",
+    "signature sorts A constructors C : A sorts B signature sorts C",
+    "rules r : x -> x",
+    "rules r() : Plus(x, 0) -> x s(f) : _ -> () t(f, g | x, y) : x -> x u(|) : x -> x v(| y) : x -> y",
+    "rules r : x -> y where <f> x => y",
+    "rules f = id r : 1 -> 2 strategies g = r s : \"a\" -> \"b\"",
+];
+
+// Files with each form of strategies and patterns.
+const STRATEGIES: &[&str] = &[
+    "strategies main = id",
+    "strategies main = fail f = main",
+    "strategies main() = id f(s) = s f(s, t | x) = s",
+    "strategies main = ?x; ?_; ?y@1; ?-1; ?\"q\"; ?C(); ?C(x, y); ?(x); ?(); ?(x, y)",
+    "strategies main = ?[]; ?[x]; ?[x, y]; ?[x | y]; ?[x, y | [z]]",
+    "strategies main = !x; !C(<id>); !(<id> 1, 2); ![<f> | <g>]; !<id>",
+    "strategies main = !_; !x@y",
+    "strategies main = <id> <fail> <f> C(1)",
+    "strategies main = (id); (); (id, fail); ((id))",
+    "strategies main = {x: id}; {x, y: ?x}",
+    "strategies main = where(id); not(id); all(id); one(id); some(id)",
+    "strategies main = if id then fail end; if id then fail else id end",
+    "strategies main = rec x(x)",
+    "strategies main = let f = id in f end",
+    "strategies main = let f(s) = s g(| x) = !x in f(g(| 1)) end",
+    "strategies main = prim(\"p\"); prim(\"p\", 1, x)",
+    "strategies main = \\ x -> x \\; \\ x -> y where !1 => y \\",
+    "strategies main = f; f(); f(id); f(id, fail); f(id | 1); f(id, id | 1, x); f(|); f(id |)",
+    "strategies main = []; [id]; [id, fail]; [id | fail]; [id, id | id]",
+    "strategies main = a <+ b; c <+ d",
+    "strategies main = a < b + c",
+    "strategies main = a < b <+ c + d < e + f",
+    "strategies main = a => x; b => C(x) <+ c",
+    "strategies main = ?x <+ s(t|y)",
+    "rules f'(s) : x' -> x'",
+    "strategies main = !x rules r : x -> x signature sorts A strategies f = main",
+];
+
 #[test]
 fn files(rt: HostRuntime) -> Result<(), Fail> {
-    let table = [
-        "",
-        "signature",
-        "rules",
-        "strategies",
-        "signature sorts",
-        "signature sorts A B List(A, B) List(List(A))",
-        "signature constructors",
-        "signature constructors Nil : List(A) Cons : A * List(A) -> List(A)",
-        "signature constructors : A -> B C : A : A * B -> C(D)",
-        "signature sorts A constructors C : A sorts B signature sorts C",
-        "rules r : x -> x",
-        "rules r() : Plus(x, 0) -> x s(f) : _ -> () t(f, g | x, y) : x -> x u(|) : x -> x v(| y) : x -> y",
-        "rules r : x -> y where <f> x => y",
-        "rules f = id r : 1 -> 2 strategies g = r s : \"a\" -> \"b\"",
-        "strategies main = id",
-        "strategies main = fail f = main",
-        "strategies main() = id f(s) = s f(s, t | x) = s",
-        "strategies main = ?x; ?_; ?y@1; ?-1; ?\"q\"; ?C(); ?C(x, y); ?(x); ?(); ?(x, y)",
-        "strategies main = ?[]; ?[x]; ?[x, y]; ?[x | y]; ?[x, y | [z]]",
-        "strategies main = !x; !C(<id>); !(<id> 1, 2); ![<f> | <g>]; !<id>",
-        "strategies main = !_; !x@y",
-        "strategies main = <id> <fail> <f> C(1)",
-        "strategies main = (id); (); (id, fail); ((id))",
-        "strategies main = {x: id}; {x, y: ?x}",
-        "strategies main = where(id); not(id); all(id); one(id); some(id)",
-        "strategies main = if id then fail end; if id then fail else id end",
-        "strategies main = rec x(x)",
-        "strategies main = let f = id in f end",
-        "strategies main = let f(s) = s g(| x) = !x in f(g(| 1)) end",
-        "strategies main = prim(\"p\"); prim(\"p\", 1, x)",
-        "strategies main = \\ x -> x \\; \\ x -> y where !1 => y \\",
-        "strategies main = f; f(); f(id); f(id, fail); f(id | 1); f(id, id | 1, x); f(|); f(id |)",
-        "strategies main = []; [id]; [id, fail]; [id | fail]; [id, id | id]",
-        "strategies main = a <+ b; c <+ d",
-        "strategies main = a < b + c",
-        "strategies main = a < b <+ c + d < e + f",
-        "strategies main = a => x; b => C(x) <+ c",
-        "strategies main = ?x <+ s(t|y)",
-        "rules f'(s) : x' -> x'",
-        "strategies main = !x rules r : x -> x signature sorts A strategies f = main",
-    ];
-    for text in table {
+    for text in SECTIONS.iter().chain(STRATEGIES) {
         assert_eq!(rt;
             shown(rt.alloc(), text.as_bytes())?.as_str(),
             "file",
@@ -75,81 +81,96 @@ fn files(rt: HostRuntime) -> Result<(), Fail> {
     Ok(())
 }
 
-// Where the text is refused as no phrase; the table has it in two pieces, and the fault stands between them.
+// Texts that are no files, in two pieces, with the fault between them: in sections.
+const NO_SECTIONS: &[(&str, &str)] = &[
+    ("", "id"),
+    ("", "main = id"),
+    ("signature ", "x"),
+    ("signature sorts A(", ")"),
+    ("signature sorts A(B,", ")"),
+    ("signature sorts A(B ", "C)"),
+    ("signature constructors C ", "D : A"),
+    ("signature constructors ", "f' : A"),
+    ("signature constructors : A ", "C : A"),
+    ("signature constructors C : A * B ", "D : A"),
+    ("signature constructors C : A -> B ", "-> C"),
+    ("signature constructors C : ", "* A"),
+    ("rules r ", "x -> x"),
+    ("rules r : x ", "= x"),
+    ("rules r : x -> ", "where id"),
+    ("rules r : x -> x where ", "-> x"),
+    ("rules r : ", "<id> x -> x"),
+    ("rules r(f, ", ") : x -> x"),
+    ("rules r(f | x ", "| y) : x -> x"),
+    ("strategies f(", "1) = id"),
+];
+
+// In patterns.
+const NO_PATTERNS: &[(&str, &str)] = &[
+    ("strategies main = ", "_"),
+    ("strategies main = !<id> f ", "= id"),
+    ("strategies main = ?", "<id>"),
+    ("strategies main = ?x@", "; id"),
+    ("strategies main = ?C(x,", ")"),
+    ("strategies main = ?(x ", "y)"),
+    ("strategies main = ?[", "| x]"),
+    ("strategies main = ?[x | y", ", z]"),
+    ("strategies main = ?1 ", "2"),
+    ("strategies main = ?\"q\" ", "\"q\""),
+    ("strategies main = ?() ", "()"),
+    ("strategies main = !f'", "(1)"),
+    ("strategies main = ![<", "1>]"),
+];
+
+// In strategies.
+const NO_STRATEGIES: &[(&str, &str)] = &[
+    ("strategies main = id ", "id"),
+    ("strategies main = fail", ")"),
+    ("strategies main = a <+ ", ""),
+    ("strategies main = a < b <+ c", ""),
+    ("strategies main = a; ", "; b"),
+    ("strategies main = a => x ", "=> y"),
+    ("strategies main = <id> ", "; id"),
+    ("strategies main = (a, ", ")"),
+    ("strategies main = [", "| a]"),
+    ("strategies main = [a | b", ", c]"),
+    ("strategies main = {", ": id}"),
+    ("strategies main = where ", "id"),
+    ("strategies main = not(", ")"),
+    ("strategies main = all(a", ", b)"),
+    ("strategies main = one(a; b", ""),
+    ("strategies main = some", ""),
+    ("strategies main = if a ", "else b end"),
+    ("strategies main = if a then b else c ", "else d end"),
+    ("strategies main = rec ", "(id)"),
+    ("strategies main = let ", "in id end"),
+    ("strategies main = let f = id in f", ""),
+    ("strategies main = prim(", "p)"),
+    ("strategies main = prim(\"p\" ", "1)"),
+    ("strategies main = \\ x -> x ", "; id"),
+    ("strategies main = f(a ", "b)"),
+    ("strategies main = f(a | 1,", ")"),
+    ("strategies main = id rules f ", "strategies"),
+];
+
+// What the text of these pieces is read as.
+fn joined(alloc: Global, front: &str, back: &str) -> Result<String, Fail> {
+    let mut text = front.as_bytes().to_vec(alloc)?;
+    text.extend_from_slice(back.as_bytes())?;
+    shown(alloc, &text)
+}
+
 #[test]
 fn no_files(rt: HostRuntime) -> Result<(), Fail> {
-    let table = [
-        ("", "id"),
-        ("", "main = id"),
-        ("signature ", "x"),
-        ("signature sorts A(", ")"),
-        ("signature sorts A(B,", ")"),
-        ("signature sorts A(B ", "C)"),
-        ("signature constructors C ", "D : A"),
-        ("signature constructors ", "f' : A"),
-        ("signature constructors : A ", "C : A"),
-        ("signature constructors C : A * B ", "D : A"),
-        ("signature constructors C : A -> B ", "-> C"),
-        ("signature constructors C : ", "* A"),
-        ("rules r ", "x -> x"),
-        ("rules r : x ", "= x"),
-        ("rules r : x -> ", "where id"),
-        ("rules r : x -> x where ", "-> x"),
-        ("rules r : ", "<id> x -> x"),
-        ("rules r(f, ", ") : x -> x"),
-        ("rules r(f | x ", "| y) : x -> x"),
-        ("strategies f(", "1) = id"),
-        ("strategies main = ", "_"),
-        ("strategies main = !<id> f ", "= id"),
-        ("strategies main = ?", "<id>"),
-        ("strategies main = ?x@", "; id"),
-        ("strategies main = ?C(x,", ")"),
-        ("strategies main = ?(x ", "y)"),
-        ("strategies main = ?[", "| x]"),
-        ("strategies main = ?[x | y", ", z]"),
-        ("strategies main = ?1 ", "2"),
-        ("strategies main = ?\"q\" ", "\"q\""),
-        ("strategies main = ?() ", "()"),
-        ("strategies main = !f'", "(1)"),
-        ("strategies main = ![<", "1>]"),
-        ("strategies main = id ", "id"),
-        ("strategies main = fail", ")"),
-        ("strategies main = a <+ ", ""),
-        ("strategies main = a < b <+ c", ""),
-        ("strategies main = a; ", "; b"),
-        ("strategies main = a => x ", "=> y"),
-        ("strategies main = <id> ", "; id"),
-        ("strategies main = (a, ", ")"),
-        ("strategies main = [", "| a]"),
-        ("strategies main = [a | b", ", c]"),
-        ("strategies main = {", ": id}"),
-        ("strategies main = where ", "id"),
-        ("strategies main = not(", ")"),
-        ("strategies main = all(a", ", b)"),
-        ("strategies main = one(a; b", ""),
-        ("strategies main = some", ""),
-        ("strategies main = if a ", "else b end"),
-        ("strategies main = if a then b else c ", "else d end"),
-        ("strategies main = rec ", "(id)"),
-        ("strategies main = let ", "in id end"),
-        ("strategies main = let f = id in f", ""),
-        ("strategies main = prim(", "p)"),
-        ("strategies main = prim(\"p\" ", "1)"),
-        ("strategies main = \\ x -> x ", "; id"),
-        ("strategies main = f(a ", "b)"),
-        ("strategies main = f(a | 1,", ")"),
-        ("strategies main = id rules f ", "strategies"),
-    ];
-    for (front, back) in table {
-        let mut text = front.as_bytes().to_vec(rt.alloc())?;
-        text.extend_from_slice(back.as_bytes())?;
-        let mut expected = String::new(rt.alloc());
-        write!(expected, "Syntax {}", front.len())?;
-        assert_eq!(rt;
-            shown(rt.alloc(), &text)?.as_str(),
-            expected.as_str(),
-            "{front}|{back}"
-        );
+    for table in [NO_SECTIONS, NO_PATTERNS, NO_STRATEGIES] {
+        for (front, back) in table {
+            let expected = format!(in rt.alloc(); "Syntax {}", front.len())?;
+            assert_eq!(rt;
+                joined(rt.alloc(), front, back)?.as_str(),
+                expected.as_str(),
+                "{front}|{back}"
+            );
+        }
     }
     Ok(())
 }

@@ -1,7 +1,7 @@
 -- Definitions, the text of a term and a budget have at most one line.
-use Rattle.std.proofs.Common.{◌≡◌, ℕ, ◌<◌, ◌≤◌, List, length, refl, sym, ◌∙◌, ap, subst, arith, inl, inr, Ok, Err, ◌++◌, codes}
+use Rattle.std.proofs.Common.{◌≡◌, ℕ, ◌<◌, ◌≤◌, List, length, refl, sym, ◌∙◌, ap, subst, arith, inl, inr, Ok, Err, Option, Some, None, IfSome, true, false, ◌++◌, codes}
 use Rattle.term_model.specs.declared.fault.Fault.{Fault}
-use Rattle.term_model.specs.declared.fault.Fault.TheVariants.{DefsTooLong, Lexical, Syntax, TermTooLong, TermOversize, TermSyntax}
+use Rattle.term_model.specs.declared.fault.Fault.TheVariants.{DefsTooLong, Lexical, ReservedWord, Syntax, Nesting, TermTooLong, TermOversize, TermSyntax}
 use Rattle.term_model.specs.Fault.{word_of}
 use Rattle.term_model.specs.Flat.{Meaning}
 use Rattle.term_model.specs.Term.{Tree}
@@ -11,47 +11,107 @@ use Rattle.core_lang.proofs.Unique.{unique}
 use Rattle.str_pipeline.specs.declared.status.Status.{Status}
 use Rattle.str_pipeline.specs.declared.status.Status.TheVariants.{Rewritten, Failed, Oversize, Spent, Refused}
 use Rattle.str_pipeline.specs.SourceTree.{FileTree}
-use Rattle.str_pipeline.specs.Judged.{max_definitions, max_term, HasNoTokens, HasNoPhrase, AreRefused, AreAccepted, IsRefused, IsAccepted}
+use Rattle.str_lexer.specs.declared.token.Token.{Token}
+use Rattle.str_lexer.specs.Lexes.{OnlyTokens, HoldsLeftOut, holds_left_out}
+use Rattle.str_syntax.specs.Trees as whole
+use Rattle.str_parser.specs.Lexemes.{lexemes}
+use Rattle.str_parser.specs.Phrases.{IsPhrase, TooNested}
+use Rattle.str_pipeline.specs.FirstPart.{file_in}
+use Rattle.str_pipeline.specs.Judged.{max_definitions, max_term, HasNoTokens, AreTokens, AreTooNested, HasNoPhrase, AreRefused, AreAccepted, IsRefused, IsAccepted}
 use Rattle.str_pipeline.specs.Written.{Rewrites, IsAnswer, IsFirstFault, IsWritten, line_of, refusal_line}
 
 -- ---- refusals of definitions
+
+some_is_no_none : {A : Type 0} {x : A} → Some x ≡ None → ⊥
+some_is_no_none same = cc
+
+some_is_one : {A : Type 0} {x y : A} → Some x ≡ Some y → x ≡ y
+some_is_one same = cc
+
+-- tokens of the same bytes
+same_tokens : {bytes : List ℕ} {ts us : List Token} → OnlyTokens bytes ts → OnlyTokens bytes us → ts ≡ us
+same_tokens {ts = ts} one other = other.only ts one.tokens
+
+-- bytes whose tokens hold no word of a left-out part do not hold one
+none_held : {bytes : List ℕ} {ts : List Token} → AreTokens bytes ts → HoldsLeftOut bytes → ⊥
+none_held {ts = ts} are held =
+    let holds : holds_left_out ts ≡ true = subst (λ us. holds_left_out us ≡ true) (same_tokens held.only are.only) held.holds in
+    let wrong : false ≡ true = sym are.none_left_out ∙ holds in cc
+
+-- tokens that are nested too deep are no others that are not
+not_nested : {bytes : List ℕ} {ts : List Token} → AreTokens bytes ts → (TooNested (lexemes bytes ts) → ⊥) → AreTooNested bytes → ⊥
+not_nested {bytes = bytes} are flat deep =
+    flat (subst (λ us. TooNested (lexemes bytes us)) (same_tokens deep.are_tokens.only are.only) deep.nested)
 
 -- the causes, without the place
 data Cause (defs : List ℕ) : Fault → Type 0 where
   too_long : max_definitions < length defs → Cause defs DefsTooLong
   no_tokens : {at : ℕ} → length defs ≤ max_definitions → HasNoTokens defs → Cause defs (Lexical at)
+  left_out : {at : ℕ} → length defs ≤ max_definitions → HoldsLeftOut defs → Cause defs (ReservedWord at)
+  too_nested : {at : ℕ} → length defs ≤ max_definitions → AreTooNested defs → Cause defs (Nesting at)
   no_phrase : {at : ℕ} → length defs ≤ max_definitions → HasNoPhrase defs → Cause defs (Syntax at)
 
 cause_of : (defs : List ℕ) (fault : Fault) → AreRefused defs fault → Cause defs fault
 cause_of defs DefsTooLong long = too_long long
 cause_of defs (Lexical at) (short, none) = no_tokens short none
+cause_of defs (ReservedWord at) (short, held) = left_out short held
+cause_of defs (Nesting at) (short, deep) = too_nested short deep
 cause_of defs (Syntax at) (short, none) = no_phrase short none
 cause_of defs _ refused = absurd refused
 
 same_cause : {defs : List ℕ} {f g : Fault} → Cause defs f → Cause defs g → word_of f ≡ word_of g
 same_cause (too_long long) (too_long also) = refl
 same_cause (no_tokens short none) (no_tokens also nothing) = refl
+same_cause (left_out short held) (left_out also holds) = refl
+same_cause (too_nested short deep) (too_nested also nested) = refl
 same_cause (no_phrase short none) (no_phrase also nothing) = refl
 same_cause (too_long long) (no_tokens short none) = absurd (omega arith)
+same_cause (too_long long) (left_out short held) = absurd (omega arith)
+same_cause (too_long long) (too_nested short deep) = absurd (omega arith)
 same_cause (too_long long) (no_phrase short none) = absurd (omega arith)
 same_cause (no_tokens short none) (too_long long) = absurd (omega arith)
+same_cause (left_out short held) (too_long long) = absurd (omega arith)
+same_cause (too_nested short deep) (too_long long) = absurd (omega arith)
 same_cause (no_phrase short none) (too_long long) = absurd (omega arith)
-same_cause (no_tokens short none) (no_phrase also some) = absurd (none some.tokens some.lexes)
-same_cause (no_phrase short some) (no_tokens also none) = absurd (none some.tokens some.lexes)
+same_cause (no_tokens short none) (left_out also held) = absurd (none held.tokens held.only.tokens)
+same_cause (no_tokens short none) (too_nested also deep) = absurd (none deep.tokens deep.are_tokens.only.tokens)
+same_cause (no_tokens short none) (no_phrase also some) = absurd (none some.tokens some.are_tokens.only.tokens)
+same_cause (left_out also held) (no_tokens short none) = absurd (none held.tokens held.only.tokens)
+same_cause (too_nested also deep) (no_tokens short none) = absurd (none deep.tokens deep.are_tokens.only.tokens)
+same_cause (no_phrase also some) (no_tokens short none) = absurd (none some.tokens some.are_tokens.only.tokens)
+same_cause (left_out short held) (too_nested also deep) = absurd (none_held deep.are_tokens held)
+same_cause (left_out short held) (no_phrase also some) = absurd (none_held some.are_tokens held)
+same_cause (too_nested also deep) (left_out short held) = absurd (none_held deep.are_tokens held)
+same_cause (no_phrase also some) (left_out short held) = absurd (none_held some.are_tokens held)
+same_cause (too_nested short deep) (no_phrase also some) = absurd (not_nested some.are_tokens some.not_nested deep)
+same_cause (no_phrase also some) (too_nested short deep) = absurd (not_nested some.are_tokens some.not_nested deep)
+
+-- the phrase of other tokens of the same bytes
+phrase_again : {bytes : List ℕ} {ts us : List Token} (f : whole.FileTree) → AreTokens bytes ts → AreTokens bytes us → IsPhrase (lexemes bytes ts) f →
+    IsPhrase (lexemes bytes us) f
+phrase_again {bytes = bytes} f one other is = subst (λ ts. IsPhrase (lexemes bytes ts) f) (same_tokens one.only other.only) is
 
 -- definitions that are refused are not those of a file
 no_file : {defs : List ℕ} {fault : Fault} {f : FileTree} → Cause defs fault → AreAccepted defs f → ⊥
 no_file (too_long long) (short, file) = omega arith
-no_file (no_tokens short none) (also, file) = none file.tokens file.only_tokens.tokens
+no_file (no_tokens short none) (also, file) = none file.tokens file.are_tokens.only.tokens
+no_file (left_out short held) (also, file) = none_held file.are_tokens held
+no_file (too_nested short deep) (also, file) = not_nested file.are_tokens file.not_nested deep
 no_file {f = f} (no_phrase short some) (also, file) =
-    let same : some.tokens ≡ file.tokens = file.only_tokens.only some.tokens some.lexes in
-    some.none f (rw same file.only_phrase.phrase)
+    let none = some.none file.file (phrase_again file.file file.are_tokens some.are_tokens file.only_phrase.phrase) in
+    some_is_no_none (sym file.in_first_part ∙ none)
+
+-- nor is what a reader told, where these bytes are all of it
+pub none_refused : (told : Option (List ℕ)) (defs : List ℕ) (f : FileTree) (Y : Type 0) → IfSome told (λ d. defs ≡ d) → AreAccepted defs f →
+    IfSome told (λ d. (fault : Fault) → AreRefused d fault → Y)
+none_refused None defs f Y same accepted = tt
+none_refused (Some d) defs f Y same accepted = λ fault refused. absurd (no_file (cause_of defs fault (rw same refused)) accepted)
 
 -- they are those of one file
 one_file : {defs : List ℕ} {f g : FileTree} → AreAccepted defs f → AreAccepted defs g → f ≡ g
-one_file {f = f} (short, file) (also, other) =
-    let same : file.tokens ≡ other.tokens = other.only_tokens.only file.tokens file.only_tokens.tokens in
-    other.only_phrase.only f (rw (← same) file.only_phrase.phrase)
+one_file {f = f} {g = g} (short, file) (also, other) =
+    let same = other.only_phrase.only_one file.file (phrase_again file.file file.are_tokens other.are_tokens file.only_phrase.phrase) in
+    some_is_one (sym file.in_first_part ∙ (ap file_in same ∙ other.in_first_part))
 
 -- ---- refusals of terms
 

@@ -1,5 +1,5 @@
 -- What is written follows from the run of a program.
-use Rattle.std.proofs.Common.{◌≡◌, ℕ, List, length, ◌≤◌, refl, Ok, inl, ap, subst}
+use Rattle.std.proofs.Common.{◌≡◌, ℕ, List, length, ◌<◌, ◌≤◌, refl, Ok, inl, ap, subst}
 use Rattle.term_model.specs.Term.{Tree}
 use Rattle.term_model.specs.Flat.{Meaning}
 use Rattle.core_lang.specs.declared.run.Outcome.{Outcome}
@@ -76,6 +76,13 @@ of_told None term d t X same_defs same_term known = tt
 of_told (Some told) None d t X same_defs same_term known = tt
 of_told (Some told) (Some text) d t X same_defs same_term known = rw (← same_defs, ← same_term) known
 
+-- the same where of the term only its length is known
+pub of_told_long : (defs term : Option (List ℕ)) (d : List ℕ) (most : ℕ) (X : List ℕ → List ℕ → Type 0) → IfSome defs (λ told. d ≡ told)
+    → IfSome term (λ told. most < length told) → ((t : List ℕ) → most < length t → X d t) → IfSome defs (λ d. IfSome term (λ t. X d t))
+of_told_long None term d most X same_defs long known = tt
+of_told_long (Some told) None d most X same_defs long known = tt
+of_told_long (Some told) (Some text) d most X same_defs long known = rw (← same_defs) (known text long)
+
 -- what is known at the split that was found holds at each split
 pub of_split : (old new : Option (List ℕ)) (defs : List ℕ) (rest : List ℕ → List ℕ) (X : List ℕ → List ℕ → Type 0)
     → IfSome old (λ told. IsSomeAnd new (λ left. IsSplit told defs (rest left)))
@@ -98,7 +105,9 @@ pub program_fault : (defs term : List ℕ) (budget : ℕ) (fault : Fault) → le
     → IsResult defs term budget (Err fault)
 program_fault defs term budget faults.Memory short made = tt
 program_fault defs term budget (faults.Lexical at) short made = inl (short, made)
+program_fault defs term budget (faults.ReservedWord at) short made = inl (short, made)
 program_fault defs term budget (faults.Syntax at) short made = inl (short, made)
+program_fault defs term budget (faults.Nesting at) short made = inl (short, made)
 program_fault defs term budget _ short made = absurd made
 
 -- a result that is this fault

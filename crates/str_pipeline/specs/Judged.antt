@@ -1,15 +1,18 @@
 -- Which definitions and which term texts are refused, and what the others stand for.
-use Rattle.std.specs.Prelude.{ℕ, ◌<◌, ◌≤◌, List, length, Result, Ok, Err}
+use Rattle.std.specs.Prelude.{◌≡◌, ℕ, ◌<◌, ◌≤◌, false, List, length, Some, None, Result, Ok, Err}
 use Rattle.term_model.specs.declared.fault.Fault.{Fault}
-use Rattle.term_model.specs.declared.fault.Fault.TheVariants.{Memory, DefsTooLong, Lexical, Syntax, TermTooLong, TermOversize, TermSyntax}
+use Rattle.term_model.specs.declared.fault.Fault.TheVariants.{Memory, DefsTooLong, Lexical, ReservedWord, Syntax, Nesting, TermTooLong, TermOversize, TermSyntax}
 use Rattle.term_model.specs.Term.{Tree}
 use Rattle.aterm_text.specs.ReadTerm.{IsReading}
 use Rattle.core_lang.specs.Resolution.{ResolvesProgram}
 use Rattle.core_lang.specs.Core.{CoreParts, program_of}
-use Rattle.str_pipeline.specs.declared.token.Token.{Token}
-use Rattle.str_pipeline.specs.Tokens.{Lexes, OnlyTokens}
+use Rattle.str_lexer.specs.declared.token.Token.{Token}
+use Rattle.str_lexer.specs.Lexes.{Lexes, OnlyTokens, HoldsLeftOut, holds_left_out}
+use Rattle.str_syntax.specs.Trees as whole
+use Rattle.str_parser.specs.Lexemes.{lexemes}
+use Rattle.str_parser.specs.Phrases.{IsPhrase, OnlyPhrase, TooNested}
 use Rattle.str_pipeline.specs.SourceTree.{FileTree}
-use Rattle.str_pipeline.specs.Phrases.{IsPhrase, OnlyPhrase}
+use Rattle.str_pipeline.specs.FirstPart.{file_in}
 use Rattle.str_pipeline.specs.Reduction.{program_core, main_name}
 
 -- the most bytes of definitions, and of the text of a term
@@ -23,22 +26,39 @@ max_term = 16_777_216
 abbrev pub HasNoTokens : List ℕ → Type 0
 HasNoTokens bytes = (ts : List Token) → ¬ (Lexes bytes ts)
 
--- the bytes are tokens that are no phrase
+-- the bytes are these tokens and no others, and none of them is a word of a part that is left out
+pub record AreTokens (bytes : List ℕ) (ts : List Token) : Type 0 where
+  pub only : OnlyTokens bytes ts
+  pub none_left_out : holds_left_out ts ≡ false
+
+-- the bytes are tokens that are nested too deep
+pub record AreTooNested (bytes : List ℕ) : Type 0 where
+  pub tokens : List Token
+  pub are_tokens : AreTokens bytes tokens
+  pub nested : TooNested (lexemes bytes tokens)
+
+-- the bytes are tokens that are not nested too deep, and the phrase of no file of the first part
 pub record HasNoPhrase (bytes : List ℕ) : Type 0 where
   pub tokens : List Token
-  pub lexes : Lexes bytes tokens
-  pub none : (f : FileTree) → ¬ (IsPhrase tokens f)
+  pub are_tokens : AreTokens bytes tokens
+  pub not_nested : ¬ (TooNested (lexemes bytes tokens))
+  pub none : (f : whole.FileTree) → IsPhrase (lexemes bytes tokens) f → file_in f ≡ None
 
--- the bytes are these tokens and no others, and these the phrase of this file and of no other
+-- the bytes are tokens, and these the phrase of one file, which is this file of the first part
 pub record IsFile (bytes : List ℕ) (f : FileTree) : Type 0 where
   pub tokens : List Token
-  pub only_tokens : OnlyTokens bytes tokens
-  pub only_phrase : OnlyPhrase tokens f
+  pub are_tokens : AreTokens bytes tokens
+  pub not_nested : ¬ (TooNested (lexemes bytes tokens))
+  pub file : whole.FileTree
+  pub only_phrase : OnlyPhrase (lexemes bytes tokens) file
+  pub in_first_part : file_in file ≡ Some f
 
 -- the definitions are refused with this fault
 abbrev pub AreRefused : List ℕ → Fault → Type 0
 AreRefused defs DefsTooLong = max_definitions < length defs
 AreRefused defs (Lexical at) = (length defs ≤ max_definitions) × HasNoTokens defs
+AreRefused defs (ReservedWord at) = (length defs ≤ max_definitions) × HoldsLeftOut defs
+AreRefused defs (Nesting at) = (length defs ≤ max_definitions) × AreTooNested defs
 AreRefused defs (Syntax at) = (length defs ≤ max_definitions) × HasNoPhrase defs
 AreRefused defs fault = ⊥
 
@@ -62,5 +82,7 @@ abbrev pub IsProgram : List ℕ → Result CoreParts Fault → Type 0
 IsProgram defs (Ok core) = (f : FileTree) × IsFile defs f × ResolvesProgram (program_core f) main_name (program_of core) core.main
 IsProgram defs (Err Memory) = Unit {0}
 IsProgram defs (Err (Lexical at)) = HasNoTokens defs
+IsProgram defs (Err (ReservedWord at)) = HoldsLeftOut defs
+IsProgram defs (Err (Nesting at)) = AreTooNested defs
 IsProgram defs (Err (Syntax at)) = HasNoPhrase defs
 IsProgram defs (Err fault) = ⊥

@@ -1,15 +1,12 @@
 pub mod Asked
-pub mod Beginnings
 pub mod Device
+pub mod FirstPart
 pub mod Joined
 pub mod Judged
-pub mod Phrases
 pub mod Placement
 pub mod Reduction
-pub mod Runs
 pub mod Search
 pub mod SourceTree
 pub mod Statuses
-pub mod Tokens
 pub mod Transfer
 pub mod Written

@@ -1,6 +1,6 @@
 -- The faults that a status holds.
 use Rattle.term_model.specs.declared.fault.Fault.{Fault}
-use Rattle.term_model.specs.declared.fault.Fault.TheVariants.{Memory, Read, Write, DefsTooLong, Lexical, Syntax, TermTooLong, TermOversize, TermSyntax}
+use Rattle.term_model.specs.declared.fault.Fault.TheVariants.{Memory, Read, Write, DefsTooLong, Lexical, ReservedWord, Syntax, Nesting, TermTooLong, TermOversize, TermSyntax}
 use Rattle.str_pipeline.specs.declared.status.Status.{Status}
 use Rattle.str_pipeline.specs.declared.status.Status.TheVariants.{Refused}
 
@@ -8,14 +8,18 @@ use Rattle.str_pipeline.specs.declared.status.Status.TheVariants.{Refused}
 abbrev pub IsOfDefinitions : Fault → Type 0
 IsOfDefinitions DefsTooLong = Unit {0}
 IsOfDefinitions (Lexical at) = Unit {0}
+IsOfDefinitions (ReservedWord at) = Unit {0}
 IsOfDefinitions (Syntax at) = Unit {0}
+IsOfDefinitions (Nesting at) = Unit {0}
 IsOfDefinitions fault = ⊥
 
 -- a fault of definitions or of a term
 abbrev pub IsRefusal : Fault → Type 0
 IsRefusal DefsTooLong = Unit {0}
 IsRefusal (Lexical at) = Unit {0}
+IsRefusal (ReservedWord at) = Unit {0}
 IsRefusal (Syntax at) = Unit {0}
+IsRefusal (Nesting at) = Unit {0}
 IsRefusal TermTooLong = Unit {0}
 IsRefusal (TermOversize at) = Unit {0}
 IsRefusal (TermSyntax at) = Unit {0}

@@ -4,10 +4,10 @@
 mod answer;
 mod counted;
 mod faulty;
+mod first_part;
 mod joined;
 mod laws;
-mod lexer;
-mod parser;
+mod name;
 mod pipeline;
 mod program;
 mod reduction;
@@ -18,7 +18,6 @@ mod status;
 mod tally;
 #[cfg(test)]
 mod tests;
-mod token;
 mod variables;
 
 pub use answer::{MAX_DEFINITIONS, MAX_TERM};

@@ -232,7 +232,7 @@ fn reduce_patterns(
 #[cfg(test)]
 mod tests {
     use super::*;
-    use crate::token::Name;
+    use crate::name::Name;
     use std::test::Fail;
 
     // The tuple of the variables of these names.

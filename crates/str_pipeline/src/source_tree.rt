@@ -1,5 +1,5 @@
 // The trees of definition files: one type for each kind of phrase.
-use crate::token::Name;
+use crate::name::Name;
 
 /// A definition file: the strategy that main is.
 #[derive(Drop)]

@@ -7,7 +7,7 @@ ghost use Rattle.std.specs.Str.{bytes_eq};
 ghost use Rattle.core_lang.specs.Resolved.{here};
 ghost use Rattle.str_pipeline.specs.Placement.{slot_of, with_name};
 
-use crate::token::Name;
+use crate::name::Name;
 use core_lang::Place;
 use indexmap::IndexSet;
 use std::alloc::{AllocError, Global};

@@ -30,7 +30,39 @@ fn statuses(rt: HostRuntime) -> Result<(), Fail> {
             None,
             2,
             "#refused Lexical\n",
-            "strc: Lexical at byte ",
+            "strc: Lexical at byte 18\n",
+        ),
+        (
+            "strategies main = id /* id",
+            None,
+            None,
+            2,
+            "#refused Lexical\n",
+            "strc: Lexical at byte 21\n",
+        ),
+        (
+            "strategies main = id; with\n#term\n1",
+            None,
+            None,
+            2,
+            "#refused ReservedWord\n",
+            "strc: ReservedWord at byte 22\n",
+        ),
+        (
+            "strategies main = id )\n#term\n1",
+            None,
+            None,
+            2,
+            "#refused Syntax\n",
+            "strc: Syntax at byte 21\n",
+        ),
+        (
+            "strategies main = id;\n#term\n1",
+            None,
+            None,
+            2,
+            "#refused Syntax\n",
+            "strc: Syntax at byte 22\n",
         ),
         (
             "strategies main = foo\n#term\n1",
@@ -38,7 +70,7 @@ fn statuses(rt: HostRuntime) -> Result<(), Fail> {
             None,
             2,
             "#refused Syntax\n",
-            "strc: Syntax at byte ",
+            "strc: Syntax at byte 0\n",
         ),
         (
             "strategies main = id\n#term\nF(1",
@@ -75,11 +107,7 @@ fn statuses(rt: HostRuntime) -> Result<(), Fail> {
             "{text}"
         );
         assert_eq!(rt; out.written(), written.as_bytes(), "{text}");
-        assert!(rt;
-            diag.written().starts_with(diagnostics.as_bytes()),
-            "{text}"
-        );
-        assert_eq!(rt; diag.written().is_empty(), diagnostics.is_empty(), "{text}");
+        assert_eq!(rt; diag.written(), diagnostics.as_bytes(), "{text}");
     }
     Ok(())
 }
@@ -94,5 +122,21 @@ fn a_failing_diagnostic_changes_nothing(rt: HostRuntime) -> Result<(), Fail> {
         assert_eq!(rt; run(alloc, &mut input, &mut out, &mut diag), 2);
         assert_eq!(rt; out.written(), b"#refused Lexical\n".as_slice());
     }
+    Ok(())
+}
+
+#[test]
+fn the_place_of_nesting(rt: HostRuntime) -> Result<(), Fail> {
+    let alloc = rt.alloc();
+    let mut text = b"strategies main = ".to_vec(alloc)?;
+    for _ in 0..201 {
+        text.push(b'(')?;
+    }
+    let mut input = Faulty::reader(text, 5, None);
+    let mut out = Faulty::writer(alloc, 100, 3, None, false)?;
+    let mut diag = Faulty::writer(alloc, 100, 3, None, false)?;
+    assert_eq!(rt; run(alloc, &mut input, &mut out, &mut diag), 2);
+    assert_eq!(rt; out.written(), b"#refused Nesting\n".as_slice());
+    assert_eq!(rt; diag.written(), b"strc: Nesting at byte 218\n".as_slice());
     Ok(())
 }

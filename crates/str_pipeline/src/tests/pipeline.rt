@@ -167,6 +167,7 @@ fn refused_definitions_leave_the_term(rt: HostRuntime) -> Result<(), Fail> {
     for (defs, line) in [
         ("strategies main = #", b"#refused Lexical\n".as_slice()),
         ("strategies main = id;", b"#refused Syntax\n".as_slice()),
+        ("module m", b"#refused ReservedWord\n".as_slice()),
     ] {
         let mut first = Faulty::reader(defs.as_bytes().to_vec(alloc)?, 9, None);
         let mut second = Faulty::reader(b"1".to_vec(alloc)?, 9, Some(1));

@@ -99,7 +99,7 @@ pub(super) const ROWS: &[Row] = &[
     Row {
         defs: &[("strategies main = ", 1), ("(", 200), ("id", 1), (")", 200)],
         term: &[("1", 1)],
-        line: &[("#refused Syntax", 1)],
+        line: &[("#refused Nesting", 1)],
         rules: None,
     },
     Row {
@@ -141,11 +141,35 @@ pub(super) const ROWS: &[Row] = &[
     Row {
         defs: &[("strategies main = ", 1), ("(", 201)],
         term: &[("1", 1)],
-        line: &[("#refused Syntax", 1)],
+        line: &[("#refused Nesting", 1)],
         rules: None,
     },
     Row {
         defs: &[("strategies main = ", 1), ("(", 200)],
+        term: &[("1", 1)],
+        line: &[("#refused Syntax", 1)],
+        rules: None,
+    },
+    Row {
+        defs: &[("strategies main = ?(x", 1), (",_", 100_000), (")", 1)],
+        term: &[("(1,2)", 1)],
+        line: &[("#failed", 1)],
+        rules: Some(3),
+    },
+    Row {
+        defs: &[("// swaps\nstrategies main = ?(x,/*,*/y); !(y,x) //", 1)],
+        term: &[("(1,2)", 1)],
+        line: &[("(2,1)", 1)],
+        rules: Some(5),
+    },
+    Row {
+        defs: &[("rules r: x -> x strategies main = !1", 1)],
+        term: &[("1", 1)],
+        line: &[("#refused Syntax", 1)],
+        rules: None,
+    },
+    Row {
+        defs: &[("strategies main = !_", 1)],
         term: &[("1", 1)],
         line: &[("#refused Syntax", 1)],
         rules: None,
@@ -159,7 +183,7 @@ pub(super) const ROWS: &[Row] = &[
     Row {
         defs: &[("strategies main = ", 1), ("id;", 200), ("id", 1)],
         term: &[("1", 1)],
-        line: &[("#refused Syntax", 1)],
+        line: &[("#refused Nesting", 1)],
         rules: None,
     },
     Row {
@@ -171,7 +195,7 @@ pub(super) const ROWS: &[Row] = &[
     Row {
         defs: &[("module m", 1)],
         term: &[("1", 1)],
-        line: &[("#refused Syntax", 1)],
+        line: &[("#refused ReservedWord", 1)],
         rules: None,
     },
     Row {

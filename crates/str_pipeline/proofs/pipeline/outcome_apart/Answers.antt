@@ -1,7 +1,41 @@
-use Rattle.str_pipeline.specs.Judged.{IsFile}
-use Rattle.str_pipeline.specs.Written.{IsResult}
-use Rattle.str_pipeline.proofs.WrittenLaws.{of_told}
+use Rattle.std.proofs.Common.{◌≤◌, inr, length}
+use Rattle.term_model.specs.declared.fault.Fault.TheVariants.{TermTooLong}
+use Rattle.str_pipeline.specs.Judged.{IsFile, max_definitions, max_term}
+use Rattle.str_pipeline.specs.Written.{IsFirstFault, IsResult}
+use Rattle.str_pipeline.proofs.OneLine.{none_refused}
+use Rattle.str_pipeline.proofs.WrittenLaws.{of_told, of_told_long}
 use Rattle.str_pipeline.proofs.pipeline.outcome_apart.Goals as goal
+
+pub returns-in_err-text-2-clause-unread_told : goal.returns-in_err-text-2-clause-unread_told
+returns-in_err-text-2-clause-unread_told g c =
+    let made = c.in_ok-core.ensures in
+    let file : IsFile c.in-Some.text.items made.0 = rw c.deref.ensures.value at made.1 in
+    let short : length c.in-Some.text.items ≤ max_definitions = rw (← c.deref.ensures.value, c.deref.ensures.len) (rw c.in-Some.is at c.in_ok-text.ensures.fits) in
+    none_refused (g.D.Source.coming c.args.defs.now) c.in-Some.text.items made.0 _ (rw c.in-Some.is at c.in_ok-text.ensures.whole) (short, file)
+
+pub returns-in_default-2-clause-result : goal.returns-in_default-2-clause-result
+returns-in_default-2-clause-result g c =
+    let made = c.in_ok-core.ensures in
+    let file : IsFile c.in-Some.text.items made.0 = rw c.deref.ensures.value at made.1 in
+    let short : length c.in-Some.text.items ≤ max_definitions = rw (← c.deref.ensures.value, c.deref.ensures.len) (rw c.in-Some.is at c.in_ok-text.ensures.fits) in
+    of_told_long (g.D.Source.coming c.args.defs.now) (g.T.Source.coming c.args.term.now) c.in-Some.text.items max_term (λ d t. IsFirstFault d t TermTooLong)
+    (rw c.in-Some.is at c.in_ok-text.ensures.whole)
+    (rw c.in_default-2.is at c.in_ok-text-2.ensures.whole)
+    (λ t long. inr (made.0, (short, file), long))
+
+pub returns-in_default-2-clause-unread_told : goal.returns-in_default-2-clause-unread_told
+returns-in_default-2-clause-unread_told g c =
+    let made = c.in_ok-core.ensures in
+    let file : IsFile c.in-Some.text.items made.0 = rw c.deref.ensures.value at made.1 in
+    let short : length c.in-Some.text.items ≤ max_definitions = rw (← c.deref.ensures.value, c.deref.ensures.len) (rw c.in-Some.is at c.in_ok-text.ensures.fits) in
+    none_refused (g.D.Source.coming c.args.defs.now) c.in-Some.text.items made.0 _ (rw c.in-Some.is at c.in_ok-text.ensures.whole) (short, file)
+
+pub returns-clause-unread_told : goal.returns-clause-unread_told
+returns-clause-unread_told g c =
+    let made = c.in_ok-core.ensures in
+    let file : IsFile c.in-Some.text.items made.0 = rw c.deref.ensures.value at made.1 in
+    let short : length c.in-Some.text.items ≤ max_definitions = rw (← c.deref.ensures.value, c.deref.ensures.len) (rw c.in-Some.is at c.in_ok-text.ensures.fits) in
+    none_refused (g.D.Source.coming c.args.defs.now) c.in-Some.text.items made.0 _ (rw c.in-Some.is at c.in_ok-text.ensures.whole) (short, file)
 
 pub returns-clause-result : goal.returns-clause-result
 returns-clause-result g c =

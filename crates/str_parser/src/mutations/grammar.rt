@@ -1,0 +1,218 @@
+// The grammar of definition files as a table of productions, for the second reading.
+use super::words::{Kind, Word};
+use std::alloc::{AllocError, Global};
+
+// Each kind of phrase with its forms. In a form `name` is any name, `plain-name` one without ', `integer` and `quoted` are as they say,
+// and `no-build` is no token, but stands only in front of the end or of a token with which no build begins. A word that begins with a
+// capital is a kind of phrase, and any other is itself. Each kind of phrase that can be of no token has the empty form.
+const FILES: &[(&str, &[&str])] = &[
+    ("File", &["", "File Section"]),
+    (
+        "Section",
+        &["signature Parts", "rules Forms", "strategies Forms"],
+    ),
+    ("Parts", &["", "Parts Part"]),
+    ("Part", &["sorts SortRun", "constructors Declarations"]),
+    ("SortRun", &["", "SortRun Sort"]),
+    ("Declarations", &["", "Declarations Declaration"]),
+    (
+        "Declaration",
+        &[
+            "plain-name : Sort",
+            "plain-name : Factors -> Sort",
+            ": Factors -> Sort",
+        ],
+    ),
+    ("Factors", &["Sort", "Factors * Sort"]),
+    ("Sort", &["name", "name ( Sorts )"]),
+    ("Sorts", &["Sort", "Sorts , Sort"]),
+    ("Forms", &["", "Forms Form"]),
+    ("Form", &["name Parameters : Rule", "Definition"]),
+    ("Definition", &["name Parameters = Strategy"]),
+    ("Definitions", &["Definition", "Definitions Definition"]),
+    ("Parameters", &["", "( Names )", "( Names | Names )"]),
+    ("Names", &["", "SomeNames"]),
+    ("SomeNames", &["name", "SomeNames , name"]),
+    ("Rule", &["Match -> Build", "Match -> Build where Strategy"]),
+];
+
+const STRATEGIES: &[(&str, &[&str])] = &[
+    (
+        "Strategy",
+        &[
+            "Sequence",
+            "Sequence <+ Strategy",
+            "Sequence < Strategy + Strategy",
+        ],
+    ),
+    ("Sequence", &["Step", "Step ; Sequence"]),
+    ("Step", &["Primary", "Primary => Match"]),
+    (
+        "Primary",
+        &[
+            "id",
+            "fail",
+            "? Match",
+            "! Build",
+            "< Strategy > Build",
+            "( Strategy )",
+            "{ SomeNames : Strategy }",
+            "where ( Strategy )",
+            "not ( Strategy )",
+            "all ( Strategy )",
+            "one ( Strategy )",
+            "some ( Strategy )",
+            "if Strategy then Strategy end",
+            "if Strategy then Strategy else Strategy end",
+            "rec name ( Strategy )",
+            "let Definitions in Strategy end",
+            "prim ( quoted MoreBuilds )",
+            "\\ Rule \\",
+            "name",
+            "name ( Strategies )",
+            "name ( Strategies | Builds )",
+            "( )",
+            "( Strategy , SomeStrategies )",
+            "[ Strategies ]",
+            "[ SomeStrategies | Strategy ]",
+        ],
+    ),
+    ("Strategies", &["", "SomeStrategies"]),
+    ("SomeStrategies", &["Strategy", "SomeStrategies , Strategy"]),
+];
+
+const PATTERNS: &[(&str, &[&str])] = &[
+    (
+        "Match",
+        &[
+            "name",
+            "_",
+            "name @ Match",
+            "integer",
+            "quoted",
+            "plain-name ( Matches )",
+            "( )",
+            "( Match )",
+            "( Match , SomeMatches )",
+            "[ Matches ]",
+            "[ SomeMatches | Match ]",
+        ],
+    ),
+    ("Matches", &["", "SomeMatches"]),
+    ("SomeMatches", &["Match", "SomeMatches , Match"]),
+    (
+        "Build",
+        &[
+            "name",
+            "_",
+            "name @ Build",
+            "integer",
+            "quoted",
+            "plain-name ( Builds )",
+            "( )",
+            "( Build )",
+            "( Build , SomeBuilds )",
+            "[ Builds ]",
+            "[ SomeBuilds | Build ]",
+            "< Strategy > no-build",
+            "< Strategy > Build",
+        ],
+    ),
+    ("Builds", &["", "SomeBuilds"]),
+    ("SomeBuilds", &["Build", "SomeBuilds , Build"]),
+    ("MoreBuilds", &["", "MoreBuilds , Build"]),
+];
+
+// What a form says comes next.
+#[derive(Clone, Copy, PartialEq, Eq)]
+pub(super) enum Symbol {
+    // A phrase of the kind of this number.
+    Phrase(usize),
+    Name,
+    PlainName,
+    Integer,
+    Quoted,
+    // No word, but none with which a build begins comes next.
+    NoBuild,
+    // This word.
+    Word(&'static str),
+}
+
+impl Symbol {
+    // The symbol of the table's word, which is no kind of phrase.
+    fn of_word(word: &'static str) -> Symbol {
+        match word {
+            "name" => Symbol::Name,
+            "plain-name" => Symbol::PlainName,
+            "integer" => Symbol::Integer,
+            "quoted" => Symbol::Quoted,
+            "no-build" => Symbol::NoBuild,
+            _ => Symbol::Word(word),
+        }
+    }
+
+    // Whether the symbol is for words, and this is one of them.
+    pub(super) fn is_for(self, word: Word<'_>) -> bool {
+        match self {
+            Symbol::Phrase(_) | Symbol::NoBuild => false,
+            Symbol::Name => matches!(word.kind, Kind::PlainName | Kind::PrimedName),
+            Symbol::PlainName => word.kind == Kind::PlainName,
+            Symbol::Integer => word.kind == Kind::Integer,
+            Symbol::Quoted => word.kind == Kind::Quoted,
+            Symbol::Word(text) => word.text == text,
+        }
+    }
+}
+
+// Whether a build can begin with the word.
+pub(super) fn begins_build(word: Word<'_>) -> bool {
+    word.kind != Kind::Other || matches!(word.text, "_" | "(" | "[" | "<")
+}
+
+// The forms of each kind of phrase, by its number; files are number 0.
+#[derive(Drop)]
+pub(super) struct Grammar {
+    pub(super) phrases: Vec<Vec<Vec<Symbol>>>,
+}
+
+// The number of the kind of phrase of this name.
+fn number(names: &[&'static str], name: &str) -> Option<usize> {
+    names.iter().position(|other| *other == name)
+}
+
+// The symbols of a form.
+fn symbols(
+    alloc: Global,
+    names: &[&'static str],
+    form: &'static str,
+) -> Result<Vec<Symbol>, AllocError> {
+    let mut symbols = Vec::new(alloc);
+    for word in form.split_whitespace() {
+        symbols.push(match number(names, word) {
+            Some(number) => Symbol::Phrase(number),
+            None => Symbol::of_word(word),
+        })?;
+    }
+    Ok(symbols)
+}
+
+// The grammar of the tables.
+pub(super) fn tabled(alloc: Global) -> Result<Grammar, AllocError> {
+    let mut names = Vec::new(alloc);
+    for table in [FILES, STRATEGIES, PATTERNS] {
+        for (name, _) in table {
+            names.push(*name)?;
+        }
+    }
+    let mut phrases = Vec::new(alloc);
+    for table in [FILES, STRATEGIES, PATTERNS] {
+        for (_, forms) in table {
+            let mut phrase = Vec::new(alloc);
+            for form in *forms {
+                phrase.push(symbols(alloc, &names, form)?)?;
+            }
+            phrases.push(phrase)?;
+        }
+    }
+    Ok(Grammar { phrases })
+}

@@ -1,0 +1,87 @@
+// What a text is read as, by `lex` and `parse`, and what words are by the second reading.
+use super::chart::Chart;
+use super::grammar::Grammar;
+use super::words::Word;
+use crate::parse;
+use std::alloc::{AllocError, Global};
+use str_lexer::lex;
+use term_model::Fault;
+
+// A file, or the refusal and the byte at which it stands.
+#[derive(Clone, Copy, Debug, PartialEq, Eq)]
+pub(super) enum Reading {
+    File,
+    Lexical(u64),
+    ReservedWord(u64),
+    Syntax(u64),
+    Nesting(u64),
+    OtherFault,
+}
+
+fn refusal(fault: Fault) -> Reading {
+    match fault {
+        Fault::Lexical { at } => Reading::Lexical(at),
+        Fault::ReservedWord { at } => Reading::ReservedWord(at),
+        Fault::Syntax { at } => Reading::Syntax(at),
+        Fault::Nesting { at } => Reading::Nesting(at),
+        _ => Reading::OtherFault,
+    }
+}
+
+// What `lex` and `parse` read the text as.
+pub(super) fn parsed(alloc: Global, text: &[u8]) -> Reading {
+    let tokens = match lex(alloc, text) {
+        Ok(tokens) => tokens,
+        Err(fault) => return refusal(fault),
+    };
+    match parse(alloc, text, &tokens) {
+        Ok(_) => Reading::File,
+        Err(fault) => refusal(fault),
+    }
+}
+
+// The words, with a blank behind each.
+pub(super) fn text(alloc: Global, words: &[Word<'_>]) -> Result<String, AllocError> {
+    let mut text = String::new(alloc);
+    for word in words {
+        text.push_str(word.text)?;
+        text.push_str(" ")?;
+    }
+    Ok(text)
+}
+
+// Where the word of this number begins in the text of the words; behind the last word the text ends.
+fn offset(words: &[Word<'_>], number: usize) -> u64 {
+    let mut offset = 0u64;
+    for word in words.iter().take(number) {
+        offset = offset
+            .saturating_add(word.text.len() as u64)
+            .saturating_add(1);
+    }
+    offset
+}
+
+// Where the first of these words begins.
+fn first_offset(words: &[Word<'_>], sought: &str) -> Option<u64> {
+    let number = words.iter().position(|word| word.text == sought)?;
+    Some(offset(words, number))
+}
+
+// What the words are by the second reading: `#` is no token, and `module` a word of a part that is left out.
+pub(super) fn second_reading(
+    alloc: Global,
+    grammar: &Grammar,
+    words: &[Word<'_>],
+) -> Result<Reading, AllocError> {
+    if let Some(at) = first_offset(words, "#") {
+        return Ok(Reading::Lexical(at));
+    }
+    if let Some(at) = first_offset(words, "module") {
+        return Ok(Reading::ReservedWord(at));
+    }
+    let chart = Chart::read(alloc, grammar, words)?;
+    Ok(match chart.fault {
+        Some(number) => Reading::Syntax(offset(words, number)),
+        None => Reading::File,
+    })
+}

@@ -1,9 +1,0 @@
-use Rattle.std.proofs.Common.{length}
-use Rattle.str_pipeline.proofs.LexLaws.{Partly}
-use Rattle.str_pipeline.proofs.lexer.lex.Given as goal
-
-abbrev pub invariant-loop-rest : goal.invariant-loop-rest
-invariant-loop-rest l = Partly l.text l.tokens.items l.rest
-
-abbrev pub decreases-loop-rest : goal.decreases-loop-rest
-decreases-loop-rest l = length l.rest
