@@ -82,5 +82,6 @@ pub(crate) fn quoted<'a>(
     if *first != b'"' {
         return Ok(None);
     }
-    Ok(Some((QuotedText::new(bytes), others)))
+    let text = QuotedText::new(alloc, bytes)?;
+    Ok(Some((text, others)))
 }

@@ -1,12 +1,14 @@
 // The tokens of definition files.
-ghost use Rattle.std.specs.Prelude.{◌≡◌};
+ghost use Rattle.std.specs.Prelude.{◌≡◌, IfOk};
 
+use std::alloc::{AllocError, Global};
 use std::marker::Model;
 
 /// The bytes that a quoted text stands for.
 #[derive(Drop)]
 pub struct QuotedText {
-    bytes: Vec<u8>,
+    // In a box, as tokens of other kinds are small.
+    bytes: Box<Vec<u8>>,
 }
 
 impl Model for QuotedText {
@@ -14,15 +16,17 @@ impl Model for QuotedText {
 
     ghost Value = { List ℕ };
 
-    ghost view = { λ text. text.bytes.items };
+    ghost view = { λ text. text.bytes.value.items };
 }
 
 impl QuotedText {
     // The text of these bytes.
-    pub(crate) fn new(bytes: Vec<u8>) -> QuotedText
-        ensures { result ≡ bytes.items }
+    pub(crate) fn new(alloc: Global, bytes: Vec<u8>) -> Result<QuotedText, AllocError>
+        ensures { IfOk result (λ text. text ≡ bytes.items) }
     {
-        QuotedText { bytes }
+        Ok(QuotedText {
+            bytes: Box::new(alloc, bytes)?,
+        })
     }
 
     /// The bytes of the text, with each escape in place of what spells it.

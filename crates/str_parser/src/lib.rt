@@ -19,6 +19,6 @@ mod sorts;
 pub use file::parse;
 
 #[cfg(test)]
-mod tests;
-#[cfg(test)]
 mod mutations;
+#[cfg(test)]
+mod tests;

@@ -25,7 +25,7 @@ pub(crate) fn names<'a>(alloc: Global, input: Input<'a>) -> Result<(Vec<Name>, I
     ensures { IsReading some_names (NoneOf names_go_on) names_of input.entry result }
 {
     let (first, mut rest) = name(alloc, input)?;
-    let mut found = Vec::new(alloc);
+    let mut found = Vec::with_capacity(alloc, 1)?;
     found.push(first)?;
     while let Some(behind) = rest.after(Mark::Comma) {
         let (other, behind) = name(alloc, behind)?;

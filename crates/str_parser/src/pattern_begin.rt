@@ -38,6 +38,7 @@ pub(crate) fn begin<'a>(
 }
 
 // The pattern whose mark, at this byte, stands before the tokens.
+#[inline(never)]
 fn begin_mark<'a>(
     alloc: Global,
     mark: Mark,
@@ -108,6 +109,7 @@ fn begin_name<'a>(
     if let Some(rest) = behind.after(Mark::CloseParenthesis) {
         return Ok(BegunPattern::Whole(Pattern::Application(name, Vec::new(alloc)), rest));
     }
-    let before = BeforeInner::Application(name, Vec::new(alloc));
+    let parts = Vec::with_capacity(alloc, 1)?;
+    let before = BeforeInner::Application(name, parts);
     Ok(BegunPattern::ToPattern(before, behind))
 }

@@ -33,6 +33,7 @@ impl BeforeInner {
     }
 }
 
+#[inline(never)]
 fn alias<'a>(
     alloc: Global,
     name: Name,
@@ -64,6 +65,7 @@ fn application<'a>(
     Ok(BegunPattern::Whole(Pattern::Application(name, parts), rest))
 }
 
+#[inline(never)]
 fn parenthesized<'a>(
     alloc: Global,
     done: Vec<Pattern>,
@@ -87,6 +89,7 @@ fn parenthesized<'a>(
     Ok(BegunPattern::Whole(Pattern::Tuple(parts), rest))
 }
 
+#[inline(never)]
 fn bracketed<'a>(
     done: Vec<Pattern>,
     part: Pattern,
@@ -108,6 +111,7 @@ fn bracketed<'a>(
     Ok(BegunPattern::Whole(Pattern::List(parts), rest))
 }
 
+#[inline(never)]
 fn tail<'a>(
     alloc: Global,
     parts: Vec<Pattern>,
@@ -123,6 +127,7 @@ fn tail<'a>(
     Ok(BegunPattern::Whole(made, rest))
 }
 
+#[inline(never)]
 fn applied_to<'a>(
     alloc: Global,
     applied: Box<Strategy>,
@@ -136,6 +141,7 @@ fn applied_to<'a>(
 }
 
 // The build `<s>`, where this strategy is s and its `<` and itself have been read, up to its next part.
+#[inline(never)]
 pub(crate) fn applied<'a>(
     alloc: Global,
     applied: Strategy,

@@ -55,6 +55,7 @@ fn apply_to<'a>(
     whole(alloc, made, input)
 }
 
+#[inline(never)]
 fn terms<'a>(
     alloc: Global,
     called: Name,
@@ -81,6 +82,7 @@ fn terms<'a>(
     )
 }
 
+#[inline(never)]
 fn primitive<'a>(
     alloc: Global,
     text: Text,

@@ -11,6 +11,7 @@ use str_syntax::{Pattern, Primary, Rule, Strategy};
 use term_model::Fault;
 
 // The rule behind its left side.
+#[inline(never)]
 pub(crate) fn rule_left<'a>(
     alloc: Global,
     left: Pattern,
@@ -26,6 +27,7 @@ pub(crate) fn rule_left<'a>(
 }
 
 // The rule behind its right side.
+#[inline(never)]
 pub(crate) fn rule_right<'a>(
     alloc: Global,
     left: Box<Pattern>,
@@ -47,6 +49,7 @@ pub(crate) fn rule_right<'a>(
 }
 
 // The rule behind its condition.
+#[inline(never)]
 pub(crate) fn rule_condition<'a>(
     alloc: Global,
     left: Box<Pattern>,

@@ -57,6 +57,7 @@ fn apply<'a>(alloc: Global, applied: Strategy, input: Input<'a>) -> Result<Begun
     Ok(Begun::ToPattern(before, behind))
 }
 
+#[inline(never)]
 fn parenthesized<'a>(
     alloc: Global,
     done: Vec<Strategy>,
@@ -80,6 +81,7 @@ fn parenthesized<'a>(
     whole(alloc, Primary::TupleCongruence(parts), rest)
 }
 
+#[inline(never)]
 fn bracketed<'a>(
     alloc: Global,
     done: Vec<Strategy>,
@@ -102,6 +104,7 @@ fn bracketed<'a>(
     whole(alloc, Primary::ListCongruence(parts), rest)
 }
 
+#[inline(never)]
 fn tail<'a>(
     alloc: Global,
     parts: Vec<Strategy>,
@@ -140,6 +143,7 @@ fn arguments<'a>(
     whole(alloc, Primary::CallWith(called, parts), rest)
 }
 
+#[inline(never)]
 fn scope<'a>(
     alloc: Global,
     variables: Vec<Name>,
@@ -170,6 +174,7 @@ fn operated<'a>(
     whole(alloc, made, rest)
 }
 
+#[inline(never)]
 fn recursive<'a>(
     alloc: Global,
     name: Name,
@@ -185,6 +190,7 @@ fn recursive<'a>(
     whole(alloc, made, rest)
 }
 
+#[inline(never)]
 fn condition<'a>(alloc: Global, part: Strategy, input: Input<'a>) -> Result<Begun<'a>, Fault>
     ensures { IsNext (HasStrategy BeforeStrategy.Condition (strategy_of part)) input.entry result }
 {
@@ -195,6 +201,7 @@ fn condition<'a>(alloc: Global, part: Strategy, input: Input<'a>) -> Result<Begu
     Ok(Begun::ToStrategy(before, behind))
 }
 
+#[inline(never)]
 fn consequence<'a>(
     alloc: Global,
     condition: Box<Strategy>,
@@ -215,6 +222,7 @@ fn consequence<'a>(
     whole(alloc, made, rest)
 }
 
+#[inline(never)]
 fn alternative<'a>(
     alloc: Global,
     condition: Box<Strategy>,

@@ -3,11 +3,19 @@ ghost use Rattle.std.specs.Prelude.{◌≡◌, IfOk};
 
 use std::alloc::{AllocError, Global};
 use std::marker::Model;
+use term_model::Inline;
+
+// Where the bytes of a text are: short ones stand in place.
+#[derive(Drop)]
+enum Spelling {
+    Short(Inline),
+    Long(Box<Vec<u8>>),
+}
 
 /// Bytes of a definition file: a name, or what a quoted text stands for.
 #[derive(Drop)]
 pub struct Text {
-    bytes: Vec<u8>,
+    spelling: Spelling,
 }
 
 impl Model for Text {
@@ -15,7 +23,9 @@ impl Model for Text {
 
     ghost Value = { List ℕ };
 
-    ghost view = { λ text. text.bytes.items };
+    ghost use Rattle.str_syntax.specs.Spelling.{spelled};
+
+    ghost view = { λ text. spelled text.spelling };
 }
 
 /// The name of a sort, a constructor, a definition, a parameter or a variable.
@@ -26,23 +36,30 @@ impl Text {
     pub fn new(alloc: Global, bytes: &[u8]) -> Result<Text, AllocError>
         ensures { IfOk result (λ text. text ≡ bytes.now) }
     {
-        Ok(Text {
-            bytes: bytes.to_vec(alloc)?,
-        })
+        if let Some(bytes) = Inline::new(bytes) {
+            let spelling = Spelling::Short(bytes);
+            return Ok(Text { spelling });
+        }
+        let bytes = Vec::from_slice(alloc, bytes)?;
+        let spelling = Spelling::Long(Box::new(alloc, bytes)?);
+        Ok(Text { spelling })
     }
 
     /// A copy of the text. `AllocError` where the memory for it is refused.
     pub fn copy(&self, alloc: Global) -> Result<Text, AllocError>
         ensures { IfOk result (λ made. made ≡ self.now) }
     {
-        Text::new(alloc, &self.bytes)
+        Text::new(alloc, self.bytes())
     }
 
     /// The bytes of the text.
     pub fn bytes(&self) -> &[u8]
         ensures { result.now ≡ self.now }
     {
-        &self.bytes
+        match &self.spelling {
+            Spelling::Short(bytes) => bytes.as_slice(),
+            Spelling::Long(bytes) => bytes,
+        }
     }
 }
 

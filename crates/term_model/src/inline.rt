@@ -1,4 +1,4 @@
-// Short texts that stand where their owner does, and take no memory of their own.
+//! Short texts that stand where their owner does, and take no memory of their own.
 ghost use Rattle.std.specs.Prelude.{◌≡◌, ◌<◌, length, MatchOption};
 
 use std::marker::Model;
@@ -6,9 +6,9 @@ use std::marker::Model;
 // The most bytes that stand in place: with them, a symbol takes as many bytes as with a share.
 const MOST: usize = 14;
 
-// At most 14 bytes.
+/// At most 14 bytes.
 #[derive(Drop)]
-pub(crate) struct Inline {
+pub struct Inline {
     length: u8,
     bytes: [u8; MOST],
 }
@@ -24,8 +24,9 @@ impl Model for Inline {
 }
 
 impl Inline {
-    // These bytes, where they are at most 14.
-    pub(crate) fn new(text: &[u8]) -> Option<Inline>
+    /// These bytes, where they are at most 14; `None` where they are more.
+    #[inline]
+    pub fn new(text: &[u8]) -> Option<Inline>
         ensures { MatchOption result (14 < length text.now) (λ short. short ≡ text.now) }
     {
         if text.len() > MOST {
@@ -39,8 +40,8 @@ impl Inline {
         })
     }
 
-    // These bytes once more.
-    pub(crate) fn copy(&self) -> Inline
+    /// The same bytes once more.
+    pub fn copy(&self) -> Inline
         ensures { result ≡ self.now }
     {
         Inline {
@@ -49,7 +50,9 @@ impl Inline {
         }
     }
 
-    pub(crate) fn as_slice(&self) -> &[u8]
+    /// The bytes.
+    #[inline]
+    pub fn as_slice(&self) -> &[u8]
         ensures { result.now ≡ self.now }
     {
         &self.bytes[..usize::from(self.length)]

@@ -3,13 +3,14 @@
 
 mod equality;
 pub mod fault;
-mod inline;
+pub mod inline;
 pub mod made;
 mod size;
 pub mod symbol;
 pub mod term;
 
 pub use fault::Fault;
+pub use inline::Inline;
 pub use made::Made;
 pub use symbol::{Kind, Sym};
 pub use term::{Head, Term};

@@ -1,5 +1,5 @@
 // Each public call with ample memory; what is expected was worked out by hand.
-use crate::{Fault, Head, Kind, Made, Sym, Term};
+use crate::{Fault, Head, Inline, Kind, Made, Sym, Term};
 use std::alloc::{AllocError, AllocFailed, Global};
 use std::test::Fail;
 
@@ -177,5 +177,25 @@ fn limits(rt: HostRuntime) -> Result<(), Fail> {
     let list = count_up(alloc, 1_000_000)?;
     assert!(rt; list == count_up(alloc, 1_000_000)?);
     assert!(rt; list != count_up(alloc, 999_999)?);
+    Ok(())
+}
+
+#[test]
+fn short_texts(rt: HostRuntime) -> Result<(), Fail> {
+    let cases = [
+        (b"".as_slice(), true),
+        (b"f".as_slice(), true),
+        (b"fourteen_bytes".as_slice(), true),
+        (b"fifteen_of_them".as_slice(), false),
+    ];
+    for (text, fits) in cases {
+        let short = Inline::new(text);
+        assert_eq!(rt; short.is_some(), fits);
+        let Some(short) = short else {
+            continue;
+        };
+        assert_eq!(rt; short.as_slice(), text);
+        assert_eq!(rt; short.copy().as_slice(), text);
+    }
     Ok(())
 }

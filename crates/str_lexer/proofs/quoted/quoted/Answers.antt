@@ -12,4 +12,4 @@ pub returns-then-first-ne34 : goal.returns-then-first-ne34
 returns-then-first-ne34 c = missing_quoted _ _ _ _ (behind_first 34 c.args.text.now c.requires) c.loop-byte.invariant (rw c.in_default.is at c.item.ensures) (not_first 34 _ _ _ c.in-Some-split_first.ensures.cases.0 c.if-first-ne34.true)
 
 pub returns : goal.returns
-returns c = rw c.new.ensures (found_quoted _ _ _ _ _ (behind_first 34 c.args.text.now c.requires) c.loop-byte.invariant (c.in-Some-split_first.ensures.cases.0 ∙ ap (λ b. b ∷ c.in-Some-split_first.others.now) c.if-first-ne34.false))
+returns c = rw c.in_ok-text.ensures (found_quoted _ _ _ _ _ (behind_first 34 c.args.text.now c.requires) c.loop-byte.invariant (c.in-Some-split_first.ensures.cases.0 ∙ ap (λ b. b ∷ c.in-Some-split_first.others.now) c.if-first-ne34.false))

@@ -9,7 +9,7 @@ returns-in_err-first c =
     rw (p.1, p.2) (fault_means _ _ _ _ _ _ _ (names_none _) (flat _ _ _) c.in_err-first.ensures)
 
 pub loop-behind-init : goal.loop-behind-init
-loop-behind-init c = rw (c.in_ok-push.ensures.items, c.new-found.ensures.items) (names_first _ _ _ c.in_ok-first.ensures)
+loop-behind-init c = rw (c.in_ok-push.ensures.items, c.in_ok-found.ensures.items) (names_first _ _ _ c.in_ok-first.ensures)
 
 pub returns-in_err-other : goal.returns-in_err-other
 returns-in_err-other c =

@@ -25,4 +25,4 @@ returns-in-Some-after-2 c =
 pub returns : goal.returns
 returns c =
     let plain : has_no_quote c.args.bytes.now ≡ true = sym c.is_constructor.ensures ∙ c.if-not-is_constructor.false in
-    λ m k. rw (c.in-Some-after.ensures, c.in_ok-name.ensures) (application_begins m k _ _ _ c.new-2.ensures.items plain c.in_default-after-2.ensures)
+    λ m k. rw (c.in-Some-after.ensures, c.in_ok-name.ensures) (application_begins m k _ _ _ c.in_ok-parts.ensures.items plain c.in_default-after-2.ensures)

@@ -23,4 +23,4 @@ returns-in-Some-after-2 c =
 
 pub returns : goal.returns
 returns c = λ k.
-    rw (c.in-Some.ensures, sym c.in_ok-called.ensures) (arguments_lead k _ _ _ c.new-2.ensures.items c.in_default-after.ensures c.in_default-after-2.ensures)
+    rw (c.in-Some.ensures, sym c.in_ok-called.ensures) (arguments_lead k _ _ _ c.in_ok-arguments.ensures.items c.in_default-after.ensures c.in_default-after-2.ensures)
