@@ -91,6 +91,7 @@ fn choice(alloc: Global, source: &Strategy) -> Result<Option<Choice>, AllocError
     }
 }
 
+// The sequence of the first part that this one is, if it is one.
 #[cycle(first_part)]
 fn sequence(alloc: Global, source: &str_syntax::Sequence) -> Result<Option<Sequence>, AllocError>
     ensures { IfOk result (λ made. option_map sequence_of made ≡ sequence_in (whole.sequence_of source.now)) }
@@ -114,6 +115,7 @@ fn sequence(alloc: Global, source: &str_syntax::Sequence) -> Result<Option<Seque
     }
 }
 
+// The atom of the first part that this step is, if it is one.
 #[cycle(first_part)]
 fn step(alloc: Global, source: &Step) -> Result<Option<Atom>, AllocError>
     ensures { IfOk result (λ made. option_map atom_of made ≡ step_in (whole.step_of source.now)) }
@@ -124,6 +126,7 @@ fn step(alloc: Global, source: &Step) -> Result<Option<Atom>, AllocError>
     }
 }
 
+// The atom of the first part that this primary is, if it is one.
 #[cycle(first_part)]
 fn atom(alloc: Global, source: &Primary) -> Result<Option<Atom>, AllocError>
     ensures { IfOk result (λ made. option_map atom_of made ≡ atom_in (whole.primary_of source.now)) }
