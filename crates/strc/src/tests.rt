@@ -33,38 +33,6 @@ fn statuses(rt: HostRuntime) -> Result<(), Fail> {
             "strc: Lexical at byte 18\n",
         ),
         (
-            "strategies main = id /* id",
-            None,
-            None,
-            2,
-            "#refused Lexical\n",
-            "strc: Lexical at byte 21\n",
-        ),
-        (
-            "strategies main = id; with\n#term\n1",
-            None,
-            None,
-            2,
-            "#refused ReservedWord\n",
-            "strc: ReservedWord at byte 22\n",
-        ),
-        (
-            "strategies main = id )\n#term\n1",
-            None,
-            None,
-            2,
-            "#refused Syntax\n",
-            "strc: Syntax at byte 21\n",
-        ),
-        (
-            "strategies main = id;\n#term\n1",
-            None,
-            None,
-            2,
-            "#refused Syntax\n",
-            "strc: Syntax at byte 22\n",
-        ),
-        (
             "strategies main = foo\n#term\n1",
             None,
             None,
@@ -121,6 +89,35 @@ fn a_failing_diagnostic_changes_nothing(rt: HostRuntime) -> Result<(), Fail> {
         let mut diag = Faulty::writer(alloc, 100, 3, Some(bad), false)?;
         assert_eq!(rt; run(alloc, &mut input, &mut out, &mut diag), 2);
         assert_eq!(rt; out.written(), b"#refused Lexical\n".as_slice());
+    }
+    Ok(())
+}
+
+#[test]
+fn places_of_refusals(rt: HostRuntime) -> Result<(), Fail> {
+    let alloc = rt.alloc();
+    // input, what is told of it
+    let rows = [
+        ("strategies main = id /* id", "strc: Lexical at byte 21\n"),
+        (
+            "strategies main = id; with\n#term\n1",
+            "strc: ReservedWord at byte 22\n",
+        ),
+        (
+            "strategies main = id )\n#term\n1",
+            "strc: Syntax at byte 21\n",
+        ),
+        (
+            "strategies main = id;\n#term\n1",
+            "strc: Syntax at byte 22\n",
+        ),
+    ];
+    for (text, diagnostics) in rows {
+        let mut input = Faulty::reader(text.as_bytes().to_vec(alloc)?, 5, None);
+        let mut out = Faulty::writer(alloc, 100, 3, None, false)?;
+        let mut diag = Faulty::writer(alloc, 100, 3, None, false)?;
+        assert_eq!(rt; run(alloc, &mut input, &mut out, &mut diag), 2, "{text}");
+        assert_eq!(rt; diag.written(), diagnostics.as_bytes(), "{text}");
     }
     Ok(())
 }
