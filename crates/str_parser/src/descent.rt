@@ -20,7 +20,6 @@ use term_model::Fault;
 const MOST_LEVELS: u32 = 200;
 
 // The fault where a part would stand at level 201: whether the tokens can begin it decides.
-#[inline(never)]
 fn beyond(input: &Input<'_>, begins: bool) -> Fault
     ensures { IsBeyondFault begins result }
 {

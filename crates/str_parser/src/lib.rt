@@ -1,4 +1,4 @@
-//! The trees of definition files from their tokens.
+//! The trees of definition files from their tokens. The crate `front_tests` has the tests.
 #![tactic(auto)]
 
 mod begun;
@@ -17,8 +17,3 @@ mod primary_strategy;
 mod sorts;
 
 pub use file::parse;
-
-#[cfg(test)]
-mod mutations;
-#[cfg(test)]
-mod tests;

@@ -38,7 +38,6 @@ pub(crate) fn begin<'a>(
 }
 
 // The pattern whose mark, at this byte, stands before the tokens.
-#[inline(never)]
 fn begin_mark<'a>(
     alloc: Global,
     mark: Mark,

@@ -33,7 +33,6 @@ impl BeforeInner {
     }
 }
 
-#[inline(never)]
 fn alias<'a>(
     alloc: Global,
     name: Name,
@@ -65,7 +64,6 @@ fn application<'a>(
     Ok(BegunPattern::Whole(Pattern::Application(name, parts), rest))
 }
 
-#[inline(never)]
 fn parenthesized<'a>(
     alloc: Global,
     done: Vec<Pattern>,
@@ -89,7 +87,6 @@ fn parenthesized<'a>(
     Ok(BegunPattern::Whole(Pattern::Tuple(parts), rest))
 }
 
-#[inline(never)]
 fn bracketed<'a>(
     done: Vec<Pattern>,
     part: Pattern,
@@ -111,7 +108,6 @@ fn bracketed<'a>(
     Ok(BegunPattern::Whole(Pattern::List(parts), rest))
 }
 
-#[inline(never)]
 fn tail<'a>(
     alloc: Global,
     parts: Vec<Pattern>,
@@ -127,7 +123,6 @@ fn tail<'a>(
     Ok(BegunPattern::Whole(made, rest))
 }
 
-#[inline(never)]
 fn applied_to<'a>(
     alloc: Global,
     applied: Box<Strategy>,
@@ -141,7 +136,6 @@ fn applied_to<'a>(
 }
 
 // The build `<s>`, where this strategy is s and its `<` and itself have been read, up to its next part.
-#[inline(never)]
 pub(crate) fn applied<'a>(
     alloc: Global,
     applied: Strategy,

@@ -37,7 +37,6 @@ pub(crate) fn begin<'a>(alloc: Global, input: Input<'a>) -> Result<Begun<'a>, Fa
 }
 
 // The primary whose mark, at this byte, stands before the tokens.
-#[inline(never)]
 fn begin_mark<'a>(alloc: Global, mark: Mark, at: u64, input: Input<'a>) -> Result<Begun<'a>, Fault>
     ensures { IsNext Written (L.mark mark ∷ input.entry) result }
 {
@@ -74,7 +73,6 @@ fn begin_bracketed<'a>(alloc: Global, input: Input<'a>) -> Result<Begun<'a>, Fau
 }
 
 // The scope whose `{` stands before the tokens.
-#[inline(never)]
 fn begin_scope<'a>(alloc: Global, input: Input<'a>) -> Result<Begun<'a>, Fault>
     ensures { IsNext Written (L.mark Mark.OpenBrace ∷ input.entry) result }
 {
@@ -86,7 +84,6 @@ fn begin_scope<'a>(alloc: Global, input: Input<'a>) -> Result<Begun<'a>, Fault>
 }
 
 // The primary whose keyword, at this byte, stands before the tokens.
-#[inline(never)]
 fn begin_keyword<'a>(
     alloc: Global,
     keyword: Keyword,
@@ -122,7 +119,6 @@ fn begin_operator<'a>(operator: Operator, input: Input<'a>) -> Result<Begun<'a>,
 }
 
 // The recursive strategy whose `rec` stands before the tokens.
-#[inline(never)]
 fn begin_recursive<'a>(alloc: Global, input: Input<'a>) -> Result<Begun<'a>, Fault>
     ensures { IsNext Written (L.keyword Keyword.Rec ∷ input.entry) result }
 {
@@ -134,7 +130,6 @@ fn begin_recursive<'a>(alloc: Global, input: Input<'a>) -> Result<Begun<'a>, Fau
 }
 
 // The primitive whose `prim` stands before the tokens.
-#[inline(never)]
 fn begin_primitive<'a>(alloc: Global, input: Input<'a>) -> Result<Begun<'a>, Fault>
     ensures { IsNext Written (L.keyword Keyword.Prim ∷ input.entry) result }
 {
@@ -178,7 +173,6 @@ fn begin_name<'a>(alloc: Global, called: &'a [u8], input: Input<'a>) -> Result<B
 }
 
 // The call with these strategies whose `|` stands before the tokens.
-#[inline(never)]
 pub(crate) fn begin_terms<'a>(
     alloc: Global,
     called: Name,

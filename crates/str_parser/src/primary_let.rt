@@ -12,7 +12,6 @@ use str_syntax::{Name, Parameters, Primary, Strategy, StrategyDefinition};
 use term_model::Fault;
 
 // The next definition of a let, behind these.
-#[inline(never)]
 pub(crate) fn begin_definition<'a>(
     alloc: Global,
     done: Vec<StrategyDefinition>,
@@ -30,7 +29,6 @@ pub(crate) fn begin_definition<'a>(
 }
 
 // The let behind this body of a definition.
-#[inline(never)]
 pub(crate) fn definition<'a>(
     alloc: Global,
     done: Vec<StrategyDefinition>,
@@ -55,7 +53,6 @@ pub(crate) fn definition<'a>(
 }
 
 // The let behind what its definitions scope over.
-#[inline(never)]
 pub(crate) fn let_body<'a>(
     alloc: Global,
     definitions: Vec<StrategyDefinition>,

@@ -55,7 +55,6 @@ fn apply_to<'a>(
     whole(alloc, made, input)
 }
 
-#[inline(never)]
 fn terms<'a>(
     alloc: Global,
     called: Name,
@@ -82,7 +81,6 @@ fn terms<'a>(
     )
 }
 
-#[inline(never)]
 fn primitive<'a>(
     alloc: Global,
     text: Text,

@@ -11,7 +11,6 @@ use str_syntax::{Pattern, Primary, Rule, Strategy};
 use term_model::Fault;
 
 // The rule behind its left side.
-#[inline(never)]
 pub(crate) fn rule_left<'a>(
     alloc: Global,
     left: Pattern,
@@ -27,7 +26,6 @@ pub(crate) fn rule_left<'a>(
 }
 
 // The rule behind its right side.
-#[inline(never)]
 pub(crate) fn rule_right<'a>(
     alloc: Global,
     left: Box<Pattern>,
@@ -49,7 +47,6 @@ pub(crate) fn rule_right<'a>(
 }
 
 // The rule behind its condition.
-#[inline(never)]
 pub(crate) fn rule_condition<'a>(
     alloc: Global,
     left: Box<Pattern>,

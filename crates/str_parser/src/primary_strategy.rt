@@ -57,7 +57,6 @@ fn apply<'a>(alloc: Global, applied: Strategy, input: Input<'a>) -> Result<Begun
     Ok(Begun::ToPattern(before, behind))
 }
 
-#[inline(never)]
 fn parenthesized<'a>(
     alloc: Global,
     done: Vec<Strategy>,
@@ -81,7 +80,6 @@ fn parenthesized<'a>(
     whole(alloc, Primary::TupleCongruence(parts), rest)
 }
 
-#[inline(never)]
 fn bracketed<'a>(
     alloc: Global,
     done: Vec<Strategy>,
@@ -104,7 +102,6 @@ fn bracketed<'a>(
     whole(alloc, Primary::ListCongruence(parts), rest)
 }
 
-#[inline(never)]
 fn tail<'a>(
     alloc: Global,
     parts: Vec<Strategy>,
@@ -143,7 +140,6 @@ fn arguments<'a>(
     whole(alloc, Primary::CallWith(called, parts), rest)
 }
 
-#[inline(never)]
 fn scope<'a>(
     alloc: Global,
     variables: Vec<Name>,
@@ -174,7 +170,6 @@ fn operated<'a>(
     whole(alloc, made, rest)
 }
 
-#[inline(never)]
 fn recursive<'a>(
     alloc: Global,
     name: Name,
@@ -190,7 +185,6 @@ fn recursive<'a>(
     whole(alloc, made, rest)
 }
 
-#[inline(never)]
 fn condition<'a>(alloc: Global, part: Strategy, input: Input<'a>) -> Result<Begun<'a>, Fault>
     ensures { IsNext (HasStrategy BeforeStrategy.Condition (strategy_of part)) input.entry result }
 {
@@ -201,7 +195,6 @@ fn condition<'a>(alloc: Global, part: Strategy, input: Input<'a>) -> Result<Begu
     Ok(Begun::ToStrategy(before, behind))
 }
 
-#[inline(never)]
 fn consequence<'a>(
     alloc: Global,
     condition: Box<Strategy>,
@@ -222,7 +215,6 @@ fn consequence<'a>(
     whole(alloc, made, rest)
 }
 
-#[inline(never)]
 fn alternative<'a>(
     alloc: Global,
     condition: Box<Strategy>,

@@ -3,12 +3,12 @@ ghost use Rattle.std.specs.Prelude.{◌≡◌, IfOk};
 
 use std::alloc::{AllocError, Global};
 use std::marker::Model;
-use term_model::Inline;
+use term_model::ShortText;
 
 // Where the bytes of a text are: short ones stand in place.
 #[derive(Drop)]
 enum Spelling {
-    Short(Inline),
+    Short(ShortText),
     Long(Box<Vec<u8>>),
 }
 
@@ -36,7 +36,7 @@ impl Text {
     pub fn new(alloc: Global, bytes: &[u8]) -> Result<Text, AllocError>
         ensures { IfOk result (λ text. text ≡ bytes.now) }
     {
-        if let Some(bytes) = Inline::new(bytes) {
+        if let Some(bytes) = ShortText::new(bytes) {
             let spelling = Spelling::Short(bytes);
             return Ok(Text { spelling });
         }

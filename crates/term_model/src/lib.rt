@@ -3,15 +3,15 @@
 
 mod equality;
 pub mod fault;
-pub mod inline;
 pub mod made;
+pub mod short_text;
 mod size;
 pub mod symbol;
 pub mod term;
 
 pub use fault::Fault;
-pub use inline::Inline;
 pub use made::Made;
+pub use short_text::ShortText;
 pub use symbol::{Kind, Sym};
 pub use term::{Head, Term};
 

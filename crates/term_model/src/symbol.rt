@@ -3,7 +3,7 @@ ghost use Rattle.std.specs.Prelude.{true, false, ◌≡◌, ◌↔◌, IsTrue, I
 ghost use Rattle.std.specs.List.{list_all};
 ghost use Rattle.term_model.specs.Symbol.{Plain, Quoted, Tuple, kind_of, bytes_of, is_name, begins_name, continues_name, IsSymbol};
 
-use crate::inline::Inline;
+use crate::short_text::ShortText;
 use std::alloc::{AllocError, Global};
 use std::marker::Model;
 use std::rc::RcSlice;
@@ -22,9 +22,9 @@ pub enum Kind {
 // Where the bytes of a symbol are: short ones stand in place, others are shared.
 #[derive(Drop)]
 enum Spelling {
-    ShortPlain(Inline),
+    ShortPlain(ShortText),
     Plain(RcSlice<u8>),
-    ShortQuoted(Inline),
+    ShortQuoted(ShortText),
     Quoted(RcSlice<u8>),
     Tuple,
 }
@@ -90,7 +90,7 @@ impl Sym {
         if !is_plain(bytes) {
             return Ok(None);
         }
-        let spelling = match Inline::new(bytes) {
+        let spelling = match ShortText::new(bytes) {
             Some(text) => Spelling::ShortPlain(text),
             None => Spelling::Plain(RcSlice::from_slice(alloc, bytes)?),
         };
@@ -102,7 +102,7 @@ impl Sym {
     pub fn quoted(alloc: Global, bytes: &[u8]) -> Result<Sym, AllocError>
         ensures { IfOk result (λ s. s ≡ Quoted bytes.now) }
     {
-        if let Some(text) = Inline::new(bytes) {
+        if let Some(text) = ShortText::new(bytes) {
             return Ok(Sym {
                 spelling: Spelling::ShortQuoted(text),
             });

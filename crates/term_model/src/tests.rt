@@ -1,5 +1,5 @@
 // Each public call with ample memory; what is expected was worked out by hand.
-use crate::{Fault, Head, Inline, Kind, Made, Sym, Term};
+use crate::{Fault, Head, Kind, Made, ShortText, Sym, Term};
 use std::alloc::{AllocError, AllocFailed, Global};
 use std::test::Fail;
 
@@ -189,7 +189,7 @@ fn short_texts(rt: HostRuntime) -> Result<(), Fail> {
         (b"fifteen_of_them".as_slice(), false),
     ];
     for (text, fits) in cases {
-        let short = Inline::new(text);
+        let short = ShortText::new(text);
         assert_eq!(rt; short.is_some(), fits);
         let Some(short) = short else {
             continue;

@@ -2,9 +2,9 @@
 use super::chart::Chart;
 use super::grammar::Grammar;
 use super::words::Word;
-use crate::parse;
 use std::alloc::{AllocError, Global};
 use str_lexer::lex;
+use str_parser::parse;
 use term_model::Fault;
 
 // A file, or the refusal and the byte at which it stands.

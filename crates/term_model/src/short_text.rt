@@ -8,12 +8,12 @@ const MOST: usize = 14;
 
 /// At most 14 bytes.
 #[derive(Drop)]
-pub struct Inline {
+pub struct ShortText {
     length: u8,
     bytes: [u8; MOST],
 }
 
-impl Model for Inline {
+impl Model for ShortText {
     ghost use Rattle.std.specs.Prelude.{List, ℕ, take, ◌≤◌};
 
     ghost Value = { List ℕ };
@@ -23,10 +23,10 @@ impl Model for Inline {
     ghost invariant = { λ s. s.length ≤ 14 };
 }
 
-impl Inline {
+impl ShortText {
     /// These bytes, where they are at most 14; `None` where they are more.
     #[inline]
-    pub fn new(text: &[u8]) -> Option<Inline>
+    pub fn new(text: &[u8]) -> Option<ShortText>
         ensures { MatchOption result (14 < length text.now) (λ short. short ≡ text.now) }
     {
         if text.len() > MOST {
@@ -34,17 +34,17 @@ impl Inline {
         }
         let mut bytes = [0; MOST];
         bytes[..text.len()].copy_from_slice(text);
-        Some(Inline {
+        Some(ShortText {
             length: text.len() as u8,
             bytes,
         })
     }
 
     /// The same bytes once more.
-    pub fn copy(&self) -> Inline
+    pub fn copy(&self) -> ShortText
         ensures { result ≡ self.now }
     {
-        Inline {
+        ShortText {
             length: self.length,
             bytes: self.bytes,
         }

@@ -1,8 +1,8 @@
 // `parse` on files whose faults were placed by hand, on both sides of the greatest level, and the shape of a tree.
-use crate::parse;
 use std::alloc::Global;
 use std::test::Fail;
 use str_lexer::lex;
+use str_parser::parse;
 use str_syntax::{
     DefinitionForm, File, Origin, Primary, Section, Sequence, Step, Strategy, StrategyDefinition,
 };
