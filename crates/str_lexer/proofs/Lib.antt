@@ -8,3 +8,4 @@ pub mod IntegerLaws
 pub mod TokenLaws
 pub mod LexLaws
 pub mod SliceLaws
+pub mod SearchLaws

@@ -150,14 +150,14 @@ IsShortMark b None = (m : Mark) (rest other : List ℕ) → b ∷ rest ≡ mark_
 
 -- ---- the whole text
 
--- what cutting a text into tokens answers: the tokens, or Lexical where there are none
-abbrev pub IsCutting : List ℕ → Result (Vec Token Global) Fault → Type 0
-IsCutting text (Ok ts) = OnlyTokens text ts.items
-IsCutting text (Err faults.Memory) = Unit {0}
-IsCutting text (Err (faults.Lexical _)) = (ts : List Token) → Lexes text ts → ⊥
-IsCutting text (Err _) = ⊥
-
--- whether the tokens hold a word of a left-out part
+-- whether the tokens hold a word of a left-out part: a place where they do
 abbrev pub IsSearch : List Token → Option ℕ → Type 0
 IsSearch ts (Some _) = holds_left_out ts ≡ true
 IsSearch ts None = holds_left_out ts ≡ false
+
+-- what cutting a text into tokens answers: the tokens, and whether they hold a word of a left-out part; or Lexical where there are none
+abbrev pub IsCutting : List ℕ → Result (Vec Token Global × Option ℕ) Fault → Type 0
+IsCutting text (Ok (ts, found)) = OnlyTokens text ts.items × IsSearch ts.items found
+IsCutting text (Err faults.Memory) = Unit {0}
+IsCutting text (Err (faults.Lexical _)) = (ts : List Token) → Lexes text ts → ⊥
+IsCutting text (Err _) = ⊥

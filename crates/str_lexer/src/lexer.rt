@@ -1,5 +1,6 @@
 // Tokens from bytes, in one pass.
-ghost use Rattle.std.specs.Prelude.{true, ◌≡◌, ◌==◌, IfOk};
+ghost use Rattle.std.specs.Prelude.{true, ◌≡◌, ◌==◌, List, [], ◌∷◌, ◌++◌, IfOk};
+ghost use Rattle.str_lexer.specs.declared.token.Token.{Token};
 ghost use Rattle.str_lexer.specs.Tokens.{first_is};
 ghost use Rattle.str_lexer.specs.Lexes.{left_out, AreSlices, IsLexing};
 ghost use Rattle.str_lexer.specs.Readings.{begins_integer, IsTokenRead, IsCutting, IsSearch};
@@ -60,11 +61,29 @@ fn token<'a>(alloc: Global, text: &'a [u8]) -> Result<Option<(TokenKind, &'a [u8
     Ok(Some((TokenKind::Mark(mark), rest)))
 }
 
-// The tokens that the bytes are, the words of left-out parts among them.
-fn cut(alloc: Global, text: &[u8]) -> Result<Vec<Token>, Fault>
+fn is_left_out(token: &Token) -> bool
+    ensures { result ≡ left_out token.now }
+{
+    matches!(token.kind, TokenKind::LeftOut(_))
+}
+
+// Where the first word of a left-out part stands, once this token comes behind others.
+fn first_left_out(before: Option<usize>, token: &Token) -> Option<usize>
+    ensures { (ts : List Token) → IsSearch ts before → IsSearch (ts ++ (token.now ∷ [])) result }
+{
+    match before {
+        Some(from) => Some(from),
+        None if is_left_out(token) => Some(token.from),
+        None => None,
+    }
+}
+
+// The tokens that the bytes are, the words of left-out parts among them, and where the first such word stands.
+fn cut(alloc: Global, text: &[u8]) -> Result<(Vec<Token>, Option<usize>), Fault>
     ensures { IsCutting text.now result }
 {
     let mut tokens = Vec::new(alloc);
+    let mut left_out = None;
     let mut rest = text;
     while !rest.is_empty() {
         if let Some(behind) = gap(rest) {
@@ -76,28 +95,12 @@ fn cut(alloc: Global, text: &[u8]) -> Result<Vec<Token>, Fault>
             return Err(Fault::Lexical { at: from as u64 });
         };
         let to = text.len() - behind.len();
-        tokens.push(Token { kind, from, to })?;
+        let token = Token { kind, from, to };
+        left_out = first_left_out(left_out, &token);
+        tokens.push(token)?;
         rest = behind;
     }
-    Ok(tokens)
-}
-
-fn is_left_out(token: &Token) -> bool
-    ensures { result ≡ left_out token.now }
-{
-    matches!(token.kind, TokenKind::LeftOut(_))
-}
-
-// Where the first word of a left-out part stands.
-fn first_left_out(tokens: &[Token]) -> Option<usize>
-    ensures { IsSearch tokens.now result }
-{
-    for token in tokens {
-        if is_left_out(token) {
-            return Some(token.from);
-        }
-    }
-    None
+    Ok((tokens, left_out))
 }
 
 /// The tokens that the bytes are, each the longest at its place, with blanks and comments between
@@ -111,8 +114,8 @@ pub fn lex(alloc: Global, text: &[u8]) -> Result<Vec<Token>, Fault>
     ensures exact { IsLexing text.now result }
     ensures slices { IfOk result (λ ts. AreSlices text.now 0 ts.items) }
 {
-    let tokens = cut(alloc, text)?;
-    if let Some(from) = first_left_out(&tokens) {
+    let (tokens, left_out) = cut(alloc, text)?;
+    if let Some(from) = left_out {
         return Err(Fault::ReservedWord { at: from as u64 });
     }
     Ok(tokens)

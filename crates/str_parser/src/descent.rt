@@ -1,9 +1,10 @@
 // Strategies and patterns from tokens, by recursive descent with one token of look-ahead.
-ghost use Rattle.std.specs.Prelude.{◌≡◌, ◌≤◌, Bool, true, false};
+ghost use Rattle.std.specs.Prelude.{◌≡◌, ◌≤◌, Bool, true, false, List, ◌∷◌};
+ghost use Rattle.str_lexer.specs.declared.token.Mark.TheVariants as M;
 ghost use Rattle.str_syntax.specs.Views.{pattern_of, sequence_of, step_of, strategy_of};
-ghost use Rattle.str_parser.specs.Lexemes.{strategy_part, first_begins};
+ghost use Rattle.str_parser.specs.Lexemes.{Lexeme as L, mark, strategy_part, first_begins};
 ghost use Rattle.str_parser.specs.Phrases.{step, primary};
-ghost use Rattle.str_parser.specs.Readings.{AtMost, IsReading};
+ghost use Rattle.str_parser.specs.Readings.{AtMost, Found, IsReading};
 ghost use Rattle.str_parser.specs.Begun.{inner_strategy, inner_sequence, inner_pattern, boxed_primary_of};
 ghost use Rattle.str_parser.specs.Beyond.{IsBeyondFault};
 
@@ -87,16 +88,28 @@ pub(crate) fn strategy<'a>(
     let Some(behind) = rest.after(Mark::Less) else {
         return Ok((Strategy::Sequence(first), rest));
     };
-    let (then, rest) = strategy(alloc, behind, level + 1)?;
+    guarded_choice(alloc, first, behind, level)
+}
+
+// The guarded choice at this level of which the first sequence and `<` stand before the tokens, and the tokens behind it.
+#[cycle(phrase)]
+fn guarded_choice<'a>(
+    alloc: Global,
+    first: Sequence,
+    input: Input<'a>,
+    level: u32,
+) -> Result<(Strategy, Input<'a>), Fault>
+    requires { level ≤ 200 }
+    ensures { (ts : List L) → Found (inner_sequence level) (AtMost 1) ts (sequence_of first) (mark M.Less ∷ input.entry) → IsReading (inner_strategy level) (AtMost 0) strategy_of ts result }
+{
+    let (then, rest) = strategy(alloc, input, level + 1)?;
     let Some(behind) = rest.after(Mark::Plus) else {
         return Err(rest.syntax());
     };
     let (other, rest) = strategy(alloc, behind, level + 1)?;
     let then = Box::new(alloc, then)?;
-    Ok((
-        Strategy::GuardedChoice(first, then, Box::new(alloc, other)?),
-        rest,
-    ))
+    let made = Strategy::GuardedChoice(first, then, Box::new(alloc, other)?);
+    Ok((made, rest))
 }
 
 // The sequence at this level that the tokens begin with, and the tokens behind it.

@@ -238,26 +238,27 @@ pub strategy-returns-in_default-after : goal.strategy-returns-in_default-after
 strategy-returns-in_default-after t c =
     rw reads_plain_sequence (found_plain _ _ _ _ c.in_ok-first.ensures c.in_default.ensures c.in_default-after.ensures)
 
-pub strategy-returns-in_err-then : goal.strategy-returns-in_err-then
-strategy-returns-in_err-then t c =
-    let p = err_from_is_err_and c.from_residual-in_err-then.result c.from_residual-in_err-then.ensures.1 in
-    let f = rw c.in-Some-after.ensures at c.in_ok-first.ensures in
-    rw (p.1, p.2) (fault_means (inner_strategy (c.args.level + 1)) (AtMost 0) c.in-Some-after.behind (inner_strategy c.args.level) (AtMost 0) c.args.input _ (missing_first _ _ _ _ f) (nested_first _ _ _ _ f) c.in_err-then.ensures)
-
-pub strategy-returns-in_default-after-2 : goal.strategy-returns-in_default-after-2
-strategy-returns-in_default-after-2 t c =
-    let f = rw c.in-Some-after.ensures at c.in_ok-first.ensures in
-    syntax_fault (inner_strategy c.args.level) (AtMost 0) c.args.input c.syntax.result (missing_plus _ _ _ _ _ _ f c.in_ok-then.ensures c.in_default-after-2.ensures) c.syntax.ensures
-
-pub strategy-returns-in_err-other-2 : goal.strategy-returns-in_err-other-2
-strategy-returns-in_err-other-2 t c =
-    let p = err_from_is_err_and c.from_residual-in_err-other-2.result c.from_residual-in_err-other-2.ensures.1 in
-    let f = rw c.in-Some-after.ensures at c.in_ok-first.ensures in
-    let g = rw c.in-Some-after-2.ensures at c.in_ok-then.ensures in
-    rw (p.1, p.2) (fault_means (inner_strategy (c.args.level + 1)) (AtMost 0) c.in-Some-after-2.behind (inner_strategy c.args.level) (AtMost 0) c.args.input _ (missing_second _ _ _ _ _ _ f g) (nested_second _ _ _ _ _ _ f g) c.in_err-other-2.ensures)
-
 pub strategy-returns : goal.strategy-returns
-strategy-returns t c =
-    let f = rw c.in-Some-after.ensures at c.in_ok-first.ensures in
-    let g = rw c.in-Some-after-2.ensures at c.in_ok-then.ensures in
-    rw (reads_guarded_choice, c.in_ok-then-2.ensures.ok, c.in_ok-new-2.ensures.ok) (found_guarded _ _ _ _ _ _ _ _ f g c.in_ok-other-2.ensures)
+strategy-returns t c = c.guarded_choice.ensures _ (rw c.in-Some-after.ensures at c.in_ok-first.ensures)
+
+-- ---- guarded choices
+
+pub guarded_choice-returns-in_err-then : goal.guarded_choice-returns-in_err-then
+guarded_choice-returns-in_err-then t c =
+    let p = err_from_is_err_and c.from_residual.result c.from_residual.ensures.1 in
+    rw (p.1, p.2) (λ ts f. fault_means (inner_strategy (c.args.level + 1)) (AtMost 0) c.args.input (inner_strategy c.args.level) (AtMost 0) ts _ (missing_first _ _ _ _ f) (nested_first _ _ _ _ f) c.in_err-then.ensures)
+
+pub guarded_choice-returns-in_default : goal.guarded_choice-returns-in_default
+guarded_choice-returns-in_default t c =
+    λ ts f. syntax_fault (inner_strategy c.args.level) (AtMost 0) ts c.syntax.result (missing_plus _ _ _ _ _ _ f c.in_ok-then.ensures c.in_default.ensures) c.syntax.ensures
+
+pub guarded_choice-returns-in_err-other : goal.guarded_choice-returns-in_err-other
+guarded_choice-returns-in_err-other t c =
+    let p = err_from_is_err_and c.from_residual-in_err-other.result c.from_residual-in_err-other.ensures.1 in
+    let g = rw c.in-Some.ensures at c.in_ok-then.ensures in
+    rw (p.1, p.2) (λ ts f. fault_means (inner_strategy (c.args.level + 1)) (AtMost 0) c.in-Some.behind (inner_strategy c.args.level) (AtMost 0) ts _ (missing_second _ _ _ _ _ _ f g) (nested_second _ _ _ _ _ _ f g) c.in_err-other.ensures)
+
+pub guarded_choice-returns : goal.guarded_choice-returns
+guarded_choice-returns t c =
+    let g = rw c.in-Some.ensures at c.in_ok-then.ensures in
+    λ ts f. rw (reads_guarded_choice, c.in_ok-then-2.ensures.ok, c.in_ok-new.ensures.ok) (found_guarded _ _ _ _ _ _ _ _ f g c.in_ok-other.ensures)

@@ -6,6 +6,9 @@ use Rattle.str_parser.proofs.descent.+phrase.Given as goal
 abbrev pub decreases-strategy : goal.decreases-strategy
 decreases-strategy l = 4 * (201 - l.level) + 3
 
+abbrev pub decreases-guarded_choice : goal.decreases-guarded_choice
+decreases-guarded_choice l = 4 * (201 - l.level) + 2
+
 abbrev pub decreases-sequence : goal.decreases-sequence
 decreases-sequence l = 4 * (201 - l.level) + 2
 
