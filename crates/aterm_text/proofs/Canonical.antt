@@ -8,18 +8,21 @@ use Rattle.std.proofs.lemmas.Int.{ints}
 use Rattle.std.proofs.lemmas.List.Folds.{list_all-append}
 use Rattle.std.proofs.lemmas.Fmt.{decimal_by_steps}
 use borrow.Author.Tests.{leb-true, le-leb}
+use Rattle.term_model.specs.Bytes.{is_between, is_byte, is_digit, is_octal, is_raw, unescaped}
+use Rattle.term_model.specs.QuotedText.{IsQuoted, Item, raw, letter, octal, AreItems}
 use Rattle.term_model.specs.declared.term.Head.{Head}
 use Rattle.term_model.specs.declared.term.Head.TheVariants as heads
 use Rattle.term_model.specs.Limits.{IsInRange}
-use Rattle.term_model.specs.Symbol.{Plain, Quoted, Tuple, is_between, is_name, is_byte, begins_name, continues_name}
+use Rattle.term_model.specs.Symbol.{Plain, Quoted, Tuple, is_name, begins_name, continues_name}
 use Rattle.term_model.specs.Term.{Tree, node, Trees, end, more, IsHead, IsTerm, AreTerms}
-use Rattle.aterm_text.specs.Tokens.{is_digit, is_octal, is_raw, unescaped, AreDigits, IsInteger, IsQuoted, Item, raw, letter, octal, AreItems}
-use Rattle.aterm_text.specs.Grammar.{Between, Optional, Core, Spells, SpellsAll, SpellsRest, IsText}
+use Rattle.aterm_text.specs.Tokens.{AreDigits, IsInteger}
+use Rattle.aterm_text.specs.Grammar.{Between, Optional, SpellsBare, Spells, SpellsAll, SpellsRest, IsText}
 use Rattle.aterm_text.specs.Depth.{StartsTerm}
-use Rattle.aterm_text.specs.Text.{octal_text, item_text, items_text, quoted_text, enclosed, core_text, text, texts, rest_texts}
+use Rattle.aterm_text.specs.Text.{octal_text, item_text, items_text, quoted_text, enclosed, bare_text, text, texts, rest_texts}
 use Rattle.aterm_text.specs.Canonical.{HasNoLineFeed, IsCanonical}
-use Rattle.aterm_text.proofs.Basics.{both, test}
-use Rattle.aterm_text.proofs.Joins.{joined, token}
+use Rattle.term_model.proofs.FitsLaws.{both}
+use Rattle.term_model.proofs.Joins.{joined}
+use Rattle.aterm_text.proofs.Basics.{test, token}
 use Rattle.aterm_text.proofs.Sound.{digits_snoc}
 use Rattle.aterm_text.proofs.Complete.{starts_term}
 
@@ -93,16 +96,16 @@ optional : (ts : Trees) (left right : ℕ) {P : List ℕ → Type 0} (inner : Li
 optional end left right inner p = inl (refl, refl)
 optional (more t ts) left right inner p = inr (between left right inner p)
 
-core_spelled : (h : Head) (ps : Trees) (inner : List ℕ) → IsHead h ps → SpellsAll ps inner → Core h ps (SpellsAll ps) (core_text h ps inner)
-core_spelled (heads.Int z) ps inner h p = (h.1, token (signed_decimal z) (integer_text z h.0))
-core_spelled (heads.App (Plain n)) ps inner h p = joined n (enclosed ps 40 41 inner) (token n (h, refl)) (optional ps 40 41 inner p)
-core_spelled (heads.App (Quoted bs)) ps inner h p = joined (quoted_text bs) (enclosed ps 40 41 inner) (token (quoted_text bs) (quoted_spelled bs h)) (optional ps 40 41 inner p)
-core_spelled (heads.App Tuple) ps inner h p = between 40 41 inner p
-core_spelled heads.List ps inner h p = between 91 93 inner p
+bare_spelled : (h : Head) (ps : Trees) (inner : List ℕ) → IsHead h ps → SpellsAll ps inner → SpellsBare h ps (SpellsAll ps) (bare_text h ps inner)
+bare_spelled (heads.Int z) ps inner h p = (h.1, token (signed_decimal z) (integer_text z h.0))
+bare_spelled (heads.App (Plain n)) ps inner h p = joined n (enclosed ps 40 41 inner) (token n (h, refl)) (optional ps 40 41 inner p)
+bare_spelled (heads.App (Quoted bs)) ps inner h p = joined (quoted_text bs) (enclosed ps 40 41 inner) (token (quoted_text bs) (quoted_spelled bs h)) (optional ps 40 41 inner p)
+bare_spelled (heads.App Tuple) ps inner h p = between 40 41 inner p
+bare_spelled heads.List ps inner h p = between 91 93 inner p
 
 mutual
   spelled : (t : Tree) → IsTerm t → Spells t (text t)
-  spelled (node h ps xs) i = joined (core_text h ps (texts ps)) (enclosed xs 123 125 (texts xs)) (core_spelled h ps (texts ps) i.0 (all_spelled ps i.1)) (optional xs 123 125 (texts xs) (all_spelled xs i.2))
+  spelled (node h ps xs) i = joined (bare_text h ps (texts ps)) (enclosed xs 123 125 (texts xs)) (bare_spelled h ps (texts ps) i.0 (all_spelled ps i.1)) (optional xs 123 125 (texts xs) (all_spelled xs i.2))
 
   all_spelled : (ts : Trees) → AreTerms ts → SpellsAll ts (texts ts)
   all_spelled end i = refl
@@ -171,16 +174,16 @@ clean_enclosed : (ts : Trees) (left right : ℕ) (inner : List ℕ) → not (lef
 clean_enclosed end left right inner e f p = refl
 clean_enclosed (more t ts) left right inner e f p = clean_between left right inner e f p
 
-clean_core : (h : Head) (ps : Trees) (inner : List ℕ) → IsHead h ps → HasNoLineFeed inner → HasNoLineFeed (core_text h ps inner)
-clean_core (heads.Int z) ps inner h p = clean_integer z h.0
-clean_core (heads.App (Plain n)) ps inner h p = clean_append n (enclosed ps 40 41 inner) (clean_name n h) (clean_enclosed ps 40 41 inner refl refl p)
-clean_core (heads.App (Quoted bs)) ps inner h p = clean_append (quoted_text bs) (enclosed ps 40 41 inner) (clean_between 34 34 (items_text bs) refl refl (clean_items bs (items_text bs) (items_spelled bs h))) (clean_enclosed ps 40 41 inner refl refl p)
-clean_core (heads.App Tuple) ps inner h p = clean_between 40 41 inner refl refl p
-clean_core heads.List ps inner h p = clean_between 91 93 inner refl refl p
+clean_bare : (h : Head) (ps : Trees) (inner : List ℕ) → IsHead h ps → HasNoLineFeed inner → HasNoLineFeed (bare_text h ps inner)
+clean_bare (heads.Int z) ps inner h p = clean_integer z h.0
+clean_bare (heads.App (Plain n)) ps inner h p = clean_append n (enclosed ps 40 41 inner) (clean_name n h) (clean_enclosed ps 40 41 inner refl refl p)
+clean_bare (heads.App (Quoted bs)) ps inner h p = clean_append (quoted_text bs) (enclosed ps 40 41 inner) (clean_between 34 34 (items_text bs) refl refl (clean_items bs (items_text bs) (items_spelled bs h))) (clean_enclosed ps 40 41 inner refl refl p)
+clean_bare (heads.App Tuple) ps inner h p = clean_between 40 41 inner refl refl p
+clean_bare heads.List ps inner h p = clean_between 91 93 inner refl refl p
 
 mutual
   pub clean : (t : Tree) → IsTerm t → HasNoLineFeed (text t)
-  clean (node h ps xs) i = clean_append (core_text h ps (texts ps)) (enclosed xs 123 125 (texts xs)) (clean_core h ps (texts ps) i.0 (clean_all ps i.1)) (clean_enclosed xs 123 125 (texts xs) refl refl (clean_all xs i.2))
+  clean (node h ps xs) i = clean_append (bare_text h ps (texts ps)) (enclosed xs 123 125 (texts xs)) (clean_bare h ps (texts ps) i.0 (clean_all ps i.1)) (clean_enclosed xs 123 125 (texts xs) refl refl (clean_all xs i.2))
 
   clean_all : (ts : Trees) → AreTerms ts → HasNoLineFeed (texts ts)
   clean_all end i = refl

@@ -1,14 +1,18 @@
 -- What spells a term is read as that term, unless the term is too deep.
 use Rattle.std.specs.List.{list_all}
 use Rattle.std.proofs.Common.{◌≡◌, ℕ, ◌+◌, Bool, true, false, ◌<◌, List, [], ◌∷◌, ◌++◌, ◌⊎◌, inl, inr, refl, ap, sym, ◌∙◌, append_assoc, arith, subst}
+use Rattle.term_model.specs.Bytes.{is_blank, is_digit}
+use Rattle.term_model.specs.QuotedText.{Joined}
 use Rattle.term_model.specs.declared.term.Head.{Head}
 use Rattle.term_model.specs.declared.term.Head.TheVariants as heads
+use Rattle.term_model.specs.Limits.{max_depth}
 use Rattle.term_model.specs.Symbol.{Symbol, Plain, Quoted, Tuple, begins_name, continues_name, is_name}
 use Rattle.term_model.specs.Term.{Tree, node, Trees, end, more, list_of, trees_of, depth, depths}
-use Rattle.aterm_text.specs.Tokens.{is_blank, is_digit, Joined, Token, Mark, AreSigned, AreDigits, IsInteger, IsSymbolText}
-use Rattle.aterm_text.specs.Grammar.{Between, Optional, Core, Spells, SpellsAll, SpellsRest, IsText}
+use Rattle.aterm_text.specs.Tokens.{Token, Mark, AreSigned, AreDigits, IsInteger, IsSymbolText}
+use Rattle.aterm_text.specs.Grammar.{Between, Optional, SpellsBare, Spells, SpellsAll, SpellsRest, IsText}
 use Rattle.aterm_text.specs.Depth.{Opening, Applied, Elements, Annotations, Open, begins_term, StartsTerm}
-use Rattle.aterm_text.proofs.Basics.{both, trees-list}
+use Rattle.term_model.proofs.FitsLaws.{both}
+use Rattle.term_model.proofs.TermLemmas.{trees_of-list_of}
 use Rattle.aterm_text.proofs.Machine.{State, Expect, Fresh, Whole, Done, Deep, opened, closer, closed, text, step, after}
 use Rattle.aterm_text.proofs.Endings.{OrDeep, weaken, Past, after_deep, through, blanks_keep, Ends, Bare, SymbolEnds, bare_ends, symbol_bare, symbol_blank, bare_blank, ends_next, open_with, ends_close, bare_brace, symbol_bracket, fresh_close, begin_first, fresh_first, at_done, bare_whole}
 use Rattle.aterm_text.proofs.ReadTokens.{digit_no_name, read_integer, read_symbol}
@@ -24,7 +28,7 @@ closed_blank (Annotations h ps) ts s c e = rw e refl
 abbrev pub Reads : (List ℕ → Type 0) → ℕ → List Tree → Type 0
 Reads P n ts = (k : Opening) (s : List Open) (xs : List ℕ) → P xs → OrDeep (Past s (1 + n)) (λ a. step a (closer k) ≡ closed k ts s) (after (Fresh (opened k) s) xs)
 
--- a mark, and the blanks behind it
+-- a mark, and the blanks after it
 pub read_mark : (Q : State → Type 0) (c : ℕ) (a : State) (bs : List ℕ) → Mark c bs → ((b : State) (d : ℕ) → is_blank d ≡ true → Q b → Q (step b d)) → Q (step a c) → Q (after a bs)
 unfolding after
 read_mark Q c a bs j keep q =
@@ -46,7 +50,7 @@ pub token_front : (D : Type 0) (P : List ℕ → Type 0) (Q : State → Type 0) 
     → ((xs : List ℕ) → P xs → OrDeep D Q (after a xs)) → OrDeep D Q (after a bs)
 token_front D P Q bs a j keep f = through D Q Q bs a j (f j.front j.first) (λ b q. inl (blanks_keep Q keep j.back j.second b q))
 
--- a symbol, and a bracket behind it where there are parts
+-- a symbol, and a bracket after it where there are parts
 pub read_named : (y : Symbol) (ps : Trees) (P : List ℕ → Type 0) (n : ℕ) (b : State) (s : List Open) (ys : List ℕ) → Reads P n (list_of ps) → SymbolEnds b y s → Optional ps 40 41 P ys → OrDeep (Past s (1 + n)) (λ a. Bare a (heads.App y) ps s) (after b ys)
 unfolding after
 read_named y ps P n b s ys reads e (inl p) =
@@ -56,7 +60,7 @@ read_named y ps P n b s ys reads e (inl p) =
 read_named y ps P n b s ys reads e (inr q) = go (read_between (Applied y) 40 s P n (list_of ps) ys b reads (symbol_bracket e) q)
   where
     go : OrDeep (Past s (1 + n)) (λ a. a ≡ closed (Applied y) (list_of ps) s) (after b ys) → OrDeep (Past s (1 + n)) (λ a. Bare a (heads.App y) ps s) (after b ys)
-    go (inl r) = inl (let R : State → Type 0 = λ a. Bare a (heads.App y) ps s in subst R (sym (r ∙ ap (λ ts. Whole (heads.App y) ts s) (trees-list ps))) bare_whole)
+    go (inl r) = inl (let R : State → Type 0 = λ a. Bare a (heads.App y) ps s in subst R (sym (r ∙ ap (λ ts. Whole (heads.App y) ts s) (trees_of-list_of ps))) bare_whole)
     go (inr r) = inr r
 
 -- a symbol and its parts
@@ -74,19 +78,19 @@ unfolding after
 read_bracket k h left ps P n s ws is (inl e) reads j = go (read_between k left s P n (list_of ps) ws (Expect s) reads e j)
   where
     go : OrDeep (Past s (1 + n)) (λ a. a ≡ closed k (list_of ps) s) (after (Expect s) ws) → OrDeep (Past s (1 + n)) (λ a. Bare a h ps s) (after (Expect s) ws)
-    go (inl r) = inl (let R : State → Type 0 = λ a. Bare a h ps s in subst R (sym (r ∙ is (list_of ps) ∙ ap (λ ts. Whole h ts s) (trees-list ps))) bare_whole)
+    go (inl r) = inl (let R : State → Type 0 = λ a. Bare a h ps s in subst R (sym (r ∙ is (list_of ps) ∙ ap (λ ts. Whole h ts s) (trees_of-list_of ps))) bare_whole)
     go (inr r) = inr r
 read_bracket k h left ps P n s ws is (inr e) reads j =
     inr (ap (after (Expect s)) (j.bytes ∙ ap (λ xs. xs ++ j.back) (j.first.bytes ∙ ap (λ xs. xs ++ j.first.back) j.first.first)) ∙ ap (λ a. after a (j.first.back ++ j.back)) e.0 ∙ after_deep (j.first.back ++ j.back), omega (arith, e.1))
 
-pub read_core : (h : Head) (ps : Trees) (P : List ℕ → Type 0) (n : ℕ) (s : List Open) (ws : List ℕ) → Reads P n (list_of ps) → Core h ps P ws → OrDeep (Past s (1 + n)) (λ a. Bare a h ps s) (after (Expect s) ws)
-read_core (heads.Int z) ps P n s ws reads j =
+pub read_bare : (h : Head) (ps : Trees) (P : List ℕ → Type 0) (n : ℕ) (s : List Open) (ws : List ℕ) → Reads P n (list_of ps) → SpellsBare h ps P ws → OrDeep (Past s (1 + n)) (λ a. Bare a h ps s) (after (Expect s) ws)
+read_bare (heads.Int z) ps P n s ws reads j =
     let R : Trees → Type 0 = λ ts. OrDeep (Past s (1 + n)) (λ a. Bare a (heads.Int z) ts s) (after (Expect s) ws) in
     subst R (sym j.0) (weaken (λ a. Bare a (heads.Int z) end s) (λ past. omega (arith, past)) (token_front (Past s 1) (IsInteger z) (λ a. Bare a (heads.Int z) end s) ws (Expect s) j.1 (λ b d e q. bare_blank d e q) (λ xs p. read_integer z xs s p)))
-read_core (heads.App (Plain name)) ps P n s ws reads j = read_applied (Plain name) ps P n s ws reads j
-read_core (heads.App (Quoted text)) ps P n s ws reads j = read_applied (Quoted text) ps P n s ws reads j
-read_core (heads.App Tuple) ps P n s ws reads j = read_bracket (Applied Tuple) (heads.App Tuple) 40 ps P n s ws (λ ts. refl) (begin_first s 40 refl) reads j
-read_core heads.List ps P n s ws reads j = read_bracket Elements heads.List 91 ps P n s ws (λ ts. refl) (begin_first s 91 refl) reads j
+read_bare (heads.App (Plain name)) ps P n s ws reads j = read_applied (Plain name) ps P n s ws reads j
+read_bare (heads.App (Quoted text)) ps P n s ws reads j = read_applied (Quoted text) ps P n s ws reads j
+read_bare (heads.App Tuple) ps P n s ws reads j = read_bracket (Applied Tuple) (heads.App Tuple) 40 ps P n s ws (λ ts. refl) (begin_first s 40 refl) reads j
+read_bare heads.List ps P n s ws reads j = read_bracket Elements heads.List 91 ps P n s ws (λ ts. refl) (begin_first s 91 refl) reads j
 
 pub starts_append : (xs ys : List ℕ) → StartsTerm xs → StartsTerm (xs ++ ys)
 starts_append [] ys e = absurd e
@@ -116,17 +120,17 @@ starts_signed false n m p = starts_digits n m p
 starts_signed true n [] p = absurd p
 starts_signed true n (b ∷ m) p = rw (p.0) refl
 
-pub starts_core : (h : Head) (ps : Trees) (P : List ℕ → Type 0) (ws : List ℕ) → Core h ps P ws → StartsTerm ws
-starts_core (heads.Int z) ps P ws j = starts_front ws j.1 (starts_signed j.1.first.1 j.1.first.2 j.1.front j.1.first.4)
-starts_core (heads.App (Plain n)) ps P ws j = starts_front ws j (starts_front j.front j.first (starts_symbol (Plain n) j.first.front j.first.first))
-starts_core (heads.App (Quoted text)) ps P ws j = starts_front ws j (starts_front j.front j.first (starts_symbol (Quoted text) j.first.front j.first.first))
-starts_core (heads.App Tuple) ps P ws j = starts_front ws j (starts_mark 40 j.front refl j.first)
-starts_core heads.List ps P ws j = starts_front ws j (starts_mark 91 j.front refl j.first)
+pub starts_bare : (h : Head) (ps : Trees) (P : List ℕ → Type 0) (ws : List ℕ) → SpellsBare h ps P ws → StartsTerm ws
+starts_bare (heads.Int z) ps P ws j = starts_front ws j.1 (starts_signed j.1.first.1 j.1.first.2 j.1.front j.1.first.4)
+starts_bare (heads.App (Plain n)) ps P ws j = starts_front ws j (starts_front j.front j.first (starts_symbol (Plain n) j.first.front j.first.first))
+starts_bare (heads.App (Quoted text)) ps P ws j = starts_front ws j (starts_front j.front j.first (starts_symbol (Quoted text) j.first.front j.first.first))
+starts_bare (heads.App Tuple) ps P ws j = starts_front ws j (starts_mark 40 j.front refl j.first)
+starts_bare heads.List ps P ws j = starts_front ws j (starts_mark 91 j.front refl j.first)
 
 pub starts_term : (t : Tree) (ws : List ℕ) → Spells t ws → StartsTerm ws
-starts_term (node h ps xs) ws j = starts_front ws j (starts_core h ps (SpellsAll ps) j.front j.first)
+starts_term (node h ps xs) ws j = starts_front ws j (starts_bare h ps (SpellsAll ps) j.front j.first)
 
--- annotations behind a term
+-- annotations after a term
 pub read_annos : (h : Head) (ps xs : Trees) (P : List ℕ → Type 0) (n : ℕ) (a : State) (s : List Open) (ys : List ℕ) → Reads P n (list_of xs) → Bare a h ps s → Optional xs 123 125 P ys → OrDeep (Past s (1 + n)) (λ b. Ends b (node h ps xs) s) (after a ys)
 unfolding after
 read_annos h ps xs P n a s ys reads e (inl p) =
@@ -136,7 +140,7 @@ read_annos h ps xs P n a s ys reads e (inl p) =
 read_annos h ps xs P n a s ys reads e (inr q) = go (read_between (Annotations h ps) 123 s P n (list_of xs) ys a reads (bare_brace e) q)
   where
     go : OrDeep (Past s (1 + n)) (λ b. b ≡ closed (Annotations h ps) (list_of xs) s) (after a ys) → OrDeep (Past s (1 + n)) (λ b. Ends b (node h ps xs) s) (after a ys)
-    go (inl r) = inl (let R : State → Type 0 = λ b. Ends b (node h ps xs) s in subst R (sym (r ∙ ap (λ ts. Done (node h ps ts) s) (trees-list xs))) at_done)
+    go (inl r) = inl (let R : State → Type 0 = λ b. Ends b (node h ps xs) s in subst R (sym (r ∙ ap (λ ts. Done (node h ps ts) s) (trees_of-list_of xs))) at_done)
     go (inr r) = inr r
 
 pub all_end : (D : Type 0) (k : Opening) (s : List Open) (ws : List ℕ) → ws ≡ [] → OrDeep D (λ a. step a (closer k) ≡ closed k [] s) (after (Fresh (opened k) s) ws)
@@ -151,7 +155,7 @@ mutual
   pub read_term : (t : Tree) (ws : List ℕ) (s : List Open) → Spells t ws → OrDeep (Past s (depth t)) (λ a. Ends a t s) (after (Expect s) ws)
   read_term (node h ps xs) ws s j =
       through (Past s (depth (node h ps xs))) (λ a. Bare a h ps s) (λ a. Ends a (node h ps xs) s) ws (Expect s) j
-      (weaken (λ a. Bare a h ps s) (λ past. omega (arith, past)) (read_core h ps (SpellsAll ps) (depths ps) s j.front (λ k u zs p. read_all ps zs k u p) j.first))
+      (weaken (λ a. Bare a h ps s) (λ past. omega (arith, past)) (read_bare h ps (SpellsAll ps) (depths ps) s j.front (λ k u zs p. read_all ps zs k u p) j.first))
       (λ b q. weaken (λ a. Ends a (node h ps xs) s) (λ past. omega (arith, past)) (read_annos h ps xs (SpellsAll xs) (depths xs) b s j.back (λ k u zs p. read_all xs zs k u p) q j.second))
 
   pub read_all : (ts : Trees) (ws : List ℕ) (k : Opening) (s : List Open) → SpellsAll ts ws → OrDeep (Past s (1 + depths ts)) (λ a. step a (closer k) ≡ closed k (list_of ts) s) (after (Fresh (opened k) s) ws)
@@ -175,8 +179,8 @@ mutual
       subst R (append_assoc es (t ∷ []) (u ∷ list_of ts)) (weaken (λ y. step y (closer k) ≡ closed k ((es ++ t ∷ []) ++ u ∷ list_of ts) s) (λ past. omega (arith, past)) (read_rest ts j.second.back k (es ++ t ∷ []) s x u r j.second.second))))
 
 -- a text that spells the term is read as the term, unless the term is too deep
-pub text_read : (t : Tree) (bs : List ℕ) → IsText t bs → OrDeep (1000 < depth t) (λ a. Ends a t []) (after (Expect []) bs)
+pub text_read : (t : Tree) (bs : List ℕ) → IsText t bs → OrDeep (max_depth < depth t) (λ a. Ends a t []) (after (Expect []) bs)
 text_read t bs j =
-    through (1000 < depth t) (λ a. a ≡ Expect []) (λ a. Ends a t []) bs (Expect []) j
+    through (max_depth < depth t) (λ a. a ≡ Expect []) (λ a. Ends a t []) bs (Expect []) j
     (inl (blanks_keep (λ a. a ≡ Expect []) (λ b d h q. ap (λ x. step x d) q ∙ rw h refl) j.front j.first (Expect []) refl))
-    (λ b q. let R : State → Type 0 = λ x. OrDeep (1000 < depth t) (λ a. Ends a t []) (after x j.back) in subst R (sym q) (weaken (λ a. Ends a t []) (λ past. omega (arith, past)) (read_term t j.back [] j.second)))
+    (λ b q. let R : State → Type 0 = λ x. OrDeep (max_depth < depth t) (λ a. Ends a t []) (after x j.back) in subst R (sym q) (weaken (λ a. Ends a t []) (λ past. omega (arith, past)) (read_term t j.back [] j.second)))

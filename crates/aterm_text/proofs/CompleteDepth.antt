@@ -1,15 +1,18 @@
--- A text in which a term begins at depth 1,001 is told to be too deep.
+-- A text in which a term begins at depth 1,001 is reported as too deep.
 use Rattle.std.specs.Cmp.{unsigned_Decides}
 use Rattle.std.proofs.Common.{◌≡◌, ℕ, suc, zero, true, List, [], ◌∷◌, ◌++◌, inl, inr, length, refl, ap, sym, ◌∙◌, append_assoc, rules, subst}
+use Rattle.term_model.specs.Bytes.{is_blank}
+use Rattle.term_model.specs.QuotedText.{Joined}
+use Rattle.term_model.specs.Limits.{max_depth}
 use Rattle.term_model.specs.Symbol.{Symbol, Plain, Quoted, Tuple}
 use Rattle.term_model.specs.Term.{Tree, depths}
-use Rattle.aterm_text.specs.Tokens.{is_blank, Joined, Token, Mark, IsSymbolText}
+use Rattle.aterm_text.specs.Tokens.{Token, Mark, IsSymbolText}
 use Rattle.aterm_text.specs.Grammar.{SpellsAll}
 use Rattle.aterm_text.specs.Depth.{Opening, Applied, Elements, Annotations, Open, SpellsEarlier, IsOpening, Opens, TooDeep, StartsTerm}
 use Rattle.aterm_text.proofs.Machine.{State, Expect, Fresh, Deep, opened, text, step, after}
 use Rattle.aterm_text.proofs.Endings.{OrDeep, weaken, Past, after_deep, through, blanks_keep, Ends, Bare, SymbolEnds, symbol_blank, ends_next, open_with, bare_brace, symbol_bracket, not_blank, begin_first, fresh_first}
 use Rattle.aterm_text.proofs.ReadTokens.{read_symbol}
-use Rattle.aterm_text.proofs.Complete.{read_mark, token_front, read_core, starts_front, starts_mark, starts_symbol, starts_core, starts_term, read_term, read_all}
+use Rattle.aterm_text.proofs.Complete.{read_mark, token_front, read_bare, starts_front, starts_mark, starts_symbol, starts_bare, starts_term, read_term, read_all}
 
 -- ---- a text that is too deep
 
@@ -37,7 +40,7 @@ read_opening (Applied Tuple) s xs j = read_mark (OrDeep (Unit {0}) (λ a. a ≡ 
 read_opening Elements s xs j = read_mark (OrDeep (Unit {0}) (λ a. a ≡ Fresh (opened Elements) s)) 91 (Expect s) xs j (fresh_keeps Elements s) (weaken (λ a. a ≡ Fresh (opened Elements) s) (λ _. tt) (begin_first s 91 refl))
 read_opening (Annotations h ps) s xs j =
     through (Unit {0}) (λ a. Bare a h ps s) (λ a. a ≡ Fresh (opened (Annotations h ps)) s) xs (Expect s) j
-    (weaken (λ a. Bare a h ps s) (λ _. tt) (read_core h ps (SpellsAll ps) (depths ps) s j.front (λ k u zs p. read_all ps zs k u p) j.first))
+    (weaken (λ a. Bare a h ps s) (λ _. tt) (read_bare h ps (SpellsAll ps) (depths ps) s j.front (λ k u zs p. read_all ps zs k u p) j.first))
     (λ b q. read_mark (OrDeep (Unit {0}) (λ a. a ≡ Fresh (opened (Annotations h ps)) s)) 123 b j.back j.second (fresh_keeps (Annotations h ps) s) (inl (bare_brace q)))
 
 starts_opening : (k : Opening) (xs : List ℕ) → IsOpening k xs → StartsTerm xs
@@ -45,7 +48,7 @@ starts_opening (Applied (Plain n)) xs j = starts_front xs j (starts_front j.fron
 starts_opening (Applied (Quoted text)) xs j = starts_front xs j (starts_front j.front j.first (starts_symbol (Quoted text) j.first.front j.first.first))
 starts_opening (Applied Tuple) xs j = starts_mark 40 xs refl j
 starts_opening Elements xs j = starts_mark 91 xs refl j
-starts_opening (Annotations h ps) xs j = starts_front xs j (starts_core h ps (SpellsAll ps) j.front j.first)
+starts_opening (Annotations h ps) xs j = starts_front xs j (starts_bare h ps (SpellsAll ps) j.front j.first)
 
 read_earlier : (ts : List Tree) (k : Opening) (es : List Tree) (s : List Open) (a : State) (xs : List ℕ) → Awaits (open_with k es ∷ s) a → SpellsEarlier ts xs → OrDeep (Unit {0}) (Awaits (open_with k (es ++ ts) ∷ s)) (after a xs)
 unfolding after
@@ -79,14 +82,14 @@ opens_ready (suc k) u (o, j) =
     ready s e (inl w) = inl (o ∷ s, ap suc e, w)
     ready s e (inr d) = inr d
 
-deep_here : (s : List Open) (xs : List ℕ) → length s ≡ 1000 → StartsTerm xs → after (Expect s) xs ≡ Deep
+deep_here : (s : List Open) (xs : List ℕ) → length s ≡ max_depth → StartsTerm xs → after (Expect s) xs ≡ Deep
 unfolding after
 deep_here s [] e h = absurd h
-deep_here s (c ∷ cs) e h = ap (λ a. after a cs) (rw (not_blank c h, h, (unsigned_Decides (length s) 1000).1 e) refl) ∙ after_deep cs
+deep_here s (c ∷ cs) e h = ap (λ a. after a cs) (rw (not_blank c h, h, (unsigned_Decides (length s) max_depth).1 e) refl) ∙ after_deep cs
 
 pub too_deep : (bs : List ℕ) → TooDeep bs → after (Expect []) bs ≡ Deep
 unfolding TooDeep
-too_deep bs j = go (through (Unit {0}) (Ready 1000) (λ a. a ≡ Deep) bs (Expect []) j (opens_ready 1000 j.front j.first) (λ b (s, e, w). inl (w j.back j.second ∙ deep_here s j.back e j.second)))
+too_deep bs j = go (through (Unit {0}) (Ready max_depth) (λ a. a ≡ Deep) bs (Expect []) j (opens_ready max_depth j.front j.first) (λ b (s, e, w). inl (w j.back j.second ∙ deep_here s j.back e j.second)))
   where
     go : OrDeep (Unit {0}) (λ a. a ≡ Deep) (after (Expect []) bs) → after (Expect []) bs ≡ Deep
     go (inl e) = e

@@ -3,13 +3,17 @@ use Rattle.std.specs.Bool.{◌==◌}
 use Rattle.std.specs.List.{list_all}
 use Rattle.std.specs.Cmp.{unsigned_Decides}
 use Rattle.std.proofs.Common.{◌≡◌, ℕ, ◌+◌, Bool, true, false, ◌<◌, ◌||◌, List, [], ◌∷◌, ◌++◌, ◌⊎◌, inl, inr, length, refl, ap, sym, ◌∙◌, arith, subst}
+use Rattle.term_model.specs.Bytes.{is_blank, signed}
+use Rattle.term_model.specs.QuotedText.{Joined}
 use Rattle.term_model.specs.declared.term.Head.{Head}
 use Rattle.term_model.specs.declared.term.Head.TheVariants as heads
+use Rattle.term_model.specs.Limits.{max_depth}
 use Rattle.term_model.specs.Symbol.{Symbol, Plain}
 use Rattle.term_model.specs.Term.{Tree, node, Trees, end}
-use Rattle.aterm_text.specs.Tokens.{is_blank, integer, Joined, AreBlanks}
+use Rattle.aterm_text.specs.Tokens.{AreBlanks}
 use Rattle.aterm_text.specs.Depth.{Opening, Applied, Elements, Annotations, Open, begins_term, StartsTerm}
-use Rattle.aterm_text.proofs.Basics.{both, either_or, test}
+use Rattle.term_model.proofs.FitsLaws.{both}
+use Rattle.aterm_text.proofs.Basics.{either_or, test}
 use Rattle.aterm_text.proofs.Machine.{State, Expect, Fresh, InName, InDigits, Named, Whole, Done, Deep, opened, closer, closed, first, next, step, after}
 
 -- the state is such, or it is `Deep`, and then this holds
@@ -22,7 +26,7 @@ weaken P f (inr e) = inr (e.0, f e.1)
 
 -- so much deeper than these brackets is past the limit
 abbrev pub Past : List Open → ℕ → Type 0
-Past s d = 1000 < length s + d
+Past s d = max_depth < length s + d
 
 pub after_append : (xs ys : List ℕ) (a : State) → after a (xs ++ ys) ≡ after (after a xs) ys
 unfolding after
@@ -72,14 +76,14 @@ blanks_keep P keep (b ∷ bs) e a p = let h : (is_blank b ≡ true) × (list_all
 
 pub data Ends : State → Tree → List Open → Type 0 where
   at_name : {n : List ℕ} {s : List Open} → Ends (InName n s) (node (heads.App (Plain n)) end end) s
-  at_digits : {sign : Bool} {v : ℕ} {s : List Open} → Ends (InDigits sign v s) (node (heads.Int (integer sign v)) end end) s
+  at_digits : {sign : Bool} {v : ℕ} {s : List Open} → Ends (InDigits sign v s) (node (heads.Int (signed sign v)) end end) s
   at_named : {y : Symbol} {s : List Open} → Ends (Named y s) (node (heads.App y) end end) s
   at_whole : {h : Head} {ps : Trees} {s : List Open} → Ends (Whole h ps s) (node h ps end) s
   at_done : {t : Tree} {s : List Open} → Ends (Done t s) t s
 
 pub data Bare : State → Head → Trees → List Open → Type 0 where
   bare_name : {n : List ℕ} {s : List Open} → Bare (InName n s) (heads.App (Plain n)) end s
-  bare_digits : {sign : Bool} {v : ℕ} {s : List Open} → Bare (InDigits sign v s) (heads.Int (integer sign v)) end s
+  bare_digits : {sign : Bool} {v : ℕ} {s : List Open} → Bare (InDigits sign v s) (heads.Int (signed sign v)) end s
   bare_named : {y : Symbol} {s : List Open} → Bare (Named y s) (heads.App y) end s
   bare_whole : {h : Head} {ps : Trees} {s : List Open} → Bare (Whole h ps s) h ps s
 
@@ -103,11 +107,11 @@ symbol_blank {a} {y} {s} c e symbol_before = at_blank (λ c. SymbolEnds (step (N
 
 pub bare_blank : {a : State} {h : Head} {ps : Trees} {s : List Open} (c : ℕ) → is_blank c ≡ true → Bare a h ps s → Bare (step a c) h ps s
 bare_blank {a} {h} {ps} {s} c e (bare_name {n}) = at_blank (λ c. Bare (step (InName n s) c) (heads.App (Plain n)) end s) bare_named bare_named bare_named bare_named c e
-bare_blank {a} {h} {ps} {s} c e (bare_digits {sign} {v}) = at_blank (λ c. Bare (step (InDigits sign v s) c) (heads.Int (integer sign v)) end s) bare_whole bare_whole bare_whole bare_whole c e
+bare_blank {a} {h} {ps} {s} c e (bare_digits {sign} {v}) = at_blank (λ c. Bare (step (InDigits sign v s) c) (heads.Int (signed sign v)) end s) bare_whole bare_whole bare_whole bare_whole c e
 bare_blank {a} {h} {ps} {s} c e (bare_named {y}) = at_blank (λ c. Bare (step (Named y s) c) (heads.App y) end s) bare_named bare_named bare_named bare_named c e
 bare_blank {a} {h} {ps} {s} c e bare_whole = at_blank (λ c. Bare (step (Whole h ps s) c) h ps s) bare_whole bare_whole bare_whole bare_whole c e
 
--- a comma or a closing bracket behind a term
+-- a comma or a closing bracket after a term
 pub ends_next : {a : State} {t : Tree} {s : List Open} → Ends a t s → (step a 44 ≡ next t s 44) × (step a 41 ≡ next t s 41) × (step a 93 ≡ next t s 93) × (step a 125 ≡ next t s 125)
 ends_next at_name = (refl, refl, refl, refl)
 ends_next at_digits = (refl, refl, refl, refl)
@@ -160,10 +164,10 @@ not_closer k c e = go (test (c == closer k))
     go (inr h) = h
 
 pub begin_first : (s : List Open) (c : ℕ) → begins_term c ≡ true → (step (Expect s) c ≡ first s c) ⊎ ((step (Expect s) c ≡ Deep) × Past s 1)
-begin_first s c e = go (test (length s == 1000))
+begin_first s c e = go (test (length s == max_depth))
   where
-    go : ((length s == 1000) ≡ true) ⊎ ((length s == 1000) ≡ false) → (step (Expect s) c ≡ first s c) ⊎ ((step (Expect s) c ≡ Deep) × Past s 1)
-    go (inl h) = let full : length s ≡ 1000 = (unsigned_Decides (length s) 1000).0 h in inr (rw (not_blank c e, e, h) refl, omega (arith, full))
+    go : ((length s == max_depth) ≡ true) ⊎ ((length s == max_depth) ≡ false) → (step (Expect s) c ≡ first s c) ⊎ ((step (Expect s) c ≡ Deep) × Past s 1)
+    go (inl h) = let full : length s ≡ max_depth = (unsigned_Decides (length s) max_depth).0 h in inr (rw (not_blank c e, e, h) refl, omega (arith, full))
     go (inr h) = inl (rw (not_blank c e, e, h) refl)
 
 pub fresh_first : (k : Opening) (s : List Open) (xs : List ℕ) → StartsTerm xs → after (Fresh (opened k) s) xs ≡ after (Expect (opened k ∷ s)) xs

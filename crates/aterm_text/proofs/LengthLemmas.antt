@@ -10,15 +10,17 @@ use Rattle.term_model.specs.declared.term.Head.{Head}
 use Rattle.term_model.specs.declared.term.Head.TheVariants as heads
 use Rattle.term_model.specs.Symbol.{Plain, Quoted, Tuple}
 use Rattle.term_model.specs.Term.{Tree, node, Trees, end, more, trees_of, head_of, parts_of, annos_of, weight, weights, head_weight, IsTerm, AreTerms, IsHead}
-use Rattle.aterm_text.specs.Text.{text, texts, rest_texts, core_text, enclosed, item_text, items_text, quoted_text}
-use Rattle.aterm_text.proofs.WriteLemmas.{text_by_parts, weight_of_parts, weight_of_annos, weight_positive, weight_at}
+use Rattle.aterm_text.specs.Text.{text, texts, rest_texts, bare_text, enclosed, item_text, items_text, quoted_text}
+use Rattle.term_model.proofs.TermLemmas.{weight_positive}
+use Rattle.term_model.proofs.EqualityLemmas.{weights-parts_of, weights-annos_of, weight-get_or}
+use Rattle.aterm_text.proofs.WriteLemmas.{text_by_parts}
 
 pub length_enclosed : (ts : Trees) (left right : ℕ) (inner : List ℕ) → length (enclosed ts left right inner) ≡ length (enclosed ts 40 41 inner)
 length_enclosed end left right inner = refl
 length_enclosed (more t ts) left right inner = rw (length-append inner (right ∷ []), length-append inner (41 ∷ [])) refl
 
-pub length_text : (t : Tree) → length (text t) ≡ length (core_text (head_of t) (trees_of (parts_of t)) (texts (trees_of (parts_of t)))) + length (enclosed (trees_of (annos_of t)) 40 41 (texts (trees_of (annos_of t))))
-length_text t = ap length (text_by_parts t) ∙ length-append _ _ ∙ ap (λ n. length (core_text (head_of t) (trees_of (parts_of t)) (texts (trees_of (parts_of t)))) + n) (length_enclosed (trees_of (annos_of t)) 123 125 (texts (trees_of (annos_of t))))
+pub length_text : (t : Tree) → length (text t) ≡ length (bare_text (head_of t) (trees_of (parts_of t)) (texts (trees_of (parts_of t)))) + length (enclosed (trees_of (annos_of t)) 40 41 (texts (trees_of (annos_of t))))
+length_text t = ap length (text_by_parts t) ∙ length-append _ _ ∙ ap (λ n. length (bare_text (head_of t) (trees_of (parts_of t)) (texts (trees_of (parts_of t)))) + n) (length_enclosed (trees_of (annos_of t)) 123 125 (texts (trees_of (annos_of t))))
 
 pub length_enclosed_some : (ts : List Tree) (inner : List ℕ) → 0 < length ts → length (enclosed (trees_of ts) 40 41 inner) ≡ 2 + length inner
 length_enclosed_some [] inner h = absurd (omega arith)
@@ -34,7 +36,7 @@ length_rest [] i d h = absurd (omega arith)
 length_rest (t ∷ ts) zero d h = omega (arith, length-append (text t) (rest_texts (trees_of ts)))
 length_rest (t ∷ ts) (suc i) d h = let e : suc i + 1 ≡ suc (i + 1) = omega arith in rw e (length_rest ts i d (omega arith))
 
-pub ruleset counting = (length_text, length_enclosed, length_enclosed_some, length_enclosed_none, length-append, weight_of_parts, weight_of_annos, weight_positive, weight_at, length_rest)
+pub ruleset counting = (length_text, length_enclosed, length_enclosed_some, length_enclosed_none, length-append, weights-parts_of, weights-annos_of, weight_positive, weight-get_or, length_rest)
 
 integer_bound : (z : ℤ) → IsInRange z → length (signed_decimal z) ≤ 11
 integer_bound z h = length_signed_le 10 z (omega (arith, ints)) (omega (arith, ints))
@@ -66,19 +68,19 @@ enclosed_bound : (ts : Trees) (left right : ℕ) (inner : List ℕ) → length (
 enclosed_bound end left right inner = omega arith
 enclosed_bound (more t ts) left right inner = rw (length-append inner (right ∷ [])) (omega arith)
 
-core_bound : (h : Head) (ps : Trees) (inner : List ℕ) → IsHead h ps → length (core_text h ps inner) ≤ 11 + (4 * head_weight h + length inner)
-core_bound (heads.Int z) ps inner is = omega (arith, integer_bound z is.0)
-core_bound (heads.App (Plain name)) ps inner is = rw (length-append name (enclosed ps 40 41 inner)) (omega (arith, enclosed_bound ps 40 41 inner))
-core_bound (heads.App (Quoted bs)) ps inner is =
+bare_bound : (h : Head) (ps : Trees) (inner : List ℕ) → IsHead h ps → length (bare_text h ps inner) ≤ 11 + (4 * head_weight h + length inner)
+bare_bound (heads.Int z) ps inner is = omega (arith, integer_bound z is.0)
+bare_bound (heads.App (Plain name)) ps inner is = rw (length-append name (enclosed ps 40 41 inner)) (omega (arith, enclosed_bound ps 40 41 inner))
+bare_bound (heads.App (Quoted bs)) ps inner is =
     rw (length-append (quoted_text bs) (enclosed ps 40 41 inner), length-append (items_text bs) (34 ∷ [])) (omega (arith, items_bound bs, enclosed_bound ps 40 41 inner))
-core_bound (heads.App Tuple) ps inner is = rw (length-append inner (41 ∷ [])) (omega arith)
-core_bound heads.List ps inner is = rw (length-append inner (93 ∷ [])) (omega arith)
+bare_bound (heads.App Tuple) ps inner is = rw (length-append inner (41 ∷ [])) (omega arith)
+bare_bound heads.List ps inner is = rw (length-append inner (93 ∷ [])) (omega arith)
 
 mutual
   pub text_bound : (t : Tree) → IsTerm t → length (text t) + 2 ≤ 16 * weight t
   text_bound (node h ps xs) is =
-      rw (length-append (core_text h ps (texts ps)) (enclosed xs 123 125 (texts xs)))
-      (omega (arith, core_bound h ps (texts ps) is.0, texts_bound ps is.1, texts_bound xs is.2, enclosed_bound xs 123 125 (texts xs)))
+      rw (length-append (bare_text h ps (texts ps)) (enclosed xs 123 125 (texts xs)))
+      (omega (arith, bare_bound h ps (texts ps) is.0, texts_bound ps is.1, texts_bound xs is.2, enclosed_bound xs 123 125 (texts xs)))
 
   texts_bound : (ts : Trees) → AreTerms ts → length (texts ts) ≤ 16 * weights ts
   texts_bound end is = omega arith

@@ -4,8 +4,6 @@ pub mod Canonical
 pub mod Complete
 pub mod CompleteDepth
 pub mod Endings
-pub mod Items
-pub mod Joins
 pub mod LengthLemmas
 pub mod Machine
 pub mod Meaning

@@ -1,11 +1,11 @@
 -- Reading one byte at a time, with a stack of open brackets.
 use Rattle.std.specs.Prelude.{ℕ, ◌+◌, ◌-◌, ◌*◌, Bool, true, false, ◌==◌, nat_le, if◌then◌else◌, List, [], ◌∷◌, ◌++◌, length, Option, Some, None}
+use Rattle.term_model.specs.Bytes.{is_between, is_blank, is_digit, signed, unescaped, is_octal}
 use Rattle.term_model.specs.declared.term.Head.{Head}
 use Rattle.term_model.specs.declared.term.Head.TheVariants as heads
-use Rattle.term_model.specs.Symbol.{Symbol, Plain, Quoted, Tuple, is_between, begins_name, continues_name}
-use Rattle.term_model.specs.Limits.{max_depth}
+use Rattle.term_model.specs.Symbol.{Symbol, Plain, Quoted, Tuple, begins_name, continues_name}
+use Rattle.term_model.specs.Limits.{max_magnitude, max_depth}
 use Rattle.term_model.specs.Term.{Tree, node, Trees, end, trees_of}
-use Rattle.aterm_text.specs.Tokens.{is_blank, is_digit, integer, unescaped, is_octal}
 use Rattle.aterm_text.specs.Depth.{Opening, Applied, Elements, Annotations, Open, begins_term}
 
 pub data State : Type 0 where
@@ -40,12 +40,8 @@ closed (Applied y) ts s = Whole (heads.App y) (trees_of ts) s
 closed Elements ts s = Whole heads.List (trees_of ts) s
 closed (Annotations h ps) ts s = Done (node h ps (trees_of ts)) s
 
-abbrev pub limit : Bool → ℕ
-limit true = 2147483648
-limit false = 2147483647
-
 abbrev pub digits : Bool → ℕ → ℕ → List Open → State
-digits sign v c s = if nat_le (10 * v + (c - 48)) (limit sign) then InDigits sign (10 * v + (c - 48)) s else Wrong
+digits sign v c s = if nat_le (10 * v + (c - 48)) (max_magnitude sign) then InDigits sign (10 * v + (c - 48)) s else Wrong
 
 -- the first byte of a term
 abbrev pub first : List Open → ℕ → State
@@ -61,7 +57,7 @@ first s c =
 abbrev pub begin : List Open → ℕ → State
 begin s c = if begins_term c then (if length s == max_depth then Deep else first s c) else Wrong
 
--- a byte behind a whole term
+-- a byte after a whole term
 abbrev pub next : Tree → List Open → ℕ → State
 next t [] c = Wrong
 next t (o ∷ s) c = if c == 44 then Expect (with o t ∷ s) else if c == closer o.opening then closed o.opening (with o t).earlier s else Wrong
@@ -78,7 +74,7 @@ named y s c =
     else if c == 40 then Fresh (opened (Applied y)) s
     else whole (heads.App y) end s c
 
--- a byte within quoted text, behind these bytes
+-- a byte within quoted text, after these bytes
 abbrev pub text : List ℕ → List Open → ℕ → State
 text b s c =
     if c == 34 then Named (Quoted b) s
@@ -86,7 +82,7 @@ text b s c =
     else if c == 10 then Wrong
     else InText (b ++ c ∷ []) s
 
--- a byte behind `\`
+-- a byte after `\`
 abbrev pub escape : Option ℕ → List ℕ → List Open → ℕ → State
 escape (Some d) b s c = InText (b ++ d ∷ []) s
 escape None b s c = if is_between 48 51 c then InOctal b (c - 48) s else Wrong
@@ -96,7 +92,7 @@ step (Expect s) c = if is_blank c then Expect s else begin s c
 step (Fresh o s) c = if is_blank c then Fresh o s else if c == closer o.opening then closed o.opening [] s else begin (o ∷ s) c
 step (InName n s) c = if continues_name c then InName (n ++ c ∷ []) s else named (Plain n) s c
 step (InSign s) c = if is_digit c then digits true 0 c s else Wrong
-step (InDigits sign v s) c = if is_digit c then digits sign v c s else whole (heads.Int (integer sign v)) end s c
+step (InDigits sign v s) c = if is_digit c then digits sign v c s else whole (heads.Int (signed sign v)) end s c
 step (InText b s) c = text b s c
 step (InEscape b s) c = escape (unescaped c) b s c
 step (InOctal b v s) c = if is_octal c then InOctals b (8 * v + (c - 48)) s else Wrong
@@ -110,7 +106,7 @@ step Wrong c = Wrong
 -- the term that is whole here, with the brackets round it
 abbrev pub finished : State → Option (Tree × List Open)
 finished (InName n s) = Some (node (heads.App (Plain n)) end end, s)
-finished (InDigits sign v s) = Some (node (heads.Int (integer sign v)) end end, s)
+finished (InDigits sign v s) = Some (node (heads.Int (signed sign v)) end end, s)
 finished (Named y s) = Some (node (heads.App y) end end, s)
 finished (Whole h ps s) = Some (node h ps end, s)
 finished (Done t s) = Some (t, s)

@@ -1,26 +1,27 @@
 -- The outcome of a text is what the grammar says.
-use Rattle.std.specs.Prelude.{slice_index, slice_range, nat_le}
+use Rattle.std.specs.Prelude.{slice_index, slice_range}
 use Rattle.std.proofs.Common.{◌≡◌, ℕ, ◌+◌, ◌<◌, ◌≤◌, true, false, List, [], ◌∷◌, ◌⊎◌, inl, inr, length, drop, refl, ap, sym, ◌∙◌, arith, subst, Option, Some, None, Result, Ok, Err, length-drop}
-use borrow.Author.Tests.{leb-true, le-leb}
+use Rattle.term_model.specs.Bytes.{signed}
 use Rattle.term_model.specs.declared.fault.Fault.{Fault}
 use Rattle.term_model.specs.declared.fault.Fault.TheVariants as faults
 use Rattle.term_model.specs.declared.term.Head.TheVariants as heads
+use Rattle.term_model.specs.Limits.{max_depth}
 use Rattle.term_model.specs.Symbol.{Plain}
-use Rattle.term_model.specs.Term.{Tree, node, end, weight, depth, fits, Fits}
-use Rattle.aterm_text.specs.Tokens.{integer}
+use Rattle.term_model.specs.Term.{Tree, node, end, depth, fits, Fits}
+use Rattle.term_model.proofs.FitsLaws.{fits-sound, fits-complete}
 use Rattle.aterm_text.specs.Grammar.{IsText}
 use Rattle.aterm_text.specs.Depth.{Open, TooDeep}
-use Rattle.aterm_text.proofs.Basics.{both, test}
+use Rattle.aterm_text.proofs.Basics.{test}
 use Rattle.aterm_text.specs.declared.place.Place.TheVariants.{Expect, Name, Sign, Digits, Text, Escape, Octal, Octals, Named, Whole, Done}
 use Rattle.aterm_text.specs.declared.place.Place.{Place}
-use Rattle.aterm_text.specs.Reading.{ended, Spot, At, Deep, Wrong, run, Outcome, Read, TooDeepText, NoTerm, outcome, outcome_of, Answers}
+use Rattle.aterm_text.specs.Reading.{whole_term, ended, Spot, At, Deep, Wrong, run, Outcome, Read, TooDeepText, NoTerm, outcome, outcome_of, Answers}
 use Rattle.aterm_text.specs.ReadTerm.{IsReading, Spelled}
 use Rattle.aterm_text.proofs.Machine as m
 use Rattle.aterm_text.proofs.Sound.{read_sound, deep_sound}
 use Rattle.aterm_text.proofs.Endings.{Ends, at_name, at_digits, at_named, at_whole, at_done, OrDeep}
 use Rattle.aterm_text.proofs.Complete.{text_read}
 use Rattle.aterm_text.proofs.CompleteDepth.{too_deep}
-use Rattle.aterm_text.proofs.Agree.{kept, insides, Sim, sim_expect, sim_fresh, sim_name, sim_sign, sim_digits, sim_text, sim_escape, sim_octal, sim_octals, sim_named, sim_whole, sim_done, sim_deep, sim_wrong, step_sim, spot_step}
+use Rattle.aterm_text.proofs.Agree.{kept, bare_made, insides, Sim, sim_expect, sim_fresh, sim_name, sim_sign, sim_digits, sim_text, sim_escape, sim_octal, sim_octals, sim_named, sim_whole, sim_done, sim_deep, sim_wrong, step_sim, spot_step}
 use Rattle.aterm_text.proofs.ReadLemmas.{drop_more, run_wrong, run_deep}
 
 run_step : (text : List ℕ) (at : ℕ) (spot : Spot) (c : ℕ) (cs : List ℕ) → run text at spot (c ∷ cs) ≡ run text (at + 1) (spot_step text at spot c) cs
@@ -59,7 +60,7 @@ no_term (_ ∷ _) = refl
 
 abbrev out : m.State → Outcome
 out (m.InName n s) = whole_outcome (node (heads.App (Plain n)) end end) s
-out (m.InDigits sign v s) = whole_outcome (node (heads.Int (integer sign v)) end end) s
+out (m.InDigits sign v s) = whole_outcome (node (heads.Int (signed sign v)) end end) s
 out (m.Named y s) = whole_outcome (node (heads.App y) end end) s
 out (m.Whole h ps s) = whole_outcome (node h ps end) s
 out (m.Done t s) = whole_outcome t s
@@ -73,13 +74,13 @@ outcome_sim text e (sim_name {from = from} {n = n} {s = s} le is) =
     at_end text (Name from) s (Read (kept (node (heads.App (Plain n)) end end)))
     (ap (λ k. Read (kept (node (heads.App (Plain k)) end end))) (ap (λ i. slice_range text from i) (sym e) ∙ is))
 outcome_sim text e (sim_sign {s = s}) = at_end text Sign s NoTerm refl ∙ no_term s
-outcome_sim text e (sim_digits {sign = sign} {v = v} {s = s}) = at_end text (Digits sign v) s (Read (kept (node (heads.Int (integer sign v)) end end))) refl
+outcome_sim text e (sim_digits {sign = sign} {v = v} {s = s}) = at_end text (Digits sign v) s (Read (kept (node (heads.Int (signed sign v)) end end))) refl
 outcome_sim text e (sim_text {copied = copied} {from = from} {s = s} le is) = at_end text (Text copied from) s NoTerm refl ∙ no_term s
 outcome_sim text e (sim_escape {b = b} {s = s}) = at_end text (Escape b) s NoTerm refl ∙ no_term s
 outcome_sim text e (sim_octal {b = b} {v = v} {s = s}) = at_end text (Octal b v) s NoTerm refl ∙ no_term s
 outcome_sim text e (sim_octals {b = b} {v = v} {s = s}) = at_end text (Octals b v) s NoTerm refl ∙ no_term s
 outcome_sim text e (sim_named {y = y} {s = s}) = at_end text (Named y) s (Read (kept (node (heads.App y) end end))) refl
-outcome_sim text e (sim_whole {h = h} {ps = ps} {s = s} {u = u} p) = at_end text (Whole u) s (Read (kept (node h ps end))) (ap Read p)
+outcome_sim text e (sim_whole {h = h} {ps = ps} {s = s} {u = u} p) = at_end text (Whole u) s (Read (kept (node h ps end))) (ap Read (ap whole_term p ∙ bare_made h ps))
 outcome_sim text e (sim_done {t = t} {s = s} {u = u} p) = at_end text (Done u) s (Read (kept t)) (ap Read p)
 outcome_sim text e sim_deep = refl
 outcome_sim text e sim_wrong = refl
@@ -98,7 +99,7 @@ ends_out at_done = refl
 pub spelled : (bs : List ℕ) (t : Tree) → IsText t bs → (outcome_of bs ≡ Read (kept t)) ⊎ (outcome_of bs ≡ TooDeepText)
 spelled bs t h = go (text_read t bs h)
   where
-    go : OrDeep (1000 < depth t) (λ a. Ends a t []) (m.after (m.Expect []) bs) → (outcome_of bs ≡ Read (kept t)) ⊎ (outcome_of bs ≡ TooDeepText)
+    go : OrDeep (max_depth < depth t) (λ a. Ends a t []) (m.after (m.Expect []) bs) → (outcome_of bs ≡ Read (kept t)) ⊎ (outcome_of bs ≡ TooDeepText)
     go (inl e) = inl (outcome_is bs ∙ ends_out e)
     go (inr e) = inr (outcome_is bs ∙ ap out e.0)
 
@@ -108,7 +109,7 @@ deep bs h = outcome_is bs ∙ ap out (too_deep bs h)
 out_read : (a : m.State) (u : Option Tree) → out a ≡ Read u → (t : Tree) × (m.finished a ≡ Some (t, [])) × (u ≡ kept t)
 out_read (m.InName n []) u e = (node (heads.App (Plain n)) end end, refl, cc)
 out_read (m.InName n (_ ∷ _)) u e = absurd (cc)
-out_read (m.InDigits sign v []) u e = (node (heads.Int (integer sign v)) end end, refl, cc)
+out_read (m.InDigits sign v []) u e = (node (heads.Int (signed sign v)) end end, refl, cc)
 out_read (m.InDigits sign v (_ ∷ _)) u e = absurd (cc)
 out_read (m.Named y []) u e = (node (heads.App y) end end, refl, cc)
 out_read (m.Named y (_ ∷ _)) u e = absurd (cc)
@@ -153,23 +154,17 @@ read_is bs u e = let r = out_read (m.after (m.Expect []) bs) u (sym (outcome_is 
 pub deep_is : (bs : List ℕ) → outcome_of bs ≡ TooDeepText → TooDeep bs
 deep_is bs e = deep_sound bs (out_deep (m.after (m.Expect []) bs) (sym (outcome_is bs) ∙ e))
 
-fits_when : (t : Tree) → fits t ≡ true → Fits t
-fits_when t e = let h : (nat_le (weight t) 16777216 ≡ true) × (nat_le (depth t) 1000 ≡ true) = both _ _ e in record { weight = leb-true _ _ h.0; depth = leb-true _ _ h.1 }
-
-pub when_fits : (t : Tree) → Fits t → fits t ≡ true
-when_fits t f = let a : nat_le (weight t) 16777216 ≡ true = le-leb _ _ f.weight in let b : nat_le (depth t) 1000 ≡ true = le-leb _ _ f.depth in rw (a, b) refl
-
 pub kept_some : (t v : Tree) → kept t ≡ Some v → (t ≡ v) × Fits t
 kept_some t v e = go (test (fits t))
   where
     go : (fits t ≡ true) ⊎ (fits t ≡ false) → (t ≡ v) × Fits t
-    go (inl f) = let same : Some t ≡ Some v = sym (rw f refl) ∙ e in (cc, fits_when t f)
+    go (inl f) = let same : Some t ≡ Some v = sym (rw f refl) ∙ e in (cc, fits-sound t f)
     go (inr f) = let none : None ≡ Some v = sym (rw f refl) ∙ e in absurd (cc)
 
 kept_none : (t : Tree) → None ≡ kept t → ¬ (Fits t)
-kept_none t e f = let some : kept t ≡ Some t = rw (when_fits t f) refl in absurd (cc)
+kept_none t e f = let some : kept t ≡ Some t = rw (fits-complete t f) refl in absurd (cc)
 
--- the answer to the outcome is the reading of the text
+-- what is returned for the outcome is the reading of the text
 pub reading : (bs : List ℕ) (r : Result Tree Fault) → Answers r (outcome_of bs) → IsReading bs r
 reading bs (Ok t) e = go (read_is bs (Some t) e)
   where

@@ -2,12 +2,12 @@
 use Rattle.std.proofs.Common.{◌≡◌, ℕ, ◌+◌, ◌<◌, ◌≤◌, List, [], ◌∷◌, ◌++◌, length, drop, refl, sym, ap, ◌∙◌, append_assoc}
 use Rattle.std.specs.Prelude.{slice_index, slice_range}
 use Rattle.aterm_text.specs.Text.{item_text, items_text}
-use Rattle.aterm_text.proofs.Basics.{append_nil}
+use Rattle.term_model.proofs.Joins.{append_nil}
 use Rattle.aterm_text.proofs.ReadLemmas.{drop_more, drop_past}
 use Rattle.aterm_text.proofs.Slices.{slice_more, slice_none}
 use Rattle.aterm_text.proofs.WriteLemmas.{extends_same, extends_by, extends_on}
 
--- the items from an index on, and those behind a run of raw bytes
+-- the items from an index on, and those after a run of raw bytes
 pub raw_none : (bs : List ℕ) (from : ℕ) → items_text (drop from bs) ≡ slice_range bs from from ++ items_text (drop from bs)
 raw_none bs from = rw (slice_none bs from) refl
 

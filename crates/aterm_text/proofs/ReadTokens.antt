@@ -1,20 +1,22 @@
 -- A name, an integer and a quoted text are read to their end.
 use Rattle.std.specs.Bool.{◌==◌}
-use Rattle.std.specs.Prelude.{FitsSigned}
-use Rattle.std.specs.Int.{w32}
 use Rattle.std.specs.List.{list_all}
-use Rattle.std.proofs.Common.{◌≡◌, ℕ, suc, zero, ◌+◌, ◌-◌, ◌*◌, ◌≤◌, Bool, true, false, not, ◌<◌, ◌||◌, nat_le, List, [], ◌∷◌, ◌++◌, ◌⊎◌, inl, inr, refl, ap, sym, ◌∙◌, append_assoc, arith, subst, ℤ, None}
-use Rattle.std.proofs.lemmas.Int.{ints}
+use Rattle.std.proofs.Common.{◌≡◌, ℕ, ◌+◌, ◌-◌, ◌*◌, ◌≤◌, Bool, true, false, not, ◌||◌, nat_le, List, [], ◌∷◌, ◌++◌, ◌⊎◌, inl, inr, refl, ap, sym, ◌∙◌, append_assoc, arith, subst, ℤ}
 use Rattle.std.proofs.lemmas.Bool.Decides.{nat_tests}
-use borrow.Author.Tests.{le-leb, leb-true}
-use Rattle.std.proofs.lemmas.Bool.{ne_eqb}
+use borrow.Author.Tests.{le-leb}
+use Rattle.term_model.specs.Bytes.{is_digit, is_raw, signed, value_from}
+use Rattle.term_model.specs.QuotedText.{Item, raw, letter, octal, AreItems, IsQuoted}
 use Rattle.term_model.specs.declared.term.Head.TheVariants as heads
-use Rattle.term_model.specs.Symbol.{Symbol, Plain, Quoted, Tuple, is_between, begins_name, continues_name, is_name}
+use Rattle.term_model.specs.Symbol.{Symbol, Plain, Quoted, Tuple, begins_name, continues_name, is_name}
+use Rattle.term_model.specs.Limits.{IsInRange, max_magnitude}
 use Rattle.term_model.specs.Term.{end}
-use Rattle.aterm_text.specs.Tokens.{is_digit, is_raw, unescaped, integer, value_from, AreSigned, AreDigits, IsInteger, Item, raw, letter, octal, AreItems, IsQuoted, IsSymbolText}
+use Rattle.aterm_text.specs.Tokens.{AreSigned, AreDigits, IsInteger, IsSymbolText}
 use Rattle.aterm_text.specs.Depth.{Open}
-use Rattle.aterm_text.proofs.Basics.{both, append_nil}
-use Rattle.aterm_text.proofs.Machine.{State, Expect, InName, InDigits, InText, Named, Deep, limit, first, text, escape, step, after}
+use Rattle.term_model.proofs.FitsLaws.{both}
+use Rattle.term_model.proofs.Items.{digit_no_letter}
+use Rattle.term_model.proofs.IntegerLaws.{in_limit}
+use Rattle.term_model.proofs.Joins.{append_nil}
+use Rattle.aterm_text.proofs.Machine.{State, Expect, InName, InDigits, InText, Named, Deep, first, text, escape, step, after}
 use Rattle.aterm_text.proofs.Endings.{OrDeep, Past, after_append, after_deep, Bare, SymbolEnds, begin_first, bare_digits, name_here, symbol_before}
 
 -- ---- names and integers
@@ -44,18 +46,18 @@ pub value_grows : (ds : List ℕ) (n : ℕ) → n ≤ value_from n ds
 value_grows [] n = omega arith
 value_grows (d ∷ ds) n = omega (arith, value_grows ds (10 * n + (d - 48)))
 
-pub digits_run : (ds : List ℕ) (sign : Bool) (v : ℕ) (s : List Open) → list_all is_digit ds ≡ true → value_from v ds ≤ limit sign → after (InDigits sign v s) ds ≡ InDigits sign (value_from v ds) s
+pub digits_run : (ds : List ℕ) (sign : Bool) (v : ℕ) (s : List Open) → list_all is_digit ds ≡ true → value_from v ds ≤ max_magnitude sign → after (InDigits sign v s) ds ≡ InDigits sign (value_from v ds) s
 unfolding after
 digits_run [] sign v s e h = refl
 digits_run (d ∷ ds) sign v s e h =
     let f : (is_digit d ≡ true) × (list_all is_digit ds ≡ true) = both _ _ e in
-    let fits : nat_le (10 * v + (d - 48)) (limit sign) ≡ true = le-leb _ _ (omega (arith, value_grows ds (10 * v + (d - 48)))) in
+    let fits : nat_le (10 * v + (d - 48)) (max_magnitude sign) ≡ true = le-leb _ _ (omega (arith, value_grows ds (10 * v + (d - 48)))) in
     ap (λ a. after a ds) (rw (f.0, fits) refl) ∙ digits_run ds sign (10 * v + (d - 48)) s f.1 h
 
 pub digit_no_name : (d : ℕ) → is_digit d ≡ true → begins_name d ≡ false
 digit_no_name d e = grind (arith, nat_tests)
 
-pub read_digits : (n : ℕ) (m : List ℕ) (s : List Open) → AreDigits n m → n ≤ limit false → OrDeep (Past s 1) (λ a. Bare a (heads.Int (integer false n)) end s) (after (Expect s) m)
+pub read_digits : (n : ℕ) (m : List ℕ) (s : List Open) → AreDigits n m → n ≤ max_magnitude false → OrDeep (Past s 1) (λ a. Bare a (heads.Int (signed false n)) end s) (after (Expect s) m)
 unfolding after
 read_digits n [] s p h = absurd p
 read_digits n (d ∷ ds) s p h = go (begin_first s d (rw (digit_no_name d f.0, f.0) refl))
@@ -63,19 +65,19 @@ read_digits n (d ∷ ds) s p h = go (begin_first s d (rw (digit_no_name d f.0, f
     f : (is_digit d ≡ true) × (list_all is_digit ds ≡ true)
     f = both _ _ p.0
 
-    small : value_from (10 * 0 + (d - 48)) ds ≤ limit false
+    small : value_from (10 * 0 + (d - 48)) ds ≤ max_magnitude false
     small = rw (p.1) h
 
-    one : nat_le (10 * 0 + (d - 48)) (limit false) ≡ true
+    one : nat_le (10 * 0 + (d - 48)) (max_magnitude false) ≡ true
     one = le-leb _ _ (omega (arith, value_grows ds (10 * 0 + (d - 48)), small))
 
-    go : (step (Expect s) d ≡ first s d) ⊎ ((step (Expect s) d ≡ Deep) × Past s 1) → OrDeep (Past s 1) (λ a. Bare a (heads.Int (integer false n)) end s) (after (step (Expect s) d) ds)
+    go : (step (Expect s) d ≡ first s d) ⊎ ((step (Expect s) d ≡ Deep) × Past s 1) → OrDeep (Past s 1) (λ a. Bare a (heads.Int (signed false n)) end s) (after (step (Expect s) d) ds)
     go (inl e) =
         let all : after (step (Expect s) d) ds ≡ InDigits false n s = ap (λ a. after a ds) (e ∙ rw (digit_no_name d f.0, f.0, one) refl) ∙ digits_run ds false (10 * 0 + (d - 48)) s f.1 small ∙ ap (λ v. InDigits false v s) p.1 in
-        inl (let R : State → Type 0 = λ a. Bare a (heads.Int (integer false n)) end s in subst R (sym all) bare_digits)
+        inl (let R : State → Type 0 = λ a. Bare a (heads.Int (signed false n)) end s in subst R (sym all) bare_digits)
     go (inr e) = inr (ap (λ a. after a ds) e.0 ∙ after_deep ds, e.1)
 
-pub read_minus : (n : ℕ) (m : List ℕ) (s : List Open) → AreDigits n m → n ≤ limit true → OrDeep (Past s 1) (λ a. Bare a (heads.Int (integer true n)) end s) (after (Expect s) (45 ∷ m))
+pub read_minus : (n : ℕ) (m : List ℕ) (s : List Open) → AreDigits n m → n ≤ max_magnitude true → OrDeep (Past s 1) (λ a. Bare a (heads.Int (signed true n)) end s) (after (Expect s) (45 ∷ m))
 unfolding after
 read_minus n [] s p h = absurd p
 read_minus n (d ∷ ds) s p h = go (begin_first s 45 refl)
@@ -83,32 +85,27 @@ read_minus n (d ∷ ds) s p h = go (begin_first s 45 refl)
     f : (is_digit d ≡ true) × (list_all is_digit ds ≡ true)
     f = both _ _ p.0
 
-    small : value_from (10 * 0 + (d - 48)) ds ≤ limit true
+    small : value_from (10 * 0 + (d - 48)) ds ≤ max_magnitude true
     small = rw (p.1) h
 
-    one : nat_le (10 * 0 + (d - 48)) (limit true) ≡ true
+    one : nat_le (10 * 0 + (d - 48)) (max_magnitude true) ≡ true
     one = le-leb _ _ (omega (arith, value_grows ds (10 * 0 + (d - 48)), small))
 
-    go : (step (Expect s) 45 ≡ first s 45) ⊎ ((step (Expect s) 45 ≡ Deep) × Past s 1) → OrDeep (Past s 1) (λ a. Bare a (heads.Int (integer true n)) end s) (after (step (step (Expect s) 45) d) ds)
+    go : (step (Expect s) 45 ≡ first s 45) ⊎ ((step (Expect s) 45 ≡ Deep) × Past s 1) → OrDeep (Past s 1) (λ a. Bare a (heads.Int (signed true n)) end s) (after (step (step (Expect s) 45) d) ds)
     go (inl e) =
         let all : after (step (step (Expect s) 45) d) ds ≡ InDigits true n s = ap (λ a. after (step a d) ds) e ∙ ap (λ a. after a ds) (rw (f.0, one) refl) ∙ digits_run ds true (10 * 0 + (d - 48)) s f.1 small ∙ ap (λ v. InDigits true v s) p.1 in
-        inl (let R : State → Type 0 = λ a. Bare a (heads.Int (integer true n)) end s in subst R (sym all) bare_digits)
+        inl (let R : State → Type 0 = λ a. Bare a (heads.Int (signed true n)) end s in subst R (sym all) bare_digits)
     go (inr e) = inr (ap (λ a. after (step a d) ds) e.0 ∙ after_deep ds, e.1)
-
-pub in_limit : (sign : Bool) (n : ℕ) → FitsSigned w32 (integer sign n) → n ≤ limit sign
-in_limit true zero f = omega arith
-in_limit true (suc n) f = omega (arith, ints)
-in_limit false n f = omega (arith, ints)
 
 pub read_integer : (z : ℤ) (m : List ℕ) (s : List Open) → IsInteger z m → OrDeep (Past s 1) (λ a. Bare a (heads.Int z) end s) (after (Expect s) m)
 read_integer z m s (fits, sign, n, e, p) =
     let R : ℤ → Type 0 = λ z. OrDeep (Past s 1) (λ a. Bare a (heads.Int z) end s) (after (Expect s) m) in
-    subst R (sym e) (go sign m p (in_limit sign n (subst (λ z. FitsSigned w32 z) e fits)))
+    subst R (sym e) (go sign m p (in_limit sign n (subst IsInRange e fits)))
   where
-    go : (sign : Bool) (m : List ℕ) → AreSigned sign n m → n ≤ limit sign → OrDeep (Past s 1) (λ a. Bare a (heads.Int (integer sign n)) end s) (after (Expect s) m)
+    go : (sign : Bool) (m : List ℕ) → AreSigned sign n m → n ≤ max_magnitude sign → OrDeep (Past s 1) (λ a. Bare a (heads.Int (signed sign n)) end s) (after (Expect s) m)
     go false m p h = read_digits n m s p h
     go true [] p h = absurd p
-    go true (b ∷ m) p h = let R : ℕ → Type 0 = λ b. OrDeep (Past s 1) (λ a. Bare a (heads.Int (integer true n)) end s) (after (Expect s) (b ∷ m)) in subst R (sym p.0) (read_minus n m s p.1 h)
+    go true (b ∷ m) p h = let R : ℕ → Type 0 = λ b. OrDeep (Past s 1) (λ a. Bare a (heads.Int (signed true n)) end s) (after (Expect s) (b ∷ m)) in subst R (sym p.0) (read_minus n m s p.1 h)
 
 -- ---- quoted text
 
@@ -120,18 +117,6 @@ raw_parts d e = go (d == 34) (d == 92) (d == 10) e
     go false false true f = absurd (cc)
     go false true c f = absurd (cc)
     go true b c f = absurd (cc)
-
-pub far_off : {x : ℕ} (n : ℕ) → n < 48 ⊎ 51 < n → x ≡ n → 48 ≤ x → x ≤ 51 → ⊥
-far_off n (inl h) e low high = omega arith
-far_off n (inr h) e low high = omega arith
-
-pub digit_no_letter : (x : ℕ) → is_between 48 51 x ≡ true → unescaped x ≡ None
-digit_no_letter x e =
-    let p : (nat_le 48 x ≡ true) × (nat_le x 51 ≡ true) = both _ _ e in
-    let low : 48 ≤ x = leb-true _ _ p.0 in
-    let high : x ≤ 51 = leb-true _ _ p.1 in
-    let other : (n : ℕ) → n < 48 ⊎ 51 < n → (x == n) ≡ false = λ n far. ne_eqb x n (λ same. far_off n far same low high) in
-    rw (other 34 (inl (omega arith)), other 92 (inr (omega arith)), other 110 (inr (omega arith)), other 116 (inr (omega arith)), other 114 (inr (omega arith))) refl
 
 pub item_run : (d : ℕ) (b ws : List ℕ) (s : List Open) → Item d ws → after (InText b s) ws ≡ InText (b ++ d ∷ []) s
 unfolding after

@@ -1,6 +1,7 @@
 -- A term that fits is read back from its canonical text.
 use Rattle.std.specs.Prelude.{Ok, Err}
 use Rattle.std.proofs.Common.{◌≡◌, ℕ, ◌<◌, List, [], ◌⊎◌, inl, inr, refl, ap, sym, arith, subst, Some}
+use Rattle.term_model.specs.Limits.{max_depth}
 use Rattle.term_model.specs.declared.fault.Fault.TheVariants as faults
 use Rattle.term_model.specs.Term.{Tree, IsTerm, Fits, depth}
 use Rattle.aterm_text.specs.Grammar.{IsText}
@@ -13,7 +14,8 @@ use Rattle.aterm_text.proofs.Endings.{OrDeep, Ends, at_name, at_digits, at_named
 use Rattle.aterm_text.proofs.Complete.{text_read}
 use Rattle.aterm_text.proofs.CompleteDepth.{too_deep}
 use Rattle.aterm_text.proofs.Agree.{kept}
-use Rattle.aterm_text.proofs.Meaning.{spelled, deep_is, kept_some, when_fits}
+use Rattle.term_model.proofs.FitsLaws.{fits-complete}
+use Rattle.aterm_text.proofs.Meaning.{spelled, deep_is, kept_some}
 use Rattle.aterm_text.proofs.Canonical.{text_spells}
 
 ends_not_deep : {a : State} {t : Tree} {s : List Open} → Ends a t s → a ≡ Deep → ⊥
@@ -26,7 +28,7 @@ ends_not_deep at_done e = cc
 pub not_deep : (t : Tree) (bs : List ℕ) → IsText t bs → Fits t → ¬ (TooDeep bs)
 not_deep t bs h f d = go (text_read t bs h)
   where
-    go : OrDeep (1000 < depth t) (λ a. Ends a t []) (after (Expect []) bs) → ⊥
+    go : OrDeep (max_depth < depth t) (λ a. Ends a t []) (after (Expect []) bs) → ⊥
     go (inl e) = ends_not_deep e (too_deep bs d)
     go (inr e) = omega (arith, e.1, f.depth)
 
@@ -37,7 +39,7 @@ alone t u bs f h g = go (spelled bs t h) (spelled bs u g)
     go : (outcome_of bs ≡ Read (kept t)) ⊎ (outcome_of bs ≡ TooDeepText) → (outcome_of bs ≡ Read (kept u)) ⊎ (outcome_of bs ≡ TooDeepText) → u ≡ t
     go (inr d) e = absurd (not_deep t bs h f (deep_is bs d))
     go (inl d) (inr e) = absurd (not_deep t bs h f (deep_is bs e))
-    go (inl d) (inl e) = let some : kept t ≡ Some t = rw (when_fits t f) refl in let same : kept u ≡ Some t = cc in (kept_some u t same).0
+    go (inl d) (inl e) = let some : kept t ≡ Some t = rw (fits-complete t f) refl in let same : kept u ≡ Some t = cc in (kept_some u t same).0
 
 pub reads_back : (t : Tree) → IsTerm t → Fits t → ReadsBack t
 reads_back t i f (Ok u) h = inl (ap Ok (sym (h.only t (text_spells t i))))

@@ -2,11 +2,12 @@
 use Rattle.std.proofs.lemmas.Bool.{le-leb}
 use Rattle.std.proofs.Common.{◌≡◌, ℕ, suc, zero, ◌+◌, ◌-◌, ◌*◌, sym, ◌<◌, ◌≤◌, Bool, true, false, List, length, drop, refl, ap, ◌∙◌, arith, subst}
 use Rattle.std.specs.Prelude.{slice_index, slice_range, ◌==◌}
+use Rattle.term_model.specs.Bytes.{is_raw, is_digit}
 use Rattle.term_model.specs.Symbol.{continues_name, is_name}
-use Rattle.aterm_text.specs.Tokens.{is_raw, is_digit}
 use Rattle.aterm_text.specs.declared.place.Place.{Place}
 use Rattle.aterm_text.specs.declared.place.Place.TheVariants.{Name, Text, Digits}
-use Rattle.aterm_text.specs.Reading.{At, Inside, run, step, limit}
+use Rattle.term_model.specs.Limits.{max_magnitude}
+use Rattle.aterm_text.specs.Reading.{At, Inside, run, step}
 use Rattle.aterm_text.proofs.ReadLemmas.{one_step}
 use Rattle.aterm_text.proofs.ReadTokens.{raw_parts}
 use Rattle.aterm_text.proofs.Slices.{name_goes_on}
@@ -61,7 +62,7 @@ name_to text from at end h low high all is =
 
 -- a digit that keeps the number in range
 pub run_digit : (text : List ℕ) (sign : Bool) (v w : ℕ) (s : List Inside) (at : ℕ) → at < length text → is_digit (slice_index text at) ≡ true
-    → w ≡ 10 * v + (slice_index text at - 48) → w ≤ limit sign
+    → w ≡ 10 * v + (slice_index text at - 48) → w ≤ max_magnitude sign
     → run text at (At (Digits sign v) s) (drop at text) ≡ run text (at + 1) (At (Digits sign w) s) (drop (at + 1) text)
 run_digit text sign v w s at h is e low =
     one_step text at (Digits sign v) s h ∙ ap (λ spot. run text (at + 1) spot (drop (at + 1) text)) (rw (is, sym e, le-leb _ _ low) refl)

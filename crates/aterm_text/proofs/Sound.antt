@@ -1,24 +1,27 @@
 -- What was read up to a state is what the state stands for.
 use Rattle.std.specs.Bool.{◌==◌}
-use Rattle.std.specs.Prelude.{FitsSigned, IfSome}
-use Rattle.std.specs.Int.{w32}
-use Rattle.std.proofs.Common.{◌≡◌, ℕ, suc, zero, ◌+◌, ◌-◌, ◌*◌, ◌≤◌, nat_le, Bool, true, false, List, [], ◌∷◌, ◌++◌, inl, inr, length, Option, Some, None, refl, ap, sym, ◌∙◌, append_assoc, arith, cond, eqb, subst}
+use Rattle.std.specs.Prelude.{IfSome}
+use Rattle.std.proofs.Common.{◌≡◌, ℕ, ◌+◌, ◌-◌, ◌*◌, ◌≤◌, nat_le, Bool, true, false, List, [], ◌∷◌, ◌++◌, inl, inr, length, Option, Some, None, refl, ap, sym, ◌∙◌, append_assoc, cond, eqb, subst}
 use Rattle.std.specs.Cmp.{unsigned_Decides}
-use Rattle.std.proofs.lemmas.Int.{ints}
 use borrow.Author.Tests.{leb-true}
 use Rattle.std.proofs.lemmas.List.Folds.{list_all-append}
 use Rattle.std.specs.List.{list_all}
+use Rattle.term_model.specs.Bytes.{is_between, is_blank, is_digit, signed, value_from, is_octal, unescaped}
+use Rattle.term_model.specs.QuotedText.{Joined, Are, Item, raw, letter, octal}
 use Rattle.term_model.specs.declared.term.Head.{Head}
 use Rattle.term_model.specs.declared.term.Head.TheVariants as heads
-use Rattle.term_model.specs.Symbol.{Symbol, Plain, Quoted, Tuple, is_between, begins_name, continues_name, is_name}
+use Rattle.term_model.specs.Limits.{max_magnitude, max_depth}
+use Rattle.term_model.specs.Symbol.{Symbol, Plain, Quoted, Tuple, begins_name, continues_name, is_name}
 use Rattle.term_model.specs.Term.{Tree, node, Trees, end, trees_of}
-use Rattle.aterm_text.specs.Tokens.{is_blank, is_digit, integer, value_from, Joined, AreBlanks, Token, Are, Mark, AreSigned, AreDigits, IsName, IsSymbolText, is_octal, unescaped, Item, raw, letter, octal}
-use Rattle.aterm_text.specs.Grammar.{Between, Optional, Core, Spells, SpellsAll, SpellsRest, IsText}
+use Rattle.aterm_text.specs.Tokens.{AreBlanks, Token, Mark, AreSigned, AreDigits, IsName, IsSymbolText}
+use Rattle.aterm_text.specs.Grammar.{Between, Optional, SpellsBare, Spells, SpellsAll, SpellsRest, IsText}
 use Rattle.aterm_text.specs.Depth.{Opening, Applied, Elements, Annotations, Open, begins_term, SpellsEarlier, IsOpening, Begins, Opens, StartsTerm, TooDeep}
-use Rattle.aterm_text.proofs.Basics.{both, append_nil}
-use Rattle.aterm_text.proofs.Joins.{joined, longer, nested, over, ended, begun, token}
-use Rattle.aterm_text.proofs.Items.{Unclosed, quoted, unclosed_more}
-use Rattle.aterm_text.proofs.Machine.{State, Expect, Fresh, InName, InSign, InDigits, InText, InEscape, InOctal, InOctals, Named, Whole, Done, Deep, Wrong, closer, closed, limit, digits, first, begin, next, whole, named, text, escape, step, finished, after}
+use Rattle.term_model.proofs.FitsLaws.{both}
+use Rattle.term_model.proofs.IntegerLaws.{in_range}
+use Rattle.term_model.proofs.Joins.{joined, longer, nested, over, ended, begun, append_nil}
+use Rattle.aterm_text.proofs.Basics.{token}
+use Rattle.term_model.proofs.Items.{Unclosed, quoted, unclosed_more}
+use Rattle.aterm_text.proofs.Machine.{State, Expect, Fresh, InName, InSign, InDigits, InText, InEscape, InOctal, InOctals, Named, Whole, Done, Deep, Wrong, closer, closed, digits, first, begin, next, whole, named, text, escape, step, finished, after}
 
 pub blanks_snoc : (bs : List ℕ) (c : ℕ) → AreBlanks bs → is_blank c ≡ true → AreBlanks (bs ++ c ∷ [])
 blanks_snoc bs c p e = rw (list_all-append is_blank bs (c ∷ []), p, e) refl
@@ -61,12 +64,12 @@ module _ (c : ℕ) (e : is_blank c ≡ true) where
     second = inr (between_blank 40 41 ys q);
   }
 
-  pub core_blank : (h : Head) (ps : Trees) (P : List ℕ → Type 0) (bs : List ℕ) → Core h ps P bs → Core h ps P (bs ++ c ∷ [])
-  core_blank (heads.Int z) ps P bs j = (j.0, token_blank bs j.1)
-  core_blank (heads.App (Plain n)) ps P bs j = with_optional (Plain n) ps P bs j.front j.back j.bytes j.first j.second
-  core_blank (heads.App Tuple) ps P bs j = between_blank 40 41 bs j
-  core_blank (heads.App (Quoted n)) ps P bs j = with_optional (Quoted n) ps P bs j.front j.back j.bytes j.first j.second
-  core_blank heads.List ps P bs j = between_blank 91 93 bs j
+  pub bare_blank : (h : Head) (ps : Trees) (P : List ℕ → Type 0) (bs : List ℕ) → SpellsBare h ps P bs → SpellsBare h ps P (bs ++ c ∷ [])
+  bare_blank (heads.Int z) ps P bs j = (j.0, token_blank bs j.1)
+  bare_blank (heads.App (Plain n)) ps P bs j = with_optional (Plain n) ps P bs j.front j.back j.bytes j.first j.second
+  bare_blank (heads.App Tuple) ps P bs j = between_blank 40 41 bs j
+  bare_blank (heads.App (Quoted n)) ps P bs j = with_optional (Quoted n) ps P bs j.front j.back j.bytes j.first j.second
+  bare_blank heads.List ps P bs j = between_blank 91 93 bs j
 
 -- ---- what a state says of what was read
 
@@ -79,7 +82,7 @@ pub data Leads : State → List ℕ → Type 0 where
   fresh : {o : Open} {s : List Open} {bs : List ℕ} → o.earlier ≡ [] → Joined (Stacked s) (IsOpening o.opening) bs → Leads (Fresh o s) bs
   in_name : {n : List ℕ} {s : List Open} {bs : List ℕ} → Joined (Stacked s) (IsName n) bs → Leads (InName n s) bs
   in_sign : {s : List Open} {bs : List ℕ} → Joined (Stacked s) (Are (45 ∷ [])) bs → Leads (InSign s) bs
-  in_digits : {sign : Bool} {v : ℕ} {s : List Open} {bs : List ℕ} → v ≤ limit sign → Joined (Stacked s) (AreSigned sign v) bs → Leads (InDigits sign v s) bs
+  in_digits : {sign : Bool} {v : ℕ} {s : List Open} {bs : List ℕ} → v ≤ max_magnitude sign → Joined (Stacked s) (AreSigned sign v) bs → Leads (InDigits sign v s) bs
   in_text : {b : List ℕ} {s : List Open} {bs : List ℕ} → Joined (Stacked s) (Unclosed b) bs → Leads (InText b s) bs
   in_escape : {b : List ℕ} {s : List Open} {bs : List ℕ} → Joined (Stacked s) (Joined (Unclosed b) (Are (92 ∷ []))) bs → Leads (InEscape b s) bs
   in_octal : {b : List ℕ} {v x : ℕ} {s : List Open} {bs : List ℕ} → is_between 48 51 x ≡ true → v ≡ x - 48
@@ -87,7 +90,7 @@ pub data Leads : State → List ℕ → Type 0 where
   in_octals : {b : List ℕ} {v x y : ℕ} {s : List Open} {bs : List ℕ} → is_between 48 51 x ≡ true → is_octal y ≡ true → v ≡ 8 * (x - 48) + (y - 48)
       → Joined (Stacked s) (Joined (Unclosed b) (Are (92 ∷ x ∷ y ∷ []))) bs → Leads (InOctals b v s) bs
   is_named : {y : Symbol} {s : List Open} {bs : List ℕ} → Joined (Stacked s) (Token (IsSymbolText y)) bs → Leads (Named y s) bs
-  is_whole : {h : Head} {ps : Trees} {s : List Open} {bs : List ℕ} → Joined (Stacked s) (Core h ps (SpellsAll ps)) bs → Leads (Whole h ps s) bs
+  is_whole : {h : Head} {ps : Trees} {s : List Open} {bs : List ℕ} → Joined (Stacked s) (SpellsBare h ps (SpellsAll ps)) bs → Leads (Whole h ps s) bs
   is_done : {t : Tree} {s : List Open} {bs : List ℕ} → Joined (Stacked s) (Spells t) bs → Leads (Done t s) bs
   is_deep : {bs : List ℕ} → TooDeep bs → Leads Deep bs
   is_wrong : {bs : List ℕ} → Leads Wrong bs
@@ -110,7 +113,7 @@ pub mark : (c d : ℕ) → eqb c d ≡ true → Mark d (c ∷ [])
 mark c d e = token (c ∷ []) (ap (λ x. x ∷ []) ((unsigned_Decides c d).0 e))
 
 pub digits_sound : (sign : Bool) (v c : ℕ) (s : List Open) (bs : List ℕ) → Joined (Stacked s) (AreSigned sign (10 * v + (c - 48))) bs → Leads (digits sign v c s) bs
-digits_sound sign v c s bs j = choose (nat_le (10 * v + (c - 48)) (limit sign)) (λ e. in_digits (leb-true _ _ e) j) (λ _. is_wrong)
+digits_sound sign v c s bs j = choose (nat_le (10 * v + (c - 48)) (max_magnitude sign)) (λ e. in_digits (leb-true _ _ e) j) (λ _. is_wrong)
 
 pub first_sound : (s : List Open) (c : ℕ) (bs : List ℕ) → Stacked s bs → Leads (first s c) (bs ++ c ∷ [])
 first_sound s c bs p =
@@ -125,10 +128,10 @@ pub begin_sound : (s : List Open) (c : ℕ) (bs : List ℕ) → Stacked s bs →
 unfolding TooDeep
 begin_sound s c bs p =
     choose (begins_term c) (λ starts.
-    choose (length s == 1000) (λ e. is_deep (deep starts e)) (λ _. first_sound s c bs p)) (λ _. is_wrong)
+    choose (length s == max_depth) (λ e. is_deep (deep starts e)) (λ _. first_sound s c bs p)) (λ _. is_wrong)
   where
-    deep : begins_term c ≡ true → (length s == 1000) ≡ true → TooDeep (bs ++ c ∷ [])
-    deep starts e = joined bs (c ∷ []) (let P : ℕ → Type 0 = λ n. Opens n bs in subst P ((unsigned_Decides (length s) 1000).0 e) (opens s bs p)) starts
+    deep : begins_term c ≡ true → (length s == max_depth) ≡ true → TooDeep (bs ++ c ∷ [])
+    deep starts e = joined bs (c ∷ []) (let P : ℕ → Type 0 = λ n. Opens n bs in subst P ((unsigned_Decides (length s) max_depth).0 e) (opens s bs p)) starts
 
 -- ---- a bracket that closes
 
@@ -185,7 +188,7 @@ earlier_snoc (u ∷ us) t xs ys ms e p m = record {
   };
 }
 
--- ---- a byte behind a term
+-- ---- a byte after a term
 
 pub next_sound : (t : Tree) (s : List Open) (c : ℕ) (bs : List ℕ) → Joined (Stacked s) (Spells t) bs → Leads (next t s c) (bs ++ c ∷ [])
 next_sound t [] c bs j = is_wrong
@@ -203,21 +206,21 @@ next_sound t (o ∷ s) c bs j =
     all : (zs : List ℕ) → Joined (SpellsEarlier o.earlier) (Spells t) zs → SpellsAll (trees_of (o.earlier ++ t ∷ [])) zs
     all zs r = let R : List ℕ → Type 0 = SpellsAll (trees_of (o.earlier ++ t ∷ [])) in subst R (sym r.bytes) (all_snoc o.earlier t r.front r.back r.first r.second)
 
--- no annotations behind
-pub bare : (h : Head) (ps : Trees) (ys : List ℕ) → Core h ps (SpellsAll ps) ys → Spells (node h ps end) ys
+-- no annotations after
+pub bare : (h : Head) (ps : Trees) (ys : List ℕ) → SpellsBare h ps (SpellsAll ps) ys → Spells (node h ps end) ys
 bare h ps ys q = record { front = ys; back = []; bytes = sym (append_nil ys); first = q; second = inl (refl, refl) }
 
-pub whole_sound : (h : Head) (ps : Trees) (s : List Open) (c : ℕ) (bs : List ℕ) → Joined (Stacked s) (Core h ps (SpellsAll ps)) bs → Leads (whole h ps s c) (bs ++ c ∷ [])
+pub whole_sound : (h : Head) (ps : Trees) (s : List Open) (c : ℕ) (bs : List ℕ) → Joined (Stacked s) (SpellsBare h ps (SpellsAll ps)) bs → Leads (whole h ps s c) (bs ++ c ∷ [])
 whole_sound h ps s c bs j =
-    choose (is_blank c) (λ e. is_whole (longer bs (c ∷ []) j (λ ys q. core_blank c e h ps (SpellsAll ps) ys q))) (λ _.
+    choose (is_blank c) (λ e. is_whole (longer bs (c ∷ []) j (λ ys q. bare_blank c e h ps (SpellsAll ps) ys q))) (λ _.
     choose (c == 123) (λ e. fresh refl (longer bs (c ∷ []) j (λ ys q. joined ys (c ∷ []) q (mark c 123 e)))) (λ _.
     next_sound (node h ps end) s c bs (over bs j (λ xs p. p) (λ ys q. bare h ps ys q))))
 
--- a symbol with nothing behind it
-pub symbol_core : (y : Symbol) (ys : List ℕ) → Token (IsSymbolText y) ys → Core (heads.App y) end (SpellsAll end) ys
-symbol_core (Plain n) ys q = record { front = ys; back = []; bytes = sym (append_nil ys); first = q; second = inl (refl, refl) }
-symbol_core (Quoted b) ys q = record { front = ys; back = []; bytes = sym (append_nil ys); first = q; second = inl (refl, refl) }
-symbol_core Tuple ys q = absurd q.first
+-- a symbol with nothing after it
+pub symbol_bare : (y : Symbol) (ys : List ℕ) → Token (IsSymbolText y) ys → SpellsBare (heads.App y) end (SpellsAll end) ys
+symbol_bare (Plain n) ys q = record { front = ys; back = []; bytes = sym (append_nil ys); first = q; second = inl (refl, refl) }
+symbol_bare (Quoted b) ys q = record { front = ys; back = []; bytes = sym (append_nil ys); first = q; second = inl (refl, refl) }
+symbol_bare Tuple ys q = absurd q.first
 
 symbol_opening : (y : Symbol) (ys : List ℕ) → Joined (Token (IsSymbolText y)) (Mark 40) ys → IsOpening (Applied y) ys
 symbol_opening (Plain n) ys q = q
@@ -228,7 +231,7 @@ pub named_sound : (y : Symbol) (s : List Open) (c : ℕ) (bs : List ℕ) → Joi
 named_sound y s c bs j =
     choose (is_blank c) (λ e. is_named (longer bs (c ∷ []) j (λ ys q. token_blank c e ys q))) (λ _.
     choose (c == 40) (λ e. fresh refl (longer bs (c ∷ []) j (λ ys q. symbol_opening y (ys ++ c ∷ []) (joined ys (c ∷ []) q (mark c 40 e))))) (λ _.
-    whole_sound (heads.App y) end s c bs (over bs j (λ xs p. p) (λ ys q. symbol_core y ys q))))
+    whole_sound (heads.App y) end s c bs (over bs j (λ xs p. p) (λ ys q. symbol_bare y ys q))))
 
 -- ---- quoted text
 
@@ -241,7 +244,7 @@ text_sound b s c bs j =
     choose (c == 92) (λ e. in_escape (longer bs (c ∷ []) j (λ ys u. joined ys (c ∷ []) u (is_byte_of c 92 e)))) (λ k.
     choose (c == 10) (λ _. is_wrong) (λ f. in_text (longer bs (c ∷ []) j (λ ys u. unclosed_more b c ys (c ∷ []) u (raw (rw (q, k, f) refl)))))))
 
--- bytes behind those of an item that has begun
+-- bytes after those of an item that has begun
 item_on : {P : List ℕ → Type 0} (ws : List ℕ) (c : ℕ) (bs : List ℕ) → Joined P (Are ws) bs → Joined P (Are (ws ++ c ∷ [])) (bs ++ c ∷ [])
 item_on ws c bs j = longer bs (c ∷ []) j (λ ys q. ap (λ xs. xs ++ c ∷ []) q)
 
@@ -273,20 +276,15 @@ signed_snoc false v c bs h e = digits_snoc v c bs h e
 signed_snoc true v c [] h e = absurd h
 signed_snoc true v c (b ∷ bs) h e = (h.0, digits_snoc v c bs h.1 e)
 
-in_range : (sign : Bool) (v : ℕ) → v ≤ limit sign → FitsSigned w32 (integer sign v)
-in_range true zero h = omega (arith, ints)
-in_range true (suc v) h = omega (arith, ints)
-in_range false v h = omega (arith, ints)
-
 spells_blank : (c : ℕ) → is_blank c ≡ true → (t : Tree) (bs : List ℕ) → Spells t bs → Spells t (bs ++ c ∷ [])
 spells_blank c e (node h ps xs) bs j = go j.front j.back j.bytes j.first j.second
   where
-    go : (us vs : List ℕ) → bs ≡ us ++ vs → Core h ps (SpellsAll ps) us → Optional xs 123 125 (SpellsAll xs) vs → Joined (Core h ps (SpellsAll ps)) (Optional xs 123 125 (SpellsAll xs)) (bs ++ c ∷ [])
+    go : (us vs : List ℕ) → bs ≡ us ++ vs → SpellsBare h ps (SpellsAll ps) us → Optional xs 123 125 (SpellsAll xs) vs → Joined (SpellsBare h ps (SpellsAll ps)) (Optional xs 123 125 (SpellsAll xs)) (bs ++ c ∷ [])
     go us vs b p (inl q) = record {
       front = us ++ c ∷ [];
       back = [];
       bytes = ap (λ zs. zs ++ c ∷ []) (b ∙ ap (λ zs. us ++ zs) q.1 ∙ append_nil us) ∙ sym (append_nil (us ++ c ∷ []));
-      first = core_blank c e h ps (SpellsAll ps) us p;
+      first = bare_blank c e h ps (SpellsAll ps) us p;
       second = inl (q.0, refl);
     }
     go us vs b p (inr q) = record {
@@ -321,7 +319,7 @@ step_sound c bs (in_name {n} {s} j) =
 step_sound c bs (in_sign {s} j) = choose (is_digit c) (λ e. digits_sound true 0 c s (bs ++ c ∷ []) (longer bs (c ∷ []) j (λ ys q. sign_digit c ys e q))) (λ _. is_wrong)
 step_sound c bs (in_digits {sign} {v} {s} le j) =
     choose (is_digit c) (λ e. digits_sound sign v c s (bs ++ c ∷ []) (longer bs (c ∷ []) j (λ ys q. signed_snoc sign v c ys q e))) (λ _.
-    whole_sound (heads.Int (integer sign v)) end s c bs (over bs j (λ xs p. p) (λ ys q. (refl, token ys (in_range sign v le, sign, v, refl, q)))))
+    whole_sound (heads.Int (signed sign v)) end s c bs (over bs j (λ xs p. p) (λ ys q. (refl, token ys (in_range sign v le, sign, v, refl, q)))))
 step_sound c bs (in_text {b} {s} j) = text_sound b s c bs j
 step_sound c bs (in_escape {b} {s} j) = escape_sound (unescaped c) b s c bs refl j
 step_sound c bs (in_octal {b} {v} {x} {s} e f j) =
@@ -343,18 +341,18 @@ after_sound (c ∷ cs) bs a l =
 
 -- ---- the end of the text
 
--- the term that is whole stands behind what leads to the brackets round it
+-- the term that is whole stands after what leads to the brackets round it
 pub whole_sound_here : {a : State} (bs : List ℕ) → Leads a bs → IfSome (finished a) (λ p. Joined (Stacked p.1) (Spells p.0) bs)
 whole_sound_here bs (expect p) = tt
 whole_sound_here bs (fresh none j) = tt
-whole_sound_here bs (in_name {n} {s} j) = over bs j (λ xs p. p) (λ ys q. bare (heads.App (Plain n)) end ys (symbol_core (Plain n) ys (token ys q)))
+whole_sound_here bs (in_name {n} {s} j) = over bs j (λ xs p. p) (λ ys q. bare (heads.App (Plain n)) end ys (symbol_bare (Plain n) ys (token ys q)))
 whole_sound_here bs (in_sign j) = tt
-whole_sound_here bs (in_digits {sign} {v} {s} le j) = over bs j (λ xs p. p) (λ ys q. bare (heads.Int (integer sign v)) end ys (refl, token ys (in_range sign v le, sign, v, refl, q)))
+whole_sound_here bs (in_digits {sign} {v} {s} le j) = over bs j (λ xs p. p) (λ ys q. bare (heads.Int (signed sign v)) end ys (refl, token ys (in_range sign v le, sign, v, refl, q)))
 whole_sound_here bs (in_text j) = tt
 whole_sound_here bs (in_escape j) = tt
 whole_sound_here bs (in_octal e f j) = tt
 whole_sound_here bs (in_octals e f g j) = tt
-whole_sound_here bs (is_named {y} {s} j) = over bs j (λ xs p. p) (λ ys q. bare (heads.App y) end ys (symbol_core y ys q))
+whole_sound_here bs (is_named {y} {s} j) = over bs j (λ xs p. p) (λ ys q. bare (heads.App y) end ys (symbol_bare y ys q))
 whole_sound_here bs (is_whole {h} {ps} {s} j) = over bs j (λ xs p. p) (λ ys q. bare h ps ys q)
 whole_sound_here bs (is_done j) = j
 whole_sound_here bs (is_deep d) = tt

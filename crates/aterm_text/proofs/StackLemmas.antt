@@ -24,7 +24,7 @@ get_last (l ∷ ls) (suc n) d h = ap (λ ks. l ∷ ks) (get_last ls n d (omega a
 stack_push : (ls : List Level) (l : Level) → stack_of (ls ++ l ∷ []) ≡ inside l ∷ stack_of ls
 stack_push ls l = ap reverse (map_push inside ls l) ∙ reverse-append (map inside ls) (inside l ∷ [])
 
--- a comma behind a term adds the term to the innermost bracket
+-- a comma after a term adds the term to the innermost bracket
 pub comma_adds : (ls : List Level) (n : ℕ) (l : Level) (t : Option Tree) (e : Option (Vec Tree Global)) → n ≡ length ls → 0 < length ls → l ≡ get_or ls (n - 1) l
     → terms_in e ≡ add (terms_in l.earlier) t → next t (stack_of ls) 44 ≡ At Expect (stack_of (slice_set ls (n - 1) (record { bracket = l.bracket; earlier = e })))
 comma_adds ls n l t e is some last added =

@@ -1,9 +1,11 @@
 -- Laws of the text of a term, by its head, parts and annotations.
-use Rattle.std.proofs.Common.{◌≡◌, ℕ, suc, zero, ◌+◌, ◌<◌, ◌≤◌, List, [], ◌∷◌, ◌++◌, length, get_or, take, refl, ap, sym, append_assoc, ◌∙◌, arith}
-use Rattle.term_model.specs.Term.{Tree, node, trees_of, head_of, parts_of, annos_of, weight, weights}
-use Rattle.aterm_text.specs.Text.{text, texts, core_text, enclosed}
+use Rattle.std.proofs.Common.{◌≡◌, ℕ, ◌<◌, List, [], ◌∷◌, ◌++◌, length, take, refl, ap, sym, append_assoc, ◌∙◌, arith}
+use Rattle.term_model.specs.Term.{Tree, node, trees_of, head_of, parts_of, annos_of}
+use Rattle.aterm_text.specs.Text.{text, texts, bare_text, enclosed}
 use Rattle.aterm_text.specs.Output.{Extends}
-use Rattle.aterm_text.proofs.Basics.{trees-list, append_nil}
+use Rattle.term_model.proofs.TermLemmas.{trees_of-list_of, weight_positive}
+use Rattle.term_model.proofs.EqualityLemmas.{weights-parts_of, weights-annos_of, weight-get_or}
+use Rattle.term_model.proofs.Joins.{append_nil}
 
 pub extends_same : (old new : List ℕ) → new ≡ old → Extends old new
 extends_same old new e = record { rest = []; grown = e ∙ sym (append_nil old) }
@@ -23,30 +25,16 @@ cut_back old new e = ap (take (length old)) e.grown ∙ take_front old e.rest
 
 pub ruleset extending = (extends_same, extends_by, extends_on)
 
-pub text_by_parts : (t : Tree) → text t ≡ core_text (head_of t) (trees_of (parts_of t)) (texts (trees_of (parts_of t))) ++ enclosed (trees_of (annos_of t)) 123 125 (texts (trees_of (annos_of t)))
-text_by_parts (node h ps xs) = rw (trees-list ps, trees-list xs) refl
-
-pub weight_of_parts : (t : Tree) → weights (trees_of (parts_of t)) + 1 ≤ weight t
-weight_of_parts (node h ps xs) = rw (trees-list ps) (omega arith)
-
-pub weight_of_annos : (t : Tree) → weights (trees_of (annos_of t)) + 1 ≤ weight t
-weight_of_annos (node h ps xs) = rw (trees-list xs) (omega arith)
+pub text_by_parts : (t : Tree) → text t ≡ bare_text (head_of t) (trees_of (parts_of t)) (texts (trees_of (parts_of t))) ++ enclosed (trees_of (annos_of t)) 123 125 (texts (trees_of (annos_of t)))
+text_by_parts (node h ps xs) = rw (trees_of-list_of ps, trees_of-list_of xs) refl
 
 pub enclosed_some : (ts : List Tree) (left right : ℕ) (inner : List ℕ) → 0 < length ts → enclosed (trees_of ts) left right inner ≡ left ∷ (inner ++ right ∷ [])
 enclosed_some [] left right inner h = absurd (omega arith)
 enclosed_some (t ∷ ts) left right inner h = refl
 
 pub text_joins : (t : Tree) (old mid new : List ℕ)
-    → mid ≡ old ++ core_text (head_of t) (trees_of (parts_of t)) (texts (trees_of (parts_of t)))
+    → mid ≡ old ++ bare_text (head_of t) (trees_of (parts_of t)) (texts (trees_of (parts_of t)))
     → new ≡ mid ++ enclosed (trees_of (annos_of t)) 123 125 (texts (trees_of (annos_of t))) → new ≡ old ++ text t
 text_joins t old mid new e f = f ∙ ap (λ xs. xs ++ enclosed (trees_of (annos_of t)) 123 125 (texts (trees_of (annos_of t)))) e ∙ append_assoc old _ _ ∙ ap (λ xs. old ++ xs) (sym (text_by_parts t))
 
-pub weight_positive : (t : Tree) → 0 < weight t
-weight_positive (node h ps xs) = omega arith
-
-pub weight_at : (ts : List Tree) (i : ℕ) (d : Tree) → i < length ts → weight (get_or ts i d) ≤ weights (trees_of ts)
-weight_at [] i d h = absurd (omega arith)
-weight_at (t ∷ ts) zero d h = omega arith
-weight_at (t ∷ ts) (suc i) d h = omega (arith, weight_at ts i d (omega arith))
-
-pub ruleset writing = (weight_of_parts, weight_of_annos, weight_positive, weight_at, enclosed_some, text_joins, extends_same, extends_on)
+pub ruleset writing = (weights-parts_of, weights-annos_of, weight_positive, weight-get_or, enclosed_some, text_joins, extends_same, extends_on)

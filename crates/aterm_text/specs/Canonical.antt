@@ -17,6 +17,6 @@ pub record IsCanonical (t : Tree) : Type 0 where
   pub one_line : HasNoLineFeed (text t)
   pub no_hash : (rest : List ℕ) → ¬ (text t ≡ 35 ∷ rest)
 
--- reading its canonical text answers the term, unless memory runs out
+-- reading its canonical text returns the term, unless memory runs out
 abbrev pub ReadsBack : Tree → Type 0
 ReadsBack t = (answer : Result Tree Fault) → IsReading (text t) answer → (answer ≡ Ok t) ⊎ (answer ≡ Err Memory)

@@ -1,4 +1,4 @@
--- Bytes that are written behind others.
+-- Bytes that are written after others.
 use Rattle.std.specs.Prelude.{◌≡◌, ℕ, List, ◌++◌}
 
 -- the second begins with the first

@@ -1,17 +1,17 @@
--- The steps of the reader, for the contracts of its private functions alone: what `read_term` answers is said by the grammar.
+-- The steps of the reader, for the contracts of its private functions alone: what `read_term` returns is said by the grammar.
 -- One byte at a time: where the reader is, and the brackets that are open, the innermost first.
 use Rattle.std.specs.Prelude.{◌≡◌, ℕ, ◌+◌, ◌-◌, ◌*◌, ◌<◌, ◌≤◌, ◌⊎◌, Bool, true, false, ◌==◌, nat_le, if◌then◌else◌, List, [], ◌∷◌, ◌++◌, length, reverse, map, Option, Some, None, Result, Ok, Err, slice_range}
 use Rattle.std.specs.declared.vec.Vec.{Vec}
 use Rattle.std.specs.declared.alloc.Global.{Global}
+use Rattle.term_model.specs.Bytes.{is_between, is_blank, is_digit, is_octal, unescaped, signed}
 use Rattle.term_model.specs.declared.term.Head.TheVariants as heads
 use Rattle.term_model.specs.declared.made.Made.{Made}
 use Rattle.term_model.specs.declared.made.Made.TheVariants as made
 use Rattle.term_model.specs.declared.fault.Fault.{Fault}
 use Rattle.term_model.specs.declared.fault.Fault.TheVariants as faults
-use Rattle.term_model.specs.Symbol.{Symbol, Plain, Quoted, Tuple, is_between, begins_name, continues_name, is_name}
-use Rattle.term_model.specs.Limits.{max_depth}
+use Rattle.term_model.specs.Symbol.{Symbol, Plain, Quoted, Tuple, begins_name, continues_name, is_name}
+use Rattle.term_model.specs.Limits.{max_magnitude, max_depth}
 use Rattle.term_model.specs.Term.{Tree, term, head_of, parts_of, made_of}
-use Rattle.aterm_text.specs.Tokens.{is_blank, is_digit, is_octal, unescaped, integer}
 use Rattle.aterm_text.specs.Depth.{begins_term}
 use Rattle.aterm_text.specs.declared.place.Bracket.{Bracket}
 use Rattle.aterm_text.specs.declared.place.Bracket.TheVariants.{Applied, Elements, Annotations}
@@ -24,11 +24,17 @@ abbrev pub item_of : Made Tree → Option Tree
 item_of (made.Fits t) = Some t
 item_of made.Oversize = None
 
+-- the term of what was read up to its annotations, if it has none
+abbrev pub whole_term : Option Tree → Option Tree
+whole_term None = None
+whole_term (Some t) = item_of (made_of t)
+
+-- what is read once the bracket closes after these terms
 abbrev pub closed : Bracket → Option (List Tree) → Place
 closed (Applied y) None = Whole None
-closed (Applied y) (Some ts) = Whole (item_of (made_of (term (heads.App y) ts [])))
+closed (Applied y) (Some ts) = Whole (Some (term (heads.App y) ts []))
 closed Elements None = Whole None
-closed Elements (Some ts) = Whole (item_of (made_of (term heads.List ts [])))
+closed Elements (Some ts) = Whole (Some (term heads.List ts []))
 closed (Annotations _) None = Done None
 closed (Annotations None) (Some ts) = Done None
 closed (Annotations (Some t)) (Some ts) = Done (item_of (made_of (term (head_of t) (parts_of t) ts)))
@@ -67,12 +73,8 @@ closer (Applied _) = 41
 closer Elements = 93
 closer (Annotations _) = 125
 
-abbrev pub limit : Bool → ℕ
-limit true = 2147483648
-limit false = 2147483647
-
 abbrev pub digits : Bool → ℕ → ℕ → List Inside → Spot
-digits sign v c s = if nat_le (10 * v + (c - 48)) (limit sign) then At (Digits sign (10 * v + (c - 48))) s else Wrong
+digits sign v c s = if nat_le (10 * v + (c - 48)) (max_magnitude sign) then At (Digits sign (10 * v + (c - 48))) s else Wrong
 
 -- the first byte of a term
 abbrev pub first : ℕ → List Inside → ℕ → Spot
@@ -88,7 +90,7 @@ first at s c =
 abbrev pub begin : ℕ → List Inside → ℕ → Spot
 begin at s c = if begins_term c then (if length s == max_depth then Deep else first at s c) else Wrong
 
--- a byte behind a term that takes no annotations
+-- a byte after a term that takes no annotations
 abbrev pub next : Option Tree → List Inside → ℕ → Spot
 next t [] c = Wrong
 next t (o ∷ s) c =
@@ -97,13 +99,13 @@ next t (o ∷ s) c =
     else Wrong
 
 abbrev pub whole : Option Tree → List Inside → ℕ → Spot
-whole t s c = if is_blank c then At (Whole t) s else if c == 123 then At Fresh (opened (Annotations t) ∷ s) else next t s c
+whole t s c = if is_blank c then At (Whole t) s else if c == 123 then At Fresh (opened (Annotations t) ∷ s) else next (whole_term t) s c
 
 abbrev pub named : Symbol → List Inside → ℕ → Spot
 named y s c =
     if is_blank c then At (Named y) s
     else if c == 40 then At Fresh (opened (Applied y) ∷ s)
-    else whole (item_of (made_of (term (heads.App y) [] []))) s c
+    else whole (Some (term (heads.App y) [] [])) s c
 
 abbrev pub fresh : ℕ → List Inside → ℕ → Spot
 fresh at [] c = Wrong
@@ -117,7 +119,7 @@ quoted copied from bytes s c =
     else if c == 10 then Wrong
     else At (Text copied from) s
 
--- a byte behind `\`
+-- a byte after `\`
 abbrev pub escape : Option ℕ → ℕ → List ℕ → List Inside → ℕ → Spot
 escape (Some d) at copied s c = At (Text (copied ++ d ∷ []) (at + 1)) s
 escape None at copied s c = if is_between 48 51 c then At (Octal copied (c - 48)) s else Wrong
@@ -136,7 +138,7 @@ step text at Expect s c = if is_blank c then At Expect s else begin at s c
 step text at Fresh s c = if is_blank c then At Fresh s else fresh at s c
 step text at (Name from) s c = if continues_name c then At (Name from) s else named (Plain (slice_range text from at)) s c
 step text at Sign s c = if is_digit c then digits true 0 c s else Wrong
-step text at (Digits sign v) s c = if is_digit c then digits sign v c s else whole (Some (term (heads.Int (integer sign v)) [] [])) s c
+step text at (Digits sign v) s c = if is_digit c then digits sign v c s else whole (Some (term (heads.Int (signed sign v)) [] [])) s c
 step text at (Text copied from) s c = quoted copied from (copied ++ slice_range text from at) s c
 step text at (Escape copied) s c = escape (unescaped c) at copied s c
 step text at (Octal copied v) s c = octal copied v s c
@@ -159,19 +161,19 @@ IsCalm (Name _) = ⊥
 IsCalm (Text _ _) = ⊥
 IsCalm (Octal _ _) = ⊥
 IsCalm (Octals _ _) = ⊥
-IsCalm (Digits sign v) = v ≤ limit sign
+IsCalm (Digits sign v) = v ≤ max_magnitude sign
 IsCalm _ = Unit {0}
 
 -- within a name, what stands before the index from its first byte on is a name
 abbrev pub IsPlaced : List ℕ → ℕ → Place → Type 0
 IsPlaced text at (Name from) = (from < at) × (is_name (slice_range text from at) ≡ true)
-IsPlaced text at (Digits sign v) = v ≤ limit sign
+IsPlaced text at (Digits sign v) = v ≤ max_magnitude sign
 IsPlaced text at (Text _ from) = from ≤ at
 IsPlaced text at (Octal _ v) = v ≤ 3
 IsPlaced text at (Octals _ v) = v ≤ 31
 IsPlaced text at _ = Unit {0}
 
--- the rest of the text, from this index on
+-- the remaining text, from this index on
 abbrev pub run : List ℕ → ℕ → Spot → List ℕ → Spot
 run text at spot [] = spot
 run text at (At place s) (c ∷ cs) = run text (at + 1) (step text at place s c) cs
@@ -187,9 +189,9 @@ pub data Outcome : Type 0 where
 -- at the end of the text
 abbrev pub ended : List ℕ → Place → Outcome
 ended text (Name from) = Read (item_of (made_of (term (heads.App (Plain (slice_range text from (length text)))) [] [])))
-ended text (Digits sign v) = Read (Some (term (heads.Int (integer sign v)) [] []))
+ended text (Digits sign v) = Read (Some (term (heads.Int (signed sign v)) [] []))
 ended text (Named y) = Read (item_of (made_of (term (heads.App y) [] [])))
-ended text (Whole t) = Read t
+ended text (Whole t) = Read (whole_term t)
 ended text (Done t) = Read t
 ended text _ = NoTerm
 
@@ -203,7 +205,7 @@ outcome text Wrong = NoTerm
 unfoldable pub outcome_of : List ℕ → Outcome
 outcome_of text = outcome text (run text 0 (At Expect []) text)
 
--- the answer to an outcome, unless memory ran out
+-- what is returned for an outcome, unless memory ran out
 abbrev pub Answers : Result Tree Fault → Outcome → Type 0
 Answers (Ok t) o = o ≡ Read (Some t)
 Answers (Err faults.Memory) o = Unit {0}

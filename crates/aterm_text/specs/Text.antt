@@ -34,16 +34,16 @@ enclosed end left right inner = []
 enclosed (more _ _) left right inner = left ∷ (inner ++ right ∷ [])
 
 -- a head and its parts, where `inner` is the text of these
-abbrev pub core_text : Head → Trees → List ℕ → List ℕ
-core_text (heads.Int z) ps inner = signed_decimal z
-core_text (heads.App (Plain name)) ps inner = name ++ enclosed ps 40 41 inner
-core_text (heads.App (Quoted bs)) ps inner = quoted_text bs ++ enclosed ps 40 41 inner
-core_text (heads.App Tuple) ps inner = 40 ∷ (inner ++ 41 ∷ [])
-core_text heads.List ps inner = 91 ∷ (inner ++ 93 ∷ [])
+abbrev pub bare_text : Head → Trees → List ℕ → List ℕ
+bare_text (heads.Int z) ps inner = signed_decimal z
+bare_text (heads.App (Plain name)) ps inner = name ++ enclosed ps 40 41 inner
+bare_text (heads.App (Quoted bs)) ps inner = quoted_text bs ++ enclosed ps 40 41 inner
+bare_text (heads.App Tuple) ps inner = 40 ∷ (inner ++ 41 ∷ [])
+bare_text heads.List ps inner = 91 ∷ (inner ++ 93 ∷ [])
 
 abbrev mutual
   pub text : Tree → List ℕ
-  text (node h ps xs) = core_text h ps (texts ps) ++ enclosed xs 123 125 (texts xs)
+  text (node h ps xs) = bare_text h ps (texts ps) ++ enclosed xs 123 125 (texts xs)
 
   -- the terms with commas between
   pub texts : Trees → List ℕ

@@ -1,29 +1,14 @@
-// What stands behind a symbol and behind a term: brackets that open and close, and commas.
+// What follows a symbol and a term: brackets that open and close, and commas.
 ghost use Rattle.std.specs.Prelude.{◌≡◌, List, [], ◌∷◌, IfOk};
-ghost use Rattle.aterm_text.specs.Tokens.{is_blank};
-ghost use Rattle.aterm_text.specs.Reading.{item_of, closed, terms_in, add, closer as closing, stack_of, Gives, next as behind, whole as whole_then, named as named_then, At, opened, IsCalm};
+ghost use Rattle.aterm_text.specs.Reading.{closed, terms_in, add, closer as closing, stack_of, Gives, next as next_then, whole as whole_then, named as named_then, At, opened, IsCalm};
 
+use crate::bare::{Bare, finished};
 use crate::place::{Bracket, Level, Levels, Place};
 use std::alloc::{AllocError, Global};
-use term_model::{Fault, Made, Sym, Term};
+use term_model::bytes::is_blank_byte;
+use term_model::{Fault, Sym, Term};
 
-pub(crate) fn is_blank_byte(byte: u8) -> bool
-    ensures { result ≡ is_blank byte }
-{
-    matches!(byte, b' ' | b'\t' | b'\n' | b'\r')
-}
-
-// The term, if it fits.
-pub(crate) fn item(made: Made<Term>) -> Option<Term>
-    ensures { result ≡ item_of made }
-{
-    match made {
-        Made::Fits(term) => Some(term),
-        Made::Oversize => None,
-    }
-}
-
-// What is read once the bracket closes behind these terms.
+// What is read once the bracket closes after these terms.
 pub(crate) fn close(
     alloc: Global,
     bracket: Bracket,
@@ -39,10 +24,10 @@ pub(crate) fn close(
         };
     };
     match bracket {
-        Bracket::Applied(symbol) => Ok(Place::Whole(item(Term::app(alloc, symbol, terms)?))),
-        Bracket::Elements => Ok(Place::Whole(item(Term::list(alloc, terms)?))),
+        Bracket::Applied(symbol) => Ok(Place::Whole(Some(Bare::app(symbol, terms)))),
+        Bracket::Elements => Ok(Place::Whole(Some(Bare::list(terms)))),
         Bracket::Annotations(None) => Ok(Place::Done(None)),
-        Bracket::Annotations(Some(term)) => Ok(Place::Done(item(term.with_annos(alloc, terms)?))),
+        Bracket::Annotations(Some(bare)) => Ok(Place::Done(bare.with_annos(alloc, terms)?)),
     }
 }
 
@@ -73,10 +58,10 @@ pub(crate) fn with_term(
     }
 }
 
-// A comma behind a term.
+// A comma after a term.
 #[inline(always)]
 fn comma(term: Option<Term>, levels: &mut Levels, at: u64) -> Result<Place, Fault>
-    ensures gives { Gives result (stack_of levels.new.items) (behind term (stack_of levels.old.items) 44) }
+    ensures gives { Gives result (stack_of levels.new.items) (next_then term (stack_of levels.old.items) 44) }
     ensures calm { IfOk result IsCalm }
 {
     if levels.is_empty() {
@@ -90,7 +75,7 @@ fn comma(term: Option<Term>, levels: &mut Levels, at: u64) -> Result<Place, Faul
     Ok(Place::Expect)
 }
 
-// A byte behind a term that takes no annotations.
+// A byte after a term that takes no annotations.
 #[inline(always)]
 pub(crate) fn next(
     alloc: Global,
@@ -99,7 +84,7 @@ pub(crate) fn next(
     byte: u8,
     at: u64,
 ) -> Result<Place, Fault>
-    ensures gives { Gives result (stack_of levels.new.items) (behind term (stack_of levels.old.items) byte) }
+    ensures gives { Gives result (stack_of levels.new.items) (next_then term (stack_of levels.old.items) byte) }
     ensures calm { IfOk result IsCalm }
 {
     if byte == b',' {
@@ -127,28 +112,29 @@ pub(crate) fn open(levels: &mut Levels, bracket: Bracket, alloc: Global) -> Resu
     Ok(Place::Fresh)
 }
 
-// A byte behind a term that may take annotations.
+// A byte after a term that may take annotations.
 #[inline(always)]
 pub(crate) fn whole(
     alloc: Global,
-    term: Option<Term>,
+    bare: Option<Bare>,
     levels: &mut Levels,
     byte: u8,
     at: u64,
 ) -> Result<Place, Fault>
-    ensures gives { Gives result (stack_of levels.new.items) (whole_then term (stack_of levels.old.items) byte) }
+    ensures gives { Gives result (stack_of levels.new.items) (whole_then bare (stack_of levels.old.items) byte) }
     ensures calm { IfOk result IsCalm }
 {
     if is_blank_byte(byte) {
-        return Ok(Place::Whole(term));
+        return Ok(Place::Whole(bare));
     }
     if byte == b'{' {
-        return open(levels, Bracket::Annotations(term), alloc);
+        return open(levels, Bracket::Annotations(bare), alloc);
     }
+    let term = finished(alloc, bare)?;
     next(alloc, term, levels, byte, at)
 }
 
-// A byte behind a symbol.
+// A byte after a symbol.
 #[inline(always)]
 pub(crate) fn named(
     alloc: Global,
@@ -166,6 +152,6 @@ pub(crate) fn named(
     if byte == b'(' {
         return open(levels, Bracket::Applied(symbol), alloc);
     }
-    let term = item(Term::app(alloc, symbol, Vec::new(alloc))?);
-    whole(alloc, term, levels, byte, at)
+    let bare = Bare::app(symbol, Vec::new(alloc));
+    whole(alloc, Some(bare), levels, byte, at)
 }

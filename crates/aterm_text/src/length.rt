@@ -2,7 +2,7 @@
 // is counted already.
 ghost use Rattle.std.specs.Prelude.{◌≡◌, ◌<◌, ◌+◌, ◌^◌, length};
 ghost use Rattle.std.specs.Fmt.{signed_decimal};
-ghost use Rattle.aterm_text.specs.Text.{text, texts, enclosed, core_text, item_text, quoted_text};
+ghost use Rattle.aterm_text.specs.Text.{text, texts, enclosed, bare_text, item_text, quoted_text};
 ghost use Rattle.term_model.specs.Term.{trees_of};
 
 use itoa::Buffer;
@@ -26,16 +26,16 @@ fn with_term(counted: u64, term: &Term) -> u64
     requires { counted + length (text term.now) < 2 ^ 64 }
     ensures { result ≡ counted + length (text term.now) }
 {
-    let counted = with_core(counted, term.head(), term.children());
+    let counted = with_bare(counted, term.head(), term.children());
     with_enclosed(counted, term.annos())
 }
 
 // A term without its annotations.
 #[cycle(length)]
 #[tactic(auto, using(crate::proofs::LengthLemmas::counting))]
-fn with_core(counted: u64, head: &Head, parts: &[Term]) -> u64
-    requires { counted + length (core_text head.now (trees_of parts.now) (texts (trees_of parts.now))) < 2 ^ 64 }
-    ensures { result ≡ counted + length (core_text head.now (trees_of parts.now) (texts (trees_of parts.now))) }
+fn with_bare(counted: u64, head: &Head, parts: &[Term]) -> u64
+    requires { counted + length (bare_text head.now (trees_of parts.now) (texts (trees_of parts.now))) < 2 ^ 64 }
+    ensures { result ≡ counted + length (bare_text head.now (trees_of parts.now) (texts (trees_of parts.now))) }
 {
     match head {
         Head::Int(value) => counted + number_len(*value),

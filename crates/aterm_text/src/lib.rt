@@ -1,6 +1,7 @@
 //! The textual format of terms: reading a text, and writing the canonical text of a term.
 #![tactic(auto)]
 
+mod bare;
 mod brackets;
 mod length;
 mod output;
@@ -41,7 +42,7 @@ pub fn read_term(alloc: Global, text: &[u8]) -> Result<Term, Fault>
     reader::read(alloc, text)
 }
 
-/// Appends the canonical text of the term, with no line feed behind it. It grows only the vector,
+/// Appends the canonical text of the term, with no line feed after it. It grows only the vector,
 /// and takes no other memory.
 ///
 /// # Errors
@@ -60,7 +61,7 @@ pub fn text_len(term: &Term) -> u64
 }
 
 /// Laws, with nothing to run. The canonical text of each term spells that term, holds no line feed
-/// and does not begin with `#`; where the term fits, reading that text answers it. No text that
+/// and does not begin with `#`; where the term fits, reading that text returns it. No text that
 /// spells a term that fits is too deep.
 #[tactic(auto, using(crate::proofs::Canonical::canonical, crate::proofs::RoundTrip::reads_back))]
 pub fn text_laws()

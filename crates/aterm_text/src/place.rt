@@ -1,16 +1,17 @@
 // Where the reader is: the open brackets, and what it reads in the innermost one.
+use crate::bare::Bare;
 use crate::quoted::Bytes;
 use smallvec::SmallVec;
 use std::alloc::Global;
 use std::default::MadeWith;
 use term_model::{Sym, Term};
 
-// What a bracket encloses. A term that does not fit is `None`.
+// What a bracket encloses. A term of which a part does not fit is `None`.
 #[derive(Drop)]
 pub(crate) enum Bracket {
     Applied(Sym),
     Elements,
-    Annotations(Option<Term>),
+    Annotations(Option<Bare>),
 }
 
 // An open bracket, with the terms that stand in it already, unless one of them does not fit.
@@ -25,7 +26,7 @@ pub(crate) struct Level {
 pub(crate) enum Place {
     // Nothing: a term has to begin.
     Expect,
-    // Nothing, behind a bracket that opens: a term or the closing bracket.
+    // Nothing, after a bracket that opens: a term or the closing bracket.
     Fresh,
     // A name that begins at this index.
     Name { from: usize },
@@ -40,11 +41,11 @@ pub(crate) enum Place {
     Octal { copied: Bytes, value: u8 },
     // Quoted text up to a backslash and two octal digits.
     Octals { copied: Bytes, value: u8 },
-    // A symbol, with blanks behind it or the closing quote.
+    // A symbol, with blanks after it or the closing quote.
     Named(Sym),
-    // A term whose annotations may follow.
-    Whole(Option<Term>),
-    // A term with its annotations.
+    // A term whose annotations may follow, unless one of its parts does not fit.
+    Whole(Option<Bare>),
+    // A term with its annotations, if it fits.
     Done(Option<Term>),
 }
 

@@ -1,12 +1,13 @@
 // Quoted text: raw bytes and escapes.
 ghost use Rattle.std.specs.Prelude.{◌≡◌, ◌≤◌, ◌<◌, ◌+◌, ◌^◌, ℕ, List, [], ◌∷◌, ◌++◌, length, slice_range, IfOk, IsTrue};
-ghost use Rattle.aterm_text.specs.Tokens.{is_octal, unescaped as escaped_byte};
 ghost use Rattle.aterm_text.specs.Reading.{Gives, quoted as quoted_then, escape as escape_then, octal as octal_then, octals as octals_then, Inside, IsPlaced};
+ghost use Rattle.term_model.specs.Bytes.{unescaped as escaped_byte};
 ghost use Rattle.term_model.specs.Symbol.{Quoted};
 
 use crate::place::Place;
 use std::alloc::{AllocError, Global};
 use std::marker::Model;
+use term_model::bytes::{is_octal_byte, unescaped};
 use term_model::{Fault, Sym};
 
 // Bytes that a quoted text stands for, copied from the text.
@@ -82,20 +83,7 @@ pub(crate) fn within(
     }
 }
 
-// What a letter behind a backslash stands for.
-fn unescaped(byte: u8) -> Option<u8>
-    ensures { result ≡ escaped_byte byte }
-{
-    match byte {
-        b'"' | b'\\' => Some(byte),
-        b'n' => Some(b'\n'),
-        b't' => Some(b'\t'),
-        b'r' => Some(b'\r'),
-        _ => None,
-    }
-}
-
-// A byte behind a backslash.
+// A byte after a backslash.
 pub(crate) fn escape(copied: Bytes, byte: u8, index: usize) -> Result<Place, Fault>
     requires { index + 1 < 2 ^ 64 }
     ensures gives { (s : List Inside) → Gives result s (escape_then (escaped_byte byte) index copied s byte) }
@@ -116,19 +104,13 @@ pub(crate) fn escape(copied: Bytes, byte: u8, index: usize) -> Result<Place, Fau
     })
 }
 
-fn is_octal_digit(byte: u8) -> bool
-    ensures { result ≡ is_octal byte }
-{
-    matches!(byte, b'0'..=b'7')
-}
-
 // The second of three octal digits.
 pub(crate) fn octal(copied: Bytes, value: u8, byte: u8, at: u64) -> Result<Place, Fault>
     requires { value ≤ 3 }
     ensures gives { (s : List Inside) → Gives result s (octal_then copied value s byte) }
     ensures placed { (text : List ℕ) (index : ℕ) → IfOk result (IsPlaced text index) }
 {
-    if !is_octal_digit(byte) {
+    if !is_octal_byte(byte) {
         return Err(Fault::TermSyntax { at });
     }
     Ok(Place::Octals {
@@ -144,7 +126,7 @@ pub(crate) fn octals(copied: Bytes, value: u8, byte: u8, index: usize) -> Result
     ensures gives { (s : List Inside) → Gives result s (octals_then index copied value s byte) }
     ensures placed { (text : List ℕ) → IfOk result (IsPlaced text (index + 1)) }
 {
-    if !is_octal_digit(byte) {
+    if !is_octal_byte(byte) {
         return Err(Fault::TermSyntax { at: index as u64 });
     }
     Ok(Place::Text {

@@ -58,8 +58,8 @@ fn raw_end(bytes: &[u8], index: usize) -> usize
     end
 }
 
-// Writes the bytes from the index on that are written as they are, and the one behind them, and
-// answers the index at which to go on.
+// Writes the bytes from the index on that are written as they are, and the one after them, and
+// returns the index at which to go on.
 #[tactic(auto, using(crate::proofs::QuotingLemmas::runs))]
 fn push_run(bytes: &[u8], index: usize, out: &mut Vec<u8>) -> Result<usize, AllocError>
     requires { index < length bytes.now }

@@ -1,36 +1,24 @@
 // Reading a term one byte at a time, with a stack of open brackets.
-ghost use Rattle.std.specs.Prelude.{true, ◌==◌, ℕ, ◌≡◌, ◌<◌, ◌+◌, ◌*◌, ◌-◌, ◌^◌, MatchOption, List, [], ◌∷◌, ◌≤◌, IsTrue, ◌↔◌, IfOk, length, slice_index, slice_range, reverse, map};
-ghost use Rattle.aterm_text.specs.Tokens.{integer as signed, is_digit};
+ghost use Rattle.std.specs.Prelude.{true, ◌==◌, ℕ, ◌≡◌, ◌<◌, ◌+◌, ◌*◌, ◌-◌, ◌^◌, MatchOption, List, [], ◌∷◌, ◌≤◌, IsTrue, ◌↔◌, if◌then◌else◌, Some, IfOk, length, slice_index, slice_range, reverse, map};
 ghost use Rattle.aterm_text.specs.Depth.{begins_term};
-ghost use Rattle.aterm_text.specs.Reading.{stack_of, Gives, digits as counted, limit, begin as begun, fresh as fresh_then, step as stepped, At, Inside, IsCalm, IsPlaced, outcome, outcome_of, Answers};
+ghost use Rattle.aterm_text.specs.Reading.{stack_of, Gives, digits as counted, begin as begun, fresh as fresh_then, step as stepped, whole as whole_then, At, Inside, IsCalm, IsPlaced, outcome, outcome_of, Answers};
+ghost use Rattle.term_model.specs.Bytes.{is_digit, signed as integer_of};
+ghost use Rattle.term_model.specs.Limits.{max_magnitude};
 ghost use Rattle.term_model.specs.Symbol.{is_name, Plain};
+ghost use Rattle.term_model.specs.Term.{term};
+ghost use Rattle.term_model.specs.declared.term.Head.TheVariants.{Int};
 
-use crate::brackets::{close, closer, is_blank_byte, item, named, next, open, whole};
+use crate::bare::{Bare, finished, item};
+use crate::brackets::{close, closer, named, next, open, whole};
 use crate::place::{Bracket, Level, Levels, Place};
 use crate::quoted::{Bytes, escape, octal, octals, within};
 use crate::runs::resume;
 use smallvec::SmallVec;
 use std::alloc::{AllocError, Global};
+use term_model::bytes::{is_blank_byte, is_digit_byte, signed, with_digit};
 use term_model::symbol::{begins, continues};
 use term_model::term::MAX_DEPTH;
 use term_model::{Fault, Sym, Term};
-
-// The number with one more digit, if it is in range.
-pub(crate) fn with_digit(negative: bool, value: u32, byte: u8) -> Option<u32>
-    requires { IsTrue (is_digit byte) }
-    ensures { MatchOption result (limit negative < 10 * value + (byte - 48)) (λ longer. (longer ≡ 10 * value + (byte - 48)) × (longer ≤ limit negative)) }
-{
-    let longer = 10 * u64::from(value) + u64::from(byte - b'0');
-    let most = if negative {
-        2_147_483_648
-    } else {
-        2_147_483_647
-    };
-    if longer > most {
-        return None;
-    }
-    Some(longer as u32)
-}
 
 // One more digit.
 fn digits(negative: bool, value: u32, byte: u8, at: u64) -> Result<Place, Fault>
@@ -81,13 +69,7 @@ fn is_first(byte: u8) -> bool
     begins(byte) || is_digit_byte(byte) || matches!(byte, b'-' | b'"' | b'(' | b'[')
 }
 
-pub(crate) fn is_digit_byte(byte: u8) -> bool
-    ensures { result ≡ is_digit byte }
-{
-    matches!(byte, b'0'..=b'9')
-}
-
-// A byte behind a bracket that opens.
+// A byte after a bracket that opens.
 fn fresh(alloc: Global, levels: &mut Levels, byte: u8, index: usize) -> Result<Place, Fault>
     requires { index + 1 < 2 ^ 64 }
     ensures gives { Gives result (stack_of levels.new.items) (fresh_then index (stack_of levels.old.items) byte) }
@@ -112,10 +94,28 @@ fn symbol(alloc: Global, text: &[u8], from: usize, to: usize) -> Result<Sym, All
     requires name { is_name (slice_range text.now from to) ≡ true }
     ensures { IfOk result (λ s. s ≡ Plain (slice_range text.now from to)) }
 {
-    match Sym::plain(alloc, &text[from..to])? {
-        Some(symbol) => Ok(symbol),
-        None => unreachable!(),
+    Sym::named(alloc, &text[from..to])
+}
+
+// A byte after a digit: one more digit, or what follows the number.
+#[inline(always)]
+fn number(
+    alloc: Global,
+    negative: bool,
+    value: u32,
+    levels: &mut Levels,
+    byte: u8,
+    at: u64,
+) -> Result<Place, Fault>
+    requires { value ≤ max_magnitude negative }
+    ensures gives { Gives result (stack_of levels.new.items) (if is_digit byte then counted negative value byte (stack_of levels.old.items) else whole_then (Some (term (Int (integer_of negative value)) [] [])) (stack_of levels.old.items) byte) }
+    ensures calm { IfOk result IsCalm }
+{
+    if is_digit_byte(byte) {
+        return digits(negative, value, byte, at);
     }
+    let bare = Bare::int(alloc, signed(negative, value));
+    whole(alloc, Some(bare), levels, byte, at)
 }
 
 // Takes the byte at the index.
@@ -145,32 +145,15 @@ fn step(
         }
         Place::Sign if is_digit_byte(byte) => digits(true, 0, byte, at),
         Place::Sign => Err(Fault::TermSyntax { at }),
-        Place::Digits { negative, value } if is_digit_byte(byte) => {
-            digits(negative, value, byte, at)
-        }
-        Place::Digits { negative, value } => {
-            let term = Term::int(alloc, integer(negative, value))?;
-            whole(alloc, Some(term), levels, byte, at)
-        }
+        Place::Digits { negative, value } => number(alloc, negative, value, levels, byte, at),
         Place::Text { copied, from } => within(alloc, copied, from, &text[from..index], byte, at),
         Place::Escape(copied) => escape(copied, byte, index),
         Place::Octal { copied, value } => octal(copied, value, byte, at),
         Place::Octals { copied, value } => octals(copied, value, byte, index),
         Place::Named(symbol) => named(alloc, symbol, levels, byte, at),
-        Place::Whole(term) => whole(alloc, term, levels, byte, at),
+        Place::Whole(bare) => whole(alloc, bare, levels, byte, at),
         Place::Done(term) if is_blank_byte(byte) => Ok(Place::Done(term)),
         Place::Done(term) => next(alloc, term, levels, byte, at),
-    }
-}
-
-fn integer(negative: bool, value: u32) -> i32
-    requires { value ≤ limit negative }
-    ensures { result ≡ signed negative value }
-{
-    if negative {
-        -i64::from(value) as i32
-    } else {
-        value as i32
     }
 }
 
@@ -188,9 +171,9 @@ fn finish(alloc: Global, text: &[u8], place: Place, is_closed: bool) -> Result<T
             let symbol = symbol(alloc, text, from, text.len())?;
             item(Term::app(alloc, symbol, Vec::new(alloc))?)
         }
-        Place::Digits { negative, value } => Some(Term::int(alloc, integer(negative, value))?),
+        Place::Digits { negative, value } => Some(Term::int(alloc, signed(negative, value))?),
         Place::Named(symbol) => item(Term::app(alloc, symbol, Vec::new(alloc))?),
-        Place::Whole(term) => term,
+        Place::Whole(bare) => finished(alloc, bare)?,
         Place::Done(term) => term,
         Place::Expect
         | Place::Fresh

@@ -1,15 +1,16 @@
 // Runs of bytes that are read at once: names, raw bytes in quoted text, and digits.
 ghost use Rattle.std.specs.Prelude.{◌≡◌, ◌≤◌, ◌<◌, ◌+◌, ◌*◌, ◌-◌, ℕ, List, length, drop, slice_index, true, Bool};
-ghost use Rattle.aterm_text.specs.Tokens.{is_raw};
-ghost use Rattle.aterm_text.specs.Reading.{Inside, IsPlaced, run, At, limit};
+ghost use Rattle.aterm_text.specs.Reading.{Inside, IsPlaced, run, At};
 ghost use Rattle.aterm_text.specs.declared.place.Place.TheVariants.{Digits};
+ghost use Rattle.term_model.specs.Bytes.{is_raw};
+ghost use Rattle.term_model.specs.Limits.{max_magnitude};
 ghost use Rattle.term_model.specs.Symbol.{continues_name};
 
 use crate::place::Place;
-use crate::reader::{is_digit_byte, with_digit};
+use term_model::bytes::{is_digit_byte, with_digit};
 use term_model::symbol::continues;
 
-// Reads on as far as the bytes go on with what the reader is in, and answers the index at which it
+// Reads on as far as the bytes go on with what the reader is in, and returns the index at which it
 // is not so.
 #[tactic(auto, using(crate::proofs::RunLemmas::runs))]
 pub(crate) fn resume(text: &[u8], index: usize, place: &mut Place) -> usize
@@ -36,10 +37,10 @@ pub(crate) fn resume(text: &[u8], index: usize, place: &mut Place) -> usize
 #[tactic(auto, using(crate::proofs::RunLemmas::run_digit))]
 fn digits_end(text: &[u8], index: usize, negative: bool, value: u32) -> (usize, u32)
     requires bound { index ≤ length text.now }
-    requires value { value ≤ limit negative }
+    requires value { value ≤ max_magnitude negative }
     ensures high { result.0 ≤ length text.now }
     ensures low { index ≤ result.0 }
-    ensures value { result.1 ≤ limit negative }
+    ensures value { result.1 ≤ max_magnitude negative }
     ensures same { (s : List Inside) → run text.now index (At (Digits negative value) s) (drop index text.now) ≡ run text.now result.0 (At (Digits negative result.1) s) (drop result.0 text.now) }
 {
     let mut end = index;

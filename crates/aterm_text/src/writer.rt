@@ -1,6 +1,6 @@
 // Writing the canonical text of a term.
 ghost use Rattle.std.specs.Prelude.{◌≡◌, [], ◌∷◌, ◌++◌, OnOk, is_ok, if◌then◌else◌};
-ghost use Rattle.aterm_text.specs.Text.{text, texts, rest_texts, enclosed, core_text};
+ghost use Rattle.aterm_text.specs.Text.{text, texts, rest_texts, enclosed, bare_text};
 ghost use Rattle.aterm_text.specs.Output.{Extends};
 ghost use Rattle.term_model.specs.Term.{trees_of};
 
@@ -29,7 +29,7 @@ fn push_term(term: &Term, out: &mut Vec<u8>) -> Result<(), AllocError>
     ensures written { OnOk result (out.new.items ≡ out.old.items ++ text term.now) }
     ensures kept { Extends out.old.items out.new.items }
 {
-    push_core(term.head(), term.children(), out)?;
+    push_bare(term.head(), term.children(), out)?;
     push_enclosed(term.annos(), b'{', b'}', out)?;
     Ok(())
 }
@@ -37,8 +37,8 @@ fn push_term(term: &Term, out: &mut Vec<u8>) -> Result<(), AllocError>
 // A term without its annotations.
 #[cycle(write)]
 #[tactic(auto, using(crate::proofs::WriteLemmas::writing))]
-fn push_core(head: &Head, parts: &[Term], out: &mut Vec<u8>) -> Result<(), AllocError>
-    ensures written { OnOk result (out.new.items ≡ out.old.items ++ core_text head.now (trees_of parts.now) (texts (trees_of parts.now))) }
+fn push_bare(head: &Head, parts: &[Term], out: &mut Vec<u8>) -> Result<(), AllocError>
+    ensures written { OnOk result (out.new.items ≡ out.old.items ++ bare_text head.now (trees_of parts.now) (texts (trees_of parts.now))) }
     ensures kept { Extends out.old.items out.new.items }
 {
     match head {

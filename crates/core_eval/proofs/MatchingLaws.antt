@@ -1,7 +1,6 @@
 -- What one step of matching says.
 use Rattle.std.proofs.Common.{◌≡◌, ℕ, zero, suc, ◌<◌, ◌≤◌, Option, Some, None, List, [], ◌∷◌, length, map, drop, take, ◌-◌, get_or, refl, sym, ◌∙◌, ap, arith, subst}
-use Rattle.std.specs.Prelude.{Bool, true, false, if◌then◌else◌, slice_set, nat_le}
-use Rattle.std.specs.Option.{option_map}
+use Rattle.std.specs.Prelude.{Bool, true, false, if◌then◌else◌, nat_le}
 use Rattle.term_model.specs.declared.term.Head.TheVariants as heads
 use Rattle.term_model.specs.Term.{Tree, node, Trees, end, more, head_of, parts_of, term, list_of, trees_of, weight, weights, depth, depths, fits, Fits, made_of}
 use Rattle.term_model.specs.Limits.{max_weight, max_depth}
@@ -10,37 +9,16 @@ use Rattle.term_model.specs.declared.made.Made.TheVariants as made
 use Rattle.std.proofs.lemmas.Bool.{le-leb}
 use Rattle.term_model.specs.Same.{same, same_head}
 use Rattle.core_lang.specs.Environment.{Bindings}
-use Rattle.core_lang.specs.declared.place.Place.{Place}
+use Rattle.core_lang.specs.declared.coordinate.Coordinate.{Coordinate}
 use Rattle.core_lang.specs.declared.program.CorePattern.{CorePattern}
 use Rattle.core_lang.specs.Program.{Pattern, applied, Patterns, list, Elements}
 use Rattle.core_lang.specs.Tried.{put, put_at, and_then, tried, tried_all, tried_elements}
 use Rattle.core_lang.specs.Views.{pattern_of, patterns_of, elements_in}
+use Rattle.core_lang.proofs.PutLaws.{put_past, put_held}
 use Rattle.core_eval.specs.Matching.{Found, FirstFound}
 use Rattle.core_eval.specs.Frame.{IsPast}
 use Rattle.term_model.proofs.TermLemmas.{trees_of-list_of}
 use Rattle.term_model.specs.Symbol.{Symbol}
-
-pub put_past : (i : ℕ) (t : Tree) (e : Bindings) → length e ≤ i → put i t e ≡ None
-put_past zero t [] h = refl
-put_past (suc i) t [] h = refl
-put_past zero t (v ∷ e) h = absurd (omega arith)
-put_past (suc i) t (v ∷ e) h = ap (λ o. option_map (λ f. v ∷ f) o) (put_past i t e (omega arith))
-
-behind : (v : Option Tree) (b : Bool) (e : Bindings) → option_map (λ f. v ∷ f) (if b then Some e else None) ≡ if b then Some (v ∷ e) else None
-behind v true e = refl
-behind v false e = refl
-
-pub put_held : (i : ℕ) (t u : Tree) (e : Bindings) (v : Option Tree) → i < length e → v ≡ get_or e i v → v ≡ Some u → put i t e ≡ if same u t then Some e else None
-put_held i t u [] v h is at = absurd (omega arith)
-put_held zero t u (w ∷ e) v h is at =
-    let first : Some u ≡ w = sym at ∙ is in subst (λ z. put zero t (z ∷ e) ≡ (if same u t then Some (z ∷ e) else None)) first refl
-put_held (suc i) t u (w ∷ e) v h is at = ap (λ o. option_map (λ f. w ∷ f) o) (put_held i t u e v (omega arith) is at) ∙ behind w (same u t) e
-
-pub put_free : (i : ℕ) (t : Tree) (e : Bindings) (v : Option Tree) → i < length e → v ≡ get_or e i v → v ≡ None → put i t e ≡ Some (slice_set e i (Some t))
-put_free i t [] v h is at = absurd (omega arith)
-put_free zero t (w ∷ e) v h is at =
-    let first : None ≡ w = sym at ∙ is in subst (λ z. put zero t (z ∷ e) ≡ Some (Some t ∷ e)) first refl
-put_free (suc i) t (w ∷ e) v h is at = ap (λ o. option_map (λ f. w ∷ f) o) (put_free i t e v (omega arith) is at)
 
 found_by_test : (b : Bool) (e : Bindings) (o : Option Bindings) → o ≡ (if b then Some e else None) → Found o b e
 found_by_test true e o h = h
@@ -50,13 +28,13 @@ found_by_test false e o h = h
 pub bound_before : (i : ℕ) (t u : Tree) (e : Bindings) (v : Option Tree) (test_is : Bool) → i < length e → v ≡ get_or e i v → v ≡ Some u → test_is ≡ same u t → Found (put i t e) test_is e
 bound_before i t u e v test_is h is at test = found_by_test test_is e (put i t e) (put_held i t u e v h is at ∙ ap (λ b. if b then Some e else None) (sym test))
 
-module _ (place : Place → Option ℕ) where
+module _ (place : Coordinate → Option ℕ) where
   -- a term by its head and its parts
-  applied_tried : (f : Symbol) (ps : Patterns Place) (t : Tree) (e : Bindings) →
+  applied_tried : (f : Symbol) (ps : Patterns Coordinate) (t : Tree) (e : Bindings) →
       tried place (applied f ps) t e ≡ (if same_head (head_of t) (heads.App f) then tried_all place ps (trees_of (parts_of t)) e else None)
   applied_tried f ps (node h ts annos) e = ap (λ us. if same_head h (heads.App f) then tried_all place ps us e else None) (sym (trees_of-list_of ts))
 
-  pub same_symbol_tried : (p : Pattern Place) (f : Symbol) (ps : Patterns Place) (t : Tree) (e : Bindings) (test_is : Bool) → p ≡ applied f ps → test_is ≡ same_head (head_of t) (heads.App f) → test_is ≡ true →
+  pub same_symbol_tried : (p : Pattern Coordinate) (f : Symbol) (ps : Patterns Coordinate) (t : Tree) (e : Bindings) (test_is : Bool) → p ≡ applied f ps → test_is ≡ same_head (head_of t) (heads.App f) → test_is ≡ true →
       tried place p t e ≡ tried_all place ps (trees_of (parts_of t)) e
   same_symbol_tried p f ps t e test_is is test out =
       ap (λ q. tried place q t e) is ∙ (applied_tried f ps t e ∙ ap (λ b. if b then tried_all place ps (trees_of (parts_of t)) e else None) (sym test ∙ out))
@@ -73,10 +51,10 @@ module _ (place : Place → Option ℕ) where
   other_count (p ∷ ps) (t ∷ ts) e h = no_rest (tried place (pattern_of p) t e) (λ f. tried_all place (patterns_of ps) (trees_of ts) f) (λ f. other_count ps ts f (λ x. h (omega arith)))
 
   -- a list by its elements
-  list_tried_by : (ps : Elements Place) (t : Tree) (e : Bindings) → tried place (list ps) t e ≡ (if same_head (head_of t) heads.List then tried_elements place ps (trees_of (parts_of t)) e else None)
+  list_tried_by : (ps : Elements Coordinate) (t : Tree) (e : Bindings) → tried place (list ps) t e ≡ (if same_head (head_of t) heads.List then tried_elements place ps (trees_of (parts_of t)) e else None)
   list_tried_by ps (node h ts annos) e = ap (λ us. if same_head h heads.List then tried_elements place ps us e else None) (sym (trees_of-list_of ts))
 
-  pub list_tried : (p : Pattern Place) (ps : Elements Place) (t : Tree) (e : Bindings) (test_is : Bool) → p ≡ list ps → test_is ≡ same_head (head_of t) heads.List → test_is ≡ true →
+  pub list_tried : (p : Pattern Coordinate) (ps : Elements Coordinate) (t : Tree) (e : Bindings) (test_is : Bool) → p ≡ list ps → test_is ≡ same_head (head_of t) heads.List → test_is ≡ true →
       tried place p t e ≡ tried_elements place ps (trees_of (parts_of t)) e
   list_tried p ps t e test_is is test out =
       ap (λ q. tried place q t e) is ∙ (list_tried_by ps t e ∙ ap (λ b. if b then tried_elements place ps (trees_of (parts_of t)) e else None) (sym test ∙ out))
@@ -93,19 +71,19 @@ module _ (place : Place → Option ℕ) where
   elements_tried (p ∷ ps) (more t ts) e =
       same_behind (tried place (pattern_of p) t e) (λ f. tried_elements place (elements_in (map pattern_of ps) None) ts f) (λ f. tried_all place (patterns_of ps) ts f) (λ f. elements_tried ps ts f)
 
-  pub too_few : (ps : List CorePattern) (ts : List Tree) (e : Bindings) (r : Pattern Place) → length ts < length ps → tried_elements place (elements_in (map pattern_of ps) (Some r)) (trees_of ts) e ≡ None
+  pub too_few : (ps : List CorePattern) (ts : List Tree) (e : Bindings) (r : Pattern Coordinate) → length ts < length ps → tried_elements place (elements_in (map pattern_of ps) (Some r)) (trees_of ts) e ≡ None
   too_few [] ts e r h = absurd (omega arith)
   too_few (p ∷ ps) [] e r h = refl
   too_few (p ∷ ps) (t ∷ ts) e r h =
       no_rest (tried place (pattern_of p) t e) (λ f. tried_elements place (elements_in (map pattern_of ps) (Some r)) (trees_of ts) f) (λ f. too_few ps ts f r (omega arith))
 
-  pub first_lacks : (ps : List (Pattern Place)) (ts us : Trees) (e f : Bindings) (enough : Type 0) (b : Bool) → FirstFound place ps ts e b us f enough → b ≡ false →
-      (r : Pattern Place) → tried_elements place (elements_in ps (Some r)) ts e ≡ None
+  pub first_lacks : (ps : List (Pattern Coordinate)) (ts us : Trees) (e f : Bindings) (enough : Type 0) (b : Bool) → FirstFound place ps ts e b us f enough → b ≡ false →
+      (r : Pattern Coordinate) → tried_elements place (elements_in ps (Some r)) ts e ≡ None
   first_lacks ps ts us e f enough true h is = absurd (cc)
   first_lacks ps ts us e f enough false h is = h
 
-  pub first_goes_on : (ps : List (Pattern Place)) (ts us : Trees) (e f : Bindings) (enough : Type 0) (b : Bool) → FirstFound place ps ts e b us f enough → b ≡ true →
-      (r : Pattern Place) → tried_elements place (elements_in ps (Some r)) ts e ≡ tried place r (node heads.List us end) f
+  pub first_goes_on : (ps : List (Pattern Coordinate)) (ts us : Trees) (e f : Bindings) (enough : Type 0) (b : Bool) → FirstFound place ps ts e b us f enough → b ≡ true →
+      (r : Pattern Coordinate) → tried_elements place (elements_in ps (Some r)) ts e ≡ tried place r (node heads.List us end) f
   first_goes_on ps ts us e f enough true h is = h.0
   first_goes_on ps ts us e f enough false h is = absurd (cc)
 

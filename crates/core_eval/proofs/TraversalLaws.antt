@@ -2,36 +2,35 @@
 use Rattle.std.proofs.Common.{◌≡◌, ℕ, zero, suc, ◌+◌, ◌<◌, ◌≤◌, List, [], ◌∷◌, ◌++◌, length, take, drop, get_or, add-one, length-append, Some, refl, sym, ◌∙◌, ap, arith, subst}
 use Rattle.std.specs.Prelude.{Bool, true, false, slice_set}
 use Rattle.std.proofs.Math.Seq.{drop-cons}
-use Rattle.std.proofs.lemmas.List.{drop_all}
 use Rattle.term_model.specs.declared.made.Made.{Made}
 use Rattle.term_model.specs.Flat.{Meaning}
 use Rattle.term_model.specs.Term.{Tree, node, Trees, end, more, head_of, parts_of, annos_of, term, trees_of, made_of}
 use Rattle.term_model.proofs.TermLemmas.{trees_of-list_of}
-use Rattle.core_lang.specs.declared.place.Place.{Place}
+use Rattle.core_lang.specs.declared.coordinate.Coordinate.{Coordinate}
 use Rattle.core_lang.specs.declared.run.Outcome.{Outcome}
 use Rattle.core_lang.specs.declared.run.Outcome.TheVariants.{Rewritten, Failed, Oversize, Spent}
 use Rattle.core_lang.specs.Derivation.{parts}
-use Rattle.core_lang.specs.Ending.{Ending, ok, failed, oversize, rebuilt, with_parts}
+use Rattle.core_lang.specs.Ending.{ok, failed, oversize, rebuilt, with_parts}
 use Rattle.core_lang.specs.Environment.{Environment, Bindings}
 use Rattle.core_lang.specs.Program.{Strategy, all, one, some}
-use Rattle.core_lang.specs.Resolved.{by_places}
+use Rattle.core_lang.specs.Resolved.{by_coordinates}
 use Rattle.core_lang.specs.Settled.{Verdict, ends, spent, AllSettled, OneSettled, SomeSettled, verdict_in_front}
-use Rattle.core_lang.proofs.SettledLaws.{all_at_end, all_goes_on, all_stops, all_spends, all_rebuilt, all_spent, one_at_end, one_finds, one_stops, one_goes_on, one_spends, one_rebuilt, one_spent, some_at_end, some_at_none, some_goes_on, some_leaves, some_stops, some_spends, some_rebuilt, some_spent}
+use Rattle.core_lang.proofs.SettledLaws.{all_stops, all_spends, all_rebuilt, all_spent, one_stops, one_spends, one_rebuilt, one_spent, some_at_end, some_at_none, some_stops, some_spends, some_rebuilt, some_spent}
 use Rattle.core_eval.specs.Evaluates.{Evaluates, verdict_of, made_ending}
-use Rattle.core_eval.proofs.EvalLaws.{IsNoTerm, made_built}
+use Rattle.core_eval.proofs.EvalLaws.{IsNoTerm, made_built, silent}
 
 -- what is known of the parts from some bindings and budget on; the test says whether one before them was ok
 abbrev pub Known : Type 1
 Known = Bool → Trees → Bindings → ℕ → Verdict Trees → ℕ → Type 0
 
-abbrev pub OfAll : Environment Place ℕ → Strategy Place ℕ → Known
-OfAll V s found ts e b v c = (M : Meaning) → AllSettled by_places M V s ts e b v c
+abbrev pub OfAll : Environment Coordinate ℕ → Strategy Coordinate ℕ → Meaning → Known
+OfAll V s M found ts e b v c = AllSettled by_coordinates M V s ts e b v c
 
-abbrev pub OfOne : Environment Place ℕ → Strategy Place ℕ → Known
-OfOne V s found ts e b v c = (M : Meaning) → OneSettled by_places M V s ts e b v c
+abbrev pub OfOne : Environment Coordinate ℕ → Strategy Coordinate ℕ → Meaning → Known
+OfOne V s M found ts e b v c = OneSettled by_coordinates M V s ts e b v c
 
-abbrev pub OfSome : Environment Place ℕ → Strategy Place ℕ → Known
-OfSome V s found ts e b v c = (M : Meaning) → SomeSettled by_places M V s ts e found b v c
+abbrev pub OfSome : Environment Coordinate ℕ → Strategy Coordinate ℕ → Meaning → Known
+OfSome V s M found ts e b v c = SomeSettled by_coordinates M V s ts e found b v c
 
 -- the parts that are done, before the others
 abbrev pub joined : List Tree → Trees → Trees
@@ -149,80 +148,92 @@ pub remade_ending : (t : Tree) (us : List Tree) (m : Made Tree) (e : Bindings) �
 remade_ending t us m e h =
     ap (λ z. ends (made_ending (Some z) e)) (h ∙ ap made_of (remade t us)) ∙ ap (λ z. ends z) (made_built (Some (with_parts t (trees_of us))) e)
 
-module _ {V : Environment Place ℕ} {s : Strategy Place ℕ} (t : Tree) {e : Bindings} {b c : ℕ} {xs : List Tree} (is : xs ≡ parts_of t) where
-  whole_all : (v : Verdict Trees) → OfAll V s false (trees_of xs) e b v c → OfAll V s false (parts t) e b v c
-  whole_all v x M = subst (λ ts. AllSettled by_places M V s ts e b v c) (ap trees_of is ∙ the_parts t) (x M)
+module _ {M : Meaning} {V : Environment Coordinate ℕ} {s : Strategy Coordinate ℕ} (t : Tree) {e : Bindings} {b c : ℕ} {xs : List Tree} (is : xs ≡ parts_of t) where
+  whole_all : (v : Verdict Trees) → OfAll V s M false (trees_of xs) e b v c → OfAll V s M false (parts t) e b v c
+  whole_all v x = subst (λ ts. AllSettled by_coordinates M V s ts e b v c) (ap trees_of is ∙ the_parts t) x
 
-  whole_one : (v : Verdict Trees) → OfOne V s false (trees_of xs) e b v c → OfOne V s false (parts t) e b v c
-  whole_one v x M = subst (λ ts. OneSettled by_places M V s ts e b v c) (ap trees_of is ∙ the_parts t) (x M)
+  whole_one : (v : Verdict Trees) → OfOne V s M false (trees_of xs) e b v c → OfOne V s M false (parts t) e b v c
+  whole_one v x = subst (λ ts. OneSettled by_coordinates M V s ts e b v c) (ap trees_of is ∙ the_parts t) x
 
-  whole_some : (v : Verdict Trees) → OfSome V s false (trees_of xs) e b v c → OfSome V s false (parts t) e b v c
-  whole_some v x M = subst (λ ts. SomeSettled by_places M V s ts e false b v c) (ap trees_of is ∙ the_parts t) (x M)
+  whole_some : (v : Verdict Trees) → OfSome V s M false (trees_of xs) e b v c → OfSome V s M false (parts t) e b v c
+  whole_some v x = subst (λ ts. SomeSettled by_coordinates M V s ts e false b v c) (ap trees_of is ∙ the_parts t) x
 
   module _ (fewer : c ≤ b) where
-    pub all_done : (us : Trees) (f : Bindings) (v : Verdict Tree) → v ≡ ends (rebuilt t (ok us f)) → OfAll V s false (trees_of xs) e b (ends (ok us f)) c → Evaluates V (all s) t e (1 + b) v c
-    all_done us f v k x = subst (λ z. Evaluates V (all s) t e (1 + b) z c) (sym k) (record { settled = λ M. all_rebuilt (whole_all (ends (ok us f)) x M); left = omega arith })
+    pub all_done : (us : Trees) (f : Bindings) (v : Verdict Tree) → v ≡ ends (rebuilt t (ok us f)) → OfAll V s M false (trees_of xs) e b (ends (ok us f)) c → Evaluates M V (all s) t e (1 + b) v c
+    all_done us f v k x = subst (λ z. Evaluates M V (all s) t e (1 + b) z c) (sym k) (record { settled = all_rebuilt (whole_all (ends (ok us f)) x); left = omega arith })
 
-    pub one_done : (us : Trees) (f : Bindings) (v : Verdict Tree) → v ≡ ends (rebuilt t (ok us f)) → OfOne V s false (trees_of xs) e b (ends (ok us f)) c → Evaluates V (one s) t e (1 + b) v c
-    one_done us f v k x = subst (λ z. Evaluates V (one s) t e (1 + b) z c) (sym k) (record { settled = λ M. one_rebuilt (whole_one (ends (ok us f)) x M); left = omega arith })
+    pub one_done : (us : Trees) (f : Bindings) (v : Verdict Tree) → v ≡ ends (rebuilt t (ok us f)) → OfOne V s M false (trees_of xs) e b (ends (ok us f)) c → Evaluates M V (one s) t e (1 + b) v c
+    one_done us f v k x = subst (λ z. Evaluates M V (one s) t e (1 + b) z c) (sym k) (record { settled = one_rebuilt (whole_one (ends (ok us f)) x); left = omega arith })
 
-    pub some_done : (us : Trees) (f : Bindings) (v : Verdict Tree) → v ≡ ends (rebuilt t (ok us f)) → OfSome V s false (trees_of xs) e b (ends (ok us f)) c → Evaluates V (some s) t e (1 + b) v c
-    some_done us f v k x = subst (λ z. Evaluates V (some s) t e (1 + b) z c) (sym k) (record { settled = λ M. some_rebuilt (whole_some (ends (ok us f)) x M); left = omega arith })
+    pub some_done : (us : Trees) (f : Bindings) (v : Verdict Tree) → v ≡ ends (rebuilt t (ok us f)) → OfSome V s M false (trees_of xs) e b (ends (ok us f)) c → Evaluates M V (some s) t e (1 + b) v c
+    some_done us f v k x = subst (λ z. Evaluates M V (some s) t e (1 + b) z c) (sym k) (record { settled = some_rebuilt (whole_some (ends (ok us f)) x); left = omega arith })
 
     -- a part ends the walk, or there is none left
-    pub all_stopped : (f : Bindings) (o : Outcome Tree) → IsNoTerm o → OfAll V s false (trees_of xs) e b (stop_of o) c → Evaluates V (all s) t e (1 + b) (verdict_of o f) c
+    pub all_stopped : (f : Bindings) (o : Outcome Tree) → IsNoTerm o → OfAll V s M false (trees_of xs) e b (stop_of o) c → Evaluates M V (all s) t e (1 + b) (verdict_of o f) c
     all_stopped f (Rewritten u) n x = absurd n
-    all_stopped f Failed n x = record { settled = λ M. all_rebuilt (whole_all (ends failed) x M); left = omega arith }
-    all_stopped f Oversize n x = record { settled = λ M. all_rebuilt (whole_all (ends oversize) x M); left = omega arith }
-    all_stopped f Spent n x = record { settled = λ M. all_spent (whole_all spent x M); left = omega arith }
+    all_stopped f Failed n x = record { settled = all_rebuilt (whole_all (ends failed) x); left = omega arith }
+    all_stopped f Oversize n x = record { settled = all_rebuilt (whole_all (ends oversize) x); left = omega arith }
+    all_stopped f Spent n x = record { settled = all_spent (whole_all spent x); left = omega arith }
 
-    pub one_stopped : (f : Bindings) (o : Outcome Tree) → IsNoTerm o → OfOne V s false (trees_of xs) e b (stop_of o) c → Evaluates V (one s) t e (1 + b) (verdict_of o f) c
+    pub one_stopped : (f : Bindings) (o : Outcome Tree) → IsNoTerm o → OfOne V s M false (trees_of xs) e b (stop_of o) c → Evaluates M V (one s) t e (1 + b) (verdict_of o f) c
     one_stopped f (Rewritten u) n x = absurd n
-    one_stopped f Failed n x = record { settled = λ M. one_rebuilt (whole_one (ends failed) x M); left = omega arith }
-    one_stopped f Oversize n x = record { settled = λ M. one_rebuilt (whole_one (ends oversize) x M); left = omega arith }
-    one_stopped f Spent n x = record { settled = λ M. one_spent (whole_one spent x M); left = omega arith }
+    one_stopped f Failed n x = record { settled = one_rebuilt (whole_one (ends failed) x); left = omega arith }
+    one_stopped f Oversize n x = record { settled = one_rebuilt (whole_one (ends oversize) x); left = omega arith }
+    one_stopped f Spent n x = record { settled = one_spent (whole_one spent x); left = omega arith }
 
-    pub some_stopped : (f : Bindings) (o : Outcome Tree) → IsNoTerm o → OfSome V s false (trees_of xs) e b (stop_of o) c → Evaluates V (some s) t e (1 + b) (verdict_of o f) c
+    pub some_stopped : (f : Bindings) (o : Outcome Tree) → IsNoTerm o → OfSome V s M false (trees_of xs) e b (stop_of o) c → Evaluates M V (some s) t e (1 + b) (verdict_of o f) c
     some_stopped f (Rewritten u) n x = absurd n
-    some_stopped f Failed n x = record { settled = λ M. some_rebuilt (whole_some (ends failed) x M); left = omega arith }
-    some_stopped f Oversize n x = record { settled = λ M. some_rebuilt (whole_some (ends oversize) x M); left = omega arith }
-    some_stopped f Spent n x = record { settled = λ M. some_spent (whole_some spent x M); left = omega arith }
+    some_stopped f Failed n x = record { settled = some_rebuilt (whole_some (ends failed) x); left = omega arith }
+    some_stopped f Oversize n x = record { settled = some_rebuilt (whole_some (ends oversize) x); left = omega arith }
+    some_stopped f Spent n x = record { settled = some_spent (whole_some spent x); left = omega arith }
 
 -- a part that is no term, by each of the three
-module _ {V : Environment Place ℕ} {s : Strategy Place ℕ} {t : Tree} {ts : Trees} {e : Bindings} {b c : ℕ} (f : Bindings) where
-  pub all_ended : (o : Outcome Tree) → IsNoTerm o → Evaluates V s t e b (verdict_of o f) c → OfAll V s false (more t ts) e b (stop_of o) c
-  all_ended (Rewritten u) n x M = absurd n
-  all_ended Failed n x M = all_stops (x.settled M) tt
-  all_ended Oversize n x M = all_stops (x.settled M) tt
-  all_ended Spent n x M = all_spends (x.settled M)
+module _ {M : Meaning} {V : Environment Coordinate ℕ} {s : Strategy Coordinate ℕ} {t : Tree} {ts : Trees} {e : Bindings} {b c : ℕ} (f : Bindings) where
+  pub all_ended : (o : Outcome Tree) → IsNoTerm o → Evaluates M V s t e b (verdict_of o f) c → OfAll V s M false (more t ts) e b (stop_of o) c
+  all_ended (Rewritten u) n x = absurd n
+  all_ended Failed n x = all_stops x.settled
+  all_ended Oversize n x = all_stops x.settled
+  all_ended Spent n x = all_spends x.settled
 
-  pub one_ended : (o : Outcome Tree) → IsNoTerm o → (o ≡ Failed → ⊥) → Evaluates V s t e b (verdict_of o f) c → OfOne V s false (more t ts) e b (stop_of o) c
-  one_ended (Rewritten u) n h x M = absurd n
-  one_ended Failed n h x M = absurd (h refl)
-  one_ended Oversize n h x M = one_stops (x.settled M)
-  one_ended Spent n h x M = one_spends (x.settled M)
+  pub one_ended : (o : Outcome Tree) → IsNoTerm o → (o ≡ Failed → ⊥) → Evaluates M V s t e b (verdict_of o f) c → OfOne V s M false (more t ts) e b (stop_of o) c
+  one_ended (Rewritten u) n h x = absurd n
+  one_ended Failed n h x = absurd (h refl)
+  one_ended Oversize n h x = one_stops x.settled
+  one_ended Spent n h x = one_spends x.settled
 
-  pub some_ended : (found : Bool) (o : Outcome Tree) → IsNoTerm o → (o ≡ Failed → ⊥) → Evaluates V s t e b (verdict_of o f) c → OfSome V s found (more t ts) e b (stop_of o) c
-  some_ended found (Rewritten u) n h x M = absurd n
-  some_ended found Failed n h x M = absurd (h refl)
-  some_ended found Oversize n h x M = some_stops (x.settled M)
-  some_ended found Spent n h x M = some_spends (x.settled M)
+  pub some_ended : (found : Bool) (o : Outcome Tree) → IsNoTerm o → (o ≡ Failed → ⊥) → Evaluates M V s t e b (verdict_of o f) c → OfSome V s M found (more t ts) e b (stop_of o) c
+  some_ended found (Rewritten u) n h x = absurd n
+  some_ended found Failed n h x = absurd (h refl)
+  some_ended found Oversize n h x = some_stops x.settled
+  some_ended found Spent n h x = some_spends x.settled
+
+-- the same whatever primitives mean, and the budget, which no meaning changes
+pub record DecidesAlways (K : Meaning → Known) (whole : List Tree) (e0 : Bindings) (b0 : ℕ) (found : Bool) (left : List Tree) (e : Bindings) (b : ℕ) (done : List Tree) : Type 0 where
+  pub each : (M : Meaning) → Decides (K M) whole e0 b0 found left e b done
+  pub less : b ≤ b0
+
+pub decide_always : {K : Meaning → Known} {whole : List Tree} {e0 : Bindings} {b0 : ℕ} {found : Bool} {left : List Tree} {e : Bindings} {b : ℕ} {done : List Tree} →
+    ((M : Meaning) → Decides (K M) whole e0 b0 found left e b done) → DecidesAlways K whole e0 b0 found left e b done
+decide_always h = record { each = h; less = (h silent).less }
+
+pub starts : {K : Meaning → Known} {whole : List Tree} {e0 : Bindings} {b0 : ℕ} (left done : List Tree) → left ≡ whole → done ≡ [] → DecidesAlways K whole e0 b0 false left e0 b0 done
+starts left done h k = decide_always (λ M. decides_start left done h k)
 
 -- a loop's facts: what is left decides, and as many are done as the position says
-pub record Walk (K : Known) (whole : List Tree) (e0 : Bindings) (b0 : ℕ) (found : Bool) (i : ℕ) (e : Bindings) (b : ℕ) (done : List Tree) : Type 0 where
-  pub decides : Decides K whole e0 b0 found (drop i whole) e b done
+pub record Walk (K : Meaning → Known) (whole : List Tree) (e0 : Bindings) (b0 : ℕ) (found : Bool) (i : ℕ) (e : Bindings) (b : ℕ) (done : List Tree) : Type 0 where
+  pub decides : DecidesAlways K whole e0 b0 found (drop i whole) e b done
   pub count : length done ≡ i
 
-pub walk_moved : {K : Known} {whole : List Tree} {e0 : Bindings} {b0 : ℕ} {found now_found : Bool} {i : ℕ} {e f : Bindings} {b : ℕ} {done now_done : List Tree} →
+pub walk_moved : {K : Meaning → Known} {whole : List Tree} {e0 : Bindings} {b0 : ℕ} {found now_found : Bool} {i : ℕ} {e f : Bindings} {b : ℕ} {done now_done : List Tree} →
     now_found ≡ found → f ≡ e → now_done ≡ done → Walk K whole e0 b0 found i e b done → Walk K whole e0 b0 now_found i f b now_done
 walk_moved {K} {whole} {e0} {b0} {found} {now_found} {i} {e} {f} {b} {done} {now_done} hf he hd x =
     subst (λ z. Walk K whole e0 b0 z i f b now_done) (sym hf)
     (subst (λ z. Walk K whole e0 b0 found i z b now_done) (sym he) (subst (λ z. Walk K whole e0 b0 found i e b z) (sym hd) x))
 
 -- no part is left: whether one was ok decides
-module _ (V : Environment Place ℕ) (s : Strategy Place ℕ) (e : Bindings) (b : ℕ) (found : Bool) where
-  pub none_found : found ≡ false → OfSome V s found end e b (ends failed) b
-  none_found is M = subst (λ z. SomeSettled by_places M V s end e z b (ends failed) b) (sym is) (some_at_none V s e b)
+module _ (M : Meaning) (V : Environment Coordinate ℕ) (s : Strategy Coordinate ℕ) (e : Bindings) (b : ℕ) (found : Bool) where
+  pub none_found : found ≡ false → OfSome V s M found end e b (ends failed) b
+  none_found is = subst (λ z. SomeSettled by_coordinates M V s end e z b (ends failed) b) (sym is) (some_at_none V s e b)
 
-  pub some_found : found ≡ true → OfSome V s found end e b (ends (ok end e)) b
-  some_found is M = subst (λ z. SomeSettled by_places M V s end e z b (ends (ok end e)) b) (sym is) (some_at_end V s e b)
+  pub some_found : found ≡ true → OfSome V s M found end e b (ends (ok end e)) b
+  some_found is = subst (λ z. SomeSettled by_coordinates M V s end e z b (ends (ok end e)) b) (sym is) (some_at_end V s e b)

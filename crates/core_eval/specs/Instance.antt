@@ -4,9 +4,8 @@ use Rattle.std.specs.Prelude.{◌≡◌, Bool, true, false, List, [], ◌∷◌,
 use Rattle.std.specs.declared.alloc.Global.{Global}
 use Rattle.term_model.specs.declared.made.Made.{Made}
 use Rattle.term_model.specs.declared.made.Made.TheVariants as made
-use Rattle.term_model.specs.Term.{Tree, node, Trees, end, more, trees_of}
-use Rattle.core_lang.specs.Ending.{all_fit}
-use Rattle.core_lang.specs.Matching.{annotated_like}
+use Rattle.term_model.specs.Term.{Tree, node, Trees, end, more, trees_of, all_fit}
+use Rattle.core_lang.specs.Building.{made_like}
 
 -- none, or the terms, each of which fits, or one of them does not fit
 abbrev pub AreMade : Option Trees → Option (Made (Vec Tree Global)) → Type 0
@@ -20,18 +19,18 @@ Kept (made.Fits t) fits ts us = (fits ≡ true) × (us ≡ ts ++ t ∷ [])
 Kept made.Oversize fits ts us = (fits ≡ false) × (us ≡ ts)
 
 -- the first term with the annotations of the second
-abbrev pub with_annotations_of : Tree → Tree → Tree
-with_annotations_of (node h ts annos) (node g us others) = node h ts others
+abbrev pub tree_like : Tree → Tree → Tree
+tree_like (node h ts annos) (node g us others) = node h ts others
 
 -- a term with the annotations of another one, if there is one
-abbrev pub re_annotated : Tree → Option (Bor Tree) → Tree
-re_annotated t None = t
-re_annotated t (Some o) = with_annotations_of t o.now
+abbrev pub tree_like_other : Tree → Option (Bor Tree) → Tree
+tree_like_other t None = t
+tree_like_other t (Some o) = tree_like t o.now
 
 -- the same of what may be no term
-abbrev pub liked : Option Tree → Option (Bor Tree) → Option Tree
-liked t None = t
-liked t (Some o) = annotated_like t (Some o.now)
+abbrev pub made_like_other : Option Tree → Option (Bor Tree) → Option Tree
+made_like_other t None = t
+made_like_other t (Some o) = made_like t (Some o.now)
 
 -- terms, and others behind them
 abbrev pub joined : Trees → Trees → Trees

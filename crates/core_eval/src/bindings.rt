@@ -6,7 +6,7 @@ ghost use Rattle.term_model.specs.Term.{trees_of};
 use std::alloc::{AllocError, Global};
 use term_model::Term;
 
-/// A copy of the bindings.
+/// Returns a copy of the bindings.
 pub fn save(alloc: Global, places: &[Option<Term>]) -> Result<Vec<Option<Term>>, AllocError>
     ensures { IfOk result (λ copy. copy.items ≡ places.now) }
 {
@@ -24,7 +24,7 @@ pub fn save(alloc: Global, places: &[Option<Term>]) -> Result<Vec<Option<Term>>,
     Ok(copy)
 }
 
-/// So many new places, with nothing.
+/// Adds this number of new places, with nothing.
 pub fn push_empty(places: &mut Vec<Option<Term>>, count: usize) -> Result<(), AllocError>
     ensures { OnOk result (places.new.items ≡ places.old.items ++ empty_places count) }
 {
@@ -34,7 +34,7 @@ pub fn push_empty(places: &mut Vec<Option<Term>>, count: usize) -> Result<(), Al
     Ok(())
 }
 
-/// New places with these terms.
+/// Adds new places with these terms.
 pub fn push_terms(places: &mut Vec<Option<Term>>, terms: &[Term]) -> Result<(), AllocError>
     ensures { OnOk result (places.new.items ≡ places.old.items ++ filled_places (trees_of terms.now)) }
 {

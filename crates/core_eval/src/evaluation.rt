@@ -1,24 +1,25 @@
 // The evaluator, by recursion on the budget.
-ghost use Rattle.std.specs.Prelude.{◌≡◌, ◌+◌, ◌∷◌, ◌<◌, IfOk, Some, length, map, slice_set};
+ghost use Rattle.std.specs.Prelude.{ℕ, ◌≡◌, ◌+◌, ◌∷◌, ◌<◌, IfOk, Some, length, map, slice_set};
 ghost use Rattle.core_lang.specs.Ending.{Ending, ok, failed, oversize};
 ghost use Rattle.core_lang.specs.Environment.{Bindings, definition};
-ghost use Rattle.core_lang.specs.Program.{scope, all, one, some, call};
+ghost use Rattle.core_lang.specs.Program.{scope, all, one, some, call, with_definitions};
+ghost use Rattle.core_lang.specs.Program as program;
 ghost use Rattle.core_lang.specs.Resolved.{layers_up, callee_in};
 ghost use Rattle.core_lang.specs.Settled.{ends};
-ghost use Rattle.core_lang.specs.Views.{strategy_of, strategies_of, patterns_of, arm_of, def_of, chain, first_of};
+ghost use Rattle.core_lang.specs.Views.{strategy_of, strategies_of, pattern_of, patterns_of, arm_of, def_of, definitions_of, chain, first_of};
 ghost use Rattle.core_eval.specs.Frame.{environment_of};
-ghost use Rattle.core_eval.specs.Evaluates.{Evaluates, verdict_of, made_ending};
+ghost use Rattle.core_eval.specs.Evaluates.{EvaluatesAlways, verdict_of, made_ending};
 
 use crate::bindings::{push_empty, push_terms, save};
 use crate::callee::{Callee, callee_at, closures_of};
 use crate::frame::Frame;
 use crate::instance::{instance, instances};
 use crate::matching::matches;
-use core_lang::{CoreArm, CoreDef, CorePattern, CoreStrategy, Outcome, Place};
+use core_lang::{Coordinate, CoreArm, CoreDef, CorePattern, CoreStrategy, Outcome};
 use std::alloc::{AllocError, Global};
 use term_model::{Made, Term};
 
-/// What the strategy does with the term, each node of the derivation for one of the budget.
+/// Evaluates the strategy on the term, each node of the derivation for one of the budget.
 #[cycle(eval)]
 pub fn evaluate(
     alloc: Global,
@@ -28,7 +29,7 @@ pub fn evaluate(
     places: &mut Vec<Option<Term>>,
     budget: &mut u32,
 ) -> Result<Outcome<Term>, AllocError>
-    ensures { IfOk result (λ r. Evaluates (environment_of frame.now) (strategy_of s.now) t.now places.old.items budget.old (verdict_of r places.new.items) budget.new) }
+    ensures { IfOk result (λ r. EvaluatesAlways (environment_of frame.now) (strategy_of s.now) t.now places.old.items budget.old (verdict_of r places.new.items) budget.new) }
 {
     if *budget == 0 {
         return Ok(Outcome::Spent);
@@ -46,11 +47,8 @@ pub fn evaluate(
             evaluate_arms(alloc, arm, more, otherwise, frame, t, places, budget)
         }
         CoreStrategy::Match(p) => {
-            if matches(alloc, p, frame, t, places)? {
-                Ok(Outcome::Rewritten(t.clone()?))
-            } else {
-                Ok(Outcome::Failed)
-            }
+            let ending = evaluate_match(alloc, p, frame, t, places)?;
+            Ok(ending)
         }
         CoreStrategy::Build(p) => Ok(built(instance(alloc, p, None, frame, places.as_slice())?)),
         CoreStrategy::Scope(count, body) => {
@@ -60,9 +58,7 @@ pub fn evaluate(
         CoreStrategy::One(body) => evaluate_one(alloc, body, frame, t, places, budget),
         CoreStrategy::Some(body) => evaluate_some(alloc, body, frame, t, places, budget),
         CoreStrategy::LetIn(defs, body) => {
-            let inner = Frame::Definitions(defs.as_slice(), &*frame);
-            let ending = evaluate(alloc, body, &inner, t, places, budget)?;
-            Ok(ending)
+            evaluate_let(alloc, defs.as_slice(), body, frame, t, places, budget)
         }
         CoreStrategy::Call(x, strategies, terms) => {
             let (strategies, terms) = (strategies.as_slice(), terms.as_slice());
@@ -71,7 +67,44 @@ pub fn evaluate(
     }
 }
 
-// A sequence, whose first node is paid.
+// Matches the pattern with the term; the node of the match is paid.
+fn evaluate_match(
+    alloc: Global,
+    p: &CorePattern,
+    frame: &Frame,
+    t: &Term,
+    places: &mut Vec<Option<Term>>,
+) -> Result<Outcome<Term>, AllocError>
+    ensures { IfOk result (λ r. (b : ℕ) → EvaluatesAlways (environment_of frame.now) (program.match (pattern_of p.now)) t.now places.old.items (1 + b) (verdict_of r places.new.items) b) }
+{
+    if !matches(alloc, p, frame, t, places)? {
+        return Ok(Outcome::Failed);
+    }
+    Ok(Outcome::Rewritten(t.clone()?))
+}
+
+// Evaluates a strategy that sees definitions; their node is paid.
+#[cycle(eval)]
+fn evaluate_let(
+    alloc: Global,
+    defs: &[CoreDef],
+    body: &CoreStrategy,
+    frame: &Frame,
+    t: &Term,
+    places: &mut Vec<Option<Term>>,
+    budget: &mut u32,
+) -> Result<Outcome<Term>, AllocError>
+    ensures { IfOk result (λ r. EvaluatesAlways (environment_of frame.now) (with_definitions (definitions_of defs.now) (strategy_of body.now)) t.now places.old.items (1 + budget.old) (verdict_of r places.new.items) budget.new) }
+{
+    let inner = Frame::Definitions {
+        defs,
+        outer: &*frame,
+    };
+    let ending = evaluate(alloc, body, &inner, t, places, budget)?;
+    Ok(ending)
+}
+
+// Evaluates a sequence, whose first node is paid.
 #[cycle(eval)]
 fn evaluate_sequence(
     alloc: Global,
@@ -83,7 +116,7 @@ fn evaluate_sequence(
     places: &mut Vec<Option<Term>>,
     budget: &mut u32,
 ) -> Result<Outcome<Term>, AllocError>
-    ensures { IfOk result (λ r. Evaluates (environment_of frame.now) (chain (strategy_of first.now) (strategy_of second.now ∷ map strategy_of rest.now)) t.now places.old.items (1 + budget.old) (verdict_of r places.new.items) budget.new) }
+    ensures { IfOk result (λ r. EvaluatesAlways (environment_of frame.now) (chain (strategy_of first.now) (strategy_of second.now ∷ map strategy_of rest.now)) t.now places.old.items (1 + budget.old) (verdict_of r places.new.items) budget.new) }
 {
     match evaluate(alloc, first, frame, t, places, budget)? {
         Outcome::Rewritten(u) => match rest.split_first() {
@@ -106,7 +139,7 @@ fn evaluate_sequence(
     }
 }
 
-// A choice, whose first node is paid.
+// Evaluates a choice, whose first node is paid.
 #[cycle(eval)]
 fn evaluate_arms(
     alloc: Global,
@@ -118,7 +151,7 @@ fn evaluate_arms(
     places: &mut Vec<Option<Term>>,
     budget: &mut u32,
 ) -> Result<Outcome<Term>, AllocError>
-    ensures { IfOk result (λ r. Evaluates (environment_of frame.now) (first_of (arm_of arm.now ∷ map arm_of more.now) (strategy_of otherwise.now)) t.now places.old.items (1 + budget.old) (verdict_of r places.new.items) budget.new) }
+    ensures { IfOk result (λ r. EvaluatesAlways (environment_of frame.now) (first_of (arm_of arm.now ∷ map arm_of more.now) (strategy_of otherwise.now)) t.now places.old.items (1 + budget.old) (verdict_of r places.new.items) budget.new) }
 {
     let before = save(alloc, places.as_slice())?;
     match evaluate(alloc, &arm.guard, frame, t, places, budget)? {
@@ -149,7 +182,7 @@ fn evaluate_arms(
     }
 }
 
-// A scope, whose node is paid.
+// Evaluates a scope, whose node is paid.
 #[cycle(eval)]
 fn evaluate_scope(
     alloc: Global,
@@ -160,17 +193,23 @@ fn evaluate_scope(
     places: &mut Vec<Option<Term>>,
     budget: &mut u32,
 ) -> Result<Outcome<Term>, AllocError>
-    ensures { IfOk result (λ r. Evaluates (environment_of frame.now) (scope count (strategy_of body.now)) t.now places.old.items (1 + budget.old) (verdict_of r places.new.items) budget.new) }
+    ensures { IfOk result (λ r. EvaluatesAlways (environment_of frame.now) (scope count (strategy_of body.now)) t.now places.old.items (1 + budget.old) (verdict_of r places.new.items) budget.new) }
 {
     let base = places.len();
     push_empty(places, count)?;
-    let inner = Frame::Layer(base, 0, count, &[], &*frame);
+    let inner = Frame::Layer {
+        base,
+        parameters: 0,
+        variables: count,
+        closures: &[],
+        outer: &*frame,
+    };
     let ending = evaluate(alloc, body, &inner, t, places, budget)?;
     places.truncate(base);
     Ok(ending)
 }
 
-// A strategy on each part of the term; its own node is paid.
+// Evaluates a strategy on each part of the term; its own node is paid.
 #[cycle(eval)]
 fn evaluate_all(
     alloc: Global,
@@ -180,7 +219,7 @@ fn evaluate_all(
     places: &mut Vec<Option<Term>>,
     budget: &mut u32,
 ) -> Result<Outcome<Term>, AllocError>
-    ensures { IfOk result (λ r. Evaluates (environment_of frame.now) (all (strategy_of s.now)) t.now places.old.items (1 + budget.old) (verdict_of r places.new.items) budget.new) }
+    ensures { IfOk result (λ r. EvaluatesAlways (environment_of frame.now) (all (strategy_of s.now)) t.now places.old.items (1 + budget.old) (verdict_of r places.new.items) budget.new) }
 {
     let parts = t.children();
     let mut done = Vec::new(alloc);
@@ -196,7 +235,7 @@ fn evaluate_all(
     Ok(built(Some(made)))
 }
 
-// A strategy on the first part of the term where it does not fail; its own node is paid.
+// Evaluates a strategy on the first part of the term where it does not fail; its own node is paid.
 #[cycle(eval)]
 fn evaluate_one(
     alloc: Global,
@@ -206,7 +245,7 @@ fn evaluate_one(
     places: &mut Vec<Option<Term>>,
     budget: &mut u32,
 ) -> Result<Outcome<Term>, AllocError>
-    ensures { IfOk result (λ r. Evaluates (environment_of frame.now) (one (strategy_of s.now)) t.now places.old.items (1 + budget.old) (verdict_of r places.new.items) budget.new) }
+    ensures { IfOk result (λ r. EvaluatesAlways (environment_of frame.now) (one (strategy_of s.now)) t.now places.old.items (1 + budget.old) (verdict_of r places.new.items) budget.new) }
 {
     let parts = t.children();
     for (i, part) in parts.iter().enumerate() {
@@ -226,7 +265,7 @@ fn evaluate_one(
     Ok(Outcome::Failed)
 }
 
-// A strategy on each part of the term where it does not fail, one at least; its own node is paid.
+// Evaluates a strategy on each part of the term where it does not fail, one at least; its own node is paid.
 #[cycle(eval)]
 fn evaluate_some(
     alloc: Global,
@@ -236,7 +275,7 @@ fn evaluate_some(
     places: &mut Vec<Option<Term>>,
     budget: &mut u32,
 ) -> Result<Outcome<Term>, AllocError>
-    ensures { IfOk result (λ r. Evaluates (environment_of frame.now) (some (strategy_of s.now)) t.now places.old.items (1 + budget.old) (verdict_of r places.new.items) budget.new) }
+    ensures { IfOk result (λ r. EvaluatesAlways (environment_of frame.now) (some (strategy_of s.now)) t.now places.old.items (1 + budget.old) (verdict_of r places.new.items) budget.new) }
 {
     let parts = t.children();
     let mut results = Vec::new(alloc);
@@ -262,11 +301,11 @@ fn evaluate_some(
     Ok(built(Some(made)))
 }
 
-// A call, whose node is paid. Where it is of nothing there is no derivation.
+// Evaluates a call, whose node is paid. Where it is of nothing there is no derivation.
 #[cycle(eval)]
 fn evaluate_call(
     alloc: Global,
-    x: Place,
+    x: Coordinate,
     strategies: &[CoreStrategy],
     terms: &[CorePattern],
     frame: &Frame,
@@ -274,7 +313,7 @@ fn evaluate_call(
     places: &mut Vec<Option<Term>>,
     budget: &mut u32,
 ) -> Result<Outcome<Term>, AllocError>
-    ensures { IfOk result (λ r. Evaluates (environment_of frame.now) (call x (strategies_of strategies.now) (patterns_of terms.now)) t.now places.old.items (1 + budget.old) (verdict_of r places.new.items) budget.new) }
+    ensures { IfOk result (λ r. EvaluatesAlways (environment_of frame.now) (call x (strategies_of strategies.now) (patterns_of terms.now)) t.now places.old.items (1 + budget.old) (verdict_of r places.new.items) budget.new) }
 {
     match callee_at(&*frame, x) {
         None => Ok(Outcome::Spent),
@@ -291,7 +330,7 @@ fn evaluate_call(
     }
 }
 
-// A call of a definition, whose node is paid.
+// Evaluates a call of a definition, whose node is paid.
 #[cycle(eval)]
 fn evaluate_definition(
     alloc: Global,
@@ -304,8 +343,8 @@ fn evaluate_definition(
     places: &mut Vec<Option<Term>>,
     budget: &mut u32,
 ) -> Result<Outcome<Term>, AllocError>
-    ensures { IfOk result (λ r. (x : Place) → callee_in (layers_up (environment_of frame.now) x.hops) x.slot ≡ Some (definition (def_of def.now).strats (def_of def.now).terms (def_of def.now).body (environment_of home.now)) →
-        Evaluates (environment_of frame.now) (call x (strategies_of strategies.now) (patterns_of terms.now)) t.now places.old.items (1 + budget.old) (verdict_of r places.new.items) budget.new) }
+    ensures { IfOk result (λ r. (x : Coordinate) → callee_in (layers_up (environment_of frame.now) x.layers_up) x.slot ≡ Some (definition (def_of def.now).strats (def_of def.now).terms (def_of def.now).body (environment_of home.now)) →
+        EvaluatesAlways (environment_of frame.now) (call x (strategies_of strategies.now) (patterns_of terms.now)) t.now places.old.items (1 + budget.old) (verdict_of r places.new.items) budget.new) }
 {
     let closures = closures_of(alloc, &*strategies, &*frame)?;
     match instances(alloc, terms, frame, places.as_slice())? {
@@ -315,7 +354,13 @@ fn evaluate_definition(
             let first = places.len();
             push_terms(places, values.as_slice())?;
             let closures = closures.as_slice();
-            let inner = Frame::Layer(first, def.strats, def.terms, closures, &*home);
+            let inner = Frame::Layer {
+                base: first,
+                parameters: def.strats,
+                variables: def.terms,
+                closures,
+                outer: &*home,
+            };
             let ending = evaluate(alloc, &def.body, &inner, t, places, budget)?;
             places.truncate(first);
             Ok(ending)
@@ -323,7 +368,7 @@ fn evaluate_definition(
     }
 }
 
-// The terms, with another one at this position.
+// Returns the terms, with another one at this position.
 fn replaced(alloc: Global, terms: &[Term], at: usize, t: Term) -> Result<Vec<Term>, AllocError>
     requires { at < length terms.now }
     ensures { IfOk result (λ all. all.items ≡ slice_set terms.now at t) }

@@ -1,10 +1,10 @@
 // The layers that a strategy sees, linked on the stack, and where its variables are.
 ghost use Rattle.std.specs.Prelude.{◌≡◌, ◌<◌, MatchOption, None, Some};
-ghost use Rattle.core_lang.specs.Resolved.{layers_up, by_places};
-ghost use Rattle.core_lang.specs.Matching.{value_in};
+ghost use Rattle.core_lang.specs.Resolved.{layers_up, by_coordinates};
+ghost use Rattle.core_lang.specs.Building.{value_in};
 ghost use Rattle.core_eval.specs.Frame.{environment_of, IsPast, variable_place};
 
-use core_lang::{CoreDef, CoreStrategy, Place};
+use core_lang::{Coordinate, CoreDef, CoreStrategy};
 use term_model::Term;
 
 /// The layers that a strategy sees, innermost first.
@@ -14,10 +14,19 @@ pub enum Frame<'a> {
     /// No layer.
     Outermost,
     /// The definitions of the program, or of a let.
-    Definitions(&'a [CoreDef], &'a Frame<'a>),
-    /// Variables and strategy parameters: the place of the first variable, how many parameters and how many variables
-    /// there are, and the closures of the parameters.
-    Layer(usize, usize, usize, &'a [Closure<'a>], &'a Frame<'a>),
+    Definitions {
+        defs: &'a [CoreDef],
+        outer: &'a Frame<'a>,
+    },
+    /// Strategy parameters and variables: how many there are of each, the place of the first variable, and the closures
+    /// of the parameters.
+    Layer {
+        base: usize,
+        parameters: usize,
+        variables: usize,
+        closures: &'a [Closure<'a>],
+        outer: &'a Frame<'a>,
+    },
 }
 
 /// A strategy, and the layers that it sees.
@@ -28,32 +37,36 @@ pub struct Closure<'a> {
     pub frame: &'a Frame<'a>,
 }
 
-/// The layers without the innermost, so many.
-pub fn layer<'a>(frame: &'a Frame<'a>, hops: usize) -> &'a Frame<'a>
-    ensures { environment_of result.now ≡ layers_up (environment_of frame.now) hops }
+/// Returns the layers without this number of the innermost ones.
+pub fn layer<'a>(frame: &'a Frame<'a>, count: usize) -> &'a Frame<'a>
+    ensures { environment_of result.now ≡ layers_up (environment_of frame.now) count }
 {
-    if hops == 0 {
+    if count == 0 {
         return frame;
     }
     match frame {
         Frame::Outermost => frame,
-        Frame::Definitions(_, up) => layer(up, hops - 1),
-        Frame::Layer(_, _, _, _, up) => layer(up, hops - 1),
+        Frame::Definitions { outer, .. } => layer(outer, count - 1),
+        Frame::Layer { outer, .. } => layer(outer, count - 1),
     }
 }
 
-/// The position of the variable among so many places.
-pub fn position(frame: &Frame, x: Place, places: usize) -> Option<usize>
-    ensures { MatchOption result (IsPast (by_places.place_of (environment_of frame.now) x) places) (λ at. (by_places.place_of (environment_of frame.now) x ≡ Some at) × (at < places)) }
+/// Returns the position of the variable among this number of places.
+pub fn position(frame: &Frame, x: Coordinate, places: usize) -> Option<usize>
+    ensures { MatchOption result (IsPast (by_coordinates.place_of (environment_of frame.now) x) places) (λ at. (by_coordinates.place_of (environment_of frame.now) x ≡ Some at) × (at < places)) }
 {
-    match layer(&*frame, x.hops) {
+    match layer(&*frame, x.layers_up) {
         Frame::Outermost => None,
-        Frame::Definitions(_, _) => None,
-        Frame::Layer(base, _, count, _, _) => position_from(*base, *count, x.slot, places),
+        Frame::Definitions { .. } => None,
+        Frame::Layer {
+            base,
+            variables,
+            ..
+        } => position_from(*base, *variables, x.slot, places),
     }
 }
 
-// The position of the variable of a layer of so many, which begins at a base.
+// Returns the position of a variable of a layer that begins at a base and has this number of variables.
 fn position_from(base: usize, count: usize, slot: usize, places: usize) -> Option<usize>
     ensures { MatchOption result (IsPast (variable_place base count slot) places) (λ at. (variable_place base count slot ≡ Some at) × (at < places)) }
 {
@@ -69,9 +82,9 @@ fn position_from(base: usize, count: usize, slot: usize, places: usize) -> Optio
     Some(base + slot)
 }
 
-/// The term that a variable has.
-pub fn value<'a>(frame: &Frame, x: Place, places: &'a [Option<Term>]) -> Option<&'a Term>
-    ensures { MatchOption result (value_in (by_places.place_of (environment_of frame.now) x) places.now ≡ None) (λ t. value_in (by_places.place_of (environment_of frame.now) x) places.now ≡ Some t.now) }
+/// Returns the term that a variable has.
+pub fn value<'a>(frame: &Frame, x: Coordinate, places: &'a [Option<Term>]) -> Option<&'a Term>
+    ensures { MatchOption result (value_in (by_coordinates.place_of (environment_of frame.now) x) places.now ≡ None) (λ t. value_in (by_coordinates.place_of (environment_of frame.now) x) places.now ≡ Some t.now) }
 {
     let at = position(frame, x, places.len())?;
     match &places[at] {

@@ -1,16 +1,16 @@
 // What a build makes of a pattern.
-ghost use Rattle.std.specs.Prelude.{◌≡◌, IfOk, Some, map};
+ghost use Rattle.std.specs.Prelude.{◌≡◌, IfOk, []};
 ghost use Rattle.std.specs.Option.{option_map};
-ghost use Rattle.core_lang.specs.Matching as matching;
-ghost use Rattle.core_lang.specs.Resolved.{by_places};
-ghost use Rattle.core_lang.specs.Views.{pattern_of, patterns_of};
+ghost use Rattle.core_lang.specs.Building as building;
+ghost use Rattle.core_lang.specs.Resolved.{by_coordinates};
+ghost use Rattle.core_lang.specs.Views.{elements_in, pattern_of, patterns_of, rest_of};
 ghost use Rattle.term_model.specs.Term.{Trees, made_of};
 ghost use Rattle.core_eval.specs.Frame.{environment_of};
-ghost use Rattle.core_eval.specs.Instance.{AreMade, liked};
+ghost use Rattle.core_eval.specs.Instance.{AreMade, made_like_other};
 
 use crate::frame::{Frame, value};
-use crate::making::{application, is_list, joined, keep, like_other, list};
-use core_lang::CorePattern;
+use crate::making::{application, integer, is_list, joined, keep, like_other, list};
+use core_lang::{Coordinate, CorePattern};
 use std::alloc::{AllocError, Global};
 use term_model::{Made, Term};
 
@@ -24,21 +24,17 @@ pub fn instance(
     frame: &Frame,
     places: &[Option<Term>],
 ) -> Result<Option<Made<Term>>, AllocError>
-    ensures { IfOk result (λ made. made ≡ option_map made_of (liked (matching.instance (by_places.place_of (environment_of frame.now)) (pattern_of p.now) places.now) other.entry)) }
+    ensures { IfOk result (λ made. made ≡ option_map made_of (made_like_other (building.instance (by_coordinates.place_of (environment_of frame.now)) (pattern_of p.now) places.now) other.entry)) }
 {
     match p {
         CorePattern::Anything => Ok(None),
-        CorePattern::Variable(x) => match value(frame, *x, places) {
-            Some(t) => {
-                let made = like_other(alloc, t, other)?;
-                Ok(Some(made))
-            }
-            None => Ok(None),
-        },
+        CorePattern::Variable(x) => {
+            let made = variable(alloc, *x, other, frame, places)?;
+            Ok(made)
+        }
         CorePattern::Alias(_, _) => Ok(None),
         CorePattern::Integer(number) => {
-            let t = Term::int(alloc, *number)?;
-            let made = like_other(alloc, &t, other)?;
+            let made = integer(alloc, *number, other)?;
             Ok(Some(made))
         }
         CorePattern::Applied(symbol, parts) => {
@@ -48,31 +44,55 @@ pub fn instance(
         }
         CorePattern::List(first, rest) => {
             let terms = instances(alloc, first.as_slice(), frame, places)?;
-            match rest {
-                None => {
-                    let made = list(alloc, terms, other)?;
-                    Ok(made)
-                }
-                Some(rest) => {
-                    let others = elements(alloc, rest, frame, places)?;
-                    let made = list(alloc, joined(terms, others)?, other)?;
-                    Ok(made)
-                }
-            }
+            let others = rest_elements(alloc, rest, frame, places)?;
+            let made = list(alloc, joined(terms, others)?, other)?;
+            Ok(made)
         }
-        CorePattern::Annotated(part, x) => match value(frame, *x, places) {
+        CorePattern::Like(part, x) => match value(frame, *x, places) {
             Some(t) => match other {
-                None => {
-                    let made = instance(alloc, part, Some(t), frame, places)?;
-                    Ok(made)
-                }
-                Some(_) => {
-                    let made = instance(alloc, part, other, frame, places)?;
-                    Ok(made)
-                }
+                None => instance(alloc, part, Some(t), frame, places),
+                Some(_) => instance(alloc, part, other, frame, places),
             },
             None => Ok(None),
         },
+    }
+}
+
+// Makes the term of the variable, with the annotations of another term if there is one; none where it has no term.
+fn variable(
+    alloc: Global,
+    x: Coordinate,
+    other: Option<&Term>,
+    frame: &Frame,
+    places: &[Option<Term>],
+) -> Result<Option<Made<Term>>, AllocError>
+    ensures { IfOk result (λ made. made ≡ option_map made_of (made_like_other (building.value_in (by_coordinates.place_of (environment_of frame.now) x) places.now) other.entry)) }
+{
+    match value(frame, x, places) {
+        Some(t) => {
+            let made = like_other(alloc, t, other)?;
+            Ok(Some(made))
+        }
+        None => Ok(None),
+    }
+}
+
+// Makes the elements of the instance of the rest of a list; an absent rest has none.
+#[cycle(instance)]
+fn rest_elements(
+    alloc: Global,
+    rest: &Option<Box<CorePattern>>,
+    frame: &Frame,
+    places: &[Option<Term>],
+) -> Result<Option<Made<Vec<Term>>>, AllocError>
+    ensures { IfOk result (λ made. AreMade (building.element_instances (by_coordinates.place_of (environment_of frame.now)) (elements_in [] (rest_of rest.now)) places.now) made) }
+{
+    match rest {
+        None => Ok(Some(Made::Fits(Vec::new(alloc)))),
+        Some(p) => {
+            let made = elements(alloc, p, frame, places)?;
+            Ok(made)
+        }
     }
 }
 
@@ -84,7 +104,7 @@ fn elements(
     frame: &Frame,
     places: &[Option<Term>],
 ) -> Result<Option<Made<Vec<Term>>>, AllocError>
-    ensures { IfOk result (λ made. AreMade (matching.elements_of (matching.instance (by_places.place_of (environment_of frame.now)) (pattern_of p.now) places.now)) made) }
+    ensures { IfOk result (λ made. AreMade (building.elements_of (building.instance (by_coordinates.place_of (environment_of frame.now)) (pattern_of p.now) places.now)) made) }
 {
     match p {
         CorePattern::Variable(x) => match value(frame, *x, places) {
@@ -92,7 +112,7 @@ fn elements(
                 if !is_list(t) {
                     return Ok(None);
                 }
-                let _ = t.weight();
+                t.fits();
                 let parts = Vec::from_clones(alloc, t.children())?;
                 Ok(Some(Made::Fits(parts)))
             }
@@ -100,16 +120,11 @@ fn elements(
         },
         CorePattern::List(first, rest) => {
             let terms = instances(alloc, first.as_slice(), frame, places)?;
-            match rest {
-                None => Ok(terms),
-                Some(rest) => {
-                    let others = elements(alloc, rest, frame, places)?;
-                    let all = joined(terms, others)?;
-                    Ok(all)
-                }
-            }
+            let others = rest_elements(alloc, rest, frame, places)?;
+            let all = joined(terms, others)?;
+            Ok(all)
         }
-        CorePattern::Annotated(part, x) => match value(frame, *x, places) {
+        CorePattern::Like(part, x) => match value(frame, *x, places) {
             Some(_) => {
                 let made = elements(alloc, part, frame, places)?;
                 Ok(made)
@@ -131,7 +146,7 @@ pub fn instances(
     frame: &Frame,
     places: &[Option<Term>],
 ) -> Result<Option<Made<Vec<Term>>>, AllocError>
-    ensures { IfOk result (λ made. AreMade (matching.instances (by_places.place_of (environment_of frame.now)) (patterns_of patterns.now) places.now) made) }
+    ensures { IfOk result (λ made. AreMade (building.instances (by_coordinates.place_of (environment_of frame.now)) (patterns_of patterns.now) places.now) made) }
 {
     let mut terms = Vec::new(alloc);
     let mut fit = true;

@@ -13,10 +13,14 @@ mod run;
 pub use run::eval;
 
 #[cfg(test)]
-mod form_tests;
+mod call_rows;
 #[cfg(test)]
-mod range_tests;
+mod pattern_rows;
+#[cfg(test)]
+mod rows;
 #[cfg(test)]
 mod samples;
 #[cfg(test)]
 mod tests;
+#[cfg(test)]
+mod traversal_rows;

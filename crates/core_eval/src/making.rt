@@ -1,10 +1,10 @@
 // Terms made of others.
-ghost use Rattle.std.specs.Prelude.{◌≡◌, IfOk, Option};
+ghost use Rattle.std.specs.Prelude.{◌≡◌, IfOk, Option, []};
 ghost use Rattle.std.specs.Option.{option_map};
-ghost use Rattle.core_lang.specs.Matching.{applied_to, list_term};
+ghost use Rattle.core_lang.specs.Building.{applied_to, list_term};
 ghost use Rattle.term_model.specs.Same.{same_head};
-ghost use Rattle.term_model.specs.Term.{Tree, Trees, head_of, made_of};
-ghost use Rattle.core_eval.specs.Instance.{AreMade, Kept, both_terms, liked, re_annotated};
+ghost use Rattle.term_model.specs.Term.{Trees, IsHead, head_of, made_of, term, trees_of};
+ghost use Rattle.core_eval.specs.Instance.{AreMade, Kept, both_terms, made_like_other, tree_like_other};
 
 use std::alloc::{AllocError, Global};
 use term_model::{Head, Made, Sym, Term};
@@ -22,13 +22,13 @@ pub fn keep(terms: &mut Vec<Term>, made: Made<Term>) -> Result<bool, AllocError>
     }
 }
 
-/// The term, with the annotations of another one if there is one in place of its own.
+/// Makes the term, with the annotations of another one if there is one in place of its own.
 pub fn like_other(alloc: Global, t: &Term, other: Option<&Term>) -> Result<Made<Term>, AllocError>
-    ensures { IfOk result (λ made. made ≡ made_of (re_annotated t.now other.entry)) }
+    ensures { IfOk result (λ made. made ≡ made_of (tree_like_other t.now other.entry)) }
 {
     match other {
         None => {
-            let _ = t.weight();
+            t.fits();
             Ok(Made::Fits(t.clone()?))
         }
         Some(o) => {
@@ -39,50 +39,70 @@ pub fn like_other(alloc: Global, t: &Term, other: Option<&Term>) -> Result<Made<
     }
 }
 
-/// The symbol applied to the terms, annotated like another term.
+// Makes the term of this head with these parts, and with the annotations of another one if there is one.
+fn node(
+    alloc: Global,
+    head: Head,
+    parts: Vec<Term>,
+    other: Option<&Term>,
+) -> Result<Made<Term>, AllocError>
+    requires { IsHead head (trees_of parts.items) }
+    ensures { IfOk result (λ made. made ≡ made_of (tree_like_other (term head parts.items []) other.entry)) }
+{
+    match other {
+        None => Term::new(alloc, head, parts, Vec::new(alloc)),
+        Some(like) => {
+            let made = Term::new_like(alloc, head, parts, like)?;
+            Ok(made)
+        }
+    }
+}
+
+/// Makes the integer, with the annotations of another term if there is one.
+pub fn integer(alloc: Global, number: i32, other: Option<&Term>) -> Result<Made<Term>, AllocError>
+    ensures { IfOk result (λ made. made ≡ made_of (tree_like_other (term (Head.Int number) [] []) other.entry)) }
+{
+    node(alloc, Head::Int(number), Vec::new(alloc), other)
+}
+
+/// Makes the symbol applied to the terms, with the annotations of another one if there is one.
 pub fn application(
     alloc: Global,
     symbol: &Sym,
     terms: Option<Made<Vec<Term>>>,
     other: Option<&Term>,
 ) -> Result<Option<Made<Term>>, AllocError>
-    ensures { IfOk result (λ made. (ts : Option Trees) → AreMade ts terms → made ≡ option_map made_of (liked (applied_to ts symbol.now) other.entry)) }
+    ensures { IfOk result (λ made. (ts : Option Trees) → AreMade ts terms → made ≡ option_map made_of (made_like_other (applied_to ts symbol.now) other.entry)) }
 {
     match terms {
         None => Ok(None),
         Some(Made::Oversize) => Ok(Some(Made::Oversize)),
-        Some(Made::Fits(parts)) => match Term::app(alloc, symbol.clone()?, parts)? {
-            Made::Oversize => Ok(Some(Made::Oversize)),
-            Made::Fits(t) => {
-                let made = like_other(alloc, &t, other)?;
-                Ok(Some(made))
-            }
-        },
+        Some(Made::Fits(parts)) => {
+            let made = node(alloc, Head::App(symbol.clone()?), parts, other)?;
+            Ok(Some(made))
+        }
     }
 }
 
-/// The list of the terms, annotated like another term.
+/// Makes the list of the terms, with the annotations of another one if there is one.
 pub fn list(
     alloc: Global,
     terms: Option<Made<Vec<Term>>>,
     other: Option<&Term>,
 ) -> Result<Option<Made<Term>>, AllocError>
-    ensures { IfOk result (λ made. (ts : Option Trees) → AreMade ts terms → made ≡ option_map made_of (liked (list_term ts) other.entry)) }
+    ensures { IfOk result (λ made. (ts : Option Trees) → AreMade ts terms → made ≡ option_map made_of (made_like_other (list_term ts) other.entry)) }
 {
     match terms {
         None => Ok(None),
         Some(Made::Oversize) => Ok(Some(Made::Oversize)),
-        Some(Made::Fits(parts)) => match Term::list(alloc, parts)? {
-            Made::Oversize => Ok(Some(Made::Oversize)),
-            Made::Fits(t) => {
-                let made = like_other(alloc, &t, other)?;
-                Ok(Some(made))
-            }
-        },
+        Some(Made::Fits(parts)) => {
+            let made = node(alloc, Head::List, parts, other)?;
+            Ok(Some(made))
+        }
     }
 }
 
-/// The first terms and the others behind them.
+/// Returns the first terms and the others after them.
 pub fn joined(
     first: Option<Made<Vec<Term>>>,
     others: Option<Made<Vec<Term>>>,
@@ -105,7 +125,7 @@ pub fn joined(
     Ok(Some(Made::Fits(terms)))
 }
 
-/// Whether the term is a list.
+/// Returns whether the term is a list.
 pub fn is_list(t: &Term) -> bool
     ensures { result ≡ same_head (head_of t.now) Head.List }
 {

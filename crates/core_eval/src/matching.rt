@@ -1,6 +1,6 @@
 // Matching a pattern with a term.
 ghost use Rattle.std.specs.Prelude.{◌≡◌, ◌≤◌, IfOk, [], length, drop, map};
-ghost use Rattle.core_lang.specs.Resolved.{by_places};
+ghost use Rattle.core_lang.specs.Resolved.{by_coordinates};
 ghost use Rattle.core_lang.specs.Tried.{put, put_at, tried, tried_all};
 ghost use Rattle.core_lang.specs.Views.{pattern_of, patterns_of};
 ghost use Rattle.term_model.specs.Same.{same_head};
@@ -10,7 +10,7 @@ ghost use Rattle.core_eval.specs.Matching.{Found, FirstFound};
 
 use crate::frame::{Frame, position};
 use crate::making::is_list;
-use core_lang::{CorePattern, Place};
+use core_lang::{Coordinate, CorePattern};
 use std::alloc::{AllocError, Global};
 use term_model::{Head, Made, Sym, Term};
 
@@ -24,7 +24,7 @@ pub fn matches(
     t: &Term,
     places: &mut Vec<Option<Term>>,
 ) -> Result<bool, AllocError>
-    ensures { IfOk result (λ yes. Found (tried (by_places.place_of (environment_of frame.now)) (pattern_of p.now) t.now places.old.items) yes places.new.items) }
+    ensures { IfOk result (λ yes. Found (tried (by_coordinates.place_of (environment_of frame.now)) (pattern_of p.now) t.now places.old.items) yes places.new.items) }
 {
     match p {
         CorePattern::Anything => Ok(true),
@@ -64,7 +64,7 @@ pub fn matches(
                 }
             }
         }
-        CorePattern::Annotated(_, _) => Ok(false),
+        CorePattern::Like(_, _) => Ok(false),
     }
 }
 
@@ -77,7 +77,7 @@ fn all_match(
     terms: &[Term],
     places: &mut Vec<Option<Term>>,
 ) -> Result<bool, AllocError>
-    ensures { IfOk result (λ yes. Found (tried_all (by_places.place_of (environment_of frame.now)) (patterns_of patterns.now) (trees_of terms.now) places.old.items) yes places.new.items) }
+    ensures { IfOk result (λ yes. Found (tried_all (by_coordinates.place_of (environment_of frame.now)) (patterns_of patterns.now) (trees_of terms.now) places.old.items) yes places.new.items) }
 {
     if patterns.len() != terms.len() {
         return Ok(false);
@@ -99,7 +99,7 @@ fn first_match(
     terms: &[Term],
     places: &mut Vec<Option<Term>>,
 ) -> Result<bool, AllocError>
-    ensures { IfOk result (λ yes. FirstFound (by_places.place_of (environment_of frame.now)) (map pattern_of patterns.now) (trees_of terms.now) places.old.items yes (trees_of (drop (length patterns.now) terms.now)) places.new.items (length patterns.now ≤ length terms.now)) }
+    ensures { IfOk result (λ yes. FirstFound (by_coordinates.place_of (environment_of frame.now)) (map pattern_of patterns.now) (trees_of terms.now) places.old.items yes (trees_of (drop (length patterns.now) terms.now)) places.new.items (length patterns.now ≤ length terms.now)) }
 {
     if terms.len() < patterns.len() {
         return Ok(false);
@@ -112,12 +112,12 @@ fn first_match(
     Ok(true)
 }
 
-// The parts of the term behind the first ones, so many, as a list.
+// Returns the parts of the term after this number of first ones, as a list.
 fn list_behind(alloc: Global, t: &Term, from: usize) -> Result<Term, AllocError>
     requires { from ≤ length (parts_of t.now) }
     ensures { IfOk result (λ list. list ≡ term Head.List (drop from (parts_of t.now)) []) }
 {
-    let _ = t.weight();
+    t.fits();
     let others = Vec::from_clones(alloc, &t.children()[from..])?;
     match Term::list(alloc, others)? {
         Made::Fits(list) => Ok(list),
@@ -127,12 +127,12 @@ fn list_behind(alloc: Global, t: &Term, from: usize) -> Result<Term, AllocError>
 
 // Gives the variable the term; where it has one, whether they are the same.
 fn bind_variable(
-    x: Place,
+    x: Coordinate,
     frame: &Frame,
     t: &Term,
     places: &mut Vec<Option<Term>>,
 ) -> Result<bool, AllocError>
-    ensures { IfOk result (λ yes. Found (put_at (by_places.place_of (environment_of frame.now) x) t.now places.old.items) yes places.new.items) }
+    ensures { IfOk result (λ yes. Found (put_at (by_coordinates.place_of (environment_of frame.now) x) t.now places.old.items) yes places.new.items) }
 {
     match position(frame, x, places.len()) {
         Some(at) => {

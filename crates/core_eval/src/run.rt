@@ -1,5 +1,5 @@
 // Runs of a core.
-ghost use Rattle.std.specs.Prelude.{◌≡◌, ◌≤◌, IfOk, OnErr, IfErr, List, []};
+ghost use Rattle.std.specs.Prelude.{◌≡◌, ◌≤◌, IfOk, OnOk, OnErr, IfErr, List, []};
 ghost use Rattle.core_lang.specs.Core.{program_of};
 ghost use Rattle.core_lang.specs.Named.{Name};
 ghost use Rattle.core_lang.specs.Program.{Definitions, call, no_strategies, no_patterns};
@@ -7,20 +7,21 @@ ghost use Rattle.core_lang.specs.Environment.{definitions, outermost};
 ghost use Rattle.core_lang.specs.Resolution.{ResolvesProgram};
 ghost use Rattle.core_lang.specs.Resolved.{here};
 ghost use Rattle.term_model.specs.Flat.{Meaning};
+ghost use Rattle.term_model.specs.Limits.{max_budget};
 ghost use Rattle.core_eval.specs.Evaluates.{EvaluatesOn, IsRun};
 
 use crate::evaluation::evaluate;
 use crate::frame::Frame;
-use core_lang::{Core, CoreStrategy, Outcome, Place, Run};
+use core_lang::{Coordinate, Core, CoreStrategy, Outcome, Run};
 use std::alloc::{AllocError, Global};
 use term_model::{Fault, Term};
 
 /// Runs the core on the term: main is called without arguments and without bindings.
 ///
 /// `rules` is the number of nodes of the derivation, and the budget where the budget is spent before the derivation
-/// is complete; `steps` is 0. The only fault is want of memory.
+/// is complete; `steps` is 0. The only fault is `Memory`.
 pub fn eval(alloc: Global, core: &Core, term: &Term, budget: u32) -> Result<Run<Term>, Fault>
-    requires { budget ≤ 2000 }
+    requires { budget ≤ max_budget }
     ensures run { IfOk result (λ run. (M : Meaning) (P : Definitions Name (List Name)) (main : Name) →
         ResolvesProgram P main (program_of core.now) core.now.main → IsRun M P main term.now budget run) }
     ensures fault { IfErr result (λ fault. fault ≡ Fault.Memory) }
@@ -38,22 +39,26 @@ pub fn eval(alloc: Global, core: &Core, term: &Term, budget: u32) -> Result<Run<
     })
 }
 
-// The call of main.
+// Evaluates the call of main.
 fn call_main(
     alloc: Global,
     core: &Core,
     term: &Term,
     budget: &mut u32,
 ) -> Result<Outcome<Term>, AllocError>
-    ensures { IfOk result (λ r. EvaluatesOn (definitions (program_of core.now) outermost) (call (here core.now.main) no_strategies no_patterns) term.now budget.old r budget.new) }
+    ensures outcome { IfOk result (λ r. (M : Meaning) → EvaluatesOn M (definitions (program_of core.now) outermost) (call (here core.now.main) no_strategies no_patterns) term.now budget.old r budget.new) }
+    ensures left { OnOk result (budget.new ≤ budget.old) }
 {
-    let main = Place {
-        hops: 0,
+    let main = Coordinate {
+        layers_up: 0,
         slot: core.main(),
     };
     let call = CoreStrategy::Call(main, Vec::new(alloc), Vec::new(alloc));
     let outermost = Frame::Outermost;
-    let program = Frame::Definitions(core.defs(), &outermost);
+    let program = Frame::Definitions {
+        defs: core.defs(),
+        outer: &outermost,
+    };
     let mut places = Vec::new(alloc);
     let outcome = evaluate(alloc, &call, &program, term, &mut places, budget)?;
     Ok(outcome)

@@ -1,277 +1,309 @@
-// What small cores are made of.
-ghost use Rattle.std.specs.Prelude.{◌≤◌};
-
-use core_lang::{CoreArm, CoreDef, CorePattern, CoreStrategy, Outcome, Place};
-use std::alloc::{AllocError, Global};
+// Programs and terms as words in postfix order, and what is built of them.
+use core_lang::{Coordinate, CoreArm, CoreDef, CorePattern, CoreStrategy};
+use std::alloc::Global;
 use std::test::Fail;
 use term_model::{Made, Sym, Term};
 
-pub fn at(hops: usize, slot: usize) -> Place {
-    Place { hops, slot }
+// A step of building a program: it takes what it is made of from the end of what was built.
+#[derive(Clone, Copy)]
+pub enum Word {
+    Anything,
+    // The number of layers up, and the slot there.
+    Variable(usize, usize),
+    Number(i32),
+    // A symbol on so many patterns.
+    Tuple(usize),
+    Applied(&'static [u8], usize),
+    // The list of so many elements, and such a list with a pattern of the rest after them.
+    List(usize),
+    ListAndRest(usize),
+    Alias(usize, usize),
+    Like(usize, usize),
+    Id,
+    Fail,
+    Match,
+    Build,
+    // Two strategies one after another, and so many more.
+    Sequence(usize),
+    // A guard and what follows it, so many more of these, and what is done otherwise.
+    Choice(usize),
+    Scope(usize),
+    AllParts,
+    OnePart,
+    SomeParts,
+    // The number of layers up and the slot, and how many strategies and patterns are arguments.
+    Call(usize, usize, usize, usize),
+    // A definition with so many strategy and term parameters.
+    Definition(usize, usize),
+    // So many definitions, and the strategy that sees them.
+    Let(usize),
 }
 
-pub fn var(hops: usize, slot: usize) -> CorePattern {
-    CorePattern::Variable(Place { hops, slot })
+// A step of building a term.
+#[derive(Clone, Copy)]
+pub enum Piece {
+    Int(i32),
+    TupleOf(usize),
+    On(&'static [u8], usize),
+    ListOf(usize),
+    // The annotation 5.
+    Marked,
+    // A string of so many bytes.
+    Text(usize),
 }
 
-pub fn number(value: i32) -> CorePattern {
-    CorePattern::Integer(value)
-}
-
-pub fn pair(a: Global, first: CorePattern, second: CorePattern) -> Result<CorePattern, AllocError> {
-    Ok(CorePattern::Applied(Sym::tuple(), vec![in a; first, second]?))
-}
-
-// The list of these elements.
-pub fn listed(elements: Vec<CorePattern>) -> CorePattern {
-    CorePattern::List(elements, None)
-}
-
-// A list of one element and a rest.
-pub fn cons(a: Global, first: CorePattern, rest: CorePattern) -> Result<CorePattern, AllocError> {
-    let rest = Box::new(a, rest)?;
-    Ok(CorePattern::List(vec![in a; first]?, Some(rest)))
-}
-
-pub fn alias(a: Global, x: Place, part: CorePattern) -> Result<CorePattern, AllocError> {
-    Ok(CorePattern::Alias(x, Box::new(a, part)?))
-}
-
-pub fn like(a: Global, part: CorePattern, x: Place) -> Result<CorePattern, AllocError> {
-    Ok(CorePattern::Annotated(Box::new(a, part)?, x))
-}
-
-pub fn takes(p: CorePattern) -> CoreStrategy {
-    CoreStrategy::Match(p)
-}
-
-pub fn gives(p: CorePattern) -> CoreStrategy {
-    CoreStrategy::Build(p)
-}
-
-pub fn then(
-    a: Global,
-    first: CoreStrategy,
-    second: CoreStrategy,
-) -> Result<CoreStrategy, AllocError> {
-    let first = Box::new(a, first)?;
-    let second = Box::new(a, second)?;
-    Ok(CoreStrategy::Sequence(first, second, Vec::new(a)))
-}
-
-pub fn either(
-    a: Global,
-    guard: CoreStrategy,
-    then: CoreStrategy,
-    otherwise: CoreStrategy,
-) -> Result<CoreStrategy, AllocError> {
-    let arm = Box::new(a, CoreArm { guard, then })?;
-    let otherwise = Box::new(a, otherwise)?;
-    Ok(CoreStrategy::Choice(arm, Vec::new(a), otherwise))
-}
-
-pub fn scope(a: Global, count: usize, body: CoreStrategy) -> Result<CoreStrategy, AllocError> {
-    Ok(CoreStrategy::Scope(count, Box::new(a, body)?))
-}
-
-// ?p; !q with so many variables.
-pub fn rule(
-    a: Global,
-    count: usize,
-    p: CorePattern,
-    q: CorePattern,
-) -> Result<CoreStrategy, AllocError> {
-    let both = then(a, takes(p), gives(q))?;
-    Ok(CoreStrategy::Scope(count, Box::new(a, both)?))
-}
-
-// ?x; !p; and the rest, with the one variable x.
-pub fn holding(a: Global, p: CorePattern, rest: CoreStrategy) -> Result<CoreStrategy, AllocError> {
-    let last = then(a, gives(p), rest)?;
-    let all = then(a, takes(var(0, 0)), last)?;
-    Ok(CoreStrategy::Scope(1, Box::new(a, all)?))
-}
-
-pub fn all(a: Global, body: CoreStrategy) -> Result<CoreStrategy, AllocError> {
-    Ok(CoreStrategy::All(Box::new(a, body)?))
-}
-
-pub fn one(a: Global, body: CoreStrategy) -> Result<CoreStrategy, AllocError> {
-    Ok(CoreStrategy::One(Box::new(a, body)?))
-}
-
-pub fn some(a: Global, body: CoreStrategy) -> Result<CoreStrategy, AllocError> {
-    Ok(CoreStrategy::Some(Box::new(a, body)?))
-}
-
-pub fn call(a: Global, x: Place) -> CoreStrategy {
-    CoreStrategy::Call(x, Vec::new(a), Vec::new(a))
-}
-
-// A call with one strategy argument.
-pub fn passing(a: Global, x: Place, s: CoreStrategy) -> Result<CoreStrategy, AllocError> {
-    Ok(CoreStrategy::Call(x, vec![in a; s]?, Vec::new(a)))
-}
-
-// A call with one term argument.
-pub fn given(a: Global, x: Place, p: CorePattern) -> Result<CoreStrategy, AllocError> {
-    Ok(CoreStrategy::Call(x, Vec::new(a), vec![in a; p]?))
-}
-
-pub fn def(strats: usize, terms: usize, body: CoreStrategy) -> CoreDef {
-    CoreDef {
-        strats,
-        terms,
-        body,
+fn last<T>(items: &mut Vec<T>) -> Result<T, Fail> {
+    match items.pop() {
+        Some(item) => Ok(item),
+        None => Err(Fail::new("too few parts")),
     }
 }
 
-// let f = body in within end
-pub fn let_in(
-    a: Global,
-    body: CoreStrategy,
-    within: CoreStrategy,
-) -> Result<CoreStrategy, AllocError> {
-    let defs = vec![in a; def(0, 0, body)]?;
-    Ok(CoreStrategy::LetIn(defs, Box::new(a, within)?))
-}
-
-fn fits(made: Made<Term>) -> Result<Term, Fail> {
-    match made {
-        Made::Fits(term) => Ok(term),
-        Made::Oversize => Err(Fail::from("oversize")),
+// The last items, of this number.
+fn last_of<T: Drop>(items: &mut Vec<T>, count: usize) -> Result<Vec<T>, Fail> {
+    match items.len().checked_sub(count) {
+        Some(at) => Ok(items.split_off(at)?),
+        None => Err(Fail::new("too few parts")),
     }
 }
 
-fn integers(a: Global, values: &[i32]) -> Result<Vec<Term>, AllocError> {
-    let mut terms = Vec::new(a);
-    for value in values {
-        terms.push(Term::int(a, *value)?)?;
-    }
-    Ok(terms)
-}
-
-// The tuple of the integers.
-// The plain symbol of this name.
-fn named(a: Global, name: &[u8]) -> Result<Sym, Fail> {
-    match Sym::plain(a, name)? {
+fn symbol(alloc: Global, name: &[u8]) -> Result<Sym, Fail> {
+    match Sym::plain(alloc, name)? {
         Some(symbol) => Ok(symbol),
         None => Err(Fail::new("not a name")),
     }
 }
 
-// A plain symbol applied to patterns.
-pub fn applied(a: Global, name: &[u8], parts: Vec<CorePattern>) -> Result<CorePattern, Fail> {
-    Ok(CorePattern::Applied(named(a, name)?, parts))
-}
-
-// A plain symbol applied to integers.
-pub fn application(a: Global, name: &[u8], values: &[i32]) -> Result<Term, Fail> {
-    let term = fits(Term::app(a, named(a, name)?, integers(a, values)?)?)?;
-    Ok(term)
-}
-
-pub fn tuple(a: Global, values: &[i32]) -> Result<Term, Fail> {
-    let term = fits(Term::app(a, Sym::tuple(), integers(a, values)?)?)?;
-    Ok(term)
-}
-
-pub fn list(a: Global, values: &[i32]) -> Result<Term, Fail> {
-    let term = fits(Term::list(a, integers(a, values)?)?)?;
-    Ok(term)
-}
-
-pub fn int(a: Global, value: i32) -> Result<Term, Fail> {
-    Ok(Term::int(a, value)?)
-}
-
-// The term with the annotation 5.
-pub fn marked(a: Global, term: Term) -> Result<Term, Fail> {
-    let term = fits(term.with_annos(a, integers(a, &[5])?)?)?;
-    Ok(term)
-}
-
-// A string that fits once in a term, and not twice.
-pub fn heavy(a: Global) -> Result<Term, Fail> {
-    let mut bytes = Vec::new(a);
-    bytes.resize(8_388_608, b'a')?;
-    let symbol = Sym::quoted(a, &bytes)?;
-    let term = fits(Term::app(a, symbol, Vec::new(a))?)?;
-    Ok(term)
-}
-
-// A core whose main is its first definition, a term, and how the run ends with so many nodes.
+// What was built of the words so far.
 #[derive(Drop)]
-pub struct Sample {
-    pub name: &'static str,
-    pub defs: Vec<CoreDef>,
-    pub term: Term,
-    pub outcome: Outcome<Term>,
-    pub rules: u32,
+struct Workbench {
+    alloc: Global,
+    patterns: Vec<CorePattern>,
+    strategies: Vec<CoreStrategy>,
+    definitions: Vec<CoreDef>,
 }
 
-#[derive(Drop)]
-pub struct Table {
-    pub alloc: Global,
-    pub samples: Vec<Sample>,
-}
-
-impl Table {
-    pub fn new(alloc: Global) -> Table {
-        Table {
-            alloc,
-            samples: Vec::new(alloc),
+impl Workbench {
+    fn add(&mut self, word: Word) -> Result<(), Fail> {
+        match word {
+            Word::Anything | Word::Variable(_, _) | Word::Number(_) => self.add_leaf(word),
+            Word::Tuple(count) => self.apply(Sym::tuple(), count),
+            Word::Applied(name, count) => {
+                let symbol = symbol(self.alloc, name)?;
+                self.apply(symbol, count)
+            }
+            Word::List(count) => self.list(count),
+            Word::ListAndRest(count) => self.list_and_rest(count),
+            Word::Alias(layers_up, slot) => self.alias(Coordinate { layers_up, slot }),
+            Word::Like(layers_up, slot) => self.like(Coordinate { layers_up, slot }),
+            Word::Id | Word::Fail | Word::Match | Word::Build => self.add_step(word),
+            Word::Sequence(more) => self.sequence(more),
+            Word::Choice(more) => self.choice(more),
+            Word::Scope(_) | Word::AllParts | Word::OnePart | Word::SomeParts => self.wrap(word),
+            Word::Call(layers_up, slot, strategies, terms) => {
+                self.call(Coordinate { layers_up, slot }, strategies, terms)
+            }
+            Word::Definition(strats, terms) => self.define(strats, terms),
+            Word::Let(count) => self.let_in(count),
         }
     }
 
-    // A body of main, a term, and how the run ends with so many nodes.
-    pub fn add(
-        &mut self,
-        name: &'static str,
-        body: CoreStrategy,
-        term: Term,
-        outcome: Outcome<Term>,
-        rules: u32,
-    ) -> Result<(), AllocError> {
-        self.samples.push(Sample {
-            name,
-            defs: vec![in self.alloc; def(0, 0, body)]?,
-            term,
-            outcome,
-            rules,
+    fn add_leaf(&mut self, word: Word) -> Result<(), Fail> {
+        let leaf = match word {
+            Word::Variable(layers_up, slot) => CorePattern::Variable(Coordinate {
+                layers_up,
+                slot,
+            }),
+            Word::Number(value) => CorePattern::Integer(value),
+            _ => CorePattern::Anything,
+        };
+        self.patterns.push(leaf)?;
+        Ok(())
+    }
+
+    fn apply(&mut self, symbol: Sym, count: usize) -> Result<(), Fail> {
+        let parts = last_of(&mut self.patterns, count)?;
+        self.patterns.push(CorePattern::Applied(symbol, parts))?;
+        Ok(())
+    }
+
+    fn list(&mut self, count: usize) -> Result<(), Fail> {
+        let elements = last_of(&mut self.patterns, count)?;
+        self.patterns.push(CorePattern::List(elements, None))?;
+        Ok(())
+    }
+
+    fn list_and_rest(&mut self, count: usize) -> Result<(), Fail> {
+        let rest = Box::new(self.alloc, last(&mut self.patterns)?)?;
+        let elements = last_of(&mut self.patterns, count)?;
+        self.patterns.push(CorePattern::List(elements, Some(rest)))?;
+        Ok(())
+    }
+
+    fn alias(&mut self, x: Coordinate) -> Result<(), Fail> {
+        let part = Box::new(self.alloc, last(&mut self.patterns)?)?;
+        self.patterns.push(CorePattern::Alias(x, part))?;
+        Ok(())
+    }
+
+    fn like(&mut self, x: Coordinate) -> Result<(), Fail> {
+        let part = Box::new(self.alloc, last(&mut self.patterns)?)?;
+        self.patterns.push(CorePattern::Like(part, x))?;
+        Ok(())
+    }
+
+    fn add_step(&mut self, word: Word) -> Result<(), Fail> {
+        let step = match word {
+            Word::Match => CoreStrategy::Match(last(&mut self.patterns)?),
+            Word::Build => CoreStrategy::Build(last(&mut self.patterns)?),
+            Word::Id => CoreStrategy::Id,
+            _ => CoreStrategy::Fail,
+        };
+        self.strategies.push(step)?;
+        Ok(())
+    }
+
+    fn sequence(&mut self, more: usize) -> Result<(), Fail> {
+        let rest = last_of(&mut self.strategies, more)?;
+        let second = Box::new(self.alloc, last(&mut self.strategies)?)?;
+        let first = Box::new(self.alloc, last(&mut self.strategies)?)?;
+        self.strategies
+            .push(CoreStrategy::Sequence(first, second, rest))?;
+        Ok(())
+    }
+
+    fn arm(&mut self) -> Result<Box<CoreArm>, Fail> {
+        let then = last(&mut self.strategies)?;
+        match self.strategies.pop() {
+            Some(guard) => Ok(Box::new(self.alloc, CoreArm { guard, then })?),
+            None => Err(Fail::new("too few parts")),
+        }
+    }
+
+    fn choice(&mut self, more: usize) -> Result<(), Fail> {
+        let otherwise = Box::new(self.alloc, last(&mut self.strategies)?)?;
+        let mut arms = Vec::new(self.alloc);
+        for _ in 0..more {
+            arms.push(Box::into_inner(self.arm()?))?;
+        }
+        arms.reverse();
+        let first = self.arm()?;
+        self.strategies
+            .push(CoreStrategy::Choice(first, arms, otherwise))?;
+        Ok(())
+    }
+
+    fn wrap(&mut self, word: Word) -> Result<(), Fail> {
+        let body = Box::new(self.alloc, last(&mut self.strategies)?)?;
+        let whole = match word {
+            Word::Scope(count) => CoreStrategy::Scope(count, body),
+            Word::AllParts => CoreStrategy::All(body),
+            Word::OnePart => CoreStrategy::One(body),
+            _ => CoreStrategy::Some(body),
+        };
+        self.strategies.push(whole)?;
+        Ok(())
+    }
+
+    fn call(&mut self, x: Coordinate, strategies: usize, terms: usize) -> Result<(), Fail> {
+        let strategies = last_of(&mut self.strategies, strategies)?;
+        let terms = last_of(&mut self.patterns, terms)?;
+        self.strategies
+            .push(CoreStrategy::Call(x, strategies, terms))?;
+        Ok(())
+    }
+
+    fn define(&mut self, strats: usize, terms: usize) -> Result<(), Fail> {
+        let body = last(&mut self.strategies)?;
+        self.definitions.push(CoreDef {
+            strats,
+            terms,
+            body,
         })?;
         Ok(())
     }
 
-    // The same with another definition.
-    pub fn with(
-        &mut self,
-        name: &'static str,
-        body: CoreStrategy,
-        other: CoreDef,
-        term: Term,
-        outcome: Outcome<Term>,
-        rules: u32,
-    ) -> Result<(), AllocError> {
-        self.samples.push(Sample {
-            name,
-            defs: vec![in self.alloc; def(0, 0, body), other]?,
-            term,
-            outcome,
-            rules,
-        })?;
+    fn let_in(&mut self, count: usize) -> Result<(), Fail> {
+        let definitions = last_of(&mut self.definitions, count)?;
+        let body = Box::new(self.alloc, last(&mut self.strategies)?)?;
+        self.strategies
+            .push(CoreStrategy::LetIn(definitions, body))?;
         Ok(())
     }
 }
 
-pub fn to(term: Term) -> Outcome<Term> {
-    Outcome::Rewritten(term)
+fn built(alloc: Global, words: &[Word]) -> Result<Workbench, Fail> {
+    let mut bench = Workbench {
+        alloc,
+        patterns: Vec::new(alloc),
+        strategies: Vec::new(alloc),
+        definitions: Vec::new(alloc),
+    };
+    for word in words {
+        bench.add(*word)?;
+    }
+    Ok(bench)
 }
 
-pub fn failed() -> Outcome<Term> {
-    Outcome::Failed
+// The pattern of these words.
+pub fn pattern(alloc: Global, words: &[Word]) -> Result<CorePattern, Fail> {
+    let mut bench = built(alloc, words)?;
+    last(&mut bench.patterns)
 }
 
-pub fn too_large() -> Outcome<Term> {
-    Outcome::Oversize
+// The definitions of a program: main, whose body is the strategy that is left, and those that are left.
+pub fn program(alloc: Global, words: &[Word]) -> Result<Vec<CoreDef>, Fail> {
+    let mut bench = built(alloc, words)?;
+    bench.define(0, 0)?;
+    let mut definitions = last_of(&mut bench.definitions, 1)?;
+    definitions.append(&mut bench.definitions)?;
+    Ok(definitions)
+}
+
+fn fits(made: Made<Term>) -> Result<Term, Fail> {
+    match made {
+        Made::Fits(term) => Ok(term),
+        Made::Oversize => Err(Fail::new("oversize")),
+    }
+}
+
+fn applied(alloc: Global, symbol: Sym, terms: &mut Vec<Term>, count: usize) -> Result<Term, Fail> {
+    let parts = last_of(terms, count)?;
+    fits(Term::app(alloc, symbol, parts)?)
+}
+
+fn marked(alloc: Global, term: Term) -> Result<Term, Fail> {
+    let annotations = vec![in alloc; Term::int(alloc, 5)?]?;
+    fits(term.with_annos(alloc, annotations)?)
+}
+
+fn text(alloc: Global, length: usize) -> Result<Term, Fail> {
+    let mut bytes = Vec::new(alloc);
+    bytes.resize(length, b'a')?;
+    let symbol = Sym::quoted(alloc, &bytes)?;
+    fits(Term::app(alloc, symbol, Vec::new(alloc))?)
+}
+
+fn next_term(alloc: Global, piece: Piece, terms: &mut Vec<Term>) -> Result<Term, Fail> {
+    match piece {
+        Piece::Int(value) => Ok(Term::int(alloc, value)?),
+        Piece::TupleOf(count) => applied(alloc, Sym::tuple(), terms, count),
+        Piece::On(name, count) => applied(alloc, symbol(alloc, name)?, terms, count),
+        Piece::ListOf(count) => {
+            let elements = last_of(terms, count)?;
+            fits(Term::list(alloc, elements)?)
+        }
+        Piece::Marked => marked(alloc, last(terms)?),
+        Piece::Text(length) => text(alloc, length),
+    }
+}
+
+// The term of these pieces.
+pub fn term(alloc: Global, pieces: &[Piece]) -> Result<Term, Fail> {
+    let mut terms = Vec::new(alloc);
+    for piece in pieces {
+        let next = next_term(alloc, *piece, &mut terms)?;
+        terms.push(next)?;
+    }
+    last(&mut terms)
 }

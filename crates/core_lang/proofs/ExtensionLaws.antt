@@ -1,13 +1,14 @@
 -- A derivation keeps the places and what they hold: it only gives terms to places that have none.
 use Rattle.std.proofs.Common.{◌≡◌, ℕ, zero, suc, ◌+◌, Option, Some, None, List, [], ◌∷◌, length, take, ◌++◌, refl, sym, ◌∙◌, arith, subst, length-append, length-take}
 use Rattle.std.specs.Prelude.{Bool, true, false}
-use Rattle.term_model.specs.Term.{Tree, Trees, fits}
+use Rattle.term_model.specs.Term.{Tree, Trees, fits, all_fit}
 use Rattle.core_lang.specs.Program.{Strategy}
 use Rattle.core_lang.specs.Environment.{Environment, Bindings, Reading}
-use Rattle.core_lang.specs.Matching.{Holds, instance, instances}
+use Rattle.core_lang.specs.Matching.{Holds}
+use Rattle.core_lang.specs.Building.{instance, instances}
 use Rattle.term_model.specs.Flat.{Meaning, FlatValue, all_flat, term_of}
 use Rattle.std.specs.Option.{option_map, option_and_then}
-use Rattle.core_lang.specs.Ending.{Ending, ok, failed, oversize, IsStop, keeping, stopped, in_front, if_fits, built, with_parts, rebuilt, all_fit, arguments, answered}
+use Rattle.core_lang.specs.Ending.{Ending, ok, keeping, in_front, if_fits, built, with_parts, rebuilt, arguments, answered, stop}
 use Rattle.core_lang.specs.Derivation.{Derives, by_id, by_fail, by_seq, by_seq_stop, by_choice_then, by_choice_else, by_choice_oversize, by_match, by_no_match, by_build, by_scope, by_all, by_one, by_some, by_definitions, by_call, by_call_stop, by_parameter, by_primitive, DerivesAll, all_end, all_next, all_stop, DerivesOne, one_end, one_found, one_stop, one_next, DerivesSome, some_end, some_none, some_found, some_stays, some_stop}
 use Rattle.core_lang.specs.Extension.{Extends, ExtendsTo}
 
@@ -20,13 +21,11 @@ extends_trans a b = record { same_places = b.same_places ∙ a.same_places; keep
 -- through one more derivation
 then_to : {e f : Bindings} (o : Ending Tree) → Extends e f → ExtendsTo f o → ExtendsTo e o
 then_to (ok t g) a b = extends_trans a b
-then_to failed a b = tt
-then_to oversize a b = tt
+then_to (stop q) a b = tt
 
 then_all_to : {e f : Bindings} (t : Tree) (r : Ending Trees) → Extends e f → ExtendsTo f r → ExtendsTo e (in_front t r)
 then_all_to t (ok ts g) a b = extends_trans a b
-then_all_to t failed a b = tt
-then_all_to t oversize a b = tt
+then_all_to t (stop q) a b = tt
 
 fits_to : {A : Type 0} {e f : Bindings} (b : Bool) (v : A) → Extends e f → ExtendsTo e (if_fits b v f)
 fits_to true v a = a
@@ -38,18 +37,7 @@ built_to (Some t) a = fits_to (fits t) t a
 
 rebuilt_to : (e : Bindings) (t : Tree) (r : Ending Trees) → ExtendsTo e r → ExtendsTo e (rebuilt t r)
 rebuilt_to e t (ok ts f) a = built_to (Some (with_parts t ts)) a
-rebuilt_to e t failed a = tt
-rebuilt_to e t oversize a = tt
-
-stop_to : (e : Bindings) (o : Ending Tree) → IsStop o → ExtendsTo e o
-stop_to e (ok t f) s = absurd s
-stop_to e failed s = tt
-stop_to e oversize s = tt
-
-stopped_to : (e : Bindings) (o : Ending Tree) → ExtendsTo e (stopped o)
-stopped_to e (ok t f) = tt
-stopped_to e failed = tt
-stopped_to e oversize = tt
+rebuilt_to e t (stop q) a = tt
 
 all_fit_to : (e : Bindings) (b : Bool) (ts : Trees) (answer : List FlatValue → Option FlatValue) → ExtendsTo e (answered answer (if_fits b ts e))
 all_fit_to e true ts answer = built_to (option_map term_of (option_and_then answer (all_flat ts))) (extends_same e)
@@ -79,8 +67,7 @@ dropped_to e g (ok t f) a =
       same_places = simp length-take (omega arith);
       keeps = λ i u h. held_below e f i u h (a.keeps i u (held_in_front e g i u h));
     }
-dropped_to e g failed a = tt
-dropped_to e g oversize a = tt
+dropped_to e g (stop q) a = tt
 
 module _ {X B : Type 0} {R : Reading X B} {M : Meaning} where
   mutual
@@ -89,7 +76,7 @@ module _ {X B : Type 0} {R : Reading X B} {M : Meaning} where
     extends_to {e = e} by_id = extends_same e
     extends_to by_fail = tt
     extends_to {o = o} (by_seq x y h) = then_to o (extends_to x) (extends_to y)
-    extends_to {e = e} {o = o} (by_seq_stop x s h) = stop_to e o s
+    extends_to (by_seq_stop x h) = tt
     extends_to {o = o} (by_choice_then x y h) = then_to o (extends_to x) (extends_to y)
     extends_to (by_choice_else x y h) = extends_to y
     extends_to (by_choice_oversize x h) = tt
@@ -102,14 +89,14 @@ module _ {X B : Type 0} {R : Reading X B} {M : Meaning} where
     extends_to {t = t} {e = e} (by_some {r = r} x h k) = subst (λ o. ExtendsTo e o) (sym h) (rebuilt_to e t r (some_extend_to x))
     extends_to (by_definitions x h) = extends_to x
     extends_to {e = e} (by_call {o1 = p} f us x h k) = subst (λ o. ExtendsTo e o) (sym h) (dropped_to e _ p (extends_to x))
-    extends_to {e = e} {o = o} (by_call_stop f us s) = stop_to e o s
+    extends_to (by_call_stop f us) = tt
     extends_to (by_parameter f x h) = extends_to x
     extends_to {V = V} {e = e} (by_primitive {f = g} {ps = ps} h) = subst (λ o. ExtendsTo e o) (sym h) (answered_to e (instances (R.place_of V) ps e) (M g))
 
     pub all_extend_to : {V : Environment X B} {s : Strategy X B} {ts : Trees} {e : Bindings} {r : Ending Trees} {n : ℕ} → DerivesAll R M V s ts e r n → ExtendsTo e r
     all_extend_to {e = e} all_end = extends_same e
     all_extend_to {e = e} (all_next {t1 = u} {r1 = q} x y h k) = subst (λ r. ExtendsTo e r) (sym h) (then_all_to u q (extends_to x) (all_extend_to y))
-    all_extend_to {e = e} (all_stop {o = o} x s h) = subst (λ r. ExtendsTo e r) (sym h) (stopped_to e o)
+    all_extend_to (all_stop x) = tt
 
     pub one_extends_to : {V : Environment X B} {s : Strategy X B} {ts : Trees} {e : Bindings} {r : Ending Trees} {n : ℕ} → DerivesOne R M V s ts e r n → ExtendsTo e r
     one_extends_to one_end = tt

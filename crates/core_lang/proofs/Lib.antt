@@ -17,3 +17,5 @@ pub mod InRangeLaws
 pub mod PrimitiveLaws
 pub mod ReadLaws
 pub mod RangeLaws
+pub mod PutLaws
+pub mod ElementLaws

@@ -13,18 +13,18 @@ use Rattle.core_lang.specs.declared.range.Layers as declared
 use Rattle.core_lang.specs.declared.range.Layers.TheFolds.{fold-roll-Layers}
 use Rattle.core_lang.specs.InRange.{Layers, layer_of, layer_of_definitions, no_layers, outside, IsVariable, IsDefinition, IsCallee, StrategyInRange, StrategiesInRange, PatternInRange, PatternsInRange, ElementsInRange}
 use Rattle.core_lang.specs.RangeOfCode.{layers_step, layers_of, ArmInRange, ArmsInRange}
-use Rattle.core_lang.specs.Resolved.{PlacedStrategy}
-use Rattle.core_lang.specs.declared.place.Place.{Place}
+use Rattle.core_lang.specs.Resolved.{ResolvedStrategy}
+use Rattle.core_lang.specs.declared.coordinate.Coordinate.{Coordinate}
 use Rattle.core_lang.specs.declared.program.CorePattern.{CorePattern}
 use Rattle.core_lang.specs.Program.{Pattern, list, call, strategies_count, patterns_count}
 use Rattle.core_lang.specs.Views.{pattern_of, patterns_of, elements_in, rest_of, Arm, chain, first_of, strategy_of, strategies_in, strategies_of, arm_of, def_of, definitions_of}
 use Rattle.core_lang.proofs.ReadLaws.{reads_list, reads_sequence, reads_choice}
 
-pub chain_range : (L : Layers) (s : PlacedStrategy) (ss : List PlacedStrategy) → StrategyInRange L (chain s ss) ↔ (StrategyInRange L s × StrategiesInRange L (strategies_in ss))
+pub chain_range : (L : Layers) (s : ResolvedStrategy) (ss : List ResolvedStrategy) → StrategyInRange L (chain s ss) ↔ (StrategyInRange L s × StrategiesInRange L (strategies_in ss))
 chain_range L s [] = (λ h. (h, tt), λ h. h.0)
 chain_range L s (r ∷ rs) = let others = chain_range L r rs in (λ h. (h.0, others.0 h.1), λ h. (h.0, others.1 h.1))
 
-pub choice_range : (L : Layers) (arms : List Arm) (s : PlacedStrategy) → StrategyInRange L (first_of arms s) ↔ (ArmsInRange L arms × StrategyInRange L s)
+pub choice_range : (L : Layers) (arms : List Arm) (s : ResolvedStrategy) → StrategyInRange L (first_of arms s) ↔ (ArmsInRange L arms × StrategyInRange L s)
 choice_range L [] s = (λ h. (tt, h), λ h. h.1)
 choice_range L (a ∷ arms) s = let others = choice_range L arms s in (λ h. (((h.0, h.1), (others.0 h.2).0), (others.0 h.2).1), λ h. (h.0.0.0, h.0.0.1, others.1 (h.0.1, h.1)))
 
@@ -90,13 +90,13 @@ counted_patterns [] = refl
 counted_patterns (p ∷ ps) = ap (λ n. 1 + n) (counted_patterns ps) ∙ omega arith
 
 -- a call's callee, by the number of its arguments
-pub call_range : (L : Layers) (x : Place) (ss : List CoreStrategy) (ps : List CorePattern) (m k : ℕ) → m ≡ length ss → k ≡ length ps →
-    StrategyInRange L (call x (strategies_of ss) (patterns_of ps)) ↔ (IsCallee (outside L x.hops) x.slot m k × (StrategiesInRange L (strategies_of ss) × PatternsInRange L (patterns_of ps)))
+pub call_range : (L : Layers) (x : Coordinate) (ss : List CoreStrategy) (ps : List CorePattern) (m k : ℕ) → m ≡ length ss → k ≡ length ps →
+    StrategyInRange L (call x (strategies_of ss) (patterns_of ps)) ↔ (IsCallee (outside L x.layers_up) x.slot m k × (StrategiesInRange L (strategies_of ss) × PatternsInRange L (patterns_of ps)))
 call_range L x ss ps m k hm hk =
     let as_many : strategies_count (strategies_of ss) ≡ m = counted_strategies ss ∙ sym hm in
     let terms : patterns_count (patterns_of ps) ≡ k = counted_patterns ps ∙ sym hk in (
-      λ h. (subst (λ n. IsCallee (outside L x.hops) x.slot m n) terms (subst (λ n. IsCallee (outside L x.hops) x.slot n (patterns_count (patterns_of ps))) as_many h.0), (h.1, h.2)),
-      λ h. (subst (λ n. IsCallee (outside L x.hops) x.slot (strategies_count (strategies_of ss)) n) (sym terms) (subst (λ n. IsCallee (outside L x.hops) x.slot n k) (sym as_many) h.0), h.1.0, h.1.1),
+      λ h. (subst (λ n. IsCallee (outside L x.layers_up) x.slot m n) terms (subst (λ n. IsCallee (outside L x.layers_up) x.slot n (patterns_count (patterns_of ps))) as_many h.0), (h.1, h.2)),
+      λ h. (subst (λ n. IsCallee (outside L x.layers_up) x.slot (strategies_count (strategies_of ss)) n) (sym terms) (subst (λ n. IsCallee (outside L x.layers_up) x.slot n k) (sym as_many) h.0), h.1.0, h.1.1),
     )
 
 -- the elements of a list, and those and the rest
@@ -104,13 +104,13 @@ pub elements_range : (L : Layers) (ps : List CorePattern) → ElementsInRange L 
 elements_range L [] = (λ h. h, λ h. h)
 elements_range L (p ∷ ps) = let others = elements_range L ps in (λ h. (h.0, others.0 h.1), λ h. (h.0, others.1 h.1))
 
-pub rest_range : (L : Layers) (ps : List CorePattern) (r : Pattern Place) →
+pub rest_range : (L : Layers) (ps : List CorePattern) (r : Pattern Coordinate) →
     ElementsInRange L (elements_in (map pattern_of ps) (Some r)) ↔ (PatternsInRange L (patterns_of ps) × PatternInRange L r)
 rest_range L [] r = (λ h. (tt, h), λ h. h.1)
 rest_range L (p ∷ ps) r = let others = rest_range L ps r in (λ h. ((h.0, (others.0 h.1).0), (others.0 h.1).1), λ h. (h.0.0, others.1 (h.0.1, h.1)))
 
 -- the range of the rest of a list, if there is one
-abbrev pub RestInRange : Layers → Option (Pattern Place) → Type 0
+abbrev pub RestInRange : Layers → Option (Pattern Coordinate) → Type 0
 RestInRange L None = Unit {0}
 RestInRange L (Some r) = PatternInRange L r
 

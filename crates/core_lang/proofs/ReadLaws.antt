@@ -1,7 +1,7 @@
 -- What each form of the code stands for.
 use Rattle.std.proofs.Common.{◌≡◌, ℕ, ℤ, map, Option, Some, None, sym, ◌∙◌, ap, Vec, Box, Global}
 use Rattle.term_model.specs.Symbol.{Symbol}
-use Rattle.core_lang.specs.declared.place.Place.{Place}
+use Rattle.core_lang.specs.declared.coordinate.Coordinate.{Coordinate}
 use Rattle.core_lang.specs.declared.program.CorePattern.{CorePattern}
 use Rattle.core_lang.specs.declared.program.CorePattern.TheVariants as patterns
 use Rattle.core_lang.specs.declared.program.CorePattern.TheOpen as pattern_forms
@@ -14,19 +14,19 @@ use Rattle.core_lang.specs.declared.program.CoreStrategy.TheVariants as strategi
 use Rattle.core_lang.specs.declared.program.CoreStrategy.TheOpen as forms
 use Rattle.core_lang.specs.declared.program.CoreStrategy.TheFolds.{fold-roll-CoreStrategy, fold_out-CoreArm, fold_out-CoreDef, map-CoreStrategy}
 use Rattle.core_lang.specs.declared.program.CoreStrategy.TheViews.{roll-CoreStrategy, out-CoreArm, out-CoreDef}
-use Rattle.core_lang.specs.Program.{Pattern, anything, variable, alias, integer, applied, list, annotated_as, Strategy, id, fail, seq, choice, match, build, scope, all, one, some, with_definitions, call}
+use Rattle.core_lang.specs.Program.{Pattern, anything, variable, alias, integer, applied, list, like, Strategy, id, fail, seq, choice, match, build, scope, all, one, some, with_definitions, call}
 use Rattle.core_lang.specs.Views.{pattern_of, pattern_step, patterns_of, elements_in, rest_of, chain, Arm, first_of, strategy_of, strategies_of, strategy_step, arm_of, arm_step, Def, def_of, def_step, definitions_of}
 
-pattern_roll : (x : pattern_forms.CorePattern-F CorePattern) → pattern_of (roll-CorePattern x) ≡ pattern_step (map-CorePattern CorePattern (Pattern Place) pattern_of x)
-pattern_roll = fold-roll-CorePattern (Pattern Place) pattern_step
+pattern_roll : (x : pattern_forms.CorePattern-F CorePattern) → pattern_of (roll-CorePattern x) ≡ pattern_step (map-CorePattern CorePattern (Pattern Coordinate) pattern_of x)
+pattern_roll = fold-roll-CorePattern (Pattern Coordinate) pattern_step
 
 pub reads_anything : pattern_of patterns.Anything ≡ anything
 reads_anything = ap pattern_of (sym patterns.rolls-Anything) ∙ pattern_roll pattern_forms.Anything
 
-pub reads_variable : (x : Place) → pattern_of (patterns.Variable x) ≡ variable x
+pub reads_variable : (x : Coordinate) → pattern_of (patterns.Variable x) ≡ variable x
 reads_variable x = ap pattern_of (sym (patterns.rolls-Variable x)) ∙ pattern_roll (pattern_forms.Variable x)
 
-pub reads_alias : (x : Place) (p : Box CorePattern Global) → pattern_of (patterns.Alias x p) ≡ alias x (pattern_of p.value)
+pub reads_alias : (x : Coordinate) (p : Box CorePattern Global) → pattern_of (patterns.Alias x p) ≡ alias x (pattern_of p.value)
 reads_alias x p = ap pattern_of (sym (patterns.rolls-Alias x p)) ∙ pattern_roll (pattern_forms.Alias x p)
 
 pub reads_integer : (z : ℤ) → pattern_of (patterns.Integer z) ≡ integer z
@@ -39,12 +39,12 @@ pub reads_list : (ps : Vec CorePattern Global) (rest : Option (Box CorePattern G
 reads_list ps None = ap pattern_of (sym (patterns.rolls-List ps None)) ∙ pattern_roll (pattern_forms.List ps None)
 reads_list ps (Some p) = ap pattern_of (sym (patterns.rolls-List ps (Some p))) ∙ pattern_roll (pattern_forms.List ps (Some p))
 
-pub reads_annotated : (p : Box CorePattern Global) (x : Place) → pattern_of (patterns.Annotated p x) ≡ annotated_as (pattern_of p.value) x
-reads_annotated p x = ap pattern_of (sym (patterns.rolls-Annotated p x)) ∙ pattern_roll (pattern_forms.Annotated p x)
+pub reads_like : (p : Box CorePattern Global) (x : Coordinate) → pattern_of (patterns.Like p x) ≡ like (pattern_of p.value) x
+reads_like p x = ap pattern_of (sym (patterns.rolls-Like p x)) ∙ pattern_roll (pattern_forms.Like p x)
 
 strategy_roll : (x : forms.CoreStrategy-F CoreStrategy CoreArm CoreDef) →
-    strategy_of (roll-CoreStrategy x) ≡ strategy_step (map-CoreStrategy CoreStrategy CoreArm CoreDef (Strategy Place ℕ) Arm Def strategy_of arm_of def_of x)
-strategy_roll = fold-roll-CoreStrategy (Strategy Place ℕ) Arm Def strategy_step arm_step def_step
+    strategy_of (roll-CoreStrategy x) ≡ strategy_step (map-CoreStrategy CoreStrategy CoreArm CoreDef (Strategy Coordinate ℕ) Arm Def strategy_of arm_of def_of x)
+strategy_roll = fold-roll-CoreStrategy (Strategy Coordinate ℕ) Arm Def strategy_step arm_step def_step
 
 pub reads_id : strategy_of strategies.Id ≡ id
 reads_id = ap strategy_of (sym strategies.rolls-Id) ∙ strategy_roll forms.Id
@@ -81,12 +81,12 @@ reads_some s = ap strategy_of (sym (strategies.rolls-Some s)) ∙ strategy_roll 
 pub reads_let : (ds : Vec CoreDef Global) (s : Box CoreStrategy Global) → strategy_of (strategies.LetIn ds s) ≡ with_definitions (definitions_of ds.items) (strategy_of s.value)
 reads_let ds s = ap strategy_of (sym (strategies.rolls-LetIn ds s)) ∙ strategy_roll (forms.LetIn ds s)
 
-pub reads_call : (x : Place) (ss : Vec CoreStrategy Global) (ps : Vec CorePattern Global) →
+pub reads_call : (x : Coordinate) (ss : Vec CoreStrategy Global) (ps : Vec CorePattern Global) →
     strategy_of (strategies.Call x ss ps) ≡ call x (strategies_of ss.items) (patterns_of ps.items)
 reads_call x ss ps = ap strategy_of (sym (strategies.rolls-Call x ss ps)) ∙ strategy_roll (forms.Call x ss ps)
 
 pub reads_arm : (a : CoreArm) → arm_of a ≡ record { guard = strategy_of (out-CoreArm a).guard; then = strategy_of (out-CoreArm a).then }
-reads_arm a = fold_out-CoreArm (Strategy Place ℕ) Arm Def strategy_step arm_step def_step a
+reads_arm a = fold_out-CoreArm (Strategy Coordinate ℕ) Arm Def strategy_step arm_step def_step a
 
 pub reads_def : (d : CoreDef) → def_of d ≡ record { strats = (out-CoreDef d).strats; terms = (out-CoreDef d).terms; body = strategy_of (out-CoreDef d).body }
-reads_def d = fold_out-CoreDef (Strategy Place ℕ) Arm Def strategy_step arm_step def_step d
+reads_def d = fold_out-CoreDef (Strategy Coordinate ℕ) Arm Def strategy_step arm_step def_step d

@@ -6,7 +6,7 @@ use Rattle.term_model.specs.declared.term.Head.TheVariants as heads
 use Rattle.term_model.specs.Term.{node, Trees}
 use Rattle.term_model.specs.Same.{same_head}
 use Rattle.term_model.specs.Flat.{Meaning}
-use Rattle.core_lang.specs.Program.{Pattern, anything, variable, alias, integer, applied, list, annotated_as, Strategy, seq, match, scope}
+use Rattle.core_lang.specs.Program.{Pattern, anything, variable, alias, integer, applied, list, like, Strategy, seq, match, scope}
 use Rattle.core_lang.specs.Environment.{Environment, Bindings, Reading}
 use Rattle.core_lang.specs.Ending.{failed}
 use Rattle.core_lang.specs.Derivation.{Derives, by_seq_stop, by_no_match, by_scope}
@@ -21,7 +21,7 @@ can_be (alias x p) h = can_be p h
 can_be (integer z) h = same_head h (heads.Int z)
 can_be (applied f ps) h = same_head h (heads.App f)
 can_be (list ps) h = same_head h heads.List
-can_be (annotated_as p x) h = false
+can_be (like p x) h = false
 
 then_none : (o : Option Bindings) (go : Bindings → Option Bindings) → ((e : Bindings) → go e ≡ None) → and_then o go ≡ None
 then_none None go h = refl
@@ -35,13 +35,13 @@ module _ {X : Type 0} (place : X → Option ℕ) where
   root_fails (integer z) h ts annos e k = ap (λ b. if b then Some e else None) k
   root_fails (applied f ps) h ts annos e k = ap (λ b. if b then tried_all place ps ts e else None) k
   root_fails (list ps) h ts annos e k = ap (λ b. if b then tried_elements place ps ts e else None) k
-  root_fails (annotated_as p x) h ts annos e k = refl
+  root_fails (like p x) h ts annos e k = refl
 
 module _ {X B : Type 0} {R : Reading X B} {M : Meaning} where
   -- with no scope: two nodes
   pub other_root : {V : Environment X B} {p : Pattern X} {s : Strategy X B} {h : Head} {ts annos : Trees} {e : Bindings} → can_be p h ≡ false →
       Derives R M V (seq (match p) s) (node h ts annos) e failed 2
-  other_root {V} {p} {s} {h} {ts} {annos} {e} k = by_seq_stop (by_no_match (tried_none (R.place_of V) (root_fails (R.place_of V) p h ts annos e k))) tt refl
+  other_root {V} {p} {s} {h} {ts} {annos} {e} k = by_seq_stop (by_no_match (tried_none (R.place_of V) (root_fails (R.place_of V) p h ts annos e k))) refl
 
   -- in a scope: three
   pub other_root_in_scope : {V : Environment X B} {xs : B} {p : Pattern X} {s : Strategy X B} {h : Head} {ts annos : Trees} {e : Bindings} → can_be p h ≡ false →

@@ -4,12 +4,13 @@ use Rattle.std.specs.Prelude.{Bool, true, false, List}
 use Rattle.term_model.specs.Term.{Tree, Trees, end, more}
 use Rattle.core_lang.specs.Program.{Pattern, Patterns, Strategy, id, fail, seq, choice, match, build, scope, all, one, some, with_definitions, call, primitive, Strategies, Definitions}
 use Rattle.core_lang.specs.Environment.{Environment, layer, definitions, Bindings, no_closures, closure, definition, Reading, closures_of, empty_places, filled_places}
-use Rattle.core_lang.specs.Matching.{Matches, instance, instances}
+use Rattle.core_lang.specs.Matching.{Matches}
+use Rattle.core_lang.specs.Building.{instance, instances}
 use Rattle.term_model.specs.Flat.{Meaning}
-use Rattle.core_lang.specs.Ending.{Ending, ok, failed, oversize, IsStop, keeping, stopped, built, rebuilt, arguments, answered}
+use Rattle.core_lang.specs.Ending.{Ending, ok, failed, oversize, keeping, built, rebuilt, arguments, answered, Stop, stop}
 use Rattle.core_lang.specs.Derivation.{called, parts, Derives, by_id, by_fail, by_seq, by_seq_stop, by_choice_then, by_choice_else, by_choice_oversize, by_match, by_no_match, by_build, by_scope, by_all, by_one, by_some, by_definitions, by_call, by_call_stop, by_parameter, by_primitive, DerivesAll, all_end, all_next, all_stop, DerivesOne, one_end, one_found, one_stop, one_next, DerivesSome, some_end, some_none, some_found, some_stays, some_stop}
 use Rattle.core_lang.specs.Settled.{Verdict, ends, spent, Settled, settled, unsettled, AllSettled, all_settled, all_unsettled, OneSettled, one_settled, one_unsettled, SomeSettled, some_settled, some_unsettled, verdict_in_front}
-use Rattle.core_lang.proofs.Unique.{unique, moved, moved_all, moved_some, moved_call, moved_closure, no_stop, no_stop_results}
+use Rattle.core_lang.proofs.Unique.{unique, moved, moved_all, moved_some, moved_call, moved_closure, no_stop}
 
 -- the endings of one strategy are those of another one, changed, by one node more
 module _ {X B : Type 0} {R : Reading X B} {M : Meaning} {V W : Environment X B} {r s : Strategy X B} {t : Tree} {e f : Bindings} (g : Ending Tree → Ending Tree)
@@ -31,7 +32,7 @@ module _ {X B : Type 0} {R : Reading X B} {M : Meaning} where
   has_node by_id = omega arith
   has_node by_fail = omega arith
   has_node (by_seq x y h) = omega arith
-  has_node (by_seq_stop x s h) = omega arith
+  has_node (by_seq_stop x h) = omega arith
   has_node (by_choice_then x y h) = omega arith
   has_node (by_choice_else x y h) = omega arith
   has_node (by_choice_oversize x h) = omega arith
@@ -44,7 +45,7 @@ module _ {X B : Type 0} {R : Reading X B} {M : Meaning} where
   has_node (by_some x h k) = omega arith
   has_node (by_definitions x h) = omega arith
   has_node (by_call f us x h k) = omega arith
-  has_node (by_call_stop f us s) = omega arith
+  has_node (by_call_stop f us) = omega arith
   has_node (by_parameter f x h) = omega arith
   has_node (by_primitive h) = omega arith
 
@@ -93,7 +94,7 @@ module _ {X B : Type 0} {R : Reading X B} {M : Meaning} where
         let less = lacks _ _ (moved q.outcome y') in
         let same = q.nodes in
         omega arith
-    seq_beyond x h lacks (by_seq_stop x' st k) = absurd (no_stop (unique x x').outcome st)
+    seq_beyond x h lacks (by_seq_stop x' k) = absurd (no_stop (unique x x').outcome)
 
     -- the first is ok: all depends on the second
     pub seq_goes_on : {u : Tree} {f : Bindings} {b d c : ℕ} {q : Verdict Tree} →
@@ -101,12 +102,12 @@ module _ {X B : Type 0} {R : Reading X B} {M : Meaning} where
     seq_goes_on (settled x h) (settled y k) = settled (by_seq x y refl) (omega arith)
     seq_goes_on (settled x h) (unsettled lacks) = unsettled (λ o n d. seq_beyond x h lacks d)
 
-    pub seq_stops : {o : Ending Tree} {b c : ℕ} → Settled R M V r t e b (ends o) c → IsStop o → Settled R M V (seq r s) t e (1 + b) (ends o) c
-    seq_stops (settled x h) st = settled (by_seq_stop x st refl) (omega arith)
+    pub seq_stops : {q : Stop} {b c : ℕ} → Settled R M V r t e b (ends (stop q)) c → Settled R M V (seq r s) t e (1 + b) (ends (stop q)) c
+    seq_stops (settled x h) = settled (by_seq_stop x refl) (omega arith)
 
     seq_over : {b : ℕ} {o : Ending Tree} {n : ℕ} → ((o : Ending Tree) (n : ℕ) → Derives R M V r t e o n → b < n) → Derives R M V (seq r s) t e o n → 1 + b < n
     seq_over lacks (by_seq x y k) = let less = lacks _ _ x in omega arith
-    seq_over lacks (by_seq_stop x st k) = let less = lacks _ _ x in omega arith
+    seq_over lacks (by_seq_stop x k) = let less = lacks _ _ x in omega arith
 
     pub seq_spent : {b c d : ℕ} → Settled R M V r t e b spent c → Settled R M V (seq r s) t e (1 + b) spent d
     seq_spent (unsettled lacks) = unsettled (λ o n d. seq_over lacks d)
@@ -188,23 +189,23 @@ module _ {X B : Type 0} {R : Reading X B} {M : Meaning} where
     -- of nothing: there is no derivation
     no_callee : (o : Ending Tree) (n : ℕ) → called R V g ss ps ≡ None → Derives R M V (call g ss ps) t e o n → ⊥
     no_callee o n is (by_call is' us x h c) = let k = sym is ∙ is' in cc
-    no_callee o n is (by_call_stop is' us s) = let k = sym is ∙ is' in cc
+    no_callee o n is (by_call_stop is' us) = let k = sym is ∙ is' in cc
     no_callee o n is (by_parameter is' x c) = let k = sym is ∙ is' in cc
 
     pub call_of_nothing : (b c : ℕ) → called R V g ss ps ≡ None → Settled R M V (call g ss ps) t e b spent c
     call_of_nothing b c is = unsettled (λ o n d. absurd (no_callee o n is d))
 
     -- of a definition, an argument of which can't be built
-    pub call_stops : {W : Environment X B} {fs xs : B} {s : Strategy X B} {o : Ending Tree} (b : ℕ) → called R V g ss ps ≡ Some (definition fs xs s W) →
-        arguments (instances (R.place_of V) ps e) e ≡ stopped o → IsStop o → Settled R M V (call g ss ps) t e (1 + b) (ends o) b
-    call_stops b is us st = settled (by_call_stop is us st) (omega arith)
+    pub call_stops : {W : Environment X B} {fs xs : B} {s : Strategy X B} {q : Stop} (b : ℕ) → called R V g ss ps ≡ Some (definition fs xs s W) →
+        arguments (instances (R.place_of V) ps e) e ≡ stop q → Settled R M V (call g ss ps) t e (1 + b) (ends (stop q)) b
+    call_stops b is us = settled (by_call_stop is us) (omega arith)
 
   module _ {V W : Environment X B} {g : X} {ss : Strategies X B} {ps : Patterns X} {fs xs : B} {s : Strategy X B} {ts : Trees} {t : Tree} {e : Bindings}
       (is : called R V g ss ps ≡ Some (definition fs xs s W)) (given : arguments (instances (R.place_of V) ps e) e ≡ ok ts e) where
     call_only : (o : Ending Tree) (n : ℕ) → Derives R M V (call g ss ps) t e o n →
         (p : Ending Tree) × (i : ℕ) × Derives R M (layer (length e) fs xs (closures_of R V ss) W) s t (e ++ filled_places ts) p i × (n ≡ 1 + i)
     call_only o n (by_call {o1 = p} {n1 = i} is' given' x h c) = (p, i, moved_call V ss t e (sym is ∙ is') (sym given ∙ given') x, c)
-    call_only o n (by_call_stop is' given' st) = absurd (no_stop_results ts e o st (sym given ∙ given'))
+    call_only o n (by_call_stop is' given') = absurd (no_stop (sym given ∙ given'))
     call_only o n (by_parameter is' x c) = let k = sym is ∙ is' in cc
 
     pub call_ends : {o : Ending Tree} {b c : ℕ} → Settled R M (layer (length e) fs xs (closures_of R V ss) W) s t (e ++ filled_places ts) b (ends o) c →
@@ -219,7 +220,7 @@ module _ {X B : Type 0} {R : Reading X B} {M : Meaning} where
       (is : called R V g ss ps ≡ Some (closure s W)) where
     parameter_only : (o : Ending Tree) (n : ℕ) → Derives R M V (call g ss ps) t e o n → (p : Ending Tree) × (i : ℕ) × Derives R M W s t e p i × (n ≡ 1 + i)
     parameter_only o n (by_call is' given' x h c) = let k = sym is ∙ is' in cc
-    parameter_only o n (by_call_stop is' given' st) = let k = sym is ∙ is' in cc
+    parameter_only o n (by_call_stop is' given') = let k = sym is ∙ is' in cc
     parameter_only o n (by_parameter {n1 = i} is' x c) = (o, i, moved_closure t e (sym is ∙ is') x, c)
 
     pub parameter_ends : {o : Ending Tree} {b c : ℕ} → Settled R M W s t e b (ends o) c → Settled R M V (call g ss ps) t e (1 + b) (ends o) c
@@ -241,7 +242,7 @@ module _ {X B : Type 0} {R : Reading X B} {M : Meaning} where
         let less = lacks _ _ (moved_all q.outcome y') in
         let same = q.nodes in
         omega arith
-    next_beyond x h lacks (all_stop x' st k) = absurd (no_stop (unique x x').outcome st)
+    next_beyond x h lacks (all_stop x') = absurd (no_stop (unique x x').outcome)
 
     -- the first is ok: all depends on the others
     pub all_goes_on : {u : Tree} {f : Bindings} {b d c : ℕ} {r : Verdict Trees} →
@@ -249,12 +250,12 @@ module _ {X B : Type 0} {R : Reading X B} {M : Meaning} where
     all_goes_on (settled x h) (all_settled y k) = all_settled (all_next x y refl refl) (omega arith)
     all_goes_on (settled x h) (all_unsettled lacks) = all_unsettled (λ r n d. next_beyond x h lacks d)
 
-    pub all_stops : {o : Ending Tree} {b c : ℕ} → Settled R M V s t e b (ends o) c → IsStop o → AllSettled R M V s (more t ts) e b (ends (stopped o)) c
-    all_stops (settled x h) st = all_settled (all_stop x st refl) h
+    pub all_stops : {q : Stop} {b c : ℕ} → Settled R M V s t e b (ends (stop q)) c → AllSettled R M V s (more t ts) e b (ends (stop q)) c
+    all_stops (settled x h) = all_settled (all_stop x) h
 
     all_over : {b : ℕ} {r : Ending Trees} {n : ℕ} → ((o : Ending Tree) (n : ℕ) → Derives R M V s t e o n → b < n) → DerivesAll R M V s (more t ts) e r n → b < n
     all_over lacks (all_next x y k m) = let less = lacks _ _ x in omega arith
-    all_over lacks (all_stop x st k) = lacks _ _ x
+    all_over lacks (all_stop x) = lacks _ _ x
 
     pub all_spends : {b c d : ℕ} → Settled R M V s t e b spent c → AllSettled R M V s (more t ts) e b spent d
     all_spends (unsettled lacks) = all_unsettled (λ r n d. all_over lacks d)

@@ -2,12 +2,12 @@
 use Rattle.std.proofs.Common.{◌≡◌, ℕ, zero, suc, ◌+◌, ◌≤◌, ◌⊎◌, inl, inr, Option, Some, None, length, ◌++◌, refl, arith, subst}
 use Rattle.std.specs.Prelude.{Bool, true, false}
 use Rattle.std.proofs.Math.Numerals.{one-add}
-use Rattle.term_model.specs.Term.{Tree, Trees, end, more}
+use Rattle.term_model.specs.Term.{Tree, Trees, end, more, all_fit}
 use Rattle.core_lang.specs.Program.{Patterns, Strategy, id, fail, seq, choice, match, build, scope, all, one, some, with_definitions, call, primitive, Strategies}
 use Rattle.core_lang.specs.Environment.{Environment, layer, definitions, Bindings, no_closures, Callee, closure, definition, Reading, closures_of, empty_places, filled_places}
-use Rattle.core_lang.specs.Matching.{instances}
+use Rattle.core_lang.specs.Building.{instances}
 use Rattle.term_model.specs.Flat.{Meaning}
-use Rattle.core_lang.specs.Ending.{Ending, ok, failed, oversize, IsStop, stopped, all_fit, if_fits, arguments}
+use Rattle.core_lang.specs.Ending.{Ending, ok, if_fits, arguments, Stop, failure, excess, stop}
 use Rattle.core_lang.specs.Derivation.{called, parts}
 use Rattle.core_lang.specs.Settled.{Verdict, ends, spent, Settled, settled, unsettled, AllSettled, all_settled, all_unsettled, OneSettled, one_settled, one_unsettled, SomeSettled, some_settled, some_unsettled}
 use Rattle.core_lang.proofs.TriedLaws.{match_decided}
@@ -34,12 +34,12 @@ record SomeSettles {X B : Type 0} (R : Reading X B) (M : Meaning) (V : Environme
   fact : SomeSettled R M V s ts e found b how left
 
 -- term arguments are built, or they stop the call
-fit_cases : (b : Bool) (ts : Trees) (e : Bindings) → ((us : Trees) × (if_fits b ts e ≡ ok us e)) ⊎ ((o : Ending Tree) × IsStop o × (if_fits b ts e ≡ stopped o))
+fit_cases : (b : Bool) (ts : Trees) (e : Bindings) → ((us : Trees) × (if_fits b ts e ≡ ok us e)) ⊎ ((q : Stop) × (if_fits b ts e ≡ stop q))
 fit_cases true ts e = inl (ts, refl)
-fit_cases false ts e = inr (oversize, tt, refl)
+fit_cases false ts e = inr (excess, refl)
 
-argument_cases : (vs : Option Trees) (e : Bindings) → ((us : Trees) × (arguments vs e ≡ ok us e)) ⊎ ((o : Ending Tree) × IsStop o × (arguments vs e ≡ stopped o))
-argument_cases None e = inr (failed, tt, refl)
+argument_cases : (vs : Option Trees) (e : Bindings) → ((us : Trees) × (arguments vs e ≡ ok us e)) ⊎ ((q : Stop) × (arguments vs e ≡ stop q))
+argument_cases None e = inr (failure, refl)
 argument_cases (Some ts) e = fit_cases (all_fit ts) ts e
 
 module _ {X B : Type 0} {R : Reading X B} {M : Meaning} where
@@ -65,8 +65,7 @@ module _ {X B : Type 0} {R : Reading X B} {M : Meaning} where
   module _ (V : Environment X B) (s : Strategy X B) (b : ℕ) (each : (d : ℕ) → d ≤ b → (t : Tree) (e : Bindings) → Settles R M V s t e d) where
     all_on : (t : Tree) (ts : Trees) (e : Bindings) (d : ℕ) → d ≤ b → ((f : Bindings) (c : ℕ) → c ≤ b → AllSettles R M V s ts f c) → {q : Verdict Tree} {c : ℕ} → Settled R M V s t e d q c → AllSettles R M V s (more t ts) e d
     all_on t ts e d l others (settled {o = ok u f} {c = c} x h) = all_is (all_goes_on (settled x h) (others f c (omega arith)).fact)
-    all_on t ts e d l others (settled {o = failed} x h) = all_is (all_stops (settled x h) tt)
-    all_on t ts e d l others (settled {o = oversize} x h) = all_is (all_stops (settled x h) tt)
+    all_on t ts e d l others (settled {o = stop q} x h) = all_is (all_stops (settled x h))
     all_on t ts e d l others (unsettled lacks) = all_is (all_spends {d = 0} (unsettled {c = 0} lacks))
 
     all_settle : (ts : Trees) (e : Bindings) (d : ℕ) → d ≤ b → AllSettles R M V s ts e d
@@ -75,8 +74,8 @@ module _ {X B : Type 0} {R : Reading X B} {M : Meaning} where
 
     one_on : (t : Tree) (ts : Trees) (e : Bindings) (d : ℕ) → d ≤ b → ((c : ℕ) → c ≤ b → OneSettles R M V s ts e c) → {q : Verdict Tree} {c : ℕ} → Settled R M V s t e d q c → OneSettles R M V s (more t ts) e d
     one_on t ts e d l others (settled {o = ok u f} x h) = one_is (one_finds (settled x h))
-    one_on t ts e d l others (settled {o = failed} {c = c} x h) = one_is (one_goes_on (settled x h) (others c (omega arith)).fact)
-    one_on t ts e d l others (settled {o = oversize} x h) = one_is (one_stops (settled x h))
+    one_on t ts e d l others (settled {o = stop failure} {c = c} x h) = one_is (one_goes_on (settled x h) (others c (omega arith)).fact)
+    one_on t ts e d l others (settled {o = stop excess} x h) = one_is (one_stops (settled x h))
     one_on t ts e d l others (unsettled lacks) = one_is (one_spends {d = 0} (unsettled {c = 0} lacks))
 
     one_settle : (ts : Trees) (e : Bindings) (d : ℕ) → d ≤ b → OneSettles R M V s ts e d
@@ -85,8 +84,8 @@ module _ {X B : Type 0} {R : Reading X B} {M : Meaning} where
 
     some_on : (t : Tree) (ts : Trees) (e : Bindings) (found : Bool) (d : ℕ) → d ≤ b → ((f : Bindings) (k : Bool) (c : ℕ) → c ≤ b → SomeSettles R M V s ts f k c) → {q : Verdict Tree} {c : ℕ} → Settled R M V s t e d q c → SomeSettles R M V s (more t ts) e found d
     some_on t ts e found d l others (settled {o = ok u f} {c = c} x h) = some_is (some_goes_on (settled x h) (others f true c (omega arith)).fact)
-    some_on t ts e found d l others (settled {o = failed} {c = c} x h) = some_is (some_leaves (settled x h) (others e found c (omega arith)).fact)
-    some_on t ts e found d l others (settled {o = oversize} x h) = some_is (some_stops (settled x h))
+    some_on t ts e found d l others (settled {o = stop failure} {c = c} x h) = some_is (some_leaves (settled x h) (others e found c (omega arith)).fact)
+    some_on t ts e found d l others (settled {o = stop excess} x h) = some_is (some_stops (settled x h))
     some_on t ts e found d l others (unsettled lacks) = some_is (some_spends {d = 0} (unsettled {c = 0} lacks))
 
     some_settle : (ts : Trees) (e : Bindings) (found : Bool) (d : ℕ) → d ≤ b → SomeSettles R M V s ts e found d
@@ -110,14 +109,13 @@ module _ {X B : Type 0} {R : Reading X B} {M : Meaning} where
   module _ (b : ℕ) (below : (d : ℕ) → d ≤ b → (V : Environment X B) (s : Strategy X B) (t : Tree) (e : Bindings) → Settles R M V s t e d) where
     seq_row : {V : Environment X B} {r s : Strategy X B} {t : Tree} {e : Bindings} {q : Verdict Tree} {c : ℕ} → Settled R M V r t e b q c → Settles R M V (seq r s) t e (1 + b)
     seq_row {V} {r} {s} (settled {o = ok u f} {c = c} x h) = is_settled (seq_goes_on (settled x h) (below c (omega arith) V s u f).fact)
-    seq_row (settled {o = failed} x h) = is_settled (seq_stops (settled x h) tt)
-    seq_row (settled {o = oversize} x h) = is_settled (seq_stops (settled x h) tt)
+    seq_row (settled {o = stop q} x h) = is_settled (seq_stops (settled x h))
     seq_row (unsettled lacks) = is_settled (seq_spent {d = 0} (unsettled {c = 0} lacks))
 
     choice_row : {V : Environment X B} {r s p : Strategy X B} {t : Tree} {e : Bindings} {q : Verdict Tree} {c : ℕ} → Settled R M V r t e b q c → Settles R M V (choice r s p) t e (1 + b)
     choice_row {V} {r} {s} (settled {o = ok u f} {c = c} x h) = is_settled (choice_then (settled x h) (below c (omega arith) V s u f).fact)
-    choice_row {V} {r} {s} {p} {t} {e} (settled {o = failed} {c = c} x h) = is_settled (choice_else (settled x h) (below c (omega arith) V p t e).fact)
-    choice_row (settled {o = oversize} x h) = is_settled (choice_oversize (settled x h))
+    choice_row {V} {r} {s} {p} {t} {e} (settled {o = stop failure} {c = c} x h) = is_settled (choice_else (settled x h) (below c (omega arith) V p t e).fact)
+    choice_row (settled {o = stop excess} x h) = is_settled (choice_oversize (settled x h))
     choice_row (unsettled lacks) = is_settled (choice_spent {d = 0} (unsettled {c = 0} lacks))
 
     call_row : (V : Environment X B) (g : X) (ss : Strategies X B) (ps : Patterns X) (t : Tree) (e : Bindings) (v : Option (Callee X B)) → called R V g ss ps ≡ v → Settles R M V (call g ss ps) t e (1 + b)
@@ -126,7 +124,7 @@ module _ {X B : Type 0} {R : Reading X B} {M : Meaning} where
     call_row V g ss ps t e (Some (definition fs xs s W)) is = elim (argument_cases (instances (R.place_of V) ps e) e) [
       | inl given ↦ either (below b (omega arith) (layer (length e) fs xs (closures_of R V ss) W) s t (e ++ filled_places given.0)).fact
           (λ o h. is_settled (call_ends is given.1 h)) (λ h. is_settled (call_spent is given.1 {d = 0} h))
-      | inr stop ↦ is_settled (call_stops b is stop.2 stop.1)
+      | inr stops ↦ is_settled (call_stops b is stops.1)
     ]
 
     row : (V : Environment X B) (s : Strategy X B) (t : Tree) (e : Bindings) → Settles R M V s t e (1 + b)

@@ -5,7 +5,7 @@ use Rattle.term_model.specs.Term.{Tree, Trees, more}
 use Rattle.core_lang.specs.Program.{Strategy, Strategies}
 use Rattle.core_lang.specs.Environment.{Environment, layer, Bindings, closure, definition, Reading, closures_of, filled_places}
 use Rattle.term_model.specs.Flat.{Meaning}
-use Rattle.core_lang.specs.Ending.{Ending, ok, failed, oversize, IsStop, keeping, in_front, stopped, rebuilt}
+use Rattle.core_lang.specs.Ending.{Ending, ok, keeping, in_front, rebuilt, Stop, stop}
 use Rattle.core_lang.specs.Derivation.{Derives, by_id, by_fail, by_seq, by_seq_stop, by_choice_then, by_choice_else, by_choice_oversize, by_match, by_no_match, by_build, by_scope, by_all, by_one, by_some, by_definitions, by_call, by_call_stop, by_parameter, by_primitive, DerivesAll, all_end, all_next, all_stop, DerivesOne, one_end, one_found, one_stop, one_next, DerivesSome, some_end, some_none, some_found, some_stays, some_stop}
 use Rattle.core_lang.proofs.MatchLaws.{matches_once}
 
@@ -18,22 +18,8 @@ pub record SameResults (r r' : Ending Trees) (n n' : ℕ) : Type 0 where
   pub results : r ≡ r'
   pub nodes : n ≡ n'
 
-pub no_stop : {t : Tree} {e : Bindings} {o : Ending Tree} → ok t e ≡ o → IsStop o → ⊥
-no_stop {t} {e} {o} h s = let k : IsStop (ok t e) = subst (λ x. IsStop x) (sym h) s in k
-
-pub stop_results : (o o' : Ending Tree) → IsStop o → IsStop o' → stopped o ≡ stopped o' → o ≡ o'
-stop_results (ok t e) o' s s' k = absurd s
-stop_results failed (ok t e) s s' k = absurd s'
-stop_results failed failed s s' k = refl
-stop_results failed oversize s s' k = cc
-stop_results oversize (ok t e) s s' k = absurd s'
-stop_results oversize failed s s' k = cc
-stop_results oversize oversize s s' k = refl
-
-pub no_stop_results : (ts : Trees) (e : Bindings) (o : Ending Tree) → IsStop o → ok ts e ≡ stopped o → ⊥
-no_stop_results ts e (ok t f) s h = absurd s
-no_stop_results ts e failed s h = cc
-no_stop_results ts e oversize s h = cc
+pub no_stop : {A : Type 0} {v : A} {e : Bindings} {q : Stop} → ok v e ≡ stop q → ⊥
+no_stop h = cc
 
 ok_tree : {t t' : Tree} {e e' : Bindings} → ok t e ≡ ok t' e' → t ≡ t'
 ok_tree h = cc
@@ -98,9 +84,9 @@ module _ {X B : Type 0} {R : Reading X B} {M : Meaning} where
         let q = unique x x' in
         let r = unique y (moved q.outcome y') in
         record { outcome = r.outcome; nodes = omega arith }
-    unique (by_seq x y h) (by_seq_stop x' s' h') = absurd (no_stop (unique x x').outcome s')
-    unique (by_seq_stop x s h) (by_seq x' y' h') = absurd (no_stop (sym (unique x x').outcome) s)
-    unique (by_seq_stop x s h) (by_seq_stop x' s' h') =
+    unique (by_seq x y h) (by_seq_stop x' h') = absurd (no_stop (unique x x').outcome)
+    unique (by_seq_stop x h) (by_seq x' y' h') = absurd (no_stop (sym (unique x x').outcome))
+    unique (by_seq_stop x h) (by_seq_stop x' h') =
         let q = unique x x' in record { outcome = q.outcome; nodes = omega arith }
     unique (by_choice_then x y h) (by_choice_then x' y' h') =
         let q = unique x x' in
@@ -140,14 +126,16 @@ module _ {X B : Type 0} {R : Reading X B} {M : Meaning} where
     unique {V = V} (by_call {ss = ss} {t = t} {e = e} f us x h k) (by_call f' us' x' h' k') =
         let q = unique x (moved_call V ss t e (sym f ∙ f') (sym us ∙ us') x') in
         record { outcome = h ∙ (ap (λ o. keeping (length e) o) q.outcome ∙ sym h'); nodes = omega arith }
-    unique (by_call {ts = ts} {e = e} f u x h k) (by_call_stop {o = o'} f' u' s) = absurd (no_stop_results ts e o' s (sym u ∙ u'))
+    unique (by_call {ts = ts} {e = e} f u x h k) (by_call_stop f' u') = absurd (no_stop (sym u ∙ u'))
     unique (by_call f u x h k) (by_parameter f' x' h') = let c = sym f ∙ f' in cc
-    unique (by_call_stop {o = o} f' u' s) (by_call {ts = ts} {e = e} f u x h k) = absurd (no_stop_results ts e o s (sym u ∙ u'))
-    unique (by_call_stop {o = o} f u s) (by_call_stop {o = o'} f' u' s') =
-        record { outcome = stop_results o o' s s' (sym u ∙ u'); nodes = refl }
-    unique (by_call_stop f u s) (by_parameter f' x' h') = let c = sym f ∙ f' in cc
+    unique (by_call_stop f' u') (by_call {ts = ts} {e = e} f u x h k) = absurd (no_stop (sym u ∙ u'))
+    unique (by_call_stop {q = q} f u) (by_call_stop {q = p} f' u') =
+        let same = sym u ∙ u' in
+        let cause : q ≡ p = cc in
+        record { outcome = ap (λ z. stop z) cause; nodes = refl }
+    unique (by_call_stop f u) (by_parameter f' x' h') = let c = sym f ∙ f' in cc
     unique (by_parameter f x h) (by_call f' u' x' h' k') = let c = sym f ∙ f' in cc
-    unique (by_parameter f x h) (by_call_stop f' u' s') = let c = sym f ∙ f' in cc
+    unique (by_parameter f x h) (by_call_stop f' u') = let c = sym f ∙ f' in cc
     unique (by_parameter {t = t} {e = e} f x h) (by_parameter f' x' h') =
         let q = unique x (moved_closure t e (sym f ∙ f') x') in
         record { outcome = q.outcome; nodes = omega arith }
@@ -161,11 +149,13 @@ module _ {X B : Type 0} {R : Reading X B} {M : Meaning} where
         let w = unique_all y (moved_all q.outcome y') in
         let same : u ≡ u' = ok_tree q.outcome in
         record { results = h ∙ (ap (λ r. in_front u r) w.results ∙ (ap (λ v. in_front v p') same ∙ sym h')); nodes = omega arith }
-    unique_all (all_next x y h k) (all_stop x' s' h') = absurd (no_stop (unique x x').outcome s')
-    unique_all (all_stop x s h) (all_next x' y' h' k') = absurd (no_stop (sym (unique x x').outcome) s)
-    unique_all (all_stop x s h) (all_stop x' s' h') =
-        let q = unique x x' in
-        record { results = h ∙ (ap (λ o. stopped o) q.outcome ∙ sym h'); nodes = q.nodes }
+    unique_all (all_next x y h k) (all_stop x') = absurd (no_stop (unique x x').outcome)
+    unique_all (all_stop x) (all_next x' y' h' k') = absurd (no_stop (sym (unique x x').outcome))
+    unique_all (all_stop {q = q} x) (all_stop {q = p} x') =
+        let same = unique x x' in
+        let ends = same.outcome in
+        let cause : q ≡ p = cc in
+        record { results = ap (λ z. stop z) cause; nodes = same.nodes }
 
     pub unique_one : {V : Environment X B} {s : Strategy X B} {ts : Trees} {e : Bindings} {r r' : Ending Trees} {n n' : ℕ} →
         DerivesOne R M V s ts e r n → DerivesOne R M V s ts e r' n' → SameResults r r' n n'

@@ -6,15 +6,15 @@ use Rattle.term_model.specs.Symbol.{Tuple}
 use Rattle.term_model.specs.Term.{Tree, node, end, more, fits}
 use Rattle.term_model.specs.Same.{same_head, same}
 use Rattle.term_model.specs.Flat.{Meaning, number, term_of}
-use Rattle.core_lang.specs.Ending.{ok, failed, oversize, built, if_fits}
+use Rattle.core_lang.specs.Ending.{ok, failed, oversize, built, if_fits, failure}
 use Rattle.std.specs.Option.{option_map}
 use Rattle.core_lang.specs.Derivation.{by_id, by_fail, by_seq, by_seq_stop, by_choice_else, by_match, by_no_match, by_build, by_scope, by_one, by_some, by_definitions, by_call, by_call_stop, by_parameter, by_primitive, by_choice_oversize, one_found, one_next, some_end, some_found, some_stays}
 use Rattle.core_lang.specs.Named.{Rewrites}
-use Rattle.core_lang.specs.Worked.{hands_on, congruence, takes_rest, puts_in_front, takes_same, pairs_with, lacks_argument, binds_outside, changes_one, adds, doubles, add, marked, passes_pair_placed, main, term_on_one, term_on_two, one, two, five, seven, nine, F, G, Pair, Foo, takes_first, takes_inner, passes_pair, changes_ones, tries_and_builds}
+use Rattle.core_lang.specs.Worked.{hands_on, congruence, takes_rest, puts_in_front, takes_same, pairs_with, lacks_argument, binds_outside, changes_one, adds, doubles, add, marked, passes_pair_resolved, main, term_on_one, term_on_two, one, two, five, seven, nine, F, G, Pair, Foo, takes_first, takes_inner, passes_pair, changes_ones, tries_and_builds}
 use Rattle.core_lang.proofs.MatchSteps.{binds_nothing, binds_one, binds}
 use Rattle.core_lang.proofs.MatchSteps as steps
 use Rattle.core_lang.proofs.Transport.{rewrites_to}
-use Rattle.core_lang.specs.Resolved.{RewritesByPlaces}
+use Rattle.core_lang.specs.Resolved.{RewritesByCoordinates}
 use Rattle.core_lang.specs.InRange.{InRange}
 use Rattle.core_lang.specs.Resolution.{ResolvesProgram, to_variable, to_integer, to_applied, to_no_patterns, to_more_patterns, to_id, to_seq, to_match, to_build, to_scope, to_call, to_no_strategies, to_more_strategies, to_no_definitions, to_more_definitions}
 
@@ -27,7 +27,7 @@ first M t =
 pub other_symbol : (M : Meaning) → Rewrites M takes_inner main (term_on_one G seven) failed 4
 other_symbol M =
     by_call refl refl (by_scope
-    (by_seq_stop (by_no_match (λ f m. let h = ap (λ k. same_head k (heads.App F)) m.conforms.0 in cc)) tt refl)
+    (by_seq_stop (by_no_match (λ f m. let h = ap (λ k. same_head k (heads.App F)) m.conforms.0 in cc)) refl)
     refl refl) refl refl
 
 -- what where(!5; ?x) does, and what the closure !Pair(<id>,x) does where it is called
@@ -53,7 +53,7 @@ pub some_parts : (M : Meaning) →
 some_parts M =
     by_call refl refl (by_some
     (some_found (by_seq (by_match (binds_nothing _ _ _ _ refl)) (by_build refl) refl)
-    (some_stays (by_seq_stop (by_no_match (λ f m. let h = ap (λ k. same_head k (heads.Int (pos 1))) m.conforms in cc)) tt refl)
+    (some_stays (by_seq_stop (by_no_match (λ f m. let h = ap (λ k. same_head k (heads.Int (pos 1))) m.conforms in cc)) refl)
     (some_found (by_seq (by_match (binds_nothing _ _ _ _ refl)) (by_build refl) refl) some_end refl refl) refl refl) refl refl)
     refl refl) refl refl
 
@@ -105,7 +105,7 @@ not_same M =
     let i : a.0 ≡ b.0 = cc (a.1, b.1) in
     let h : one ≡ two = cc (a.2, b.2) in
     let k = ap (λ u. same u one) h in
-    cc)) tt refl)
+    cc)) refl)
     refl refl) refl refl
 
 pub argument : (M : Meaning) → Rewrites M pairs_with main one (ok (term_on_two Tuple one seven) []) 6
@@ -115,7 +115,7 @@ argument M =
     refl refl) refl refl) refl refl
 
 pub no_argument : (M : Meaning) (t : Tree) → Rewrites M lacks_argument main t failed 3
-no_argument M t = by_call refl refl (by_scope (by_call_stop {o = failed} refl refl tt) refl refl) refl refl
+no_argument M t = by_call refl refl (by_scope (by_call_stop {q = failure} refl refl) refl refl) refl refl
 
 -- a definition inside a scope binds the scope's variable
 pub bound_outside : (M : Meaning) → Rewrites M binds_outside main seven (ok seven []) 7
@@ -128,7 +128,7 @@ pub one_part : (M : Meaning) →
     Rewrites M changes_one main (node (heads.App F) (more one (more two (more two end))) end) (ok (node (heads.App F) (more one (more five (more two end))) end) []) 7
 one_part M =
     by_call refl refl (by_one
-    (one_next (by_seq_stop (by_no_match (λ f m. let h = ap (λ k. same_head k (heads.Int (pos 2))) m.conforms in cc)) tt refl)
+    (one_next (by_seq_stop (by_no_match (λ f m. let h = ap (λ k. same_head k (heads.Int (pos 2))) m.conforms in cc)) refl)
     (one_found (by_seq (by_match (binds_nothing _ _ _ _ refl)) (by_build refl) refl)) refl refl)
     refl refl) refl refl
 
@@ -140,7 +140,7 @@ too_large M t h =
     by_call refl refl (by_scope (by_seq (by_match (binds_one _ _ [] [] t _ refl (0, refl, refl)))
     (by_choice_oversize (by_build (sym (ap (λ b. if_fits b (term_on_two Tuple t t) (Some t ∷ [])) h))) refl) refl) refl refl) refl refl
 
-pub resolves_pair : ResolvesProgram passes_pair main passes_pair_placed 1
+pub resolves_pair : ResolvesProgram passes_pair main passes_pair_resolved 1
 resolves_pair = record {
   called = refl;
   each =
@@ -156,10 +156,10 @@ resolves_pair = record {
       to_no_definitions);
 }
 
-pub closure_placed : (M : Meaning) → RewritesByPlaces M passes_pair_placed 1 (term_on_one F two) (ok (term_on_two Pair two five) []) 28
-closure_placed M = rewrites_to resolves_pair (closure M)
+pub closure_resolved : (M : Meaning) → RewritesByCoordinates M passes_pair_resolved 1 (term_on_one F two) (ok (term_on_two Pair two five) []) 28
+closure_resolved M = rewrites_to resolves_pair (closure M)
 
-pub pair_in_range : InRange passes_pair_placed 1
+pub pair_in_range : InRange passes_pair_resolved 1
 pair_in_range =
     let a : 0 < 1 = omega arith in
     let b : 0 < 2 = omega arith in

@@ -1,7 +1,7 @@
 -- What a core is seen as.
 use Rattle.std.specs.Prelude.{ℕ, List}
 use Rattle.core_lang.specs.declared.program.CoreDef.{CoreDef}
-use Rattle.core_lang.specs.declared.place.Place.{Place}
+use Rattle.core_lang.specs.declared.coordinate.Coordinate.{Coordinate}
 use Rattle.core_lang.specs.Program.{Definitions}
 use Rattle.core_lang.specs.Views.{definitions_of}
 
@@ -10,6 +10,6 @@ pub record CoreParts : Type 0 where
   pub defs : List CoreDef
   pub main : ℕ
 
--- the program over places
-abbrev pub program_of : CoreParts → Definitions Place ℕ
+-- the program over coordinates
+abbrev pub program_of : CoreParts → Definitions Coordinate ℕ
 program_of core = definitions_of core.defs

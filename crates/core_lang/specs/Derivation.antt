@@ -5,8 +5,9 @@ use Rattle.term_model.specs.Term.{Tree, node, Trees, end, more}
 use Rattle.term_model.specs.Flat.{Meaning}
 use Rattle.core_lang.specs.Program.{Pattern, Patterns, Strategy, id, fail, seq, choice, match, build, scope, all, one, some, with_definitions, call, primitive, Strategies, Definitions, strategies_count, patterns_count}
 use Rattle.core_lang.specs.Environment.{Environment, layer, definitions, Bindings, no_closures, Callee, closure, definition, Reading, closures_of, empty_places, filled_places}
-use Rattle.core_lang.specs.Matching.{Matches, instance, instances}
-use Rattle.core_lang.specs.Ending.{Ending, ok, failed, oversize, IsStop, keeping, stopped, in_front, built, rebuilt, arguments, answered}
+use Rattle.core_lang.specs.Matching.{Matches}
+use Rattle.core_lang.specs.Building.{instance, instances}
+use Rattle.core_lang.specs.Ending.{Ending, ok, failed, oversize, keeping, in_front, built, rebuilt, arguments, answered, Stop, stop}
 
 -- the parts of a term
 abbrev pub parts : Tree → Trees
@@ -27,9 +28,9 @@ mutual
     -- s1; s2: where s1 is ok, s2 has its term and bindings
     by_seq : {V : Environment X B} {s1 s2 : Strategy X B} {t t1 : Tree} {e e1 : Bindings} {o : Ending Tree} {n1 n2 n : ℕ} →
         Derives R M V s1 t e (ok t1 e1) n1 → Derives R M V s2 t1 e1 o n2 → n ≡ 1 + n1 + n2 → Derives R M V (seq s1 s2) t e o n
-    -- s1; s2: where s1 fails or is oversize, so is the sequence
-    by_seq_stop : {V : Environment X B} {s1 s2 : Strategy X B} {t : Tree} {e : Bindings} {o : Ending Tree} {n1 n : ℕ} →
-        Derives R M V s1 t e o n1 → IsStop o → n ≡ 1 + n1 → Derives R M V (seq s1 s2) t e o n
+    -- s1; s2: a stop of s1 is one of the sequence
+    by_seq_stop : {V : Environment X B} {s1 s2 : Strategy X B} {t : Tree} {e : Bindings} {q : Stop} {n1 n : ℕ} →
+        Derives R M V s1 t e (stop q) n1 → n ≡ 1 + n1 → Derives R M V (seq s1 s2) t e (stop q) n
     -- s1 < s2 + s3: where s1 is ok, s2 has its term and bindings, and a failure there is not caught
     by_choice_then : {V : Environment X B} {s1 s2 s3 : Strategy X B} {t t1 : Tree} {e e1 : Bindings} {o : Ending Tree} {n1 n2 n : ℕ} →
         Derives R M V s1 t e (ok t1 e1) n1 → Derives R M V s2 t1 e1 o n2 → n ≡ 1 + n1 + n2 → Derives R M V (choice s1 s2 s3) t e o n
@@ -71,9 +72,9 @@ mutual
         Derives R M (layer (length e) fs xs (closures_of R V ss) W) s t (e ++ filled_places ts) o1 n1 →
         o ≡ keeping (length e) o1 → n ≡ 1 + n1 → Derives R M V (call f ss ps) t e o n
     -- a call of a definition: failed where a term argument has no instance, else oversize where one doesn't fit
-    by_call_stop : {V W : Environment X B} {f : X} {ss : Strategies X B} {ps : Patterns X} {fs xs : B} {s : Strategy X B} {t : Tree} {e : Bindings} {o : Ending Tree} →
-        called R V f ss ps ≡ Some (definition fs xs s W) → arguments (instances (R.place_of V) ps e) e ≡ stopped o → IsStop o →
-        Derives R M V (call f ss ps) t e o 1
+    by_call_stop : {V W : Environment X B} {f : X} {ss : Strategies X B} {ps : Patterns X} {fs xs : B} {s : Strategy X B} {t : Tree} {e : Bindings} {q : Stop} →
+        called R V f ss ps ≡ Some (definition fs xs s W) → arguments (instances (R.place_of V) ps e) e ≡ stop q →
+        Derives R M V (call f ss ps) t e (stop q) 1
     -- a call of a strategy parameter: its closure's strategy s, in its closure's environment W
     by_parameter : {V W : Environment X B} {f : X} {ss : Strategies X B} {ps : Patterns X} {s : Strategy X B} {t : Tree} {e : Bindings} {o : Ending Tree} {n1 n : ℕ} →
         called R V f ss ps ≡ Some (closure s W) → Derives R M W s t e o n1 → n ≡ 1 + n1 →
@@ -88,8 +89,8 @@ mutual
     all_next : {V : Environment X B} {s : Strategy X B} {t t1 : Tree} {ts : Trees} {e e1 : Bindings} {r r1 : Ending Trees} {n1 n2 n : ℕ} →
         Derives R M V s t e (ok t1 e1) n1 → DerivesAll R M V s ts e1 r1 n2 → r ≡ in_front t1 r1 → n ≡ n1 + n2 →
         DerivesAll R M V s (more t ts) e r n
-    all_stop : {V : Environment X B} {s : Strategy X B} {t : Tree} {ts : Trees} {e : Bindings} {o : Ending Tree} {r : Ending Trees} {n : ℕ} →
-        Derives R M V s t e o n → IsStop o → r ≡ stopped o → DerivesAll R M V s (more t ts) e r n
+    all_stop : {V : Environment X B} {s : Strategy X B} {t : Tree} {ts : Trees} {e : Bindings} {q : Stop} {n : ℕ} →
+        Derives R M V s t e (stop q) n → DerivesAll R M V s (more t ts) e (stop q) n
 
   -- s on the parts from left to right, each with the bindings e, until one doesn't fail; failed where each fails
   pub data DerivesOne {X B : Type 0} (R : Reading X B) (M : Meaning) : Environment X B → Strategy X B → Trees → Bindings → Ending Trees → ℕ → Type 0 where

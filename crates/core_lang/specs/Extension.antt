@@ -3,7 +3,7 @@ use Rattle.std.specs.Prelude.{◌≡◌, ℕ, length}
 use Rattle.term_model.specs.Term.{Tree}
 use Rattle.core_lang.specs.Environment.{Bindings}
 use Rattle.core_lang.specs.Matching.{Holds}
-use Rattle.core_lang.specs.Ending.{Ending, ok, failed, oversize}
+use Rattle.core_lang.specs.Ending.{Ending, ok, stop}
 
 -- the second bindings have the places of the first, and each term that those hold
 pub record Extends (e f : Bindings) : Type 0 where
@@ -13,5 +13,4 @@ pub record Extends (e f : Bindings) : Type 0 where
 -- the bindings that an ok ending leaves extend these
 abbrev pub ExtendsTo : {A : Type 0} → Bindings → Ending A → Type 0
 ExtendsTo e (ok v f) = Extends e f
-ExtendsTo e failed = Unit {0}
-ExtendsTo e oversize = Unit {0}
+ExtendsTo e (stop q) = Unit {0}

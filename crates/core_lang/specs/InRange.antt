@@ -1,15 +1,15 @@
--- What it is for a program over places to be in range: each place leads to what is wanted of it.
+-- What it is for a program over coordinates to be in range: each coordinate leads to what is wanted of it.
 use Rattle.std.specs.Prelude.{◌≡◌, ℕ, zero, suc, ◌<◌}
-use Rattle.core_lang.specs.Resolved.{PlacedStrategy, PlacedStrategies, PlacedDefinitions}
-use Rattle.core_lang.specs.declared.place.Place.{Place}
-use Rattle.core_lang.specs.Program.{Pattern, anything, variable, alias, integer, applied, list, annotated_as, Patterns, no_patterns, more_patterns, Elements, no_elements, the_rest, more_elements, id, fail, seq, choice, match, build, scope, all, one, some, with_definitions, call, primitive, no_strategies, more_strategies, no_definitions, more_definitions, strategies_count, patterns_count}
+use Rattle.core_lang.specs.Resolved.{ResolvedStrategy, ResolvedStrategies, ResolvedDefinitions}
+use Rattle.core_lang.specs.declared.coordinate.Coordinate.{Coordinate}
+use Rattle.core_lang.specs.Program.{Pattern, anything, variable, alias, integer, applied, list, like, Patterns, no_patterns, more_patterns, Elements, no_elements, the_rest, more_elements, id, fail, seq, choice, match, build, scope, all, one, some, with_definitions, call, primitive, no_strategies, more_strategies, no_definitions, more_definitions, strategies_count, patterns_count}
 
--- the layers that a part of a program over places stands in, innermost first
+-- the layers that a part of a program over coordinates stands in, innermost first
 pub data Layers : Type 0 where
   no_layers : Layers
   -- of a scope or a definition: so many strategy parameters and variables
   layer_of : (parameters variables : ℕ) → Layers → Layers
-  layer_of_definitions : PlacedDefinitions → Layers → Layers
+  layer_of_definitions : ResolvedDefinitions → Layers → Layers
 
 -- the layers without the innermost, so many
 abbrev pub outside : Layers → ℕ → Layers
@@ -25,7 +25,7 @@ IsVariable (layer_of m k L) i = i < k
 IsVariable (layer_of_definitions ds L) i = ⊥
 
 -- there is a definition at this position, with m strategy parameters and k term parameters
-abbrev pub IsDefinition : PlacedDefinitions → ℕ → ℕ → ℕ → Type 0
+abbrev pub IsDefinition : ResolvedDefinitions → ℕ → ℕ → ℕ → Type 0
 IsDefinition no_definitions i m k = ⊥
 IsDefinition (more_definitions y m' k' s ds) zero m k = (m ≡ m') × (k ≡ k')
 IsDefinition (more_definitions y m' k' s ds) (suc i) m k = IsDefinition ds i m k
@@ -37,31 +37,31 @@ IsCallee no_layers i m k = ⊥
 IsCallee (layer_of m' k' L) i m k = (i < m') × (m ≡ 0) × (k ≡ 0)
 IsCallee (layer_of_definitions ds L) i m k = IsDefinition ds i m k
 
--- a place that leads to a variable
-abbrev pub VariableInRange : Layers → Place → Type 0
-VariableInRange L y = IsVariable (outside L y.hops) y.slot
+-- a coordinate that leads to a variable
+abbrev pub VariableInRange : Layers → Coordinate → Type 0
+VariableInRange L y = IsVariable (outside L y.layers_up) y.slot
 
 abbrev mutual
-  pub PatternInRange : Layers → Pattern Place → Type 0
+  pub PatternInRange : Layers → Pattern Coordinate → Type 0
   PatternInRange L anything = Unit {0}
   PatternInRange L (variable y) = VariableInRange L y
   PatternInRange L (alias y p) = VariableInRange L y × PatternInRange L p
   PatternInRange L (integer z) = Unit {0}
   PatternInRange L (applied f ps) = PatternsInRange L ps
   PatternInRange L (list ps) = ElementsInRange L ps
-  PatternInRange L (annotated_as p y) = PatternInRange L p × VariableInRange L y
+  PatternInRange L (like p y) = PatternInRange L p × VariableInRange L y
 
-  pub PatternsInRange : Layers → Patterns Place → Type 0
+  pub PatternsInRange : Layers → Patterns Coordinate → Type 0
   PatternsInRange L no_patterns = Unit {0}
   PatternsInRange L (more_patterns p ps) = PatternInRange L p × PatternsInRange L ps
 
-  pub ElementsInRange : Layers → Elements Place → Type 0
+  pub ElementsInRange : Layers → Elements Coordinate → Type 0
   ElementsInRange L no_elements = Unit {0}
   ElementsInRange L (the_rest p) = PatternInRange L p
   ElementsInRange L (more_elements p ps) = PatternInRange L p × ElementsInRange L ps
 
 abbrev mutual
-  pub StrategyInRange : Layers → PlacedStrategy → Type 0
+  pub StrategyInRange : Layers → ResolvedStrategy → Type 0
   StrategyInRange L id = Unit {0}
   StrategyInRange L fail = Unit {0}
   StrategyInRange L (seq s1 s2) = StrategyInRange L s1 × StrategyInRange L s2
@@ -74,20 +74,20 @@ abbrev mutual
   StrategyInRange L (some s) = StrategyInRange L s
   StrategyInRange L (with_definitions ds s) = DefinitionsInRange (layer_of_definitions ds L) ds × StrategyInRange (layer_of_definitions ds L) s
   StrategyInRange L (call y ss ps) =
-      IsCallee (outside L y.hops) y.slot (strategies_count ss) (patterns_count ps) × StrategiesInRange L ss × PatternsInRange L ps
+      IsCallee (outside L y.layers_up) y.slot (strategies_count ss) (patterns_count ps) × StrategiesInRange L ss × PatternsInRange L ps
   StrategyInRange L (primitive f ps) = PatternsInRange L ps
 
-  pub StrategiesInRange : Layers → PlacedStrategies → Type 0
+  pub StrategiesInRange : Layers → ResolvedStrategies → Type 0
   StrategiesInRange L no_strategies = Unit {0}
   StrategiesInRange L (more_strategies s ss) = StrategyInRange L s × StrategiesInRange L ss
 
   -- each body in the layers and one of its parameters
-  pub DefinitionsInRange : Layers → PlacedDefinitions → Type 0
+  pub DefinitionsInRange : Layers → ResolvedDefinitions → Type 0
   DefinitionsInRange L no_definitions = Unit {0}
   DefinitionsInRange L (more_definitions y m k s ds) = StrategyInRange (layer_of m k L) s × DefinitionsInRange L ds
 
 -- a program whose main is the ith definition: each definition is in range, in the layer of them all, and main has no
 -- parameters
-pub record InRange (C : PlacedDefinitions) (i : ℕ) : Type 0 where
+pub record InRange (C : ResolvedDefinitions) (i : ℕ) : Type 0 where
   pub each : DefinitionsInRange (layer_of_definitions C no_layers) C
   pub main : IsDefinition C i 0 0

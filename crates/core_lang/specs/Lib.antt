@@ -1,6 +1,7 @@
 pub mod Program
 pub mod Environment
 pub mod Matching
+pub mod Building
 pub mod Tried
 pub mod Ending
 pub mod Derivation

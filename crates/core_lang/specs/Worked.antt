@@ -3,9 +3,9 @@ use Rattle.std.specs.Prelude.{ℕ, pos, List, [], ◌∷◌}
 use Rattle.term_model.specs.declared.term.Head.TheVariants as heads
 use Rattle.term_model.specs.Symbol.{Symbol, Plain, Tuple}
 use Rattle.term_model.specs.Term.{Tree, node, Trees, end, more}
-use Rattle.core_lang.specs.Program.{Pattern, anything, variable, alias, integer, applied, list, annotated_as, Patterns, no_patterns, more_patterns, Elements, the_rest, more_elements, Strategy, id, fail, seq, choice, match, build, scope, some, with_definitions, call, primitive, Strategies, no_strategies, more_strategies, Definitions, no_definitions, more_definitions}
+use Rattle.core_lang.specs.Program.{Pattern, anything, variable, alias, integer, applied, list, like, Patterns, no_patterns, more_patterns, Elements, the_rest, more_elements, Strategy, id, fail, seq, choice, match, build, scope, some, with_definitions, call, primitive, Strategies, no_strategies, more_strategies, Definitions, no_definitions, more_definitions}
 use Rattle.core_lang.specs.Program as forms
-use Rattle.core_lang.specs.declared.place.Place.{Place}
+use Rattle.core_lang.specs.declared.coordinate.Coordinate.{Coordinate}
 use Rattle.core_lang.specs.Named.{Name, written, brought}
 
 abbrev pub Names : Type 0
@@ -158,7 +158,7 @@ hands_on = defined_over_s try (choice (parameter s) id id) (defined_over_s f (ca
 -- main = F(!9), as {y,x1,z1: ?y@F(x1); !x1; !9; ?z1; !F(z1)^y}
 abbrev pub congruence : Definitions Name Names
 congruence = defined_as main (scope (y ∷ x1 ∷ z1 ∷ [])
-    (seq (match (alias y (on_one F (variable x1)))) (seq (build (variable x1)) (seq (build (integer (pos 9))) (seq (match (variable z1)) (build (annotated_as (on_one F (variable z1)) y))))))) no_definitions
+    (seq (match (alias y (on_one F (variable x1)))) (seq (build (variable x1)) (seq (build (integer (pos 9))) (seq (match (variable z1)) (build (like (on_one F (variable z1)) y))))))) no_definitions
 
 -- main = ?[x|xs]; !xs
 abbrev pub takes_rest : Definitions Name Names
@@ -200,33 +200,33 @@ abbrev pub doubles : Definitions Name Names
 doubles = defined_as main (scope (x ∷ []) (seq (match (variable x)) (choice (build (on_two Tuple (variable x) (variable x))) id id))) no_definitions
 
 -- so many layers up, and the position there
-abbrev pub up : ℕ → ℕ → Place
-up h i = record { hops = h; slot = i }
+abbrev pub at : ℕ → ℕ → Coordinate
+at h i = record { layers_up = h; slot = i }
 
--- where(!5; ?x), over places
-abbrev pub where_five_placed : Strategy Place ℕ
-where_five_placed = scope 1 (seq (match (variable (up 0 0))) (seq (seq (build (integer (pos 5))) (match (variable (up 1 0)))) (build (variable (up 0 0)))))
+-- where(!5; ?x), over coordinates
+abbrev pub where_five_resolved : Strategy Coordinate ℕ
+where_five_resolved = scope 1 (seq (match (variable (at 0 0))) (seq (seq (build (integer (pos 5))) (match (variable (at 1 0)))) (build (variable (at 0 0)))))
 
--- !Pair(<id>,x), over places
-abbrev pub builds_pair_placed : Strategy Place ℕ
-builds_pair_placed = scope 2 (seq (match (variable (up 0 0))) (seq (build (variable (up 0 0))) (seq id (seq (match (variable (up 0 1))) (build (on_two Pair (variable (up 0 1)) (variable (up 1 0))))))))
+-- !Pair(<id>,x), over coordinates
+abbrev pub builds_pair_resolved : Strategy Coordinate ℕ
+builds_pair_resolved = scope 2 (seq (match (variable (at 0 0))) (seq (build (variable (at 0 0))) (seq id (seq (match (variable (at 0 1))) (build (on_two Pair (variable (at 0 1)) (variable (at 1 0))))))))
 
--- passes_pair, over places
-abbrev pub passes_pair_placed : Definitions Place ℕ
-passes_pair_placed =
-    more_definitions (up 0 0) 1 0 (scope 1 (seq (match (on_one F (variable (up 0 0)))) (seq (build (variable (up 0 0))) (call (up 1 0) no_strategies no_patterns))))
-    (more_definitions (up 0 1) 0 0 (scope 1 (seq where_five_placed (call (up 2 0) (more_strategies builds_pair_placed no_strategies) no_patterns))) no_definitions)
+-- passes_pair, over coordinates
+abbrev pub passes_pair_resolved : Definitions Coordinate ℕ
+passes_pair_resolved =
+    more_definitions (at 0 0) 1 0 (scope 1 (seq (match (on_one F (variable (at 0 0)))) (seq (build (variable (at 0 0))) (call (at 1 0) no_strategies no_patterns))))
+    (more_definitions (at 0 1) 0 0 (scope 1 (seq where_five_resolved (call (at 2 0) (more_strategies builds_pair_resolved no_strategies) no_patterns))) no_definitions)
 
--- main = s, over places
-abbrev pub alone : Strategy Place ℕ → Definitions Place ℕ
-alone s = more_definitions (up 0 0) 0 0 s no_definitions
+-- main = s, over coordinates
+abbrev pub alone : Strategy Coordinate ℕ → Definitions Coordinate ℕ
+alone s = more_definitions (at 0 0) 0 0 s no_definitions
 
--- a call without arguments, over places
-abbrev pub call_of : Place → Strategy Place ℕ
+-- a call without arguments, over coordinates
+abbrev pub call_of : Coordinate → Strategy Coordinate ℕ
 call_of y = call y no_strategies no_patterns
 
 -- main = f(id), where f(s) = s(id) has an argument for its parameter
-abbrev pub fills_parameter : Definitions Place ℕ
+abbrev pub fills_parameter : Definitions Coordinate ℕ
 fills_parameter =
-    more_definitions (up 0 0) 1 0 (call (up 0 0) (more_strategies id no_strategies) no_patterns)
-    (more_definitions (up 0 1) 0 0 (call (up 1 0) (more_strategies id no_strategies) no_patterns) no_definitions)
+    more_definitions (at 0 0) 1 0 (call (at 0 0) (more_strategies id no_strategies) no_patterns)
+    (more_definitions (at 0 1) 0 0 (call (at 1 0) (more_strategies id no_strategies) no_patterns) no_definitions)

@@ -1,4 +1,4 @@
-// Cores: programs over places that are in range.
+// Cores: programs over coordinates that are in range.
 ghost use Rattle.std.specs.Prelude.{◌≡◌, ◌↔◌, IsTrue};
 ghost use Rattle.core_lang.specs.Views.{definitions_of};
 ghost use Rattle.core_lang.specs.Core.{program_of};
@@ -8,7 +8,7 @@ use crate::program::CoreDef;
 use crate::range;
 use std::marker::Model;
 
-/// A core program: definitions, one of which is main. Each place in it leads to what is wanted of it.
+/// A core program: definitions, one of which is main. Each coordinate in it leads to what is wanted of it.
 #[derive(Drop)]
 pub struct Core {
     defs: Vec<CoreDef>,
@@ -35,7 +35,7 @@ impl Model for Core {
 
 impl Core {
     /// Whether these definitions, with the one at `main` as main, are a core: `main` is there and has no parameters,
-    /// each place of a variable leads to a variable, and each place of a call to a definition with as many parameters
+    /// each coordinate of a variable leads to a variable, and that of a call to a definition with as many parameters
     /// as the call has arguments, or to a strategy parameter where it has none.
     pub fn in_range(defs: &[CoreDef], main: usize) -> bool
         ensures { IsTrue result ↔ InRange (definitions_of defs.now) main }

@@ -7,7 +7,7 @@ ghost use Rattle.term_model.specs.Flat.{Meaning, number};
 ghost use Rattle.core_lang.specs.Program.{variable, id, build, scope, call, no_strategies, more_strategies, no_patterns};
 ghost use Rattle.core_lang.specs.Ending.{ok, failed, oversize};
 ghost use Rattle.core_lang.specs.Named.{Rewrites};
-ghost use Rattle.core_lang.specs.Resolved.{RewritesByPlaces};
+ghost use Rattle.core_lang.specs.Resolved.{RewritesByCoordinates};
 ghost use Rattle.core_lang.specs.Resolution.{ResolvesProgram};
 ghost use Rattle.core_lang.specs.InRange.{InRange};
 ghost use Rattle.core_lang.specs.Worked as worked;
@@ -101,29 +101,29 @@ pub fn more_programs()
         fits (worked.term_on_two Tuple t t) ≡ false → Rewrites M worked.doubles worked.main t oversize 6 }
 {}
 
-/// A program over places that a program over names is resolved to, which does the same with as many nodes.
+/// A program over coordinates that a program over names is resolved to, which does the same with as many nodes.
 pub fn small_program_resolved()
-    ensures resolves { ResolvesProgram worked.passes_pair worked.main worked.passes_pair_placed 1 }
+    ensures resolves { ResolvesProgram worked.passes_pair worked.main worked.passes_pair_resolved 1 }
     ensures same { (M : Meaning) →
-        RewritesByPlaces
+        RewritesByCoordinates
         M
-        worked.passes_pair_placed
+        worked.passes_pair_resolved
         1
         (worked.term_on_one worked.F worked.two)
         (ok (worked.term_on_two worked.Pair worked.two worked.five) [])
         28 }
-    ensures in_range { InRange worked.passes_pair_placed 1 }
+    ensures in_range { InRange worked.passes_pair_resolved 1 }
 {}
 
-/// Programs over places that are not in range, each for a cause of its own.
+/// Programs over coordinates that are not in range, each for a cause of its own.
 pub fn small_programs_out_of_range()
     ensures no_main { InRange (worked.alone id) 1 → ⊥ }
     ensures main_with_parameter { InRange worked.fills_parameter 0 → ⊥ }
-    ensures no_definition { InRange (worked.alone (worked.call_of (worked.up 1 1))) 0 → ⊥ }
-    ensures no_layer { InRange (worked.alone (worked.call_of (worked.up 2 0))) 0 → ⊥ }
-    ensures no_parameter { InRange (worked.alone (worked.call_of (worked.up 0 0))) 0 → ⊥ }
-    ensures too_many_arguments { InRange (worked.alone (call (worked.up 1 0) (more_strategies id no_strategies) no_patterns)) 0 → ⊥ }
+    ensures no_definition { InRange (worked.alone (worked.call_of (worked.at 1 1))) 0 → ⊥ }
+    ensures no_layer { InRange (worked.alone (worked.call_of (worked.at 2 0))) 0 → ⊥ }
+    ensures no_parameter { InRange (worked.alone (worked.call_of (worked.at 0 0))) 0 → ⊥ }
+    ensures too_many_arguments { InRange (worked.alone (call (worked.at 1 0) (more_strategies id no_strategies) no_patterns)) 0 → ⊥ }
     ensures parameter_with_argument { InRange worked.fills_parameter 1 → ⊥ }
-    ensures no_variable { InRange (worked.alone (scope 1 (build (variable (worked.up 0 1))))) 0 → ⊥ }
-    ensures no_layer_of_variables { InRange (worked.alone (build (variable (worked.up 1 0)))) 0 → ⊥ }
+    ensures no_variable { InRange (worked.alone (scope 1 (build (variable (worked.at 0 1))))) 0 → ⊥ }
+    ensures no_layer_of_variables { InRange (worked.alone (build (variable (worked.at 1 0)))) 0 → ⊥ }
 {}

@@ -1,7 +1,7 @@
 //! Laws of the meaning: each function has no body, and its contract is the law.
 ghost use Rattle.std.specs.Prelude.{◌≡◌, ◌↔◌, ℕ, Option, Some, List, []};
 ghost use Rattle.core_lang.specs.Named.{NamedStrategy, NamedDefinitions, NamedEnvironment, Name, written, by_names, Rewrites};
-ghost use Rattle.core_lang.specs.Resolved.{PlacedStrategy, PlacedDefinitions, PlacedEnvironment, by_places, RewritesByPlaces};
+ghost use Rattle.core_lang.specs.Resolved.{ResolvedStrategy, ResolvedDefinitions, ResolvedEnvironment, by_coordinates, RewritesByCoordinates};
 ghost use Rattle.term_model.specs.Term.{Tree};
 ghost use Rattle.term_model.specs.Flat.{Meaning};
 ghost use Rattle.core_lang.specs.Program.{Pattern, Strategy, Definitions, id};
@@ -12,7 +12,7 @@ ghost use Rattle.core_lang.specs.Ending.{Ending, ok};
 ghost use Rattle.core_lang.specs.Derivation.{Derives};
 ghost use Rattle.core_lang.specs.Settled.{Verdict, Settled};
 ghost use Rattle.core_lang.specs.Extension.{Extends};
-ghost use Rattle.core_lang.specs.declared.place.Place.{Place};
+ghost use Rattle.core_lang.specs.declared.coordinate.Coordinate.{Coordinate};
 ghost use Rattle.core_lang.specs.Resolution.{Resolves, ResolvesProgram};
 ghost use Rattle.core_lang.specs.InRange.{InRange};
 ghost use Rattle.core_lang.specs.Primitives.{OccursInDefinitions};
@@ -21,7 +21,7 @@ ghost use Rattle.core_lang.specs.Agreement.{scopes_of, Agree};
 /// `id` keeps a term and has one node.
 pub fn identity_keeps()
     ensures named { (M : Meaning) (t : Tree) → Derives by_names M outermost id t [] (ok t []) 1 }
-    ensures placed { (M : Meaning) (t : Tree) → Derives by_places M outermost id t [] (ok t []) 1 }
+    ensures placed { (M : Meaning) (t : Tree) → Derives by_coordinates M outermost id t [] (ok t []) 1 }
 {}
 
 /// A pattern matches a term under given bindings in at most one way, however variables are looked up.
@@ -36,6 +36,8 @@ pub fn patterns_match_one_way<X>()
 /// the term that it stands for or compared with the one that it has.
 pub fn matching_goes_left_to_right<X>()
     ensures each_place { (place : X → Option ℕ) (p : Pattern X) (e e1 : Bindings) (t : Tree) →
+        Matches place p e t e1 ↔ (tried place p t e ≡ Some e1) }
+    ensures named { (place : Name → Option ℕ) (p : Pattern Name) (e e1 : Bindings) (t : Tree) →
         Matches place p e t e1 ↔ (tried place p t e ≡ Some e1) }
 {}
 
@@ -64,30 +66,30 @@ pub fn derivations_keep_bindings<X, B>()
         Derives by_names M V s t e (ok t1 e1) n → Extends e e1 }
 {}
 
-/// A program over places does what the program over names does that it is resolved from, with as many nodes: both
+/// A program over coordinates does what the program over names does that it is resolved from, with as many nodes: both
 /// rewrite the same terms in the same way, whatever primitives answer. So does each strategy in environments that agree.
-pub fn places_stand_for_names()
-    ensures programs { (P : NamedDefinitions) (main : Name) (C : PlacedDefinitions) (i : ℕ) →
+pub fn coordinates_stand_for_names()
+    ensures programs { (P : NamedDefinitions) (main : Name) (C : ResolvedDefinitions) (i : ℕ) →
         ResolvesProgram P main C i →
-        (M : Meaning) (t : Tree) (o : Ending Tree) (n : ℕ) → Rewrites M P main t o n ↔ RewritesByPlaces M C i t o n }
-    ensures strategies { (M : Meaning) (V : NamedEnvironment) (W : PlacedEnvironment) (s : NamedStrategy) (z : PlacedStrategy) →
+        (M : Meaning) (t : Tree) (o : Ending Tree) (n : ℕ) → Rewrites M P main t o n ↔ RewritesByCoordinates M C i t o n }
+    ensures strategies { (M : Meaning) (V : NamedEnvironment) (W : ResolvedEnvironment) (s : NamedStrategy) (z : ResolvedStrategy) →
         Resolves (scopes_of V) s z → Agree V W →
         (t : Tree) (e : Bindings) (o : Ending Tree) (n : ℕ) →
-        Derives by_names M V s t e o n ↔ Derives by_places M W z t e o n }
+        Derives by_names M V s t e o n ↔ Derives by_coordinates M W z t e o n }
 {}
 
-/// A program over places is in range exactly where it is resolved from a program over names. Then there is one whatever
+/// A program over coordinates is in range exactly where it is resolved from a program over names. Then there is one whatever
 /// name its main is to have.
 pub fn programs_in_range_have_names()
-    ensures resolved { (C : PlacedDefinitions) (i : ℕ) (main : List ℕ) →
+    ensures resolved { (C : ResolvedDefinitions) (i : ℕ) (main : List ℕ) →
         InRange C i → (P : NamedDefinitions) × ResolvesProgram P (written main) C i }
-    ensures in_range { (P : NamedDefinitions) (main : Name) (C : PlacedDefinitions) (i : ℕ) →
+    ensures in_range { (P : NamedDefinitions) (main : Name) (C : ResolvedDefinitions) (i : ℕ) →
         ResolvesProgram P main C i → InRange C i }
 {}
 
-/// A program over places has the primitives of the program over names that it is resolved from, with as many arguments.
-pub fn places_keep_primitives()
-    ensures same { (P : NamedDefinitions) (main : Name) (C : PlacedDefinitions) (i : ℕ) →
+/// A program over coordinates has the primitives of the program over names that it is resolved from, with as many arguments.
+pub fn coordinates_keep_primitives()
+    ensures same { (P : NamedDefinitions) (main : Name) (C : ResolvedDefinitions) (i : ℕ) →
         ResolvesProgram P main C i →
         (f : List ℕ) (k : ℕ) → OccursInDefinitions f k P ↔ OccursInDefinitions f k C }
 {}

@@ -1,23 +1,24 @@
 //! Core programs and their meaning.
 #![tactic(auto)]
 
+mod coordinate;
+mod copy;
 mod core_program;
 mod examples;
 mod laws;
-mod place;
 mod program;
 mod range;
 mod run;
 
+pub use coordinate::Coordinate;
 pub use core_program::Core;
 pub use examples::{
     more_programs, small_program_resolved, small_programs, small_programs_out_of_range,
 };
 pub use laws::{
-    budgets_settle, derivations_keep_bindings, identity_keeps, matching_goes_left_to_right,
-    outcomes_are_unique, patterns_match_one_way, places_keep_primitives, places_stand_for_names,
-    programs_in_range_have_names,
+    budgets_settle, coordinates_keep_primitives, coordinates_stand_for_names,
+    derivations_keep_bindings, identity_keeps, matching_goes_left_to_right, outcomes_are_unique,
+    patterns_match_one_way, programs_in_range_have_names,
 };
-pub use place::Place;
 pub use program::{CoreArm, CoreDef, CorePattern, CoreStrategy};
 pub use run::{Outcome, Run};

@@ -1,27 +1,27 @@
-// Core programs over places.
-use crate::place::Place;
+// Core programs over coordinates.
+use crate::coordinate::Coordinate;
 use term_model::Sym;
 
 /// A pattern, or what a build makes.
-#[derive(Drop)]
+#[derive(Debug, Drop, PartialEq, Eq)]
 pub enum CorePattern {
     /// Matches every term; a build has no use for it.
     Anything,
-    Variable(Place),
+    Variable(Coordinate),
     /// A variable, and the pattern of its term; a build has no use for it.
-    Alias(Place, Box<CorePattern>),
+    Alias(Coordinate, Box<CorePattern>),
     Integer(i32),
     /// A symbol applied to patterns; a quoted text is one with none.
     Applied(Sym, Vec<CorePattern>),
-    /// The elements of a list, and the pattern of the rest behind them where it may have more.
+    /// The elements of a list, and the pattern of the rest after them where it may have more.
     List(Vec<CorePattern>, Option<Box<CorePattern>>),
     /// In a build alone: what the pattern makes, with the annotations of the variable's term.
-    Annotated(Box<CorePattern>, Place),
+    Like(Box<CorePattern>, Coordinate),
 }
 
 /// A strategy. A chain that groups to the right is one list, so that no walk recurses along it.
 #[cycle(strategy)]
-#[derive(Drop)]
+#[derive(Debug, Drop, PartialEq, Eq)]
 pub enum CoreStrategy {
     Id,
     Fail,
@@ -41,14 +41,14 @@ pub enum CoreStrategy {
     Some(Box<CoreStrategy>),
     /// Definitions, and the strategy that sees them.
     LetIn(Vec<CoreDef>, Box<CoreStrategy>),
-    /// A call with strategy and term arguments. Where the place is in a layer of variables it is of a strategy
+    /// A call with strategy and term arguments. Where the coordinate is in a layer of variables it is of a strategy
     /// parameter, where it is in a layer of definitions it is of a definition.
-    Call(Place, Vec<CoreStrategy>, Vec<CorePattern>),
+    Call(Coordinate, Vec<CoreStrategy>, Vec<CorePattern>),
 }
 
 /// A guard, and what follows where it succeeds.
 #[cycle(strategy)]
-#[derive(Drop)]
+#[derive(Debug, Drop, PartialEq, Eq)]
 pub struct CoreArm {
     pub guard: CoreStrategy,
     pub then: CoreStrategy,
@@ -56,7 +56,7 @@ pub struct CoreArm {
 
 /// A definition: how many strategy and term parameters it has, and its body.
 #[cycle(strategy)]
-#[derive(Drop)]
+#[derive(Debug, Drop, PartialEq, Eq)]
 pub struct CoreDef {
     pub strats: usize,
     pub terms: usize,

@@ -1,4 +1,4 @@
-// Whether each place of a core leads to what is wanted of it.
+// Whether each coordinate of a core leads to what is wanted of it.
 ghost use Rattle.std.specs.Prelude.{◌≡◌, ◌↔◌, IsTrue, map};
 ghost use Rattle.core_lang.specs.Views.{definitions_of, def_of, strategy_of, strategies_of, pattern_of, patterns_of, arm_of};
 ghost use Rattle.core_lang.specs.Program.{call};
@@ -6,7 +6,7 @@ ghost use Rattle.core_lang.specs.InRange.{layer_of, layer_of_definitions, no_lay
 ghost use Rattle.core_lang.specs.InRange as spec;
 ghost use Rattle.core_lang.specs.RangeOfCode.{layers_of, ArmInRange, ArmsInRange};
 
-use crate::place::Place;
+use crate::coordinate::Coordinate;
 use crate::program::{CoreArm, CoreDef, CorePattern, CoreStrategy};
 
 // The layers that a strategy stands in, innermost first.
@@ -14,13 +14,20 @@ use crate::program::{CoreArm, CoreDef, CorePattern, CoreStrategy};
 pub enum Layers<'a> {
     /// No layer.
     Outermost,
-    /// So many strategy parameters and variables.
-    Layer(usize, usize, &'a Layers<'a>),
+    /// A layer of strategy parameters and variables: how many there are of each.
+    Layer {
+        parameters: usize,
+        variables: usize,
+        outer: &'a Layers<'a>,
+    },
     /// The definitions of the program, or of a let.
-    Definitions(&'a [CoreDef], &'a Layers<'a>),
+    Definitions {
+        defs: &'a [CoreDef],
+        outer: &'a Layers<'a>,
+    },
 }
 
-/// Whether there is a definition at this position, with so many strategy and term parameters.
+/// Returns whether there is a definition at this position, with these numbers of strategy and term parameters.
 pub fn has_definition(defs: &[CoreDef], at: usize, strats: usize, terms: usize) -> bool
     ensures { IsTrue result ↔ IsDefinition (definitions_of defs.now) at strats terms }
 {
@@ -36,12 +43,15 @@ fn has_parameters(def: &CoreDef, strats: usize, terms: usize) -> bool
     strats == def.strats && terms == def.terms
 }
 
-/// Whether each place of each body of the program leads to what is wanted of it.
+/// Returns whether each coordinate of each body of the program leads to what is wanted of it.
 pub fn program_in_range(defs: &[CoreDef]) -> bool
     ensures { IsTrue result ↔ DefinitionsInRange (layer_of_definitions (definitions_of defs.now) no_layers) (definitions_of defs.now) }
 {
     let outermost = Layers::Outermost;
-    let program = Layers::Definitions(&*defs, &outermost);
+    let program = Layers::Definitions {
+        defs: &*defs,
+        outer: &outermost,
+    };
     definitions_in_range(defs, &program)
 }
 
@@ -62,7 +72,11 @@ fn definitions_in_range(defs: &[CoreDef], layers: &Layers) -> bool
 fn body_in_range(def: &CoreDef, layers: &Layers) -> bool
     ensures { IsTrue result ↔ StrategyInRange (layer_of (def_of def.now).strats (def_of def.now).terms (layers_of layers.now)) (def_of def.now).body }
 {
-    let inner = Layers::Layer(def.strats, def.terms, &*layers);
+    let inner = Layers::Layer {
+        parameters: def.strats,
+        variables: def.terms,
+        outer: &*layers,
+    };
     strategy_in_range(&def.body, &inner)
 }
 
@@ -91,19 +105,13 @@ fn strategy_in_range(s: &CoreStrategy, layers: &Layers) -> bool
             strategy_in_range(otherwise, layers)
         }
         CoreStrategy::Match(p) | CoreStrategy::Build(p) => pattern_in_range(p, layers),
-        CoreStrategy::Scope(count, body) => {
-            let inner = Layers::Layer(0, *count, &*layers);
-            strategy_in_range(body, &inner)
-        }
+        CoreStrategy::Scope(count, body) => scope_in_range(*count, body, layers),
         CoreStrategy::All(body) | CoreStrategy::One(body) | CoreStrategy::Some(body) => {
             strategy_in_range(body, layers)
         }
         CoreStrategy::LetIn(defs, body) => {
-            let inner = Layers::Definitions(defs.as_slice(), &*layers);
-            if !definitions_in_range(defs.as_slice(), &inner) {
-                return false;
-            }
-            strategy_in_range(body, &inner)
+            let_definitions_in_range(defs.as_slice(), layers)
+                && let_body_in_range(body, defs.as_slice(), layers)
         }
         CoreStrategy::Call(x, strategies, terms) => {
             call_in_range(*x, strategies.as_slice(), terms.as_slice(), layers)
@@ -111,9 +119,46 @@ fn strategy_in_range(s: &CoreStrategy, layers: &Layers) -> bool
     }
 }
 
+// Returns whether the body of a scope with this number of variables is in range.
+#[cycle(range)]
+fn scope_in_range(count: usize, body: &CoreStrategy, layers: &Layers) -> bool
+    ensures { IsTrue result ↔ StrategyInRange (layer_of 0 count (layers_of layers.now)) (strategy_of body.now) }
+{
+    let inner = Layers::Layer {
+        parameters: 0,
+        variables: count,
+        outer: &*layers,
+    };
+    strategy_in_range(body, &inner)
+}
+
+// The definitions of a let stand in their own layer.
+#[cycle(range)]
+fn let_definitions_in_range(defs: &[CoreDef], layers: &Layers) -> bool
+    ensures { IsTrue result ↔ DefinitionsInRange (layer_of_definitions (definitions_of defs.now) (layers_of layers.now)) (definitions_of defs.now) }
+{
+    let inner = Layers::Definitions {
+        defs: &*defs,
+        outer: &*layers,
+    };
+    definitions_in_range(defs, &inner)
+}
+
+// The body of a let stands in the layer of its definitions.
+#[cycle(range)]
+fn let_body_in_range(body: &CoreStrategy, defs: &[CoreDef], layers: &Layers) -> bool
+    ensures { IsTrue result ↔ StrategyInRange (layer_of_definitions (definitions_of defs.now) (layers_of layers.now)) (strategy_of body.now) }
+{
+    let inner = Layers::Definitions {
+        defs: &*defs,
+        outer: &*layers,
+    };
+    strategy_in_range(body, &inner)
+}
+
 #[cycle(range)]
 fn call_in_range(
-    x: Place,
+    x: Coordinate,
     strategies: &[CoreStrategy],
     terms: &[CorePattern],
     layers: &Layers,
@@ -178,9 +223,7 @@ fn pattern_in_range(p: &CorePattern, layers: &Layers) -> bool
                 Some(rest) => pattern_in_range(rest, layers),
             }
         }
-        CorePattern::Annotated(part, x) => {
-            pattern_in_range(part, layers) && has_variable(layers, *x)
-        }
+        CorePattern::Like(part, x) => { pattern_in_range(part, layers) && has_variable(layers, *x) }
     }
 }
 
@@ -196,38 +239,38 @@ fn patterns_in_range(patterns: &[CorePattern], layers: &Layers) -> bool
     true
 }
 
-// The layers without the innermost, so many.
-fn outside<'a>(layers: &'a Layers<'a>, hops: usize) -> &'a Layers<'a>
-    ensures { layers_of result.now ≡ spec.outside (layers_of layers.now) hops }
+// Returns the layers without this number of the innermost ones.
+fn outside<'a>(layers: &'a Layers<'a>, layers_up: usize) -> &'a Layers<'a>
+    ensures { layers_of result.now ≡ spec.outside (layers_of layers.now) layers_up }
 {
-    if hops == 0 {
+    if layers_up == 0 {
         return layers;
     }
     match layers {
         Layers::Outermost => layers,
-        Layers::Layer(_, _, up) => outside(up, hops - 1),
-        Layers::Definitions(_, up) => outside(up, hops - 1),
+        Layers::Layer { outer, .. } => outside(outer, layers_up - 1),
+        Layers::Definitions { outer, .. } => outside(outer, layers_up - 1),
     }
 }
 
-// Whether the layer so many up has more variables than this.
-fn has_variable(layers: &Layers, x: Place) -> bool
-    ensures { IsTrue result ↔ IsVariable (spec.outside (layers_of layers.now) x.hops) x.slot }
+// Returns whether the coordinate leads to a variable.
+fn has_variable(layers: &Layers, x: Coordinate) -> bool
+    ensures { IsTrue result ↔ IsVariable (spec.outside (layers_of layers.now) x.layers_up) x.slot }
 {
-    match outside(&*layers, x.hops) {
+    match outside(&*layers, x.layers_up) {
         Layers::Outermost => false,
-        Layers::Layer(_, count, _) => x.slot < *count,
-        Layers::Definitions(_, _) => false,
+        Layers::Layer { variables, .. } => x.slot < *variables,
+        Layers::Definitions { .. } => false,
     }
 }
 
-// Whether the layer so many up has at the place what can be called with so many strategies and terms.
-fn has_callee(layers: &Layers, x: Place, strats: usize, terms: usize) -> bool
-    ensures { IsTrue result ↔ IsCallee (spec.outside (layers_of layers.now) x.hops) x.slot strats terms }
+// Returns whether the coordinate leads to what can be called with these numbers of strategies and terms.
+fn has_callee(layers: &Layers, x: Coordinate, strats: usize, terms: usize) -> bool
+    ensures { IsTrue result ↔ IsCallee (spec.outside (layers_of layers.now) x.layers_up) x.slot strats terms }
 {
-    match outside(&*layers, x.hops) {
+    match outside(&*layers, x.layers_up) {
         Layers::Outermost => false,
-        Layers::Layer(count, _, _) => x.slot < *count && strats == 0 && terms == 0,
-        Layers::Definitions(defs, _) => has_definition(defs, x.slot, strats, terms),
+        Layers::Layer { parameters, .. } => x.slot < *parameters && strats == 0 && terms == 0,
+        Layers::Definitions { defs, .. } => has_definition(defs, x.slot, strats, terms),
     }
 }

@@ -1,6 +1,6 @@
-// What a run of a program answers.
+// Results of runs.
 /// How a run ends: with a term, by failing, with a term that would be too large, or with its budget used up.
-#[derive(Drop)]
+#[derive(Clone, Debug, Drop, PartialEq, Eq)]
 pub enum Outcome<R> {
     Rewritten(R),
     Failed,
@@ -9,7 +9,7 @@ pub enum Outcome<R> {
 }
 
 /// A run: how it ended, how many nodes of the derivation it took, and how many steps of a machine.
-#[derive(Drop)]
+#[derive(Clone, Debug, Drop, PartialEq, Eq)]
 pub struct Run<R> {
     pub outcome: Outcome<R>,
     pub rules: u32,

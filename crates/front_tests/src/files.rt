@@ -4,7 +4,8 @@ use std::test::Fail;
 use str_lexer::lex;
 use str_parser::parse;
 use str_syntax::{
-    DefinitionForm, File, Origin, Primary, Section, Sequence, Step, Strategy, StrategyDefinition,
+    Arguments, DefinitionForm, File, Name, Origin, Pattern, Primary, RuleDefinition, Section,
+    Sequence, Step, Strategy, StrategyDefinition,
 };
 use term_model::Fault;
 
@@ -175,7 +176,7 @@ fn no_files(rt: HostRuntime) -> Result<(), Fail> {
     Ok(())
 }
 
-// The pieces, each so many times.
+// The pieces, each repeated its number of times.
 fn repeated(alloc: Global, pieces: &[(&[u8], usize)]) -> Result<Vec<u8>, Fail> {
     let mut text = Vec::new(alloc);
     for (piece, times) in pieces {
@@ -228,19 +229,19 @@ fn first_definition(file: &File) -> Option<&StrategyDefinition> {
     }
 }
 
-// The name of a call.
-fn called(step: &Step) -> Option<&[u8]> {
+// The name of a call without arguments.
+fn called(step: &Step) -> Option<&Name> {
     let Step::Plain(primary) = step else {
         return None;
     };
     match primary.as_ref() {
-        Primary::Call(name) => Some(name.bytes()),
+        Primary::Call(name, Arguments::Absent) => Some(name),
         _ => None,
     }
 }
 
 // The names of two calls in sequence.
-fn two_calls(sequence: &Sequence) -> Option<(&[u8], &[u8])> {
+fn two_calls(sequence: &Sequence) -> Option<(&Name, &Name)> {
     let Sequence::Then(first, others) = sequence else {
         return None;
     };
@@ -250,7 +251,12 @@ fn two_calls(sequence: &Sequence) -> Option<(&[u8], &[u8])> {
     Some((called(first)?, called(last)?))
 }
 
-// Whether the strategy is the left choice of a; b and c; d.
+// Whether the name is this one, at this byte.
+fn stands_at(name: &Name, bytes: &[u8], offset: u64) -> bool {
+    name.bytes() == bytes && name.offset() == offset
+}
+
+// Whether the strategy is the left choice of a; b and c; d, with the names where they stand in the file.
 fn is_choice_of_sequences(strategy: &Strategy) -> bool {
     let Strategy::LeftChoice(first, others) = strategy else {
         return false;
@@ -261,7 +267,10 @@ fn is_choice_of_sequences(strategy: &Strategy) -> bool {
     let (Some((a, b)), Some((c, d))) = (two_calls(first), two_calls(second)) else {
         return false;
     };
-    a == b"a".as_slice() && b == b"b".as_slice() && c == b"c".as_slice() && d == b"d".as_slice()
+    stands_at(a, b"a", 18)
+        && stands_at(b, b"b", 21)
+        && stands_at(c, b"c", 26)
+        && stands_at(d, b"d", 29)
 }
 
 #[test]
@@ -273,8 +282,48 @@ fn sequences_bind_stronger_than_choices(rt: HostRuntime) -> Result<(), Fail> {
         assert!(rt; false);
         return Ok(());
     };
-    assert_eq!(rt; definition.name.bytes(), b"main".as_slice());
+    assert!(rt; stands_at(&definition.head.name, b"main", 11));
     assert!(rt; is_choice_of_sequences(&definition.body));
     assert!(rt; is_choice_of_sequences(&definition.body.copy(rt.alloc())?));
+    Ok(())
+}
+
+// The first definition of a file whose first section has rules.
+fn first_rule(file: &File) -> Option<&RuleDefinition> {
+    let Some(Section::Rules(definitions)) = file.sections.first() else {
+        return None;
+    };
+    match &definitions.first()?.form {
+        DefinitionForm::Rule(definition) => Some(definition),
+        DefinitionForm::Strategy(_) => None,
+    }
+}
+
+// Whether the patterns are C(x, _) and x, with each where it stands in the file.
+fn are_in_place(left: &Pattern, right: &Pattern) -> bool {
+    let (Pattern::Application(constructor, parts), Pattern::Variable(built)) = (left, right) else {
+        return false;
+    };
+    let [Pattern::Variable(matched), Pattern::Wildcard(offset)] = parts.as_slice() else {
+        return false;
+    };
+    stands_at(constructor, b"C", 10)
+        && stands_at(matched, b"x", 12)
+        && *offset == 15
+        && stands_at(built, b"x", 21)
+        && matched == built
+}
+
+#[test]
+fn names_know_their_place(rt: HostRuntime) -> Result<(), Fail> {
+    let text = b"rules r : C(x, _) -> x".as_slice();
+    let tokens = lex(rt.alloc(), text)?;
+    let file = parse(rt.alloc(), text, &tokens)?;
+    let Some(definition) = first_rule(&file) else {
+        assert!(rt; false);
+        return Ok(());
+    };
+    assert!(rt; stands_at(&definition.head.name, b"r", 6));
+    assert!(rt; are_in_place(&definition.rule.left, &definition.rule.right));
     Ok(())
 }

@@ -3,7 +3,8 @@ use Rattle.std.proofs.Common.{◌≡◌, ℕ, ◌+◌, ◌<◌, ◌≤◌, Bool,
 use Rattle.std.specs.Borrow.{Bor}
 use Rattle.std.specs.Bool.{◌==◌}
 use Rattle.std.proofs.lemmas.List.{take-append-drop, length-append}
-use Rattle.str_lexer.specs.Tokens.{is_blank, first_is, stays_on_line, stays_in_comment, IsRun}
+use Rattle.term_model.specs.Bytes.{is_blank}
+use Rattle.str_lexer.specs.Tokens.{first_is, stays_on_line, stays_in_comment, IsRun}
 use Rattle.str_lexer.specs.Lexes.{Gap, BeginsGap}
 use Rattle.str_lexer.specs.Lexes.Gap.{blank, line, comment}
 use Rattle.str_lexer.specs.Readings.{run_length, Closes, FoundGap, IsCloseAt, IsCloseRead, IsGapRead}

@@ -1,13 +1,12 @@
 -- The integer that bytes begin with.
-use Rattle.std.specs.Prelude.{FitsSigned}
-use Rattle.std.specs.Int.{w32}
 use Rattle.std.specs.Bool.{◌==◌}
 use Rattle.std.specs.Cmp.{unsigned_Decides}
-use Rattle.std.proofs.Common.{◌≡◌, ℕ, ℤ, suc, zero, ◌+◌, ◌<◌, Bool, true, false, List, [], ◌∷◌, ◌++◌, drop, take, refl, sym, ◌∙◌, ap, subst, arith}
-use Rattle.std.proofs.lemmas.Int.{ints}
+use Rattle.std.proofs.Common.{◌≡◌, ℕ, ℤ, suc, zero, ◌+◌, Bool, true, false, List, [], ◌∷◌, ◌++◌, drop, take, refl, sym, ◌∙◌, ap, subst, arith}
 use Rattle.std.proofs.lemmas.List.{take-append-drop}
+use Rattle.term_model.specs.Limits.{IsInRange}
 use Rattle.str_lexer.specs.declared.token.TokenKind.TheVariants as T
-use Rattle.str_lexer.specs.Tokens.{is_digit, first_is, IsRun, value_from, AreDigits, signed, with_sign, IsInteger}
+use Rattle.term_model.specs.Bytes.{is_digit, value_from, signed}
+use Rattle.str_lexer.specs.Tokens.{first_is, IsRun, AreDigits, with_sign, IsInteger}
 use Rattle.str_lexer.specs.Readings.{run_length, begins_integer, BeginsToken}
 use Rattle.str_lexer.proofs.ByteLaws.{heads, tails}
 use Rattle.str_lexer.proofs.RunLaws.{run_taken, run_same}
@@ -75,7 +74,7 @@ sign_joins true bs xs ys g = ap (λ x. 45 ∷ x) g
 sign_joins false bs xs ys g = g
 
 module _ (negative : Bool) (bs : List ℕ) (end : ℕ) (h : first_is is_digit bs ≡ true) (e : end ≡ run_length (first_is is_digit) bs) where
-  pub found_integer : (z : ℤ) → z ≡ signed negative (value_from 0 (take end bs)) → FitsSigned w32 z → BeginsToken (T.Integer z) (with_sign negative bs) (drop end bs)
+  pub found_integer : (z : ℤ) → z ≡ signed negative (value_from 0 (take end bs)) → IsInRange z → BeginsToken (T.Integer z) (with_sign negative bs) (drop end bs)
   found_integer z g f = record {
     written = with_sign negative (take end bs);
     bytes = sign_joins negative bs (take end bs) (drop end bs) (sym (take-append-drop end bs));
@@ -90,15 +89,9 @@ module _ (negative : Bool) (bs : List ℕ) (end : ℕ) (h : first_is is_digit bs
     };
   }
 
-  pub no_integer : (FitsSigned w32 (signed negative (value_from 0 (take end bs))) → ⊥) → (z : ℤ) (other : List ℕ) → BeginsToken (T.Integer z) (with_sign negative bs) other → ⊥
+  pub no_integer : (IsInRange (signed negative (value_from 0 (take end bs))) → ⊥) → (z : ℤ) (other : List ℕ) → BeginsToken (T.Integer z) (with_sign negative bs) other → ⊥
   no_integer n z other b =
       let j = b.is_token in
       let q = sym (sign_joins negative bs (take end bs) (drop end bs) (sym (take-append-drop end bs))) ∙ b.bytes ∙ ap (λ x. x ++ other) j.bytes in
       let k = same_signed negative j.negative (value_from 0 (take end bs)) j.size (take end bs) j.ds (drop end bs) other (digits_taken bs end h e) j.digits q in
-      n (subst (FitsSigned w32) (j.value ∙ k.0) j.in_range)
-
--- the number is greater than the size of any integer
-pub too_large : (negative : Bool) (n : ℕ) → 2147483648 < n → FitsSigned w32 (signed negative n) → ⊥
-too_large true zero h f = omega arith
-too_large true (suc n) h f = omega (arith, ints)
-too_large false n h f = omega (arith, ints)
+      n (subst IsInRange (j.value ∙ k.0) j.in_range)

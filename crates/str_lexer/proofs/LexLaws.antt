@@ -43,7 +43,7 @@ gaps_behind : (g : Gap) (bs rest : List ℕ) (gaps : List Gap) → BeginsGap g b
 gaps_behind g bs rest [] b a = absurd (no_gap_in g bs rest a b)
 gaps_behind g bs rest (h ∷ gaps) b a = record { gaps = gaps; are_gaps = subst (Gaps gaps []) (gap_once g h bs rest a.rest b a.begins) a.behind }
 
--- the gaps behind the first, before these bytes
+-- the gaps after the first, before these bytes
 record GapsBehind (end rest : List ℕ) : Type 0 where
   pub gaps : List Gap
   pub are_gaps : Gaps gaps end rest

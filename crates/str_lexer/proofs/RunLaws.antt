@@ -1,7 +1,8 @@
 -- Runs of bytes at the front, and the blanks there.
 use Rattle.std.proofs.Common.{◌≡◌, ℕ, suc, zero, ◌+◌, ◌-◌, ◌*◌, ◌<◌, ◌≤◌, Bool, true, false, cond, List, [], ◌∷◌, ◌++◌, length, get_or, drop, take, drop-cons, refl, sym, ◌∙◌, ap, arith, add-one}
 use Rattle.std.proofs.lemmas.List.{take-append-drop, length-drop}
-use Rattle.str_lexer.specs.Tokens.{first_is, IsRun, value_from}
+use Rattle.term_model.specs.Bytes.{value_from}
+use Rattle.str_lexer.specs.Tokens.{first_is, IsRun}
 use Rattle.str_lexer.specs.Readings.{run_length}
 
 pub drop_more : (bs : List ℕ) (i : ℕ) → i < length bs → drop i bs ≡ get_or bs i 0 ∷ drop (i + 1) bs
@@ -63,7 +64,7 @@ pub run_within : (test : List ℕ → Bool) (bs : List ℕ) → run_length test 
 run_within test [] = omega arith
 run_within test (x ∷ xs) = let h = run_within test xs in choose (λ n. n ≤ suc (length xs)) (test (x ∷ xs)) (1 + run_length test xs) 0 (λ _. omega arith) (λ _. omega arith)
 
--- the longest run, and what stands behind it
+-- the longest run, and what stands after it
 taken_more : (test : List ℕ → Bool) (x : ℕ) (xs : List ℕ) (n : ℕ) (b : Bool) → ((m : ℕ) → m ≡ run_length test xs → IsRun test (take m xs) (drop m xs)) → test (x ∷ xs) ≡ b → n ≡ cond b (1 + run_length test xs) 0 → IsRun test (take n (x ∷ xs)) (drop n (x ∷ xs))
 taken_more test x xs zero true h f g = absurd (omega arith)
 taken_more test x xs (suc m) true h f g = (ap (λ ys. test (x ∷ ys)) (take-append-drop m xs) ∙ f, h m (omega arith))

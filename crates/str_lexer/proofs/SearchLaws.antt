@@ -15,7 +15,7 @@ or_true : (a : Bool) → (a || true) ≡ true
 or_true true = refl
 or_true false = refl
 
--- tokens and one behind them
+-- tokens and one after them
 held_behind : (ts : List Token) (t : Token) → holds_left_out (ts ++ (t ∷ [])) ≡ (holds_left_out ts || left_out t)
 held_behind [] t = or_false (left_out t)
 held_behind (u ∷ ts) t = ap (λ b. left_out u || b) (held_behind ts t) ∙ or_grouped (left_out u) (holds_left_out ts) (left_out t)

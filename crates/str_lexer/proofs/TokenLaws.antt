@@ -12,12 +12,14 @@ use Rattle.str_lexer.specs.declared.token.Mark.TheVariants.{OpenParenthesis, Clo
 use Rattle.str_lexer.specs.declared.word.Reserved.{Reserved}
 use Rattle.str_lexer.specs.declared.word.Reserved.TheVariants as R
 use Rattle.str_lexer.specs.Words.{reserved_bytes, kind_of, mark_bytes}
-use Rattle.str_lexer.specs.Tokens.{is_digit, begins_word, first_is, with_sign, IsWord, items_bytes, IsToken}
+use Rattle.term_model.specs.Bytes.{is_digit}
+use Rattle.term_model.specs.Symbol.{begins_name}
+use Rattle.str_lexer.specs.Tokens.{first_is, with_sign, IsWord, IsToken}
 use Rattle.str_lexer.specs.Lexes.{Gap, BeginsGap}
 use Rattle.str_lexer.specs.Readings.{begins_integer, BeginsToken, NoToken, BeginsMark, IsIntegerRead, IsQuotedRead}
 use Rattle.str_lexer.proofs.WordLaws.{word_head, word_same, reserved_once}
 use Rattle.str_lexer.proofs.IntegerLaws.{integer_head, integer_once}
-use Rattle.str_lexer.proofs.QuotedLaws.{quoted_once}
+use Rattle.str_lexer.proofs.QuotedLaws.{quoted_once, quoted_bytes}
 use Rattle.str_lexer.proofs.MarkLaws.{mark_once}
 use Rattle.str_lexer.proofs.GapLaws.{begins_gap, gap_head}
 
@@ -34,7 +36,7 @@ data Beginning : Type 0 where
 -- as the first bytes say
 abbrev beginning : List ℕ → Beginning
 beginning bs =
-    if first_is begins_word bs then word else
+    if first_is begins_name bs then word else
     if begins_integer bs then integer else
     if first_is (λ b. b == 34) bs then quoted else
     if first_is begins_gap bs then gap else
@@ -50,13 +52,13 @@ beginning_of (T.Integer z) = integer
 beginning_of (T.Quoted text) = quoted
 beginning_of (T.Mark m) = mark
 
-word_no_digit : (b : ℕ) → begins_word b ≡ true → is_digit b ≡ true → ⊥
+word_no_digit : (b : ℕ) → begins_name b ≡ true → is_digit b ≡ true → ⊥
 word_no_digit b e f = grind (arith, nat_tests)
 
-minus_no_word : (b : ℕ) → b ≡ 45 → begins_word b ≡ true → ⊥
-minus_no_word b e f = let g : begins_word 45 ≡ true = ap begins_word (sym e) ∙ f in cc
+minus_no_word : (b : ℕ) → b ≡ 45 → begins_name b ≡ true → ⊥
+minus_no_word b e f = let g : begins_name 45 ≡ true = ap begins_name (sym e) ∙ f in cc
 
-integer_no_word : (bs : List ℕ) (t : Bool) → first_is begins_word bs ≡ t → begins_integer bs ≡ true → t ≡ false
+integer_no_word : (bs : List ℕ) (t : Bool) → first_is begins_name bs ≡ t → begins_integer bs ≡ true → t ≡ false
 integer_no_word [] t e f = cc
 integer_no_word (b ∷ bs) false e f = refl
 integer_no_word (b ∷ bs) true e f = absurd (go (b == 45) refl f)
@@ -66,15 +68,15 @@ integer_no_word (b ∷ bs) true e f = absurd (go (b == 45) refl f)
     go false g f = word_no_digit b e (rw g at f)
 
 integer_beginning : (bs : List ℕ) → begins_integer bs ≡ true → beginning bs ≡ integer
-integer_beginning bs f = let g = integer_no_word bs (first_is begins_word bs) refl f in rw (g, f) refl
+integer_beginning bs f = let g = integer_no_word bs (first_is begins_name bs) refl f in rw (g, f) refl
 
-word_beginning : (bs : List ℕ) → first_is begins_word bs ≡ true → beginning bs ≡ word
+word_beginning : (bs : List ℕ) → first_is begins_name bs ≡ true → beginning bs ≡ word
 word_beginning bs f = rw f refl
 
 quote_beginning : (bs : List ℕ) → beginning (34 ∷ bs) ≡ quoted
 quote_beginning bs = refl
 
-blank_byte : (b : ℕ) → begins_gap b ≡ true → (begins_word b ≡ false) × (is_digit b ≡ false) × ((b == 45) ≡ false) × ((b == 34) ≡ false)
+blank_byte : (b : ℕ) → begins_gap b ≡ true → (begins_name b ≡ false) × (is_digit b ≡ false) × ((b == 45) ≡ false) × ((b == 34) ≡ false)
 blank_byte b e = (grind (arith, nat_tests), grind (arith, nat_tests), grind (arith, nat_tests), grind (arith, nat_tests))
 
 gap_beginning : (bs : List ℕ) → first_is begins_gap bs ≡ true → beginning bs ≡ gap
@@ -111,7 +113,7 @@ token_beginning T.Wildcard bs rest b = word_beginning bs (word_head bs b.written
 token_beginning (T.Keyword k) bs rest b = word_beginning bs (word_head bs b.written rest b.bytes b.is_token.1)
 token_beginning (T.LeftOut w) bs rest b = word_beginning bs (word_head bs b.written rest b.bytes b.is_token.1)
 token_beginning (T.Integer z) bs rest b = integer_beginning bs (integer_head z bs b.written rest b.bytes b.is_token)
-token_beginning (T.Quoted text) bs rest b = ap beginning (b.bytes ∙ ap (λ w. w ++ rest) b.is_token.bytes) ∙ quote_beginning ((items_bytes b.is_token.items ++ (34 ∷ [])) ++ rest)
+token_beginning (T.Quoted text) bs rest b = ap beginning (b.bytes ∙ ap (λ w. w ++ rest) (quoted_bytes text b.written b.is_token)) ∙ quote_beginning ((b.is_token.second.front ++ (34 ∷ [])) ++ rest)
 token_beginning (T.Mark m) bs rest b = ap beginning (b.bytes ∙ ap (λ w. w ++ rest) b.is_token.0) ∙ mark_beginning m rest
 
 -- ---- one token alone
@@ -206,7 +208,7 @@ no_other_than_integer bs f n t other b = go t b (sym (token_beginning t bs other
     go (T.Mark m) b e = cc
 
 quoted_head : (text : List ℕ) (bs other : List ℕ) → BeginsToken (T.Quoted text) bs other → first_is (λ b. b == 34) bs ≡ true
-quoted_head text bs other b = ap (first_is (λ c. c == 34)) (b.bytes ∙ ap (λ w. w ++ other) b.is_token.bytes)
+quoted_head text bs other b = ap (first_is (λ c. c == 34)) (b.bytes ∙ ap (λ w. w ++ other) (quoted_bytes text b.written b.is_token))
 
 no_other_than_quoted : (bs : List ℕ) → first_is (λ b. b == 34) bs ≡ true → ((text : List ℕ) (other : List ℕ) → BeginsToken (T.Quoted text) bs other → ⊥) → NoToken bs
 no_other_than_quoted bs f n t other b = go t b (sym (token_beginning t bs other b) ∙ at_quote bs f)
@@ -224,7 +226,7 @@ no_other_than_quoted bs f n t other b = go t b (sym (token_beginning t bs other 
     go (T.Quoted t) b e = n t other b
     go (T.Mark m) b e = cc
 
-pub no_other_than_mark : (bs : List ℕ) → first_is begins_word bs ≡ false → begins_integer bs ≡ false → first_is (λ b. b == 34) bs ≡ false → ((m : Mark) (other : List ℕ) → bs ≡ mark_bytes m ++ other → ⊥) → NoToken bs
+pub no_other_than_mark : (bs : List ℕ) → first_is begins_name bs ≡ false → begins_integer bs ≡ false → first_is (λ b. b == 34) bs ≡ false → ((m : Mark) (other : List ℕ) → bs ≡ mark_bytes m ++ other → ⊥) → NoToken bs
 no_other_than_mark bs f g h n T.Name other b = let k = word_head bs b.written other b.bytes b.is_token.0 in cc
 no_other_than_mark bs f g h n T.Wildcard other b = let k = word_head bs b.written other b.bytes b.is_token.1 in cc
 no_other_than_mark bs f g h n (T.Keyword k) other b = let k = word_head bs b.written other b.bytes b.is_token.1 in cc
@@ -285,7 +287,7 @@ empty_token (T.Integer z) rest i = empty_signed i.negative i.ds i.bytes i.digits
     empty_signed true ds e f = cc
     empty_signed false [] e f = cc
     empty_signed false (d ∷ ds) e f = cc
-empty_token (T.Quoted text) rest i = let e = i.bytes in cc
+empty_token (T.Quoted text) rest i = let e = quoted_bytes text [] i in cc
 empty_token (T.Mark OpenParenthesis) rest i = let e = i.0 in cc
 empty_token (T.Mark CloseParenthesis) rest i = let e = i.0 in cc
 empty_token (T.Mark OpenBracket) rest i = let e = i.0 in cc

@@ -9,7 +9,8 @@ use Rattle.str_lexer.specs.declared.token.TokenKind.TheVariants as T
 use Rattle.str_lexer.specs.declared.word.Reserved.{Reserved}
 use Rattle.str_lexer.specs.declared.word.Reserved.TheVariants.{Wildcard, Keyword, LeftOut}
 use Rattle.str_lexer.specs.Words.{reserved_bytes, kind_of}
-use Rattle.str_lexer.specs.Tokens.{begins_word, first_is, goes_on, IsWord, IsReserved, IsToken}
+use Rattle.term_model.specs.Symbol.{begins_name}
+use Rattle.str_lexer.specs.Tokens.{first_is, goes_on, IsWord, IsReserved, IsToken}
 use Rattle.str_lexer.specs.Readings.{IsAmong, run_length, BeginsToken}
 use Rattle.str_lexer.proofs.RunLaws.{run_taken, run_same}
 use Rattle.str_lexer.proofs.ByteLaws.{heads}
@@ -123,7 +124,7 @@ among b c rs d e r rest f = rw e (subst (λ x. IsAmong r (words_of x)) (first_is
 
 -- ---- the word that bytes begin with
 
-word_taken : (bs : List ℕ) (n end : ℕ) → first_is begins_word bs ≡ true → n ≡ run_length goes_on (drop 1 bs) → end ≡ 1 + n → IsWord (take end bs) (drop end bs)
+word_taken : (bs : List ℕ) (n end : ℕ) → first_is begins_name bs ≡ true → n ≡ run_length goes_on (drop 1 bs) → end ≡ 1 + n → IsWord (take end bs) (drop end bs)
 word_taken [] n end f e g = cc
 word_taken (b ∷ bs) n zero f e g = absurd (omega arith)
 word_taken (b ∷ bs) n (suc m) f e g = (f, run_taken goes_on refl bs m (omega arith))
@@ -133,7 +134,7 @@ reserved_token Wildcard bs rest i = i
 reserved_token (Keyword k) bs rest i = i
 reserved_token (LeftOut w) bs rest i = i
 
-module _ (bs : List ℕ) (n end : ℕ) (f : first_is begins_word bs ≡ true) (e : n ≡ run_length goes_on (drop 1 bs)) (g : end ≡ 1 + n) where
+module _ (bs : List ℕ) (n end : ℕ) (f : first_is begins_name bs ≡ true) (e : n ≡ run_length goes_on (drop 1 bs)) (g : end ≡ 1 + n) where
   pub found_reserved : (r : Reserved) → reserved_bytes r ≡ take end bs → BeginsToken (kind_of r) bs (drop end bs)
   found_reserved r h = record {
     written = take end bs;
@@ -148,7 +149,7 @@ module _ (bs : List ℕ) (n end : ℕ) (f : first_is begins_word bs ≡ true) (e
     is_token = (word_taken bs n end f e g, h);
   }
 
-pub word_head : (bs w rest : List ℕ) → bs ≡ w ++ rest → IsWord w rest → first_is begins_word bs ≡ true
+pub word_head : (bs w rest : List ℕ) → bs ≡ w ++ rest → IsWord w rest → first_is begins_name bs ≡ true
 word_head bs [] rest e i = absurd i
 word_head bs (b ∷ cs) rest e i = rw e i.0
 

@@ -7,9 +7,10 @@ use Rattle.term_model.specs.declared.fault.Fault.TheVariants as faults
 use Rattle.str_lexer.specs.declared.token.Token.{Token}
 use Rattle.str_lexer.specs.declared.token.TokenKind.{TokenKind}
 use Rattle.str_lexer.specs.declared.token.TokenKind.TheVariants as T
-use Rattle.str_lexer.specs.Tokens.{is_blank, first_is, stays_on_line, stays_in_comment, IsRun, IsToken}
+use Rattle.term_model.specs.Bytes.{is_blank}
+use Rattle.str_lexer.specs.Tokens.{first_is, stays_on_line, stays_in_comment, IsRun, IsToken}
 
--- what may stand between tokens: a blank, // and the bytes behind it, or the bytes between /* and */
+-- what may stand between tokens: a blank, // and the bytes after it, or the bytes between /* and */
 pub data Gap : Type 0 where
   blank : ℕ → Gap
   line : List ℕ → Gap
@@ -26,12 +27,12 @@ IsGap (blank b) rest = is_blank b ≡ true
 IsGap (line inner) rest = IsRun (first_is stays_on_line) inner rest
 IsGap (comment inner) rest = IsRun stays_in_comment inner (42 ∷ 47 ∷ rest)
 
--- the bytes begin with this gap, and the rest stands behind it
+-- the bytes begin with this gap, and the rest follows it
 pub record BeginsGap (g : Gap) (bs rest : List ℕ) : Type 0 where
   pub bytes : bs ≡ gap_bytes g ++ rest
   pub is_gap : IsGap g rest
 
--- the bytes begin with this gap, and behind it stands a list of this kind
+-- the bytes begin with this gap, and a list of this kind follows it
 pub record GapThen (g : Gap) (Behind : List ℕ → Type 0) (bs : List ℕ) : Type 0 where
   pub rest : List ℕ
   pub begins : BeginsGap g bs rest
@@ -78,7 +79,7 @@ pub record IsSlice (text : List ℕ) (t : Token) : Type 0 where
   pub within : t.to ≤ length text
   pub is_token : IsToken t.kind (take (t.to - t.from) (drop t.from text)) (drop t.to text)
 
--- the tokens are slices of the text from this place on, one behind the other
+-- the tokens are slices of the text from this place on, one after the other
 abbrev pub AreSlices : List ℕ → ℕ → List Token → Type 0
 AreSlices text at [] = Unit {0}
 AreSlices text at (t ∷ ts) = (at ≤ t.from) × IsSlice text t × AreSlices text t.to ts
@@ -101,7 +102,7 @@ pub record HoldsLeftOut (text : List ℕ) : Type 0 where
   pub only : OnlyTokens text tokens
   pub holds : holds_left_out tokens ≡ true
 
--- what reading a text answers: the tokens; Lexical where there are none; ReservedWord where they hold a word of a left-out part
+-- what reading a text returns: the tokens; Lexical where there are none; ReservedWord where they hold a word of a left-out part
 abbrev pub IsLexing : List ℕ → Result (Vec Token Global) Fault → Type 0
 IsLexing text (Ok ts) = OnlyTokens text ts.items × (holds_left_out ts.items ≡ false)
 IsLexing text (Err faults.Memory) = Unit {0}

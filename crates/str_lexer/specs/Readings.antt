@@ -3,6 +3,8 @@ use Rattle.std.specs.Prelude.{◌≡◌, ◌<◌, get_or, length, ℕ, ℤ, ◌+
 use Rattle.std.specs.Borrow.{Bor}
 use Rattle.std.specs.declared.vec.Vec.{Vec}
 use Rattle.std.specs.declared.alloc.Global.{Global}
+use Rattle.term_model.specs.Bytes.{is_digit, is_between, is_octal}
+use Rattle.term_model.specs.QuotedText.{Item}
 use Rattle.term_model.specs.declared.fault.Fault.{Fault}
 use Rattle.term_model.specs.declared.fault.Fault.TheVariants as faults
 use Rattle.str_lexer.specs.declared.token.Token.{Token}
@@ -12,16 +14,15 @@ use Rattle.str_lexer.specs.declared.token.Mark.{Mark}
 use Rattle.str_lexer.specs.declared.word.Reserved.{Reserved}
 use Rattle.str_lexer.specs.declared.word.Reserved.TheVariants as R
 use Rattle.str_lexer.specs.Words.{mark_bytes}
-use Rattle.str_lexer.specs.Tokens.{is_digit, first_is, IsRun, stays_in_comment, with_sign, mark_goes_on, is_letter, letter_value, Item, IsItem, item_bytes, item_value, IsToken}
-use Rattle.str_lexer.specs.Tokens.Item.{octal}
+use Rattle.str_lexer.specs.Tokens.{first_is, IsRun, stays_in_comment, with_sign, mark_goes_on, IsToken}
 use Rattle.str_lexer.specs.Lexes.{Gap, BeginsGap, Lexes, OnlyTokens, holds_left_out}
 
--- how many bytes from the front on pass the test, each with all that stands behind it
+-- how many bytes from the front on pass the test, each with all that follows it
 abbrev pub run_length : (List ℕ → Bool) → List ℕ → ℕ
 run_length test [] = 0
 run_length test (b ∷ bs) = if test (b ∷ bs) then 1 + run_length test bs else 0
 
--- the bytes begin with this token, and the rest stands behind it
+-- the bytes begin with this token, and the rest follows it
 pub record BeginsToken (t : TokenKind) (bs rest : List ℕ) : Type 0 where
   pub written : List ℕ
   pub bytes : bs ≡ written ++ rest
@@ -42,24 +43,24 @@ IsTokenRead bs None = NoToken bs
 
 -- ---- gaps
 
--- the bytes behind this one
+-- the bytes after this one
 abbrev pub IsByteRead : ℕ → List ℕ → Option (Bor (List ℕ)) → Type 0
 IsByteRead b bs (Some rest) = bs ≡ b ∷ rest.now
 IsByteRead b bs None = first_is (λ c. c == b) bs ≡ false
 
--- the bytes behind */
+-- the bytes after */
 abbrev pub IsCloseAt : List ℕ → Option (Bor (List ℕ)) → Type 0
 IsCloseAt bs (Some rest) = bs ≡ 42 ∷ 47 ∷ rest.now
 IsCloseAt [] None = Unit {0}
 IsCloseAt (b ∷ bs) None = stays_in_comment (b ∷ bs) ≡ true
 
--- the rest stands behind the first */
+-- the rest follows the first */
 pub record Closes (bs rest : List ℕ) : Type 0 where
   pub inner : List ℕ
   pub bytes : bs ≡ inner ++ (42 ∷ 47 ∷ rest)
   pub run : IsRun stays_in_comment inner (42 ∷ 47 ∷ rest)
 
--- the bytes behind the first */
+-- the bytes after the first */
 abbrev pub IsCloseRead : List ℕ → Option (Bor (List ℕ)) → Type 0
 IsCloseRead bs (Some rest) = Closes bs rest.now
 IsCloseRead bs None = (other : List ℕ) → Closes bs other → ⊥
@@ -91,37 +92,34 @@ IsSignedRead negative bs read = IsIntegerRead (with_sign negative bs) read
 
 -- ---- quoted texts
 
--- the item and the rest
-pub record BeginsItem (i : Item) (bs rest : List ℕ) : Type 0 where
-  pub bytes : bs ≡ item_bytes i ++ rest
-  pub is_item : IsItem i
-
--- an item that spells the byte
+-- an item that spells the byte, and the rest
 pub record FoundItem (byte : ℕ) (bs rest : List ℕ) : Type 0 where
-  pub item : Item
-  pub begins : BeginsItem item bs rest
-  pub value : item_value item ≡ byte
+  pub written : List ℕ
+  pub bytes : bs ≡ written ++ rest
+  pub item : Item byte written
 
 abbrev pub NoItem : List ℕ → Type 0
-NoItem bs = (i : Item) (other : List ℕ) → BeginsItem i bs other → ⊥
+NoItem bs = (byte : ℕ) (other : List ℕ) → FoundItem byte bs other → ⊥
 
 abbrev pub IsItemRead : List ℕ → Option (ℕ × Bor (List ℕ)) → Type 0
 IsItemRead bs (Some (byte, rest)) = FoundItem byte bs rest.now
 IsItemRead bs None = NoItem bs
 
--- the item whose \ stands before the bytes
+-- the item of these bytes after a \
 abbrev pub IsEscapeRead : List ℕ → Option (ℕ × Bor (List ℕ)) → Type 0
 IsEscapeRead bs read = IsItemRead (92 ∷ bs) read
 
--- what a letter stands for
-abbrev pub IsLetterRead : ℕ → Option ℕ → Type 0
-IsLetterRead l (Some byte) = (is_letter l ≡ true) × (letter_value l ≡ byte)
-IsLetterRead l None = is_letter l ≡ false
+-- three octal digits from 000 to 377, and the rest
+pub record BeginsOctal (x y z : ℕ) (bs rest : List ℕ) : Type 0 where
+  pub bytes : bs ≡ x ∷ y ∷ z ∷ rest
+  pub high : is_between 48 51 x ≡ true
+  pub middle : is_octal y ≡ true
+  pub low : is_octal z ≡ true
 
--- the item of three digits whose \ stands before the bytes
+-- the item of three digits after a \
 abbrev pub IsOctalRead : List ℕ → Option (ℕ × Bor (List ℕ)) → Type 0
 IsOctalRead bs (Some (byte, rest)) = FoundItem byte (92 ∷ bs) rest.now
-IsOctalRead bs None = (d e f : ℕ) (other : List ℕ) → BeginsItem (octal d e f) (92 ∷ bs) other → ⊥
+IsOctalRead bs None = (x y z : ℕ) (other : List ℕ) → BeginsOctal x y z bs other → ⊥
 
 -- the quoted text and the rest
 abbrev pub IsQuotedRead : List ℕ → Option (List ℕ × Bor (List ℕ)) → Type 0
@@ -155,7 +153,7 @@ abbrev pub IsSearch : List Token → Option ℕ → Type 0
 IsSearch ts (Some _) = holds_left_out ts ≡ true
 IsSearch ts None = holds_left_out ts ≡ false
 
--- what cutting a text into tokens answers: the tokens, and whether they hold a word of a left-out part; or Lexical where there are none
+-- what cutting a text into tokens returns: the tokens, and whether they hold a word of a left-out part; or Lexical where there are none
 abbrev pub IsCutting : List ℕ → Result (Vec Token Global × Option ℕ) Fault → Type 0
 IsCutting text (Ok (ts, found)) = OnlyTokens text ts.items × IsSearch ts.items found
 IsCutting text (Err faults.Memory) = Unit {0}

@@ -1,13 +1,12 @@
 // Integers.
-ghost use Rattle.std.specs.Prelude.{true, false, ◌≡◌, ℕ, ◌≤◌, ◌^◌, ◌<◌, MatchOption, length, FitsSigned};
-ghost use Rattle.std.specs.Int.{w32};
-ghost use Rattle.str_lexer.specs.Tokens.{is_digit, first_is, value_from, signed};
+ghost use Rattle.std.specs.Prelude.{true, false, ◌≡◌, ℕ, ◌≤◌, ◌^◌, ◌<◌, MatchOption, length};
+ghost use Rattle.term_model.specs.Limits.{max_magnitude};
+ghost use Rattle.term_model.specs.Bytes.{is_digit, value_from};
+ghost use Rattle.str_lexer.specs.Tokens.{first_is};
 ghost use Rattle.str_lexer.specs.Readings.{run_length, begins_integer, IsIntegerRead, IsSignedRead};
 
-use crate::runs::{digit_count, is_digit_byte};
-
-// The greatest size of an integer.
-const MOST: u64 = 2_147_483_648;
+use crate::runs::digit_count;
+use term_model::bytes::{is_digit_byte, signed, with_digit};
 
 fn begins_digit(text: &[u8]) -> bool
     ensures { result ≡ first_is is_digit text.now }
@@ -31,52 +30,35 @@ pub(crate) fn begins(text: &[u8]) -> bool
     is_digit_byte(*first)
 }
 
-// The number that the digits are, unless it is greater than any integer's size.
-fn number(digits: &[u8]) -> Option<u64>
+// The magnitude that the digits spell, unless no integer of this sign has it.
+fn magnitude(negative: bool, digits: &[u8]) -> Option<u32>
     requires { run_length (first_is is_digit) digits.now ≡ length digits.now }
-    ensures { MatchOption result (2147483648 < value_from 0 digits.now) (λ n. (n ≡ value_from 0 digits.now) × (n ≤ 2147483648)) }
+    ensures { MatchOption result (max_magnitude negative < value_from 0 digits.now) (λ n. (n ≡ value_from 0 digits.now) × (n ≤ max_magnitude negative)) }
 {
-    let mut value = 0u64;
+    let mut value = 0;
     for digit in digits {
-        value = 10 * value + u64::from(digit - b'0');
-        if value > MOST {
+        let Some(longer) = with_digit(negative, value, *digit) else {
             return None;
-        }
+        };
+        value = longer;
     }
     Some(value)
 }
 
-// The integer of this sign and size, if it is in range.
-fn integer_of(negative: bool, size: u64) -> Option<i32>
-    requires { size ≤ 2147483648 }
-    ensures { MatchOption result (FitsSigned w32 (signed negative size) → ⊥) (λ z. (z ≡ signed negative size) × FitsSigned w32 z) }
-{
-    if negative {
-        return Some(-(size as i64) as i32);
-    }
-    if size == MOST {
-        return None;
-    }
-    Some(size as i32)
-}
-
-// The integer that the bytes begin with behind its sign, and the bytes behind it.
+// The integer that the bytes begin with after its sign, and the bytes after it.
 fn unsigned<'a>(negative: bool, text: &'a [u8]) -> Option<(i32, &'a [u8])>
     requires { first_is is_digit text.now ≡ true }
     ensures { IsSignedRead negative text.now result }
 {
     let end = digit_count(text);
     let (digits, rest) = text.split_at(end);
-    let Some(size) = number(digits) else {
+    let Some(value) = magnitude(negative, digits) else {
         return None;
     };
-    let Some(value) = integer_of(negative, size) else {
-        return None;
-    };
-    Some((value, rest))
+    Some((signed(negative, value), rest))
 }
 
-// The integer that the bytes begin with, and the bytes behind it.
+// The integer that the bytes begin with, and the bytes after it.
 pub(crate) fn integer<'a>(text: &'a [u8]) -> Option<(i32, &'a [u8])>
     requires { begins_integer text.now ≡ true }
     ensures { IsIntegerRead text.now result }

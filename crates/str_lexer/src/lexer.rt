@@ -6,15 +6,15 @@ ghost use Rattle.str_lexer.specs.Lexes.{left_out, AreSlices, IsLexing};
 ghost use Rattle.str_lexer.specs.Readings.{begins_integer, IsTokenRead, IsCutting, IsSearch};
 
 use crate::gap::gap;
+use crate::integer;
 use crate::mark::mark;
 use crate::quoted::quoted;
 use crate::token::{Token, TokenKind};
 use crate::word::word;
-use crate::{integer, runs};
 use std::alloc::{AllocError, Global};
-use term_model::Fault;
+use term_model::{Fault, symbol};
 
-// The integer that the bytes begin with, and the bytes behind it.
+// The integer that the bytes begin with, and the bytes after it.
 fn integer_token<'a>(text: &'a [u8]) -> Option<(TokenKind, &'a [u8])>
     requires { begins_integer text.now ≡ true }
     ensures { IsTokenRead text.now result }
@@ -25,7 +25,7 @@ fn integer_token<'a>(text: &'a [u8]) -> Option<(TokenKind, &'a [u8])>
     Some((TokenKind::Integer(value), rest))
 }
 
-// The quoted text that the bytes begin with, and the bytes behind it.
+// The quoted text that the bytes begin with, and the bytes after it.
 fn quoted_token<'a>(
     alloc: Global,
     text: &'a [u8],
@@ -39,14 +39,14 @@ fn quoted_token<'a>(
     Ok(Some((TokenKind::Quoted(value), rest)))
 }
 
-// The token that the bytes begin with, and the bytes behind it.
+// The token that the bytes begin with, and the bytes after it.
 fn token<'a>(alloc: Global, text: &'a [u8]) -> Result<Option<(TokenKind, &'a [u8])>, AllocError>
     ensures { IfOk result (λ found. IsTokenRead text.now found) }
 {
     let Some((first, _)) = text.split_first() else {
         return Ok(None);
     };
-    if runs::begins(*first) {
+    if symbol::begins(*first) {
         return Ok(Some(word(text)));
     }
     if integer::begins(text) {
@@ -67,7 +67,7 @@ fn is_left_out(token: &Token) -> bool
     matches!(token.kind, TokenKind::LeftOut(_))
 }
 
-// Where the first word of a left-out part stands, once this token comes behind others.
+// Where the first word of a left-out part stands, once this token comes after others.
 fn first_left_out(before: Option<usize>, token: &Token) -> Option<usize>
     ensures { (ts : List Token) → IsSearch ts before → IsSearch (ts ++ (token.now ∷ [])) result }
 {

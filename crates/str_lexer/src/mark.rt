@@ -4,7 +4,7 @@ ghost use Rattle.str_lexer.specs.Readings.{begins_longer, IsMarkRead, IsByteRead
 
 use crate::token::Mark;
 
-// The bytes behind this one, if they begin with it.
+// The bytes after this one, if they begin with it.
 pub(crate) fn behind_byte<'a>(byte: u8, text: &'a [u8]) -> Option<&'a [u8]>
     ensures { IsByteRead byte text.now result }
 {
@@ -42,7 +42,7 @@ fn short_mark(byte: u8) -> Option<Mark>
     }
 }
 
-// The mark that the bytes begin with, the longest, and the bytes behind it.
+// The mark that the bytes begin with, the longest, and the bytes after it.
 pub(crate) fn mark<'a>(text: &'a [u8]) -> Option<(Mark, &'a [u8])>
     ensures { IsMarkRead text.now result }
 {

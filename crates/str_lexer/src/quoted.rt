@@ -1,54 +1,41 @@
 // Quoted texts.
 ghost use Rattle.std.specs.Prelude.{true, ◌≡◌, ◌==◌, IfOk};
 ghost use Rattle.str_lexer.specs.Tokens.{first_is};
-ghost use Rattle.str_lexer.specs.Readings.{IsItemRead, IsEscapeRead, IsLetterRead, IsOctalRead, IsQuotedRead};
+ghost use Rattle.str_lexer.specs.Readings.{IsItemRead, IsEscapeRead, IsOctalRead, IsQuotedRead};
 
-use crate::runs::is_octal_digit;
 use crate::token::QuotedText;
 use std::alloc::{AllocError, Global};
+use term_model::bytes::{is_octal_byte, unescaped};
 
-// The byte of three octal digits, and the bytes behind them.
+// The byte of three octal digits, and the bytes after them.
 fn octal<'a>(text: &'a [u8]) -> Option<(u8, &'a [u8])>
     ensures { IsOctalRead text.now result }
 {
     let (high, others) = text.split_first()?;
     let (middle, others) = others.split_first()?;
     let (low, rest) = others.split_first()?;
-    if !is_octal_digit(*high) || *high > b'3' {
+    if !is_octal_byte(*high) || *high > b'3' {
         return None;
     }
-    if !is_octal_digit(*middle) || !is_octal_digit(*low) {
+    if !is_octal_byte(*middle) || !is_octal_byte(*low) {
         return None;
     }
-    let byte = 64 * (*high - b'0') + 8 * (*middle - b'0') + (*low - b'0');
+    let byte = 8 * (8 * (*high - b'0') + (*middle - b'0')) + (*low - b'0');
     Some((byte, rest))
 }
 
-// The byte that a letter behind a backslash stands for.
-fn letter(letter: u8) -> Option<u8>
-    ensures { IsLetterRead letter result }
-{
-    match letter {
-        b'"' | b'\\' => Some(letter),
-        b'n' => Some(b'\n'),
-        b't' => Some(b'\t'),
-        b'r' => Some(b'\r'),
-        _ => None,
-    }
-}
-
-// The byte that stands behind a backslash, and the bytes behind what spells it.
+// The byte that stands after a backslash, and the bytes after what spells it.
 fn escaped<'a>(text: &'a [u8]) -> Option<(u8, &'a [u8])>
     ensures { IsEscapeRead text.now result }
 {
     let (first, others) = text.split_first()?;
-    let Some(byte) = letter(*first) else {
+    let Some(byte) = unescaped(*first) else {
         return octal(text);
     };
     Some((byte, others))
 }
 
-// The byte that the first item of a quoted text stands for, and the bytes behind the item.
+// The byte that the first item of a quoted text stands for, and the bytes after the item.
 fn item<'a>(text: &'a [u8]) -> Option<(u8, &'a [u8])>
     ensures { IsItemRead text.now result }
 {
@@ -62,7 +49,7 @@ fn item<'a>(text: &'a [u8]) -> Option<(u8, &'a [u8])>
     Some((*first, others))
 }
 
-// The quoted text that the bytes begin with, and the bytes behind it.
+// The quoted text that the bytes begin with, and the bytes after it.
 pub(crate) fn quoted<'a>(
     alloc: Global,
     text: &'a [u8],

@@ -1,33 +1,13 @@
 // Classes of bytes, and how long a run of them is.
 ghost use Rattle.std.specs.Prelude.{◌≡◌, ◌≤◌, ◌==◌, length};
-ghost use Rattle.str_lexer.specs.Tokens.{is_blank, is_digit, is_from_to, begins_word, continues_word, first_is, goes_on as word_goes_on, stays_on_line};
+ghost use Rattle.term_model.specs.Bytes.{is_digit};
+ghost use Rattle.term_model.specs.Symbol.{begins_name};
+ghost use Rattle.str_lexer.specs.Tokens.{continues_word, first_is, goes_on as word_goes_on, stays_on_line};
 ghost use Rattle.str_lexer.specs.Readings.{run_length, IsCloseAt, IsCloseRead};
 
 use crate::mark::behind_byte;
-
-pub(crate) fn is_blank_byte(byte: u8) -> bool
-    ensures { result ≡ is_blank byte }
-{
-    matches!(byte, b' ' | b'\t' | b'\n' | b'\r')
-}
-
-pub(crate) fn is_digit_byte(byte: u8) -> bool
-    ensures { result ≡ is_digit byte }
-{
-    matches!(byte, b'0'..=b'9')
-}
-
-pub(crate) fn is_octal_digit(byte: u8) -> bool
-    ensures { result ≡ is_from_to 48 55 byte }
-{
-    matches!(byte, b'0'..=b'7')
-}
-
-pub(crate) fn begins(byte: u8) -> bool
-    ensures { result ≡ begins_word byte }
-{
-    byte.is_ascii_alphabetic() || byte == b'_'
-}
+use term_model::bytes::is_digit_byte;
+use term_model::symbol::begins;
 
 fn continues(byte: u8) -> bool
     ensures { result ≡ continues_word byte }
@@ -102,14 +82,14 @@ pub(crate) fn line_length(text: &[u8]) -> usize
     text.len()
 }
 
-// The bytes behind `*/`, if they begin with it.
+// The bytes after `*/`, if they begin with it.
 fn behind_close<'a>(text: &'a [u8]) -> Option<&'a [u8]>
     ensures { IsCloseAt text.now result }
 {
     behind_byte(b'/', behind_byte(b'*', text)?)
 }
 
-// The bytes behind the first `*/`, if there is one.
+// The bytes after the first `*/`, if there is one.
 pub(crate) fn behind_comment<'a>(text: &'a [u8]) -> Option<&'a [u8]>
     ensures { IsCloseRead text.now result }
 {

@@ -179,6 +179,6 @@ pub struct Token {
     pub kind: TokenKind,
     /// Where its first byte stands.
     pub from: usize,
-    /// Where the first byte behind it stands.
+    /// Where the first byte after it stands.
     pub to: usize,
 }

@@ -1,6 +1,7 @@
 // The words: those that are no names, and names.
 ghost use Rattle.std.specs.Prelude.{true, ◌≡◌, ℕ, List, ◌∷◌, MatchOption};
-ghost use Rattle.str_lexer.specs.Tokens.{begins_word, first_is};
+ghost use Rattle.term_model.specs.Symbol.{begins_name};
+ghost use Rattle.str_lexer.specs.Tokens.{first_is};
 ghost use Rattle.str_lexer.specs.Words.{keyword_bytes, left_out_bytes, reserved_bytes, kind_of};
 ghost use Rattle.str_lexer.specs.Readings.{IsAmong, BeginsToken};
 
@@ -163,9 +164,9 @@ fn reserved_word(bytes: &[u8]) -> Option<Reserved>
     None
 }
 
-// The word that the bytes begin with, and the bytes behind it.
+// The word that the bytes begin with, and the bytes after it.
 pub(crate) fn word<'a>(text: &'a [u8]) -> (TokenKind, &'a [u8])
-    requires { first_is begins_word text.now ≡ true }
+    requires { first_is begins_name text.now ≡ true }
     ensures { BeginsToken result.0 text.now result.1.now }
 {
     let end = 1 + word_length(&text[1..]);

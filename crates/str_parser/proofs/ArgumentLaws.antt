@@ -1,4 +1,4 @@
--- Tokens behind a strategy among the arguments of a call with which no call goes on.
+-- Tokens after a strategy among the arguments of a call with which no call goes on.
 use Rattle.std.proofs.Common.{ℕ, List, refl}
 use Rattle.std.specs.declared.vec.Vec.{Vec}
 use Rattle.std.specs.declared.alloc.Global.{Global}
@@ -20,6 +20,6 @@ not_arguments k f done s ts comma bar close u is left (goes_arguments (more_stra
 not_arguments k f done s ts comma bar close u is left (goes_to_terms no_strategies ps e) r = not_along (mark M.Bar) left ts refl bar r
 not_arguments k f done s ts comma bar close u is left (goes_to_terms (more_strategies t ss) ps e) r = not_along (mark M.Comma) left ts refl comma r
 
-pub no_arguments : (k : ℕ) (f : Bytes) (done : Vec Strategy Global) (s : StrategyTree) (ts : List Lexeme) →
+pub arguments_no_run : (k : ℕ) (f : Bytes) (done : Vec Strategy Global) (s : StrategyTree) (ts : List Lexeme) →
     NotAt (mark M.Comma) ts → NotAt (mark M.Bar) ts → NotAt (mark M.CloseParenthesis) ts → NoRun (Goes k (B.Arguments f done) s) ts
-no_arguments k f done s ts comma bar close = record { none = λ u is h r. not_arguments k f done s ts comma bar close u is r.left r.goes r.runs }
+arguments_no_run k f done s ts comma bar close = record { none = λ u is h r. not_arguments k f done s ts comma bar close u is r.left r.goes r.runs }

@@ -1,7 +1,7 @@
 -- What tokens begin with along which a strategy or a pattern runs.
 use Rattle.std.proofs.Common.{◌≡◌, ℕ, Bool, true, false, List, [], ◌∷◌, refl}
 use Rattle.str_syntax.specs.declared.strategy.Operator.TheVariants as O
-use Rattle.str_syntax.specs.Trees.{PatternTree, variable, wildcard, alias, integer, quoted, application, grouped, tuple, list, list_with_tail, applied, applied_to, StrategyTree, plain_sequence, left_choice, guarded_choice, SequenceTree, last, then, StepTree, plain_step, matching, PrimaryTree, identity, failure, match, build, apply, parenthesized, scope, operator, conditional, conditional_else, recursive, let_in, primitive, lambda, call, call_with, call_with_terms, tuple_congruence, list_congruence, list_congruence_with_tail, no_definitions, more_definitions}
+use Rattle.str_syntax.specs.Trees.{PatternTree, variable, wildcard, alias, integer, quoted, application, grouped, tuple, list, applied, applied_to, StrategyTree, plain_sequence, left_choice, guarded_choice, SequenceTree, last, then, StepTree, plain_step, matching, PrimaryTree, identity, failure, match, build, apply, parenthesized, scope, operator, conditional, recursive, let_in, primitive, lambda, call, tuple_congruence, list_congruence, no_definitions, more_definitions, no_strategy, one_strategy, no_pattern, one_pattern, no_arguments, strategy_arguments, all_arguments}
 use Rattle.str_parser.specs.Lexemes.{Lexeme, strategy_part, first_begins}
 use Rattle.str_parser.specs.Items.{Item, either, Runs}
 use Rattle.str_parser.specs.Phrases.{pattern_part, pattern, strategy, sequence, step, primary}
@@ -19,21 +19,21 @@ primary_begins k (operator O.Not s) is (t ∷ ts) r = rw r.0 refl
 primary_begins k (operator O.All s) is (t ∷ ts) r = rw r.0 refl
 primary_begins k (operator O.One s) is (t ∷ ts) r = rw r.0 refl
 primary_begins k (operator O.Some s) is (t ∷ ts) r = rw r.0 refl
-primary_begins k (conditional c s) is (t ∷ ts) r = rw r.0 refl
-primary_begins k (conditional_else c s e) is (t ∷ ts) r = rw r.0 refl
+primary_begins k (conditional c s no_strategy) is (t ∷ ts) r = rw r.0 refl
+primary_begins k (conditional c s (one_strategy e)) is (t ∷ ts) r = rw r.0 refl
 primary_begins k (recursive x s) is (t ∷ ts) r = rw r.0 refl
 primary_begins k (let_in no_definitions s) is ts r = cc
 primary_begins k (let_in (more_definitions d ds) s) is (t ∷ ts) r = rw r.0 refl
 primary_begins k (primitive text ps) is (t ∷ ts) r = rw r.0 refl
 primary_begins k (lambda l) is (t ∷ ts) r = rw r.0 refl
-primary_begins k (call x) is (t ∷ ts) r = rw r.0 refl
-primary_begins k (call_with x ss) is (t ∷ ts) r = rw r.0 refl
-primary_begins k (call_with_terms x ss ps) is (t ∷ ts) r = rw r.0 refl
+primary_begins k (call x no_arguments) is (t ∷ ts) r = rw r.0 refl
+primary_begins k (call x (strategy_arguments ss)) is (t ∷ ts) r = rw r.0 refl
+primary_begins k (call x (all_arguments ss ps)) is (t ∷ ts) r = rw r.0 refl
 primary_begins k (tuple_congruence ss) is (t ∷ ts) r = rw r.1.0 refl
-primary_begins k (list_congruence ss) is (t ∷ ts) r = rw r.0 refl
-primary_begins k (list_congruence_with_tail ss s) is (t ∷ ts) r = rw r.1.0 refl
+primary_begins k (list_congruence ss no_strategy) is (t ∷ ts) r = rw r.0 refl
+primary_begins k (list_congruence ss (one_strategy s)) is (t ∷ ts) r = rw r.1.0 refl
 primary_begins k (tuple_congruence ss) is [] r = absurd r.1
-primary_begins k (list_congruence_with_tail ss s) is [] r = absurd r.1
+primary_begins k (list_congruence ss (one_strategy s)) is [] r = absurd r.1
 primary_begins k _ is [] r = absurd r
 
 step_begins : (k : ℕ) (u : StepTree) (is : List Item) (ts : List Lexeme) → Runs either (step k u is) ts → first_begins strategy_part ts ≡ true
@@ -58,8 +58,8 @@ pattern_begins true k (quoted text) is (t ∷ ts) r = rw r.0 refl
 pattern_begins true k (application c ps) is (t ∷ ts) r = rw r.1.0 refl
 pattern_begins true k (grouped p) is (t ∷ ts) r = rw r.0 refl
 pattern_begins true k (tuple ps) is (t ∷ ts) r = rw r.1.0 refl
-pattern_begins true k (list ps) is (t ∷ ts) r = rw r.0 refl
-pattern_begins true k (list_with_tail ps p) is (t ∷ ts) r = rw r.1.0 refl
+pattern_begins true k (list ps no_pattern) is (t ∷ ts) r = rw r.0 refl
+pattern_begins true k (list ps (one_pattern p)) is (t ∷ ts) r = rw r.1.0 refl
 pattern_begins true k (applied s) is ts r = let e = r.0 in cc
 pattern_begins true k (applied_to s p) is ts r = let e = r.0 in cc
 pattern_begins false k (variable x) is (t ∷ ts) r = rw r.0 refl
@@ -70,13 +70,13 @@ pattern_begins false k (quoted text) is (t ∷ ts) r = rw r.0 refl
 pattern_begins false k (application c ps) is (t ∷ ts) r = rw r.1.0 refl
 pattern_begins false k (grouped p) is (t ∷ ts) r = rw r.0 refl
 pattern_begins false k (tuple ps) is (t ∷ ts) r = rw r.1.0 refl
-pattern_begins false k (list ps) is (t ∷ ts) r = rw r.0 refl
-pattern_begins false k (list_with_tail ps p) is (t ∷ ts) r = rw r.1.0 refl
+pattern_begins false k (list ps no_pattern) is (t ∷ ts) r = rw r.0 refl
+pattern_begins false k (list ps (one_pattern p)) is (t ∷ ts) r = rw r.1.0 refl
 pattern_begins false k (applied s) is (t ∷ ts) r = rw r.1.0 refl
 pattern_begins false k (applied_to s p) is (t ∷ ts) r = rw r.1.0 refl
 pattern_begins m k (application c ps) is [] r = absurd r.1
 pattern_begins m k (tuple ps) is [] r = absurd r.1
-pattern_begins m k (list_with_tail ps p) is [] r = absurd r.1
+pattern_begins m k (list ps (one_pattern p)) is [] r = absurd r.1
 pattern_begins false k (applied s) is [] r = absurd r.1
 pattern_begins false k (applied_to s p) is [] r = absurd r.1
 pattern_begins m k _ is [] r = absurd r

@@ -39,7 +39,7 @@ nested_sequence k ts n = record { tree = plain_sequence n.tree; runs = n.runs }
 no_operator : (is : List Item) (t : Lexeme) (ts : List Lexeme) → AtMost 0 is → 0 < lexeme_strength t → Runs either is (t ∷ ts) → ⊥
 no_operator is t ts h p r = omega (arith, binds_less is t ts r, h, p)
 
--- ---- no operator behind it
+-- ---- no operator after it
 
 only_plain : (k : ℕ) (ts rest : List Lexeme) (q : SequenceTree) → Found (inner_sequence k) (AtMost 1) ts q rest → NotAt (mark M.LeftChoice) rest → NotAt (mark M.Less) rest →
     (u : StrategyTree) (is : List Item) → AtMost 0 is → Runs either (inner_strategy k u is) ts → (u ≡ plain_sequence q) × Runs either is rest
@@ -57,7 +57,7 @@ found_plain k ts rest q f c l = record {
   shorter = f.shorter;
 }
 
--- ---- <+ behind it
+-- ---- <+ after it
 
 -- a strategy that runs along the tokens is a left choice with this sequence, and goes on with the strategy on its right
 record ToRight (k : ℕ) (behind : List Lexeme) (q : SequenceTree) (u : StrategyTree) (is : List Item) : Type 0 where
@@ -99,7 +99,7 @@ found_choice k ts behind rest q s f g = record {
   shorter = omega (arith, f.shorter, g.shorter);
 }
 
--- ---- < behind it
+-- ---- < after it
 
 -- a strategy that runs along the tokens is a guarded choice with this sequence, and goes on with the two strategies on its right
 record ToBranches (k : ℕ) (behind : List Lexeme) (q : SequenceTree) (u : StrategyTree) (is : List Item) : Type 0 where

@@ -10,7 +10,7 @@ use Rattle.str_parser.specs.Runs.{NoneOf}
 use Rattle.str_parser.specs.Sorts.{inner_sort, other_factors, TypeTree, plain, mapping, typed, first_is, begins_declaration, declaration_goes_on}
 use Rattle.str_parser.proofs.RunLaws.{none_at}
 
--- ---- the colon and what stands behind it
+-- ---- the colon and what comes after it
 
 factors_are : (ss : SortTrees) (to : SortTree) (is : List Item) → factors ss to is ≡ other_factors ss (sign M.Arrow ∷ inner_sort 1 to is)
 factors_are no_sorts to is = refl

@@ -1,4 +1,4 @@
--- What reading answers, of a fault passed on, and of another way to write the same.
+-- What reading returns, of a fault passed on, and of another way to write the same.
 use Rattle.std.proofs.Common.{◌≡◌, List, sym, subst}
 use Rattle.term_model.specs.declared.fault.Fault.{Fault}
 use Rattle.term_model.specs.declared.fault.Fault.TheVariants as faults

@@ -1,19 +1,19 @@
 -- Reading sections and files from tokens: one law for each way that it can go.
-use Rattle.std.proofs.Common.{◌≡◌, ◌↔◌, IsTrue, ℕ, Bool, true, false, List, [], ◌∷◌, length, refl, ap, subst, arith, Err}
+use Rattle.std.proofs.Common.{◌≡◌, ◌↔◌, IsTrue, ℕ, Bool, true, false, List, [], ◌∷◌, length, refl, ap, subst, arith, Err, inr}
 use Rattle.term_model.specs.declared.fault.Fault.{Fault}
 use Rattle.term_model.specs.declared.fault.Fault.TheVariants as faults
 use Rattle.str_lexer.specs.declared.token.Token.{Token}
 use Rattle.str_lexer.specs.Lexes.{AreSlices}
 use Rattle.str_lexer.specs.declared.token.Keyword.TheVariants as K
-use Rattle.str_syntax.specs.Trees.{FormTree, rule_form, strategy_form, definition, TopTree, SignatureTree, SectionTree, signature, rules, strategies, FileTree}
+use Rattle.str_syntax.specs.Trees.{FormTree, rule_form, strategy_form, definition, TopTree, SignatureTree, SectionTree, signature, rules, strategies, FileTree, head}
 use Rattle.str_parser.specs.Lexemes.{Lexeme, keyword}
-use Rattle.str_parser.specs.Items.{Item, whole, too_deep, either, Runs}
-use Rattle.str_parser.specs.Phrases.{form, top_forms, signature_parts, section, sections, IsPhrase, OnlyPhrase, TooNested}
+use Rattle.str_parser.specs.Items.{Item, token, part, no_build, only, whole, too_deep, either, Runs}
+use Rattle.str_parser.specs.Phrases.{form, top_forms, signature_parts, section, sections, Spelled, IsPhrase, OnlyPhrase, TooNested}
 use Rattle.str_parser.specs.Readings.{NotAt, AtMost, Found, Missing, Nested, IsFault}
 use Rattle.str_parser.specs.Runs.{NoneOf, FoundAny}
 use Rattle.str_parser.specs.Parsing.{is_where, is_name, begins_name, EndsRule, EndsForms, EndsSection, AtEnd, one_top, is_inside, IsParsing}
 use Rattle.str_parser.specs.Within.{AreWithin}
-use Rattle.str_parser.proofs.WayLaws.{whole_either, deep_either, not_both, not_along}
+use Rattle.str_parser.proofs.WayLaws.{deep_either, not_both, not_along}
 use Rattle.str_parser.proofs.SeveralLaws.{several, GoesOn, Follows}
 
 -- ---- rules and definitions
@@ -23,14 +23,14 @@ tops_written [] is = refl
 tops_written (d ∷ ds) is = ap (one_top d) (tops_written ds is)
 
 top_at_most : (f : FormTree) (is : List Item) → AtMost 0 (form f is)
-top_at_most (rule_form x ps r) is = omega arith
-top_at_most (strategy_form (definition x ps s)) is = omega arith
+top_at_most (rule_form (head x ps) r) is = omega arith
+top_at_most (strategy_form (definition (head x ps) s)) is = omega arith
 
 top_no_where : (f : FormTree) (is : List Item) → NoneOf is_where (form f is)
-top_no_where (rule_form x ps r) is = λ t rest w. ap is_where w.0
-top_no_where (strategy_form (definition x ps s)) is = λ t rest w. ap is_where w.0
+top_no_where (rule_form (head x ps) r) is = λ t rest w. ap is_where w.0
+top_no_where (strategy_form (definition (head x ps) s)) is = λ t rest w. ap is_where w.0
 
--- behind one stands another, or what stands behind all
+-- after one stands another, or what comes after all
 pub tops_follow : Follows one_top EndsRule EndsForms
 tops_follow [] is h = h.0
 tops_follow (d ∷ ds) is h = (top_at_most d.form (several one_top ds is), λ t rest w. top_no_where d.form (several one_top ds is) t rest w.1)
@@ -41,10 +41,10 @@ name_goes_on [] e is h w = cc
 name_goes_on (t ∷ ts) e is h w = let f = h.1 t ts w in cc
 
 begins_by_name : (f : FormTree) (is : List Item) (ts : List Lexeme) → Runs either (form f is) ts → begins_name ts ≡ true
-begins_by_name (rule_form x ps r) is [] w = absurd w
-begins_by_name (rule_form x ps r) is (t ∷ ts) w = ap is_name w.0
-begins_by_name (strategy_form (definition x ps s)) is [] w = absurd w
-begins_by_name (strategy_form (definition x ps s)) is (t ∷ ts) w = ap is_name w.0
+begins_by_name (rule_form (head x ps) r) is [] w = absurd w
+begins_by_name (rule_form (head x ps) r) is (t ∷ ts) w = ap is_name w.0
+begins_by_name (strategy_form (definition (head x ps) s)) is [] w = absurd w
+begins_by_name (strategy_form (definition (head x ps) s)) is (t ∷ ts) w = ap is_name w.0
 
 -- with no name none comes
 pub no_top : (rest : List Lexeme) → begins_name rest ≡ false → (u : TopTree) (is : List Item) → Runs either (one_top u is) rest → ⊥
@@ -52,7 +52,7 @@ no_top rest e u is w = let f = begins_by_name u.form is rest w.1 in cc
 
 -- ---- sections
 
--- a test that no section's keyword passes, nothing behind a section passes
+-- a test that no section's keyword passes, nothing after a section passes
 pub inside_only : (test : Lexeme → Bool) → test (keyword K.Signature) ≡ false → test (keyword K.Rules) ≡ false → test (keyword K.Strategies) ≡ false → (t : Lexeme) → is_inside t ≡ false → test t ≡ false
 inside_only test a b c (keyword K.Signature) e = a
 inside_only test a b c (keyword K.Rules) e = b
@@ -186,12 +186,28 @@ is_empty false rest i f = cc
 abbrev pub file_with : List SectionTree → FileTree
 file_with ss = record { sections = ss }
 
+whole_spelled : (is : List Item) (ts : List Lexeme) → Runs whole is ts → Spelled is ts
+whole_spelled [] ts r = r
+whole_spelled (token u ∷ is) [] r = absurd r
+whole_spelled (token u ∷ is) (t ∷ ts) r = (r.0, whole_spelled is ts r.1)
+whole_spelled (part p k ∷ is) ts r = whole_spelled is ts r.1
+whole_spelled (no_build ∷ is) ts r = (r.0, whole_spelled is ts r.1)
+whole_spelled (only b ∷ is) ts r = (r.0, whole_spelled is ts r.1)
+
+spelled_either : (is : List Item) (ts : List Lexeme) → Spelled is ts → Runs either is ts
+spelled_either [] ts r = r
+spelled_either (token u ∷ is) [] r = absurd r
+spelled_either (token u ∷ is) (t ∷ ts) r = (r.0, spelled_either is ts r.1)
+spelled_either (part p k ∷ is) ts r = inr (spelled_either is ts r)
+spelled_either (no_build ∷ is) ts r = (r.0, spelled_either is ts r.1)
+spelled_either (only b ∷ is) ts r = (r.0, spelled_either is ts r.1)
+
 pub file_found : (ss : List SectionTree) (ts : List Lexeme) → FoundAny sections AtEnd ts ss [] → OnlyPhrase ts (file_with ss) × (TooNested ts → ⊥)
 file_found ss ts f =
     let p : Runs whole (sections ss []) ts = f.sound whole [] refl in (
       record {
-        phrase = p;
-        only_one = λ g r. let o = f.only_one g.sections [] refl (whole_either (sections g.sections []) ts r) in ap file_with o.0;
+        phrase = whole_spelled (sections ss []) ts p;
+        only_one = λ g r. let o = f.only_one g.sections [] refl (spelled_either (sections g.sections []) ts r) in ap file_with o.0;
       },
       λ d.
           let o = f.only_one d.f.sections [] refl (deep_either (sections d.f.sections []) ts d.runs) in
@@ -200,7 +216,7 @@ file_found ss ts f =
 
 file_missing : (ts : List Lexeme) → Missing sections AtEnd ts → ((f : FileTree) → IsPhrase ts f → ⊥) × (TooNested ts → ⊥)
 file_missing ts m = (
-  λ f r. m.none f.sections [] refl (whole_either (sections f.sections []) ts r),
+  λ f r. m.none f.sections [] refl (spelled_either (sections f.sections []) ts r),
   λ d. m.none d.f.sections [] refl (deep_either (sections d.f.sections []) ts d.runs),
 )
 

@@ -1,8 +1,8 @@
--- Trees are written with tokens: what is behind a pattern or a primary is shorter.
+-- Trees are written with tokens: what is after a pattern or a primary is shorter.
 use Rattle.std.proofs.Common.{◌≡◌, ℕ, ◌+◌, ◌≤◌, ◌<◌, Bool, true, false, List, [], ◌∷◌, refl, arith, length}
 use Rattle.str_lexer.specs.declared.token.Mark.TheVariants as M
 use Rattle.str_lexer.specs.declared.token.Keyword.TheVariants as K
-use Rattle.str_syntax.specs.Trees.{ParameterTree, absent, strategies_only, with_terms, PatternTree, variable, wildcard, alias, integer, quoted, application, grouped, tuple, list, list_with_tail, applied, applied_to, PatternTrees, no_patterns, more_patterns, StrategyTree, plain_sequence, left_choice, guarded_choice, StrategyTrees, no_strategies, more_strategies, SequenceTree, last, then, StepTree, plain_step, matching, PrimaryTree, identity, failure, match, build, apply, parenthesized, scope, operator, conditional, conditional_else, recursive, let_in, primitive, lambda, call, call_with, call_with_terms, tuple_congruence, list_congruence, list_congruence_with_tail, RuleTree, plain_rule, conditional_rule, DefinitionTree, definition, DefinitionTrees, no_definitions, more_definitions}
+use Rattle.str_syntax.specs.Trees.{ParameterTree, absent, strategies_only, with_terms, PatternTree, variable, wildcard, alias, integer, quoted, application, grouped, tuple, list, applied, applied_to, PatternTrees, no_patterns, more_patterns, StrategyTree, plain_sequence, left_choice, guarded_choice, StrategyTrees, no_strategies, more_strategies, SequenceTree, last, then, StepTree, plain_step, matching, PrimaryTree, identity, failure, match, build, apply, parenthesized, scope, operator, conditional, recursive, let_in, primitive, lambda, call, tuple_congruence, list_congruence, RuleTree, rewrites, DefinitionTree, definition, DefinitionTrees, no_definitions, more_definitions, no_strategy, one_strategy, no_pattern, one_pattern, no_arguments, strategy_arguments, all_arguments, head}
 use Rattle.str_parser.specs.Lexemes.{Lexeme, strategy_part, match_part, build_part}
 use Rattle.str_parser.specs.Items.{Item, token, part, no_build, only, whole, Runs}
 use Rattle.str_parser.specs.Phrases.{sign, word, named, pattern_part, other_names, names, some_names, parameters, is_constructor, is_not, are_parts, are_operands, any_patterns, any_strategies, pattern, patterns, other_patterns, strategy, strategy_list, other_strategies, sequence, step, primary, rule, defined, definitions}
@@ -50,8 +50,8 @@ mutual
   pattern_grows in_match k (application c ps) is = omega (arith, grows_by (is_constructor c) (size (named c ∷ sign M.OpenParenthesis ∷ patterns in_match (k + 1) ps (sign M.CloseParenthesis ∷ is))), patterns_grow in_match (k + 1) ps (sign M.CloseParenthesis ∷ is))
   pattern_grows in_match k (grouped p) is = omega (arith, pattern_grows in_match (k + 1) p (sign M.CloseParenthesis ∷ is))
   pattern_grows in_match k (tuple ps) is = omega (arith, grows_by (are_parts ps) (size (sign M.OpenParenthesis ∷ patterns in_match (k + 1) ps (sign M.CloseParenthesis ∷ is))), patterns_grow in_match (k + 1) ps (sign M.CloseParenthesis ∷ is))
-  pattern_grows in_match k (list ps) is = omega (arith, patterns_grow in_match (k + 1) ps (sign M.CloseBracket ∷ is))
-  pattern_grows in_match k (list_with_tail ps p) is = omega (arith, grows_by (any_patterns ps) (size (sign M.OpenBracket ∷ patterns in_match (k + 1) ps (sign M.Bar ∷ part (pattern_part in_match) (k + 1) ∷ pattern in_match (k + 1) p (sign M.CloseBracket ∷ is)))), patterns_grow in_match (k + 1) ps (sign M.Bar ∷ part (pattern_part in_match) (k + 1) ∷ pattern in_match (k + 1) p (sign M.CloseBracket ∷ is)), pattern_grows in_match (k + 1) p (sign M.CloseBracket ∷ is))
+  pattern_grows in_match k (list ps no_pattern) is = omega (arith, patterns_grow in_match (k + 1) ps (sign M.CloseBracket ∷ is))
+  pattern_grows in_match k (list ps (one_pattern p)) is = omega (arith, grows_by (any_patterns ps) (size (sign M.OpenBracket ∷ patterns in_match (k + 1) ps (sign M.Bar ∷ part (pattern_part in_match) (k + 1) ∷ pattern in_match (k + 1) p (sign M.CloseBracket ∷ is)))), patterns_grow in_match (k + 1) ps (sign M.Bar ∷ part (pattern_part in_match) (k + 1) ∷ pattern in_match (k + 1) p (sign M.CloseBracket ∷ is)), pattern_grows in_match (k + 1) p (sign M.CloseBracket ∷ is))
   pattern_grows in_match k (applied s) is = omega (arith, grows_by (is_not in_match) (size (sign M.Less ∷ part strategy_part (k + 1) ∷ strategy (k + 1) s (sign M.Greater ∷ no_build ∷ is))), strategy_grows (k + 1) s (sign M.Greater ∷ no_build ∷ is))
   pattern_grows in_match k (applied_to s p) is = omega (arith, grows_by (is_not in_match) (size (sign M.Less ∷ part strategy_part (k + 1) ∷ strategy (k + 1) s (sign M.Greater ∷ part build_part (k + 1) ∷ pattern in_match (k + 1) p is))), strategy_grows (k + 1) s (sign M.Greater ∷ part build_part (k + 1) ∷ pattern in_match (k + 1) p is), pattern_grows in_match (k + 1) p is)
 
@@ -93,26 +93,26 @@ mutual
   primary_grows k (parenthesized s) is = omega (arith, strategy_grows (k + 1) s (sign M.CloseParenthesis ∷ is))
   primary_grows k (scope xs s) is = omega (arith, some_names_grow xs (sign M.Colon ∷ part strategy_part (k + 1) ∷ strategy (k + 1) s (sign M.CloseBrace ∷ is)), strategy_grows (k + 1) s (sign M.CloseBrace ∷ is))
   primary_grows k (operator o s) is = omega (arith, strategy_grows (k + 1) s (sign M.CloseParenthesis ∷ is))
-  primary_grows k (conditional c s) is = omega (arith, strategy_grows (k + 1) c (word K.Then ∷ part strategy_part (k + 1) ∷ strategy (k + 1) s (word K.End ∷ is)), strategy_grows (k + 1) s (word K.End ∷ is))
-  primary_grows k (conditional_else c s t) is = omega (arith, strategy_grows (k + 1) c (word K.Then ∷ part strategy_part (k + 1) ∷ strategy (k + 1) s (word K.Else ∷ part strategy_part (k + 1) ∷ strategy (k + 1) t (word K.End ∷ is))), strategy_grows (k + 1) s (word K.Else ∷ part strategy_part (k + 1) ∷ strategy (k + 1) t (word K.End ∷ is)), strategy_grows (k + 1) t (word K.End ∷ is))
+  primary_grows k (conditional c s no_strategy) is = omega (arith, strategy_grows (k + 1) c (word K.Then ∷ part strategy_part (k + 1) ∷ strategy (k + 1) s (word K.End ∷ is)), strategy_grows (k + 1) s (word K.End ∷ is))
+  primary_grows k (conditional c s (one_strategy t)) is = omega (arith, strategy_grows (k + 1) c (word K.Then ∷ part strategy_part (k + 1) ∷ strategy (k + 1) s (word K.Else ∷ part strategy_part (k + 1) ∷ strategy (k + 1) t (word K.End ∷ is))), strategy_grows (k + 1) s (word K.Else ∷ part strategy_part (k + 1) ∷ strategy (k + 1) t (word K.End ∷ is)), strategy_grows (k + 1) t (word K.End ∷ is))
   primary_grows k (recursive x s) is = omega (arith, strategy_grows (k + 1) s (sign M.CloseParenthesis ∷ is))
   primary_grows k (let_in no_definitions s) is = omega arith
   primary_grows k (let_in (more_definitions d ds) s) is = omega (arith, defined_grows (k + 1) d (definitions (k + 1) ds (word K.In ∷ part strategy_part (k + 1) ∷ strategy (k + 1) s (word K.End ∷ is))), definitions_grow (k + 1) ds (word K.In ∷ part strategy_part (k + 1) ∷ strategy (k + 1) s (word K.End ∷ is)), strategy_grows (k + 1) s (word K.End ∷ is))
   primary_grows k (primitive text ps) is = omega (arith, other_patterns_grow false (k + 1) ps (sign M.CloseParenthesis ∷ is))
   primary_grows k (lambda r) is = omega (arith, rule_grows (k + 1) r (sign M.Backslash ∷ is))
-  primary_grows k (call x) is = omega arith
-  primary_grows k (call_with x ss) is = omega (arith, strategies_grow (k + 1) ss (sign M.CloseParenthesis ∷ is))
-  primary_grows k (call_with_terms x ss ps) is = omega (arith, strategies_grow (k + 1) ss (sign M.Bar ∷ patterns false (k + 1) ps (sign M.CloseParenthesis ∷ is)), patterns_grow false (k + 1) ps (sign M.CloseParenthesis ∷ is))
+  primary_grows k (call x no_arguments) is = omega arith
+  primary_grows k (call x (strategy_arguments ss)) is = omega (arith, strategies_grow (k + 1) ss (sign M.CloseParenthesis ∷ is))
+  primary_grows k (call x (all_arguments ss ps)) is = omega (arith, strategies_grow (k + 1) ss (sign M.Bar ∷ patterns false (k + 1) ps (sign M.CloseParenthesis ∷ is)), patterns_grow false (k + 1) ps (sign M.CloseParenthesis ∷ is))
   primary_grows k (tuple_congruence ss) is = omega (arith, grows_by (are_operands ss) (size (sign M.OpenParenthesis ∷ strategy_list (k + 1) ss (sign M.CloseParenthesis ∷ is))), strategies_grow (k + 1) ss (sign M.CloseParenthesis ∷ is))
-  primary_grows k (list_congruence ss) is = omega (arith, strategies_grow (k + 1) ss (sign M.CloseBracket ∷ is))
-  primary_grows k (list_congruence_with_tail ss s) is = omega (arith, grows_by (any_strategies ss) (size (sign M.OpenBracket ∷ strategy_list (k + 1) ss (sign M.Bar ∷ part strategy_part (k + 1) ∷ strategy (k + 1) s (sign M.CloseBracket ∷ is)))), strategies_grow (k + 1) ss (sign M.Bar ∷ part strategy_part (k + 1) ∷ strategy (k + 1) s (sign M.CloseBracket ∷ is)), strategy_grows (k + 1) s (sign M.CloseBracket ∷ is))
+  primary_grows k (list_congruence ss no_strategy) is = omega (arith, strategies_grow (k + 1) ss (sign M.CloseBracket ∷ is))
+  primary_grows k (list_congruence ss (one_strategy s)) is = omega (arith, grows_by (any_strategies ss) (size (sign M.OpenBracket ∷ strategy_list (k + 1) ss (sign M.Bar ∷ part strategy_part (k + 1) ∷ strategy (k + 1) s (sign M.CloseBracket ∷ is)))), strategies_grow (k + 1) ss (sign M.Bar ∷ part strategy_part (k + 1) ∷ strategy (k + 1) s (sign M.CloseBracket ∷ is)), strategy_grows (k + 1) s (sign M.CloseBracket ∷ is))
 
   rule_grows : (k : ℕ) (r : RuleTree) (is : List Item) → size is ≤ size (rule k r is)
-  rule_grows k (plain_rule l r) is = omega (arith, pattern_grows true k l (sign M.Arrow ∷ part build_part k ∷ pattern false k r is), pattern_grows false k r is)
-  rule_grows k (conditional_rule l r s) is = omega (arith, pattern_grows true k l (sign M.Arrow ∷ part build_part k ∷ pattern false k r (word K.Where ∷ part strategy_part k ∷ strategy k s is)), pattern_grows false k r (word K.Where ∷ part strategy_part k ∷ strategy k s is), strategy_grows k s is)
+  rule_grows k (rewrites l r no_strategy) is = omega (arith, pattern_grows true k l (sign M.Arrow ∷ part build_part k ∷ pattern false k r is), pattern_grows false k r is)
+  rule_grows k (rewrites l r (one_strategy s)) is = omega (arith, pattern_grows true k l (sign M.Arrow ∷ part build_part k ∷ pattern false k r (word K.Where ∷ part strategy_part k ∷ strategy k s is)), pattern_grows false k r (word K.Where ∷ part strategy_part k ∷ strategy k s is), strategy_grows k s is)
 
   defined_grows : (k : ℕ) (d : DefinitionTree) (is : List Item) → size is ≤ size (defined k d is)
-  defined_grows k (definition x ps s) is = omega (arith, parameters_grow ps (sign M.Equals ∷ part strategy_part k ∷ strategy k s is), strategy_grows k s is)
+  defined_grows k (definition (head x ps) s) is = omega (arith, parameters_grow ps (sign M.Equals ∷ part strategy_part k ∷ strategy k s is), strategy_grows k s is)
 
   definitions_grow : (k : ℕ) (ds : DefinitionTrees) (is : List Item) → size is ≤ size (definitions k ds is)
   definitions_grow k no_definitions is = omega arith

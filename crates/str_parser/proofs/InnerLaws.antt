@@ -1,9 +1,9 @@
--- How a pattern goes on behind a pattern in it: one law for each way.
+-- How a pattern goes on after a pattern in it: one law for each way.
 use Rattle.std.proofs.Common.{◌≡◌, ℕ, ◌+◌, Bool, true, false, List, [], ◌∷◌, ◌++◌, refl, sym, ◌∙◌, ap, subst, arith, Vec, Box, Global}
 use Rattle.str_lexer.specs.declared.token.Mark.TheVariants as M
 use Rattle.str_syntax.specs.declared.strategy.Pattern.{Pattern}
 use Rattle.str_syntax.specs.declared.strategy.Strategy.{Strategy}
-use Rattle.str_syntax.specs.Trees.{Bytes, PatternTree, alias, application, list, list_with_tail, applied, applied_to, no_patterns, more_patterns, StrategyTree}
+use Rattle.str_syntax.specs.Trees.{Bytes, PatternTree, alias, application, list, applied, applied_to, no_patterns, more_patterns, StrategyTree, no_pattern, one_pattern}
 use Rattle.str_syntax.specs.Views.{pattern_of, patterns_of, strategy_of}
 use Rattle.str_parser.specs.Lexemes.{Lexeme, mark, build_part, first_begins}
 use Rattle.str_parser.specs.Items.{Item, no_build, Way, either, Runs}
@@ -154,9 +154,9 @@ list_more_sound : (m : Bool) (k : ℕ) (done grown : Vec Pattern Global) (part :
     ContinuesPattern m k (states.ToPattern (I.Bracketed grown) rest) u is left → Runs way left rest →
     Run (GoesIn m k (I.Bracketed done) (pattern_of part)) way u is (mark M.Comma ∷ rest)
 list_more_sound m k done grown part rest e way u is left (pattern_at_pattern q (goes_list ps h)) r =
-    record { left = _; goes = goes_list (more_patterns q ps) (h ∙ ap list (pushed_with done grown part e q ps)); runs = (refl, r) }
+    record { left = _; goes = goes_list (more_patterns q ps) (h ∙ ap (λ qs. list qs no_pattern) (pushed_with done grown part e q ps)); runs = (refl, r) }
 list_more_sound m k done grown part rest e way u is left (pattern_at_pattern q (goes_list_to_tail t ps h)) r =
-    record { left = _; goes = goes_list_to_tail t (more_patterns q ps) (h ∙ ap (λ qs. list_with_tail qs t) (pushed_with done grown part e q ps)); runs = (refl, r) }
+    record { left = _; goes = goes_list_to_tail t (more_patterns q ps) (h ∙ ap (λ qs. list qs (one_pattern t)) (pushed_with done grown part e q ps)); runs = (refl, r) }
 
 list_more_all : (m : Bool) (k : ℕ) (done grown : Vec Pattern Global) (part : Pattern) (rest : List Lexeme) → grown.items ≡ done.items ++ (part ∷ []) →
     (u : PatternTree) (is left : List Item) →
@@ -164,10 +164,10 @@ list_more_all : (m : Bool) (k : ℕ) (done grown : Vec Pattern Global) (part : P
     Run (ContinuesPattern m k (states.ToPattern (I.Bracketed grown) rest)) either u is rest
 list_more_all m k done grown part rest e u is left (goes_list no_patterns h) r = let wrong = r.0 in cc
 list_more_all m k done grown part rest e u is left (goes_list (more_patterns q ps) h) r =
-    record { left = _; goes = pattern_at_pattern q (goes_list ps (h ∙ ap list (sym (pushed_with done grown part e q ps)))); runs = r.1 }
+    record { left = _; goes = pattern_at_pattern q (goes_list ps (h ∙ ap (λ qs. list qs no_pattern) (sym (pushed_with done grown part e q ps)))); runs = r.1 }
 list_more_all m k done grown part rest e u is left (goes_list_to_tail t no_patterns h) r = let wrong = r.0 in cc
 list_more_all m k done grown part rest e u is left (goes_list_to_tail t (more_patterns q ps) h) r =
-    record { left = _; goes = pattern_at_pattern q (goes_list_to_tail t ps (h ∙ ap (λ qs. list_with_tail qs t) (sym (pushed_with done grown part e q ps)))); runs = r.1 }
+    record { left = _; goes = pattern_at_pattern q (goes_list_to_tail t ps (h ∙ ap (λ qs. list qs (one_pattern t)) (sym (pushed_with done grown part e q ps)))); runs = r.1 }
 
 pub list_more : (m : Bool) (k : ℕ) (done grown : Vec Pattern Global) (part : Pattern) (rest : List Lexeme) → grown.items ≡ done.items ++ (part ∷ []) →
     Leads (GoesIn m k (I.Bracketed done) (pattern_of part)) (ContinuesPattern m k (states.ToPattern (I.Bracketed grown) rest)) (mark M.Comma ∷ rest) rest
@@ -182,7 +182,7 @@ list_bar_sound : (m : Bool) (k : ℕ) (done grown : Vec Pattern Global) (part : 
     ContinuesPattern m k (states.ToPattern (I.Tail grown) rest) u is left → Runs way left rest →
     Run (GoesIn m k (I.Bracketed done) (pattern_of part)) way u is (mark M.Bar ∷ rest)
 list_bar_sound m k done grown part rest e way u is left (pattern_at_pattern q (goes_list_tail h)) r =
-    record { left = _; goes = goes_list_to_tail q no_patterns (h ∙ ap (λ qs. list_with_tail qs q) (pushed_last done grown part e)); runs = (refl, r) }
+    record { left = _; goes = goes_list_to_tail q no_patterns (h ∙ ap (λ qs. list qs (one_pattern q)) (pushed_last done grown part e)); runs = (refl, r) }
 
 list_bar_all : (m : Bool) (k : ℕ) (done grown : Vec Pattern Global) (part : Pattern) (rest : List Lexeme) → grown.items ≡ done.items ++ (part ∷ []) →
     (u : PatternTree) (is left : List Item) →
@@ -191,7 +191,7 @@ list_bar_all : (m : Bool) (k : ℕ) (done grown : Vec Pattern Global) (part : Pa
 list_bar_all m k done grown part rest e u is left (goes_list no_patterns h) r = let wrong = r.0 in cc
 list_bar_all m k done grown part rest e u is left (goes_list (more_patterns q ps) h) r = let wrong = r.0 in cc
 list_bar_all m k done grown part rest e u is left (goes_list_to_tail t no_patterns h) r =
-    record { left = _; goes = pattern_at_pattern t (goes_list_tail (h ∙ ap (λ qs. list_with_tail qs t) (sym (pushed_last done grown part e)))); runs = r.1 }
+    record { left = _; goes = pattern_at_pattern t (goes_list_tail (h ∙ ap (λ qs. list qs (one_pattern t)) (sym (pushed_last done grown part e)))); runs = r.1 }
 list_bar_all m k done grown part rest e u is left (goes_list_to_tail t (more_patterns q ps) h) r = let wrong = r.0 in cc
 
 pub list_bar : (m : Bool) (k : ℕ) (done grown : Vec Pattern Global) (part : Pattern) (rest : List Lexeme) → grown.items ≡ done.items ++ (part ∷ []) →
@@ -202,13 +202,13 @@ list_bar m k done grown part rest e = record {
   no_longer = omega arith;
 }
 
-list_end_sound : (m : Bool) (k : ℕ) (done : Vec Pattern Global) (p : PatternTree) (t : Pattern) (rest : List Lexeme) → pattern_of t ≡ list (patterns_with done p no_patterns) →
+list_end_sound : (m : Bool) (k : ℕ) (done : Vec Pattern Global) (p : PatternTree) (t : Pattern) (rest : List Lexeme) → pattern_of t ≡ list (patterns_with done p no_patterns) no_pattern →
     (way : Way) (u : PatternTree) (is left : List Item) →
     ContinuesPattern m k (states.Whole t rest) u is left → Runs way left rest →
     Run (GoesIn m k (I.Bracketed done) p) way u is (mark M.CloseBracket ∷ rest)
 list_end_sound m k done p t rest e way u is left (pattern_at_end h) r = record { left = _; goes = goes_list no_patterns (h ∙ e); runs = (refl, r) }
 
-list_end_all : (m : Bool) (k : ℕ) (done : Vec Pattern Global) (p : PatternTree) (t : Pattern) (rest : List Lexeme) → pattern_of t ≡ list (patterns_with done p no_patterns) →
+list_end_all : (m : Bool) (k : ℕ) (done : Vec Pattern Global) (p : PatternTree) (t : Pattern) (rest : List Lexeme) → pattern_of t ≡ list (patterns_with done p no_patterns) no_pattern →
     (u : PatternTree) (is left : List Item) →
     GoesIn m k (I.Bracketed done) p u is left → Runs either left (mark M.CloseBracket ∷ rest) →
     Run (ContinuesPattern m k (states.Whole t rest)) either u is rest
@@ -217,7 +217,7 @@ list_end_all m k done p t rest e u is left (goes_list (more_patterns q ps) h) r 
 list_end_all m k done p t rest e u is left (goes_list_to_tail q no_patterns h) r = let wrong = r.0 in cc
 list_end_all m k done p t rest e u is left (goes_list_to_tail q (more_patterns w ps) h) r = let wrong = r.0 in cc
 
-pub list_end : (m : Bool) (k : ℕ) (done : Vec Pattern Global) (p : PatternTree) (t : Pattern) (rest : List Lexeme) → pattern_of t ≡ list (patterns_with done p no_patterns) →
+pub list_end : (m : Bool) (k : ℕ) (done : Vec Pattern Global) (p : PatternTree) (t : Pattern) (rest : List Lexeme) → pattern_of t ≡ list (patterns_with done p no_patterns) no_pattern →
     Leads (GoesIn m k (I.Bracketed done) p) (ContinuesPattern m k (states.Whole t rest)) (mark M.CloseBracket ∷ rest) rest
 list_end m k done p t rest e = record {
   sound = λ way u is r. list_end_sound m k done p t rest e way u is r.left r.goes r.runs;
@@ -227,19 +227,19 @@ list_end m k done p t rest e = record {
 
 -- ---- [p, .. |
 
-tail_sound : (m : Bool) (k : ℕ) (done : Vec Pattern Global) (p : PatternTree) (t : Pattern) (rest : List Lexeme) → pattern_of t ≡ list_with_tail (patterns_of done.items) p →
+tail_sound : (m : Bool) (k : ℕ) (done : Vec Pattern Global) (p : PatternTree) (t : Pattern) (rest : List Lexeme) → pattern_of t ≡ list (patterns_of done.items) (one_pattern p) →
     (way : Way) (u : PatternTree) (is left : List Item) →
     ContinuesPattern m k (states.Whole t rest) u is left → Runs way left rest →
     Run (GoesIn m k (I.Tail done) p) way u is (mark M.CloseBracket ∷ rest)
 tail_sound m k done p t rest e way u is left (pattern_at_end h) r = record { left = _; goes = goes_list_tail (h ∙ e); runs = (refl, r) }
 
-tail_all : (m : Bool) (k : ℕ) (done : Vec Pattern Global) (p : PatternTree) (t : Pattern) (rest : List Lexeme) → pattern_of t ≡ list_with_tail (patterns_of done.items) p →
+tail_all : (m : Bool) (k : ℕ) (done : Vec Pattern Global) (p : PatternTree) (t : Pattern) (rest : List Lexeme) → pattern_of t ≡ list (patterns_of done.items) (one_pattern p) →
     (u : PatternTree) (is left : List Item) →
     GoesIn m k (I.Tail done) p u is left → Runs either left (mark M.CloseBracket ∷ rest) →
     Run (ContinuesPattern m k (states.Whole t rest)) either u is rest
 tail_all m k done p t rest e u is left (goes_list_tail h) r = record { left = _; goes = pattern_at_end (h ∙ sym e); runs = r.1 }
 
-pub tail_leads : (m : Bool) (k : ℕ) (done : Vec Pattern Global) (p : PatternTree) (t : Pattern) (rest : List Lexeme) → pattern_of t ≡ list_with_tail (patterns_of done.items) p →
+pub tail_leads : (m : Bool) (k : ℕ) (done : Vec Pattern Global) (p : PatternTree) (t : Pattern) (rest : List Lexeme) → pattern_of t ≡ list (patterns_of done.items) (one_pattern p) →
     Leads (GoesIn m k (I.Tail done) p) (ContinuesPattern m k (states.Whole t rest)) (mark M.CloseBracket ∷ rest) rest
 tail_leads m k done p t rest e = record {
   sound = λ way u is r. tail_sound m k done p t rest e way u is r.left r.goes r.runs;

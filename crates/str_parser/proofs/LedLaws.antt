@@ -1,14 +1,14 @@
--- The first token of a pattern, and what stands behind it.
+-- The first token of a pattern, and what comes after it.
 use Rattle.std.proofs.Common.{◌≡◌, inl, inr, ℕ, ℤ, ◌+◌, ◌≤◌, Bool, true, false, List, [], ◌∷◌, refl, sym, ◌∙◌, ap, subst, arith}
 use Rattle.str_lexer.specs.declared.token.Mark.TheVariants as M
-use Rattle.str_syntax.specs.Trees.{Bytes, PatternTree, variable, wildcard, alias, integer, quoted, application, grouped, tuple, list, list_with_tail, applied, applied_to, PatternTrees, StrategyTree}
+use Rattle.str_syntax.specs.Trees.{Bytes, PatternTree, variable, wildcard, alias, integer, quoted, application, grouped, tuple, list, applied, applied_to, PatternTrees, StrategyTree, no_pattern, one_pattern}
 use Rattle.str_parser.specs.Lexemes.{Lexeme, Lexeme as L, build_part, first_begins, begins_pattern}
 use Rattle.str_parser.specs.Items.{Item, token, part, no_build, only, either, Runs}
 use Rattle.str_parser.specs.Phrases.{sign, is_not, is_constructor, are_parts, any_patterns, pattern_part, pattern, patterns}
 use Rattle.str_parser.specs.Readings.{NotAt, strength, lexeme_strength}
 use Rattle.str_parser.specs.Begun.{inner_pattern, inner_strategy}
 
--- the tree begins with this token, and these run along the rest of it and the items behind it
+-- the tree begins with this token, and these run along the rest of it and the items after it
 pub data Led (m : Bool) (k : ℕ) (ts : List Lexeme) : Lexeme → PatternTree → List Item → Type 0 where
   led_variable : {x : Bytes} {is : List Item} → Runs either is ts → Led m k ts (L.name x) (variable x) is
   led_wildcard : {is : List Item} → Runs either is ts → Led m k ts L.wildcard wildcard is
@@ -20,9 +20,9 @@ pub data Led (m : Bool) (k : ℕ) (ts : List Lexeme) : Lexeme → PatternTree �
   led_grouped : (p : PatternTree) {is : List Item} → Runs either (inner_pattern m (k + 1) p (sign M.CloseParenthesis ∷ is)) ts → Led m k ts (L.mark M.OpenParenthesis) (grouped p) is
   led_tuple : (ps : PatternTrees) {is : List Item} → are_parts ps ≡ true →
       Runs either (patterns m (k + 1) ps (sign M.CloseParenthesis ∷ is)) ts → Led m k ts (L.mark M.OpenParenthesis) (tuple ps) is
-  led_list : (ps : PatternTrees) {is : List Item} → Runs either (patterns m (k + 1) ps (sign M.CloseBracket ∷ is)) ts → Led m k ts (L.mark M.OpenBracket) (list ps) is
+  led_list : (ps : PatternTrees) {is : List Item} → Runs either (patterns m (k + 1) ps (sign M.CloseBracket ∷ is)) ts → Led m k ts (L.mark M.OpenBracket) (list ps no_pattern) is
   led_list_with_tail : (ps : PatternTrees) (p : PatternTree) {is : List Item} → any_patterns ps ≡ true →
-      Runs either (patterns m (k + 1) ps (sign M.Bar ∷ inner_pattern m (k + 1) p (sign M.CloseBracket ∷ is))) ts → Led m k ts (L.mark M.OpenBracket) (list_with_tail ps p) is
+      Runs either (patterns m (k + 1) ps (sign M.Bar ∷ inner_pattern m (k + 1) p (sign M.CloseBracket ∷ is))) ts → Led m k ts (L.mark M.OpenBracket) (list ps (one_pattern p)) is
   led_applied : (s : StrategyTree) {is : List Item} → is_not m ≡ true →
       Runs either (inner_strategy (k + 1) s (sign M.Greater ∷ no_build ∷ is)) ts → Led m k ts (L.mark M.Less) (applied s) is
   led_applied_to : (s : StrategyTree) (p : PatternTree) {is : List Item} → is_not m ≡ true →
@@ -37,8 +37,8 @@ led m k t ts (quoted text) is r = subst (λ v. Led m k ts v (quoted text) is) (s
 led m k t ts (application x ps) is r = subst (λ v. Led m k ts v (application x ps) is) (sym r.1.0) (led_application ps r.0 r.1.1)
 led m k t ts (grouped p) is r = subst (λ v. Led m k ts v (grouped p) is) (sym r.0) (led_grouped p r.1)
 led m k t ts (tuple ps) is r = subst (λ v. Led m k ts v (tuple ps) is) (sym r.1.0) (led_tuple ps r.0 r.1.1)
-led m k t ts (list ps) is r = subst (λ v. Led m k ts v (list ps) is) (sym r.0) (led_list ps r.1)
-led m k t ts (list_with_tail ps p) is r = subst (λ v. Led m k ts v (list_with_tail ps p) is) (sym r.1.0) (led_list_with_tail ps p r.0 r.1.1)
+led m k t ts (list ps no_pattern) is r = subst (λ v. Led m k ts v (list ps no_pattern) is) (sym r.0) (led_list ps r.1)
+led m k t ts (list ps (one_pattern p)) is r = subst (λ v. Led m k ts v (list ps (one_pattern p)) is) (sym r.1.0) (led_list_with_tail ps p r.0 r.1.1)
 led m k t ts (applied s) is r = subst (λ v. Led m k ts v (applied s) is) (sym r.1.0) (led_applied s r.0 r.1.1)
 led m k t ts (applied_to s p) is r = subst (λ v. Led m k ts v (applied_to s p) is) (sym r.1.0) (led_applied_to s p r.0 r.1.1)
 
@@ -73,8 +73,8 @@ no_tokens m k (quoted text) is r = r
 no_tokens m k (application x ps) is r = r.1
 no_tokens m k (grouped p) is r = r
 no_tokens m k (tuple ps) is r = r.1
-no_tokens m k (list ps) is r = r
-no_tokens m k (list_with_tail ps p) is r = r.1
+no_tokens m k (list ps no_pattern) is r = r
+no_tokens m k (list ps (one_pattern p)) is r = r.1
 no_tokens m k (applied s) is r = r.1
 no_tokens m k (applied_to s p) is r = r.1
 

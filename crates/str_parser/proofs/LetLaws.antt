@@ -4,7 +4,7 @@ use Rattle.term_model.specs.declared.fault.Fault.{Fault}
 use Rattle.term_model.specs.declared.fault.Fault.TheVariants as faults
 use Rattle.str_lexer.specs.declared.token.Mark.TheVariants as M
 use Rattle.str_lexer.specs.declared.token.Keyword.TheVariants as K
-use Rattle.str_syntax.specs.Trees.{Bytes, ParameterTree, absent, strategies_only, with_terms, StrategyTree, PrimaryTree, let_in, DefinitionTree, definition, DefinitionTrees, no_definitions, more_definitions}
+use Rattle.str_syntax.specs.Trees.{Bytes, ParameterTree, absent, strategies_only, with_terms, StrategyTree, PrimaryTree, let_in, DefinitionTree, definition, DefinitionTrees, no_definitions, more_definitions, head}
 use Rattle.str_syntax.specs.declared.strategy.Parameters.{Parameters}
 use Rattle.str_syntax.specs.declared.strategy.Strategy.{Strategy}
 use Rattle.str_syntax.specs.declared.strategy.StrategyDefinition.{StrategyDefinition}
@@ -24,7 +24,7 @@ use Rattle.str_parser.proofs.WholeLaws.{EndsWith}
 
 -- the definitions of the second list are those of the first, and then this one
 pub record Grows (done made : Vec StrategyDefinition Global) (f : Bytes) (ps : Parameters) (s : StrategyTree) : Type 0 where
-  pub then : (more : DefinitionTrees) → definitions_then (map definition_of made.items) more ≡ definitions_with done (definition f (parameters_of ps) s) more
+  pub then : (more : DefinitionTrees) → definitions_then (map definition_of made.items) more ≡ definitions_with done (definition (head f (parameters_of ps)) s) more
 
 pushed_then : (done made : Vec StrategyDefinition Global) (d : StrategyDefinition) → made.items ≡ done.items ++ (d ∷ []) →
     (more : DefinitionTrees) → definitions_then (map definition_of made.items) more ≡ definitions_with done (definition_of d) more
@@ -32,9 +32,9 @@ pushed_then done made d e no_definitions = definitions_last done made d e
 pushed_then done made d e (more_definitions x ds) = definitions_pushed done made d x ds e
 
 pub grows : (done made : Vec StrategyDefinition Global) (d : StrategyDefinition) (f : Bytes) (ps : Parameters) (b : Box Strategy Global) (s : Strategy) →
-    made.items ≡ done.items ++ (d ∷ []) → definition_of d ≡ definition f (parameters_of ps) (strategy_of b.value) → b.value ≡ s → Grows done made f ps (strategy_of s)
+    made.items ≡ done.items ++ (d ∷ []) → definition_of d ≡ definition (head f (parameters_of ps)) (strategy_of b.value) → b.value ≡ s → Grows done made f ps (strategy_of s)
 grows done made d f ps b s e g h = record {
-  then = λ more. pushed_then done made d e more ∙ ap (λ (x : DefinitionTree). definitions_with done x more) (g ∙ ap (λ (x : Strategy). definition f (parameters_of ps) (strategy_of x)) h);
+  then = λ more. pushed_then done made d e more ∙ ap (λ (x : DefinitionTree). definitions_with done x more) (g ∙ ap (λ (x : Strategy). definition (head f (parameters_of ps)) (strategy_of x)) h);
 }
 
 in_sound : (k : ℕ) (done made : Vec StrategyDefinition Global) (f : Bytes) (ps : Parameters) (s : StrategyTree) → Grows done made f ps s →
@@ -50,7 +50,7 @@ in_all : (k : ℕ) (done made : Vec StrategyDefinition Global) (f : Bytes) (ps :
     Run (Continues k (states.ToStrategy (B.LetBody made) rest)) either u is rest
 in_all k done made f ps s h rest u is left (goes_definition t no_definitions g) r =
     record { left = _; goes = at_strategy t (goes_let_body (g ∙ sym (ap (λ (ds : DefinitionTrees). let_in ds t) (h.then no_definitions)))); runs = r.1 }
-in_all k done made f ps s h rest u is left (goes_definition t (more_definitions (definition x qs b) ds) g) r = let e = r.0 in cc
+in_all k done made f ps s h rest u is left (goes_definition t (more_definitions (definition (head x qs) b) ds) g) r = let e = r.0 in cc
 
 pub in_leads : (k : ℕ) (done made : Vec StrategyDefinition Global) (f : Bytes) (ps : Parameters) (s : StrategyTree) → Grows done made f ps s →
     (rest : List Lexeme) →
@@ -141,7 +141,7 @@ parameters_at_most (with_terms fs xs) is = omega arith
 -- no name
 no_name : (done : Vec StrategyDefinition Global) (k : ℕ) (ts : List Lexeme) → Missing one_name (AtMost 4) ts → (u : PrimaryTree) (is left : List Item) →
     GoesToDefinition done k u is left → Runs either left ts → ⊥
-no_name done k ts m u is left (goes_to_definition (definition y qs s) ds t g) r = m.none y _ (parameters_at_most qs _) r
+no_name done k ts m u is left (goes_to_definition (definition (head y qs) s) ds t g) r = m.none y _ (parameters_at_most qs _) r
 
 pub name_fault : (done : Vec StrategyDefinition Global) (ts : List Lexeme) (e : Fault) → IsFault one_name (AtMost 4) ts e → IsNext (GoesToDefinition done) ts (Err e)
 name_fault done ts faults.Memory f = tt
@@ -149,10 +149,10 @@ name_fault done ts (faults.Syntax at) f = λ k. record { none = λ u is h r. no_
 name_fault done ts (faults.Nesting at) f = absurd (name_shallow f.tree ts (f.runs []))
 name_fault done ts e f = absurd f
 
--- no parameters behind the name
+-- no parameters after the name
 no_parameters : (done : Vec StrategyDefinition Global) (k : ℕ) (ts rest : List Lexeme) (x : Bytes) → Found one_name (AtMost 4) ts x rest →
     Missing parameters (AtMost 3) rest → (u : PrimaryTree) (is left : List Item) → GoesToDefinition done k u is left → Runs either left ts → ⊥
-no_parameters done k ts rest x n m u is left (goes_to_definition (definition y qs s) ds t g) r =
+no_parameters done k ts rest x n m u is left (goes_to_definition (definition (head y qs) s) ds t g) r =
     m.none qs _ (omega arith) (n.only_one y _ (parameters_at_most qs _) r).1
 
 pub parameters_fault : (done : Vec StrategyDefinition Global) (ts rest : List Lexeme) (x : Bytes) → Found one_name (AtMost 4) ts x rest →
@@ -162,7 +162,7 @@ parameters_fault done ts rest x n (faults.Syntax at) f = λ k. record { none = �
 parameters_fault done ts rest x n (faults.Nesting at) f = absurd (parameters_shallow f.tree rest (f.runs []))
 parameters_fault done ts rest x n e f = absurd f
 
--- no = behind the parameters
+-- no = after the parameters
 no_sign : (is : List Item) (ts : List Lexeme) → NotAt (mark M.Equals) ts → Runs either (sign M.Equals ∷ is) ts → ⊥
 no_sign is [] a r = r
 no_sign is (t ∷ ts) a r = a ts (ap (λ (x : Lexeme). x ∷ ts) r.0)
@@ -170,7 +170,7 @@ no_sign is (t ∷ ts) a r = a ts (ap (λ (x : Lexeme). x ∷ ts) r.0)
 no_equals : (done : Vec StrategyDefinition Global) (k : ℕ) (ts rest more : List Lexeme) (x : Bytes) (qs : ParameterTree) → Found one_name (AtMost 4) ts x rest →
     FoundAny parameters (AtMost 3) rest qs more → NotAt (mark M.Equals) more → (u : PrimaryTree) (is left : List Item) →
     GoesToDefinition done k u is left → Runs either left ts → ⊥
-no_equals done k ts rest more x qs n q a u is left (goes_to_definition (definition y ps s) ds t g) r =
+no_equals done k ts rest more x qs n q a u is left (goes_to_definition (definition (head y ps) s) ds t g) r =
     let body = inner_strategy (k + 1) s (definitions (k + 1) ds (word K.In ∷ inner_strategy (k + 1) t (word K.End ∷ is))) in
     no_sign body more a (q.only_one ps (sign M.Equals ∷ body) (omega arith) (n.only_one y _ (parameters_at_most ps _) r).1).1
 
@@ -182,17 +182,17 @@ begin_sound : (done : Vec StrategyDefinition Global) (k : ℕ) (ts rest more : L
     FoundAny parameters (AtMost 3) rest (parameters_of ps) (mark M.Equals ∷ more) → (way : Way) (u : PrimaryTree) (is left : List Item) →
     Continues k (states.ToStrategy (B.Definition done x ps) more) u is left → Runs way left more → Run (GoesToDefinition done k) way u is ts
 begin_sound done k ts rest more x ps n q way u is left (at_strategy s (goes_definition t ds g)) r =
-    record { left = _; goes = goes_to_definition (definition x (parameters_of ps) s) ds t g; runs = n.sound way _ (q.sound way _ (refl, r)) }
+    record { left = _; goes = goes_to_definition (definition (head x (parameters_of ps)) s) ds t g; runs = n.sound way _ (q.sound way _ (refl, r)) }
 
 -- the definition of this name with these parameters
 renamed : (done : Vec StrategyDefinition Global) (x y : Bytes) (qs ps : ParameterTree) (s t : StrategyTree) (ds : DefinitionTrees) → y ≡ x → qs ≡ ps →
-    let_in (definitions_with done (definition y qs s) ds) t ≡ let_in (definitions_with done (definition x ps s) ds) t
+    let_in (definitions_with done (definition (head y qs) s) ds) t ≡ let_in (definitions_with done (definition (head x ps) s) ds) t
 renamed done x y qs ps s t ds a b = rw (a, b) refl
 
 begin_all : (done : Vec StrategyDefinition Global) (k : ℕ) (ts rest more : List Lexeme) (x : Bytes) (ps : Parameters) → Found one_name (AtMost 4) ts x rest →
     FoundAny parameters (AtMost 3) rest (parameters_of ps) (mark M.Equals ∷ more) → (u : PrimaryTree) (is left : List Item) →
     GoesToDefinition done k u is left → Runs either left ts → Run (Continues k (states.ToStrategy (B.Definition done x ps) more)) either u is more
-begin_all done k ts rest more x ps n q u is left (goes_to_definition (definition y qs s) ds t g) r =
+begin_all done k ts rest more x ps n q u is left (goes_to_definition (definition (head y qs) s) ds t g) r =
     let a = n.only_one y _ (parameters_at_most qs _) r in
     let b = q.only_one qs _ (omega arith) a.1 in
     record { left = _; goes = at_strategy s (goes_definition t ds (g ∙ renamed done x y qs (parameters_of ps) s t ds a.0 b.0)); runs = b.1.1 }

@@ -16,6 +16,7 @@ pub mod LetLaws
 pub mod ListLaws
 pub mod LoopLaws
 pub mod NameLaws
+pub mod PartFaults
 pub mod PartLaws
 pub mod PatternBeginLaws
 pub mod PatternLists

@@ -14,7 +14,7 @@ empty_list : {X : Type 0} (xs : List X) → length xs ≡ 0 → xs ≡ []
 empty_list [] e = refl
 empty_list (x ∷ xs) e = absurd (omega (arith, e))
 
--- a list that is told to be empty, or not to be, has no element, or some
+-- a list that a test finds empty, or not empty, has no element, or some
 pub no_items : {X : Type 0} (v : Vec X Global) (answer : Bool) → answer ≡ (v.len == 0) → answer ≡ true → v.items ≡ []
 no_items v answer e t = empty_list v.items (grind (arith, e, t, v.ok.0))
 
@@ -28,13 +28,13 @@ strategies_one_more : (xs : List Strategy) (s : Strategy) (more : StrategyTrees)
 strategies_one_more [] s more = refl
 strategies_one_more (x ∷ xs) s more = ap (more_strategies (strategy_of x)) (strategies_one_more xs s more)
 
--- behind a list to which a strategy was pushed comes what came behind the list, with the strategy in front
+-- after a list to which a strategy was pushed comes what came after the list, with the strategy in front
 pub strategies_pushed : (done parts : Vec Strategy Global) (s : Strategy) (t : StrategyTree) (more : StrategyTrees) →
     parts.items ≡ done.items ++ (s ∷ []) → strategies_with parts t more ≡ strategies_with done (strategy_of s) (more_strategies t more)
 strategies_pushed done parts s t more e =
     ap (λ xs. strategies_then (map strategy_of xs) (more_strategies t more)) e ∙ strategies_one_more done.items s (more_strategies t more)
 
--- a list of trees, with none behind them
+-- a list of trees, with none after them
 pub strategies_at_end : (xs : List StrategyTree) → strategies_then xs no_strategies ≡ strategies_in xs
 strategies_at_end [] = refl
 strategies_at_end (x ∷ xs) = ap (more_strategies x) (strategies_at_end xs)
@@ -90,7 +90,7 @@ definitions_ended done parts d e =
     sym (definitions_one_more done.items d no_definitions) ∙ ap (λ xs. definitions_then (map definition_of xs) no_definitions) (sym e)
     ∙ definitions_at_end (map definition_of parts.items)
 
--- a list to which a definition was pushed, in front of no others: what the body of a let goes on behind
+-- a list to which a definition was pushed, in front of no others: what the body of a let goes on after
 pub definitions_last : (done parts : Vec StrategyDefinition Global) (d : StrategyDefinition) →
     parts.items ≡ done.items ++ (d ∷ []) → definitions_then (map definition_of parts.items) no_definitions ≡ definitions_with done (definition_of d) no_definitions
 definitions_last done parts d e = ap (λ xs. definitions_then (map definition_of xs) no_definitions) e ∙ definitions_one_more done.items d no_definitions

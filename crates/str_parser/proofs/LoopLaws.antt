@@ -1,7 +1,7 @@
 -- Reading a primary part by part.
 use Rattle.std.proofs.Common.{◌≡◌, ℕ, ◌+◌, List, [], refl, sym, arith, Box, Global}
 use Rattle.str_syntax.specs.declared.strategy.Primary.{Primary}
-use Rattle.str_syntax.specs.Trees.{PatternTree, variable, StrategyTree, no_strategies, more_strategies, PrimaryTree, no_patterns, more_patterns, no_definitions, more_definitions, definition}
+use Rattle.str_syntax.specs.Trees.{PatternTree, variable, StrategyTree, no_strategies, more_strategies, PrimaryTree, no_patterns, more_patterns, no_definitions, more_definitions, definition, head}
 use Rattle.str_syntax.specs.Views.{primary_of}
 use Rattle.str_parser.specs.Lexemes.{Lexeme}
 use Rattle.str_parser.specs.Items.{Item, Way, whole, too_deep, either, Runs}
@@ -56,7 +56,7 @@ missing_all k ts n = record { none = λ u is h r. n.none u is h (record { left =
 
 -- ---- a strategy in it
 
--- what comes behind a strategy stops it
+-- what comes after a strategy stops it
 goes_stops : (k : ℕ) (before : BeforeStrategy) (s : StrategyTree) (u : PrimaryTree) (is left : List Item) → Goes k before s u is left → AtMost 0 left
 goes_stops k before s u is left goes_apply = omega arith
 goes_stops k before s u is left (goes_parenthesized no_strategies e) = omega arith
@@ -79,7 +79,7 @@ goes_stops k before s u is left goes_consequence = omega arith
 goes_stops k before s u is left goes_consequence_else = omega arith
 goes_stops k before s u is left goes_alternative = omega arith
 goes_stops k before s u is left (goes_definition t no_definitions e) = omega arith
-goes_stops k before s u is left (goes_definition t (more_definitions (definition x ps b) ds) e) = omega arith
+goes_stops k before s u is left (goes_definition t (more_definitions (definition (head x ps) b) ds) e) = omega arith
 goes_stops k before s u is left (goes_let_body e) = omega arith
 goes_stops k before s u is left goes_rule_condition = omega arith
 
@@ -97,17 +97,17 @@ leads_strategy k before rest after s f = record {
   no_longer = omega (arith, f.shorter);
 }
 
-no_strategy : (k : ℕ) (before : BeforeStrategy) (rest : List Lexeme) → Missing (inner_strategy (k + 1)) (AtMost 0) rest →
+strategy_no_run : (k : ℕ) (before : BeforeStrategy) (rest : List Lexeme) → Missing (inner_strategy (k + 1)) (AtMost 0) rest →
     (u : PrimaryTree) (is left : List Item) → Continues k (states.ToStrategy before rest) u is left → Runs either left rest → ⊥
-no_strategy k before rest n u is left (at_strategy t {left = l} g) r = n.none t l (goes_stops k before t u is l g) r
+strategy_no_run k before rest n u is left (at_strategy t {left = l} g) r = n.none t l (goes_stops k before t u is l g) r
 
 pub missing_strategy : (k : ℕ) (before : BeforeStrategy) (ts rest : List Lexeme) → Leads (Written k) (Continues k (states.ToStrategy before rest)) ts rest →
     Missing (inner_strategy (k + 1)) (AtMost 0) rest → Missing (primary k) (AtMost 3) ts
 missing_strategy k before ts rest f n = missing_run k ts rest (Continues k (states.ToStrategy before rest)) f (record {
-  none = λ u is h r. no_strategy k before rest n u is r.left r.goes r.runs;
+  none = λ u is h r. strategy_no_run k before rest n u is r.left r.goes r.runs;
 })
 
--- a primary that a strategy completes, and what stands behind that
+-- a primary that a strategy completes, and what comes after that
 record Completed (k : ℕ) (before : BeforeStrategy) (s : StrategyTree) : Type 0 where
   tree : PrimaryTree
   left : List Item → List Item
@@ -142,7 +142,7 @@ nested_strategy k before ts rest f n =
 
 -- ---- a pattern in it
 
--- what comes behind a pattern stops it
+-- what comes after a pattern stops it
 goes_by_stops : (k : ℕ) (before : BeforePattern) (p : PatternTree) (u : PrimaryTree) (is left : List Item) → AtMost 3 is → GoesBy k before p u is left → AtMost 3 left
 goes_by_stops k before p u is left h goes_match = h
 goes_by_stops k before p u is left h goes_build = h
@@ -170,14 +170,14 @@ leads_pattern k before rest after p f = record {
   no_longer = omega (arith, f.shorter);
 }
 
-no_pattern : (k : ℕ) (before : BeforePattern) (rest : List Lexeme) → Missing (inner_pattern (wants_match before) (k + 1)) (AtMost 3) rest →
+pattern_no_run : (k : ℕ) (before : BeforePattern) (rest : List Lexeme) → Missing (inner_pattern (wants_match before) (k + 1)) (AtMost 3) rest →
     (u : PrimaryTree) (is left : List Item) → AtMost 3 is → Continues k (states.ToPattern before rest) u is left → Runs either left rest → ⊥
-no_pattern k before rest n u is left h (at_pattern q {left = l} g) r = n.none q l (goes_by_stops k before q u is l h g) r
+pattern_no_run k before rest n u is left h (at_pattern q {left = l} g) r = n.none q l (goes_by_stops k before q u is l h g) r
 
 pub missing_pattern : (k : ℕ) (before : BeforePattern) (ts rest : List Lexeme) → Leads (Written k) (Continues k (states.ToPattern before rest)) ts rest →
     Missing (inner_pattern (wants_match before) (k + 1)) (AtMost 3) rest → Missing (primary k) (AtMost 3) ts
 missing_pattern k before ts rest f n = missing_run k ts rest (Continues k (states.ToPattern before rest)) f (record {
-  none = λ u is h r. no_pattern k before rest n u is r.left h r.goes r.runs;
+  none = λ u is h r. pattern_no_run k before rest n u is r.left h r.goes r.runs;
 })
 
 record CompletedBy (k : ℕ) (before : BeforePattern) (p : PatternTree) : Type 0 where

@@ -191,7 +191,7 @@ pub found_terms : (fs xs : List (List ℕ)) (ts ahead middle rest behind_terms a
     Names middle xs behind_terms → behind_terms ≡ mark M.CloseParenthesis ∷ after → FoundAny parameters (AtMost 3) ts (with_terms fs xs) after
 found_terms fs xs ts ahead middle rest behind_terms after e f g k l = rw e (terms_at fs xs ahead middle after (rw g at f) (rw l at k))
 
--- no names behind the parenthesis
+-- no names after the parenthesis
 names_none_in : (ahead : List Lexeme) → Missing names (NoneOf any_names_go_on) ahead → (u : ParameterTree) (is : List Item) → AtMost 3 is → Runs either (parameters u is) (mark M.OpenParenthesis ∷ ahead) → ⊥
 names_none_in ahead m absent is h r = none_opens is ahead h r
 names_none_in ahead m (strategies_only gs) is h r = m.none gs (sign M.CloseParenthesis ∷ is) (at_close is) r.1
@@ -203,7 +203,7 @@ missing_strategies ts ahead e m = rw e (record { none = names_none_in ahead m })
 pub nested_strategies : (ts ahead : List Lexeme) → ts ≡ mark M.OpenParenthesis ∷ ahead → Nested names ahead → Nested parameters ts
 nested_strategies ts ahead e d = rw e (record { tree = strategies_only d.tree; runs = λ is. (refl, d.runs (sign M.CloseParenthesis ∷ is)) })
 
--- neither ) nor | behind the strategies
+-- neither ) nor | after the strategies
 unended : (fs : List (List ℕ)) (ahead rest : List Lexeme) → Names ahead fs rest → NotAt (mark M.CloseParenthesis) rest → NotAt (mark M.Bar) rest →
     (u : ParameterTree) (is : List Item) → AtMost 3 is → Runs either (parameters u is) (mark M.OpenParenthesis ∷ ahead) → ⊥
 unended fs ahead rest f n m absent is h r = none_opens is ahead h r
@@ -217,7 +217,7 @@ unended fs ahead rest f n m (with_terms gs xs) is h r =
 pub missing_end : (fs : List (List ℕ)) (ts ahead rest : List Lexeme) → ts ≡ mark M.OpenParenthesis ∷ ahead → Names ahead fs rest → NotAt (mark M.CloseParenthesis) rest → NotAt (mark M.Bar) rest → Missing parameters (AtMost 3) ts
 missing_end fs ts ahead rest e f n m = rw e (record { none = unended fs ahead rest f n m })
 
--- no names behind the |
+-- no names after the |
 no_terms : (fs : List (List ℕ)) (ahead middle : List Lexeme) → Names ahead fs (mark M.Bar ∷ middle) → Missing names (NoneOf any_names_go_on) middle →
     (u : ParameterTree) (is : List Item) → AtMost 3 is → Runs either (parameters u is) (mark M.OpenParenthesis ∷ ahead) → ⊥
 no_terms fs ahead middle f m absent is h r = none_opens is ahead h r
@@ -242,7 +242,7 @@ pub nested_terms : (fs : List (List ℕ)) (ts ahead rest middle : List Lexeme) �
     Nested names middle → Nested parameters ts
 nested_terms fs ts ahead rest middle e f g d = rw e (nested_terms_at fs ahead middle (rw g at f) d)
 
--- no ) behind the terms
+-- no ) after the terms
 terms_unended : (fs xs : List (List ℕ)) (ahead middle rest : List Lexeme) → Names ahead fs (mark M.Bar ∷ middle) → Names middle xs rest → NotAt (mark M.CloseParenthesis) rest →
     (u : ParameterTree) (is : List Item) → AtMost 3 is → Runs either (parameters u is) (mark M.OpenParenthesis ∷ ahead) → ⊥
 terms_unended fs xs ahead middle rest f g n absent is h r = none_opens is ahead h r

@@ -1,4 +1,4 @@
--- How a pattern goes on behind its first tokens: one law for each way.
+-- How a pattern goes on after its first tokens: one law for each way.
 use Rattle.std.proofs.Common.{◌≡◌, ℕ, ℤ, ◌+◌, ◌≤◌, Bool, true, false, List, [], ◌∷◌, refl, sym, ◌∙◌, ap, subst, arith, Vec, Global}
 use Rattle.std.specs.Prelude.{Err}
 use Rattle.term_model.specs.declared.fault.Fault.{Fault}
@@ -7,7 +7,7 @@ use Rattle.str_lexer.specs.declared.token.Keyword.{Keyword}
 use Rattle.str_lexer.specs.declared.token.Mark.{Mark}
 use Rattle.str_lexer.specs.declared.token.Mark.TheVariants as M
 use Rattle.str_syntax.specs.declared.strategy.Pattern.{Pattern}
-use Rattle.str_syntax.specs.Trees.{Bytes, PatternTree, variable, wildcard, integer, quoted, application, tuple, list, list_with_tail, PatternTrees, no_patterns, more_patterns}
+use Rattle.str_syntax.specs.Trees.{Bytes, PatternTree, variable, wildcard, integer, quoted, application, tuple, list, PatternTrees, no_patterns, more_patterns, no_pattern, one_pattern}
 use Rattle.str_syntax.specs.Views.{pattern_of}
 use Rattle.str_parser.specs.Lexemes.{Lexeme, Lexeme as L, begins_pattern}
 use Rattle.str_parser.specs.Items.{Item, Way, either, Runs}
@@ -283,13 +283,13 @@ grouped_begins m k none rest e n = record {
 
 -- ---- [
 
-empty_list_sound : (m : Bool) (k : ℕ) (t : Pattern) (rest : List Lexeme) → pattern_of t ≡ list no_patterns →
+empty_list_sound : (m : Bool) (k : ℕ) (t : Pattern) (rest : List Lexeme) → pattern_of t ≡ list no_patterns no_pattern →
     (way : Way) (u : PatternTree) (is left : List Item) →
     ContinuesPattern m k (states.Whole t rest) u is left → Runs way left rest →
     Run (WrittenPattern m k) way u is (L.mark M.OpenBracket ∷ L.mark M.CloseBracket ∷ rest)
-empty_list_sound m k t rest e way u is left (pattern_at_end h) r = written_as m k way u (list no_patterns) is _ (h ∙ e) (refl, (refl, r))
+empty_list_sound m k t rest e way u is left (pattern_at_end h) r = written_as m k way u (list no_patterns no_pattern) is _ (h ∙ e) (refl, (refl, r))
 
-empty_list_led : (m : Bool) (k : ℕ) (t : Pattern) (rest : List Lexeme) → pattern_of t ≡ list no_patterns →
+empty_list_led : (m : Bool) (k : ℕ) (t : Pattern) (rest : List Lexeme) → pattern_of t ≡ list no_patterns no_pattern →
     (u : PatternTree) (is : List Item) → Led m k (L.mark M.CloseBracket ∷ rest) (L.mark M.OpenBracket) u is →
     Run (ContinuesPattern m k (states.Whole t rest)) either u is rest
 empty_list_led m k t rest e u is (led_list no_patterns r) = record { left = _; goes = pattern_at_end (sym e); runs = r.1 }
@@ -297,12 +297,12 @@ empty_list_led m k t rest e u is (led_list (more_patterns p ps) r) = absurd (no_
 empty_list_led m k t rest e u is (led_list_with_tail no_patterns q h r) = cc
 empty_list_led m k t rest e u is (led_list_with_tail (more_patterns p ps) q h r) = absurd (no_inner m (k + 1) p (other_patterns m (k + 1) ps (sign M.Bar ∷ inner_pattern m (k + 1) q (sign M.CloseBracket ∷ is))) (L.mark M.CloseBracket) rest (no_close_bracket m) r)
 
-empty_list_all : (m : Bool) (k : ℕ) (t : Pattern) (rest : List Lexeme) → pattern_of t ≡ list no_patterns →
+empty_list_all : (m : Bool) (k : ℕ) (t : Pattern) (rest : List Lexeme) → pattern_of t ≡ list no_patterns no_pattern →
     (u : PatternTree) (is left : List Item) → WrittenPattern m k u is left → Runs either left (L.mark M.OpenBracket ∷ L.mark M.CloseBracket ∷ rest) →
     Run (ContinuesPattern m k (states.Whole t rest)) either u is rest
 empty_list_all m k t rest e u is left written_pattern r = empty_list_led m k t rest e u is (led m k _ _ u is r)
 
-pub empty_list_leads : (m : Bool) (k : ℕ) (t : Pattern) (rest : List Lexeme) → pattern_of t ≡ list no_patterns →
+pub empty_list_leads : (m : Bool) (k : ℕ) (t : Pattern) (rest : List Lexeme) → pattern_of t ≡ list no_patterns no_pattern →
     Leads (WrittenPattern m k) (ContinuesPattern m k (states.Whole t rest)) (L.mark M.OpenBracket ∷ L.mark M.CloseBracket ∷ rest) rest
 empty_list_leads m k t rest e = record {
   sound = λ way u is r. empty_list_sound m k t rest e way u is r.left r.goes r.runs;
@@ -315,19 +315,19 @@ list_sound : (m : Bool) (k : ℕ) (none : Vec Pattern Global) (rest : List Lexem
     ContinuesPattern m k (states.ToPattern (I.Bracketed none) rest) u is left → Runs way left rest →
     Run (WrittenPattern m k) way u is (L.mark M.OpenBracket ∷ rest)
 list_sound m k none rest e way u is left (pattern_at_pattern q (goes_list ps h)) r =
-    written_as m k way u (list (more_patterns q ps)) is _ (h ∙ ap list (first_with none q ps e)) (refl, r)
+    written_as m k way u (list (more_patterns q ps) no_pattern) is _ (h ∙ ap (λ qs. list qs no_pattern) (first_with none q ps e)) (refl, r)
 list_sound m k none rest e way u is left (pattern_at_pattern q (goes_list_to_tail t ps h)) r =
-    written_as m k way u (list_with_tail (more_patterns q ps) t) is _ (h ∙ ap (λ qs. list_with_tail qs t) (first_with none q ps e)) (refl, (refl, r))
+    written_as m k way u (list (more_patterns q ps) (one_pattern t)) is _ (h ∙ ap (λ qs. list qs (one_pattern t)) (first_with none q ps e)) (refl, (refl, r))
 
 list_led : (m : Bool) (k : ℕ) (none : Vec Pattern Global) (rest : List Lexeme) → none.items ≡ [] → NotAt (L.mark M.CloseBracket) rest →
     (u : PatternTree) (is : List Item) → Led m k rest (L.mark M.OpenBracket) u is →
     Run (ContinuesPattern m k (states.ToPattern (I.Bracketed none) rest)) either u is rest
 list_led m k none rest e n u is (led_list no_patterns r) = absurd (no_sign (L.mark M.CloseBracket) is rest n r)
 list_led m k none rest e n u is (led_list (more_patterns p ps) r) =
-    record { left = _; goes = pattern_at_pattern p (goes_list ps (ap list (sym (first_with none p ps e)))); runs = r }
+    record { left = _; goes = pattern_at_pattern p (goes_list ps (ap (λ qs. list qs no_pattern) (sym (first_with none p ps e)))); runs = r }
 list_led m k none rest e n u is (led_list_with_tail no_patterns q h r) = cc
 list_led m k none rest e n u is (led_list_with_tail (more_patterns p ps) q h r) =
-    record { left = _; goes = pattern_at_pattern p (goes_list_to_tail q ps (ap (λ qs. list_with_tail qs q) (sym (first_with none p ps e)))); runs = r }
+    record { left = _; goes = pattern_at_pattern p (goes_list_to_tail q ps (ap (λ qs. list qs (one_pattern q)) (sym (first_with none p ps e)))); runs = r }
 
 list_all : (m : Bool) (k : ℕ) (none : Vec Pattern Global) (rest : List Lexeme) → none.items ≡ [] → NotAt (L.mark M.CloseBracket) rest →
     (u : PatternTree) (is left : List Item) → WrittenPattern m k u is left → Runs either left (L.mark M.OpenBracket ∷ rest) →
@@ -408,6 +408,6 @@ pub empty_begins : (m : Bool) (k : ℕ) → NoRun (WrittenPattern m k) []
 empty_begins m k = record { none = λ u is h r. empty_written m k u is r.left r.goes r.runs }
 
 -- a fault, where no pattern begins
-pub no_pattern : (m : Bool) (ts : List Lexeme) (fault : Fault) → IsSyntax fault → ((k : ℕ) → NoRun (WrittenPattern m k) ts) → IsNextPattern WrittenPattern m ts (Err fault)
-no_pattern m ts (faults.Syntax at) s n = n
-no_pattern m ts _ s n = absurd s
+pub begins_no_pattern : (m : Bool) (ts : List Lexeme) (fault : Fault) → IsSyntax fault → ((k : ℕ) → NoRun (WrittenPattern m k) ts) → IsNextPattern WrittenPattern m ts (Err fault)
+begins_no_pattern m ts (faults.Syntax at) s n = n
+begins_no_pattern m ts _ s n = absurd s

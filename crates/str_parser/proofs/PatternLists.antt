@@ -21,12 +21,12 @@ pushed_then : (xs grown : List Pattern) (part : Pattern) (more : PatternTrees) �
 pushed_then xs grown part more e =
     ap (λ ps. patterns_then ps more) (ap (map pattern_of) e ∙ map-append pattern_of xs (part ∷ [])) ∙ patterns_grown (map pattern_of xs) (pattern_of part) more
 
--- one more pattern, and more behind it
+-- one more pattern, and more after it
 pub pushed_with : (done grown : Vec Pattern Global) (part : Pattern) → grown.items ≡ done.items ++ (part ∷ []) → (q : PatternTree) (more : PatternTrees) →
     patterns_with grown q more ≡ patterns_with done (pattern_of part) (more_patterns q more)
 pushed_with done grown part e q more = pushed_then done.items grown.items part (more_patterns q more) e
 
--- one more pattern, and none behind it
+-- one more pattern, and none after it
 pub pushed_last : (done grown : Vec Pattern Global) (part : Pattern) → grown.items ≡ done.items ++ (part ∷ []) →
     patterns_of grown.items ≡ patterns_with done (pattern_of part) no_patterns
 pushed_last done grown part e = patterns_ended (map pattern_of grown.items) ∙ pushed_then done.items grown.items part no_patterns e
@@ -35,7 +35,7 @@ first_of : (xs : List Pattern) (q : PatternTree) (more : PatternTrees) → xs �
 first_of [] q more e = refl
 first_of (x ∷ xs) q more e = cc
 
--- a pattern behind none
+-- a pattern after none
 pub first_with : (none : Vec Pattern Global) (q : PatternTree) (more : PatternTrees) → none.items ≡ [] → patterns_with none q more ≡ more_patterns q more
 first_with none q more e = first_of none.items q more e
 
@@ -62,7 +62,7 @@ behind_some (x ∷ y ∷ xs) p h = refl
 pub one_grouped : (done : Vec Pattern Global) (p : PatternTree) → length done.items ≡ 0 → patterns_in_parentheses (patterns_with done p no_patterns) ≡ grouped p
 one_grouped done p e = alone done.items p e
 
--- a pattern behind others makes them a tuple
+-- a pattern after others makes them a tuple
 pub more_tuple : (done grown : Vec Pattern Global) (part : Pattern) → grown.items ≡ done.items ++ (part ∷ []) → 0 < length done.items →
     patterns_in_parentheses (patterns_with done (pattern_of part) no_patterns) ≡ tuple (patterns_of grown.items)
 more_tuple done grown part e h = behind_some done.items (pattern_of part) h ∙ ap tuple (sym (pushed_last done grown part e))

@@ -139,7 +139,7 @@ missing_inner m k before ts rest b f n = missing_pattern_run m k ts rest (Contin
   none = λ u is h r. no_inner m k before rest n u is r.left h r.goes r.runs;
 })
 
--- a pattern that a pattern in it completes, and what stands behind that
+-- a pattern that a pattern in it completes, and what comes after that
 record Completed (m : Bool) (k : ℕ) (before : BeforeInner) (p : PatternTree) : Type 0 where
   tree : PatternTree
   left : List Item → List Item

@@ -1,7 +1,7 @@
--- How a primary goes on behind a pattern in it: one law for each way.
+-- How a primary goes on after a pattern in it: one law for each way.
 use Rattle.std.proofs.Common.{◌≡◌, ℕ, List, [], ◌∷◌, ◌++◌, refl, sym, ◌∙◌, ap, arith, Box, Vec, Global}
 use Rattle.str_lexer.specs.declared.token.Mark.TheVariants as M
-use Rattle.str_syntax.specs.Trees.{Bytes, PrimaryTree, match, build, apply, primitive, call_with_terms, PatternTree, no_patterns, more_patterns}
+use Rattle.str_syntax.specs.Trees.{Bytes, PrimaryTree, match, build, apply, primitive, call, PatternTree, no_patterns, more_patterns, all_arguments}
 use Rattle.str_syntax.specs.declared.strategy.Pattern.{Pattern}
 use Rattle.str_syntax.specs.declared.strategy.Strategy.{Strategy}
 use Rattle.str_syntax.specs.Views.{pattern_of, patterns_of, strategy_of, strategies_of}
@@ -56,7 +56,7 @@ terms_more_sound : (k : ℕ) (f : Bytes) (ss : Vec Strategy Global) (done made :
     Continues k (states.ToPattern (P.Terms f ss made) rest) u is left → Runs way left rest →
     Run (GoesBy k (P.Terms f ss done) (pattern_of part)) way u is (mark M.Comma ∷ rest)
 terms_more_sound k f ss done made part e rest way u is left (at_pattern q (goes_terms ps g)) r =
-    record { left = _; goes = goes_terms (more_patterns q ps) (g ∙ ap (call_with_terms f (strategies_of ss.items)) (patterns_pushed done made part q ps e)); runs = (refl, r) }
+    record { left = _; goes = goes_terms (more_patterns q ps) (g ∙ ap (λ qs. call f (all_arguments (strategies_of ss.items) qs)) (patterns_pushed done made part q ps e)); runs = (refl, r) }
 
 terms_more_all : (k : ℕ) (f : Bytes) (ss : Vec Strategy Global) (done made : Vec Pattern Global) (part : Pattern) → made.items ≡ done.items ++ (part ∷ []) →
     (rest : List Lexeme) (u : PrimaryTree) (is left : List Item) →
@@ -64,7 +64,7 @@ terms_more_all : (k : ℕ) (f : Bytes) (ss : Vec Strategy Global) (done made : V
     Run (Continues k (states.ToPattern (P.Terms f ss made) rest)) either u is rest
 terms_more_all k f ss done made part e rest u is left (goes_terms no_patterns g) r = let t = r.0 in cc
 terms_more_all k f ss done made part e rest u is left (goes_terms (more_patterns q ps) g) r =
-    record { left = _; goes = at_pattern q (goes_terms ps (g ∙ sym (ap (call_with_terms f (strategies_of ss.items)) (patterns_pushed done made part q ps e)))); runs = r.1 }
+    record { left = _; goes = at_pattern q (goes_terms ps (g ∙ sym (ap (λ qs. call f (all_arguments (strategies_of ss.items) qs)) (patterns_pushed done made part q ps e)))); runs = r.1 }
 
 pub terms_more_leads : (k : ℕ) (f : Bytes) (ss : Vec Strategy Global) (done made : Vec Pattern Global) (part : Pattern) → made.items ≡ done.items ++ (part ∷ []) →
     (rest : List Lexeme) →
@@ -78,15 +78,15 @@ terms_more_leads k f ss done made part e rest = record {
 terms_end_all : (k : ℕ) (f : Bytes) (ss : Vec Strategy Global) (done made : Vec Pattern Global) (part : Pattern) → made.items ≡ done.items ++ (part ∷ []) →
     (rest : List Lexeme) (u : PrimaryTree) (is left : List Item) →
     GoesBy k (P.Terms f ss done) (pattern_of part) u is left → Runs either left (mark M.CloseParenthesis ∷ rest) →
-    (u ≡ call_with_terms f (strategies_of ss.items) (patterns_of made.items)) × Runs either is rest
-terms_end_all k f ss done made part e rest u is left (goes_terms no_patterns g) r = (g ∙ ap (call_with_terms f (strategies_of ss.items)) (patterns_ended done made part e), r.1)
+    (u ≡ call f (all_arguments (strategies_of ss.items) (patterns_of made.items))) × Runs either is rest
+terms_end_all k f ss done made part e rest u is left (goes_terms no_patterns g) r = (g ∙ ap (λ qs. call f (all_arguments (strategies_of ss.items) qs)) (patterns_ended done made part e), r.1)
 terms_end_all k f ss done made part e rest u is left (goes_terms (more_patterns q ps) g) r = let t = r.0 in cc
 
 pub terms_ends : (k : ℕ) (f : Bytes) (ss : Vec Strategy Global) (done made : Vec Pattern Global) (part : Pattern) → made.items ≡ done.items ++ (part ∷ []) →
     (rest : List Lexeme) →
-    EndsWith (GoesBy k (P.Terms f ss done) (pattern_of part)) (call_with_terms f (strategies_of ss.items) (patterns_of made.items)) (mark M.CloseParenthesis ∷ rest) rest
+    EndsWith (GoesBy k (P.Terms f ss done) (pattern_of part)) (call f (all_arguments (strategies_of ss.items) (patterns_of made.items))) (mark M.CloseParenthesis ∷ rest) rest
 terms_ends k f ss done made part e rest = record {
-  sound = λ way is r. record { left = _; goes = goes_terms no_patterns (sym (ap (call_with_terms f (strategies_of ss.items)) (patterns_ended done made part e))); runs = (refl, r) };
+  sound = λ way is r. record { left = _; goes = goes_terms no_patterns (sym (ap (λ qs. call f (all_arguments (strategies_of ss.items) qs)) (patterns_ended done made part e))); runs = (refl, r) };
   all = λ u is h r. terms_end_all k f ss done made part e rest u is r.left r.goes r.runs;
   no_longer = omega arith;
 }

@@ -1,4 +1,4 @@
--- How a primary goes on behind its first tokens: one law for each way.
+-- How a primary goes on after its first tokens: one law for each way.
 use Rattle.std.proofs.Common.{◌≡◌, ◌∙◌, ℕ, ◌+◌, false, List, [], ◌∷◌, map, refl, ap, sym, arith, Global}
 use Rattle.std.specs.declared.vec.Vec.{Vec}
 use Rattle.str_lexer.specs.declared.token.Mark.TheVariants as M
@@ -8,7 +8,7 @@ use Rattle.str_syntax.specs.declared.strategy.Operator.TheVariants as O
 use Rattle.str_syntax.specs.declared.strategy.Pattern.{Pattern}
 use Rattle.str_syntax.specs.declared.strategy.Strategy.{Strategy}
 use Rattle.str_syntax.specs.declared.strategy.StrategyDefinition.{StrategyDefinition}
-use Rattle.str_syntax.specs.Trees.{Bytes, PatternTree, PatternTrees, no_patterns, more_patterns, StrategyTree, StrategyTrees, no_strategies, more_strategies, identity, failure, scope, recursive, primitive, tuple_congruence, list_congruence, list_congruence_with_tail, plain_rule, conditional_rule, DefinitionTree, DefinitionTrees, more_definitions, let_in}
+use Rattle.str_syntax.specs.Trees.{Bytes, PatternTree, PatternTrees, no_patterns, more_patterns, StrategyTree, StrategyTrees, no_strategies, more_strategies, identity, failure, scope, recursive, primitive, tuple_congruence, list_congruence, rewrites, DefinitionTree, DefinitionTrees, more_definitions, let_in, no_strategy, one_strategy}
 use Rattle.str_syntax.specs.Views.{pattern_of, definition_of}
 use Rattle.str_parser.specs.Lexemes.{Lexeme, quoted, mark, keyword}
 use Rattle.str_parser.specs.Items.{Item, token, Way, either, Runs}
@@ -61,8 +61,8 @@ module _ (k : ℕ) (rest : List Lexeme) where
       sound way u is left (at_pattern p goes_rule_left_where) r = (refl, r)
 
       all : Complete k (Continues k (states.ToPattern P.RuleLeft rest)) (mark M.Backslash) rest rest
-      all u is h (led_lambda {r = plain_rule l g}) r = record { left = _; goes = at_pattern _ goes_rule_left; runs = r.1 }
-      all u is h (led_lambda {r = conditional_rule l g s}) r = record { left = _; goes = at_pattern _ goes_rule_left_where; runs = r.1 }
+      all u is h (led_lambda {r = rewrites l g no_strategy}) r = record { left = _; goes = at_pattern _ goes_rule_left; runs = r.1 }
+      all u is h (led_lambda {r = rewrites l g (one_strategy s)}) r = record { left = _; goes = at_pattern _ goes_rule_left_where; runs = r.1 }
 
   -- ---- id, fail and if
 
@@ -100,10 +100,10 @@ module _ (k : ℕ) (rest : List Lexeme) where
       all u is h (led_tuple {ss = no_strategies} o) r = (refl, r.1.1.1)
       all u is h (led_tuple {ss = more_strategies s ss} o) r = let e = inner_strategy_begins _ s _ _ _ r.1.1 in cc
 
-  pub empty_list_ends : EndsWith (Written k) (list_congruence no_strategies) (mark M.OpenBracket ∷ mark M.CloseBracket ∷ rest) rest
+  pub empty_list_ends : EndsWith (Written k) (list_congruence no_strategies no_strategy) (mark M.OpenBracket ∷ mark M.CloseBracket ∷ rest) rest
   empty_list_ends = ends_by k _ _ _ _ (λ way is r. (refl, (refl, r))) all (omega arith)
     where
-      all : EndComplete k (list_congruence no_strategies) (mark M.OpenBracket) (mark M.CloseBracket ∷ rest) rest
+      all : EndComplete k (list_congruence no_strategies no_strategy) (mark M.OpenBracket) (mark M.CloseBracket ∷ rest) rest
       all u is h (led_list {ss = no_strategies}) r = (refl, r.1.1)
       all u is h (led_list {ss = more_strategies s ss}) r = let e = inner_strategy_begins _ s _ _ _ r.1 in cc
       all u is h (led_list_with_tail {ss = no_strategies} o) r = cc
@@ -136,16 +136,16 @@ module _ (k : ℕ) (v : Vec Strategy Global) (e : v.items ≡ []) (rest : List L
   bracketed_leads n = leads_by k _ _ _ _ sound all (omega arith)
     where
       sound : Sound k (Continues k (states.ToStrategy (B.Bracketed v) rest)) (mark M.OpenBracket) rest rest
-      sound way u is left (at_strategy s (goes_bracketed ss f)) r = rw (f ∙ ap list_congruence (none_before v s ss e)) (refl, r)
-      sound way u is left (at_strategy s (goes_to_tail t ss f)) r = rw (f ∙ ap (λ x. list_congruence_with_tail x t) (none_before v s ss e)) (refl, (refl, r))
+      sound way u is left (at_strategy s (goes_bracketed ss f)) r = rw (f ∙ ap (λ xs. list_congruence xs no_strategy) (none_before v s ss e)) (refl, r)
+      sound way u is left (at_strategy s (goes_to_tail t ss f)) r = rw (f ∙ ap (λ x. list_congruence x (one_strategy t)) (none_before v s ss e)) (refl, (refl, r))
 
       all : Complete k (Continues k (states.ToStrategy (B.Bracketed v) rest)) (mark M.OpenBracket) rest rest
       all u is h (led_list {ss = no_strategies}) r = absurd (not_at either _ _ _ n r.1)
       all u is h (led_list {ss = more_strategies s ss}) r =
-          record { left = _; goes = at_strategy s (goes_bracketed ss (sym (ap list_congruence (none_before v _ _ e)))); runs = r.1 }
+          record { left = _; goes = at_strategy s (goes_bracketed ss (sym (ap (λ xs. list_congruence xs no_strategy) (none_before v _ _ e)))); runs = r.1 }
       all u is h (led_list_with_tail {ss = no_strategies} o) r = cc
       all u is h (led_list_with_tail {ss = more_strategies s ss} {s = t} o) r =
-          record { left = _; goes = at_strategy s (goes_to_tail t ss (sym (ap (λ x. list_congruence_with_tail x t) (none_before v _ _ e)))); runs = r.1.1 }
+          record { left = _; goes = at_strategy s (goes_to_tail t ss (sym (ap (λ x. list_congruence x (one_strategy t)) (none_before v _ _ e)))); runs = r.1.1 }
 
 -- ---- {
 

@@ -1,4 +1,4 @@
--- Primaries that begin with a token: what leads from it to what stands behind it, what ends there, and where there is none.
+-- Primaries that begin with a token: what leads from it to what comes after it, what ends there, and where there is none.
 use Rattle.std.proofs.Common.{map, ap, Global, ◌≡◌, ℕ, ◌≤◌, false, List, [], ◌∷◌, length}
 use Rattle.std.specs.declared.vec.Vec.{Vec}
 use Rattle.str_syntax.specs.declared.strategy.Strategy.{Strategy}
@@ -14,7 +14,7 @@ use Rattle.str_parser.proofs.PrimaryLeads.{Led, led, none_led, not_led}
 
 -- ---- what is shown of each way
 
--- what goes on so makes a primary, behind the token
+-- what goes on so makes a primary, after the token
 abbrev pub Sound : ℕ → (PrimaryTree → List Item → List Item → Type 0) → Lexeme → List Lexeme → List Lexeme → Type 0
 Sound k Second t ts rest = (way : Way) (u : PrimaryTree) (is left : List Item) → Second u is left → Runs way left rest → Runs way (primary k u is) (t ∷ ts)
 
@@ -58,7 +58,7 @@ ends_by k v t ts rest sound all no_longer = record {
 pub no_run_by : (k : ℕ) (t : Lexeme) (ts : List Lexeme) → NoneLed k t ts → NoRun (Written k) (t ∷ ts)
 no_run_by k t ts none = record { none = λ u is h r. let w = written_led k t ts u is r.left r.goes r.runs in none u is w.0 w.1 }
 
--- behind a token that begins no strategy, or no token, there is no primary
+-- after a token that begins no strategy, or no token, there is no primary
 pub begins_no_primary : (k : ℕ) (t : Lexeme) (ts : List Lexeme) → begins_strategy t ≡ false → NoRun (Written k) (t ∷ ts)
 begins_no_primary k t ts e = no_run_by k t ts (λ u is l r. not_led t e u l)
 

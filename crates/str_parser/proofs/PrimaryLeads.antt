@@ -8,7 +8,7 @@ use Rattle.str_lexer.specs.declared.token.Keyword.TheVariants as K
 use Rattle.str_syntax.specs.declared.strategy.Operator.{Operator}
 use Rattle.str_syntax.specs.declared.strategy.Operator.TheVariants as O
 use Rattle.str_syntax.specs.Trees as patterns
-use Rattle.str_syntax.specs.Trees.{Bytes, PatternTree, variable, wildcard, alias, integer, application, grouped, tuple, list, list_with_tail, applied, applied_to, PatternTrees, StrategyTree, plain_sequence, left_choice, guarded_choice, StrategyTrees, SequenceTree, last, then, StepTree, plain_step, matching, PrimaryTree, identity, failure, match, build, apply, parenthesized, scope, operator, conditional, conditional_else, recursive, let_in, primitive, lambda, call, call_with, call_with_terms, tuple_congruence, list_congruence, list_congruence_with_tail, RuleTree, DefinitionTree, DefinitionTrees, no_definitions, more_definitions}
+use Rattle.str_syntax.specs.Trees.{Bytes, PatternTree, variable, wildcard, alias, integer, application, grouped, tuple, list, applied, applied_to, PatternTrees, StrategyTree, plain_sequence, left_choice, guarded_choice, StrategyTrees, SequenceTree, last, then, StepTree, plain_step, matching, PrimaryTree, identity, failure, match, build, apply, parenthesized, scope, operator, conditional, recursive, let_in, primitive, lambda, call, tuple_congruence, list_congruence, RuleTree, DefinitionTree, DefinitionTrees, no_definitions, more_definitions, no_strategy, one_strategy, no_pattern, one_pattern, no_arguments, strategy_arguments, all_arguments}
 use Rattle.str_parser.specs.declared.input.Lexeme.{Lexeme as CodeLexeme}
 use Rattle.str_parser.specs.declared.input.Lexeme.TheVariants as C
 use Rattle.str_parser.specs.Lexemes.{Lexeme, name, quoted, mark, keyword, begins_strategy, begins_pattern}
@@ -31,18 +31,18 @@ pub data Led : Lexeme → PrimaryTree → Type 0 where
   led_all : {s : StrategyTree} → Led (keyword K.All) (operator O.All s)
   led_one : {s : StrategyTree} → Led (keyword K.One) (operator O.One s)
   led_some : {s : StrategyTree} → Led (keyword K.Some) (operator O.Some s)
-  led_conditional : {c s : StrategyTree} → Led (keyword K.If) (conditional c s)
-  led_conditional_else : {c s t : StrategyTree} → Led (keyword K.If) (conditional_else c s t)
+  led_conditional : {c s : StrategyTree} → Led (keyword K.If) (conditional c s no_strategy)
+  led_conditional_else : {c s t : StrategyTree} → Led (keyword K.If) (conditional c s (one_strategy t))
   led_recursive : {x : Bytes} {s : StrategyTree} → Led (keyword K.Rec) (recursive x s)
   led_let : {d : DefinitionTree} {ds : DefinitionTrees} {s : StrategyTree} → Led (keyword K.Let) (let_in (more_definitions d ds) s)
   led_primitive : {text : Bytes} {ps : PatternTrees} → Led (keyword K.Prim) (primitive text ps)
   led_lambda : {r : RuleTree} → Led (mark M.Backslash) (lambda r)
-  led_call : {x : Bytes} → Led (name x) (call x)
-  led_call_with : {x : Bytes} {ss : StrategyTrees} → Led (name x) (call_with x ss)
-  led_call_with_terms : {x : Bytes} {ss : StrategyTrees} {ps : PatternTrees} → Led (name x) (call_with_terms x ss ps)
+  led_call : {x : Bytes} → Led (name x) (call x no_arguments)
+  led_call_with : {x : Bytes} {ss : StrategyTrees} → Led (name x) (call x (strategy_arguments ss))
+  led_call_with_terms : {x : Bytes} {ss : StrategyTrees} {ps : PatternTrees} → Led (name x) (call x (all_arguments ss ps))
   led_tuple : {ss : StrategyTrees} → are_operands ss ≡ true → Led (mark M.OpenParenthesis) (tuple_congruence ss)
-  led_list : {ss : StrategyTrees} → Led (mark M.OpenBracket) (list_congruence ss)
-  led_list_with_tail : {ss : StrategyTrees} {s : StrategyTree} → any_strategies ss ≡ true → Led (mark M.OpenBracket) (list_congruence_with_tail ss s)
+  led_list : {ss : StrategyTrees} → Led (mark M.OpenBracket) (list_congruence ss no_strategy)
+  led_list_with_tail : {ss : StrategyTrees} {s : StrategyTree} → any_strategies ss ≡ true → Led (mark M.OpenBracket) (list_congruence ss (one_strategy s))
 
 operator_led : (t : Lexeme) (o : Operator) (s : StrategyTree) → t ≡ keyword (keyword_of o) → Led t (operator o s)
 operator_led t O.Where s e = rw e led_where
@@ -61,19 +61,19 @@ led way k (apply s p) is t ts r = rw r.0 led_apply
 led way k (parenthesized s) is t ts r = rw r.0 led_parenthesized
 led way k (scope xs s) is t ts r = rw r.0 led_scope
 led way k (operator o s) is t ts r = operator_led t o s r.0
-led way k (conditional c s) is t ts r = rw r.0 led_conditional
-led way k (conditional_else c s u) is t ts r = rw r.0 led_conditional_else
+led way k (conditional c s no_strategy) is t ts r = rw r.0 led_conditional
+led way k (conditional c s (one_strategy u)) is t ts r = rw r.0 led_conditional_else
 led way k (recursive x s) is t ts r = rw r.0 led_recursive
 led way k (let_in no_definitions s) is t ts r = let e = r.0 in cc
 led way k (let_in (more_definitions d ds) s) is t ts r = rw r.0 led_let
 led way k (primitive text ps) is t ts r = rw r.0 led_primitive
 led way k (lambda x) is t ts r = rw r.0 led_lambda
-led way k (call x) is t ts r = rw r.0 led_call
-led way k (call_with x ss) is t ts r = rw r.0 led_call_with
-led way k (call_with_terms x ss ps) is t ts r = rw r.0 led_call_with_terms
+led way k (call x no_arguments) is t ts r = rw r.0 led_call
+led way k (call x (strategy_arguments ss)) is t ts r = rw r.0 led_call_with
+led way k (call x (all_arguments ss ps)) is t ts r = rw r.0 led_call_with_terms
 led way k (tuple_congruence ss) is t ts r = rw r.1.0 (led_tuple r.0)
-led way k (list_congruence ss) is t ts r = rw r.0 led_list
-led way k (list_congruence_with_tail ss s) is t ts r = rw r.1.0 (led_list_with_tail r.0)
+led way k (list_congruence ss no_strategy) is t ts r = rw r.0 led_list
+led way k (list_congruence ss (one_strategy s)) is t ts r = rw r.1.0 (led_list_with_tail r.0)
 
 -- no primary runs along no tokens
 pub none_led : (way : Way) (k : ℕ) (u : PrimaryTree) (is : List Item) → Runs way (primary k u is) [] → ⊥
@@ -85,19 +85,19 @@ none_led way k (apply s p) is r = r
 none_led way k (parenthesized s) is r = r
 none_led way k (scope xs s) is r = r
 none_led way k (operator o s) is r = r
-none_led way k (conditional c s) is r = r
-none_led way k (conditional_else c s u) is r = r
+none_led way k (conditional c s no_strategy) is r = r
+none_led way k (conditional c s (one_strategy u)) is r = r
 none_led way k (recursive x s) is r = r
 none_led way k (let_in no_definitions s) is r = let e = r.0 in cc
 none_led way k (let_in (more_definitions d ds) s) is r = r
 none_led way k (primitive text ps) is r = r
 none_led way k (lambda x) is r = r
-none_led way k (call x) is r = r
-none_led way k (call_with x ss) is r = r
-none_led way k (call_with_terms x ss ps) is r = r
+none_led way k (call x no_arguments) is r = r
+none_led way k (call x (strategy_arguments ss)) is r = r
+none_led way k (call x (all_arguments ss ps)) is r = r
 none_led way k (tuple_congruence ss) is r = r.1
-none_led way k (list_congruence ss) is r = r
-none_led way k (list_congruence_with_tail ss s) is r = r.1
+none_led way k (list_congruence ss no_strategy) is r = r
+none_led way k (list_congruence ss (one_strategy s)) is r = r.1
 
 -- ---- what a part begins with
 
@@ -158,8 +158,8 @@ build_begins way k (patterns.quoted text) is t ts r = rw r.0 refl
 build_begins way k (application c ps) is t ts r = rw r.1.0 refl
 build_begins way k (grouped p) is t ts r = rw r.0 refl
 build_begins way k (tuple ps) is t ts r = rw r.1.0 refl
-build_begins way k (list ps) is t ts r = rw r.0 refl
-build_begins way k (list_with_tail ps p) is t ts r = rw r.1.0 refl
+build_begins way k (list ps no_pattern) is t ts r = rw r.0 refl
+build_begins way k (list ps (one_pattern p)) is t ts r = rw r.1.0 refl
 build_begins way k (applied s) is t ts r = rw r.1.0 refl
 build_begins way k (applied_to s p) is t ts r = rw r.1.0 refl
 

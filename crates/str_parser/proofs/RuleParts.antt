@@ -2,7 +2,7 @@
 use Rattle.std.proofs.Common.{◌≡◌, ℕ, List, ◌∷◌, refl, arith, Box, Global}
 use Rattle.str_lexer.specs.declared.token.Mark.TheVariants as M
 use Rattle.str_lexer.specs.declared.token.Keyword.TheVariants as K
-use Rattle.str_syntax.specs.Trees.{StrategyTree, PrimaryTree, lambda, plain_rule, conditional_rule}
+use Rattle.str_syntax.specs.Trees.{StrategyTree, PrimaryTree, lambda, rewrites, no_strategy, one_strategy}
 use Rattle.str_syntax.specs.declared.strategy.Pattern.{Pattern}
 use Rattle.str_syntax.specs.Views.{pattern_of}
 use Rattle.str_parser.specs.Lexemes.{Lexeme, mark, keyword}
@@ -59,12 +59,12 @@ rule_where_leads k l r rest = record {
 
 rule_end_all : (k : ℕ) (l r : Box Pattern Global) (rest : List Lexeme) (u : PrimaryTree) (is left : List Item) →
     GoesBy k (P.RuleRight l) (pattern_of r.value) u is left → Runs either left (mark M.Backslash ∷ rest) →
-    (u ≡ lambda (plain_rule (pattern_of l.value) (pattern_of r.value))) × Runs either is rest
+    (u ≡ lambda (rewrites (pattern_of l.value) (pattern_of r.value) no_strategy)) × Runs either is rest
 rule_end_all k l r rest u is left goes_rule_right x = (refl, x.1)
 rule_end_all k l r rest u is left goes_rule_right_where x = let t = x.0 in cc
 
 pub rule_ends : (k : ℕ) (l r : Box Pattern Global) (rest : List Lexeme) →
-    EndsWith (GoesBy k (P.RuleRight l) (pattern_of r.value)) (lambda (plain_rule (pattern_of l.value) (pattern_of r.value))) (mark M.Backslash ∷ rest) rest
+    EndsWith (GoesBy k (P.RuleRight l) (pattern_of r.value)) (lambda (rewrites (pattern_of l.value) (pattern_of r.value) no_strategy)) (mark M.Backslash ∷ rest) rest
 rule_ends k l r rest = record {
   sound = λ way is x. record { left = _; goes = goes_rule_right; runs = (refl, x) };
   all = λ u is h x. rule_end_all k l r rest u is x.left x.goes x.runs;
@@ -75,11 +75,11 @@ rule_ends k l r rest = record {
 
 rule_condition_all : (k : ℕ) (l r : Box Pattern Global) (s : StrategyTree) (rest : List Lexeme) (u : PrimaryTree) (is left : List Item) →
     Goes k (B.RuleCondition l r) s u is left → Runs either left (mark M.Backslash ∷ rest) →
-    (u ≡ lambda (conditional_rule (pattern_of l.value) (pattern_of r.value) s)) × Runs either is rest
+    (u ≡ lambda (rewrites (pattern_of l.value) (pattern_of r.value) (one_strategy s))) × Runs either is rest
 rule_condition_all k l r s rest u is left goes_rule_condition x = (refl, x.1)
 
 pub rule_condition_ends : (k : ℕ) (l r : Box Pattern Global) (s : StrategyTree) (rest : List Lexeme) →
-    EndsWith (Goes k (B.RuleCondition l r) s) (lambda (conditional_rule (pattern_of l.value) (pattern_of r.value) s)) (mark M.Backslash ∷ rest) rest
+    EndsWith (Goes k (B.RuleCondition l r) s) (lambda (rewrites (pattern_of l.value) (pattern_of r.value) (one_strategy s))) (mark M.Backslash ∷ rest) rest
 rule_condition_ends k l r s rest = record {
   sound = λ way is x. record { left = _; goes = goes_rule_condition; runs = (refl, x) };
   all = λ u is h x. rule_condition_all k l r s rest u is x.left x.goes x.runs;

@@ -26,7 +26,7 @@ pub record Left {T : Type 0} (lead : List Item → List Item) (write : T → Lis
   pub are : us ≡ all ++ more
   pub runs : Runs either (many lead write more is) rest
 
--- the tokens begin with all these trees, which are of so many tokens at least, and with no others
+-- the tokens begin with all these trees, which are of at least this number of tokens, and with no others
 pub record Partly {T : Type 0} (begin : List T → List Item → List Item) (lead : List Item → List Item) (write : T → List Item → List Item) (these : Lexeme → Bool) (least : ℕ) (all : List T) (ts rest : List Lexeme) : Type 0 where
   pub splits : (more : List T) (is : List Item) → begin (all ++ more) is ≡ begin all (many lead write more is)
   pub sound : (way : Way) (is : List Item) → Runs way is rest → Runs way (begin all is) ts
@@ -114,7 +114,7 @@ left_missing : {T : Type 0} (lead : List Item → List Item) (write : T → List
 left_missing lead write these is rest n g h [] r = g is h r
 left_missing lead write these is rest n g h (u ∷ more) r = n.none u more is h r
 
--- what is behind the trees goes on with one, but holds none
+-- what is after the trees goes on with one, but holds none
 pub partly_missing : {T : Type 0} (begin : List T → List Item → List Item) (lead : List Item → List Item) (write : T → List Item → List Item) (these : Lexeme → Bool) (least : ℕ) (all : List T) (ts rest : List Lexeme) →
     Partly begin lead write these least all ts rest → NoMore lead write these rest → ((is : List Item) → NoneOf these is → Runs either is rest → ⊥) → Missing begin (NoneOf these) ts
 partly_missing begin lead write these least all ts rest w n g = record {
@@ -153,7 +153,7 @@ none_at t (u ∷ rest) is n r = n rest (ap (λ v. v ∷ rest) r.0)
 pub none_behind : {T : Type 0} (t : Lexeme) (write : T → List Item → List Item) (these : Lexeme → Bool) (rest : List Lexeme) → NotAt t rest → NoMore (behind t) write these rest
 none_behind t write these rest n = record { none = λ u us is h r. none_at t rest (write u (many (behind t) write us is)) n r }
 
--- behind the token is no tree
+-- after the token is no tree
 pub missing_behind : {T : Type 0} (begin : List T → List Item → List Item) (t : Lexeme) (write : T → List Item → List Item) (Stops : List Item → Type 0) (these : Lexeme → Bool) (least : ℕ) (all : List T) (ts rest ahead : List Lexeme) →
     Partly begin (behind t) write these least all ts rest → these t ≡ true → ((us : List T) (is : List Item) → NoneOf these is → Stops (many (behind t) write us is)) →
     rest ≡ t ∷ ahead → Missing write Stops ahead → Missing begin (NoneOf these) ts
@@ -169,7 +169,7 @@ nested_behind begin t write these least all ts rest ahead w e d =
     let w' : Partly begin (behind t) write these least all ts (t ∷ ahead) = rw e at w in
     partly_nested begin (behind t) write these least all d.tree ts (t ∷ ahead) w' (λ is. (refl, d.runs is))
 
--- ---- one tree right behind the other
+-- ---- one tree right after the other
 
 abbrev pub at_once : List Item → List Item
 at_once is = is

@@ -35,7 +35,7 @@ missing_step k ts l n = record { none = no_step k ts l n }
 pub nested_step : (k : ℕ) (ts : List Lexeme) → k ≤ 200 → Nested (step k) ts → Nested (inner_sequence k) ts
 nested_step k ts l n = record { tree = last n.tree; runs = λ is. passes too_deep strategy_part k (step k n.tree is) ts l (n.runs is) }
 
--- ---- no ; behind it
+-- ---- no ; after it
 
 only_last : (k : ℕ) (ts rest : List Lexeme) (a : StepTree) → k ≤ 200 → Found (step k) (AtMost 2) ts a rest → NotAt (mark M.Semicolon) rest →
     (u : SequenceTree) (is : List Item) → AtMost 1 is → Runs either (inner_sequence k u is) ts → (u ≡ last a) × Runs either is rest
@@ -54,7 +54,7 @@ found_last k ts rest a l f n = record {
   shorter = f.shorter;
 }
 
--- ---- ; behind it
+-- ---- ; after it
 
 -- a sequence that runs along the tokens has this step first, and goes on with the sequence on its right
 record ToOthers (k : ℕ) (behind : List Lexeme) (a : StepTree) (u : SequenceTree) (is : List Item) : Type 0 where

@@ -1,4 +1,4 @@
--- Trees one behind the other: what has been read of them, and what each way to go on makes of it.
+-- Trees one after the other: what has been read of them, and what each way to go on makes of it.
 use Rattle.std.proofs.Common.{◌≡◌, ◌≤◌, List, [], ◌∷◌, ◌++◌, length, refl, sym, ◌∙◌, ap, subst, arith, append_assoc}
 use Rattle.std.proofs.lemmas.List.{append-nil}
 use Rattle.str_parser.specs.Lexemes.{Lexeme}

@@ -12,7 +12,7 @@ use Rattle.str_parser.proofs.RunLaws.{none_at}
 
 -- ---- levels
 
--- what stands behind a mark of a part at level 200 or below
+-- what comes after a mark of a part at level 200 or below
 pub passes : (way : Way) (p : Part) (k : ℕ) (ts : List Lexeme) (Behind : Type 0) → k ≤ 200 → Behind → Passes way p k ts Behind
 passes whole p k ts Behind h b = (h, b)
 passes too_deep p k ts Behind h b = inr b
@@ -127,7 +127,7 @@ deep_inside k x inner d = record {
 pub nested_inside : (k : ℕ) (x : List ℕ) (ts ahead inner : List Lexeme) → ts ≡ name x ∷ ahead → ahead ≡ mark M.OpenParenthesis ∷ inner → Nested (some_sorts (k + 1)) inner → Nested (inner_sort k) ts
 nested_inside k x ts ahead inner e g d = rw e (rw g (deep_inside k x inner d))
 
--- no ) behind them
+-- no ) after them
 unclosed : (k : ℕ) (x : List ℕ) (inner rest : List Lexeme) (ss : SortTrees) → Inside k inner ss rest → NotAt (mark M.CloseParenthesis) rest →
     (u : SortTree) (is : List Item) → NoneOf sort_goes_on is → Runs either (sorted k u is) (name x ∷ mark M.OpenParenthesis ∷ inner) → ⊥
 unclosed k x inner rest ss f n (sort y) is h r = let e = h (mark M.OpenParenthesis) inner r.1 in cc

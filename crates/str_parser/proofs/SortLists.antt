@@ -176,7 +176,7 @@ factors_none ts m = trees_missing (some (behind (mark M.Star)) (inner_sort 1)) s
 pub factors_deep : (ts : List Lexeme) → Nested (inner_sort 1) ts → Nested some_factors ts
 factors_deep ts d = record { tree = more_sorts d.tree no_sorts; runs = λ is. d.runs is }
 
--- ---- sorts one behind the other
+-- ---- sorts one after the other
 
 sort_run_is : (ss : List SortTree) (is : List Item) → many at_once (inner_sort 1) ss is ≡ sort_run (sorts_in ss) is
 sort_run_is [] is = refl

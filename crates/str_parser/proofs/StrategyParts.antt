@@ -1,9 +1,9 @@
--- How a primary goes on behind a strategy in it: one law for each way.
+-- How a primary goes on after a strategy in it: one law for each way.
 use Rattle.std.proofs.Common.{◌≡◌, ℕ, ◌++◌, ◌∙◌, sym, ap, List, [], ◌∷◌, map, refl, arith, Box, Global}
 use Rattle.std.specs.declared.vec.Vec.{Vec}
 use Rattle.str_lexer.specs.declared.token.Keyword.TheVariants as K
 use Rattle.str_lexer.specs.declared.token.Mark.TheVariants as M
-use Rattle.str_syntax.specs.Trees.{Bytes, StrategyTree, no_strategies, more_strategies, PrimaryTree, parenthesized, tuple_congruence, list_congruence, list_congruence_with_tail, scope, operator, conditional, conditional_else, recursive, call_with, call_with_terms}
+use Rattle.str_syntax.specs.Trees.{Bytes, StrategyTree, no_strategies, more_strategies, PrimaryTree, parenthesized, tuple_congruence, list_congruence, scope, operator, conditional, recursive, call, no_strategy, one_strategy, strategy_arguments, all_arguments}
 use Rattle.str_syntax.specs.declared.strategy.Operator.{Operator}
 use Rattle.str_syntax.specs.declared.strategy.Strategy.{Strategy}
 use Rattle.str_syntax.specs.Views.{strategy_of, strategies_of}
@@ -108,12 +108,12 @@ listed_sound : (k : ℕ) (done parts : Vec Strategy Global) (s : Strategy) (rest
     Run (Goes k (B.Bracketed done) (strategy_of s)) way u is (mark M.Comma ∷ rest)
 listed_sound k done parts s rest pushed way u is left (at_strategy t (goes_bracketed ss e)) r = record {
   left = _;
-  goes = goes_bracketed (more_strategies t ss) (e ∙ ap list_congruence (strategies_pushed done parts s t ss pushed));
+  goes = goes_bracketed (more_strategies t ss) (e ∙ ap (λ xs. list_congruence xs no_strategy) (strategies_pushed done parts s t ss pushed));
   runs = (refl, r);
 }
 listed_sound k done parts s rest pushed way u is left (at_strategy t (goes_to_tail q ss e)) r = record {
   left = _;
-  goes = goes_to_tail q (more_strategies t ss) (e ∙ ap (λ xs. list_congruence_with_tail xs q) (strategies_pushed done parts s t ss pushed));
+  goes = goes_to_tail q (more_strategies t ss) (e ∙ ap (λ xs. list_congruence xs (one_strategy q)) (strategies_pushed done parts s t ss pushed));
   runs = (refl, r);
 }
 
@@ -123,13 +123,13 @@ listed_all : (k : ℕ) (done parts : Vec Strategy Global) (s : Strategy) (rest :
 listed_all k done parts s rest pushed u is left (goes_bracketed no_strategies e) r = let no : mark M.Comma ≡ mark M.CloseBracket = r.0 in cc
 listed_all k done parts s rest pushed u is left (goes_bracketed (more_strategies t ss) e) r = record {
   left = _;
-  goes = at_strategy t (goes_bracketed ss (e ∙ ap list_congruence (sym (strategies_pushed done parts s t ss pushed))));
+  goes = at_strategy t (goes_bracketed ss (e ∙ ap (λ xs. list_congruence xs no_strategy) (sym (strategies_pushed done parts s t ss pushed))));
   runs = r.1;
 }
 listed_all k done parts s rest pushed u is left (goes_to_tail q no_strategies e) r = let no : mark M.Comma ≡ mark M.Bar = r.0 in cc
 listed_all k done parts s rest pushed u is left (goes_to_tail q (more_strategies t ss) e) r = record {
   left = _;
-  goes = at_strategy t (goes_to_tail q ss (e ∙ ap (λ xs. list_congruence_with_tail xs q) (sym (strategies_pushed done parts s t ss pushed))));
+  goes = at_strategy t (goes_to_tail q ss (e ∙ ap (λ xs. list_congruence xs (one_strategy q)) (sym (strategies_pushed done parts s t ss pushed))));
   runs = r.1;
 }
 
@@ -146,7 +146,7 @@ to_tail_sound : (k : ℕ) (done parts : Vec Strategy Global) (s : Strategy) (res
     Run (Goes k (B.Bracketed done) (strategy_of s)) way u is (mark M.Bar ∷ rest)
 to_tail_sound k done parts s rest pushed way u is left (at_strategy t (goes_tail e)) r = record {
   left = _;
-  goes = goes_to_tail t no_strategies (e ∙ ap (λ xs. list_congruence_with_tail xs t) (sym (strategies_ended done parts s pushed)));
+  goes = goes_to_tail t no_strategies (e ∙ ap (λ xs. list_congruence xs (one_strategy t)) (sym (strategies_ended done parts s pushed)));
   runs = (refl, r);
 }
 
@@ -157,7 +157,7 @@ to_tail_all k done parts s rest pushed u is left (goes_bracketed no_strategies e
 to_tail_all k done parts s rest pushed u is left (goes_bracketed (more_strategies t ss) e) r = let no : mark M.Bar ≡ mark M.Comma = r.0 in cc
 to_tail_all k done parts s rest pushed u is left (goes_to_tail q no_strategies e) r = record {
   left = _;
-  goes = at_strategy q (goes_tail (e ∙ ap (λ xs. list_congruence_with_tail xs q) (strategies_ended done parts s pushed)));
+  goes = at_strategy q (goes_tail (e ∙ ap (λ xs. list_congruence xs (one_strategy q)) (strategies_ended done parts s pushed)));
   runs = r.1;
 }
 to_tail_all k done parts s rest pushed u is left (goes_to_tail q (more_strategies t ss) e) r = let no : mark M.Bar ≡ mark M.Comma = r.0 in cc
@@ -172,15 +172,15 @@ to_tail_leads k done parts s rest pushed = record {
 
 list_all : (k : ℕ) (done : Vec Strategy Global) (s : StrategyTree) (rest : List Lexeme) (u : PrimaryTree) (is left : List Item) →
     Goes k (B.Bracketed done) s u is left → Runs either left (mark M.CloseBracket ∷ rest) →
-    (u ≡ list_congruence (strategies_with done s no_strategies)) × Runs either is rest
+    (u ≡ list_congruence (strategies_with done s no_strategies) no_strategy) × Runs either is rest
 list_all k done s rest u is left (goes_bracketed no_strategies e) r = (e, r.1)
 list_all k done s rest u is left (goes_bracketed (more_strategies t ss) e) r = let no : mark M.CloseBracket ≡ mark M.Comma = r.0 in cc
 list_all k done s rest u is left (goes_to_tail q no_strategies e) r = let no : mark M.CloseBracket ≡ mark M.Bar = r.0 in cc
 list_all k done s rest u is left (goes_to_tail q (more_strategies t ss) e) r = let no : mark M.CloseBracket ≡ mark M.Comma = r.0 in cc
 
 pub list_ends : (k : ℕ) (done parts : Vec Strategy Global) (s : Strategy) (rest : List Lexeme) → parts.items ≡ done.items ++ (s ∷ []) →
-    EndsWith (Goes k (B.Bracketed done) (strategy_of s)) (list_congruence (strategies_of parts.items)) (mark M.CloseBracket ∷ rest) rest
-list_ends k done parts s rest pushed = let same = ap list_congruence (strategies_ended done parts s pushed) in record {
+    EndsWith (Goes k (B.Bracketed done) (strategy_of s)) (list_congruence (strategies_of parts.items) no_strategy) (mark M.CloseBracket ∷ rest) rest
+list_ends k done parts s rest pushed = let same = ap (λ xs. list_congruence xs no_strategy) (strategies_ended done parts s pushed) in record {
   sound = λ way is r. record { left = _; goes = goes_bracketed no_strategies (sym same); runs = (refl, r) };
   all = λ u is h r. let found = list_all k done (strategy_of s) rest u is r.left r.goes r.runs in (found.0 ∙ same, found.1);
   no_longer = omega arith;
@@ -188,11 +188,11 @@ list_ends k done parts s rest pushed = let same = ap list_congruence (strategies
 
 tail_all : (k : ℕ) (done : Vec Strategy Global) (s : StrategyTree) (rest : List Lexeme) (u : PrimaryTree) (is left : List Item) →
     Goes k (B.Tail done) s u is left → Runs either left (mark M.CloseBracket ∷ rest) →
-    (u ≡ list_congruence_with_tail (strategies_of done.items) s) × Runs either is rest
+    (u ≡ list_congruence (strategies_of done.items) (one_strategy s)) × Runs either is rest
 tail_all k done s rest u is left (goes_tail e) r = (e, r.1)
 
 pub tail_ends : (k : ℕ) (done : Vec Strategy Global) (s : StrategyTree) (rest : List Lexeme) →
-    EndsWith (Goes k (B.Tail done) s) (list_congruence_with_tail (strategies_of done.items) s) (mark M.CloseBracket ∷ rest) rest
+    EndsWith (Goes k (B.Tail done) s) (list_congruence (strategies_of done.items) (one_strategy s)) (mark M.CloseBracket ∷ rest) rest
 tail_ends k done s rest = record {
   sound = λ way is r. record { left = _; goes = goes_tail refl; runs = (refl, r) };
   all = λ u is h r. tail_all k done s rest u is r.left r.goes r.runs;
@@ -218,12 +218,12 @@ argument_sound : (k : ℕ) (f : Bytes) (done parts : Vec Strategy Global) (s : S
     Run (Goes k (B.Arguments f done) (strategy_of s)) way u is (mark M.Comma ∷ rest)
 argument_sound k f done parts s rest pushed way u is left (at_strategy t (goes_arguments ss e)) r = record {
   left = _;
-  goes = goes_arguments (more_strategies t ss) (e ∙ ap (call_with f) (strategies_pushed done parts s t ss pushed));
+  goes = goes_arguments (more_strategies t ss) (e ∙ ap (λ xs. call f (strategy_arguments xs)) (strategies_pushed done parts s t ss pushed));
   runs = (refl, r);
 }
 argument_sound k f done parts s rest pushed way u is left (at_strategy t (goes_to_terms ss ps e)) r = record {
   left = _;
-  goes = goes_to_terms (more_strategies t ss) ps (e ∙ ap (λ xs. call_with_terms f xs ps) (strategies_pushed done parts s t ss pushed));
+  goes = goes_to_terms (more_strategies t ss) ps (e ∙ ap (λ xs. call f (all_arguments xs ps)) (strategies_pushed done parts s t ss pushed));
   runs = (refl, r);
 }
 
@@ -233,13 +233,13 @@ argument_all : (k : ℕ) (f : Bytes) (done parts : Vec Strategy Global) (s : Str
 argument_all k f done parts s rest pushed u is left (goes_arguments no_strategies e) r = let no : mark M.Comma ≡ mark M.CloseParenthesis = r.0 in cc
 argument_all k f done parts s rest pushed u is left (goes_arguments (more_strategies t ss) e) r = record {
   left = _;
-  goes = at_strategy t (goes_arguments ss (e ∙ ap (call_with f) (sym (strategies_pushed done parts s t ss pushed))));
+  goes = at_strategy t (goes_arguments ss (e ∙ ap (λ xs. call f (strategy_arguments xs)) (sym (strategies_pushed done parts s t ss pushed))));
   runs = r.1;
 }
 argument_all k f done parts s rest pushed u is left (goes_to_terms no_strategies ps e) r = let no : mark M.Comma ≡ mark M.Bar = r.0 in cc
 argument_all k f done parts s rest pushed u is left (goes_to_terms (more_strategies t ss) ps e) r = record {
   left = _;
-  goes = at_strategy t (goes_to_terms ss ps (e ∙ ap (λ xs. call_with_terms f xs ps) (sym (strategies_pushed done parts s t ss pushed))));
+  goes = at_strategy t (goes_to_terms ss ps (e ∙ ap (λ xs. call f (all_arguments xs ps)) (sym (strategies_pushed done parts s t ss pushed))));
   runs = r.1;
 }
 
@@ -256,7 +256,7 @@ bar_sound : (k : ℕ) (f : Bytes) (done parts : Vec Strategy Global) (s : Strate
     Run (Goes k (B.Arguments f done) (strategy_of s)) way u is (mark M.Bar ∷ rest)
 bar_sound k f done parts s rest pushed way u is left (goes_behind_bar ps e) r = record {
   left = _;
-  goes = goes_to_terms no_strategies ps (e ∙ ap (λ xs. call_with_terms f xs ps) (sym (strategies_ended done parts s pushed)));
+  goes = goes_to_terms no_strategies ps (e ∙ ap (λ xs. call f (all_arguments xs ps)) (sym (strategies_ended done parts s pushed)));
   runs = (refl, r);
 }
 
@@ -267,7 +267,7 @@ bar_all k f done parts s rest pushed u is left (goes_arguments no_strategies e) 
 bar_all k f done parts s rest pushed u is left (goes_arguments (more_strategies t ss) e) r = let no : mark M.Bar ≡ mark M.Comma = r.0 in cc
 bar_all k f done parts s rest pushed u is left (goes_to_terms no_strategies ps e) r = record {
   left = _;
-  goes = goes_behind_bar ps (e ∙ ap (λ xs. call_with_terms f xs ps) (strategies_ended done parts s pushed));
+  goes = goes_behind_bar ps (e ∙ ap (λ xs. call f (all_arguments xs ps)) (strategies_ended done parts s pushed));
   runs = r.1;
 }
 bar_all k f done parts s rest pushed u is left (goes_to_terms (more_strategies t ss) ps e) r = let no : mark M.Bar ≡ mark M.Comma = r.0 in cc
@@ -282,15 +282,15 @@ bar_leads k f done parts s rest pushed = record {
 
 call_all : (k : ℕ) (f : Bytes) (done : Vec Strategy Global) (s : StrategyTree) (rest : List Lexeme) (u : PrimaryTree) (is left : List Item) →
     Goes k (B.Arguments f done) s u is left → Runs either left (mark M.CloseParenthesis ∷ rest) →
-    (u ≡ call_with f (strategies_with done s no_strategies)) × Runs either is rest
+    (u ≡ call f (strategy_arguments (strategies_with done s no_strategies))) × Runs either is rest
 call_all k f done s rest u is left (goes_arguments no_strategies e) r = (e, r.1)
 call_all k f done s rest u is left (goes_arguments (more_strategies t ss) e) r = let no : mark M.CloseParenthesis ≡ mark M.Comma = r.0 in cc
 call_all k f done s rest u is left (goes_to_terms no_strategies ps e) r = let no : mark M.CloseParenthesis ≡ mark M.Bar = r.0 in cc
 call_all k f done s rest u is left (goes_to_terms (more_strategies t ss) ps e) r = let no : mark M.CloseParenthesis ≡ mark M.Comma = r.0 in cc
 
 pub call_ends : (k : ℕ) (f : Bytes) (done parts : Vec Strategy Global) (s : Strategy) (rest : List Lexeme) → parts.items ≡ done.items ++ (s ∷ []) →
-    EndsWith (Goes k (B.Arguments f done) (strategy_of s)) (call_with f (strategies_of parts.items)) (mark M.CloseParenthesis ∷ rest) rest
-call_ends k f done parts s rest pushed = let same = ap (call_with f) (strategies_ended done parts s pushed) in record {
+    EndsWith (Goes k (B.Arguments f done) (strategy_of s)) (call f (strategy_arguments (strategies_of parts.items))) (mark M.CloseParenthesis ∷ rest) rest
+call_ends k f done parts s rest pushed = let same = ap (λ xs. call f (strategy_arguments xs)) (strategies_ended done parts s pushed) in record {
   sound = λ way is r. record { left = _; goes = goes_arguments no_strategies (sym same); runs = (refl, r) };
   all = λ u is h r. let found = call_all k f done (strategy_of s) rest u is r.left r.goes r.runs in (found.0 ∙ same, found.1);
   no_longer = omega arith;
@@ -378,12 +378,12 @@ otherwise_leads k c t rest = record {
 }
 
 consequence_all : (k : ℕ) (c : Box Strategy Global) (s : StrategyTree) (rest : List Lexeme) (u : PrimaryTree) (is left : List Item) →
-    Goes k (B.Consequence c) s u is left → Runs either left (keyword K.End ∷ rest) → (u ≡ conditional (strategy_of c.value) s) × Runs either is rest
+    Goes k (B.Consequence c) s u is left → Runs either left (keyword K.End ∷ rest) → (u ≡ conditional (strategy_of c.value) s no_strategy) × Runs either is rest
 consequence_all k c s rest u is left goes_consequence r = (refl, r.1)
 consequence_all k c s rest u is left goes_consequence_else r = let no : keyword K.End ≡ keyword K.Else = r.0 in cc
 
 pub consequence_ends : (k : ℕ) (c : Box Strategy Global) (s : StrategyTree) (rest : List Lexeme) →
-    EndsWith (Goes k (B.Consequence c) s) (conditional (strategy_of c.value) s) (keyword K.End ∷ rest) rest
+    EndsWith (Goes k (B.Consequence c) s) (conditional (strategy_of c.value) s no_strategy) (keyword K.End ∷ rest) rest
 consequence_ends k c s rest = record {
   sound = λ way is r. record { left = _; goes = goes_consequence; runs = (refl, r) };
   all = λ u is h r. consequence_all k c s rest u is r.left r.goes r.runs;
@@ -392,11 +392,11 @@ consequence_ends k c s rest = record {
 
 alternative_all : (k : ℕ) (c t : Box Strategy Global) (s : StrategyTree) (rest : List Lexeme) (u : PrimaryTree) (is left : List Item) →
     Goes k (B.Alternative c t) s u is left → Runs either left (keyword K.End ∷ rest) →
-    (u ≡ conditional_else (strategy_of c.value) (strategy_of t.value) s) × Runs either is rest
+    (u ≡ conditional (strategy_of c.value) (strategy_of t.value) (one_strategy s)) × Runs either is rest
 alternative_all k c t s rest u is left goes_alternative r = (refl, r.1)
 
 pub alternative_ends : (k : ℕ) (c t : Box Strategy Global) (s : StrategyTree) (rest : List Lexeme) →
-    EndsWith (Goes k (B.Alternative c t) s) (conditional_else (strategy_of c.value) (strategy_of t.value) s) (keyword K.End ∷ rest) rest
+    EndsWith (Goes k (B.Alternative c t) s) (conditional (strategy_of c.value) (strategy_of t.value) (one_strategy s)) (keyword K.End ∷ rest) rest
 alternative_ends k c t s rest = record {
   sound = λ way is r. record { left = _; goes = goes_alternative; runs = (refl, r) };
   all = λ u is h r. alternative_all k c t s rest u is r.left r.goes r.runs;

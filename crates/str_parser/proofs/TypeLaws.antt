@@ -1,4 +1,4 @@
--- Reading what stands behind the colon of a declaration: one law for each way that it can go.
+-- Reading what comes after the colon of a declaration: one law for each way that it can go.
 use Rattle.std.proofs.Common.{◌≡◌, false, List, [], ◌∷◌, length, refl, sym, ◌∙◌, ap, arith}
 use Rattle.str_lexer.specs.declared.token.Mark.TheVariants as M
 use Rattle.str_syntax.specs.declared.sort.Sort.{Sort}
@@ -60,7 +60,7 @@ mapping_at ts ahead rest ss s f g = record {
 pub found_mapping : (ts middle ahead rest : List Lexeme) (ss : SortTrees) (s : SortTree) → Factors ts ss middle → middle ≡ mark M.Arrow ∷ ahead → OneSort ahead s rest → Found typed (NoneOf declaration_goes_on) ts (mapping ss s) rest
 found_mapping ts middle ahead rest ss s f e g = mapping_at ts ahead rest ss s (rw e at f) g
 
--- no sort behind the arrow
+-- no sort after the arrow
 none_made : (ts ahead : List Lexeme) (ss : SortTrees) → Factors ts ss (mark M.Arrow ∷ ahead) → Missing (inner_sort 1) (NoneOf sort_goes_on) ahead →
     (u : TypeTree) (is : List Item) → NoneOf declaration_goes_on is → Runs either (typed u is) ts → ⊥
 none_made ts ahead ss f m (plain v) is h r =
@@ -111,7 +111,7 @@ plain_at ts rest s f n = record {
 pub found_plain : (ts rest : List Lexeme) (ss : SortTrees) (s : SortTree) → Factors ts ss rest → NotAt (mark M.Arrow) rest → ss ≡ more_sorts s no_sorts → Found typed (NoneOf declaration_goes_on) ts (plain s) rest
 found_plain ts rest ss s f n e = plain_at ts rest s (rw e at f) n
 
--- more than one, with no arrow behind them
+-- more than one, with no arrow after them
 none_ended : (ts rest : List Lexeme) (ss : SortTrees) → Factors ts ss rest → NotAt (mark M.Arrow) rest → ((s : SortTree) → ss ≡ more_sorts s no_sorts → ⊥) →
     (u : TypeTree) (is : List Item) → NoneOf declaration_goes_on is → Runs either (typed u is) ts → ⊥
 none_ended ts rest ss f n k (plain v) is h r =

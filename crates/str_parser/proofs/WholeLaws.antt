@@ -12,7 +12,7 @@ use Rattle.str_parser.specs.Begun.{Continues, at_end, IsNext, IsWhole}
 use Rattle.str_parser.specs.declared.begun.Begun.{Begun}
 use Rattle.str_parser.specs.declared.begun.Begun.TheVariants as states
 
--- Where these tokens run along a rest, it is the end of this tree, and the others are behind it; and the other way round.
+-- Where these tokens run along a rest, it is the end of this tree, and the others are after it; and the other way round.
 pub record EndsWith {T : Type 0} (Rest : T → List Item → List Item → Type 0) (t : T) (ts rest : List Lexeme) : Type 0 where
   pub sound : (way : Way) (is : List Item) → Runs way is rest → Run Rest way t is ts
   pub all : (u : T) (is : List Item) → strength is ≤ 3 → Run Rest either u is ts → (u ≡ t) × Runs either is rest

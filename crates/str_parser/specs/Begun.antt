@@ -12,7 +12,7 @@ use Rattle.str_syntax.specs.declared.strategy.Pattern.{Pattern}
 use Rattle.str_syntax.specs.declared.strategy.Primary.{Primary}
 use Rattle.str_syntax.specs.declared.strategy.Strategy.{Strategy}
 use Rattle.str_syntax.specs.declared.strategy.StrategyDefinition.{StrategyDefinition}
-use Rattle.str_syntax.specs.Trees.{Bytes, PatternTree, alias, application, grouped, tuple, list, list_with_tail, applied, applied_to, PatternTrees, no_patterns, more_patterns, StrategyTree, StrategyTrees, no_strategies, more_strategies, SequenceTree, PrimaryTree, match, build, apply, parenthesized, scope, operator, conditional, conditional_else, recursive, let_in, primitive, lambda, call_with, call_with_terms, tuple_congruence, list_congruence, list_congruence_with_tail, plain_rule, conditional_rule, DefinitionTree, definition, DefinitionTrees, no_definitions, more_definitions}
+use Rattle.str_syntax.specs.Trees.{Bytes, PatternTree, alias, application, grouped, tuple, list, applied, applied_to, PatternTrees, no_patterns, more_patterns, StrategyTree, StrategyTrees, no_strategies, more_strategies, SequenceTree, PrimaryTree, match, build, apply, parenthesized, scope, operator, conditional, recursive, let_in, primitive, lambda, call, tuple_congruence, list_congruence, rewrites, DefinitionTree, definition, DefinitionTrees, no_definitions, more_definitions, no_strategy, one_strategy, no_pattern, one_pattern, strategy_arguments, all_arguments, head}
 use Rattle.str_syntax.specs.Views.{pattern_of, strategy_of, primary_of, definition_of, parameters_of, strategies_of, patterns_of}
 use Rattle.str_parser.specs.Lexemes.{Lexeme, strategy_part}
 use Rattle.str_parser.specs.Items.{Item, part, no_build}
@@ -78,7 +78,7 @@ patterns_in_parentheses ps = tuple ps
 pub data Written (k : ℕ) : PrimaryTree → List Item → List Item → Type 0 where
   written : {u : PrimaryTree} {is : List Item} → Written k u is (primary k u is)
 
--- How a primary at level k, read up to a strategy, goes on behind that strategy: which primary it is, the items behind it, and all
+-- How a primary at level k, read up to a strategy, goes on after that strategy: which primary it is, the items after it, and all
 -- items from there on.
 pub data Goes (k : ℕ) : BeforeStrategy → StrategyTree → PrimaryTree → List Item → List Item → Type 0 where
   goes_apply : {s : StrategyTree} {p : PatternTree} {is : List Item} →
@@ -86,16 +86,16 @@ pub data Goes (k : ℕ) : BeforeStrategy → StrategyTree → PrimaryTree → Li
   goes_parenthesized : {done : Vec Strategy Global} {s : StrategyTree} (ss : StrategyTrees) {u : PrimaryTree} {is : List Item} →
       u ≡ in_parentheses (strategies_with done s ss) → Goes k (B.Parenthesized done) s u is (other_strategies (k + 1) ss (sign M.CloseParenthesis ∷ is))
   goes_bracketed : {done : Vec Strategy Global} {s : StrategyTree} (ss : StrategyTrees) {u : PrimaryTree} {is : List Item} →
-      u ≡ list_congruence (strategies_with done s ss) → Goes k (B.Bracketed done) s u is (other_strategies (k + 1) ss (sign M.CloseBracket ∷ is))
+      u ≡ list_congruence (strategies_with done s ss) no_strategy → Goes k (B.Bracketed done) s u is (other_strategies (k + 1) ss (sign M.CloseBracket ∷ is))
   goes_to_tail : {done : Vec Strategy Global} {s : StrategyTree} (t : StrategyTree) (ss : StrategyTrees) {u : PrimaryTree} {is : List Item} →
-      u ≡ list_congruence_with_tail (strategies_with done s ss) t →
+      u ≡ list_congruence (strategies_with done s ss) (one_strategy t) →
       Goes k (B.Bracketed done) s u is (other_strategies (k + 1) ss (sign M.Bar ∷ inner_strategy (k + 1) t (sign M.CloseBracket ∷ is)))
   goes_tail : {done : Vec Strategy Global} {s : StrategyTree} {u : PrimaryTree} {is : List Item} →
-      u ≡ list_congruence_with_tail (strategies_of done.items) s → Goes k (B.Tail done) s u is (sign M.CloseBracket ∷ is)
+      u ≡ list_congruence (strategies_of done.items) (one_strategy s) → Goes k (B.Tail done) s u is (sign M.CloseBracket ∷ is)
   goes_arguments : {f : Bytes} {done : Vec Strategy Global} {s : StrategyTree} (ss : StrategyTrees) {u : PrimaryTree} {is : List Item} →
-      u ≡ call_with f (strategies_with done s ss) → Goes k (B.Arguments f done) s u is (other_strategies (k + 1) ss (sign M.CloseParenthesis ∷ is))
+      u ≡ call f (strategy_arguments (strategies_with done s ss)) → Goes k (B.Arguments f done) s u is (other_strategies (k + 1) ss (sign M.CloseParenthesis ∷ is))
   goes_to_terms : {f : Bytes} {done : Vec Strategy Global} {s : StrategyTree} (ss : StrategyTrees) (ps : PatternTrees) {u : PrimaryTree} {is : List Item} →
-      u ≡ call_with_terms f (strategies_with done s ss) ps →
+      u ≡ call f (all_arguments (strategies_with done s ss) ps) →
       Goes k (B.Arguments f done) s u is (other_strategies (k + 1) ss (sign M.Bar ∷ patterns false (k + 1) ps (sign M.CloseParenthesis ∷ is)))
   goes_scope : {xs : Vec Bytes Global} {s : StrategyTree} {is : List Item} →
       Goes k (B.Scope xs) s (scope xs.items s) is (sign M.CloseBrace ∷ is)
@@ -104,22 +104,22 @@ pub data Goes (k : ℕ) : BeforeStrategy → StrategyTree → PrimaryTree → Li
   goes_recursive : {x : Bytes} {s : StrategyTree} {is : List Item} →
       Goes k (B.Recursive x) s (recursive x s) is (sign M.CloseParenthesis ∷ is)
   goes_condition : {s t : StrategyTree} {is : List Item} →
-      Goes k B.Condition s (conditional s t) is (word K.Then ∷ inner_strategy (k + 1) t (word K.End ∷ is))
+      Goes k B.Condition s (conditional s t no_strategy) is (word K.Then ∷ inner_strategy (k + 1) t (word K.End ∷ is))
   goes_condition_else : {s t r : StrategyTree} {is : List Item} →
-      Goes k B.Condition s (conditional_else s t r) is (word K.Then ∷ inner_strategy (k + 1) t (word K.Else ∷ inner_strategy (k + 1) r (word K.End ∷ is)))
+      Goes k B.Condition s (conditional s t (one_strategy r)) is (word K.Then ∷ inner_strategy (k + 1) t (word K.Else ∷ inner_strategy (k + 1) r (word K.End ∷ is)))
   goes_consequence : {c : Box Strategy Global} {s : StrategyTree} {is : List Item} →
-      Goes k (B.Consequence c) s (conditional (strategy_of c.value) s) is (word K.End ∷ is)
+      Goes k (B.Consequence c) s (conditional (strategy_of c.value) s no_strategy) is (word K.End ∷ is)
   goes_consequence_else : {c : Box Strategy Global} {s t : StrategyTree} {is : List Item} →
-      Goes k (B.Consequence c) s (conditional_else (strategy_of c.value) s t) is (word K.Else ∷ inner_strategy (k + 1) t (word K.End ∷ is))
+      Goes k (B.Consequence c) s (conditional (strategy_of c.value) s (one_strategy t)) is (word K.Else ∷ inner_strategy (k + 1) t (word K.End ∷ is))
   goes_alternative : {c t : Box Strategy Global} {s : StrategyTree} {is : List Item} →
-      Goes k (B.Alternative c t) s (conditional_else (strategy_of c.value) (strategy_of t.value) s) is (word K.End ∷ is)
+      Goes k (B.Alternative c t) s (conditional (strategy_of c.value) (strategy_of t.value) (one_strategy s)) is (word K.End ∷ is)
   goes_definition : {done : Vec StrategyDefinition Global} {f : Bytes} {ps : Parameters} {s : StrategyTree} (t : StrategyTree) (ds : DefinitionTrees) {u : PrimaryTree} {is : List Item} →
-      u ≡ let_in (definitions_with done (definition f (parameters_of ps) s) ds) t →
+      u ≡ let_in (definitions_with done (definition (head f (parameters_of ps)) s) ds) t →
       Goes k (B.Definition done f ps) s u is (definitions (k + 1) ds (word K.In ∷ inner_strategy (k + 1) t (word K.End ∷ is)))
   goes_let_body : {done : Vec StrategyDefinition Global} {s : StrategyTree} {u : PrimaryTree} {is : List Item} →
       u ≡ let_in (definitions_then (map definition_of done.items) no_definitions) s → Goes k (B.LetBody done) s u is (word K.End ∷ is)
   goes_rule_condition : {l r : Box Pattern Global} {s : StrategyTree} {is : List Item} →
-      Goes k (B.RuleCondition l r) s (lambda (conditional_rule (pattern_of l.value) (pattern_of r.value) s)) is (sign M.Backslash ∷ is)
+      Goes k (B.RuleCondition l r) s (lambda (rewrites (pattern_of l.value) (pattern_of r.value) (one_strategy s))) is (sign M.Backslash ∷ is)
 
 -- the same of a primary that has been read up to a pattern
 pub data GoesBy (k : ℕ) : BeforePattern → PatternTree → PrimaryTree → List Item → List Item → Type 0 where
@@ -127,29 +127,29 @@ pub data GoesBy (k : ℕ) : BeforePattern → PatternTree → PrimaryTree → Li
   goes_build : {p : PatternTree} {is : List Item} → GoesBy k P.Build p (build p) is is
   goes_apply_to : {s : Box Strategy Global} {p : PatternTree} {is : List Item} → GoesBy k (P.ApplyTo s) p (apply (strategy_of s.value) p) is is
   goes_terms : {f : Bytes} {ss : Vec Strategy Global} {done : Vec Pattern Global} {p : PatternTree} (ps : PatternTrees) {u : PrimaryTree} {is : List Item} →
-      u ≡ call_with_terms f (strategies_of ss.items) (patterns_with done p ps) →
+      u ≡ call f (all_arguments (strategies_of ss.items) (patterns_with done p ps)) →
       GoesBy k (P.Terms f ss done) p u is (other_patterns false (k + 1) ps (sign M.CloseParenthesis ∷ is))
   goes_primitive : {f : Bytes} {done : Vec Pattern Global} {p : PatternTree} (ps : PatternTrees) {u : PrimaryTree} {is : List Item} →
       u ≡ primitive f (patterns_with done p ps) → GoesBy k (P.Primitive f done) p u is (other_patterns false (k + 1) ps (sign M.CloseParenthesis ∷ is))
   goes_rule_left : {l r : PatternTree} {is : List Item} →
-      GoesBy k P.RuleLeft l (lambda (plain_rule l r)) is (sign M.Arrow ∷ inner_pattern false (k + 1) r (sign M.Backslash ∷ is))
+      GoesBy k P.RuleLeft l (lambda (rewrites l r no_strategy)) is (sign M.Arrow ∷ inner_pattern false (k + 1) r (sign M.Backslash ∷ is))
   goes_rule_left_where : {l r : PatternTree} {s : StrategyTree} {is : List Item} →
-      GoesBy k P.RuleLeft l (lambda (conditional_rule l r s)) is (sign M.Arrow ∷ inner_pattern false (k + 1) r (word K.Where ∷ inner_strategy (k + 1) s (sign M.Backslash ∷ is)))
+      GoesBy k P.RuleLeft l (lambda (rewrites l r (one_strategy s))) is (sign M.Arrow ∷ inner_pattern false (k + 1) r (word K.Where ∷ inner_strategy (k + 1) s (sign M.Backslash ∷ is)))
   goes_rule_right : {l : Box Pattern Global} {r : PatternTree} {is : List Item} →
-      GoesBy k (P.RuleRight l) r (lambda (plain_rule (pattern_of l.value) r)) is (sign M.Backslash ∷ is)
+      GoesBy k (P.RuleRight l) r (lambda (rewrites (pattern_of l.value) r no_strategy)) is (sign M.Backslash ∷ is)
   goes_rule_right_where : {l : Box Pattern Global} {r : PatternTree} {s : StrategyTree} {is : List Item} →
-      GoesBy k (P.RuleRight l) r (lambda (conditional_rule (pattern_of l.value) r s)) is (word K.Where ∷ inner_strategy (k + 1) s (sign M.Backslash ∷ is))
+      GoesBy k (P.RuleRight l) r (lambda (rewrites (pattern_of l.value) r (one_strategy s))) is (word K.Where ∷ inner_strategy (k + 1) s (sign M.Backslash ∷ is))
 
--- how a let goes on behind these definitions, where another comes next
+-- how a let goes on after these definitions, where another comes next
 pub data GoesToDefinition (done : Vec StrategyDefinition Global) (k : ℕ) : PrimaryTree → List Item → List Item → Type 0 where
   goes_to_definition : (d : DefinitionTree) (ds : DefinitionTrees) (t : StrategyTree) {u : PrimaryTree} {is : List Item} →
       u ≡ let_in (definitions_with done d ds) t →
       GoesToDefinition done k u is (defined (k + 1) d (definitions (k + 1) ds (word K.In ∷ inner_strategy (k + 1) t (word K.End ∷ is))))
 
--- how a call goes on behind its strategies and |
+-- how a call goes on after its strategies and |
 pub data GoesBehindBar (f : Bytes) (ss : Vec Strategy Global) (k : ℕ) : PrimaryTree → List Item → List Item → Type 0 where
   goes_behind_bar : (ps : PatternTrees) {u : PrimaryTree} {is : List Item} →
-      u ≡ call_with_terms f (strategies_of ss.items) ps → GoesBehindBar f ss k u is (patterns false (k + 1) ps (sign M.CloseParenthesis ∷ is))
+      u ≡ call f (all_arguments (strategies_of ss.items) ps) → GoesBehindBar f ss k u is (patterns false (k + 1) ps (sign M.CloseParenthesis ∷ is))
 
 -- whether the pattern that comes next is in a match
 abbrev pub wants_match : BeforePattern → Bool
@@ -165,7 +165,7 @@ pub data Continues (k : ℕ) : Begun → PrimaryTree → List Item → List Item
   at_pattern : {before : BeforePattern} {rest : List Lexeme} (p : PatternTree) {u : PrimaryTree} {is left : List Item} →
       GoesBy k before p u is left → Continues k (states.ToPattern before rest) u is (inner_pattern (wants_match before) (k + 1) p left)
 
--- the tokens behind what has been read
+-- the tokens after what has been read
 abbrev pub behind : Begun → List Lexeme
 behind (states.Whole _ rest) = rest
 behind (states.ToStrategy _ rest) = rest
@@ -191,7 +191,7 @@ HasPattern before p k = GoesBy k before p
 pub data WrittenPattern (in_match : Bool) (k : ℕ) : PatternTree → List Item → List Item → Type 0 where
   written_pattern : {u : PatternTree} {is : List Item} → WrittenPattern in_match k u is (pattern in_match k u is)
 
--- how a pattern, read up to a pattern in it, goes on behind that
+-- how a pattern, read up to a pattern in it, goes on after that
 pub data GoesIn (in_match : Bool) (k : ℕ) : BeforeInner → PatternTree → PatternTree → List Item → List Item → Type 0 where
   goes_alias : {x : Bytes} {p : PatternTree} {is : List Item} → GoesIn in_match k (I.Alias x) p (alias x p) is is
   goes_application : {c : Bytes} {done : Vec Pattern Global} {p : PatternTree} (ps : PatternTrees) {u : PatternTree} {is : List Item} →
@@ -199,16 +199,16 @@ pub data GoesIn (in_match : Bool) (k : ℕ) : BeforeInner → PatternTree → Pa
   goes_grouped : {done : Vec Pattern Global} {p : PatternTree} (ps : PatternTrees) {u : PatternTree} {is : List Item} →
       u ≡ patterns_in_parentheses (patterns_with done p ps) → GoesIn in_match k (I.Parenthesized done) p u is (other_patterns in_match (k + 1) ps (sign M.CloseParenthesis ∷ is))
   goes_list : {done : Vec Pattern Global} {p : PatternTree} (ps : PatternTrees) {u : PatternTree} {is : List Item} →
-      u ≡ list (patterns_with done p ps) → GoesIn in_match k (I.Bracketed done) p u is (other_patterns in_match (k + 1) ps (sign M.CloseBracket ∷ is))
+      u ≡ list (patterns_with done p ps) no_pattern → GoesIn in_match k (I.Bracketed done) p u is (other_patterns in_match (k + 1) ps (sign M.CloseBracket ∷ is))
   goes_list_to_tail : {done : Vec Pattern Global} {p : PatternTree} (q : PatternTree) (ps : PatternTrees) {u : PatternTree} {is : List Item} →
-      u ≡ list_with_tail (patterns_with done p ps) q →
+      u ≡ list (patterns_with done p ps) (one_pattern q) →
       GoesIn in_match k (I.Bracketed done) p u is (other_patterns in_match (k + 1) ps (sign M.Bar ∷ inner_pattern in_match (k + 1) q (sign M.CloseBracket ∷ is)))
   goes_list_tail : {done : Vec Pattern Global} {p : PatternTree} {u : PatternTree} {is : List Item} →
-      u ≡ list_with_tail (patterns_of done.items) p → GoesIn in_match k (I.Tail done) p u is (sign M.CloseBracket ∷ is)
+      u ≡ list (patterns_of done.items) (one_pattern p) → GoesIn in_match k (I.Tail done) p u is (sign M.CloseBracket ∷ is)
   goes_applied_to : {s : Box Strategy Global} {p : PatternTree} {is : List Item} →
       GoesIn in_match k (I.AppliedTo s) p (applied_to (strategy_of s.value) p) is is
 
--- how a build goes on behind < and this strategy
+-- how a build goes on after < and this strategy
 pub data GoesApplied (s : StrategyTree) (in_match : Bool) (k : ℕ) : PatternTree → List Item → List Item → Type 0 where
   goes_applied : {is : List Item} → GoesApplied s in_match k (applied s) is (sign M.Greater ∷ no_build ∷ is)
   goes_applied_then : {p : PatternTree} {is : List Item} →

@@ -1,5 +1,5 @@
 -- How a phrase is written, item by item, and how tokens run along it.
-use Rattle.std.specs.Prelude.{◌≡◌, ◌⊎◌, ℕ, ◌≤◌, Bool, true, false, List, [], ◌∷◌}
+use Rattle.std.specs.Prelude.{◌≡◌, ◌⊎◌, ℕ, ◌+◌, ◌≤◌, Bool, true, false, List, [], ◌∷◌}
 use Rattle.str_parser.specs.Lexemes.{Lexeme, Part, build_part, first_begins}
 
 -- A token; a mark that a part of this kind comes next, at this level; that no token comes next with which a build begins;
@@ -10,8 +10,12 @@ pub data Item : Type 0 where
   no_build : Item
   only : Bool → Item
 
--- How tokens run along items: to the end of both, with all parts at level 200 or below; up to a part at level 201 which the next
--- token can begin; or in one of these ways, where no level bounds what is passed on the way.
+-- the greatest level of a part
+abbrev pub max_level : ℕ
+max_level = 200
+
+-- How tokens run along items: to the end of both, with no part beyond the greatest level; up to a part one level beyond it which the
+-- next token can begin; or in one of these ways, where no level bounds what is passed on the way.
 pub data Way : Type 0 where
   whole : Way
   too_deep : Way
@@ -22,13 +26,13 @@ Ends whole ts = ts ≡ []
 Ends too_deep ts = ⊥
 Ends either ts = ts ≡ []
 
--- the part stands at level 201, and the first of the tokens can begin it
+-- the part stands one level beyond the greatest, and the first of the tokens can begin it
 abbrev pub IsBeyond : Part → ℕ → List Lexeme → Type 0
-IsBeyond p level ts = (level ≡ 201) × (first_begins p ts ≡ true)
+IsBeyond p level ts = (level ≡ max_level + 1) × (first_begins p ts ≡ true)
 
--- what is asked where a part comes next, and this of what stands behind the mark
+-- what is asked where a part comes next, and this of what comes after the mark
 abbrev pub Passes : Way → Part → ℕ → List Lexeme → Type 0 → Type 0
-Passes whole p level ts Behind = (level ≤ 200) × Behind
+Passes whole p level ts Behind = (level ≤ max_level) × Behind
 Passes too_deep p level ts Behind = IsBeyond p level ts ⊎ Behind
 Passes either p level ts Behind = IsBeyond p level ts ⊎ Behind
 

@@ -1,4 +1,4 @@
--- What reading the parts of files, and whole files, answers.
+-- What reading the parts of files, and whole files, returns.
 use Rattle.std.specs.Prelude.{◌≡◌, Bool, true, false, map, if◌then◌else◌, List, [], ◌∷◌, Result, Ok, Err}
 use Rattle.std.specs.declared.vec.Vec.{Vec}
 use Rattle.std.specs.declared.alloc.Global.{Global}
@@ -6,19 +6,18 @@ use Rattle.term_model.specs.declared.fault.Fault.{Fault}
 use Rattle.term_model.specs.declared.fault.Fault.TheVariants as faults
 use Rattle.str_lexer.specs.declared.token.Keyword.{Keyword}
 use Rattle.str_lexer.specs.declared.token.Keyword.TheVariants as K
-use Rattle.str_syntax.specs.declared.strategy.Parameters.{Parameters}
 use Rattle.str_syntax.specs.declared.definition.Definition.{Definition}
 use Rattle.str_syntax.specs.declared.definition.Section.{Section}
 use Rattle.str_syntax.specs.declared.definition.File.{File}
-use Rattle.str_syntax.specs.Trees.{Bytes, ParameterTree, TopTree, SectionTree, FileTree}
-use Rattle.str_syntax.specs.Views.{parameters_of, top_of, section_of, file_of}
+use Rattle.str_syntax.specs.Trees.{TopTree, SectionTree, FileTree}
+use Rattle.str_syntax.specs.Views.{top_of, section_of, file_of}
 use Rattle.str_parser.specs.Lexemes.{Lexeme, name, keyword}
 use Rattle.str_parser.specs.Items.{Item, only}
-use Rattle.str_parser.specs.Phrases.{named, parameters, form, from_file, IsPhrase, OnlyPhrase, TooNested}
+use Rattle.str_parser.specs.Phrases.{form, from_file, IsPhrase, OnlyPhrase, TooNested}
 use Rattle.str_parser.specs.Readings.{AtMost, IsFault}
 use Rattle.str_parser.specs.Runs.{NoneOf, FoundAny}
 
--- ---- what stands behind a phrase
+-- ---- what comes after a phrase
 
 abbrev pub is_where : Lexeme → Bool
 is_where (keyword K.Where) = true
@@ -44,15 +43,15 @@ abbrev pub is_inside : Lexeme → Bool
 is_inside (keyword k) = if keyword_begins_section k then false else true
 is_inside _ = true
 
--- behind a rule no operator and no where comes
+-- after a rule no operator and no where comes
 abbrev pub EndsRule : List Item → Type 0
 EndsRule is = AtMost 0 is × NoneOf is_where is
 
--- behind the rules and definitions of a section no name comes either
+-- after the rules and definitions of a section no name comes either
 abbrev pub EndsForms : List Item → Type 0
 EndsForms is = EndsRule is × NoneOf is_name is
 
--- behind a section comes another one or the end
+-- after a section comes another one or the end
 abbrev pub EndsSection : List Item → Type 0
 EndsSection is = AtMost 0 is × NoneOf is_inside is
 
@@ -68,13 +67,6 @@ IsReadingAll write tree_of ts (Err e) = IsFault write AtEnd ts e
 
 -- ---- the parts of files
 
--- a name and parameters
-abbrev pub headed : Bytes × ParameterTree → List Item → List Item
-headed (x, ps) is = named x ∷ parameters ps is
-
-abbrev pub head_of : Bytes × Parameters → Bytes × ParameterTree
-head_of (x, ps) = (x, parameters_of ps)
-
 -- a rule or a definition of a section, which is the file's
 abbrev pub one_top : TopTree → List Item → List Item
 one_top d is = only (from_file d.origin) ∷ form d.form is
@@ -87,7 +79,7 @@ sections_of parts = map section_of parts.items
 
 -- ---- files
 
--- What reading a file answers: the file; Syntax where the tokens are no phrase, and none up to a part at level 201; Nesting where
+-- What reading a file returns: the file; Syntax where the tokens are no phrase, and none up to a part at level 201; Nesting where
 -- they are one up to such a part.
 abbrev pub IsParsing : List Lexeme → Result File Fault → Type 0
 IsParsing ts (Ok f) = OnlyPhrase ts (file_of f) × (TooNested ts → ⊥)

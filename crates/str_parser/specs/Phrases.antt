@@ -8,10 +8,10 @@ use Rattle.str_syntax.specs.declared.strategy.Operator.{Operator}
 use Rattle.str_syntax.specs.declared.strategy.Operator.TheVariants as O
 use Rattle.str_syntax.specs.declared.definition.Origin.{Origin}
 use Rattle.str_syntax.specs.declared.definition.Origin.TheVariants as origins
-use Rattle.str_syntax.specs.Trees.{Bytes, ParameterTree, absent, strategies_only, with_terms, PatternTree, variable, wildcard, alias, integer, quoted, application, grouped, tuple, list, list_with_tail, applied, applied_to, PatternTrees, no_patterns, more_patterns, StrategyTree, plain_sequence, left_choice, guarded_choice, StrategyTrees, no_strategies, more_strategies, SequenceTree, last, then, StepTree, plain_step, matching, PrimaryTree, identity, failure, match, build, apply, parenthesized, scope, operator, conditional, conditional_else, recursive, let_in, primitive, lambda, call, call_with, call_with_terms, tuple_congruence, list_congruence, list_congruence_with_tail, RuleTree, plain_rule, conditional_rule, DefinitionTree, definition, DefinitionTrees, no_definitions, more_definitions, SortTree, sort, sort_of, SortTrees, no_sorts, more_sorts, DeclarationTree, constant, constructor, injection, SignatureTree, sorts, constructors, FormTree, rule_form, strategy_form, TopTree, SectionTree, signature, rules, strategies, FileTree}
-use Rattle.str_parser.specs.Lexemes.{Lexeme, Part, strategy_part, match_part, build_part, sort_part}
+use Rattle.str_syntax.specs.Trees.{Bytes, ParameterTree, absent, strategies_only, with_terms, HeadTree, PatternTree, variable, wildcard, alias, integer, quoted, application, grouped, tuple, list, applied, applied_to, PatternTrees, no_patterns, more_patterns, StrategyTree, plain_sequence, left_choice, guarded_choice, StrategyTrees, no_strategies, more_strategies, OptionalStrategy, SequenceTree, last, then, StepTree, plain_step, matching, PrimaryTree, identity, failure, match, build, apply, parenthesized, scope, operator, conditional, recursive, let_in, primitive, lambda, call, tuple_congruence, list_congruence, ArgumentTree, RuleTree, rewrites, DefinitionTree, definition, DefinitionTrees, no_definitions, more_definitions, SortTree, sort, sort_of, SortTrees, no_sorts, more_sorts, DeclarationTree, constant, constructor, injection, SignatureTree, sorts, constructors, FormTree, rule_form, strategy_form, TopTree, SectionTree, signature, rules, strategies, FileTree, no_strategy, one_strategy, no_pattern, one_pattern, no_arguments, strategy_arguments, all_arguments, head}
+use Rattle.str_parser.specs.Lexemes.{Lexeme, Part, strategy_part, match_part, build_part, sort_part, first_begins}
 use Rattle.str_parser.specs.Lexemes.{Lexeme as L}
-use Rattle.str_parser.specs.Items.{Item, token, part, no_build, only, whole, too_deep, Runs}
+use Rattle.str_parser.specs.Items.{Item, token, part, no_build, only, too_deep, Runs}
 
 abbrev pub sign : Mark → Item
 sign m = token (L.mark m)
@@ -43,6 +43,10 @@ abbrev pub parameters : ParameterTree → List Item → List Item
 parameters absent is = is
 parameters (strategies_only fs) is = sign M.OpenParenthesis ∷ names fs (sign M.CloseParenthesis ∷ is)
 parameters (with_terms fs xs) is = sign M.OpenParenthesis ∷ names fs (sign M.Bar ∷ names xs (sign M.CloseParenthesis ∷ is))
+
+-- a name with parameters
+abbrev pub headed : HeadTree → List Item → List Item
+headed (head x ps) is = named x ∷ parameters ps is
 
 abbrev pub is_not : Bool → Bool
 is_not true = false
@@ -95,8 +99,8 @@ abbrev mutual
   pattern in_match k (application c ps) is = only (is_constructor c) ∷ named c ∷ sign M.OpenParenthesis ∷ patterns in_match (k + 1) ps (sign M.CloseParenthesis ∷ is)
   pattern in_match k (grouped p) is = sign M.OpenParenthesis ∷ part (pattern_part in_match) (k + 1) ∷ pattern in_match (k + 1) p (sign M.CloseParenthesis ∷ is)
   pattern in_match k (tuple ps) is = only (are_parts ps) ∷ sign M.OpenParenthesis ∷ patterns in_match (k + 1) ps (sign M.CloseParenthesis ∷ is)
-  pattern in_match k (list ps) is = sign M.OpenBracket ∷ patterns in_match (k + 1) ps (sign M.CloseBracket ∷ is)
-  pattern in_match k (list_with_tail ps p) is = only (any_patterns ps) ∷ sign M.OpenBracket ∷ patterns in_match (k + 1) ps (sign M.Bar ∷ part (pattern_part in_match) (k + 1) ∷ pattern in_match (k + 1) p (sign M.CloseBracket ∷ is))
+  pattern in_match k (list ps no_pattern) is = sign M.OpenBracket ∷ patterns in_match (k + 1) ps (sign M.CloseBracket ∷ is)
+  pattern in_match k (list ps (one_pattern p)) is = only (any_patterns ps) ∷ sign M.OpenBracket ∷ patterns in_match (k + 1) ps (sign M.Bar ∷ part (pattern_part in_match) (k + 1) ∷ pattern in_match (k + 1) p (sign M.CloseBracket ∷ is))
   pattern in_match k (applied s) is = only (is_not in_match) ∷ sign M.Less ∷ part strategy_part (k + 1) ∷ strategy (k + 1) s (sign M.Greater ∷ no_build ∷ is)
   pattern in_match k (applied_to s p) is = only (is_not in_match) ∷ sign M.Less ∷ part strategy_part (k + 1) ∷ strategy (k + 1) s (sign M.Greater ∷ part build_part (k + 1) ∷ pattern in_match (k + 1) p is)
 
@@ -144,28 +148,35 @@ abbrev mutual
   primary k (parenthesized s) is = sign M.OpenParenthesis ∷ part strategy_part (k + 1) ∷ strategy (k + 1) s (sign M.CloseParenthesis ∷ is)
   primary k (scope xs s) is = sign M.OpenBrace ∷ some_names xs (sign M.Colon ∷ part strategy_part (k + 1) ∷ strategy (k + 1) s (sign M.CloseBrace ∷ is))
   primary k (operator o s) is = word (keyword_of o) ∷ sign M.OpenParenthesis ∷ part strategy_part (k + 1) ∷ strategy (k + 1) s (sign M.CloseParenthesis ∷ is)
-  primary k (conditional c s) is = word K.If ∷ part strategy_part (k + 1) ∷ strategy (k + 1) c (word K.Then ∷ part strategy_part (k + 1) ∷ strategy (k + 1) s (word K.End ∷ is))
-  primary k (conditional_else c s t) is = word K.If ∷ part strategy_part (k + 1) ∷ strategy (k + 1) c (word K.Then ∷ part strategy_part (k + 1) ∷ strategy (k + 1) s (word K.Else ∷ part strategy_part (k + 1) ∷ strategy (k + 1) t (word K.End ∷ is)))
+  primary k (conditional c s o) is = word K.If ∷ part strategy_part (k + 1) ∷ strategy (k + 1) c (word K.Then ∷ part strategy_part (k + 1) ∷ strategy (k + 1) s (led_by K.Else (k + 1) o (word K.End ∷ is)))
   primary k (recursive x s) is = word K.Rec ∷ named x ∷ sign M.OpenParenthesis ∷ part strategy_part (k + 1) ∷ strategy (k + 1) s (sign M.CloseParenthesis ∷ is)
   primary k (let_in no_definitions s) is = only false ∷ is
   primary k (let_in (more_definitions d ds) s) is = word K.Let ∷ defined (k + 1) d (definitions (k + 1) ds (word K.In ∷ part strategy_part (k + 1) ∷ strategy (k + 1) s (word K.End ∷ is)))
   primary k (primitive text ps) is = word K.Prim ∷ sign M.OpenParenthesis ∷ token (L.quoted text) ∷ other_patterns false (k + 1) ps (sign M.CloseParenthesis ∷ is)
   primary k (lambda r) is = sign M.Backslash ∷ rule (k + 1) r (sign M.Backslash ∷ is)
-  primary k (call x) is = named x ∷ is
-  primary k (call_with x ss) is = named x ∷ sign M.OpenParenthesis ∷ strategy_list (k + 1) ss (sign M.CloseParenthesis ∷ is)
-  primary k (call_with_terms x ss ps) is = named x ∷ sign M.OpenParenthesis ∷ strategy_list (k + 1) ss (sign M.Bar ∷ patterns false (k + 1) ps (sign M.CloseParenthesis ∷ is))
+  primary k (call x a) is = named x ∷ arguments (k + 1) a is
   primary k (tuple_congruence ss) is = only (are_operands ss) ∷ sign M.OpenParenthesis ∷ strategy_list (k + 1) ss (sign M.CloseParenthesis ∷ is)
-  primary k (list_congruence ss) is = sign M.OpenBracket ∷ strategy_list (k + 1) ss (sign M.CloseBracket ∷ is)
-  primary k (list_congruence_with_tail ss s) is = only (any_strategies ss) ∷ sign M.OpenBracket ∷ strategy_list (k + 1) ss (sign M.Bar ∷ part strategy_part (k + 1) ∷ strategy (k + 1) s (sign M.CloseBracket ∷ is))
+  primary k (list_congruence ss no_strategy) is = sign M.OpenBracket ∷ strategy_list (k + 1) ss (sign M.CloseBracket ∷ is)
+  primary k (list_congruence ss (one_strategy s)) is = only (any_strategies ss) ∷ sign M.OpenBracket ∷ strategy_list (k + 1) ss (sign M.Bar ∷ part strategy_part (k + 1) ∷ strategy (k + 1) s (sign M.CloseBracket ∷ is))
+
+  -- an optional strategy at this level, with this keyword before it
+  pub led_by : Keyword → ℕ → OptionalStrategy → List Item → List Item
+  led_by w k no_strategy is = is
+  led_by w k (one_strategy s) is = word w ∷ part strategy_part k ∷ strategy k s is
+
+  -- the arguments of a call, at this level
+  pub arguments : ℕ → ArgumentTree → List Item → List Item
+  arguments k no_arguments is = is
+  arguments k (strategy_arguments ss) is = sign M.OpenParenthesis ∷ strategy_list k ss (sign M.CloseParenthesis ∷ is)
+  arguments k (all_arguments ss ps) is = sign M.OpenParenthesis ∷ strategy_list k ss (sign M.Bar ∷ patterns false k ps (sign M.CloseParenthesis ∷ is))
 
   -- the sides and the condition of a rule, at this level
   pub rule : ℕ → RuleTree → List Item → List Item
-  rule k (plain_rule l r) is = part match_part k ∷ pattern true k l (sign M.Arrow ∷ part build_part k ∷ pattern false k r is)
-  rule k (conditional_rule l r s) is = part match_part k ∷ pattern true k l (sign M.Arrow ∷ part build_part k ∷ pattern false k r (word K.Where ∷ part strategy_part k ∷ strategy k s is))
+  rule k (rewrites l r o) is = part match_part k ∷ pattern true k l (sign M.Arrow ∷ part build_part k ∷ pattern false k r (led_by K.Where k o is))
 
   -- a definition whose body is at this level
   pub defined : ℕ → DefinitionTree → List Item → List Item
-  defined k (definition x ps s) is = named x ∷ parameters ps (sign M.Equals ∷ part strategy_part k ∷ strategy k s is)
+  defined k (definition h s) is = headed h (sign M.Equals ∷ part strategy_part k ∷ strategy k s is)
 
   pub definitions : ℕ → DefinitionTrees → List Item → List Item
   definitions k no_definitions is = is
@@ -191,7 +202,7 @@ abbrev mutual
   other_sorts k no_sorts is = is
   other_sorts k (more_sorts s ss) is = sign M.Comma ∷ part sort_part k ∷ sorted k s (other_sorts k ss is)
 
--- the sorts of a signature, one behind the other
+-- the sorts of a signature, one after the other
 abbrev pub sort_run : SortTrees → List Item → List Item
 sort_run no_sorts is = is
 sort_run (more_sorts s ss) is = part sort_part 1 ∷ sorted 1 s (sort_run ss is)
@@ -225,7 +236,7 @@ signature_parts (s ∷ ss) is = signature_part s (signature_parts ss is)
 -- ---- files
 
 abbrev pub form : FormTree → List Item → List Item
-form (rule_form x ps r) is = named x ∷ parameters ps (sign M.Colon ∷ rule 1 r is)
+form (rule_form h r) is = headed h (sign M.Colon ∷ rule 1 r is)
 form (strategy_form d) is = defined 1 d is
 
 -- a definition of the library is not written
@@ -249,9 +260,18 @@ sections (s ∷ ss) is = section s (sections ss is)
 abbrev pub file : FileTree → List Item
 file f = sections f.sections []
 
--- the tokens are the phrase of this file, with nothing at level 201
+-- the tokens are written so, whatever the levels of parts
+abbrev pub Spelled : List Item → List Lexeme → Type 0
+Spelled [] ts = ts ≡ []
+Spelled (token u ∷ is) [] = ⊥
+Spelled (token u ∷ is) (t ∷ ts) = (t ≡ u) × Spelled is ts
+Spelled (part p k ∷ is) ts = Spelled is ts
+Spelled (no_build ∷ is) ts = (first_begins build_part ts ≡ false) × Spelled is ts
+Spelled (only b ∷ is) ts = (b ≡ true) × Spelled is ts
+
+-- the tokens are the phrase of this file
 abbrev pub IsPhrase : List Lexeme → FileTree → Type 0
-IsPhrase ts f = Runs whole (file f) ts
+IsPhrase ts f = Spelled (file f) ts
 
 -- the tokens are the phrase of this file, and of no other
 pub record OnlyPhrase (ts : List Lexeme) (f : FileTree) : Type 0 where

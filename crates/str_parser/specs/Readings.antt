@@ -1,4 +1,4 @@
--- What reading from the front of tokens answers.
+-- What reading from the front of tokens returns.
 use Rattle.std.specs.Prelude.{◌≡◌, ℕ, ◌<◌, ◌≤◌, length, List, [], ◌∷◌, Option, Some, None, Result, Ok, Err}
 use Rattle.std.specs.declared.vec.Vec.{Vec}
 use Rattle.std.specs.declared.alloc.Global.{Global}
@@ -33,7 +33,7 @@ abbrev pub IsFirst : List Lexeme → Option (CodeLexeme × List Lexeme) → Type
 IsFirst ts (Some (t, rest)) = ts ≡ lexeme_in t ∷ rest
 IsFirst ts None = ts ≡ []
 
--- the tokens behind the one that they begin with
+-- the tokens after the one that they begin with
 abbrev pub IsBehind : Lexeme → List Lexeme → Option (List Lexeme) → Type 0
 IsBehind t ts (Some rest) = ts ≡ t ∷ rest
 IsBehind t ts None = NotAt t ts
@@ -76,7 +76,7 @@ strength (no_build ∷ is) = 4
 abbrev pub AtMost : ℕ → List Item → Type 0
 AtMost most is = strength is ≤ most
 
--- The tokens begin with the tree, written so, and the rest stands behind it. No other tree runs along them, in front of items
+-- The tokens begin with the tree, written so, and the rest comes after it. No other tree runs along them, in front of items
 -- that stop it.
 pub record Found {T : Type 0} (write : T → List Item → List Item) (Stops : List Item → Type 0) (ts : List Lexeme) (t : T) (rest : List Lexeme) : Type 0 where
   pub sound : (way : Way) (is : List Item) → Runs way is rest → Runs way (write t is) ts
@@ -106,7 +106,7 @@ IsReading write Stops tree_of ts (Err e) = IsFault write Stops ts e
 
 -- ---- trees that have been begun
 
--- a way to go on from the tree and the items behind it, and tokens that run so
+-- a way to go on from the tree and the items after it, and tokens that run so
 pub record Run {T : Type 0} (Rest : T → List Item → List Item → Type 0) (way : Way) (u : T) (is : List Item) (ts : List Lexeme) : Type 0 where
   pub left : List Item
   pub goes : Rest u is left

@@ -1,4 +1,4 @@
--- Phrases of any length: where they end, and what reading them answers.
+-- Phrases of any length: where they end, and what reading them returns.
 use Rattle.std.specs.Prelude.{◌≡◌, ◌≤◌, Bool, true, false, length, List, ◌∷◌, Result, Ok, Err}
 use Rattle.str_lexer.specs.declared.token.Mark.TheVariants as M
 use Rattle.term_model.specs.declared.fault.Fault.{Fault}
@@ -10,7 +10,7 @@ use Rattle.str_parser.specs.Readings.{IsFault}
 abbrev pub NoneOf : (Lexeme → Bool) → List Item → Type 0
 NoneOf these is = (t : Lexeme) (rest : List Lexeme) → Runs either is (t ∷ rest) → these t ≡ false
 
--- The tokens begin with the tree, written so, which may be of no token, and the rest stands behind it. No other tree runs along
+-- The tokens begin with the tree, written so, which may be of no token, and the rest comes after it. No other tree runs along
 -- them, in front of items that stop it.
 pub record FoundAny {T : Type 0} (write : T → List Item → List Item) (Stops : List Item → Type 0) (ts : List Lexeme) (t : T) (rest : List Lexeme) : Type 0 where
   pub sound : (way : Way) (is : List Item) → Runs way is rest → Runs way (write t is) ts

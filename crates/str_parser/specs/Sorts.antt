@@ -36,7 +36,7 @@ abbrev pub some_factors : SortTrees → List Item → List Item
 some_factors no_sorts is = only false ∷ is
 some_factors (more_sorts s ss) is = part sort_part 1 ∷ sorted 1 s (other_factors ss is)
 
--- what stands behind the colon of a declaration
+-- what comes after the colon of a declaration
 pub data TypeTree : Type 0 where
   plain : SortTree → TypeTree
   mapping : SortTrees → SortTree → TypeTree

@@ -56,7 +56,7 @@ pub(crate) enum BeforePattern {
     RuleRight(Box<Pattern>),
 }
 
-// How far a primary has been read, and the tokens behind that.
+// How far a primary has been read, and the tokens after that.
 #[derive(Drop)]
 pub(crate) enum Begun<'a> {
     Whole(Box<Primary>, Input<'a>),
@@ -81,7 +81,7 @@ pub(crate) enum BeforeInner {
     AppliedTo(Box<Strategy>),
 }
 
-// How far a pattern has been read, and the tokens behind that.
+// How far a pattern has been read, and the tokens after that.
 #[derive(Drop)]
 pub(crate) enum BegunPattern<'a> {
     Whole(Pattern, Input<'a>),

@@ -1,7 +1,8 @@
 // Strategies and patterns from tokens, by recursive descent with one token of look-ahead.
-ghost use Rattle.std.specs.Prelude.{◌≡◌, ◌≤◌, Bool, true, false, List, ◌∷◌};
+ghost use Rattle.std.specs.Prelude.{◌≡◌, ◌+◌, ◌≤◌, Bool, true, false, List, ◌∷◌};
 ghost use Rattle.str_lexer.specs.declared.token.Mark.TheVariants as M;
 ghost use Rattle.str_syntax.specs.Views.{pattern_of, sequence_of, step_of, strategy_of};
+ghost use Rattle.str_parser.specs.Items.{max_level};
 ghost use Rattle.str_parser.specs.Lexemes.{Lexeme as L, mark, strategy_part, first_begins};
 ghost use Rattle.str_parser.specs.Phrases.{step, primary};
 ghost use Rattle.str_parser.specs.Readings.{AtMost, Found, IsReading};
@@ -9,6 +10,7 @@ ghost use Rattle.str_parser.specs.Begun.{inner_strategy, inner_sequence, inner_p
 ghost use Rattle.str_parser.specs.Beyond.{IsBeyondFault};
 
 use crate::begun::{Begun, BegunPattern};
+use crate::file::MAX_LEVEL;
 use crate::input::{Input, Lexeme};
 use crate::pattern_part::{applied, begins_pattern};
 use crate::{pattern_begin, primary_begin};
@@ -17,10 +19,7 @@ use str_lexer::{Keyword, Mark};
 use str_syntax::{Pattern, Primary, Sequence, Step, Strategy};
 use term_model::Fault;
 
-// The greatest level of a part of a phrase.
-const MOST_LEVELS: u32 = 200;
-
-// The fault where a part would stand at level 201: whether the tokens can begin it decides.
+// The fault where a part would stand beyond the greatest level: whether the tokens can begin it decides.
 fn beyond(input: &Input<'_>, begins: bool) -> Fault
     ensures { IsBeyondFault begins result }
 {
@@ -30,7 +29,7 @@ fn beyond(input: &Input<'_>, begins: bool) -> Fault
     input.syntax()
 }
 
-// Whether the first token can begin a strategy.
+// Tells whether the first token can begin a strategy.
 fn begins_strategy(input: &Input<'_>) -> bool
     ensures { result ≡ first_begins strategy_part input.now }
 {
@@ -67,17 +66,17 @@ fn begins_strategy(input: &Input<'_>) -> bool
     }
 }
 
-// The strategy at this level that the tokens begin with, and the tokens behind it.
+// Reads the strategy at this level that the tokens begin with; also returns the tokens after it.
 #[cycle(phrase)]
 pub(crate) fn strategy<'a>(
     alloc: Global,
     input: Input<'a>,
     level: u32,
 ) -> Result<(Strategy, Input<'a>), Fault>
-    requires { level ≤ 201 }
+    requires { level ≤ max_level + 1 }
     ensures { IsReading (inner_strategy level) (AtMost 0) strategy_of input.entry result }
 {
-    if level > MOST_LEVELS {
+    if level > MAX_LEVEL {
         return Err(beyond(&input, begins_strategy(&input)));
     }
     let (first, rest) = sequence(alloc, input, level)?;
@@ -91,7 +90,7 @@ pub(crate) fn strategy<'a>(
     guarded_choice(alloc, first, behind, level)
 }
 
-// The guarded choice at this level of which the first sequence and `<` stand before the tokens, and the tokens behind it.
+// Reads the guarded choice at this level of which the first sequence and `<` stand before the tokens; also returns the tokens after it.
 #[cycle(phrase)]
 fn guarded_choice<'a>(
     alloc: Global,
@@ -99,7 +98,7 @@ fn guarded_choice<'a>(
     input: Input<'a>,
     level: u32,
 ) -> Result<(Strategy, Input<'a>), Fault>
-    requires { level ≤ 200 }
+    requires { level ≤ max_level }
     ensures { (ts : List L) → Found (inner_sequence level) (AtMost 1) ts (sequence_of first) (mark M.Less ∷ input.entry) → IsReading (inner_strategy level) (AtMost 0) strategy_of ts result }
 {
     let (then, rest) = strategy(alloc, input, level + 1)?;
@@ -112,13 +111,13 @@ fn guarded_choice<'a>(
     Ok((made, rest))
 }
 
-// The sequence at this level that the tokens begin with, and the tokens behind it.
+// Reads the sequence at this level that the tokens begin with; also returns the tokens after it.
 #[cycle(phrase)]
 fn sequence<'a>(alloc: Global, input: Input<'a>, level: u32) -> Result<(Sequence, Input<'a>), Fault>
-    requires { level ≤ 201 }
+    requires { level ≤ max_level + 1 }
     ensures { IsReading (inner_sequence level) (AtMost 1) sequence_of input.entry result }
 {
-    if level > MOST_LEVELS {
+    if level > MAX_LEVEL {
         return Err(beyond(&input, begins_strategy(&input)));
     }
     let (first, rest) = step(alloc, input, level)?;
@@ -129,10 +128,10 @@ fn sequence<'a>(alloc: Global, input: Input<'a>, level: u32) -> Result<(Sequence
     Ok((Sequence::Then(first, Box::new(alloc, others)?), rest))
 }
 
-// The step at this level that the tokens begin with, and the tokens behind it.
+// Reads the step at this level that the tokens begin with; also returns the tokens after it.
 #[cycle(phrase)]
 fn step<'a>(alloc: Global, input: Input<'a>, level: u32) -> Result<(Step, Input<'a>), Fault>
-    requires { level ≤ 200 }
+    requires { level ≤ max_level }
     ensures { IsReading (step level) (AtMost 2) step_of input.entry result }
 {
     let (first, rest) = primary(alloc, input, level)?;
@@ -143,14 +142,14 @@ fn step<'a>(alloc: Global, input: Input<'a>, level: u32) -> Result<(Step, Input<
     Ok((Step::Matching(first, Box::new(alloc, matched)?), rest))
 }
 
-// The primary at this level that the tokens begin with, and the tokens behind it.
+// Reads the primary at this level that the tokens begin with; also returns the tokens after it.
 #[cycle(phrase)]
 fn primary<'a>(
     alloc: Global,
     input: Input<'a>,
     level: u32,
 ) -> Result<(Box<Primary>, Input<'a>), Fault>
-    requires { level ≤ 200 }
+    requires { level ≤ max_level }
     ensures { IsReading (primary level) (AtMost 3) boxed_primary_of input.entry result }
 {
     let mut begun = primary_begin::begin(alloc, input)?;
@@ -169,7 +168,7 @@ fn primary<'a>(
     }
 }
 
-// The pattern at this level that the tokens begin with, in a match or in a build, and the tokens behind it.
+// Reads the pattern at this level that the tokens begin with, in a match or in a build; also returns the tokens after it.
 #[cycle(phrase)]
 pub(crate) fn pattern<'a>(
     alloc: Global,
@@ -177,10 +176,10 @@ pub(crate) fn pattern<'a>(
     in_match: bool,
     level: u32,
 ) -> Result<(Pattern, Input<'a>), Fault>
-    requires { level ≤ 201 }
+    requires { level ≤ max_level + 1 }
     ensures { IsReading (inner_pattern in_match level) (AtMost 3) pattern_of input.entry result }
 {
-    if level > MOST_LEVELS {
+    if level > MAX_LEVEL {
         return Err(beyond(&input, begins_pattern(&input, in_match)));
     }
     let mut begun = pattern_begin::begin(alloc, input, in_match)?;

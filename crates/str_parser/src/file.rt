@@ -15,7 +15,7 @@ use str_lexer::{Keyword, Token};
 use str_syntax::{File, Section};
 use term_model::Fault;
 
-// The section that the tokens begin with, and the tokens behind it.
+// Reads the section that the tokens begin with; also returns the tokens after it.
 fn section<'a>(alloc: Global, input: Input<'a>) -> Result<(Section, Input<'a>), Fault>
     ensures { IsReading Phrases.section EndsSection section_of input.entry result }
 {
@@ -48,10 +48,13 @@ fn sections<'a>(alloc: Global, input: Input<'a>) -> Result<Vec<Section>, Fault>
     Ok(sections)
 }
 
-/// The file whose phrase these tokens of this text are; each of its definitions is marked as the file's.
+/// The greatest nesting level of a part of a definition file.
+pub const MAX_LEVEL: u32 = 200;
+
+/// Returns the file whose phrase these tokens of this text are; each of its definitions is marked as the file's.
 ///
 /// `Syntax` where they are the phrase of no file: at the first token that makes the tokens up to it the beginning of none, or at the
-/// length of the text where more tokens would have to follow. `Nesting` where a part begins at level 201 before any fault of syntax:
+/// length of the text where more tokens would have to follow. `Nesting` where a part begins one level beyond `MAX_LEVEL` before any fault of syntax:
 /// at the first token of that part. `Memory` where a growth is refused.
 pub fn parse(alloc: Global, text: &[u8], tokens: &[Token]) -> Result<File, Fault>
     requires { AreSlices text.now 0 tokens.now }

@@ -1,10 +1,10 @@
 // The rules and the definitions of sections, from tokens.
 ghost use Rattle.std.specs.Prelude.{◌≡◌};
-ghost use Rattle.str_syntax.specs.Views.{rule_of, form_of, top_of};
+ghost use Rattle.str_syntax.specs.Views.{head_of, rule_of, form_of, top_of};
 ghost use Rattle.str_parser.specs.Phrases;
 ghost use Rattle.str_parser.specs.Readings.{IsReading, AtMost};
 ghost use Rattle.str_parser.specs.Runs.{IsReadingAny};
-ghost use Rattle.str_parser.specs.Parsing.{headed, head_of, EndsRule, EndsForms, one_top, tops_of, begins_name};
+ghost use Rattle.str_parser.specs.Parsing.{EndsRule, EndsForms, one_top, tops_of, begins_name};
 
 use crate::descent::{pattern, strategy};
 use crate::input::{Input, Lexeme};
@@ -12,11 +12,11 @@ use crate::names::{name, parameters};
 use std::alloc::Global;
 use str_lexer::{Keyword, Mark};
 use str_syntax::{
-    Definition, DefinitionForm, Name, Origin, Parameters, Rule, RuleDefinition, StrategyDefinition,
+    Definition, DefinitionForm, DefinitionHead, Origin, Rule, RuleDefinition, StrategyDefinition,
 };
 use term_model::Fault;
 
-// The rule that the tokens begin with, and the tokens behind it.
+// Reads the rule that the tokens begin with; also returns the tokens after it.
 fn rule<'a>(alloc: Global, input: Input<'a>) -> Result<(Rule, Input<'a>), Fault>
     ensures { IsReading (Phrases.rule 1) EndsRule rule_of input.entry result }
 {
@@ -28,34 +28,43 @@ fn rule<'a>(alloc: Global, input: Input<'a>) -> Result<(Rule, Input<'a>), Fault>
     let (right, rest) = pattern(alloc, behind, false, 1)?;
     let right = Box::new(alloc, right)?;
     let Some(behind) = rest.after_keyword(Keyword::Where) else {
-        return Ok((Rule::Plain(left, right), rest));
+        let condition = None;
+        return Ok((
+            Rule {
+                left,
+                right,
+                condition,
+            },
+            rest,
+        ));
     };
     let (condition, rest) = strategy(alloc, behind, 1)?;
-    let condition = Box::new(alloc, condition)?;
-    Ok((Rule::Conditional(left, right, condition), rest))
+    let condition = Some(Box::new(alloc, condition)?);
+    let made = Rule {
+        left,
+        right,
+        condition,
+    };
+    Ok((made, rest))
 }
 
-// The name and the parameters that the tokens begin with, and the tokens behind them.
-fn head<'a>(alloc: Global, input: Input<'a>) -> Result<((Name, Parameters), Input<'a>), Fault>
-    ensures { IsReading headed (AtMost 3) head_of input.entry result }
+// Reads the name and the parameters that the tokens begin with; also returns the tokens after them.
+fn head<'a>(alloc: Global, input: Input<'a>) -> Result<(DefinitionHead, Input<'a>), Fault>
+    ensures { IsReading Phrases.headed (AtMost 3) head_of input.entry result }
 {
     let (name, rest) = name(alloc, input)?;
     let (parameters, rest) = parameters(alloc, rest)?;
-    Ok(((name, parameters), rest))
+    Ok((DefinitionHead { name, parameters }, rest))
 }
 
-// The rule or the definition that the tokens begin with, and the tokens behind it.
+// Reads the rule or the definition that the tokens begin with; also returns the tokens after it.
 fn form<'a>(alloc: Global, input: Input<'a>) -> Result<(DefinitionForm, Input<'a>), Fault>
     ensures { IsReading Phrases.form EndsRule form_of input.entry result }
 {
-    let ((name, parameters), rest) = head(alloc, input)?;
+    let (head, rest) = head(alloc, input)?;
     if let Some(behind) = rest.after(Mark::Colon) {
         let (rule, rest) = rule(alloc, behind)?;
-        let definition = RuleDefinition {
-            name,
-            parameters,
-            rule,
-        };
+        let definition = RuleDefinition { head, rule };
         return Ok((DefinitionForm::Rule(definition), rest));
     }
     let Some(behind) = rest.after(Mark::Equals) else {
@@ -63,11 +72,7 @@ fn form<'a>(alloc: Global, input: Input<'a>) -> Result<(DefinitionForm, Input<'a
     };
     let (body, rest) = strategy(alloc, behind, 1)?;
     let body = Box::new(alloc, body)?;
-    let definition = StrategyDefinition {
-        name,
-        parameters,
-        body,
-    };
+    let definition = StrategyDefinition { head, body };
     Ok((DefinitionForm::Strategy(definition), rest))
 }
 
@@ -80,14 +85,14 @@ fn definition<'a>(alloc: Global, input: Input<'a>) -> Result<(Definition, Input<
     Ok((Definition { origin, form }, rest))
 }
 
-// Whether the first token is a name, as each rule and definition begins.
+// Tells whether the first token is a name, as each rule and definition begins.
 fn begins_form(input: &Input<'_>) -> bool
     ensures { result ≡ begins_name input.now }
 {
     matches!(input.first(), Some((Lexeme::Name(_), _)))
 }
 
-// The rules and the definitions up to the first token that begins none, and the tokens behind them.
+// Reads the rules and the definitions up to the first token that begins none; also returns the tokens after them.
 pub(crate) fn definitions<'a>(
     alloc: Global,
     input: Input<'a>,

@@ -64,7 +64,7 @@ impl<'a> Input<'a> {
         Input { text, tokens }
     }
 
-    // The first token, and the tokens behind it.
+    // Reads the first token; also returns the tokens after it.
     pub(crate) fn first(&self) -> Option<(Lexeme<'a>, Input<'a>)>
         ensures { IsFirst self.now result }
     {
@@ -76,7 +76,7 @@ impl<'a> Input<'a> {
         Some((with_text(self.text, token), rest))
     }
 
-    // The tokens behind this mark, where they begin with it.
+    // The tokens after this mark, where they begin with it.
     pub(crate) fn after(&self, mark: Mark) -> Option<Input<'a>>
         ensures { IsAfter mark self.now result }
     {
@@ -87,7 +87,7 @@ impl<'a> Input<'a> {
         }
     }
 
-    // The tokens behind this keyword, where they begin with it.
+    // The tokens after this keyword, where they begin with it.
     pub(crate) fn after_keyword(&self, keyword: Keyword) -> Option<Input<'a>>
         ensures { IsAfterKeyword keyword self.now result }
     {
@@ -113,7 +113,7 @@ impl<'a> Input<'a> {
         Fault::Syntax { at: self.at() }
     }
 
-    // Whether there is no token.
+    // Tells whether there is no token.
     pub(crate) fn is_empty(&self) -> bool
         ensures { IsTrue result ↔ (self.now ≡ []) }
     {

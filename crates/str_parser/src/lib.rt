@@ -16,4 +16,4 @@ mod primary_rule;
 mod primary_strategy;
 mod sorts;
 
-pub use file::parse;
+pub use file::{MAX_LEVEL, parse};

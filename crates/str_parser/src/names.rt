@@ -10,17 +10,17 @@ use str_lexer::Mark;
 use str_syntax::{Name, Parameters};
 use term_model::Fault;
 
-// The name that the tokens begin with, and the tokens behind it.
+// Reads the name that the tokens begin with; also returns the tokens after it.
 pub(crate) fn name<'a>(alloc: Global, input: Input<'a>) -> Result<(Name, Input<'a>), Fault>
     ensures { IsReading one_name (AtMost 4) itself input.entry result }
 {
     let Some((Lexeme::Name(bytes), rest)) = input.first() else {
         return Err(input.syntax());
     };
-    Ok((Name::new(alloc, bytes)?, rest))
+    Ok((Name::new(alloc, bytes, input.at())?, rest))
 }
 
-// The names with commas between that the tokens begin with, one at least, and the tokens behind them.
+// Reads the names with commas between that the tokens begin with, one at least; also returns the tokens after them.
 pub(crate) fn names<'a>(alloc: Global, input: Input<'a>) -> Result<(Vec<Name>, Input<'a>), Fault>
     ensures { IsReading some_names (NoneOf names_go_on) names_of input.entry result }
 {
@@ -35,7 +35,7 @@ pub(crate) fn names<'a>(alloc: Global, input: Input<'a>) -> Result<(Vec<Name>, I
     Ok((found, rest))
 }
 
-// The names with commas between that the tokens begin with, if any, and the tokens behind them.
+// Reads the names with commas between that the tokens begin with, if any; also returns the tokens after them.
 fn names_up_to<'a>(alloc: Global, input: Input<'a>) -> Result<(Vec<Name>, Input<'a>), Fault>
     ensures { IsReadingAny any_names (NoneOf any_names_go_on) names_of input.entry result }
 {
@@ -45,7 +45,7 @@ fn names_up_to<'a>(alloc: Global, input: Input<'a>) -> Result<(Vec<Name>, Input<
     }
 }
 
-// The parameters that the tokens begin with, and the tokens behind them.
+// Reads the parameters that the tokens begin with; also returns the tokens after them.
 pub(crate) fn parameters<'a>(
     alloc: Global,
     input: Input<'a>,

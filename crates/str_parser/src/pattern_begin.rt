@@ -24,8 +24,8 @@ pub(crate) fn begin<'a>(
         return Err(input.syntax());
     };
     match first {
-        Lexeme::Name(name) => begin_name(alloc, name, rest),
-        Lexeme::Wildcard => Ok(BegunPattern::Whole(Pattern::Wildcard, rest)),
+        Lexeme::Name(name) => begin_name(alloc, name, input.at(), rest),
+        Lexeme::Wildcard => Ok(BegunPattern::Whole(Pattern::Wildcard(input.at()), rest)),
         Lexeme::Integer(value) => Ok(BegunPattern::Whole(Pattern::Integer(value), rest)),
         Lexeme::Quoted(text) => {
             let text = Text::new(alloc, text)?;
@@ -70,12 +70,12 @@ fn begin_bracketed<'a>(alloc: Global, input: Input<'a>) -> BegunPattern<'a>
     ensures { (in_match : Bool) → IsNextPattern WrittenPattern in_match (mark_lexeme M.OpenBracket ∷ input.entry) (Ok result) }
 {
     if let Some(rest) = input.after(Mark::CloseBracket) {
-        return BegunPattern::Whole(Pattern::List(Vec::new(alloc)), rest);
+        return BegunPattern::Whole(Pattern::List(Vec::new(alloc), None), rest);
     }
     BegunPattern::ToPattern(BeforeInner::Bracketed(Vec::new(alloc)), input)
 }
 
-// Whether the name can be a constructor's: whether there is no ' in it.
+// Tells whether the name can be a constructor's: whether there is no ' in it.
 pub(crate) fn is_constructor(name: &[u8]) -> bool
     ensures { result ≡ has_no_quote name.now }
 {
@@ -87,15 +87,16 @@ pub(crate) fn is_constructor(name: &[u8]) -> bool
     true
 }
 
-// The variable, alias or application whose name stands before the tokens.
+// The variable, alias or application whose name, at this byte, stands before the tokens.
 fn begin_name<'a>(
     alloc: Global,
     bytes: &'a [u8],
+    at: u64,
     input: Input<'a>,
 ) -> Result<BegunPattern<'a>, Fault>
     ensures { (in_match : Bool) → IsNextPattern WrittenPattern in_match (name bytes.now ∷ input.entry) result }
 {
-    let name = Name::new(alloc, bytes)?;
+    let name = Name::new(alloc, bytes, at)?;
     if let Some(behind) = input.after(Mark::At) {
         return Ok(BegunPattern::ToPattern(BeforeInner::Alias(name), behind));
     }

@@ -1,4 +1,4 @@
-// The tokens of a pattern behind a part of it.
+// The tokens of a pattern after a part of it.
 ghost use Rattle.std.specs.Prelude.{◌≡◌, Bool, false};
 ghost use Rattle.str_syntax.specs.Views.{pattern_of, strategy_of};
 ghost use Rattle.str_parser.specs.Lexemes.{first_begins};
@@ -13,7 +13,7 @@ use str_syntax::{Name, Pattern, Strategy};
 use term_model::Fault;
 
 impl BeforeInner {
-    // The pattern with this pattern behind what has been read, up to its next part.
+    // The pattern with this pattern after what has been read, up to its next part.
     pub(crate) fn with<'a>(
         self,
         alloc: Global,
@@ -105,7 +105,7 @@ fn bracketed<'a>(
     let Some(rest) = input.after(Mark::CloseBracket) else {
         return Err(input.syntax());
     };
-    Ok(BegunPattern::Whole(Pattern::List(parts), rest))
+    Ok(BegunPattern::Whole(Pattern::List(parts, None), rest))
 }
 
 fn tail<'a>(
@@ -119,7 +119,7 @@ fn tail<'a>(
     let Some(rest) = input.after(Mark::CloseBracket) else {
         return Err(input.syntax());
     };
-    let made = Pattern::ListWithTail(parts, Box::new(alloc, part)?);
+    let made = Pattern::List(parts, Some(Box::new(alloc, part)?));
     Ok(BegunPattern::Whole(made, rest))
 }
 
@@ -154,7 +154,7 @@ pub(crate) fn applied<'a>(
     Ok(BegunPattern::Whole(made, rest))
 }
 
-// Whether the first token can begin a pattern, in a match or in a build.
+// Tells whether the first token can begin a pattern, in a match or in a build.
 pub(crate) fn begins_pattern(input: &Input<'_>, in_match: bool) -> bool
     ensures { result ≡ first_begins (pattern_part in_match) input.now }
 {

@@ -11,7 +11,7 @@ use crate::names::{name, names};
 use crate::primary_let::begin_definition;
 use std::alloc::Global;
 use str_lexer::{Keyword, Mark};
-use str_syntax::{Name, Operator, Pattern, Primary, Strategy, Text};
+use str_syntax::{Arguments, Name, Operator, Pattern, Primary, Strategy, Text};
 use term_model::Fault;
 
 // This primary as a whole.
@@ -29,7 +29,7 @@ pub(crate) fn begin<'a>(alloc: Global, input: Input<'a>) -> Result<Begun<'a>, Fa
         return Err(input.syntax());
     };
     match first {
-        Lexeme::Name(name) => begin_name(alloc, name, rest),
+        Lexeme::Name(name) => begin_name(alloc, name, input.at(), rest),
         Lexeme::Mark(mark) => begin_mark(alloc, mark, input.at(), rest),
         Lexeme::Keyword(keyword) => begin_keyword(alloc, keyword, input.at(), rest),
         _ => Err(input.syntax()),
@@ -67,7 +67,7 @@ fn begin_bracketed<'a>(alloc: Global, input: Input<'a>) -> Result<Begun<'a>, Fau
     ensures { IsNext Written (L.mark Mark.OpenBracket ∷ input.entry) result }
 {
     if let Some(rest) = input.after(Mark::CloseBracket) {
-        return whole(alloc, Primary::ListCongruence(Vec::new(alloc)), rest);
+        return whole(alloc, Primary::ListCongruence(Vec::new(alloc), None), rest);
     }
     Ok(Begun::ToStrategy(BeforeStrategy::Bracketed(Vec::new(alloc)), input))
 }
@@ -153,16 +153,22 @@ fn begin_primitive<'a>(alloc: Global, input: Input<'a>) -> Result<Begun<'a>, Fau
     Ok(Begun::ToPattern(before, behind))
 }
 
-// The call whose name stands before the tokens.
-fn begin_name<'a>(alloc: Global, called: &'a [u8], input: Input<'a>) -> Result<Begun<'a>, Fault>
+// The call whose name, at this byte, stands before the tokens.
+fn begin_name<'a>(
+    alloc: Global,
+    called: &'a [u8],
+    at: u64,
+    input: Input<'a>,
+) -> Result<Begun<'a>, Fault>
     ensures { IsNext Written (L.name called.now ∷ input.entry) result }
 {
-    let called = Name::new(alloc, called)?;
+    let called = Name::new(alloc, called, at)?;
     let Some(behind) = input.after(Mark::OpenParenthesis) else {
-        return whole(alloc, Primary::Call(called), input);
+        return whole(alloc, Primary::Call(called, Arguments::Absent), input);
     };
     if let Some(rest) = behind.after(Mark::CloseParenthesis) {
-        return whole(alloc, Primary::CallWith(called, Vec::new(alloc)), rest);
+        let made = Primary::Call(called, Arguments::Strategies(Vec::new(alloc)));
+        return whole(alloc, made, rest);
     }
     if let Some(rest) = behind.after(Mark::Bar) {
         return begin_terms(alloc, called, Vec::new(alloc), rest);
@@ -183,11 +189,8 @@ pub(crate) fn begin_terms<'a>(
 {
     let terms: Vec<Pattern> = Vec::new(alloc);
     if let Some(rest) = input.after(Mark::CloseParenthesis) {
-        return whole(
-            alloc,
-            Primary::CallWithTerms(called, strategies, terms),
-            rest,
-        );
+        let made = Primary::Call(called, Arguments::WithTerms(strategies, terms));
+        return whole(alloc, made, rest);
     }
     let before = BeforePattern::Terms(called, strategies, terms);
     Ok(Begun::ToPattern(before, input))

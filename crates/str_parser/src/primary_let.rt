@@ -8,10 +8,10 @@ use crate::names::{name, parameters};
 use crate::primary_begin::whole;
 use std::alloc::Global;
 use str_lexer::{Keyword, Mark};
-use str_syntax::{Name, Parameters, Primary, Strategy, StrategyDefinition};
+use str_syntax::{DefinitionHead, Name, Parameters, Primary, Strategy, StrategyDefinition};
 use term_model::Fault;
 
-// The next definition of a let, behind these.
+// The next definition of a let, after these.
 pub(crate) fn begin_definition<'a>(
     alloc: Global,
     done: Vec<StrategyDefinition>,
@@ -28,7 +28,7 @@ pub(crate) fn begin_definition<'a>(
     Ok(Begun::ToStrategy(before, behind))
 }
 
-// The let behind this body of a definition.
+// The let after this body of a definition.
 pub(crate) fn definition<'a>(
     alloc: Global,
     done: Vec<StrategyDefinition>,
@@ -41,18 +41,15 @@ pub(crate) fn definition<'a>(
 {
     let mut definitions = done;
     let body = Box::new(alloc, body)?;
-    definitions.push(StrategyDefinition {
-        name,
-        parameters,
-        body,
-    })?;
+    let head = DefinitionHead { name, parameters };
+    definitions.push(StrategyDefinition { head, body })?;
     if let Some(behind) = input.after_keyword(Keyword::In) {
         return Ok(Begun::ToStrategy(BeforeStrategy::LetBody(definitions), behind));
     }
     begin_definition(alloc, definitions, input)
 }
 
-// The let behind what its definitions scope over.
+// The let after what its definitions scope over.
 pub(crate) fn let_body<'a>(
     alloc: Global,
     definitions: Vec<StrategyDefinition>,

@@ -1,4 +1,4 @@
-// The tokens of a primary behind a pattern in it.
+// The tokens of a primary after a pattern in it.
 ghost use Rattle.std.specs.Prelude.{◌≡◌};
 ghost use Rattle.str_syntax.specs.Views.{pattern_of, primary_of};
 ghost use Rattle.str_parser.specs.Begun.{IsNext, HasPattern, wants_match};
@@ -9,18 +9,18 @@ use crate::primary_begin::whole;
 use crate::primary_rule::{rule_left, rule_right};
 use std::alloc::Global;
 use str_lexer::Mark;
-use str_syntax::{Name, Pattern, Primary, Strategy, Text};
+use str_syntax::{Arguments, Name, Pattern, Primary, Strategy, Text};
 use term_model::Fault;
 
 impl BeforePattern {
-    // Whether the pattern that comes next is in a match.
+    // Tells whether the pattern that comes next is in a match.
     pub(crate) fn in_match(&self) -> bool
         ensures { result ≡ wants_match self.now }
     {
         matches!(self, BeforePattern::Match | BeforePattern::RuleLeft)
     }
 
-    // The primary with this pattern behind what has been read, up to its next part.
+    // The primary with this pattern after what has been read, up to its next part.
     pub(crate) fn with<'a>(
         self,
         alloc: Global,
@@ -74,11 +74,8 @@ fn terms<'a>(
     let Some(rest) = input.after(Mark::CloseParenthesis) else {
         return Err(input.syntax());
     };
-    whole(
-        alloc,
-        Primary::CallWithTerms(called, strategies, parts),
-        rest,
-    )
+    let made = Primary::Call(called, Arguments::WithTerms(strategies, parts));
+    whole(alloc, made, rest)
 }
 
 fn primitive<'a>(

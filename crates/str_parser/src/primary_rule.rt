@@ -10,7 +10,7 @@ use str_lexer::{Keyword, Mark};
 use str_syntax::{Pattern, Primary, Rule, Strategy};
 use term_model::Fault;
 
-// The rule behind its left side.
+// The rule after its left side.
 pub(crate) fn rule_left<'a>(
     alloc: Global,
     left: Pattern,
@@ -25,7 +25,7 @@ pub(crate) fn rule_left<'a>(
     Ok(Begun::ToPattern(before, behind))
 }
 
-// The rule behind its right side.
+// The rule after its right side.
 pub(crate) fn rule_right<'a>(
     alloc: Global,
     left: Box<Pattern>,
@@ -42,11 +42,15 @@ pub(crate) fn rule_right<'a>(
     let Some(rest) = input.after(Mark::Backslash) else {
         return Err(input.syntax());
     };
-    let rule = Box::new(alloc, Rule::Plain(left, right))?;
-    whole(alloc, Primary::Lambda(rule), rest)
+    let rule = Rule {
+        left,
+        right,
+        condition: None,
+    };
+    whole(alloc, Primary::Lambda(Box::new(alloc, rule)?), rest)
 }
 
-// The rule behind its condition.
+// The rule after its condition.
 pub(crate) fn rule_condition<'a>(
     alloc: Global,
     left: Box<Pattern>,
@@ -59,6 +63,11 @@ pub(crate) fn rule_condition<'a>(
     let Some(rest) = input.after(Mark::Backslash) else {
         return Err(input.syntax());
     };
-    let rule = Rule::Conditional(left, right, Box::new(alloc, part)?);
+    let condition = Some(Box::new(alloc, part)?);
+    let rule = Rule {
+        left,
+        right,
+        condition,
+    };
     whole(alloc, Primary::Lambda(Box::new(alloc, rule)?), rest)
 }

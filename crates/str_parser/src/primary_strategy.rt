@@ -1,4 +1,4 @@
-// The tokens of a primary behind a strategy in it.
+// The tokens of a primary after a strategy in it.
 ghost use Rattle.str_syntax.specs.Views.{strategy_of};
 ghost use Rattle.str_parser.specs.Begun.{IsNext, HasStrategy};
 
@@ -9,11 +9,11 @@ use crate::primary_let::{definition, let_body};
 use crate::primary_rule::rule_condition;
 use std::alloc::Global;
 use str_lexer::{Keyword, Mark};
-use str_syntax::{Name, Operator, Primary, Strategy};
+use str_syntax::{Arguments, Name, Operator, Primary, Strategy};
 use term_model::Fault;
 
 impl BeforeStrategy {
-    // The primary with this strategy behind what has been read, up to its next part.
+    // The primary with this strategy after what has been read, up to its next part.
     pub(crate) fn with<'a>(
         self,
         alloc: Global,
@@ -99,7 +99,7 @@ fn bracketed<'a>(
     let Some(rest) = input.after(Mark::CloseBracket) else {
         return Err(input.syntax());
     };
-    whole(alloc, Primary::ListCongruence(parts), rest)
+    whole(alloc, Primary::ListCongruence(parts, None), rest)
 }
 
 fn tail<'a>(
@@ -113,7 +113,7 @@ fn tail<'a>(
     let Some(rest) = input.after(Mark::CloseBracket) else {
         return Err(input.syntax());
     };
-    let made = Primary::ListCongruenceWithTail(parts, Box::new(alloc, part)?);
+    let made = Primary::ListCongruence(parts, Some(Box::new(alloc, part)?));
     whole(alloc, made, rest)
 }
 
@@ -137,7 +137,8 @@ fn arguments<'a>(
     let Some(rest) = input.after(Mark::CloseParenthesis) else {
         return Err(input.syntax());
     };
-    whole(alloc, Primary::CallWith(called, parts), rest)
+    let made = Primary::Call(called, Arguments::Strategies(parts));
+    whole(alloc, made, rest)
 }
 
 fn scope<'a>(
@@ -211,7 +212,7 @@ fn consequence<'a>(
     let Some(rest) = input.after_keyword(Keyword::End) else {
         return Err(input.syntax());
     };
-    let made = Primary::If(condition, part);
+    let made = Primary::If(condition, part, None);
     whole(alloc, made, rest)
 }
 
@@ -227,6 +228,6 @@ fn alternative<'a>(
     let Some(rest) = input.after_keyword(Keyword::End) else {
         return Err(input.syntax());
     };
-    let made = Primary::IfElse(condition, then, Box::new(alloc, part)?);
+    let made = Primary::If(condition, then, Some(Box::new(alloc, part)?));
     whole(alloc, made, rest)
 }

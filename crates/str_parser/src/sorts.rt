@@ -1,12 +1,14 @@
 // Sorts, declarations and the parts of signatures from tokens.
-ghost use Rattle.std.specs.Prelude.{◌≡◌, ◌≤◌, ◌∷◌};
+ghost use Rattle.std.specs.Prelude.{◌≡◌, ◌+◌, ◌≤◌, ◌∷◌};
 ghost use Rattle.str_syntax.specs.Views.{sort_tree_of, sorts_of, declaration_of, signature_of};
+ghost use Rattle.str_parser.specs.Items.{max_level};
 ghost use Rattle.str_parser.specs.Lexemes.{mark, begins_sort};
 ghost use Rattle.str_parser.specs.Phrases.{sort_run as written_run, declaration as written_declaration, declarations as written_declarations, signature_part as written_part, signature_parts as written_parts};
 ghost use Rattle.str_parser.specs.Readings.{IsReading};
 ghost use Rattle.str_parser.specs.Runs.{IsReadingAny, NoneOf};
 ghost use Rattle.str_parser.specs.Sorts.{inner_sort, some_sorts, some_factors, typed, type_of, sorts_from, declarations_from, signatures_from, IsSole, first_is, IsFirstName, begins_declaration, begins_signature_part, sort_goes_on, sort_list_goes_on, sort_run_goes_on, factors_go_on, declaration_goes_on, signature_part_goes_on, signature_goes_on};
 
+use crate::file::MAX_LEVEL;
 use crate::input::{Input, Lexeme};
 use crate::pattern_begin::is_constructor;
 use std::alloc::Global;
@@ -14,10 +16,7 @@ use str_lexer::{Keyword, Mark};
 use str_syntax::{Declaration, Name, SignaturePart, Sort};
 use term_model::Fault;
 
-// The greatest level of a sort.
-const MOST_LEVELS: u32 = 200;
-
-// What stands behind the colon of a declaration.
+// What stands after the colon of a declaration.
 #[derive(Drop)]
 enum SortType {
     // `A`
@@ -26,7 +25,7 @@ enum SortType {
     Mapping(Vec<Sort>, Sort),
 }
 
-// The name that the tokens begin with, where they do, and the tokens behind it.
+// Reads the name that the tokens begin with, where they do; also returns the tokens after it.
 fn first_name<'a>(input: &Input<'a>) -> Option<(&'a [u8], Input<'a>)>
     ensures { IsFirstName input.now result }
 {
@@ -37,7 +36,7 @@ fn first_name<'a>(input: &Input<'a>) -> Option<(&'a [u8], Input<'a>)>
     }
 }
 
-// Whether a declaration can begin with the first of the tokens.
+// Tells whether a declaration can begin with the first of the tokens.
 fn at_declaration(input: &Input) -> bool
     ensures { result ≡ first_is begins_declaration input.now }
 {
@@ -51,7 +50,7 @@ fn at_declaration(input: &Input) -> bool
     }
 }
 
-// Whether a part of a signature can begin with the first of the tokens.
+// Tells whether a part of a signature can begin with the first of the tokens.
 fn at_signature_part(input: &Input) -> bool
     ensures { result ≡ first_is begins_signature_part input.now }
 {
@@ -65,7 +64,7 @@ fn at_signature_part(input: &Input) -> bool
     }
 }
 
-// Whether a sort can begin with the first of the tokens.
+// Tells whether a sort can begin with the first of the tokens.
 fn at_sort(input: &Input) -> bool
     ensures { result ≡ first_is begins_sort input.now }
 {
@@ -78,19 +77,19 @@ fn at_sort(input: &Input) -> bool
     }
 }
 
-// The sort at this level that the tokens begin with, and the tokens behind it.
+// Reads the sort at this level that the tokens begin with; also returns the tokens after it.
 #[cycle(sort)]
 fn sort<'a>(alloc: Global, input: Input<'a>, level: u32) -> Result<(Sort, Input<'a>), Fault>
-    requires { level ≤ 201 }
+    requires { level ≤ max_level + 1 }
     ensures { IsReading (inner_sort level) (NoneOf sort_goes_on) sort_tree_of input.entry result }
 {
     let Some((bytes, behind)) = first_name(&input) else {
         return Err(input.syntax());
     };
-    if level > MOST_LEVELS {
+    if level > MAX_LEVEL {
         return Err(Fault::Nesting { at: input.at() });
     }
-    let name = Name::new(alloc, bytes)?;
+    let name = Name::new(alloc, bytes, input.at())?;
     let Some(inner) = behind.after(Mark::OpenParenthesis) else {
         return Ok((Sort::Named(name), behind));
     };
@@ -101,14 +100,14 @@ fn sort<'a>(alloc: Global, input: Input<'a>, level: u32) -> Result<(Sort, Input<
     Ok((Sort::Applied(name, parts), rest))
 }
 
-// The sorts at this level with commas between that the tokens begin with, one at least, and the tokens behind them.
+// Reads the sorts at this level with commas between that the tokens begin with, one at least; also returns the tokens after them.
 #[cycle(sort)]
 fn sort_list<'a>(
     alloc: Global,
     input: Input<'a>,
     level: u32,
 ) -> Result<(Vec<Sort>, Input<'a>), Fault>
-    requires { level ≤ 201 }
+    requires { level ≤ max_level + 1 }
     ensures { IsReading (some_sorts level) (NoneOf sort_list_goes_on) sorts_from input.entry result }
 {
     let (first, mut rest) = sort(alloc, input, level)?;
@@ -122,7 +121,7 @@ fn sort_list<'a>(
     Ok((parts, rest))
 }
 
-// The sorts that the tokens begin with, one behind the other, and the tokens behind them.
+// Reads the sorts that the tokens begin with, one after the other; also returns the tokens after them.
 fn sort_run<'a>(alloc: Global, input: Input<'a>) -> Result<(Vec<Sort>, Input<'a>), Fault>
     ensures { IsReadingAny written_run (NoneOf sort_run_goes_on) sorts_from input.entry result }
 {
@@ -136,7 +135,7 @@ fn sort_run<'a>(alloc: Global, input: Input<'a>) -> Result<(Vec<Sort>, Input<'a>
     Ok((found, rest))
 }
 
-// The sorts with * between that the tokens begin with, one at least, and the tokens behind them.
+// Reads the sorts with * between that the tokens begin with, one at least; also returns the tokens after them.
 fn factors<'a>(alloc: Global, input: Input<'a>) -> Result<(Vec<Sort>, Input<'a>), Fault>
     ensures { IsReading some_factors (NoneOf factors_go_on) sorts_from input.entry result }
 {
@@ -162,7 +161,7 @@ fn sole(parts: Vec<Sort>) -> Option<Sort>
     parts.pop()
 }
 
-// What the tokens behind the colon of a declaration begin with, and the tokens behind that.
+// What the tokens after the colon of a declaration begin with, and the tokens after that.
 fn sort_type<'a>(alloc: Global, input: Input<'a>) -> Result<(SortType, Input<'a>), Fault>
     ensures { IsReading typed (NoneOf declaration_goes_on) type_of input.entry result }
 {
@@ -177,7 +176,7 @@ fn sort_type<'a>(alloc: Global, input: Input<'a>) -> Result<(SortType, Input<'a>
     Ok((SortType::Plain(made), rest))
 }
 
-// The injection whose colon stands before the tokens, and the tokens behind it.
+// Reads the injection whose colon stands before the tokens; also returns the tokens after it.
 fn injection<'a>(alloc: Global, input: Input<'a>) -> Result<(Declaration, Input<'a>), Fault>
     ensures { IsReading written_declaration (NoneOf declaration_goes_on) declaration_of (mark Mark.Colon ∷ input.entry) result }
 {
@@ -188,7 +187,7 @@ fn injection<'a>(alloc: Global, input: Input<'a>) -> Result<(Declaration, Input<
     }
 }
 
-// The declaration that the tokens begin with, and the tokens behind it.
+// Reads the declaration that the tokens begin with; also returns the tokens after it.
 fn declaration<'a>(alloc: Global, input: Input<'a>) -> Result<(Declaration, Input<'a>), Fault>
     ensures { IsReading written_declaration (NoneOf declaration_goes_on) declaration_of input.entry result }
 {
@@ -204,7 +203,7 @@ fn declaration<'a>(alloc: Global, input: Input<'a>) -> Result<(Declaration, Inpu
     let Some(behind) = behind.after(Mark::Colon) else {
         return Err(behind.syntax());
     };
-    let name = Name::new(alloc, bytes)?;
+    let name = Name::new(alloc, bytes, input.at())?;
     let (found, rest) = sort_type(alloc, behind)?;
     match found {
         SortType::Plain(made) => Ok((Declaration::Constant(name, made), rest)),
@@ -212,7 +211,7 @@ fn declaration<'a>(alloc: Global, input: Input<'a>) -> Result<(Declaration, Inpu
     }
 }
 
-// The declarations that the tokens begin with, and the tokens behind them.
+// Reads the declarations that the tokens begin with; also returns the tokens after them.
 fn declarations<'a>(alloc: Global, input: Input<'a>) -> Result<(Vec<Declaration>, Input<'a>), Fault>
     ensures { IsReadingAny written_declarations (NoneOf signature_part_goes_on) declarations_from input.entry result }
 {
@@ -226,7 +225,7 @@ fn declarations<'a>(alloc: Global, input: Input<'a>) -> Result<(Vec<Declaration>
     Ok((found, rest))
 }
 
-// The part of a signature that the tokens begin with, and the tokens behind it.
+// Reads the part of a signature that the tokens begin with; also returns the tokens after it.
 fn signature_part<'a>(alloc: Global, input: Input<'a>) -> Result<(SignaturePart, Input<'a>), Fault>
     ensures { IsReading written_part (NoneOf signature_part_goes_on) signature_of input.entry result }
 {
@@ -241,7 +240,7 @@ fn signature_part<'a>(alloc: Global, input: Input<'a>) -> Result<(SignaturePart,
     Ok((SignaturePart::Constructors(found), rest))
 }
 
-// The parts of a signature that the tokens begin with, and the tokens behind them.
+// Reads the parts of a signature that the tokens begin with; also returns the tokens after them.
 pub(crate) fn signature_parts<'a>(
     alloc: Global,
     input: Input<'a>,

@@ -63,7 +63,7 @@ pub searched_at : (is_end : Bool) (known : List ℕ) (search : Search) → IsSea
 searched_at is_end known (AtLine n) (within, begins, clear) = (within, begins, clear_at is_end known n clear)
 searched_at is_end known (InLine n) (within, clear) = (within, clear_at is_end known (n + 1) clear)
 
--- the front of a text, and the rest behind it
+-- the front of a text, and the rest after it
 split_at : (known more before rest : List ℕ) (n : ℕ) → known ++ more ≡ before ++ rest → length before ≡ n → n ≤ length known
     → (before ≡ take n known) × (drop n known ++ more ≡ rest)
 split_at known more before rest n same long within = (
@@ -71,7 +71,7 @@ split_at known more before rest n same long within = (
   sym (drop-append-le n known more within) ∙ (ap (drop n) same ∙ drop_at before rest n long),
 )
 
--- the front of a text, a part behind it and the rest
+-- the front of a text, a part after it and the rest
 three_parts : (known more : List ℕ) (n m : ℕ) → known ++ more ≡ take n known ++ (take m (drop n known) ++ (drop (n + m) known ++ more))
 three_parts known more n m =
     rw (
@@ -95,7 +95,7 @@ clear_other is_end known n within clear other = record {
       (cases_lt n (length before));
 }
 
--- no line begins behind a byte that is no line feed
+-- no line begins after a byte that is no line feed
 pub clear_line : (is_end : Bool) (known : List ℕ) (n m : ℕ) → m ≤ length known → IsClear is_end known (n + 1)
     → ((k : ℕ) → n ≤ k → k < m → get_or known k 0 ≢ 10) → IsClear is_end known (m + 1)
 clear_line is_end known n m within clear none = record {
@@ -127,7 +127,7 @@ clear_fewer is_end known n m clear fewer = record {
       h;
 }
 
--- no line begins within so many bytes behind n of which none is a line feed
+-- no line begins within bytes after the first n of which none is a line feed
 pub clear_rest : (is_end : Bool) (known : List ℕ) (n m : ℕ) → n ≤ length known → IsClear is_end known (n + 1) → m ≤ length (drop n known)
     → ((k : ℕ) → k < m → get_or (drop n known) k 0 ≢ 10) → IsClear is_end known (n + m + 1)
 clear_rest is_end known n m within clear room none =
@@ -146,7 +146,7 @@ clear_to_end is_end known n (within, clear) none =
     (clear_rest is_end known n (length (drop n known)) within clear (omega arith) none)
     (rw length-drop (omega arith))
 
--- behind a first line feed a line begins, and none before
+-- after a first line feed a line begins, and none before
 pub next_line : (is_end : Bool) (known : List ℕ) (n m : ℕ) → IsSearched is_end known (InLine n) → m < length (drop n known)
     → get_or (drop n known) m 0 ≡ 10 → ((k : ℕ) → k < m → get_or (drop n known) k 0 ≢ 10) → IsSearched is_end known (AtLine (n + m + 1))
 next_line is_end known n m (within, clear) inside feed none =

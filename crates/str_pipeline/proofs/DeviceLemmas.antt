@@ -7,8 +7,7 @@ use Rattle.str_pipeline.specs.Device.{Gains}
 
 -- two gains in a row are one
 Gains-append : (a b c : Option (List ℕ)) (xs ys : List ℕ) → Gains a b xs → Gains b c ys → Gains a c (xs ++ ys)
-Gains-append None None c xs ys first second = second
-Gains-append None (Some told) c xs ys first second = cc
+Gains-append None b c xs ys first second = tt
 Gains-append (Some all) None c xs ys first second = cc
 Gains-append (Some all) (Some told) c xs ys first second = grind (arith, common_steps)
 
@@ -18,7 +17,7 @@ pub gains_more : (old middle new : Option (List ℕ)) (text : List ℕ) (n m : �
 gains_more old middle new text n m first second =
     rw take-add (Gains-append old middle new (take n text) (take m (drop n text)) first (rw take_rest at second))
 
--- what is copied from the front of the rest, and then the rest behind it
+-- what is copied from the front of the rest, and then the rest after it
 pub front_given : (xs copied more : List ℕ) (taken n : ℕ) → copied ≡ take n (take (length xs - taken) (drop taken xs)) → n ≤ length xs - taken
     → drop taken xs ≡ take n (copied ++ more) ++ drop (taken + n) xs
 front_given xs copied more taken n is fits =

@@ -6,7 +6,7 @@ use Rattle.core_lang.specs.declared.program.CoreDef.{CoreDef}
 use Rattle.core_lang.specs.declared.program.CoreStrategy.{CoreStrategy}
 use Rattle.core_lang.specs.Named.{written}
 use Rattle.core_lang.specs.Program.{no_definitions, more_definitions}
-use Rattle.core_lang.specs.Resolved.{PlacedStrategy, PlacedDefinitions, here}
+use Rattle.core_lang.specs.Resolved.{ResolvedStrategy, ResolvedDefinitions, here}
 use Rattle.core_lang.specs.Resolution.{Scopes, names, nowhere, defined, Resolves, to_scope, to_no_definitions, to_more_definitions, ResolvesProgram}
 use Rattle.core_lang.specs.InRange.{InRange}
 use Rattle.core_lang.proofs.InRangeLaws.{resolved_in_range}
@@ -19,10 +19,10 @@ use Rattle.str_pipeline.proofs.SlotLaws.{Extends, extends_itself}
 use Rattle.str_pipeline.proofs.OnceLaws.{all-once}
 use Rattle.str_pipeline.proofs.ResolutionLaws.{resolves_strategy}
 
-abbrev pub body_placed : ChoiceTree → PlacedStrategy
+abbrev pub body_placed : ChoiceTree → ResolvedStrategy
 body_placed s = in_scope_of (length (with_names [] (names_in s))) (strategy_placed [] s)
 
-abbrev pub file_placed : FileTree → PlacedDefinitions
+abbrev pub file_placed : FileTree → ResolvedDefinitions
 file_placed f = more_definitions (here 0) 0 0 (body_placed f.main) no_definitions
 
 in_its_scope : (s : ChoiceTree) (S : Scopes) (zs : List (List ℕ)) → Extends (with_names [] (names_in s)) zs →

@@ -2,7 +2,8 @@
 use Rattle.std.proofs.Common.{◌≡◌, ℕ, Bool, List, [], ◌∷◌, ◌++◌, refl, sym, ◌∙◌, ap, length, get_or, drop, suc, add-one, ◌+◌, ◌<◌, Option, Some, None}
 use Rattle.std.proofs.Math.Seq.{drop-cons}
 use Rattle.std.specs.Prelude.{option_map}
-use Rattle.str_pipeline.specs.SourceTree.{PatternTree, PatternTrees, no_patterns, more_patterns, patterns_of}
+use Rattle.str_pipeline.specs.SourceTree.{PatternTree, PatternTrees, no_patterns, more_patterns}
+use Rattle.str_pipeline.specs.SourceViews.{patterns_of}
 use Rattle.str_pipeline.specs.FirstPart.{of_both, pattern_in, patterns_in}
 use Rattle.str_syntax.specs.declared.strategy.Pattern.{Pattern}
 use Rattle.str_syntax.specs.Trees as syntax

@@ -1,7 +1,9 @@
 pub mod CutLemmas
 pub mod DeviceLemmas
+pub mod FaultLaws
 pub mod FileLaws
 pub mod FirstPartLaws
+pub mod MemoryLaws
 pub mod OnceLaws
 pub mod PlacementLaws
 pub mod ProgramLaws

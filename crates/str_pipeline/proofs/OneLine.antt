@@ -1,8 +1,8 @@
--- Definitions, the text of a term and a budget have at most one line.
+-- Definitions, the text of a term and a budget have at most one line and one status.
 use Rattle.std.proofs.Common.{◌≡◌, ℕ, ◌<◌, ◌≤◌, List, length, refl, sym, ◌∙◌, ap, subst, arith, inl, inr, Ok, Err, Option, Some, None, IfSome, true, false, ◌++◌, codes}
 use Rattle.term_model.specs.declared.fault.Fault.{Fault}
 use Rattle.term_model.specs.declared.fault.Fault.TheVariants.{DefsTooLong, Lexical, ReservedWord, Syntax, Nesting, TermTooLong, TermOversize, TermSyntax}
-use Rattle.term_model.specs.Fault.{word_of}
+use Rattle.term_model.specs.Fault.{number_of, word_of}
 use Rattle.term_model.specs.Flat.{Meaning}
 use Rattle.term_model.specs.Term.{Tree}
 use Rattle.aterm_text.specs.ReadTerm.{IsReading}
@@ -17,8 +17,9 @@ use Rattle.str_syntax.specs.Trees as whole
 use Rattle.str_parser.specs.Lexemes.{lexemes}
 use Rattle.str_parser.specs.Phrases.{IsPhrase, TooNested}
 use Rattle.str_pipeline.specs.FirstPart.{file_in}
-use Rattle.str_pipeline.specs.Judged.{max_definitions, max_term, HasNoTokens, AreTokens, AreTooNested, HasNoPhrase, AreRefused, AreAccepted, IsRefused, IsAccepted}
-use Rattle.str_pipeline.specs.Written.{Rewrites, IsAnswer, IsFirstFault, IsWritten, line_of, refusal_line}
+use Rattle.str_pipeline.specs.Limits.{max_definitions, max_term}
+use Rattle.str_pipeline.specs.Judged.{HasNoTokens, AreTokens, AreTooNested, HasNoPhrase, AreRefused, AreAccepted, IsRefused, IsAccepted}
+use Rattle.str_pipeline.specs.Written.{Rewrites, IsAnswer, AreAlike, IsFirstFault, IsWritten, line_of, refusal_line}
 
 -- ---- refusals of definitions
 
@@ -51,6 +52,10 @@ data Cause (defs : List ℕ) : Fault → Type 0 where
   too_nested : {at : ℕ} → length defs ≤ max_definitions → AreTooNested defs → Cause defs (Nesting at)
   no_phrase : {at : ℕ} → length defs ≤ max_definitions → HasNoPhrase defs → Cause defs (Syntax at)
 
+-- one fault, but for the place
+abbrev AreOne : Fault → Fault → Type 0
+AreOne f g = (word_of f ≡ word_of g) × (number_of f ≡ number_of g)
+
 cause_of : (defs : List ℕ) (fault : Fault) → AreRefused defs fault → Cause defs fault
 cause_of defs DefsTooLong long = too_long long
 cause_of defs (Lexical at) (short, none) = no_tokens short none
@@ -59,12 +64,12 @@ cause_of defs (Nesting at) (short, deep) = too_nested short deep
 cause_of defs (Syntax at) (short, none) = no_phrase short none
 cause_of defs _ refused = absurd refused
 
-same_cause : {defs : List ℕ} {f g : Fault} → Cause defs f → Cause defs g → word_of f ≡ word_of g
-same_cause (too_long long) (too_long also) = refl
-same_cause (no_tokens short none) (no_tokens also nothing) = refl
-same_cause (left_out short held) (left_out also holds) = refl
-same_cause (too_nested short deep) (too_nested also nested) = refl
-same_cause (no_phrase short none) (no_phrase also nothing) = refl
+same_cause : {defs : List ℕ} {f g : Fault} → Cause defs f → Cause defs g → AreOne f g
+same_cause (too_long long) (too_long also) = (refl, refl)
+same_cause (no_tokens short none) (no_tokens also nothing) = (refl, refl)
+same_cause (left_out short held) (left_out also holds) = (refl, refl)
+same_cause (too_nested short deep) (too_nested also nested) = (refl, refl)
+same_cause (no_phrase short none) (no_phrase also nothing) = (refl, refl)
 same_cause (too_long long) (no_tokens short none) = absurd (omega arith)
 same_cause (too_long long) (left_out short held) = absurd (omega arith)
 same_cause (too_long long) (too_nested short deep) = absurd (omega arith)
@@ -131,10 +136,10 @@ large_or_none : {text : List ℕ} (at place : ℕ) → IsReading text (Err (Term
 large_or_none at place (inl deep) (flat, none) = flat deep
 large_or_none at place (inr (t, spelled, large)) (flat, none) = none t spelled
 
-same_term_cause : {text : List ℕ} {f g : Fault} → TermCause text f → TermCause text g → word_of f ≡ word_of g
-same_term_cause (long_term long) (long_term also) = refl
-same_term_cause (large_term short r) (large_term also q) = refl
-same_term_cause (no_term short r) (no_term also q) = refl
+same_term_cause : {text : List ℕ} {f g : Fault} → TermCause text f → TermCause text g → AreOne f g
+same_term_cause (long_term long) (long_term also) = (refl, refl)
+same_term_cause (large_term short r) (large_term also q) = (refl, refl)
+same_term_cause (no_term short r) (no_term also q) = (refl, refl)
 same_term_cause (long_term long) (large_term short r) = absurd (omega arith)
 same_term_cause (long_term long) (no_term short r) = absurd (omega arith)
 same_term_cause (large_term short r) (long_term long) = absurd (omega arith)
@@ -158,7 +163,7 @@ one_term {t = t} (short, spelled) (also, other) = other.only t spelled.spells
 -- ---- the line
 
 -- the first fault
-one_fault : (defs term : List ℕ) (f g : Fault) → IsFirstFault defs term f → IsFirstFault defs term g → word_of f ≡ word_of g
+one_fault : (defs term : List ℕ) (f g : Fault) → IsFirstFault defs term f → IsFirstFault defs term g → AreOne f g
 one_fault defs term f g (inl x) (inl y) = same_cause (cause_of _ f x) (cause_of _ g y)
 one_fault defs term f g (inl x) (inr (file, accepted, y)) = absurd (no_file (cause_of _ f x) accepted)
 one_fault defs term f g (inr (file, accepted, x)) (inl y) = absurd (no_file (cause_of _ g y) accepted)
@@ -181,42 +186,43 @@ ended_or_spent : {M : Meaning} (f : FileTree) {t : Tree} {budget n : ℕ} {o : E
     Rewrites M f t o n → n ≤ budget → ((p : Ending Tree) (m : ℕ) → Rewrites M f t p m → budget < m) → ⊥
 ended_or_spent f {n = n} {o = o} derived within none = let more : _ < n = none o n derived in omega arith
 
--- the lines of one file and one term
+-- the statuses and the lines of one file and one term
 one_answer : (M : Meaning) (f : FileTree) (t : Tree) (budget : ℕ) (s r : Status) (line other : List ℕ) →
-    IsRun s → IsRun r → IsAnswer M f t budget s line → IsAnswer M f t budget r other → line ≡ other
+    IsRun s → IsRun r → IsAnswer M f t budget s line → IsAnswer M f t budget r other → AreAlike s r × (line ≡ other)
 one_answer M f t budget _ _ line other rewritten rewritten (u, e, n, x, within, is) (v, g, m, y, also, be) =
-    let same = (unique x y).outcome in cc
-one_answer M f t budget _ _ line other rewritten failing (u, e, n, x, within, is) (m, y, also, be) = let same = (unique x y).outcome in cc
-one_answer M f t budget _ _ line other rewritten too_large (u, e, n, x, within, is) (m, y, also, be) = let same = (unique x y).outcome in cc
+    let same = (unique x y).outcome in (refl, cc)
+one_answer M f t budget _ _ line other rewritten failing (u, e, n, x, within, is) (m, y, also, be) = let same = (unique x y).outcome in (cc, cc)
+one_answer M f t budget _ _ line other rewritten too_large (u, e, n, x, within, is) (m, y, also, be) = let same = (unique x y).outcome in (cc, cc)
 one_answer M f t budget _ _ line other rewritten spending (u, e, n, x, within, is) (none, be) = absurd (ended_or_spent f x within none)
-one_answer M f t budget _ _ line other failing rewritten (n, x, within, is) (v, g, m, y, also, be) = let same = (unique x y).outcome in cc
-one_answer M f t budget _ _ line other failing failing (n, x, within, is) (m, y, also, be) = cc
-one_answer M f t budget _ _ line other failing too_large (n, x, within, is) (m, y, also, be) = let same = (unique x y).outcome in cc
+one_answer M f t budget _ _ line other failing rewritten (n, x, within, is) (v, g, m, y, also, be) = let same = (unique x y).outcome in (cc, cc)
+one_answer M f t budget _ _ line other failing failing (n, x, within, is) (m, y, also, be) = (refl, cc)
+one_answer M f t budget _ _ line other failing too_large (n, x, within, is) (m, y, also, be) = let same = (unique x y).outcome in (cc, cc)
 one_answer M f t budget _ _ line other failing spending (n, x, within, is) (none, be) = absurd (ended_or_spent f x within none)
-one_answer M f t budget _ _ line other too_large rewritten (n, x, within, is) (v, g, m, y, also, be) = let same = (unique x y).outcome in cc
-one_answer M f t budget _ _ line other too_large failing (n, x, within, is) (m, y, also, be) = let same = (unique x y).outcome in cc
-one_answer M f t budget _ _ line other too_large too_large (n, x, within, is) (m, y, also, be) = cc
+one_answer M f t budget _ _ line other too_large rewritten (n, x, within, is) (v, g, m, y, also, be) = let same = (unique x y).outcome in (cc, cc)
+one_answer M f t budget _ _ line other too_large failing (n, x, within, is) (m, y, also, be) = let same = (unique x y).outcome in (cc, cc)
+one_answer M f t budget _ _ line other too_large too_large (n, x, within, is) (m, y, also, be) = (refl, cc)
 one_answer M f t budget _ _ line other too_large spending (n, x, within, is) (none, be) = absurd (ended_or_spent f x within none)
 one_answer M f t budget _ _ line other spending rewritten (none, is) (v, g, m, y, also, be) = absurd (ended_or_spent f y also none)
 one_answer M f t budget _ _ line other spending failing (none, is) (m, y, also, be) = absurd (ended_or_spent f y also none)
 one_answer M f t budget _ _ line other spending too_large (none, is) (m, y, also, be) = absurd (ended_or_spent f y also none)
-one_answer M f t budget _ _ line other spending spending (none, is) (nothing, be) = cc
+one_answer M f t budget _ _ line other spending spending (none, is) (nothing, be) = (refl, cc)
 
--- the line of a run, or of a refusal
-data Line (M : Meaning) (defs term : List ℕ) (budget : ℕ) : List ℕ → Type 0 where
+-- the status and the line of a run, or of a refusal
+data Line (M : Meaning) (defs term : List ℕ) (budget : ℕ) : Status → List ℕ → Type 0 where
   of_run : {line : List ℕ} (status : Status) → IsRun status → (f : FileTree) (t : Tree) → AreAccepted defs f → IsAccepted term t →
-      IsAnswer M f t budget status line → Line M defs term budget line
-  of_fault : {line : List ℕ} (fault : Fault) → IsFirstFault defs term fault → line ≡ refusal_line fault → Line M defs term budget line
+      IsAnswer M f t budget status line → Line M defs term budget status line
+  of_fault : {line : List ℕ} (fault : Fault) → IsFirstFault defs term fault → line ≡ refusal_line fault → Line M defs term budget (Refused fault) line
 
 line_of_status : (M : Meaning) (defs term : List ℕ) (budget : ℕ) (status : Status) (line : List ℕ) →
-    IsWritten M defs term budget status line → Line M defs term budget line
+    IsWritten M defs term budget status line → Line M defs term budget status line
 line_of_status M defs term budget (Refused fault) line (first, is) = of_fault fault first is
 line_of_status M defs term budget Rewritten line (f, t, file, spelled, answer) = of_run Rewritten rewritten f t file spelled answer
 line_of_status M defs term budget Failed line (f, t, file, spelled, answer) = of_run Failed failing f t file spelled answer
 line_of_status M defs term budget Oversize line (f, t, file, spelled, answer) = of_run Oversize too_large f t file spelled answer
 line_of_status M defs term budget Spent line (f, t, file, spelled, answer) = of_run Spent spending f t file spelled answer
 
-one_of_lines : {M : Meaning} {defs term : List ℕ} {budget : ℕ} {line other : List ℕ} → Line M defs term budget line → Line M defs term budget other → line ≡ other
+one_of_lines : {M : Meaning} {defs term : List ℕ} {budget : ℕ} {s r : Status} {line other : List ℕ} → Line M defs term budget s line → Line M defs term budget r other →
+    AreAlike s r × (line ≡ other)
 one_of_lines {M = M} {budget = budget} {line = line} {other = other} (of_run s x f t file spelled answer) (of_run r y g u also spells reply) =
     let same_file : g ≡ f = one_file also file in
     let same_term : u ≡ t = one_term spells spelled in
@@ -225,10 +231,10 @@ one_of_lines {M = M} {budget = budget} {line = line} {other = other} (of_run s x
 one_of_lines {defs = defs} {term = term} (of_run s x f t file spelled answer) (of_fault fault first is) = absurd (no_run defs term fault first file spelled)
 one_of_lines {defs = defs} {term = term} (of_fault fault first is) (of_run s x f t file spelled answer) = absurd (no_run defs term fault first file spelled)
 one_of_lines {defs = defs} {term = term} (of_fault f x is) (of_fault g y be) =
-    let word : word_of f ≡ word_of g = one_fault defs term f g x y in
-    is ∙ (ap (λ w. line_of (codes "#refused " ++ w)) word ∙ sym be)
+    let one : AreOne f g = one_fault defs term f g x y in
+    (one.1, is ∙ (ap (λ w. line_of (codes "#refused " ++ w)) one.0 ∙ sym be))
 
--- definitions, a term's text and a budget have one line
+-- definitions, a term's text and a budget have one status and one line
 pub one_line : (M : Meaning) (defs term : List ℕ) (budget : ℕ) (s r : Status) (line other : List ℕ) →
-    IsWritten M defs term budget s line → IsWritten M defs term budget r other → line ≡ other
+    IsWritten M defs term budget s line → IsWritten M defs term budget r other → AreAlike s r × (line ≡ other)
 one_line M defs term budget s r line other x y = one_of_lines (line_of_status M defs term budget s line x) (line_of_status M defs term budget r other y)

@@ -12,7 +12,8 @@ use Rattle.str_pipeline.specs.declared.source_tree.Choice.TheVariants.{Either}
 use Rattle.str_pipeline.specs.declared.source_tree.Sequence.{Sequence}
 use Rattle.str_pipeline.specs.declared.source_tree.Sequence.TheVariants.{Followed}
 use Rattle.str_pipeline.specs.declared.source_tree.Atom.{Atom}
-use Rattle.str_pipeline.specs.SourceTree.{either, followed, choice_of, sequence_of, atom_of}
+use Rattle.str_pipeline.specs.SourceTree.{either, followed}
+use Rattle.str_pipeline.specs.SourceViews.{choice_of, sequence_of, atom_of}
 use Rattle.str_pipeline.specs.Reduction.{names_in, names_in_sequence, names_in_atom}
 use Rattle.str_pipeline.specs.Placement.{with_names, strategy_placed, sequence_placed, atom_placed, links_placed, arms_placed, arm_placed, last_placed}
 use Rattle.str_pipeline.proofs.TreeLaws.{reads_either, reads_followed}
@@ -22,7 +23,7 @@ on_ok : {X E P Q : Type 0} (r : Result X E) → (P → Q) → OnOk r P → OnOk 
 on_ok (Ok x) f p = f p
 on_ok (Err e) f p = p
 
--- the names behind those that come first
+-- the names after those that come first
 then_names : (xs ys zs a b : List (List ℕ)) → ys ≡ with_names xs a → zs ≡ with_names ys b → zs ≡ with_names xs (a ++ b)
 then_names xs ys zs a b first second = second ∙ ap (λ n. with_names n b) first ∙ sym (with_names-append xs a b)
 

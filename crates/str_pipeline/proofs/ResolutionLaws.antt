@@ -2,16 +2,16 @@
 use Rattle.std.proofs.Common.{◌≡◌, ℕ, List, [], map, ◌∙◌, ap, Some}
 use Rattle.std.specs.Option.{option_or, option_map}
 use Rattle.core_lang.specs.Named.{written, position_of}
-use Rattle.core_lang.specs.Resolution.{Scopes, names, here, one_up, variable_place, ResolvesPattern, to_anything, to_variable, to_integer, to_applied, ResolvesPatterns, to_no_patterns, to_more_patterns, Resolves, to_id, to_fail, to_seq, to_choice, to_match, to_build}
+use Rattle.core_lang.specs.Resolution.{Scopes, names, here, one_layer_up, variable_coordinate, ResolvesPattern, to_anything, to_variable, to_integer, to_applied, ResolvesPatterns, to_no_patterns, to_more_patterns, Resolves, to_id, to_fail, to_seq, to_choice, to_match, to_build}
 use Rattle.str_pipeline.specs.SourceTree.{PatternTree, named, wildcard, number, grouped, tuple, PatternTrees, no_patterns, more_patterns, ChoiceTree, sole, either, SequenceTree, single, followed, AtomTree, identity, failure, matching, building, enclosed}
 use Rattle.str_pipeline.specs.Reduction.{names_of, names_among, names_in, names_in_sequence, names_in_atom, pattern_core, patterns_core, strategy_core, sequence_core, atom_core}
 use Rattle.str_pipeline.specs.Placement.{slot_of, with_name, with_names, pattern_placed, patterns_placed, strategy_placed, sequence_placed, atom_placed}
 use Rattle.str_pipeline.proofs.SlotLaws.{slot_is_position, Extends, first_part, second_part}
 
 module _ (zs : List (List ℕ)) (S : Scopes) where
-  place : (x : List ℕ) (xs : List (List ℕ)) → Extends (with_name xs x) zs → variable_place (names [] (map written zs) S) (written x) ≡ Some (here (slot_of x xs))
+  place : (x : List ℕ) (xs : List (List ℕ)) → Extends (with_name xs x) zs → variable_coordinate (names [] (map written zs) S) (written x) ≡ Some (here (slot_of x xs))
   place x xs e =
-      ap (λ o. option_or (option_map here o) (option_map one_up (variable_place S (written x))))
+      ap (λ o. option_or (option_map here o) (option_map one_layer_up (variable_coordinate S (written x))))
       (ap (λ ys. position_of (written x) (map written ys)) e.is ∙ slot_is_position x xs e.more)
 
   mutual

@@ -28,7 +28,7 @@ with_name-later x y ys e =
 one_more : (i : ℕ) → suc i ≡ 1 + i
 one_more i = omega arith
 
--- the slot of a name is its position among the names with it, also with more behind them
+-- the slot of a name is its position among the names with it, also with more after them
 pub slot_is_position : (x : List ℕ) (xs more : List (List ℕ)) → position_of (written x) (map written (with_name xs x ++ more)) ≡ Some (slot_of x xs)
 slot_is_position x [] more = ap (λ b. if b then Some 0 else option_map (λ i. suc i) (position_of (written x) (map written more))) (bytes_eq-refl x)
 slot_is_position x (y ∷ ys) more = by (bytes_eq x y) refl (slot_is_position x ys more)
@@ -44,7 +44,7 @@ slot_is_position x (y ∷ ys) more = by (bytes_eq x y) refl (slot_is_position x 
         ap (λ b. if b then Some 0 else option_map (λ i. suc i) (position_of (written x) (map written (with_name ys x ++ more)))) e ∙
         ap (λ o. option_map (λ i. suc i) o) rest ∙ ap (λ i. Some i) (one_more (slot_of x ys)) ∙ sym (ap (λ b. Some (cond (not b) (1 + slot_of x ys) 0)) e)
 
--- the names, and perhaps others behind them
+-- the names, and perhaps others after them
 pub record Extends (xs ys : List (List ℕ)) : Type 0 where
   pub more : List (List ℕ)
   pub is : ys ≡ xs ++ more

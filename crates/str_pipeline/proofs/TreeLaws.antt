@@ -8,7 +8,8 @@ use Rattle.str_pipeline.specs.declared.source_tree.Atom.{Atom}
 use Rattle.str_pipeline.specs.declared.source_tree.Atom.TheOpen as O
 use Rattle.str_pipeline.specs.declared.source_tree.Atom.TheFolds.{fold-roll-Choice, fold-roll-Sequence, map-Choice, map-Sequence}
 use Rattle.str_pipeline.specs.declared.source_tree.Atom.TheViews.{roll-Choice, roll-Sequence}
-use Rattle.str_pipeline.specs.SourceTree.{ChoiceTree, either, SequenceTree, followed, AtomTree, choice_step, sequence_step, atom_step, choice_of, sequence_of, atom_of}
+use Rattle.str_pipeline.specs.SourceTree.{ChoiceTree, either, SequenceTree, followed, AtomTree}
+use Rattle.str_pipeline.specs.SourceViews.{choice_step, sequence_step, atom_step, choice_of, sequence_of, atom_of}
 
 choice_roll : (x : O.Choice-F Atom Choice Sequence) → choice_of (roll-Choice x) ≡ choice_step (map-Choice Atom Choice Sequence AtomTree ChoiceTree SequenceTree atom_of choice_of sequence_of x)
 choice_roll = fold-roll-Choice AtomTree ChoiceTree SequenceTree atom_step choice_step sequence_step

@@ -1,5 +1,5 @@
 -- What is written follows from the run of a program.
-use Rattle.std.proofs.Common.{◌≡◌, ℕ, List, length, ◌<◌, ◌≤◌, refl, Ok, inl, ap, subst}
+use Rattle.std.proofs.Common.{◌≡◌, ℕ, List, length, ◌<◌, ◌≤◌, refl, Ok, inl, ap, subst, arith}
 use Rattle.term_model.specs.Term.{Tree}
 use Rattle.term_model.specs.Flat.{Meaning}
 use Rattle.core_lang.specs.declared.run.Outcome.{Outcome}
@@ -20,13 +20,15 @@ use Rattle.term_model.specs.declared.fault.Fault.TheVariants as faults
 use Rattle.str_pipeline.specs.declared.status.Status.TheVariants.{Refused}
 use Rattle.str_pipeline.specs.Device.{Gains, GainsPrefix}
 use Rattle.str_pipeline.specs.Joined.{IsSplit}
-use Rattle.str_pipeline.specs.Judged.{max_definitions, max_term, AreAccepted, IsAccepted, IsProgram}
-use Rattle.str_pipeline.specs.Statuses.{IsRefusal, IsStop, IsWritingFault, IsTransferFault}
+use Rattle.str_pipeline.specs.Limits.{max_definitions, max_term}
+use Rattle.str_pipeline.specs.Judged.{AreAccepted, IsAccepted}
+use Rattle.str_pipeline.specs.Faults.{IsRefusal, is_read_fault}
+use Rattle.str_pipeline.specs.Steps.{IsProgram, IsResult, status_of, outcome_line}
 use Rattle.str_pipeline.specs.declared.status.Status.{Status}
 use Rattle.std.specs.Prelude.{IfOk, OnOk, IfErr, IsErrOf}
-use Rattle.str_pipeline.specs.Transfer.{is_read, is_read_fault}
-use Rattle.std.specs.Prelude.{false}
-use Rattle.str_pipeline.specs.Written.{IsWritten, status_of, outcome_line, refusal_line, IsFirstFault, IsResult, HasWritten, HasBegun}
+use Rattle.std.specs.Prelude.{true, false}
+use Rattle.str_pipeline.specs.Written.{IsWritten, refusal_line, IsFirstFault, HasWritten, HasBegun}
+use Rattle.str_pipeline.proofs.FaultLaws.{no_low_refusal}
 use Rattle.str_pipeline.proofs.CutLemmas.{one_split}
 
 -- the line and the status of a run
@@ -55,8 +57,8 @@ pub outcome_has_begun : (old new : Option (List ℕ)) (o : Outcome Tree) (d t : 
 outcome_has_begun old new o d t n gained result = record { status = status_of o; line = outcome_line o; gained = gained; is_written = result }
 
 first_fault : (d t : List ℕ) (n : ℕ) (fault : Fault) → IsRefusal fault → IsResult d t n (Err fault) → IsFirstFault d t fault
-first_fault d t n faults.Memory refusal result = absurd refusal
-first_fault d t n faults.Read refusal result = absurd refusal
+first_fault d t n faults.Memory refusal result = absurd (no_low_refusal faults.Memory refusal (omega arith))
+first_fault d t n faults.Read refusal result = absurd (no_low_refusal faults.Read refusal (omega arith))
 first_fault d t n _ refusal result = result
 
 pub refusal_has_written : (old new : Option (List ℕ)) (fault : Fault) (d t : List ℕ) (n : ℕ) → Gains old new (refusal_line fault) → IsRefusal fault
@@ -115,17 +117,7 @@ pub passed : {A : Type 0} (result : Result A Fault) (fault : Fault) → IsErrAnd
 passed (Ok x) fault is = absurd is
 passed (Err e) fault is = ap (λ (f : Fault). Err f) is
 
--- a fault before anything is written that is none of memory or reading
-pub is_refusal : (fault : Fault) → IsStop fault → (fault ≡ faults.Memory → ⊥) → (fault ≡ faults.Read → ⊥) → IsRefusal fault
-is_refusal faults.Memory stop not_memory not_read = absurd (not_memory refl)
-is_refusal faults.Read stop not_memory not_read = absurd (not_read refl)
-is_refusal _ stop not_memory not_read = stop
-
-pub is_no_read : (fault : Fault) → (fault ≡ faults.Read → ⊥) → is_read fault ≡ false
-is_no_read faults.Read not_read = absurd (not_read refl)
-is_no_read _ not_read = refl
-
--- what writing the line of a refusal answers
+-- what writing the line of a refusal returns
 pub refusal_written : (r : Result Status Fault) (old new : Option (List ℕ)) (fault : Fault) → IfOk r (λ s. s ≡ Refused fault)
     → OnOk r (Gains old new (refusal_line fault)) → IsRefusal fault
     → IfOk r (λ s. (d t : List ℕ) (n : ℕ) → IsResult d t n (Err fault) → HasWritten d t n s old new)
@@ -137,16 +129,6 @@ pub refusal_status : (r : Result Status Fault) (fault : Fault) → IfOk r (λ s.
 refusal_status (Ok s) fault is refusal = (is, refusal)
 refusal_status (Err e) fault is refusal = tt
 
-pub writes_no_read : (r : Result Status Fault) → IfErr r IsWritingFault → is_read_fault r ≡ false
-writes_no_read (Ok s) kinds = refl
-writes_no_read (Err faults.Read) kinds = absurd kinds
-writes_no_read (Err _) kinds = refl
-
-pub writes_not_read : (r : Result Status Fault) → IfErr r IsWritingFault → IsErrOf r faults.Read → ⊥
-writes_not_read r kinds is = subst (λ (x : Result Status Fault). IfErr x IsWritingFault) is kinds
-
-pub writing_kinds : (r : Result Status Fault) → IfErr r IsWritingFault → IfErr r IsTransferFault
-writing_kinds (Ok s) kinds = tt
-writing_kinds (Err faults.Memory) kinds = tt
-writing_kinds (Err faults.Write) kinds = tt
-writing_kinds (Err _) kinds = absurd kinds
+-- what reads nothing ends with no fault of reading
+pub writes_not_read : (r : Result Status Fault) → is_read_fault r ≡ false → IsErrOf r faults.Read → ⊥
+writes_not_read r none is = let wrong : true ≡ false = subst (λ (x : Result Status Fault). is_read_fault x ≡ false) is none in cc

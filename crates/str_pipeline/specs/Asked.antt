@@ -3,7 +3,11 @@ use Rattle.std.specs.Prelude.{ℕ, Bool, false, nat_le, List, drop, Option, None
 use Rattle.str_pipeline.specs.declared.counted.Counted.{Counted}
 use Rattle.str_pipeline.specs.declared.faulty.Faulty.{Faulty}
 
--- the calls of a device that tells none of its bytes
+-- the device of std whose calls are counted
+abbrev pub device_of : {D : Type 0} → Counted D → D
+device_of c = c.device
+
+-- its calls
 abbrev pub calls_of : {D : Type 0} → Counted D → ℕ
 calls_of c = c.calls.number
 

@@ -52,7 +52,7 @@ file_of_main s = record { main = s }
 
 -- the strategy of main, if this is its definition, without parameters
 abbrev pub main_in : whole.FormTree → Option FileTree
-main_in (whole.strategy_form (whole.definition f whole.absent s)) = if bytes_eq f (codes "main") then option_map file_of_main (choice_in s) else None
+main_in (whole.strategy_form (whole.definition (whole.head f whole.absent) s)) = if bytes_eq f (codes "main") then option_map file_of_main (choice_in s) else None
 main_in _ = None
 
 abbrev pub sections_in : List whole.SectionTree → Option FileTree

@@ -1,7 +1,7 @@
 -- The joined form: definitions, a line that is `#term`, and the text of a term.
 use Rattle.std.specs.Prelude.{◌≡◌, ℕ, ◌≤◌, ◌⊎◌, List, [], ◌∷◌, ◌++◌, length, codes}
 
--- a line begins behind these bytes: they are none, or end with a line feed
+-- a line begins after these bytes: they are none, or end with a line feed
 abbrev pub IsBeforeLine : List ℕ → Type 0
 IsBeforeLine before = (before ≡ []) ⊎ ((front : List ℕ) × (before ≡ front ++ 10 ∷ []))
 
@@ -11,7 +11,7 @@ pub data IsTermLine (line after : List ℕ) : Type 0 where
   by_return : line ≡ codes "#term" ++ 13 ∷ 10 ∷ [] → IsTermLine line after
   by_end : line ≡ codes "#term" → after ≡ [] → IsTermLine line after
 
--- the text has the line `#term` behind `before`, and `after` comes after it
+-- the text has the line `#term` after `before`, and `after` comes after it
 pub record HasTermLine (text before line after : List ℕ) : Type 0 where
   pub whole : text ≡ before ++ (line ++ after)
   pub begins : IsBeforeLine before

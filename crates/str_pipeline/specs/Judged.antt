@@ -1,11 +1,9 @@
 -- Which definitions and which term texts are refused, and what the others stand for.
-use Rattle.std.specs.Prelude.{◌≡◌, ℕ, ◌<◌, ◌≤◌, false, List, length, Some, None, Result, Ok, Err}
+use Rattle.std.specs.Prelude.{◌≡◌, ℕ, ◌<◌, ◌≤◌, false, List, length, Some, None, Ok, Err}
 use Rattle.term_model.specs.declared.fault.Fault.{Fault}
-use Rattle.term_model.specs.declared.fault.Fault.TheVariants.{Memory, DefsTooLong, Lexical, ReservedWord, Syntax, Nesting, TermTooLong, TermOversize, TermSyntax}
+use Rattle.term_model.specs.declared.fault.Fault.TheVariants.{DefsTooLong, Lexical, ReservedWord, Syntax, Nesting, TermTooLong, TermOversize, TermSyntax}
 use Rattle.term_model.specs.Term.{Tree}
 use Rattle.aterm_text.specs.ReadTerm.{IsReading}
-use Rattle.core_lang.specs.Resolution.{ResolvesProgram}
-use Rattle.core_lang.specs.Core.{CoreParts, program_of}
 use Rattle.str_lexer.specs.declared.token.Token.{Token}
 use Rattle.str_lexer.specs.Lexes.{Lexes, OnlyTokens, HoldsLeftOut, holds_left_out}
 use Rattle.str_syntax.specs.Trees as whole
@@ -13,14 +11,7 @@ use Rattle.str_parser.specs.Lexemes.{lexemes}
 use Rattle.str_parser.specs.Phrases.{IsPhrase, OnlyPhrase, TooNested}
 use Rattle.str_pipeline.specs.SourceTree.{FileTree}
 use Rattle.str_pipeline.specs.FirstPart.{file_in}
-use Rattle.str_pipeline.specs.Reduction.{program_core, main_name}
-
--- the most bytes of definitions, and of the text of a term
-abbrev pub max_definitions : ℕ
-max_definitions = 1_048_576
-
-abbrev pub max_term : ℕ
-max_term = 16_777_216
+use Rattle.str_pipeline.specs.Limits.{max_definitions, max_term}
 
 -- the bytes are no tokens
 abbrev pub HasNoTokens : List ℕ → Type 0
@@ -76,13 +67,3 @@ IsRefused text fault = ⊥
 -- the text is that of this term
 abbrev pub IsAccepted : List ℕ → Tree → Type 0
 IsAccepted text t = (length text ≤ max_term) × IsReading text (Ok t)
-
--- what making a program of definitions answers: a core that the program of the file is resolved to
-abbrev pub IsProgram : List ℕ → Result CoreParts Fault → Type 0
-IsProgram defs (Ok core) = (f : FileTree) × IsFile defs f × ResolvesProgram (program_core f) main_name (program_of core) core.main
-IsProgram defs (Err Memory) = Unit {0}
-IsProgram defs (Err (Lexical at)) = HasNoTokens defs
-IsProgram defs (Err (ReservedWord at)) = HoldsLeftOut defs
-IsProgram defs (Err (Nesting at)) = AreTooNested defs
-IsProgram defs (Err (Syntax at)) = HasNoPhrase defs
-IsProgram defs (Err fault) = ⊥

@@ -1,12 +1,14 @@
 pub mod Asked
 pub mod Device
+pub mod Faults
 pub mod FirstPart
 pub mod Joined
 pub mod Judged
+pub mod Limits
 pub mod Placement
 pub mod Reduction
 pub mod Search
 pub mod SourceTree
-pub mod Statuses
-pub mod Transfer
+pub mod SourceViews
+pub mod Steps
 pub mod Written

@@ -9,7 +9,7 @@ use Rattle.str_pipeline.specs.declared.joined.front.Front.{Front}
 use Rattle.str_pipeline.specs.declared.joined.Step.{Step}
 use Rattle.str_pipeline.specs.declared.joined.Step.TheVariants.{Found, TooLong, More}
 
--- whether these bytes may come behind those that are known
+-- whether these bytes may come after those that are known
 abbrev pub CanFollow : Bool → List ℕ → Type 0
 CanFollow true more = more ≡ []
 CanFollow false more = Unit {0}

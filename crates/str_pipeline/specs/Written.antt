@@ -1,7 +1,7 @@
 -- What is written for definitions and the text of a term, and with which status.
-use Rattle.std.specs.Prelude.{◌≡◌, ℕ, ◌<◌, ◌≤◌, ◌⊎◌, List, [], ◌∷◌, ◌++◌, codes, Option, Result, Ok, Err}
+use Rattle.std.specs.Prelude.{◌≡◌, ℕ, ◌<◌, ◌≤◌, ◌⊎◌, List, [], ◌∷◌, ◌++◌, codes, Option}
 use Rattle.term_model.specs.declared.fault.Fault.{Fault}
-use Rattle.term_model.specs.Fault.{word_of}
+use Rattle.term_model.specs.Fault.{number_of, word_of}
 use Rattle.term_model.specs.Term.{Tree}
 use Rattle.term_model.specs.Flat.{Meaning}
 use Rattle.aterm_text.specs.Text.{text}
@@ -12,9 +12,6 @@ use Rattle.str_pipeline.specs.SourceTree.{FileTree}
 use Rattle.str_pipeline.specs.Reduction.{program_core, main_name}
 use Rattle.str_pipeline.specs.Judged.{AreRefused, AreAccepted, IsRefused, IsAccepted}
 use Rattle.str_pipeline.specs.Device.{Gains, GainsPrefix}
-use Rattle.term_model.specs.declared.fault.Fault.TheVariants.{Memory, Read}
-use Rattle.core_lang.specs.declared.run.Outcome.{Outcome}
-use Rattle.core_lang.specs.declared.run.Outcome.TheVariants as outcomes
 use Rattle.str_pipeline.specs.declared.status.Status.{Status}
 use Rattle.str_pipeline.specs.declared.status.Status.TheVariants.{Rewritten, Failed, Oversize, Spent, Refused}
 
@@ -46,6 +43,11 @@ abbrev pub IsWritten : Meaning → List ℕ → List ℕ → ℕ → Status → 
 IsWritten M defs term budget (Refused fault) line = IsFirstFault defs term fault × (line ≡ refusal_line fault)
 IsWritten M defs term budget status line = (f : FileTree) × (t : Tree) × AreAccepted defs f × IsAccepted term t × IsAnswer M f t budget status line
 
+-- these are one status, but for the place of a fault
+abbrev pub AreAlike : Status → Status → Type 0
+AreAlike (Refused fault) (Refused other) = number_of fault ≡ number_of other
+AreAlike status other = status ≡ other
+
 -- a writer that tells its bytes has gained the line, whatever primitives mean
 pub record HasWritten (defs term : List ℕ) (budget : ℕ) (status : Status) (old new : Option (List ℕ)) : Type 0 where
   pub line : List ℕ
@@ -58,24 +60,3 @@ pub record HasBegun (defs term : List ℕ) (budget : ℕ) (old new : Option (Lis
   pub line : List ℕ
   pub gained : GainsPrefix old new line
   pub is_written : (M : Meaning) → IsWritten M defs term budget status line
-
--- ---- the outcome of a run, or a fault in place of one
-
-abbrev pub status_of : Outcome Tree → Status
-status_of (outcomes.Rewritten u) = Rewritten
-status_of outcomes.Failed = Failed
-status_of outcomes.Oversize = Oversize
-status_of outcomes.Spent = Spent
-
-abbrev pub outcome_line : Outcome Tree → List ℕ
-outcome_line (outcomes.Rewritten u) = line_of (text u)
-outcome_line outcomes.Failed = line_of (codes "#failed")
-outcome_line outcomes.Oversize = line_of (codes "#oversize")
-outcome_line outcomes.Spent = line_of (codes "#spent")
-
--- what is known of the definitions and the term by the outcome, or by the fault
-abbrev pub IsResult : List ℕ → List ℕ → ℕ → Result (Outcome Tree) Fault → Type 0
-IsResult defs term budget (Ok outcome) = (M : Meaning) → IsWritten M defs term budget (status_of outcome) (outcome_line outcome)
-IsResult defs term budget (Err Memory) = Unit {0}
-IsResult defs term budget (Err Read) = Unit {0}
-IsResult defs term budget (Err fault) = IsFirstFault defs term fault

@@ -1,15 +1,17 @@
 //! What a file does with a term, and the line that says so.
-ghost use Rattle.std.specs.Prelude.{◌≡◌, ◌+◌, ◌≤◌, ◌++◌, ℕ, List, length, is_err, if◌then◌else◌, IfOk, IfErr, OnOk, IsErrOf};
+ghost use Rattle.std.specs.Prelude.{◌≡◌, ◌+◌, ◌≤◌, ◌++◌, ℕ, List, length, false, if◌then◌else◌, IfOk, IfErr, OnOk, IsErrOf};
 ghost use Rattle.term_model.specs.Flat.{Meaning};
 ghost use Rattle.core_lang.specs.Core.{program_of};
 ghost use Rattle.core_lang.specs.Resolution.{ResolvesProgram};
 ghost use Rattle.str_pipeline.specs.SourceTree.{FileTree};
 ghost use Rattle.str_pipeline.specs.Reduction.{program_core, main_name};
 ghost use Rattle.str_pipeline.specs.Device.{Gains, GainsPrefix};
-ghost use Rattle.str_pipeline.specs.Judged.{max_term, AreAccepted};
-ghost use Rattle.str_pipeline.specs.Written.{IsResult, status_of, outcome_line, line_of, refusal_line};
-ghost use Rattle.str_pipeline.specs.Statuses.{IsStop, IsOfTerm, IsWritingFault};
-ghost use Rattle.str_pipeline.specs.Transfer.{is_write_fault};
+ghost use Rattle.str_pipeline.specs.Limits.{max_term};
+ghost use Rattle.term_model.specs.Limits.{max_budget};
+ghost use Rattle.str_pipeline.specs.Judged.{AreAccepted};
+ghost use Rattle.str_pipeline.specs.Written.{line_of, refusal_line};
+ghost use Rattle.str_pipeline.specs.Steps.{IsStop, IsResult, status_of, outcome_line};
+ghost use Rattle.str_pipeline.specs.Faults.{IsOfDefinitions, IsTransferFault, is_read_fault, is_write_fault};
 
 use crate::sink::{Sink, write_all};
 use crate::status::Status;
@@ -25,26 +27,31 @@ pub const MAX_DEFINITIONS: usize = 1_048_576;
 /// The most bytes of the text of a term.
 pub const MAX_TERM: usize = 16_777_216;
 
-/// What the program does with the term of this text. The fault is one of the term's, or `Memory`.
-#[tactic(auto, using(crate::proofs::WrittenLaws::run_written))]
+/// The greatest budget of a run, in rules.
+pub const MAX_BUDGET: u32 = 2_000;
+
+/// Returns what the program does with the term of this text. The fault is one of the term's, or `Memory`.
+#[tactic(auto, using(crate::proofs::WrittenLaws::run_written, crate::proofs::FaultLaws::text_stops, crate::proofs::FaultLaws::text_apart, crate::proofs::FaultLaws::text_no_read))]
 pub(crate) fn outcome_of(
     alloc: Global,
     core: &Core,
     text: &[u8],
     budget: u32,
 ) -> Result<Outcome<Term>, Fault>
-    requires budget { budget ≤ 2000 }
+    requires budget { budget ≤ max_budget }
     requires fits { length text.now ≤ max_term }
     ensures result { (defs : List ℕ) (f : FileTree) → AreAccepted defs f →
         ResolvesProgram (program_core f) main_name (program_of core.now) core.now.main → IsResult defs text.now budget result }
-    ensures kinds { IfErr result IsOfTerm }
+    ensures kinds { IfErr result IsStop }
+    ensures apart { IfErr result (λ fault. IsOfDefinitions fault → ⊥) }
+    ensures read { is_read_fault result ≡ false }
 {
     let term = read_term(alloc, text)?;
     let run = eval(alloc, core, &term, budget)?;
     Ok(run.outcome)
 }
 
-/// The status of an outcome.
+/// Returns the status of an outcome.
 fn status_of(outcome: &Outcome<Term>) -> Status
     ensures { result ≡ status_of outcome.now }
 {
@@ -56,7 +63,7 @@ fn status_of(outcome: &Outcome<Term>) -> Status
     }
 }
 
-/// The line of an outcome, without the line feed that ends it.
+/// Makes the line of an outcome, without the line feed that ends it.
 fn outcome_text(alloc: Global, outcome: &Outcome<Term>) -> Result<Vec<u8>, AllocError>
     ensures { IfOk result (λ bytes. outcome_line outcome.now ≡ line_of bytes.items) }
 {
@@ -83,7 +90,8 @@ pub(crate) fn write_outcome<W: Sink>(
     ensures prefix { IsErrOf result Fault.Write → GainsPrefix (W.written out.old) (W.written out.new) (outcome_line outcome.now) }
     ensures untouched { IsErrOf result Fault.Memory → out.new ≡ out.old }
     ensures failed { W.failed_writes out.new ≡ W.failed_writes out.old + (if is_write_fault result then 1 else 0) }
-    ensures kinds { IfErr result IsWritingFault }
+    ensures kinds { IfErr result IsTransferFault }
+    ensures read { is_read_fault result ≡ false }
 {
     let mut line = outcome_text(alloc, outcome)?;
     line.push(b'\n')?;
@@ -102,7 +110,8 @@ pub(crate) fn write_refusal<W: Sink>(
     ensures prefix { IsErrOf result Fault.Write → GainsPrefix (W.written out.old) (W.written out.new) (refusal_line fault) }
     ensures untouched { IsErrOf result Fault.Memory → out.new ≡ out.old }
     ensures failed { W.failed_writes out.new ≡ W.failed_writes out.old + (if is_write_fault result then 1 else 0) }
-    ensures kinds { IfErr result IsWritingFault }
+    ensures kinds { IfErr result IsTransferFault }
+    ensures read { is_read_fault result ≡ false }
 {
     let mut line = b"#refused ".to_vec(alloc)?;
     line.extend_from_slice(fault.word().as_bytes())?;

@@ -1,13 +1,14 @@
-//! Devices of std, of which only the calls are known.
-ghost use Rattle.std.specs.Prelude.{◌≡◌, None};
-ghost use Rattle.str_pipeline.specs.Asked.{calls_of, failures_of};
+//! Devices of std.
+ghost use Rattle.std.specs.Prelude.{◌≡◌};
+ghost use Rattle.str_pipeline.specs.Asked.{device_of, calls_of, failures_of};
 
 use crate::sink::Sink;
 use crate::source::Source;
 use crate::tally::Count;
 use std::io::{Read, Write};
 
-/// A reader or a writer of std that tells none of its bytes. Any error is a failed call.
+/// A reader or a writer of std. It tells the bytes that the device tells: those of a slice or a vector, and none of a file,
+/// a terminal or a standard stream. Any error is a failed call.
 #[derive(Drop)]
 pub struct Counted<D> {
     device: D,
@@ -16,8 +17,9 @@ pub struct Counted<D> {
 }
 
 impl<D> Counted<D> {
-    /// The device, with no call counted yet.
+    /// Makes a reader or a writer of the device, with no call counted yet.
     pub fn new(device: D) -> Counted<D>
+        ensures device { device_of result ≡ device }
         ensures calls { calls_of result ≡ 0 }
         ensures failures { failures_of result ≡ 0 }
     {
@@ -27,10 +29,17 @@ impl<D> Counted<D> {
             failed: Count::new(),
         }
     }
+
+    /// Returns the device.
+    pub fn into_inner(self) -> D
+        ensures { result ≡ device_of self }
+    {
+        self.device
+    }
 }
 
 impl<D: Read> Source for Counted<D> {
-    ghost coming = { λ _. None };
+    ghost coming = { λ c. D.remaining (device_of c) };
 
     ghost reads = { λ c. calls_of c };
 
@@ -49,7 +58,7 @@ impl<D: Read> Source for Counted<D> {
 }
 
 impl<D: Write> Sink for Counted<D> {
-    ghost written = { λ _. None };
+    ghost written = { λ c. D.contents (device_of c) };
 
     ghost writes = { λ c. calls_of c };
 

@@ -1,7 +1,7 @@
 // The first part of the language, out of the trees of the whole language.
 ghost use Rattle.std.specs.Prelude.{◌≡◌, None, map, option_map, IfOk, MatchOption};
 ghost use Rattle.str_syntax.specs.Views as whole;
-ghost use Rattle.str_pipeline.specs.SourceTree.{atom_of, choice_of, file_of, pattern_of, patterns_of, sequence_of};
+ghost use Rattle.str_pipeline.specs.SourceViews.{atom_of, choice_of, file_of, pattern_of, patterns_of, sequence_of};
 ghost use Rattle.str_pipeline.specs.FirstPart.{atom_in, choice_in, file_in, file_of_main, main_in, pattern_in, patterns_in, sections_in, sequence_in, step_in};
 
 use crate::name::Name;
@@ -56,10 +56,10 @@ fn strategy_of_main<'a>(form: &'a DefinitionForm) -> Option<&'a Strategy>
     let DefinitionForm::Strategy(definition) = form else {
         return None;
     };
-    if definition.name.bytes() != b"main".as_slice() {
+    if definition.head.name.bytes() != b"main".as_slice() {
         return None;
     }
-    match &definition.parameters {
+    match &definition.head.parameters {
         Parameters::Absent => Some(&definition.body),
         Parameters::Strategies(_) => None,
         Parameters::WithTerms(..) => None,
@@ -156,17 +156,13 @@ fn atom(alloc: Global, source: &Primary) -> Result<Option<Atom>, AllocError>
         | Primary::Scope(..)
         | Primary::Operator(..)
         | Primary::If(..)
-        | Primary::IfElse(..)
         | Primary::Recursive(..)
         | Primary::Let(..)
         | Primary::Primitive(..)
         | Primary::Lambda(_)
-        | Primary::Call(_)
-        | Primary::CallWith(..)
-        | Primary::CallWithTerms(..)
+        | Primary::Call(..)
         | Primary::TupleCongruence(_)
-        | Primary::ListCongruence(_)
-        | Primary::ListCongruenceWithTail(..) => Ok(None),
+        | Primary::ListCongruence(..) => Ok(None),
     }
 }
 
@@ -183,7 +179,7 @@ fn pattern(
         Pattern::Variable(name) => {
             Ok(Some(SourcePattern::Name(Name::new(alloc, name.bytes())?)))
         }
-        Pattern::Wildcard => {
+        Pattern::Wildcard(_) => {
             if in_match {
                 return Ok(Some(SourcePattern::Wildcard));
             }
@@ -205,8 +201,7 @@ fn pattern(
         Pattern::Alias(..)
         | Pattern::Quoted(_)
         | Pattern::Application(..)
-        | Pattern::List(_)
-        | Pattern::ListWithTail(..)
+        | Pattern::List(..)
         | Pattern::Applied(_)
         | Pattern::AppliedTo(..) => Ok(None),
     }

@@ -2,7 +2,7 @@
 ghost use Rattle.std.specs.Prelude.{[], ◌≡◌, ◌≢◌, ◌+◌, ◌<◌, ◌≤◌, ◌++◌, ℕ, List, None, Some, true, false, length, vec_len, take, drop, slice_index, EachIndex, MatchOption, IfSome, IsSomeAnd, IfOk, IfErr, IsTrue, if◌then◌else◌};
 ghost use Rattle.str_pipeline.specs.Joined.{IsSplit};
 ghost use Rattle.str_pipeline.specs.Search.{IsKind, IsClear, IsSearched, IsStep, definitions_of, term_of, HasLongDefinitions};
-ghost use Rattle.str_pipeline.specs.Transfer.{is_read_fault, IsReadingFault};
+ghost use Rattle.str_pipeline.specs.Faults.{is_read_fault, IsReadingFault};
 ghost use Rattle.str_pipeline.specs.Device.{IsDry};
 
 mod front;
@@ -15,7 +15,7 @@ use term_model::Fault;
 /// What a line is, by its first bytes.
 #[derive(Clone, Copy)]
 enum LineKind {
-    /// The line `#term`, of so many bytes with what ends it.
+    /// The line `#term`, and its length in bytes with what ends it.
     Term(usize),
     Other,
     /// More bytes have to be read.
@@ -39,7 +39,7 @@ enum Step {
     More(Search),
 }
 
-/// The kind of the line that begins with these bytes, to which more may come unless they are the
+/// Returns the kind of the line that begins with these bytes, to which more may come unless they are the
 /// last.
 fn line_kind(text: &[u8], is_end: bool) -> LineKind
     ensures { IsKind is_end text.now result }
@@ -63,7 +63,7 @@ fn line_kind(text: &[u8], is_end: bool) -> LineKind
     LineKind::Other
 }
 
-/// The place of the first line feed.
+/// Returns the place of the first line feed.
 fn line_feed(text: &[u8]) -> Option<usize>
     ensures { MatchOption result
         (EachIndex text.now (λ k. slice_index text.now k ≢ 10))
@@ -100,7 +100,7 @@ fn advance(known: &[u8], search: Search, limit: usize, is_end: bool) -> Step
     }
 }
 
-/// What the bytes that are known say where no such line begins in them or right behind them.
+/// Returns what the bytes that are known say where no such line begins in them or right after them.
 #[tactic(auto, using(crate::proofs::CutLemmas::clear_fewer, crate::proofs::CutLemmas::found_none))]
 fn without_line(known: &[u8], limit: usize, is_end: bool) -> Step
     requires { IsClear is_end known.now (length known.now + 1) }
@@ -162,7 +162,7 @@ impl Front {
         &self.bytes[..self.definitions]
     }
 
-    /// The term text, or `None` where it has more than `limit` bytes. Nothing is read where the
+    /// Returns the term text, or `None` where it has more than `limit` bytes. Nothing is read where the
     /// input has ended. The fault is `Read` where a read failed, and `Memory`.
     pub(crate) fn read_term<S: Source>(
         &self,

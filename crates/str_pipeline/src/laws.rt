@@ -3,18 +3,19 @@ ghost use Rattle.std.specs.Prelude.{◌≡◌, ℕ, List};
 ghost use Rattle.term_model.specs.Flat.{Meaning};
 ghost use Rattle.str_pipeline.specs.declared.status.Status.{Status};
 ghost use Rattle.str_pipeline.specs.Joined.{IsSplit};
-ghost use Rattle.str_pipeline.specs.Written.{IsWritten};
+ghost use Rattle.str_pipeline.specs.Written.{AreAlike, IsWritten};
 
-/// Each text of the joined form has a split, and only one.
+/// Says that each text of the joined form has a split, and only one.
 #[tactic(auto, using(crate::proofs::CutLemmas::one_split, crate::proofs::SplitLaws::some_split))]
 pub fn joined_form_law()
     ensures one { (text d t e u : List ℕ) → IsSplit text d t → IsSplit text e u → (d ≡ e) × (t ≡ u) }
     ensures some { (text : List ℕ) → (d : List ℕ) × (t : List ℕ) × IsSplit text d t }
 {}
 
-/// Definitions, the text of a term and a budget have at most one line, whatever primitives mean.
+/// Says that definitions, the text of a term and a budget have at most one line and one status, whatever primitives mean: two statuses
+/// that differ are refusals of the same fault, at other places.
 #[tactic(auto, using(crate::proofs::OneLine::one_line))]
 pub fn one_line_law()
     ensures { (M : Meaning) (defs term : List ℕ) (budget : ℕ) (s r : Status) (line other : List ℕ) →
-        IsWritten M defs term budget s line → IsWritten M defs term budget r other → line ≡ other }
+        IsWritten M defs term budget s line → IsWritten M defs term budget r other → AreAlike s r × (line ≡ other) }
 {}

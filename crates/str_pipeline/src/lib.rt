@@ -20,7 +20,7 @@ mod tally;
 mod tests;
 mod variables;
 
-pub use answer::{MAX_DEFINITIONS, MAX_TERM};
+pub use answer::{MAX_BUDGET, MAX_DEFINITIONS, MAX_TERM};
 pub use counted::Counted;
 pub use faulty::Faulty;
 pub use laws::{joined_form_law, one_line_law};

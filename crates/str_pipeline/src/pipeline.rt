@@ -2,10 +2,12 @@
 ghost use Rattle.std.specs.Prelude.{◌≡◌, ◌+◌, ◌≤◌, ℕ, List, Result, Err, if◌then◌else◌, IfOk, IfErr, IfSome, IsErrOf, IsErrAnd};
 ghost use Rattle.term_model.specs.declared.fault.Fault.{Fault};
 ghost use Rattle.str_pipeline.specs.Joined.{IsSplit};
+ghost use Rattle.str_pipeline.specs.Limits.{max_definitions, max_term};
+ghost use Rattle.term_model.specs.Limits.{max_budget};
 ghost use Rattle.str_pipeline.specs.Judged.{AreRefused};
-ghost use Rattle.str_pipeline.specs.Written.{IsResult, HasWritten, HasBegun};
-ghost use Rattle.str_pipeline.specs.Statuses.{HoldsRefusal, IsRefusal, IsStop, IsTransferFault, IsOfDefinitions, RefusesDefinitions};
-ghost use Rattle.str_pipeline.specs.Transfer.{is_read, is_read_fault, is_write_fault};
+ghost use Rattle.str_pipeline.specs.Written.{HasWritten, HasBegun};
+ghost use Rattle.str_pipeline.specs.Steps.{IsStop, IsResult};
+ghost use Rattle.str_pipeline.specs.Faults.{HoldsRefusal, IsRefusal, IsTransferFault, IsOfDefinitions, RefusesDefinitions, is_read, is_read_fault, is_write_fault};
 
 use crate::answer::{MAX_DEFINITIONS, MAX_TERM, outcome_of, write_outcome, write_refusal};
 use crate::joined::read_front;
@@ -17,22 +19,23 @@ use core_lang::Outcome;
 use std::alloc::Global;
 use term_model::{Fault, Term};
 
-/// What the definitions do with the term. The fault is the first refusal, or `Memory` or `Read`.
+/// Returns what the definitions do with the term. The fault is the first refusal, or `Memory` or `Read`.
+#[tactic(auto, using(crate::proofs::FaultLaws::reading_stops, crate::proofs::FaultLaws::reading_apart, crate::proofs::FaultLaws::program_stops, crate::proofs::FaultLaws::program_no_read, crate::proofs::FaultLaws::long_definitions_stop, crate::proofs::FaultLaws::long_term_stops, crate::proofs::FaultLaws::long_term_apart))]
 fn outcome_apart<D: Source, T: Source>(
     alloc: Global,
     defs: &mut D,
     term: &mut T,
     budget: u32,
 ) -> Result<Outcome<Term>, Fault>
-    requires { budget ≤ 2000 }
+    requires { budget ≤ max_budget }
     ensures result { IfSome (D.coming defs.old) (λ d. IfSome (T.coming term.old) (λ t. IsResult d t budget result)) }
     ensures kinds { IfErr result IsStop }
     ensures failed { D.failed_reads defs.new + T.failed_reads term.new
         ≡ D.failed_reads defs.old + T.failed_reads term.old + (if is_read_fault result then 1 else 0) }
     ensures unread { IfErr result (λ fault. IsOfDefinitions fault → term.new ≡ term.old) }
     ensures unread_told { IfSome (D.coming defs.old) (λ d. (fault : Fault) → AreRefused d fault → term.new ≡ term.old) }
-    ensures defs_bounded { D.reads defs.new ≤ D.reads defs.old + 1_048_577 }
-    ensures term_bounded { T.reads term.new ≤ T.reads term.old + 16_777_217 }
+    ensures defs_bounded { D.reads defs.new ≤ D.reads defs.old + max_definitions + 1 }
+    ensures term_bounded { T.reads term.new ≤ T.reads term.old + max_term + 1 }
 {
     let Some(text) = read_all(alloc, defs, MAX_DEFINITIONS)? else {
         return Err(Fault::DefsTooLong);
@@ -44,18 +47,19 @@ fn outcome_apart<D: Source, T: Source>(
     outcome_of(alloc, &core, &text, budget)
 }
 
-/// The same over one reader of the joined form.
+/// Does the same over one reader of the joined form.
+#[tactic(auto, using(crate::proofs::FaultLaws::reading_stops, crate::proofs::FaultLaws::reading_apart, crate::proofs::FaultLaws::program_stops, crate::proofs::FaultLaws::program_no_read, crate::proofs::FaultLaws::long_definitions_stop, crate::proofs::FaultLaws::long_term_stops, crate::proofs::FaultLaws::long_term_apart))]
 fn outcome_joined<S: Source>(
     alloc: Global,
     input: &mut S,
     budget: u32,
 ) -> Result<Outcome<Term>, Fault>
-    requires { budget ≤ 2000 }
+    requires { budget ≤ max_budget }
     ensures result { IfSome (S.coming input.old) (λ told. (d t : List ℕ) → IsSplit told d t → IsResult d t budget result) }
     ensures kinds { IfErr result IsStop }
     ensures failed { S.failed_reads input.new ≡ S.failed_reads input.old + (if is_read_fault result then 1 else 0) }
-    ensures bounded { S.reads input.new ≤ S.reads input.old + 1_048_593 + 16_777_217 }
-    ensures defs_bounded { IfErr result (λ fault. IsOfDefinitions fault → S.reads input.new ≤ S.reads input.old + 1_048_593) }
+    ensures bounded { S.reads input.new ≤ S.reads input.old + max_definitions + 17 + max_term + 1 }
+    ensures defs_bounded { IfErr result (λ fault. IsOfDefinitions fault → S.reads input.new ≤ S.reads input.old + max_definitions + 17) }
 {
     let Some(front) = read_front(alloc, input, MAX_DEFINITIONS)? else {
         return Err(Fault::DefsTooLong);
@@ -67,8 +71,8 @@ fn outcome_joined<S: Source>(
     outcome_of(alloc, &core, &text, budget)
 }
 
-/// Writes the line of the outcome, or of the refusal that came in place of it, and answers its
-/// status. A fault of reading or of memory is answered as it is.
+/// Writes the line of the outcome, or of the refusal that came in place of it, and returns its
+/// status. A fault of reading or of memory is returned as it is.
 #[tactic(auto, using(crate::proofs::WrittenLaws::outcome_has_written, crate::proofs::WrittenLaws::outcome_has_begun))]
 fn finish<W: Sink>(
     alloc: Global,
@@ -92,8 +96,8 @@ fn finish<W: Sink>(
     }
 }
 
-/// Writes the line of a refusal. A fault of reading or of memory is answered as it is.
-#[tactic(auto, using(crate::proofs::WrittenLaws::refusal_has_written, crate::proofs::WrittenLaws::refusal_has_begun))]
+/// Writes the line of a refusal. A fault of reading or of memory is returned as it is.
+#[tactic(auto, using(crate::proofs::WrittenLaws::refusal_has_begun, crate::proofs::WrittenLaws::refusal_written, crate::proofs::WrittenLaws::refusal_status, crate::proofs::WrittenLaws::writes_not_read, crate::proofs::FaultLaws::is_refusal, crate::proofs::FaultLaws::is_reading, crate::proofs::FaultLaws::is_no_read))]
 fn write_fault<W: Sink>(alloc: Global, fault: Fault, out: &mut W) -> Result<Status, Fault>
     requires { IsStop fault }
     ensures written { IfOk result (λ status. (d t : List ℕ) (n : ℕ) → IsResult d t n (Err fault) → HasWritten d t n status (W.written out.old) (W.written out.new)) }
@@ -105,11 +109,10 @@ fn write_fault<W: Sink>(alloc: Global, fault: Fault, out: &mut W) -> Result<Stat
     ensures failed { W.failed_writes out.new ≡ W.failed_writes out.old + (if is_write_fault result then 1 else 0) }
     ensures kinds { IfErr result IsTransferFault }
 {
-    match fault {
-        Fault::Memory => Err(Fault::Memory),
-        Fault::Read => Err(Fault::Read),
-        fault => write_refusal(alloc, fault, out),
+    if fault.number() <= 2 {
+        return Err(fault);
     }
+    write_refusal(alloc, fault, out)
 }
 
 /// Reads definitions and then the text of a term, lets the definitions rewrite the term, and writes
@@ -128,7 +131,7 @@ pub fn transform<D: Source, T: Source, W: Sink>(
     options: &Options,
     out: &mut W,
 ) -> Result<Status, Fault>
-    requires { options.now.budget ≤ 2000 }
+    requires { options.now.budget ≤ max_budget }
     ensures written { IfOk result (λ status. IfSome (D.coming defs.old) (λ d. IfSome (T.coming term.old) (λ t.
         HasWritten d t options.now.budget status (W.written out.old) (W.written out.new)))) }
     ensures begun { IsErrOf result Fault.Write → IfSome (D.coming defs.old) (λ d. IfSome (T.coming term.old) (λ t.
@@ -142,14 +145,14 @@ pub fn transform<D: Source, T: Source, W: Sink>(
     ensures write_failed { W.failed_writes out.new ≡ W.failed_writes out.old + (if is_write_fault result then 1 else 0) }
     ensures unread { IfOk result (λ status. RefusesDefinitions status → term.new ≡ term.old) }
     ensures unread_told { IfSome (D.coming defs.old) (λ d. (fault : Fault) → AreRefused d fault → term.new ≡ term.old) }
-    ensures defs_bounded { D.reads defs.new ≤ D.reads defs.old + 1_048_577 }
-    ensures term_bounded { T.reads term.new ≤ T.reads term.old + 16_777_217 }
+    ensures defs_bounded { D.reads defs.new ≤ D.reads defs.old + max_definitions + 1 }
+    ensures term_bounded { T.reads term.new ≤ T.reads term.old + max_term + 1 }
 {
     let outcome = outcome_apart(alloc, defs, term, options.budget);
     finish(alloc, outcome, out)
 }
 
-/// The same over one reader of the joined form: the definitions are the bytes before the first line
+/// Does the same over one reader of the joined form: the definitions are the bytes before the first line
 /// that is `#term`, ended by a line feed, by CR and line feed or by the end of the input, and the
 /// text of the term is what comes after it; where no such line comes, all is definitions and that
 /// text is empty. At most 16 further reads are made for the line.
@@ -162,7 +165,7 @@ pub fn transform_joined<S: Source, W: Sink>(
     options: &Options,
     out: &mut W,
 ) -> Result<Status, Fault>
-    requires { options.now.budget ≤ 2000 }
+    requires { options.now.budget ≤ max_budget }
     ensures written { IfOk result (λ status. IfSome (S.coming input.old) (λ told. (d t : List ℕ) → IsSplit told d t →
         HasWritten d t options.now.budget status (W.written out.old) (W.written out.new))) }
     ensures begun { IsErrOf result Fault.Write → IfSome (S.coming input.old) (λ told. (d t : List ℕ) → IsSplit told d t →
@@ -173,8 +176,8 @@ pub fn transform_joined<S: Source, W: Sink>(
     ensures untouched_read { IsErrOf result Fault.Read → out.new ≡ out.old }
     ensures read_failed { S.failed_reads input.new ≡ S.failed_reads input.old + (if is_read_fault result then 1 else 0) }
     ensures write_failed { W.failed_writes out.new ≡ W.failed_writes out.old + (if is_write_fault result then 1 else 0) }
-    ensures bounded { S.reads input.new ≤ S.reads input.old + 1_048_593 + 16_777_217 }
-    ensures defs_bounded { IfOk result (λ status. RefusesDefinitions status → S.reads input.new ≤ S.reads input.old + 1_048_593) }
+    ensures bounded { S.reads input.new ≤ S.reads input.old + max_definitions + 17 + max_term + 1 }
+    ensures defs_bounded { IfOk result (λ status. RefusesDefinitions status → S.reads input.new ≤ S.reads input.old + max_definitions + 17) }
 {
     let outcome = outcome_joined(alloc, input, options.budget);
     finish(alloc, outcome, out)

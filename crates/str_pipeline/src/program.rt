@@ -1,5 +1,5 @@
 //! From the bytes of definitions to their program.
-ghost use Rattle.str_pipeline.specs.Judged.{IsProgram};
+ghost use Rattle.str_pipeline.specs.Steps.{IsProgram};
 
 use crate::first_part::first_part;
 use crate::reduction::to_core;
@@ -9,7 +9,7 @@ use str_lexer::lex;
 use str_parser::parse;
 use term_model::Fault;
 
-/// The core of a definition file. The fault is `Lexical`, `ReservedWord`, `Syntax` or `Nesting`, as
+/// Makes the core of a definition file. The fault is `Lexical`, `ReservedWord`, `Syntax` or `Nesting`, as
 /// `lex` and `parse` say, `Syntax` at 0 where the file is none of the first part, and `Memory`.
 pub(crate) fn program_of(alloc: Global, definitions: &[u8]) -> Result<Core, Fault>
     ensures { IsProgram definitions.now result }

@@ -3,7 +3,7 @@ ghost use Rattle.std.specs.Prelude.{◌≡◌, ◌++◌, List, map, IfOk, OnOk};
 ghost use Rattle.core_lang.specs.Core.{program_of};
 ghost use Rattle.core_lang.specs.Resolution.{ResolvesProgram};
 ghost use Rattle.core_lang.specs.Views as views;
-ghost use Rattle.str_pipeline.specs.SourceTree.{pattern_of, patterns_of, choice_of, sequence_of, atom_of, file_of};
+ghost use Rattle.str_pipeline.specs.SourceViews.{pattern_of, patterns_of, choice_of, sequence_of, atom_of, file_of};
 ghost use Rattle.str_pipeline.specs.Reduction.{names_of, names_among, names_in, names_in_sequence, names_in_atom, program_core, main_name};
 ghost use Rattle.str_pipeline.specs.Placement.{with_names, pattern_placed, patterns_placed, strategy_placed, sequence_placed, atom_placed, arm_placed, links_placed, arms_placed, last_placed, in_scope_of};
 
@@ -31,7 +31,7 @@ pub(crate) fn to_core(alloc: Global, file: &File) -> Result<Core, AllocError>
     Ok(Core::new(defs, 0))
 }
 
-// The strategy in a scope of so many variables, where there are any.
+// The strategy in a scope of this number of variables, where there are any.
 fn in_scope(alloc: Global, count: usize, strategy: CoreStrategy) -> Result<CoreStrategy, AllocError>
     ensures { IfOk result (λ s. views.strategy_of s ≡ in_scope_of count (views.strategy_of strategy)) }
 {
@@ -41,7 +41,7 @@ fn in_scope(alloc: Global, count: usize, strategy: CoreStrategy) -> Result<CoreS
     Ok(CoreStrategy::Scope(count, Box::new(alloc, strategy)?))
 }
 
-// The core of sequences with `<+` between them, and the names in them behind those that were met.
+// The core of sequences with `<+` between them, and the names in them after those that were met.
 #[cycle(reduce)]
 fn reduce_choice(
     alloc: Global,
@@ -79,7 +79,7 @@ fn reduce_arm(
     })
 }
 
-// Puts each strategy that stands before a `<+` behind the arms, and answers the last one.
+// Puts each strategy that stands before a `<+` after the arms, and returns the last one.
 #[cycle(reduce)]
 fn reduce_others(
     alloc: Global,
@@ -121,7 +121,7 @@ fn reduce_sequence(
     }
 }
 
-// The first strategy of the source, and those behind it.
+// The first strategy of the source, and those after it.
 #[cycle(reduce)]
 fn reduce_followed(
     alloc: Global,
@@ -145,7 +145,7 @@ fn reduce_followed(
     }
 }
 
-// Puts the strategies that `;` stands between behind the links.
+// Puts the strategies between which `;` stands after the links.
 #[cycle(reduce)]
 fn reduce_links(
     alloc: Global,

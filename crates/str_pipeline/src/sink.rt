@@ -4,7 +4,7 @@ ghost use Rattle.str_pipeline.specs.Device.{WritesFront, is_failed_write, Gains,
 
 use term_model::Fault;
 
-/// A writer. A call that answers `None` failed.
+/// A writer. A call that returns `None` failed.
 pub trait Sink {
     /// The bytes written so far, where the device tells them.
     ghost written: { Self → Option (List ℕ) };
@@ -15,7 +15,7 @@ pub trait Sink {
     /// How many of them failed, or took no byte of a text that isn't empty.
     ghost failed_writes: { Self → ℕ };
 
-    /// Takes the first bytes of `text` and answers how many.
+    /// Takes the first bytes of `text` and returns their number.
     fn write(&mut self, text: &[u8]) -> Option<usize>
         ensures bound { IfSome result (λ n. n ≤ length text.now) }
         ensures bytes { WritesFront (written self.old) (written self.new) result text.now }

@@ -1,12 +1,12 @@
 //! What is read from.
 ghost use Rattle.std.specs.Prelude.{◌≡◌, ◌+◌, ◌^◌, ◌<◌, ◌≤◌, ◌++◌, ℕ, List, Option, is_none, length, vec_len, IfSome, IfOk, IfErr, MatchOption, if◌then◌else◌};
 ghost use Rattle.str_pipeline.specs.Device.{ReadsFront};
-ghost use Rattle.str_pipeline.specs.Transfer.{is_read_fault, IsReadingFault};
+ghost use Rattle.str_pipeline.specs.Faults.{is_read_fault, IsReadingFault};
 
 use std::alloc::Allocator;
 use term_model::Fault;
 
-/// A reader. A call that answers `None` failed.
+/// A reader. A call that returns `None` failed.
 pub trait Source {
     /// The bytes still to come, where the device tells them.
     ghost coming: { Self → Option (List ℕ) };
@@ -17,7 +17,7 @@ pub trait Source {
     /// How many of them failed.
     ghost failed_reads: { Self → ℕ };
 
-    /// Puts the next bytes at the front of `piece` and answers how many. It answers 0 only at the
+    /// Puts the next bytes at the front of `piece` and returns their number. It returns 0 only at the
     /// end, or where `piece` is empty.
     fn read(&mut self, piece: &mut [u8]) -> Option<usize>
         ensures bound { IfSome result (λ n. n ≤ length piece.new) }
@@ -26,11 +26,11 @@ pub trait Source {
         ensures failed { failed_reads self.new ≡ failed_reads self.old + (if is_none result then 1 else 0) };
 }
 
-/// How many bytes a read asks for.
+/// The number of bytes that a read asks for.
 pub(crate) const PIECE: usize = 16_384;
 
-/// All that is still to come, where it has at most `limit` bytes, and `None` where it has more. It
-/// stops as soon as that is known. The fault is `Read` where a read failed, and `Memory`.
+/// Reads all that is still to come, where it has at most `limit` bytes, and returns `None` where it
+/// has more. It stops as soon as that is known. The fault is `Read` where a read failed, and `Memory`.
 pub fn read_all<S: Source, A: Allocator + Drop>(
     alloc: A,
     source: &mut S,
@@ -46,7 +46,7 @@ pub fn read_all<S: Source, A: Allocator + Drop>(
     read_onto(Vec::new(alloc), source, limit)
 }
 
-/// The bytes with all behind them that is still to come, where these are at most `limit` bytes
+/// Returns the bytes and after them all that is still to come, where these are at most `limit` bytes
 /// together, and `None` where they are more.
 pub(crate) fn read_onto<S: Source, A: Allocator + Drop>(
     bytes: Vec<u8, A>,

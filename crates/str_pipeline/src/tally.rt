@@ -56,7 +56,7 @@ impl Calls {
         self.reached = self.reached.saturating_add(1);
     }
 
-    /// Whether there were at least so many calls.
+    /// Whether there were at least this number of calls.
     pub(crate) fn has_reached(&self, number: u64) -> bool
         ensures { IsTrue result ↔ (number ≤ self.now.count.number) }
     {

@@ -8,7 +8,7 @@ ghost use Rattle.core_lang.specs.Resolved.{here};
 ghost use Rattle.str_pipeline.specs.Placement.{slot_of, with_name};
 
 use crate::name::Name;
-use core_lang::Place;
+use core_lang::Coordinate;
 use indexmap::IndexSet;
 use std::alloc::{AllocError, Global};
 use std::hash::{Hash, Hasher};
@@ -84,12 +84,12 @@ impl Variables {
     }
 
     /// The place of the variable of this name, in the scope of these variables. A name that is new becomes the last one.
-    pub(crate) fn place(&mut self, name: &Name) -> Result<Place, AllocError>
+    pub(crate) fn place(&mut self, name: &Name) -> Result<Coordinate, AllocError>
         ensures place { IfOk result (λ p. p ≡ here (slot_of name.now self.old)) }
         ensures names { OnOk result (self.new ≡ with_name self.old name.now) }
     {
         let name = name.clone()?;
         let (slot, _) = self.names.insert_full(Variable { name })?;
-        Ok(Place { hops: 0, slot })
+        Ok(Coordinate { layers_up: 0, slot })
     }
 }

@@ -1,3 +1,5 @@
 pub mod Trees
 pub mod Views
 pub mod Spelling
+pub mod SameName
+pub mod Arity

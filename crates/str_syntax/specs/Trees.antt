@@ -13,6 +13,10 @@ pub data ParameterTree : Type 0 where
   strategies_only : List Bytes → ParameterTree
   with_terms : List Bytes → List Bytes → ParameterTree
 
+-- the name and the parameters of a rule or a definition
+pub data HeadTree : Type 0 where
+  head : Bytes → ParameterTree → HeadTree
+
 mutual
   pub data PatternTree : Type 0 where
     variable : Bytes → PatternTree
@@ -23,14 +27,17 @@ mutual
     application : Bytes → PatternTrees → PatternTree
     grouped : PatternTree → PatternTree
     tuple : PatternTrees → PatternTree
-    list : PatternTrees → PatternTree
-    list_with_tail : PatternTrees → PatternTree → PatternTree
+    list : PatternTrees → OptionalPattern → PatternTree
     applied : StrategyTree → PatternTree
     applied_to : StrategyTree → PatternTree → PatternTree
 
   pub data PatternTrees : Type 0 where
     no_patterns : PatternTrees
     more_patterns : PatternTree → PatternTrees → PatternTrees
+
+  pub data OptionalPattern : Type 0 where
+    no_pattern : OptionalPattern
+    one_pattern : PatternTree → OptionalPattern
 
   -- sequences with <+, or < and +, between them
   pub data StrategyTree : Type 0 where
@@ -42,12 +49,16 @@ mutual
     no_strategies : StrategyTrees
     more_strategies : StrategyTree → StrategyTrees → StrategyTrees
 
+  pub data OptionalStrategy : Type 0 where
+    no_strategy : OptionalStrategy
+    one_strategy : StrategyTree → OptionalStrategy
+
   -- steps with ; between them
   pub data SequenceTree : Type 0 where
     last : StepTree → SequenceTree
     then : StepTree → SequenceTree → SequenceTree
 
-  -- a primary, or one with => behind it
+  -- a primary, or one with => after it
   pub data StepTree : Type 0 where
     plain_step : PrimaryTree → StepTree
     matching : PrimaryTree → PatternTree → StepTree
@@ -61,25 +72,27 @@ mutual
     parenthesized : StrategyTree → PrimaryTree
     scope : List Bytes → StrategyTree → PrimaryTree
     operator : Operator → StrategyTree → PrimaryTree
-    conditional : StrategyTree → StrategyTree → PrimaryTree
-    conditional_else : StrategyTree → StrategyTree → StrategyTree → PrimaryTree
+    conditional : StrategyTree → StrategyTree → OptionalStrategy → PrimaryTree
     recursive : Bytes → StrategyTree → PrimaryTree
     let_in : DefinitionTrees → StrategyTree → PrimaryTree
     primitive : Bytes → PatternTrees → PrimaryTree
     lambda : RuleTree → PrimaryTree
-    call : Bytes → PrimaryTree
-    call_with : Bytes → StrategyTrees → PrimaryTree
-    call_with_terms : Bytes → StrategyTrees → PatternTrees → PrimaryTree
+    call : Bytes → ArgumentTree → PrimaryTree
     tuple_congruence : StrategyTrees → PrimaryTree
-    list_congruence : StrategyTrees → PrimaryTree
-    list_congruence_with_tail : StrategyTrees → StrategyTree → PrimaryTree
+    list_congruence : StrategyTrees → OptionalStrategy → PrimaryTree
 
+  -- the arguments of a call
+  pub data ArgumentTree : Type 0 where
+    no_arguments : ArgumentTree
+    strategy_arguments : StrategyTrees → ArgumentTree
+    all_arguments : StrategyTrees → PatternTrees → ArgumentTree
+
+  -- a left side, a right side and a condition
   pub data RuleTree : Type 0 where
-    plain_rule : PatternTree → PatternTree → RuleTree
-    conditional_rule : PatternTree → PatternTree → StrategyTree → RuleTree
+    rewrites : PatternTree → PatternTree → OptionalStrategy → RuleTree
 
   pub data DefinitionTree : Type 0 where
-    definition : Bytes → ParameterTree → StrategyTree → DefinitionTree
+    definition : HeadTree → StrategyTree → DefinitionTree
 
   pub data DefinitionTrees : Type 0 where
     no_definitions : DefinitionTrees
@@ -105,7 +118,7 @@ pub data SignatureTree : Type 0 where
 
 -- a rule or a definition of a section
 pub data FormTree : Type 0 where
-  rule_form : Bytes → ParameterTree → RuleTree → FormTree
+  rule_form : HeadTree → RuleTree → FormTree
   strategy_form : DefinitionTree → FormTree
 
 -- and where it comes from

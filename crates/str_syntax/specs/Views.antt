@@ -1,5 +1,6 @@
 -- What the trees in the code stand for.
-use Rattle.std.specs.Prelude.{List, [], ◌∷◌, map}
+use Rattle.std.specs.Prelude.{List, [], ◌∷◌, map, Option, Some, None, Box}
+use Rattle.std.specs.declared.alloc.Global.{Global}
 use Rattle.str_syntax.specs.declared.sort.Sort.{Sort}
 use Rattle.str_syntax.specs.declared.sort.Sort.TheOpen as sort_forms
 use Rattle.str_syntax.specs.declared.sort.Sort.TheOpen.{Sort-F}
@@ -10,6 +11,8 @@ use Rattle.str_syntax.specs.declared.sort.SignaturePart.{SignaturePart}
 use Rattle.str_syntax.specs.declared.sort.SignaturePart.TheVariants as part_forms
 use Rattle.str_syntax.specs.declared.strategy.Parameters.{Parameters}
 use Rattle.str_syntax.specs.declared.strategy.Parameters.TheVariants as parameter_forms
+use Rattle.str_syntax.specs.declared.strategy.DefinitionHead.{DefinitionHead}
+use Rattle.str_syntax.specs.declared.strategy.Arguments.{Arguments}
 use Rattle.str_syntax.specs.declared.strategy.Pattern.{Pattern}
 use Rattle.str_syntax.specs.declared.strategy.Primary.{Primary}
 use Rattle.str_syntax.specs.declared.strategy.Rule.{Rule}
@@ -17,9 +20,9 @@ use Rattle.str_syntax.specs.declared.strategy.Sequence.{Sequence}
 use Rattle.str_syntax.specs.declared.strategy.Step.{Step}
 use Rattle.str_syntax.specs.declared.strategy.Strategy.{Strategy}
 use Rattle.str_syntax.specs.declared.strategy.StrategyDefinition.{StrategyDefinition}
-use Rattle.str_syntax.specs.declared.strategy.Pattern.TheOpen as forms
-use Rattle.str_syntax.specs.declared.strategy.Pattern.TheOpen.{Pattern-F, Primary-F, Rule-F, Sequence-F, Step-F, Strategy-F, StrategyDefinition-F}
-use Rattle.str_syntax.specs.declared.strategy.Pattern.TheFolds.{fold-Pattern, fold-Primary, fold-Rule, fold-Sequence, fold-Step, fold-Strategy, fold-StrategyDefinition}
+use Rattle.str_syntax.specs.declared.strategy.Arguments.TheOpen as forms
+use Rattle.str_syntax.specs.declared.strategy.Arguments.TheOpen.{Arguments-F, Pattern-F, Primary-F, Rule-F, Sequence-F, Step-F, Strategy-F, StrategyDefinition-F}
+use Rattle.str_syntax.specs.declared.strategy.Arguments.TheFolds.{fold-Arguments, fold-Pattern, fold-Primary, fold-Rule, fold-Sequence, fold-Step, fold-Strategy, fold-StrategyDefinition}
 use Rattle.str_syntax.specs.declared.definition.RuleDefinition.{RuleDefinition}
 use Rattle.str_syntax.specs.declared.definition.DefinitionForm.{DefinitionForm}
 use Rattle.str_syntax.specs.declared.definition.DefinitionForm.TheVariants as definition_forms
@@ -27,7 +30,7 @@ use Rattle.str_syntax.specs.declared.definition.Definition.{Definition}
 use Rattle.str_syntax.specs.declared.definition.Section.{Section}
 use Rattle.str_syntax.specs.declared.definition.Section.TheVariants as section_forms
 use Rattle.str_syntax.specs.declared.definition.File.{File}
-use Rattle.str_syntax.specs.Trees.{ParameterTree, absent, strategies_only, with_terms, PatternTree, variable, wildcard, alias, integer, quoted, application, grouped, tuple, list, list_with_tail, applied, applied_to, PatternTrees, no_patterns, more_patterns, StrategyTree, plain_sequence, left_choice, guarded_choice, StrategyTrees, no_strategies, more_strategies, SequenceTree, last, then, StepTree, plain_step, matching, PrimaryTree, identity, failure, match, build, apply, parenthesized, scope, operator, conditional, conditional_else, recursive, let_in, primitive, lambda, call, call_with, call_with_terms, tuple_congruence, list_congruence, list_congruence_with_tail, RuleTree, plain_rule, conditional_rule, DefinitionTree, definition, DefinitionTrees, no_definitions, more_definitions, SortTree, sort, sort_of, SortTrees, no_sorts, more_sorts, DeclarationTree, constant, constructor, injection, SignatureTree, sorts, constructors, FormTree, rule_form, strategy_form, TopTree, SectionTree, signature, rules, strategies, FileTree}
+use Rattle.str_syntax.specs.Trees.{ParameterTree, absent, strategies_only, with_terms, HeadTree, head, PatternTree, variable, wildcard, alias, integer, quoted, application, grouped, tuple, list, applied, applied_to, PatternTrees, no_patterns, more_patterns, OptionalPattern, no_pattern, one_pattern, StrategyTree, plain_sequence, left_choice, guarded_choice, StrategyTrees, no_strategies, more_strategies, OptionalStrategy, no_strategy, one_strategy, SequenceTree, last, then, StepTree, plain_step, matching, PrimaryTree, identity, failure, match, build, apply, parenthesized, scope, operator, conditional, recursive, let_in, primitive, lambda, call, tuple_congruence, list_congruence, ArgumentTree, no_arguments, strategy_arguments, all_arguments, RuleTree, rewrites, DefinitionTree, definition, DefinitionTrees, no_definitions, more_definitions, SortTree, sort, sort_of, SortTrees, no_sorts, more_sorts, DeclarationTree, constant, constructor, injection, SignatureTree, sorts, constructors, FormTree, rule_form, strategy_form, TopTree, SectionTree, signature, rules, strategies, FileTree}
 
 abbrev pub patterns_in : List PatternTree → PatternTrees
 patterns_in [] = no_patterns
@@ -50,22 +53,37 @@ parameters_of parameter_forms.Absent = absent
 parameters_of (parameter_forms.Strategies fs) = strategies_only fs.items
 parameters_of (parameter_forms.WithTerms fs xs) = with_terms fs.items xs.items
 
+abbrev pub head_of : DefinitionHead → HeadTree
+head_of h = head h.name (parameters_of h.parameters)
+
+abbrev pub optional_pattern : Option (Box PatternTree Global) → OptionalPattern
+optional_pattern None = no_pattern
+optional_pattern (Some p) = one_pattern p.value
+
+abbrev pub optional_strategy : Option (Box StrategyTree Global) → OptionalStrategy
+optional_strategy None = no_strategy
+optional_strategy (Some s) = one_strategy s.value
+
 -- one level of each tree, where the trees in it are known
-abbrev pub pattern_step : Pattern-F PatternTree PrimaryTree RuleTree SequenceTree StepTree StrategyTree DefinitionTree → PatternTree
+abbrev pub argument_step : Arguments-F ArgumentTree PatternTree PrimaryTree SequenceTree StepTree StrategyTree RuleTree DefinitionTree → ArgumentTree
+argument_step forms.Absent = no_arguments
+argument_step (forms.Strategies ss) = strategy_arguments (strategies_in ss.items)
+argument_step (forms.WithTerms ss ps) = all_arguments (strategies_in ss.items) (patterns_in ps.items)
+
+abbrev pub pattern_step : Pattern-F ArgumentTree PatternTree PrimaryTree SequenceTree StepTree StrategyTree RuleTree DefinitionTree → PatternTree
 pattern_step (forms.Variable x) = variable x
-pattern_step forms.Wildcard = wildcard
+pattern_step (forms.Wildcard _) = wildcard
 pattern_step (forms.Alias x p) = alias x p.value
 pattern_step (forms.Integer z) = integer z
 pattern_step (forms.Quoted text) = quoted text
 pattern_step (forms.Application f ps) = application f (patterns_in ps.items)
 pattern_step (forms.Pattern::Parenthesized p) = grouped p.value
 pattern_step (forms.Tuple ps) = tuple (patterns_in ps.items)
-pattern_step (forms.List ps) = list (patterns_in ps.items)
-pattern_step (forms.ListWithTail ps p) = list_with_tail (patterns_in ps.items) p.value
+pattern_step (forms.List ps p) = list (patterns_in ps.items) (optional_pattern p)
 pattern_step (forms.Applied s) = applied s.value
 pattern_step (forms.AppliedTo s p) = applied_to s.value p.value
 
-abbrev pub primary_step : Primary-F PatternTree PrimaryTree RuleTree SequenceTree StepTree StrategyTree DefinitionTree → PrimaryTree
+abbrev pub primary_step : Primary-F ArgumentTree PatternTree PrimaryTree SequenceTree StepTree StrategyTree RuleTree DefinitionTree → PrimaryTree
 primary_step forms.Id = identity
 primary_step forms.Fail = failure
 primary_step (forms.Match p) = match p
@@ -74,59 +92,65 @@ primary_step (forms.Apply s p) = apply s.value p.value
 primary_step (forms.Primary::Parenthesized s) = parenthesized s.value
 primary_step (forms.Scope xs s) = scope xs.items s.value
 primary_step (forms.Operator o s) = operator o s.value
-primary_step (forms.If s t) = conditional s.value t.value
-primary_step (forms.IfElse s t u) = conditional_else s.value t.value u.value
+primary_step (forms.If s t u) = conditional s.value t.value (optional_strategy u)
 primary_step (forms.Recursive x s) = recursive x s.value
 primary_step (forms.Let ds s) = let_in (definitions_in ds.items) s.value
 primary_step (forms.Primitive name ps) = primitive name (patterns_in ps.items)
 primary_step (forms.Lambda r) = lambda r.value
-primary_step (forms.Call f) = call f
-primary_step (forms.CallWith f ss) = call_with f (strategies_in ss.items)
-primary_step (forms.CallWithTerms f ss ps) = call_with_terms f (strategies_in ss.items) (patterns_in ps.items)
+primary_step (forms.Call f arguments) = call f arguments
 primary_step (forms.TupleCongruence ss) = tuple_congruence (strategies_in ss.items)
-primary_step (forms.ListCongruence ss) = list_congruence (strategies_in ss.items)
-primary_step (forms.ListCongruenceWithTail ss s) = list_congruence_with_tail (strategies_in ss.items) s.value
+primary_step (forms.ListCongruence ss s) = list_congruence (strategies_in ss.items) (optional_strategy s)
 
-abbrev pub rule_step : Rule-F PatternTree PrimaryTree RuleTree SequenceTree StepTree StrategyTree DefinitionTree → RuleTree
-rule_step (forms.Rule::Plain p q) = plain_rule p.value q.value
-rule_step (forms.Conditional p q s) = conditional_rule p.value q.value s.value
+abbrev pub rule_step : Rule-F ArgumentTree PatternTree PrimaryTree SequenceTree StepTree StrategyTree RuleTree DefinitionTree → RuleTree
+rule_step r = rewrites r.left.value r.right.value (optional_strategy r.condition)
 
-abbrev pub sequence_step : Sequence-F PatternTree PrimaryTree RuleTree SequenceTree StepTree StrategyTree DefinitionTree → SequenceTree
+abbrev pub sequence_step : Sequence-F ArgumentTree PatternTree PrimaryTree SequenceTree StepTree StrategyTree RuleTree DefinitionTree → SequenceTree
 sequence_step (forms.Last s) = last s
 sequence_step (forms.Then s q) = then s q.value
 
-abbrev pub step_step : Step-F PatternTree PrimaryTree RuleTree SequenceTree StepTree StrategyTree DefinitionTree → StepTree
-step_step (forms.Step::Plain s) = plain_step s.value
+abbrev pub step_step : Step-F ArgumentTree PatternTree PrimaryTree SequenceTree StepTree StrategyTree RuleTree DefinitionTree → StepTree
+step_step (forms.Plain s) = plain_step s.value
 step_step (forms.Matching s p) = matching s.value p.value
 
-abbrev pub strategy_step : Strategy-F PatternTree PrimaryTree RuleTree SequenceTree StepTree StrategyTree DefinitionTree → StrategyTree
+abbrev pub strategy_step : Strategy-F ArgumentTree PatternTree PrimaryTree SequenceTree StepTree StrategyTree RuleTree DefinitionTree → StrategyTree
 strategy_step (forms.Sequence q) = plain_sequence q
 strategy_step (forms.LeftChoice q s) = left_choice q s.value
 strategy_step (forms.GuardedChoice q s t) = guarded_choice q s.value t.value
 
-abbrev pub definition_step : StrategyDefinition-F PatternTree PrimaryTree RuleTree SequenceTree StepTree StrategyTree DefinitionTree → DefinitionTree
-definition_step d = definition d.name (parameters_of d.parameters) d.body.value
+abbrev pub definition_step : StrategyDefinition-F ArgumentTree PatternTree PrimaryTree SequenceTree StepTree StrategyTree RuleTree DefinitionTree → DefinitionTree
+definition_step d = definition (head_of d.head) d.body.value
+
+abbrev pub arguments_of : Arguments → ArgumentTree
+arguments_of = fold-Arguments ArgumentTree PatternTree PrimaryTree SequenceTree StepTree StrategyTree RuleTree DefinitionTree argument_step pattern_step primary_step sequence_step step_step strategy_step rule_step definition_step
 
 abbrev pub pattern_of : Pattern → PatternTree
-pattern_of = fold-Pattern PatternTree PrimaryTree RuleTree SequenceTree StepTree StrategyTree DefinitionTree pattern_step primary_step rule_step sequence_step step_step strategy_step definition_step
+pattern_of = fold-Pattern ArgumentTree PatternTree PrimaryTree SequenceTree StepTree StrategyTree RuleTree DefinitionTree argument_step pattern_step primary_step sequence_step step_step strategy_step rule_step definition_step
 
 abbrev pub primary_of : Primary → PrimaryTree
-primary_of = fold-Primary PatternTree PrimaryTree RuleTree SequenceTree StepTree StrategyTree DefinitionTree pattern_step primary_step rule_step sequence_step step_step strategy_step definition_step
+primary_of = fold-Primary ArgumentTree PatternTree PrimaryTree SequenceTree StepTree StrategyTree RuleTree DefinitionTree argument_step pattern_step primary_step sequence_step step_step strategy_step rule_step definition_step
 
 abbrev pub rule_of : Rule → RuleTree
-rule_of = fold-Rule PatternTree PrimaryTree RuleTree SequenceTree StepTree StrategyTree DefinitionTree pattern_step primary_step rule_step sequence_step step_step strategy_step definition_step
+rule_of = fold-Rule ArgumentTree PatternTree PrimaryTree SequenceTree StepTree StrategyTree RuleTree DefinitionTree argument_step pattern_step primary_step sequence_step step_step strategy_step rule_step definition_step
 
 abbrev pub sequence_of : Sequence → SequenceTree
-sequence_of = fold-Sequence PatternTree PrimaryTree RuleTree SequenceTree StepTree StrategyTree DefinitionTree pattern_step primary_step rule_step sequence_step step_step strategy_step definition_step
+sequence_of = fold-Sequence ArgumentTree PatternTree PrimaryTree SequenceTree StepTree StrategyTree RuleTree DefinitionTree argument_step pattern_step primary_step sequence_step step_step strategy_step rule_step definition_step
 
 abbrev pub step_of : Step → StepTree
-step_of = fold-Step PatternTree PrimaryTree RuleTree SequenceTree StepTree StrategyTree DefinitionTree pattern_step primary_step rule_step sequence_step step_step strategy_step definition_step
+step_of = fold-Step ArgumentTree PatternTree PrimaryTree SequenceTree StepTree StrategyTree RuleTree DefinitionTree argument_step pattern_step primary_step sequence_step step_step strategy_step rule_step definition_step
 
 abbrev pub strategy_of : Strategy → StrategyTree
-strategy_of = fold-Strategy PatternTree PrimaryTree RuleTree SequenceTree StepTree StrategyTree DefinitionTree pattern_step primary_step rule_step sequence_step step_step strategy_step definition_step
+strategy_of = fold-Strategy ArgumentTree PatternTree PrimaryTree SequenceTree StepTree StrategyTree RuleTree DefinitionTree argument_step pattern_step primary_step sequence_step step_step strategy_step rule_step definition_step
 
 abbrev pub definition_of : StrategyDefinition → DefinitionTree
-definition_of = fold-StrategyDefinition PatternTree PrimaryTree RuleTree SequenceTree StepTree StrategyTree DefinitionTree pattern_step primary_step rule_step sequence_step step_step strategy_step definition_step
+definition_of = fold-StrategyDefinition ArgumentTree PatternTree PrimaryTree SequenceTree StepTree StrategyTree RuleTree DefinitionTree argument_step pattern_step primary_step sequence_step step_step strategy_step rule_step definition_step
+
+abbrev pub optional_pattern_of : Option (Box Pattern Global) → OptionalPattern
+optional_pattern_of None = no_pattern
+optional_pattern_of (Some p) = one_pattern (pattern_of p.value)
+
+abbrev pub optional_strategy_of : Option (Box Strategy Global) → OptionalStrategy
+optional_strategy_of None = no_strategy
+optional_strategy_of (Some s) = one_strategy (strategy_of s.value)
 
 abbrev pub patterns_of : List Pattern → PatternTrees
 patterns_of ps = patterns_in (map pattern_of ps)
@@ -157,7 +181,7 @@ signature_of (part_forms.Sorts parts) = sorts (sorts_of parts.items)
 signature_of (part_forms.Constructors declarations) = constructors (map declaration_of declarations.items)
 
 abbrev pub rule_definition_of : RuleDefinition → FormTree
-rule_definition_of d = rule_form d.name (parameters_of d.parameters) (rule_of d.rule)
+rule_definition_of d = rule_form (head_of d.head) (rule_of d.rule)
 
 abbrev pub form_of : DefinitionForm → FormTree
 form_of (definition_forms.Rule d) = rule_definition_of d

@@ -1,15 +1,16 @@
 // Copies of strategies and patterns.
 ghost use Rattle.std.specs.Prelude.{◌≡◌, IfOk, map};
-ghost use Rattle.str_syntax.specs.Views.{pattern_of, primary_of, rule_of, sequence_of, step_of, strategy_of, definition_of, parameters_of};
+ghost use Rattle.str_syntax.specs.Views.{arguments_of, definition_of, head_of, optional_pattern_of, optional_strategy_of, parameters_of, pattern_of, primary_of, rule_of, sequence_of, step_of, strategy_of};
 
 use crate::strategy::{
-    Parameters, Pattern, Primary, Rule, Sequence, Step, Strategy, StrategyDefinition,
+    Arguments, DefinitionHead, Parameters, Pattern, Primary, Rule, Sequence, Step, Strategy,
+    StrategyDefinition,
 };
 use crate::text::names;
 use std::alloc::{AllocError, Global};
 
 impl Parameters {
-    /// A copy of the parameters. `AllocError` where the memory for it is refused.
+    /// Copies the parameters. `AllocError` where the memory for it is refused.
     pub fn copy(&self, alloc: Global) -> Result<Parameters, AllocError>
         ensures { IfOk result (λ made. parameters_of made ≡ parameters_of self.now) }
     {
@@ -23,8 +24,20 @@ impl Parameters {
     }
 }
 
+impl DefinitionHead {
+    /// Copies the name and the parameters. `AllocError` where the memory for them is refused.
+    pub fn copy(&self, alloc: Global) -> Result<DefinitionHead, AllocError>
+        ensures { IfOk result (λ made. head_of made ≡ head_of self.now) }
+    {
+        Ok(DefinitionHead {
+            name: self.name.copy(alloc)?,
+            parameters: self.parameters.copy(alloc)?,
+        })
+    }
+}
+
 impl Strategy {
-    /// A copy of the strategy. `AllocError` where the memory for it is refused.
+    /// Copies the strategy. `AllocError` where the memory for it is refused.
     #[cycle(copy)]
     pub fn copy(&self, alloc: Global) -> Result<Strategy, AllocError>
         ensures { IfOk result (λ made. strategy_of made ≡ strategy_of self.now) }
@@ -42,7 +55,7 @@ impl Strategy {
 }
 
 impl Sequence {
-    /// A copy of the sequence. `AllocError` where the memory for it is refused.
+    /// Copies the sequence. `AllocError` where the memory for it is refused.
     #[cycle(copy)]
     pub fn copy(&self, alloc: Global) -> Result<Sequence, AllocError>
         ensures { IfOk result (λ made. sequence_of made ≡ sequence_of self.now) }
@@ -57,7 +70,7 @@ impl Sequence {
 }
 
 impl Step {
-    /// A copy of the step. `AllocError` where the memory for it is refused.
+    /// Copies the step. `AllocError` where the memory for it is refused.
     #[cycle(copy)]
     pub fn copy(&self, alloc: Global) -> Result<Step, AllocError>
         ensures { IfOk result (λ made. step_of made ≡ step_of self.now) }
@@ -72,7 +85,7 @@ impl Step {
 }
 
 impl Primary {
-    /// A copy of the strategy. `AllocError` where the memory for it is refused.
+    /// Copies the strategy. `AllocError` where the memory for it is refused.
     #[cycle(copy)]
     pub fn copy(&self, alloc: Global) -> Result<Primary, AllocError>
         ensures { IfOk result (λ made. primary_of made ≡ primary_of self.now) }
@@ -86,9 +99,8 @@ impl Primary {
             Primary::Parenthesized(s) => Ok(Primary::Parenthesized(boxed(alloc, s)?)),
             Primary::Scope(xs, s) => Ok(Primary::Scope(names(alloc, xs)?, boxed(alloc, s)?)),
             Primary::Operator(o, s) => Ok(Primary::Operator(*o, boxed(alloc, s)?)),
-            Primary::If(s, t) => Ok(Primary::If(boxed(alloc, s)?, boxed(alloc, t)?)),
-            Primary::IfElse(s, t, u) => {
-                Ok(Primary::IfElse(boxed(alloc, s)?, boxed(alloc, t)?, boxed(alloc, u)?))
+            Primary::If(s, t, u) => {
+                Ok(Primary::If(boxed(alloc, s)?, boxed(alloc, t)?, optional(alloc, u)?))
             }
             Primary::Recursive(x, s) => Ok(Primary::Recursive(x.copy(alloc)?, boxed(alloc, s)?)),
             Primary::Let(ds, s) => Ok(Primary::Let(definitions(alloc, ds)?, boxed(alloc, s)?)),
@@ -96,66 +108,69 @@ impl Primary {
                 Ok(Primary::Primitive(x.copy(alloc)?, patterns(alloc, ps)?))
             }
             Primary::Lambda(r) => Ok(Primary::Lambda(Box::new(alloc, r.copy(alloc)?)?)),
-            Primary::Call(f) => Ok(Primary::Call(f.copy(alloc)?)),
-            Primary::CallWith(f, ss) => {
-                Ok(Primary::CallWith(f.copy(alloc)?, strategies(alloc, ss)?))
+            Primary::Call(f, arguments) => {
+                Ok(Primary::Call(f.copy(alloc)?, arguments.copy(alloc)?))
             }
-            Primary::CallWithTerms(f, ss, ps) => Ok(Primary::CallWithTerms(
-                f.copy(alloc)?,
-                strategies(alloc, ss)?,
-                patterns(alloc, ps)?,
-            )),
             Primary::TupleCongruence(ss) => Ok(Primary::TupleCongruence(strategies(alloc, ss)?)),
-            Primary::ListCongruence(ss) => Ok(Primary::ListCongruence(strategies(alloc, ss)?)),
-            Primary::ListCongruenceWithTail(ss, s) => {
-                Ok(Primary::ListCongruenceWithTail(strategies(alloc, ss)?, boxed(alloc, s)?))
+            Primary::ListCongruence(ss, s) => {
+                Ok(Primary::ListCongruence(strategies(alloc, ss)?, optional(alloc, s)?))
+            }
+        }
+    }
+}
+
+impl Arguments {
+    /// Copies the arguments. `AllocError` where the memory for them is refused.
+    #[cycle(copy)]
+    pub fn copy(&self, alloc: Global) -> Result<Arguments, AllocError>
+        ensures { IfOk result (λ made. arguments_of made ≡ arguments_of self.now) }
+    {
+        match self {
+            Arguments::Absent => Ok(Arguments::Absent),
+            Arguments::Strategies(ss) => Ok(Arguments::Strategies(strategies(alloc, ss)?)),
+            Arguments::WithTerms(ss, ps) => {
+                Ok(Arguments::WithTerms(strategies(alloc, ss)?, patterns(alloc, ps)?))
             }
         }
     }
 }
 
 impl Rule {
-    /// A copy of the rule. `AllocError` where the memory for it is refused.
+    /// Copies the rule. `AllocError` where the memory for it is refused.
     #[cycle(copy)]
     pub fn copy(&self, alloc: Global) -> Result<Rule, AllocError>
         ensures { IfOk result (λ made. rule_of made ≡ rule_of self.now) }
     {
-        match self {
-            Rule::Plain(p, q) => {
-                Ok(Rule::Plain(boxed_pattern(alloc, p)?, boxed_pattern(alloc, q)?))
-            }
-            Rule::Conditional(p, q, s) => Ok(Rule::Conditional(
-                boxed_pattern(alloc, p)?,
-                boxed_pattern(alloc, q)?,
-                boxed(alloc, s)?,
-            )),
-        }
+        Ok(Rule {
+            left: boxed_pattern(alloc, &self.left)?,
+            right: boxed_pattern(alloc, &self.right)?,
+            condition: optional(alloc, &self.condition)?,
+        })
     }
 }
 
 impl StrategyDefinition {
-    /// A copy of the definition. `AllocError` where the memory for it is refused.
+    /// Copies the definition. `AllocError` where the memory for it is refused.
     #[cycle(copy)]
     pub fn copy(&self, alloc: Global) -> Result<StrategyDefinition, AllocError>
         ensures { IfOk result (λ made. definition_of made ≡ definition_of self.now) }
     {
         Ok(StrategyDefinition {
-            name: self.name.copy(alloc)?,
-            parameters: self.parameters.copy(alloc)?,
+            head: self.head.copy(alloc)?,
             body: boxed(alloc, &self.body)?,
         })
     }
 }
 
 impl Pattern {
-    /// A copy of the pattern. `AllocError` where the memory for it is refused.
+    /// Copies the pattern. `AllocError` where the memory for it is refused.
     #[cycle(copy)]
     pub fn copy(&self, alloc: Global) -> Result<Pattern, AllocError>
         ensures { IfOk result (λ made. pattern_of made ≡ pattern_of self.now) }
     {
         match self {
             Pattern::Variable(x) => Ok(Pattern::Variable(x.copy(alloc)?)),
-            Pattern::Wildcard => Ok(Pattern::Wildcard),
+            Pattern::Wildcard(offset) => Ok(Pattern::Wildcard(*offset)),
             Pattern::Alias(x, p) => Ok(Pattern::Alias(x.copy(alloc)?, boxed_pattern(alloc, p)?)),
             Pattern::Integer(z) => Ok(Pattern::Integer(*z)),
             Pattern::Quoted(text) => Ok(Pattern::Quoted(text.copy(alloc)?)),
@@ -164,9 +179,8 @@ impl Pattern {
             }
             Pattern::Parenthesized(p) => Ok(Pattern::Parenthesized(boxed_pattern(alloc, p)?)),
             Pattern::Tuple(ps) => Ok(Pattern::Tuple(patterns(alloc, ps)?)),
-            Pattern::List(ps) => Ok(Pattern::List(patterns(alloc, ps)?)),
-            Pattern::ListWithTail(ps, p) => {
-                Ok(Pattern::ListWithTail(patterns(alloc, ps)?, boxed_pattern(alloc, p)?))
+            Pattern::List(ps, p) => {
+                Ok(Pattern::List(patterns(alloc, ps)?, optional_pattern(alloc, p)?))
             }
             Pattern::Applied(s) => Ok(Pattern::Applied(boxed(alloc, s)?)),
             Pattern::AppliedTo(s, p) => {
@@ -190,6 +204,32 @@ fn boxed_pattern(alloc: Global, source: &Pattern) -> Result<Box<Pattern>, AllocE
 {
     let made = Box::new(alloc, source.copy(alloc)?)?;
     Ok(made)
+}
+
+#[cycle(copy)]
+fn optional(
+    alloc: Global,
+    source: &Option<Box<Strategy>>,
+) -> Result<Option<Box<Strategy>>, AllocError>
+    ensures { IfOk result (λ made. optional_strategy_of made ≡ optional_strategy_of source.now) }
+{
+    match source {
+        None => Ok(None),
+        Some(s) => Ok(Some(boxed(alloc, s)?)),
+    }
+}
+
+#[cycle(copy)]
+fn optional_pattern(
+    alloc: Global,
+    source: &Option<Box<Pattern>>,
+) -> Result<Option<Box<Pattern>>, AllocError>
+    ensures { IfOk result (λ made. optional_pattern_of made ≡ optional_pattern_of source.now) }
+{
+    match source {
+        None => Ok(None),
+        Some(p) => Ok(Some(boxed_pattern(alloc, p)?)),
+    }
 }
 
 #[cycle(copy)]

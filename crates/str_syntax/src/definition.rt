@@ -3,8 +3,7 @@ ghost use Rattle.std.specs.Prelude.{◌≡◌, IfOk, map};
 ghost use Rattle.str_syntax.specs.Views.{file_of, form_of, rule_definition_of, section_of, signature_of, top_of};
 
 use crate::sort::SignaturePart;
-use crate::strategy::{Parameters, Rule, StrategyDefinition};
-use crate::text::Name;
+use crate::strategy::{DefinitionHead, Rule, StrategyDefinition};
 use std::alloc::{AllocError, Global};
 
 /// A definition file: its sections, in order.
@@ -52,26 +51,24 @@ pub enum DefinitionForm {
 /// `r(..) : p -> p where s`
 #[derive(Drop)]
 pub struct RuleDefinition {
-    pub name: Name,
-    pub parameters: Parameters,
+    pub head: DefinitionHead,
     pub rule: Rule,
 }
 
 impl RuleDefinition {
-    /// A copy of the definition. `AllocError` where the memory for it is refused.
+    /// Copies the definition. `AllocError` where the memory for it is refused.
     pub fn copy(&self, alloc: Global) -> Result<RuleDefinition, AllocError>
         ensures { IfOk result (λ made. rule_definition_of made ≡ rule_definition_of self.now) }
     {
         Ok(RuleDefinition {
-            name: self.name.copy(alloc)?,
-            parameters: self.parameters.copy(alloc)?,
+            head: self.head.copy(alloc)?,
             rule: self.rule.copy(alloc)?,
         })
     }
 }
 
 impl DefinitionForm {
-    /// A copy of the definition. `AllocError` where the memory for it is refused.
+    /// Copies the definition. `AllocError` where the memory for it is refused.
     pub fn copy(&self, alloc: Global) -> Result<DefinitionForm, AllocError>
         ensures { IfOk result (λ made. form_of made ≡ form_of self.now) }
     {
@@ -85,7 +82,7 @@ impl DefinitionForm {
 }
 
 impl Definition {
-    /// A copy of the definition. `AllocError` where the memory for it is refused.
+    /// Copies the definition. `AllocError` where the memory for it is refused.
     pub fn copy(&self, alloc: Global) -> Result<Definition, AllocError>
         ensures { IfOk result (λ made. top_of made ≡ top_of self.now) }
     {
@@ -97,7 +94,7 @@ impl Definition {
 }
 
 impl Section {
-    /// A copy of the section. `AllocError` where the memory for it is refused.
+    /// Copies the section. `AllocError` where the memory for it is refused.
     pub fn copy(&self, alloc: Global) -> Result<Section, AllocError>
         ensures { IfOk result (λ made. section_of made ≡ section_of self.now) }
     {
@@ -110,7 +107,7 @@ impl Section {
 }
 
 impl File {
-    /// A copy of the file. `AllocError` where the memory for it is refused.
+    /// Copies the file. `AllocError` where the memory for it is refused.
     pub fn copy(&self, alloc: Global) -> Result<File, AllocError>
         ensures { IfOk result (λ made. file_of made ≡ file_of self.now) }
     {

@@ -1,6 +1,8 @@
 //! The trees of definition files.
 #![tactic(auto)]
 
+mod arity;
+pub mod build;
 mod copy;
 pub mod definition;
 #[cfg(test)]
@@ -14,6 +16,7 @@ pub mod text;
 pub use definition::{Definition, DefinitionForm, File, Origin, RuleDefinition, Section};
 pub use sort::{Declaration, SignaturePart, Sort};
 pub use strategy::{
-    Operator, Parameters, Pattern, Primary, Rule, Sequence, Step, Strategy, StrategyDefinition,
+    Arguments, DefinitionHead, Operator, Parameters, Pattern, Primary, Rule, Sequence, Step,
+    Strategy, StrategyDefinition,
 };
 pub use text::{Name, Text};

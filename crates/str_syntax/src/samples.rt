@@ -1,21 +1,25 @@
 // Trees with every form, for tests: the strategies in them are calls of f, g and h, the patterns the variables x and y.
 use crate::{
-    Declaration, Definition, DefinitionForm, File, Name, Operator, Origin, Parameters, Pattern,
-    Primary, Rule, RuleDefinition, Section, Sequence, SignaturePart, Sort, Step, Strategy,
-    StrategyDefinition, Text,
+    Arguments, Declaration, Definition, DefinitionForm, DefinitionHead, File, Name, Operator,
+    Origin, Parameters, Pattern, Primary, Rule, RuleDefinition, Section, Sequence, SignaturePart,
+    Sort, Step, Strategy, StrategyDefinition, Text, build,
 };
 use std::alloc::{AllocError, Global};
 
 pub fn name(alloc: Global, word: &str) -> Result<Name, AllocError> {
-    Text::new(alloc, word.as_bytes())
+    Name::new(alloc, word.as_bytes(), 7)
 }
 
 fn names(alloc: Global) -> Result<Vec<Name>, AllocError> {
     Ok(vec![in alloc; name(alloc, "a")?, name(alloc, "b")?]?)
 }
 
+fn text(alloc: Global) -> Result<Text, AllocError> {
+    Text::new(alloc, b"a")
+}
+
 fn variable(alloc: Global, word: &str) -> Result<Pattern, AllocError> {
-    Ok(Pattern::Variable(name(alloc, word)?))
+    build::variable(alloc, word.as_bytes())
 }
 
 fn boxed_variable(alloc: Global, word: &str) -> Result<Box<Pattern>, AllocError> {
@@ -26,16 +30,12 @@ fn variables(alloc: Global) -> Result<Vec<Pattern>, AllocError> {
     Ok(vec![in alloc; variable(alloc, "x")?, variable(alloc, "y")?]?)
 }
 
-fn plain(alloc: Global, primary: Primary) -> Result<Step, AllocError> {
-    Ok(Step::Plain(Box::new(alloc, primary)?))
-}
-
-fn step(alloc: Global, word: &str) -> Result<Step, AllocError> {
-    plain(alloc, Primary::Call(name(alloc, word)?))
+fn called(alloc: Global, word: &str) -> Result<Primary, AllocError> {
+    build::call(alloc, word.as_bytes(), Arguments::Absent)
 }
 
 pub fn call(alloc: Global, word: &str) -> Result<Strategy, AllocError> {
-    Ok(Strategy::Sequence(last(alloc, word)?))
+    build::strategy(alloc, called(alloc, word)?)
 }
 
 fn boxed_call(alloc: Global, word: &str) -> Result<Box<Strategy>, AllocError> {
@@ -57,37 +57,41 @@ pub fn parameters(alloc: Global) -> Result<Vec<Parameters>, AllocError> {
 pub fn patterns(alloc: Global) -> Result<Vec<Pattern>, AllocError> {
     let mut all = Vec::new(alloc);
     all.push(variable(alloc, "x")?)?;
-    all.push(Pattern::Wildcard)?;
+    all.push(Pattern::Wildcard(7))?;
     all.push(Pattern::Alias(name(alloc, "a")?, boxed_variable(alloc, "x")?))?;
     all.push(Pattern::Integer(-7))?;
-    all.push(Pattern::Quoted(name(alloc, "a")?))?;
+    all.push(Pattern::Quoted(text(alloc)?))?;
     all.push(Pattern::Application(name(alloc, "a")?, variables(alloc)?))?;
     all.push(Pattern::Parenthesized(boxed_variable(alloc, "x")?))?;
     all.push(Pattern::Tuple(variables(alloc)?))?;
-    all.push(Pattern::List(variables(alloc)?))?;
-    all.push(Pattern::ListWithTail(variables(alloc)?, boxed_variable(alloc, "x")?))?;
+    all.push(Pattern::List(variables(alloc)?, None))?;
+    all.push(Pattern::List(variables(alloc)?, Some(boxed_variable(alloc, "x")?)))?;
     all.push(Pattern::Applied(boxed_call(alloc, "f")?))?;
     all.push(Pattern::AppliedTo(boxed_call(alloc, "f")?, boxed_variable(alloc, "x")?))?;
     Ok(all)
 }
 
 pub fn rules(alloc: Global) -> Result<Vec<Rule>, AllocError> {
-    Ok(vec![in alloc;
-        Rule::Plain(boxed_variable(alloc, "x")?, boxed_variable(alloc, "y")?),
-        Rule::Conditional(
-            boxed_variable(alloc, "x")?,
-            boxed_variable(alloc, "y")?,
-            boxed_call(alloc, "f")?
-        ),
-    ]?)
+    let condition = boxed_call(alloc, "f")?;
+    let mut all = Vec::new(alloc);
+    all.push(build::rule(alloc, variable(alloc, "x")?, variable(alloc, "y")?, None)?)?;
+    all.push(build::rule(
+        alloc,
+        variable(alloc, "x")?,
+        variable(alloc, "y")?,
+        Some(condition),
+    )?)?;
+    Ok(all)
+}
+
+fn head(alloc: Global, parameters: Parameters) -> Result<DefinitionHead, AllocError> {
+    let name = name(alloc, "a")?;
+    Ok(DefinitionHead { name, parameters })
 }
 
 pub fn definition(alloc: Global, body: Strategy) -> Result<StrategyDefinition, AllocError> {
-    Ok(StrategyDefinition {
-        name: name(alloc, "a")?,
-        parameters: Parameters::Strategies(names(alloc)?),
-        body: Box::new(alloc, body)?,
-    })
+    let head = head(alloc, Parameters::Strategies(names(alloc)?))?;
+    build::definition(alloc, head, body)
 }
 
 fn basic_primaries(alloc: Global) -> Result<Vec<Primary>, AllocError> {
@@ -100,13 +104,22 @@ fn basic_primaries(alloc: Global) -> Result<Vec<Primary>, AllocError> {
     all.push(Primary::Parenthesized(boxed_call(alloc, "f")?))?;
     all.push(Primary::Scope(names(alloc)?, boxed_call(alloc, "f")?))?;
     all.push(Primary::Operator(Operator::Not, boxed_call(alloc, "f")?))?;
-    all.push(Primary::If(boxed_call(alloc, "f")?, boxed_call(alloc, "g")?))?;
-    all.push(Primary::IfElse(
+    all.push(Primary::If(boxed_call(alloc, "f")?, boxed_call(alloc, "g")?, None))?;
+    all.push(Primary::If(
         boxed_call(alloc, "f")?,
         boxed_call(alloc, "g")?,
-        boxed_call(alloc, "h")?,
+        Some(boxed_call(alloc, "h")?),
     ))?;
     all.push(Primary::Recursive(name(alloc, "a")?, boxed_call(alloc, "f")?))?;
+    Ok(all)
+}
+
+fn calls_with_arguments(alloc: Global) -> Result<Vec<Primary>, AllocError> {
+    let mut all = Vec::new(alloc);
+    let both = Arguments::WithTerms(calls(alloc)?, variables(alloc)?);
+    all.push(Primary::Call(name(alloc, "a")?, Arguments::Absent))?;
+    all.push(Primary::Call(name(alloc, "a")?, Arguments::Strategies(calls(alloc)?)))?;
+    all.push(Primary::Call(name(alloc, "a")?, both))?;
     Ok(all)
 }
 
@@ -114,47 +127,48 @@ pub fn primaries(alloc: Global) -> Result<Vec<Primary>, AllocError> {
     let mut all = basic_primaries(alloc)?;
     let first = definition(alloc, call(alloc, "g")?)?;
     all.push(Primary::Let(vec![in alloc; first]?, boxed_call(alloc, "f")?))?;
-    all.push(Primary::Primitive(name(alloc, "a")?, variables(alloc)?))?;
-    let rule = Rule::Plain(boxed_variable(alloc, "x")?, boxed_variable(alloc, "y")?);
+    all.push(Primary::Primitive(text(alloc)?, variables(alloc)?))?;
+    let rule = build::rule(alloc, variable(alloc, "x")?, variable(alloc, "y")?, None)?;
     all.push(Primary::Lambda(Box::new(alloc, rule)?))?;
-    all.push(Primary::Call(name(alloc, "a")?))?;
-    all.push(Primary::CallWith(name(alloc, "a")?, calls(alloc)?))?;
-    all.push(Primary::CallWithTerms(name(alloc, "a")?, calls(alloc)?, variables(alloc)?))?;
+    for call in calls_with_arguments(alloc)? {
+        all.push(call)?;
+    }
     all.push(Primary::TupleCongruence(calls(alloc)?))?;
-    all.push(Primary::ListCongruence(calls(alloc)?))?;
-    all.push(Primary::ListCongruenceWithTail(calls(alloc)?, boxed_call(alloc, "h")?))?;
+    all.push(Primary::ListCongruence(calls(alloc)?, None))?;
+    all.push(Primary::ListCongruence(calls(alloc)?, Some(boxed_call(alloc, "h")?)))?;
     Ok(all)
 }
 
 pub fn steps(alloc: Global) -> Result<Vec<Step>, AllocError> {
-    let called = Primary::Call(name(alloc, "f")?);
+    let first = Box::new(alloc, called(alloc, "f")?)?;
     Ok(vec![in alloc;
-        step(alloc, "f")?,
-        Step::Matching(Box::new(alloc, called)?, boxed_variable(alloc, "x")?),
+        build::step(alloc, called(alloc, "f")?)?,
+        Step::Matching(first, boxed_variable(alloc, "x")?),
     ]?)
 }
 
 fn last(alloc: Global, word: &str) -> Result<Sequence, AllocError> {
-    Ok(Sequence::Last(step(alloc, word)?))
+    build::last(alloc, called(alloc, word)?)
 }
 
 pub fn sequences(alloc: Global) -> Result<Vec<Sequence>, AllocError> {
-    let first = step(alloc, "f")?;
+    let first = build::step(alloc, called(alloc, "f")?)?;
     Ok(vec![in alloc;
         last(alloc, "f")?,
-        Sequence::Then(first, Box::new(alloc, last(alloc, "g")?)?),
+        build::then(alloc, first, last(alloc, "g")?)?,
     ]?)
 }
 
 pub fn strategies(alloc: Global) -> Result<Vec<Strategy>, AllocError> {
     Ok(vec![in alloc;
         call(alloc, "f")?,
-        Strategy::LeftChoice(last(alloc, "f")?, boxed_call(alloc, "g")?),
-        Strategy::GuardedChoice(
+        build::left_choice(alloc, last(alloc, "f")?, call(alloc, "g")?)?,
+        build::guarded_choice(
+            alloc,
             last(alloc, "f")?,
-            boxed_call(alloc, "g")?,
-            boxed_call(alloc, "h")?
-        ),
+            call(alloc, "g")?,
+            call(alloc, "h")?
+        )?,
     ]?)
 }
 
@@ -183,28 +197,22 @@ pub fn parts(alloc: Global) -> Result<Vec<SignaturePart>, AllocError> {
 }
 
 pub fn rule_definition(alloc: Global) -> Result<RuleDefinition, AllocError> {
-    let rule = Rule::Conditional(
-        boxed_variable(alloc, "x")?,
-        boxed_variable(alloc, "y")?,
-        boxed_call(alloc, "f")?,
-    );
-    Ok(RuleDefinition {
-        name: name(alloc, "a")?,
-        parameters: Parameters::Absent,
-        rule,
-    })
+    let condition = boxed_call(alloc, "f")?;
+    let rule = build::rule(
+        alloc,
+        variable(alloc, "x")?,
+        variable(alloc, "y")?,
+        Some(condition),
+    )?;
+    let head = head(alloc, Parameters::Absent)?;
+    Ok(RuleDefinition { head, rule })
 }
 
 fn rule_definitions(alloc: Global) -> Result<Vec<Definition>, AllocError> {
     let mut all = Vec::new(alloc);
     for rule in rules(alloc)? {
-        let name = name(alloc, "a")?;
-        let parameters = Parameters::Absent;
-        let form = DefinitionForm::Rule(RuleDefinition {
-            name,
-            parameters,
-            rule,
-        });
+        let head = head(alloc, Parameters::Absent)?;
+        let form = DefinitionForm::Rule(RuleDefinition { head, rule });
         all.push(Definition {
             origin: Origin::Library,
             form,
@@ -216,7 +224,7 @@ fn rule_definitions(alloc: Global) -> Result<Vec<Definition>, AllocError> {
 fn strategy_definitions(alloc: Global) -> Result<Vec<Definition>, AllocError> {
     let mut all = Vec::new(alloc);
     for primary in primaries(alloc)? {
-        let body = Strategy::Sequence(Sequence::Last(plain(alloc, primary)?));
+        let body = build::strategy(alloc, primary)?;
         let form = DefinitionForm::Strategy(definition(alloc, body)?);
         all.push(Definition {
             origin: Origin::File,

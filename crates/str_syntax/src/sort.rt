@@ -35,7 +35,7 @@ pub enum SignaturePart {
 }
 
 impl Sort {
-    /// A copy of the sort. `AllocError` where the memory for it is refused.
+    /// Copies the sort. `AllocError` where the memory for it is refused.
     #[cycle(copy)]
     pub fn copy(&self, alloc: Global) -> Result<Sort, AllocError>
         ensures { IfOk result (λ made. sort_tree_of made ≡ sort_tree_of self.now) }
@@ -59,7 +59,7 @@ fn sorts(alloc: Global, source: &[Sort]) -> Result<Vec<Sort>, AllocError>
 }
 
 impl Declaration {
-    /// A copy of the declaration. `AllocError` where the memory for it is refused.
+    /// Copies the declaration. `AllocError` where the memory for it is refused.
     pub fn copy(&self, alloc: Global) -> Result<Declaration, AllocError>
         ensures { IfOk result (λ made. declaration_of made ≡ declaration_of self.now) }
     {
@@ -79,7 +79,7 @@ impl Declaration {
 }
 
 impl SignaturePart {
-    /// A copy of the part. `AllocError` where the memory for it is refused.
+    /// Copies the part. `AllocError` where the memory for it is refused.
     pub fn copy(&self, alloc: Global) -> Result<SignaturePart, AllocError>
         ensures { IfOk result (λ made. signature_of made ≡ signature_of self.now) }
     {

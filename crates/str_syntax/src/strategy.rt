@@ -68,10 +68,8 @@ pub enum Primary {
     Scope(Vec<Name>, Box<Strategy>),
     /// `where(s)`, `not(s)`, `all(s)`, `one(s)` or `some(s)`
     Operator(Operator, Box<Strategy>),
-    /// `if s1 then s2 end`
-    If(Box<Strategy>, Box<Strategy>),
-    /// `if s1 then s2 else s3 end`
-    IfElse(Box<Strategy>, Box<Strategy>, Box<Strategy>),
+    /// `if s1 then s2 end` or `if s1 then s2 else s3 end`
+    If(Box<Strategy>, Box<Strategy>, Option<Box<Strategy>>),
     /// `rec x(s)`
     Recursive(Name, Box<Strategy>),
     /// `let f = s .. in s end`, with one definition or more.
@@ -80,28 +78,34 @@ pub enum Primary {
     Primitive(Text, Vec<Pattern>),
     /// `\ p -> p where s \`
     Lambda(Box<Rule>),
-    /// `f`, a call.
-    Call(Name),
-    /// `f(s, ..)`: a congruence where f is declared with so many sorts, or else a call.
-    CallWith(Name, Vec<Strategy>),
-    /// `f(s, .. | p, ..)`, a call with term arguments.
-    CallWithTerms(Name, Vec<Strategy>, Vec<Pattern>),
+    /// `f`, `f(s, ..)` or `f(s, .. | p, ..)`: a call, or a congruence where f is a constructor declared with as many sorts as there
+    /// are strategies.
+    Call(Name, Arguments),
     /// `()` or `(s, s, ..)`: the congruence of tuples, with any number of parts but one.
     TupleCongruence(Vec<Strategy>),
-    /// `[]` or `[s, ..]`: the congruence of lists.
-    ListCongruence(Vec<Strategy>),
-    /// `[s, .. | s]`, with one strategy or more before the bar.
-    ListCongruenceWithTail(Vec<Strategy>, Box<Strategy>),
+    /// `[]`, `[s, ..]` or `[s, .. | s]`: the congruence of lists, with one strategy or more before a bar.
+    ListCongruence(Vec<Strategy>, Option<Box<Strategy>>),
 }
 
-/// What a rule rewrites to what, and under which condition.
+/// The arguments of a call, as they are written.
 #[cycle(syntax)]
 #[derive(Drop)]
-pub enum Rule {
-    /// `p -> p`
-    Plain(Box<Pattern>, Box<Pattern>),
-    /// `p -> p where s`
-    Conditional(Box<Pattern>, Box<Pattern>, Box<Strategy>),
+pub enum Arguments {
+    /// No parentheses.
+    Absent,
+    /// `(s, ..)`, strategies.
+    Strategies(Vec<Strategy>),
+    /// `(s, .. | p, ..)`, strategies and terms.
+    WithTerms(Vec<Strategy>, Vec<Pattern>),
+}
+
+/// `p -> p` or `p -> p where s`
+#[cycle(syntax)]
+#[derive(Drop)]
+pub struct Rule {
+    pub left: Box<Pattern>,
+    pub right: Box<Pattern>,
+    pub condition: Option<Box<Strategy>>,
 }
 
 /// The parameters of a rule or a definition, as they are written.
@@ -115,12 +119,18 @@ pub enum Parameters {
     WithTerms(Vec<Name>, Vec<Name>),
 }
 
+/// The name and the parameters of a rule or a definition.
+#[derive(Drop)]
+pub struct DefinitionHead {
+    pub name: Name,
+    pub parameters: Parameters,
+}
+
 /// `f(..) = s`
 #[cycle(syntax)]
 #[derive(Drop)]
 pub struct StrategyDefinition {
-    pub name: Name,
-    pub parameters: Parameters,
+    pub head: DefinitionHead,
     pub body: Box<Strategy>,
 }
 
@@ -130,8 +140,8 @@ pub struct StrategyDefinition {
 pub enum Pattern {
     /// `x`
     Variable(Name),
-    /// `_`
-    Wildcard,
+    /// `_`, and the byte of the file at which it stands.
+    Wildcard(u64),
     /// `x@p`
     Alias(Name, Box<Pattern>),
     /// `1`
@@ -144,10 +154,8 @@ pub enum Pattern {
     Parenthesized(Box<Pattern>),
     /// `()` or `(p, p, ..)`, with any number of parts but one.
     Tuple(Vec<Pattern>),
-    /// `[]` or `[p, ..]`
-    List(Vec<Pattern>),
-    /// `[p, .. | p]`, with one pattern or more before the bar.
-    ListWithTail(Vec<Pattern>, Box<Pattern>),
+    /// `[]`, `[p, ..]` or `[p, .. | p]`, with one pattern or more before a bar.
+    List(Vec<Pattern>, Option<Box<Pattern>>),
     /// `<s>`, a strategy applied to the current term.
     Applied(Box<Strategy>),
     /// `<s> p`, a strategy applied to what p builds.

@@ -1,12 +1,24 @@
 //! Copies of trees with every form, which are looked at in a few places.
 use crate::{
-    Declaration, Definition, DefinitionForm, Name, Operator, Origin, Parameters, Pattern, Primary,
-    Rule, Section, Sequence, SignaturePart, Sort, Step, Strategy, StrategyDefinition, samples,
+    Arguments, Declaration, Definition, DefinitionForm, DefinitionHead, Name, Operator, Origin,
+    Parameters, Pattern, Primary, Rule, RuleDefinition, Section, Sequence, SignaturePart, Sort,
+    Step, Strategy, StrategyDefinition, Text, samples,
 };
+use std::alloc::{AllocError, Global};
+use std::collections::HashMap;
 use std::test::Fail;
 
 fn is(x: &Name, word: &str) -> bool {
-    x.bytes() == word.as_bytes()
+    x.bytes() == word.as_bytes() && x.offset() == 7
+}
+
+// Whether the name is this word, as one that stands in no file.
+fn is_made(x: &Name, word: &str) -> bool {
+    x.bytes() == word.as_bytes() && x.offset() == 0
+}
+
+fn is_text(text: &Text, word: &str) -> bool {
+    text.bytes() == word.as_bytes()
 }
 
 fn are_names(xs: &[Name]) -> bool {
@@ -18,7 +30,7 @@ fn are_names(xs: &[Name]) -> bool {
 
 fn is_variable(p: &Pattern, word: &str) -> bool {
     match p {
-        Pattern::Variable(x) => is(x, word),
+        Pattern::Variable(x) => is_made(x, word),
         _ => false,
     }
 }
@@ -32,7 +44,7 @@ fn are_variables(patterns: &[Pattern]) -> bool {
 
 fn primary_calls(s: &Primary, word: &str) -> bool {
     match s {
-        Primary::Call(x) => is(x, word),
+        Primary::Call(x, Arguments::Absent) => is_made(x, word),
         _ => false,
     }
 }
@@ -68,16 +80,16 @@ fn are_calls(strategies: &[Strategy]) -> bool {
 // The form of the pattern, where its parts are those of the samples.
 fn pattern_form(p: &Pattern) -> &'static str {
     match p {
-        Pattern::Variable(x) if is(x, "x") => "variable",
-        Pattern::Wildcard => "wildcard",
+        Pattern::Variable(x) if is_made(x, "x") => "variable",
+        Pattern::Wildcard(7) => "wildcard",
         Pattern::Alias(x, p) if is(x, "a") && is_variable(p, "x") => "alias",
         Pattern::Integer(-7) => "integer",
-        Pattern::Quoted(text) if is(text, "a") => "quoted",
+        Pattern::Quoted(text) if is_text(text, "a") => "quoted",
         Pattern::Application(f, ps) if is(f, "a") && are_variables(ps) => "application",
         Pattern::Parenthesized(p) if is_variable(p, "x") => "parenthesized",
         Pattern::Tuple(ps) if are_variables(ps) => "tuple",
-        Pattern::List(ps) if are_variables(ps) => "list",
-        Pattern::ListWithTail(ps, p) if are_variables(ps) && is_variable(p, "x") => "tail",
+        Pattern::List(ps, None) if are_variables(ps) => "list",
+        Pattern::List(ps, Some(p)) if are_variables(ps) && is_variable(p, "x") => "tail",
         Pattern::Applied(s) if calls(s, "f") => "applied",
         Pattern::AppliedTo(s, p) if calls(s, "f") && is_variable(p, "x") => "applied_to",
         _ => "other",
@@ -111,10 +123,12 @@ fn step_form(s: &Step) -> &'static str {
 }
 
 fn rule_form(r: &Rule) -> &'static str {
-    match r {
-        Rule::Plain(p, q) if is_variable(p, "x") && is_variable(q, "y") => "plain",
-        Rule::Conditional(p, q, s) if is_variable(p, "x") && is_variable(q, "y") && calls(s, "f") =>
-            { "conditional" }
+    if !is_variable(&r.left, "x") || !is_variable(&r.right, "y") {
+        return "other";
+    }
+    match &r.condition {
+        None => "plain",
+        Some(s) if calls(s, "f") => "conditional",
         _ => "other",
     }
 }
@@ -128,8 +142,12 @@ fn parameter_form(parameters: &Parameters) -> &'static str {
     }
 }
 
+fn is_head(head: &DefinitionHead, form: &str) -> bool {
+    is(&head.name, "a") && parameter_form(&head.parameters) == form
+}
+
 fn is_definition(d: &StrategyDefinition, word: &str) -> bool {
-    is(&d.name, "a") && parameter_form(&d.parameters) == "strategies" && calls(&d.body, word)
+    is_head(&d.head, "strategies") && calls(&d.body, word)
 }
 
 fn are_definitions(ds: &[StrategyDefinition]) -> bool {
@@ -149,8 +167,8 @@ fn primary_form(s: &Primary) -> &'static str {
         Primary::Parenthesized(s) if calls(s, "f") => "parenthesized",
         Primary::Scope(xs, s) if are_names(xs) && calls(s, "f") => "scope",
         Primary::Operator(Operator::Not, s) if calls(s, "f") => "not",
-        Primary::If(s, t) if calls(s, "f") && calls(t, "g") => "if",
-        Primary::IfElse(s, t, u) if calls(s, "f") && calls(t, "g") && calls(u, "h") => "if_else",
+        Primary::If(s, t, None) if calls(s, "f") && calls(t, "g") => "if",
+        Primary::If(s, t, Some(u)) if calls(s, "f") && calls(t, "g") && calls(u, "h") => "if_else",
         Primary::Recursive(x, s) if is(x, "a") && calls(s, "f") => "rec",
         Primary::Let(ds, s) if are_definitions(ds) && calls(s, "f") => "let",
         Primary::Lambda(r) if rule_form(r) == "plain" => "lambda",
@@ -158,17 +176,22 @@ fn primary_form(s: &Primary) -> &'static str {
     }
 }
 
+fn argument_form(arguments: &Arguments) -> &'static str {
+    match arguments {
+        Arguments::Absent => "call",
+        Arguments::Strategies(ss) if are_calls(ss) => "call_with",
+        Arguments::WithTerms(ss, ps) if are_calls(ss) && are_variables(ps) => "call_with_terms",
+        _ => "other",
+    }
+}
+
 fn call_form(s: &Primary) -> &'static str {
     match s {
-        Primary::Primitive(x, ps) if is(x, "a") && are_variables(ps) => "prim",
-        Primary::Call(f) if is(f, "a") => "call",
-        Primary::CallWith(f, ss) if is(f, "a") && are_calls(ss) => "call_with",
-        Primary::CallWithTerms(f, ss, ps) if is(f, "a") && are_calls(ss) && are_variables(ps) => {
-            "call_with_terms"
-        }
+        Primary::Primitive(x, ps) if is_text(x, "a") && are_variables(ps) => "prim",
+        Primary::Call(f, arguments) if is(f, "a") => argument_form(arguments),
         Primary::TupleCongruence(ss) if are_calls(ss) => "tuple",
-        Primary::ListCongruence(ss) if are_calls(ss) => "list",
-        Primary::ListCongruenceWithTail(ss, s) if are_calls(ss) && calls(s, "h") => "tail",
+        Primary::ListCongruence(ss, None) if are_calls(ss) => "list",
+        Primary::ListCongruence(ss, Some(s)) if are_calls(ss) && calls(s, "h") => "tail",
         _ => "other",
     }
 }
@@ -214,8 +237,8 @@ fn body_form(s: &Strategy) -> &'static str {
 
 fn definition_form(form: &DefinitionForm) -> &'static str {
     match form {
-        DefinitionForm::Rule(d) if is(&d.name, "a") => rule_form(&d.rule),
-        DefinitionForm::Strategy(d) if is(&d.name, "a") => body_form(&d.body),
+        DefinitionForm::Rule(d) if is_head(&d.head, "absent") => rule_form(&d.rule),
+        DefinitionForm::Strategy(d) if is_head(&d.head, "strategies") => body_form(&d.body),
         _ => "other",
     }
 }
@@ -301,7 +324,7 @@ fn copies_of_strategies(rt: HostRuntime) -> Result<(), Fail> {
 }
 
 #[test]
-fn copies_of_definitions(rt: HostRuntime) -> Result<(), Fail> {
+fn copies_of_rules(rt: HostRuntime) -> Result<(), Fail> {
     let mut words = String::new(rt.alloc());
     for parameters in &samples::parameters(rt.alloc())? {
         write!(words, "{} ", parameter_form(&parameters.copy(rt.alloc())?))?;
@@ -313,18 +336,75 @@ fn copies_of_definitions(rt: HostRuntime) -> Result<(), Fail> {
         words.as_str(),
         "absent strategies with_terms plain conditional "
     );
-    let definition = samples::definition(rt.alloc(), samples::call(rt.alloc(), "g")?)?;
-    assert!(rt; is_definition(&definition.copy(rt.alloc())?, "g"));
-    let rule = samples::rule_definition(rt.alloc())?.copy(rt.alloc())?;
-    assert!(rt; is(&rule.name, "a") && rule_form(&rule.rule) == "conditional");
-    let rule = Definition {
-        origin: Origin::Library,
-        form: DefinitionForm::Rule(rule),
-    };
-    let copy = rule.copy(rt.alloc())?;
-    assert!(rt; copy.origin == Origin::Library);
-    let form = copy.form.copy(rt.alloc())?;
-    assert_eq!(rt; definition_form(&form), "conditional");
+    Ok(())
+}
+
+// Whether copies of a strategy definition and of a rule have the forms of their sources.
+fn copies_keep_forms(alloc: Global) -> Result<bool, AllocError> {
+    let definition = samples::definition(alloc, samples::call(alloc, "g")?)?;
+    let definition = Box::new(alloc, definition)?;
+    let copy = Box::new(alloc, definition.copy(alloc)?)?;
+    let rule = Box::new(alloc, samples::rule_definition(alloc)?)?;
+    let rule = Box::new(alloc, rule.copy(alloc)?)?;
+    Ok(
+        is_definition(&copy, "g")
+            && is_head(&rule.head, "absent")
+            && rule_form(&rule.rule) == "conditional",
+    )
+}
+
+// The form of a copy of a definition of the library that is this rule, where the copy is of the library, too.
+fn form_of_copy(alloc: Global, rule: RuleDefinition) -> Result<&'static str, AllocError> {
+    let form = DefinitionForm::Rule(rule);
+    let origin = Origin::Library;
+    let rule = Box::new(alloc, Definition { origin, form })?;
+    let copy = Box::new(alloc, rule.copy(alloc)?)?;
+    let form = Box::new(alloc, copy.form.copy(alloc)?)?;
+    if copy.origin != Origin::Library {
+        return Ok("other");
+    }
+    Ok(definition_form(&form))
+}
+
+#[test]
+fn copies_of_definitions(rt: HostRuntime) -> Result<(), Fail> {
+    let alloc = rt.alloc();
+    assert!(rt; copies_keep_forms(alloc)?);
+    let rule = samples::rule_definition(alloc)?;
+    assert_eq!(rt; form_of_copy(alloc, rule)?, "conditional");
+    Ok(())
+}
+
+#[test]
+fn names_are_keys_by_their_bytes(rt: HostRuntime) -> Result<(), Fail> {
+    let mut table = HashMap::new(rt.alloc());
+    table.insert(Name::new(rt.alloc(), b"f", 1)?, 10)?;
+    table.insert(Name::new(rt.alloc(), b"g", 2)?, 20)?;
+    let f = Name::new(rt.alloc(), b"f", 3)?;
+    let h = Name::new(rt.alloc(), b"h", 1)?;
+    assert_eq!(rt; table.get(&f), Some(&10));
+    assert_eq!(rt; table.get(&h), None);
+    assert!(rt; f == Name::new(rt.alloc(), b"f", 4)? && f != h);
+    Ok(())
+}
+
+#[test]
+fn parameters_and_arguments_are_counted(rt: HostRuntime) -> Result<(), Fail> {
+    let mut counts = String::new(rt.alloc());
+    for parameters in &samples::parameters(rt.alloc())? {
+        write!(
+            counts,
+            "{}|{} ",
+            parameters.strategies(),
+            parameters.terms()
+        )?;
+    }
+    for s in &samples::primaries(rt.alloc())? {
+        if let Primary::Call(_, arguments) = s {
+            write!(counts, "{}|{} ", arguments.strategies(), arguments.terms())?;
+        }
+    }
+    assert_eq!(rt; counts.as_str(), "0|0 2|0 2|2 0|0 2|0 2|2 ");
     Ok(())
 }
 

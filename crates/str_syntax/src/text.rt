@@ -1,7 +1,8 @@
 // Names and quoted texts.
-ghost use Rattle.std.specs.Prelude.{◌≡◌, IfOk};
+ghost use Rattle.std.specs.Prelude.{◌≡◌, ◌↔◌, IsTrue, IfOk};
 
 use std::alloc::{AllocError, Global};
+use std::hash::{Hash, Hasher};
 use std::marker::Model;
 use term_model::ShortText;
 
@@ -12,7 +13,7 @@ enum Spelling {
     Long(Box<Vec<u8>>),
 }
 
-/// Bytes of a definition file: a name, or what a quoted text stands for.
+/// What a quoted text of a definition file stands for.
 #[derive(Drop)]
 pub struct Text {
     spelling: Spelling,
@@ -28,11 +29,8 @@ impl Model for Text {
     ghost view = { λ text. spelled text.spelling };
 }
 
-/// The name of a sort, a constructor, a definition, a parameter or a variable.
-pub type Name = Text;
-
 impl Text {
-    /// The text of these bytes. `AllocError` where the memory for them is refused.
+    /// Makes the text of these bytes. `AllocError` where the memory for them is refused.
     pub fn new(alloc: Global, bytes: &[u8]) -> Result<Text, AllocError>
         ensures { IfOk result (λ text. text ≡ bytes.now) }
     {
@@ -45,14 +43,14 @@ impl Text {
         Ok(Text { spelling })
     }
 
-    /// A copy of the text. `AllocError` where the memory for it is refused.
+    /// Copies the text. `AllocError` where the memory for it is refused.
     pub fn copy(&self, alloc: Global) -> Result<Text, AllocError>
         ensures { IfOk result (λ made. made ≡ self.now) }
     {
         Text::new(alloc, self.bytes())
     }
 
-    /// The bytes of the text.
+    /// Returns the bytes of the text.
     pub fn bytes(&self) -> &[u8]
         ensures { result.now ≡ self.now }
     {
@@ -63,7 +61,90 @@ impl Text {
     }
 }
 
-// A copy of the names.
+/// The name of a sort, a constructor, a definition, a parameter or a variable, and the byte of the file at which it stands.
+/// Names are equal where their bytes are, wherever they stand.
+#[derive(Drop)]
+pub struct Name {
+    text: Text,
+    offset: u64,
+}
+
+impl Model for Name {
+    ghost use Rattle.std.specs.Prelude.{ℕ, List};
+
+    ghost Value = { List ℕ };
+
+    ghost view = { λ name. name.text };
+}
+
+impl Name {
+    /// Makes the name of these bytes, which stands at this offset. `AllocError` where the memory for it is refused.
+    pub fn new(alloc: Global, bytes: &[u8], offset: u64) -> Result<Name, AllocError>
+        ensures { IfOk result (λ name. name ≡ bytes.now) }
+    {
+        let text = Text::new(alloc, bytes)?;
+        Ok(Name { text, offset })
+    }
+
+    /// Copies the name and its offset. `AllocError` where the memory for it is refused.
+    pub fn copy(&self, alloc: Global) -> Result<Name, AllocError>
+        ensures { IfOk result (λ made. made ≡ self.now) }
+    {
+        Name::new(alloc, self.bytes(), self.offset)
+    }
+
+    /// Returns the bytes of the name.
+    pub fn bytes(&self) -> &[u8]
+        ensures { result.now ≡ self.now }
+    {
+        self.text.bytes()
+    }
+
+    /// Returns the byte of the file at which the name stands. No contract speaks of it: it tells where a fault is.
+    pub fn offset(&self) -> u64 {
+        self.offset
+    }
+}
+
+impl PartialEq for Name {
+    ghost use Rattle.std.specs.Prelude.{nat_eq};
+    ghost use Rattle.std.specs.Cmp.Lexicographic.{pointwise};
+    ghost use Rattle.str_syntax.specs.SameName.{same_name, same_name_partial_equiv};
+
+    ghost eq = { same_name };
+
+    #[tactic(auto, using(crate::proofs::NameLaws::equal))]
+    fn eq(&self, other: &Name) -> bool
+        ensures same { result ≡ same_name self.now other.now }
+        ensures equal { IsTrue result ↔ (self.now ≡ other.now) }
+    {
+        self.bytes() == other.bytes()
+    }
+
+    ghost laws = { same_name_partial_equiv };
+}
+
+impl Eq for Name {
+    ghost use Rattle.str_syntax.specs.SameName.{same_name_equiv};
+
+    ghost laws = { same_name_equiv };
+}
+
+impl Hash for Name {
+    ghost use Rattle.std.specs.Hash as fed;
+    ghost use Rattle.std.proofs.Common.{ap};
+    ghost use Rattle.str_syntax.specs.SameName.{same_name-true};
+
+    ghost hash_input = { λ name. fed.slice fed.u8 name };
+
+    ghost respects_eq = { λ x y same. ap (λ name. fed.slice fed.u8 name) (same_name-true x y same) };
+
+    fn hash<H: Hasher>(&self, state: &mut H) {
+        self.bytes().hash(state);
+    }
+}
+
+// Copies the names.
 pub(crate) fn names(alloc: Global, source: &[Name]) -> Result<Vec<Name>, AllocError>
     ensures { IfOk result (λ made. made.items ≡ source.now) }
 {

@@ -9,8 +9,7 @@ use Rattle.str_pipeline.specs.Device.{Gains, GainsPrefix}
 use Rattle.strc.specs.Report.{diagnostic, Tells}
 
 pub gains_both : (a b c : Option (List ℕ)) (xs ys : List ℕ) → Gains a b xs → Gains b c ys → Gains a c (xs ++ ys)
-gains_both None None c xs ys first second = second
-gains_both None (Some told) c xs ys first second = cc
+gains_both None b c xs ys first second = tt
 gains_both (Some all) None c xs ys first second = cc
 gains_both (Some all) (Some told) c xs ys first second = grind (arith, common_steps)
 

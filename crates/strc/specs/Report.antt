@@ -1,7 +1,7 @@
 -- The exit status, and the line of a fault on the diagnostic stream.
-use Rattle.std.specs.Prelude.{◌≡◌, ℕ, List, [], ◌∷◌, ◌++◌, codes, decimal, Option, None, Some}
+use Rattle.std.specs.Prelude.{◌≡◌, ◌<◌, ℕ, List, [], ◌∷◌, ◌++◌, codes, decimal, Option, None, Some}
 use Rattle.term_model.specs.declared.fault.Fault.{Fault}
-use Rattle.term_model.specs.declared.fault.Fault.TheVariants.{Lexical, ReservedWord, Syntax, Nesting, TermSyntax, TermOversize}
+use Rattle.term_model.specs.declared.fault.Fault.TheVariants.{Memory, Read, Write, Lexical, ReservedWord, Syntax, Nesting, TermSyntax, TermOversize}
 use Rattle.term_model.specs.Fault.{word_of}
 use Rattle.str_pipeline.specs.declared.status.Status.{Status}
 use Rattle.str_pipeline.specs.declared.status.Status.TheVariants.{Rewritten, Failed, Oversize, Spent, Refused}
@@ -31,7 +31,27 @@ place_text (Some at) = codes " at byte " ++ decimal at
 abbrev pub diagnostic : Fault → List ℕ
 diagnostic fault = codes "strc: " ++ (word_of fault ++ (place_text (place_of fault) ++ 10 ∷ []))
 
--- the line of the fault is on a stream with so many failed writes before and after: a beginning of it, and the whole
+-- the failed calls of a device, before and after a run
+pub record Failures : Type 0 where
+  pub before : ℕ
+  pub after : ℕ
+
+-- no call failed in the run
+abbrev pub AreNone : Failures → Type 0
+AreNone calls = calls.after ≡ calls.before
+
+-- a call failed in the run
+abbrev pub AreSome : Failures → Type 0
+AreSome calls = calls.before < calls.after
+
+-- why a run stopped, by the failed reads and writes in it: Read exactly where a read failed, Write exactly where a write failed, and else Memory
+abbrev pub IsCause : Failures → Failures → Fault → Type 0
+IsCause reads writes Memory = AreNone reads × AreNone writes
+IsCause reads writes Read = AreSome reads × AreNone writes
+IsCause reads writes Write = AreNone reads × AreSome writes
+IsCause reads writes fault = ⊥
+
+-- the line of the fault is on a stream with these numbers of failed writes before and after: a beginning of it, and the whole
 -- where no write failed
 pub record Tells (fault : Fault) (before after : ℕ) (old new : Option (List ℕ)) : Type 0 where
   pub beginning : GainsPrefix old new (diagnostic fault)

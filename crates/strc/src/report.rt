@@ -7,7 +7,7 @@ use itoa::Buffer;
 use str_pipeline::{Sink, write_all};
 use term_model::Fault;
 
-/// The byte at which the text was refused.
+/// Returns the byte at which the text was refused.
 fn place_of(fault: &Fault) -> Option<u64>
     ensures { result ≡ place_of fault.now }
 {

@@ -2,7 +2,7 @@
 use Rattle.std.proofs.Common.{◌≡◌, ℕ, suc, true, List, [], ◌∷◌, get_or, refl, arith, Fits, w8}
 use Rattle.std.proofs.lemmas.Bool.{lt-ltb}
 use Rattle.std.specs.List.{list_all}
-use Rattle.term_model.specs.Symbol.{is_byte}
+use Rattle.term_model.specs.Bytes.{is_byte}
 
 -- numbers that fit eight bits are bytes
 pub list_all-is_byte : (bs : List ℕ) → ((i : ℕ) → Fits w8 (get_or bs i 0)) → list_all is_byte bs ≡ true

@@ -1,3 +1,5 @@
+pub mod Bytes
+pub mod QuotedText
 pub mod Symbol
 pub mod Spelling
 pub mod Limits
@@ -9,3 +11,4 @@ pub mod TermSize
 pub mod Same
 pub mod Fault
 pub mod Flat
+pub mod Hashing

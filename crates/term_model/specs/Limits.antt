@@ -1,10 +1,15 @@
--- How large an integer may be, and how heavy and how deep a term.
-use Rattle.std.specs.Prelude.{ℕ, ℤ, FitsSigned}
+-- How large an integer may be, how heavy and how deep a term, and how many nodes a derivation.
+use Rattle.std.specs.Prelude.{ℕ, ℤ, Bool, true, false, FitsSigned}
 use Rattle.std.specs.Int.{w32}
 
 -- an integer of the language
 abbrev pub IsInRange : ℤ → Type 0
 IsInRange n = FitsSigned w32 n
+
+-- the greatest magnitude of an integer of the language that is negative, and of one that is not
+abbrev pub max_magnitude : Bool → ℕ
+max_magnitude true = 2_147_483_648
+max_magnitude false = 2_147_483_647
 
 -- the greatest weight of a term that fits
 abbrev pub max_weight : ℕ
@@ -13,3 +18,7 @@ max_weight = 16_777_216
 -- the greatest depth of a term that fits
 abbrev pub max_depth : ℕ
 max_depth = 1000
+
+-- the greatest budget of a run
+abbrev pub max_budget : ℕ
+max_budget = 2_000

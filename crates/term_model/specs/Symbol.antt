@@ -1,6 +1,7 @@
 -- Symbols: a plain name, quoted bytes, or the empty symbol of tuples.
-use Rattle.std.specs.Prelude.{ℕ, Bool, false, ◌||◌, ◌&&◌, ◌==◌, nat_le, nat_lt, List, [], ◌∷◌, IsTrue}
+use Rattle.std.specs.Prelude.{ℕ, Bool, false, ◌||◌, ◌&&◌, ◌==◌, List, [], ◌∷◌, IsTrue}
 use Rattle.std.specs.List.{list_all}
+use Rattle.term_model.specs.Bytes.{is_byte, is_between, is_digit}
 use Rattle.term_model.specs.declared.symbol.Kind.{Kind}
 use Rattle.term_model.specs.declared.symbol.Kind.TheVariants as kinds
 
@@ -10,17 +11,13 @@ pub data Symbol : Type 0 where
   Quoted : List ℕ → Symbol
   Tuple : Symbol
 
--- the number is neither below the first nor above the second
-abbrev pub is_between : ℕ → ℕ → ℕ → Bool
-is_between low high b = nat_le low b && nat_le b high
-
 -- a letter or an underscore
 abbrev pub begins_name : ℕ → Bool
 begins_name b = (is_between 65 90 b || is_between 97 122 b) || b == 95
 
 -- a letter, a digit, or one of _ - + * $
 abbrev pub continues_name : ℕ → Bool
-continues_name b = (((begins_name b || is_between 48 57 b) || b == 45) || (b == 43 || b == 42)) || b == 36
+continues_name b = (((begins_name b || is_digit b) || b == 45) || (b == 43 || b == 42)) || b == 36
 
 -- the bytes are a name
 abbrev pub is_name : List ℕ → Bool
@@ -38,10 +35,6 @@ abbrev pub bytes_of : Symbol → List ℕ
 bytes_of (Plain bs) = bs
 bytes_of (Quoted bs) = bs
 bytes_of Tuple = []
-
--- a number of eight bits
-abbrev pub is_byte : ℕ → Bool
-is_byte b = nat_lt b 256
 
 -- a symbol of terms: a plain one has a name, a quoted one has bytes
 abbrev pub IsSymbol : Symbol → Type 0

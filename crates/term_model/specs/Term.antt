@@ -1,5 +1,5 @@
 -- Terms as values: a head, the list of the parts and the list of the annotations.
-use Rattle.std.specs.Prelude.{◌≡◌, Bool, ◌&&◌, nat_le, if◌then◌else◌, ℕ, ◌+◌, ◌≤◌, max, List, [], ◌∷◌, length}
+use Rattle.std.specs.Prelude.{◌≡◌, Bool, true, ◌&&◌, nat_le, if◌then◌else◌, ℕ, ◌+◌, ◌≤◌, max, List, [], ◌∷◌, length}
 use Rattle.term_model.specs.declared.term.Head.{Head}
 use Rattle.term_model.specs.declared.term.Head.TheVariants as heads
 use Rattle.term_model.specs.declared.made.Made.{Made}
@@ -87,6 +87,11 @@ abbrev mutual
 abbrev pub fits : Tree → Bool
 fits t = nat_le (weight t) max_weight && nat_le (depth t) max_depth
 
--- what making a term answers: the term, or that it does not fit
+-- each of the terms fits
+abbrev pub all_fit : Trees → Bool
+all_fit end = true
+all_fit (more t ts) = fits t && all_fit ts
+
+-- what making a term returns: the term, or that it does not fit
 abbrev pub made_of : Tree → Made Tree
 made_of t = if fits t then made.Fits t else made.Oversize

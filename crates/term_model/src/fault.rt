@@ -1,4 +1,4 @@
-// The refusals: why a call gave no answer.
+// The refusals: why a call gave no result.
 ghost use Rattle.std.specs.Prelude.{◌≡◌, codes};
 ghost use Rattle.term_model.specs.Fault.{number_of, word_of};
 
@@ -6,7 +6,7 @@ use std::alloc::{AllocError, AllocFailed};
 use thiserror::Error;
 
 /// A refusal. An offset `at` is the place of the fault in its text, in bytes from its beginning.
-#[derive(Debug, Drop, PartialEq, Eq, Error)]
+#[derive(Clone, Debug, Drop, PartialEq, Eq, Error)]
 pub enum Fault {
     /// A growth of memory was refused.
     #[error("out of memory")]
@@ -99,7 +99,7 @@ impl Fault {
         }
     }
 
-    /// The word of the refusal, as it is printed behind `#refused `.
+    /// The word of the refusal, as it is printed after `#refused `.
     pub fn word(&self) -> &'static str
         ensures { result.now ≡ word_of self.now }
     {

@@ -1,6 +1,7 @@
 //! Terms: integers, applications of symbols and lists, each with annotations.
 #![tactic(auto)]
 
+pub mod bytes;
 mod equality;
 pub mod fault;
 pub mod made;

@@ -5,6 +5,8 @@ ghost use Rattle.term_model.specs.Symbol.{Plain, Quoted, Tuple, kind_of, bytes_o
 
 use crate::short_text::ShortText;
 use std::alloc::{AllocError, Global};
+use std::fmt;
+use std::hash::{Hash, Hasher};
 use std::marker::Model;
 use std::rc::RcSlice;
 
@@ -30,8 +32,8 @@ enum Spelling {
 }
 
 /// A symbol. Its bytes are shared among its clones, or, where they are few, copied with it. Symbols
-/// of different kinds are different, whatever their bytes. `clone` takes no memory: it answers `AllocError` only where 2^64 - 1
-/// owners exist.
+/// of different kinds are different, whatever their bytes. `clone` takes no memory: it returns
+/// `AllocError` only where 2^64 - 1 owners exist.
 #[derive(Drop)]
 pub struct Sym {
     spelling: Spelling,
@@ -90,11 +92,21 @@ impl Sym {
         if !is_plain(bytes) {
             return Ok(None);
         }
+        let symbol = Sym::named(alloc, bytes)?;
+        Ok(Some(symbol))
+    }
+
+    /// The plain symbol of bytes that are known to be a name, which are not scanned again. Copies
+    /// the bytes; `AllocError` where there is no memory for them.
+    pub fn named(alloc: Global, bytes: &[u8]) -> Result<Sym, AllocError>
+        requires { is_name bytes.now ≡ true }
+        ensures { IfOk result (λ s. s ≡ Plain bytes.now) }
+    {
         let spelling = match ShortText::new(bytes) {
             Some(text) => Spelling::ShortPlain(text),
             None => Spelling::Plain(RcSlice::from_slice(alloc, bytes)?),
         };
-        Ok(Some(Sym { spelling }))
+        Ok(Sym { spelling })
     }
 
     /// The quoted symbol of these bytes, which stand for themselves, with no escapes. Copies the
@@ -181,4 +193,33 @@ impl Eq for Sym {
     ghost use Rattle.term_model.specs.Same.{same_symbol_equiv};
 
     ghost laws = { same_symbol_equiv };
+}
+
+// Hashes the kind and the bytes.
+impl Hash for Sym {
+    ghost use Rattle.term_model.specs.Hashing.{symbol_writes, symbol_writes-same};
+
+    ghost hash_input = { symbol_writes };
+
+    ghost respects_eq = { symbol_writes-same };
+
+    fn hash<H: Hasher>(&self, state: &mut H) {
+        let kind: u8 = match self.kind() {
+            Kind::Plain => 0,
+            Kind::Quoted => 1,
+            Kind::Tuple => 2,
+        };
+        kind.hash(state);
+        self.bytes().hash(state);
+    }
+}
+
+// Shows the kind and the bytes.
+impl fmt::Debug for Sym {
+    fn fmt<W: fmt::Write>(&self, f: &mut fmt::Formatter<W>) -> fmt::Result {
+        f.debug_tuple("Sym")
+            .field(&self.kind())
+            .field(&self.bytes())
+            .finish()
+    }
 }

@@ -8,6 +8,7 @@ use crate::made::Made;
 use crate::size::{size_of_all, weight_with};
 use crate::symbol::Sym;
 use std::alloc::{AllocError, Global};
+use std::hash::{Hash, Hasher};
 use std::marker::Model;
 use std::rc::Rc;
 
@@ -18,7 +19,7 @@ pub const MAX_WEIGHT: u32 = 16_777_216;
 pub const MAX_DEPTH: u32 = 1000;
 
 /// What a term is, but for its parts and its annotations.
-#[derive(Drop)]
+#[derive(Debug, Drop)]
 pub enum Head {
     /// An integer, which has no parts.
     Int(i32),
@@ -67,18 +68,41 @@ impl Clone for Head {
     }
 }
 
+// Hashes the variant and what it holds.
+impl Hash for Head {
+    ghost use Rattle.term_model.specs.Hashing.{head_writes, head_writes-same};
+
+    ghost hash_input = { head_writes };
+
+    ghost respects_eq = { head_writes-same };
+
+    fn hash<H: Hasher>(&self, state: &mut H) {
+        match self {
+            Head::Int(value) => {
+                0u8.hash(state);
+                value.hash(state);
+            }
+            Head::App(symbol) => {
+                1u8.hash(state);
+                symbol.hash(state);
+            }
+            Head::List => 2u8.hash(state),
+        }
+    }
+}
+
 /// A term that fits, shared among its clones. Two terms are equal where their heads, parts and
 /// annotations are, in order; the comparison calls itself no deeper than the terms are deep, and
-/// takes no memory. `clone` takes none either: it answers `AllocError` only where 2^64 - 1 owners
+/// takes no memory. `clone` takes none either: it returns `AllocError` only where 2^64 - 1 owners
 /// exist.
 #[cycle(term)]
-#[derive(Drop)]
+#[derive(Debug, Drop)]
 pub struct Term {
     node: Rc<Node>,
 }
 
 #[cycle(term)]
-#[derive(Drop)]
+#[derive(Debug, Drop)]
 struct Node {
     head: Head,
     parts: Vec<Term>,
@@ -160,13 +184,46 @@ impl Term {
         Ok(Term { node })
     }
 
+    /// The term of this head with these parts and annotations; `Oversize` exactly where it does not
+    /// fit. `AllocError` where there is no memory for a node. The parts and the annotations are
+    /// dropped where no term is made.
+    pub fn new(
+        alloc: Global,
+        head: Head,
+        parts: Vec<Term>,
+        annos: Vec<Term>,
+    ) -> Result<Made<Term>, AllocError>
+        requires { IsHead head (trees_of parts.items) }
+        ensures { IfOk result (λ made. made ≡ made_of (term head parts.items annos.items)) }
+    {
+        let annos = share(alloc, annos)?;
+        make(alloc, head, parts, annos)
+    }
+
+    /// The term of this head with these parts and the annotations of another term, which are
+    /// shared; `Oversize` exactly where it does not fit. `AllocError` where there is no memory for a
+    /// node. The parts are dropped where no term is made.
+    #[tactic(auto, using(crate::proofs::TermLemmas::kept))]
+    pub fn new_like(
+        alloc: Global,
+        head: Head,
+        parts: Vec<Term>,
+        like: &Term,
+    ) -> Result<Made<Term>, AllocError>
+        requires { IsHead head (trees_of parts.items) }
+        ensures { IfOk result (λ made. made ≡ made_of (term head parts.items (annos_of like.now))) }
+    {
+        let annos = like.node.annos.clone()?;
+        make(alloc, head, parts, annos)
+    }
+
     /// The symbol applied to the parts, with no annotations; `Oversize` exactly where that term does
     /// not fit. `AllocError` where there is no memory for a node. The parts are dropped where no
     /// term is made.
     pub fn app(alloc: Global, symbol: Sym, parts: Vec<Term>) -> Result<Made<Term>, AllocError>
         ensures { IfOk result (λ made. made ≡ made_of (term (Head.App symbol) parts.items [])) }
     {
-        make(alloc, Head::App(symbol), parts, None)
+        Term::new(alloc, Head::App(symbol), parts, Vec::new(alloc))
     }
 
     /// The list of these elements, with no annotations; `Oversize` exactly where that term does not
@@ -175,7 +232,7 @@ impl Term {
     pub fn list(alloc: Global, elements: Vec<Term>) -> Result<Made<Term>, AllocError>
         ensures { IfOk result (λ made. made ≡ made_of (term Head.List elements.items [])) }
     {
-        make(alloc, Head::List, elements, None)
+        Term::new(alloc, Head::List, elements, Vec::new(alloc))
     }
 
     /// The same term with exactly these annotations in place of its own; `Oversize` exactly where
@@ -186,9 +243,8 @@ impl Term {
         ensures { IfOk result (λ made. made ≡ made_of (term (head_of self.now) (parts_of self.now) annos.items)) }
     {
         let head = self.node.head.clone()?;
-        let parts = copy_of(alloc, &self.node.parts)?;
-        let annos = share(alloc, annos)?;
-        make(alloc, head, parts, annos)
+        let parts = Vec::from_clones(alloc, &self.node.parts)?;
+        Term::new(alloc, head, parts, annos)
     }
 
     /// The same term with these parts in place of its own, of which there are as many; `Oversize`
@@ -200,8 +256,15 @@ impl Term {
         ensures { IfOk result (λ made. made ≡ made_of (term (head_of self.now) parts.items (annos_of self.now))) }
     {
         let head = self.node.head.clone()?;
-        let annos = self.node.annos.clone()?;
-        make(alloc, head, parts, annos)
+        Term::new_like(alloc, head, parts, self)
+    }
+
+    /// Tells that the term fits, and that it is a term of the language.
+    pub fn fits(&self)
+        ensures fits { Fits self.now }
+        ensures is_term { IsTerm self.now }
+    {
+        let _node = &self.node;
     }
 
     /// What the term is, but for its parts and its annotations.
@@ -290,13 +353,6 @@ fn share(alloc: Global, terms: Vec<Term>) -> Result<Option<Rc<Vec<Term>>>, Alloc
     }
     let shared = Rc::new(alloc, terms)?;
     Ok(Some(shared))
-}
-
-// These terms once more.
-fn copy_of(alloc: Global, terms: &[Term]) -> Result<Vec<Term>, AllocError>
-    ensures { IfOk result (λ copy. copy.items ≡ terms.now) }
-{
-    Vec::from_clones(alloc, terms)
 }
 
 impl Eq for Term {

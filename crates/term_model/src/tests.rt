@@ -1,6 +1,7 @@
 // Each public call with ample memory; what is expected was worked out by hand.
-use crate::{Fault, Head, Kind, Made, ShortText, Sym, Term};
+use crate::{Fault, Head, Kind, Made, ShortText, Sym, Term, bytes};
 use std::alloc::{AllocError, AllocFailed, Global};
+use std::hash::{DefaultHasher, Hash, Hasher};
 use std::test::Fail;
 
 // The term, if it fits.
@@ -68,6 +69,8 @@ fn faults(rt: HostRuntime) -> Result<(), Fail> {
     assert!(rt; Fault::Lexical { at: 3 } != Fault::Lexical { at: 4 });
     assert!(rt; Fault::from(AllocError) == Fault::Memory);
     assert!(rt; Fault::from(AllocFailed { value: 7 }) == Fault::Memory);
+    let fault = Fault::TermSyntax { at: 7 };
+    assert_eq!(rt; fault.clone()?, fault);
     Ok(())
 }
 
@@ -86,8 +89,12 @@ fn symbols(rt: HostRuntime) -> Result<(), Fail> {
         let symbol = Sym::plain(alloc, name)?.ok_or("no name")?;
         assert_eq!(rt; symbol.kind(), Kind::Plain);
         assert_eq!(rt; symbol.bytes(), name);
-        assert!(rt; symbol.clone()? == symbol);
+        assert_eq!(rt; symbol.clone()?, symbol);
     }
+    assert_eq!(rt;
+        Sym::named(alloc, b"f")?,
+        Sym::plain(alloc, b"f")?.ok_or("no name")?
+    );
     let texts: [&[u8]; 7] = [
         b"1a",
         b"",
@@ -111,6 +118,36 @@ fn symbols(rt: HostRuntime) -> Result<(), Fail> {
     assert!(rt; Sym::plain(alloc, b"f")?.ok_or("no name")? != quoted);
     assert!(rt; tuple != Sym::quoted(alloc, b"")?);
     assert!(rt; quoted.clone()? == quoted);
+    Ok(())
+}
+
+// The hash of the value, by std's hasher.
+fn hash_of<T: Hash>(value: &T) -> u64 {
+    let mut state = DefaultHasher::new();
+    value.hash(&mut state);
+    state.finish()
+}
+
+#[test]
+fn hashes(rt: HostRuntime) -> Result<(), Fail> {
+    let alloc = rt.alloc();
+    let plain = Head::App(Sym::named(alloc, b"f")?);
+    let quoted = Head::App(Sym::quoted(alloc, b"f")?);
+    assert_eq!(rt; hash_of(&plain), hash_of(&plain.clone()?));
+    assert!(rt; hash_of(&plain) != hash_of(&quoted));
+    assert!(rt; hash_of(&Head::Int(2)) != hash_of(&Head::List));
+    Ok(())
+}
+
+#[test]
+fn shown(rt: HostRuntime) -> Result<(), Fail> {
+    let alloc = rt.alloc();
+    let seven = Made::Fits(Term::int(alloc, 7)?);
+    let text = format!(in alloc; "{seven:?}")?;
+    let expected =
+        "Fits(Term { node: Node { head: Int(7), parts: [], annos: None, weight: 1, depth: 1 } })";
+    assert_eq!(rt; text.as_str(), expected);
+    assert!(rt; seven.clone()? == seven);
     Ok(())
 }
 
@@ -147,6 +184,23 @@ fn terms(rt: HostRuntime) -> Result<(), Fail> {
     assert!(rt; built.children() == vec![in alloc; two]?.as_slice());
     assert!(rt; built.annos() == vec![in alloc; a]?.as_slice());
     assert!(rt; built != one);
+    Ok(())
+}
+
+#[test]
+fn annotated_terms(rt: HostRuntime) -> Result<(), Fail> {
+    let alloc = rt.alloc();
+    let seven = Term::int(alloc, 7)?;
+    let x = applied(alloc, b"x", Vec::new(alloc))?;
+    let f = applied(alloc, b"f", vec![in alloc; seven.clone()?]?)?;
+    let annotated = fitting(f.with_annos(alloc, vec![in alloc; x.clone()?]?)?).ok_or("oversize")?;
+    let head = Head::App(Sym::named(alloc, b"f")?);
+    let made = Term::new(alloc, head, vec![in alloc; seven]?, vec![in alloc; x]?)?;
+    assert_eq!(rt; made, Made::Fits(annotated.clone()?));
+    let like = Term::new_like(alloc, Head::Int(8), Vec::new(alloc), &annotated)?;
+    let like = fitting(like).ok_or("oversize")?;
+    assert!(rt; *like.head() == Head::Int(8));
+    assert!(rt; like.annos() == annotated.annos());
     Ok(())
 }
 
@@ -197,5 +251,38 @@ fn short_texts(rt: HostRuntime) -> Result<(), Fail> {
         assert_eq!(rt; short.as_slice(), text);
         assert_eq!(rt; short.copy().as_slice(), text);
     }
+    Ok(())
+}
+
+#[test]
+fn numbers_and_escapes(rt: HostRuntime) -> Result<(), Fail> {
+    let classes = [
+        (b'\t', (true, false, false)),
+        (b'7', (false, true, true)),
+        (b'8', (false, true, false)),
+    ];
+    for (byte, expected) in classes {
+        let found = (
+            bytes::is_blank_byte(byte),
+            bytes::is_digit_byte(byte),
+            bytes::is_octal_byte(byte),
+        );
+        assert_eq!(rt; found, expected);
+    }
+    for (letter, expected) in [(b'n', Some(b'\n')), (b'0', None)] {
+        assert_eq!(rt; bytes::unescaped(letter), expected);
+    }
+    let table = [
+        (true, 214_748_364, b'8', Some(2_147_483_648)),
+        (true, 214_748_364, b'9', None),
+        (false, 214_748_364, b'7', Some(2_147_483_647)),
+        (false, 214_748_364, b'8', None),
+    ];
+    for (negative, magnitude, digit, expected) in table {
+        if bytes::is_digit_byte(digit) {
+            assert_eq!(rt; bytes::with_digit(negative, magnitude, digit), expected);
+        }
+    }
+    assert_eq!(rt; bytes::signed(true, 2_147_483_648), -2_147_483_648);
     Ok(())
 }

@@ -88,7 +88,7 @@ impl<'a> Chart<'a> {
         Ok(())
     }
 
-    // Adds what goes on behind a phrase that is whole.
+    // Adds what goes on after a phrase that is whole.
     fn complete(&self, entries: &mut Vec<Entry>, whole: Entry) -> Result<(), AllocError> {
         let Some(waiting) = self.places.get(whole.from) else {
             return Ok(());

@@ -10,7 +10,7 @@ const MOST_LEVELS: usize = 200;
 const NO_PART: &str = "= ";
 
 // A form in which a part stands: what stands before the first part of the form, what between there and the part in question, and what
-// behind that part; and by how many levels that part is further in. The first part of a form is one level further in.
+// after that part; and by how many levels that part is further in. The first part of a form is one level further in.
 type Form = (&'static str, &'static str, &'static str, usize);
 
 const STRATEGIES: &[Form] = &[
@@ -71,7 +71,7 @@ const APPLICATIONS: &[Form] = &[
 
 const SORTS: &[Form] = &[("A ( ", "", ") ", 1), ("A ( ", "B , ", ") ", 1)];
 
-// A place of a file where a part stands: what stands before it and behind it, its level, and a part of one word.
+// A place of a file where a part stands: what stands before it and after it, its level, and a part of one word.
 type Site = (&'static str, &'static str, usize, &'static str);
 
 const STRATEGY_SITES: &[Site] = &[
@@ -103,7 +103,7 @@ const SORT_SITES: &[Site] = &[
     ("signature constructors : A -> ", "", 1, "B "),
 ];
 
-// The text so many times.
+// Repeats the text this number of times.
 fn push_times(text: &mut String, piece: &str, times: usize) -> Result<(), AllocError> {
     for _ in 0..times {
         text.push_str(piece)?;
@@ -111,7 +111,7 @@ fn push_times(text: &mut String, piece: &str, times: usize) -> Result<(), AllocE
     Ok(())
 }
 
-// Files with a part that is so many forms further in than the site is.
+// Files with a part that is this number of forms further in than the site is.
 #[derive(Clone, Copy, Debug)]
 struct Nesting {
     site: Site,

@@ -14,7 +14,7 @@ const GAPS: [&[u8]; 5] = [
     b"/***/",
 ];
 
-// At each of these there is no token, this many bytes behind its beginning.
+// At each of these there is no token, this many bytes after its beginning.
 const FAULTS: [(&[u8], u64); 9] = [
     (b"/* ", 0),
     (b"/*/ ", 0),
@@ -27,7 +27,7 @@ const FAULTS: [(&[u8], u64); 9] = [
     (b"x -2147483649", 2),
 ];
 
-// At each of these there is no token, this many bytes behind its beginning, if nothing stands behind it.
+// At each of these there is no token, this many bytes after its beginning, if nothing stands after it.
 const ENDS: [(&[u8], u64); 4] = [(b"/* *", 0), (b"\"a", 0), (b"\"a\\\"", 0), (b"x-1 /", 4)];
 
 // The words of this front, this text, and then the words of this back.

@@ -40,7 +40,7 @@ pub(super) fn parsed(alloc: Global, text: &[u8]) -> Reading {
     }
 }
 
-// The words, with a blank behind each.
+// The words, with a blank after each.
 pub(super) fn text(alloc: Global, words: &[Word<'_>]) -> Result<String, AllocError> {
     let mut text = String::new(alloc);
     for word in words {
@@ -50,7 +50,7 @@ pub(super) fn text(alloc: Global, words: &[Word<'_>]) -> Result<String, AllocErr
     Ok(text)
 }
 
-// Where the word of this number begins in the text of the words; behind the last word the text ends.
+// Where the word of this number begins in the text of the words; after the last word the text ends.
 fn offset(words: &[Word<'_>], number: usize) -> u64 {
     let mut offset = 0u64;
     for word in words.iter().take(number) {

@@ -14,7 +14,7 @@ const TOKENS: &str = "
 
 const LEFT_OUT: &str = "module imports overlays with switch case otherwise external";
 
-// Beginnings of files that any two tokens are put behind.
+// Beginnings of files that any two tokens are put after.
 const FRONTS: [&str; 8] = [
     "",
     "signature sorts A",
@@ -42,7 +42,7 @@ fn files_of_one_token(rt: HostRuntime) -> Result<(), Fail> {
     Ok(())
 }
 
-// Compares the readings of the front with each of the tokens, and another, behind it.
+// Compares the readings of the front with each of the tokens, and another, after it.
 fn compare_pairs<'a>(
     alloc: Global,
     grammar: &Grammar,

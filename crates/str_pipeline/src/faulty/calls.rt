@@ -10,7 +10,7 @@ use crate::tally::{Calls, Count};
 use std::alloc::{AllocError, Global};
 
 impl Faulty {
-    /// A reader of these bytes.
+    /// Makes a reader of these bytes.
     pub fn reader(bytes: Vec<u8>, piece: usize, bad: Option<u64>) -> Faulty
         requires piece { 1 ≤ piece }
         requires bad { IfSome bad (λ n. 1 ≤ n) }
@@ -31,7 +31,7 @@ impl Faulty {
         }
     }
 
-    /// A writer with room for so many bytes, all reserved. A write into a full one fails.
+    /// Makes a writer with room for this number of bytes, all reserved. A write into a full one fails.
     pub fn writer(
         alloc: Global,
         room: usize,
@@ -58,14 +58,14 @@ impl Faulty {
         })
     }
 
-    /// What was written so far.
+    /// Returns what was written so far.
     pub fn written(&self) -> &[u8]
         ensures { ⟦<Faulty as Sink>⟧.written self.now ≡ Some result.now }
     {
         self.bytes.as_slice()
     }
 
-    /// Counts one more call, and tells whether it is a bad one.
+    /// Counts one more call, and returns whether it is a bad one.
     fn begins_badly(&mut self) -> bool
         ensures bad { result ≡ is_bad_call (orders_of self.old) (call_count self.old + 1) }
         ensures counted { call_count self.new ≡ call_count self.old + 1 }
@@ -81,7 +81,7 @@ impl Faulty {
         }
     }
 
-    /// What a bad write answers.
+    /// Returns what a bad write does.
     fn refuse(&mut self, text: &[u8]) -> Option<usize>
         ensures answer { result ≡ (if (orders_of self.old).is_silent then Some 0 else None) }
         ensures counted { call_count self.new ≡ call_count self.old }

@@ -1,7 +1,7 @@
 //! What was read of the joined form when the end of its definitions was found.
 ghost use Rattle.std.specs.Prelude.{◌≤◌, vec_len};
 
-/// The definitions of the joined form, and what was read behind them.
+/// The definitions of the joined form, and what was read after them.
 #[derive(Drop)]
 pub(crate) struct Front {
     pub(super) bytes: Vec<u8>,

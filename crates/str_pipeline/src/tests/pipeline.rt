@@ -1,9 +1,10 @@
 //! Whole runs, from bytes to bytes.
 ghost use Rattle.std.specs.Prelude.{◌≤◌};
+ghost use Rattle.term_model.specs.Limits.{max_budget};
 
 use crate::tests::rows::{JOINED_ROWS, Pieces, ROWS};
 use crate::tests::term_rows::TERM_ROWS;
-use crate::{Faulty, Options, Status, transform, transform_joined};
+use crate::{Faulty, MAX_BUDGET, Options, Status, transform, transform_joined};
 use std::alloc::{AllocError, Global};
 use std::test::Fail;
 use term_model::Fault;
@@ -45,7 +46,7 @@ fn fits(status: &Status, line: &[u8]) -> bool {
 
 /// Whether definitions and a term give this line, in both forms.
 fn gives(alloc: Global, defs: &[u8], term: &[u8], budget: u32, line: &[u8]) -> Result<bool, Fault>
-    requires { budget ≤ 2000 }
+    requires { budget ≤ max_budget }
 {
     let options = Options { budget };
     let mut out = Faulty::writer(alloc, ROOM, PIECE, None, false)?;
@@ -67,7 +68,7 @@ fn gives_joined(
     line: &[u8],
 ) -> Result<bool, Fault>
     requires piece { 1 ≤ piece }
-    requires budget { budget ≤ 2000 }
+    requires budget { budget ≤ max_budget }
 {
     let options = Options { budget };
     let mut out = Faulty::writer(alloc, ROOM, PIECE, None, false)?;
@@ -83,15 +84,18 @@ fn rows(rt: HostRuntime) -> Result<(), Fail> {
         let defs = text_of(alloc, row.defs)?;
         let term = text_of(alloc, row.term)?;
         let line = line_of(alloc, row.line)?;
-        assert!(rt; gives(alloc, &defs, &term, 2_000, &line)?, "row {index}");
+        assert!(rt;
+            gives(alloc, &defs, &term, MAX_BUDGET, &line)?,
+            "row {index}"
+        );
         let Some(rules) = row.rules else {
             continue;
         };
         assert!(rt;
-            gives(alloc, &defs, &term, rules.min(2_000), &line)?,
+            gives(alloc, &defs, &term, rules.min(MAX_BUDGET), &line)?,
             "row {index}"
         );
-        let less = rules.saturating_sub(1).min(2_000);
+        let less = rules.saturating_sub(1).min(MAX_BUDGET);
         assert!(rt;
             gives(alloc, &defs, &term, less, b"#spent\n")?,
             "row {index}"
@@ -108,16 +112,16 @@ fn joined_rows(rt: HostRuntime) -> Result<(), Fail> {
         let text = text_of(alloc, row.text)?;
         let line = line_of(alloc, row.line)?;
         assert!(rt;
-            gives_joined(alloc, &text, PIECE, 2_000, &line)?,
+            gives_joined(alloc, &text, PIECE, MAX_BUDGET, &line)?,
             "row {index}"
         );
         if text.len() < PIECE {
             assert!(rt;
-                gives_joined(alloc, &text, 1, 2_000, &line)?,
+                gives_joined(alloc, &text, 1, MAX_BUDGET, &line)?,
                 "row {index} by 1"
             );
             assert!(rt;
-                gives_joined(alloc, &text, 7, 2_000, &line)?,
+                gives_joined(alloc, &text, 7, MAX_BUDGET, &line)?,
                 "row {index} by 7"
             );
         }
@@ -128,7 +132,7 @@ fn joined_rows(rt: HostRuntime) -> Result<(), Fail> {
 #[test]
 fn failing_readers(rt: HostRuntime) -> Result<(), Fail> {
     let alloc = rt.alloc();
-    let options = Options { budget: 2_000 };
+    let options = Options { budget: MAX_BUDGET };
     let defs = b"strategies main = ?(x,_); !x";
     let term = b"(7,f(1))";
     let joined = b"strategies main = ?(x,_); !x\n#term\n(7,f(1))";
@@ -163,7 +167,7 @@ fn failing_readers(rt: HostRuntime) -> Result<(), Fail> {
 #[test]
 fn refused_definitions_leave_the_term(rt: HostRuntime) -> Result<(), Fail> {
     let alloc = rt.alloc();
-    let options = Options { budget: 2_000 };
+    let options = Options { budget: MAX_BUDGET };
     for (defs, line) in [
         ("strategies main = #", b"#refused Lexical\n".as_slice()),
         ("strategies main = id;", b"#refused Syntax\n".as_slice()),
@@ -182,7 +186,7 @@ fn refused_definitions_leave_the_term(rt: HostRuntime) -> Result<(), Fail> {
 #[test]
 fn failing_writers(rt: HostRuntime) -> Result<(), Fail> {
     let alloc = rt.alloc();
-    let options = Options { budget: 2_000 };
+    let options = Options { budget: MAX_BUDGET };
     let line = b"f(1)\n";
     for bad in 1..8u64 {
         let silent = bad % 2 == 0;

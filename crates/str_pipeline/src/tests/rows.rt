@@ -1,6 +1,6 @@
 //! Definitions with what they make of terms.
 
-/// Texts in a row, each so many times.
+/// Texts in a row, each repeated its number of times.
 pub(super) type Pieces = &'static [(&'static str, usize)];
 
 /// Definitions and the text of a term, the line, and the nodes of the derivation where they count.

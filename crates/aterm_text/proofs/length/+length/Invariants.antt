@@ -6,8 +6,8 @@ use Rattle.aterm_text.proofs.length.+length.Given as goal
 abbrev pub decreases-with_term : goal.decreases-with_term
 decreases-with_term l = 5 * weight l.term.now
 
-abbrev pub decreases-with_core : goal.decreases-with_core
-decreases-with_core l = 5 * weights (trees_of l.parts.now) + 4
+abbrev pub decreases-with_bare : goal.decreases-with_bare
+decreases-with_bare l = 5 * weights (trees_of l.parts.now) + 4
 
 abbrev pub decreases-with_enclosed : goal.decreases-with_enclosed
 decreases-with_enclosed l = 5 * weights (trees_of l.terms.now) + 3

@@ -1,6 +1,6 @@
 use Rattle.std.proofs.Common.{ℕ, ◌≡◌, ◌≤◌, ◌<◌, ◌-◌, length, true}
 use Rattle.std.specs.Prelude.{slice_index}
-use Rattle.aterm_text.specs.Tokens.{is_raw}
+use Rattle.term_model.specs.Bytes.{is_raw}
 use Rattle.aterm_text.proofs.runs.raw_end.Given as goal
 
 abbrev pub invariant-loop-end : goal.invariant-loop-end

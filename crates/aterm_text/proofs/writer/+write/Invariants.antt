@@ -7,8 +7,8 @@ use Rattle.aterm_text.proofs.writer.+write.Given as goal
 abbrev pub decreases-push_term : goal.decreases-push_term
 decreases-push_term l = 5 * weight l.term.now
 
-abbrev pub decreases-push_core : goal.decreases-push_core
-decreases-push_core l = 5 * weights (trees_of l.parts.now) + 4
+abbrev pub decreases-push_bare : goal.decreases-push_bare
+decreases-push_bare l = 5 * weights (trees_of l.parts.now) + 4
 
 abbrev pub decreases-push_enclosed : goal.decreases-push_enclosed
 decreases-push_enclosed l = 5 * weights (trees_of l.terms.now) + 3

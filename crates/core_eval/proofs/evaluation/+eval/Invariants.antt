@@ -2,11 +2,14 @@ use Rattle.std.proofs.Common.{◌+◌, ◌*◌, take, drop}
 use Rattle.std.specs.Prelude.{false}
 use Rattle.core_lang.specs.Views.{strategy_of}
 use Rattle.core_eval.specs.Frame.{environment_of}
-use Rattle.core_eval.proofs.TraversalLaws.{OfAll, OfOne, OfSome, Decides, Walk}
+use Rattle.core_eval.proofs.TraversalLaws.{OfAll, OfOne, OfSome, DecidesAlways, Walk}
 use Rattle.core_eval.proofs.evaluation.+eval.Given as goal
 
 abbrev pub decreases-evaluate : goal.decreases-evaluate
 decreases-evaluate l = 3 * l.budget.now
+
+abbrev pub decreases-evaluate_let : goal.decreases-evaluate_let
+decreases-evaluate_let l = 3 * l.budget.now + 1
 
 abbrev pub decreases-evaluate_sequence : goal.decreases-evaluate_sequence
 decreases-evaluate_sequence l = 3 * l.budget.now + 1
@@ -38,7 +41,7 @@ invariant-evaluate_all-loop-part l =
 
 abbrev pub invariant-evaluate_one-loop-i : goal.invariant-evaluate_one-loop-i
 invariant-evaluate_one-loop-i l =
-    Decides (OfOne (environment_of l.frame) (strategy_of l.s)) l.parts l.initial.places.items l.initial.budget false (drop l.i l.parts) l.places.items l.budget (take l.i l.parts)
+    DecidesAlways (OfOne (environment_of l.frame) (strategy_of l.s)) l.parts l.initial.places.items l.initial.budget false (drop l.i l.parts) l.places.items l.budget (take l.i l.parts)
 
 abbrev pub invariant-evaluate_some-loop-part : goal.invariant-evaluate_some-loop-part
 invariant-evaluate_some-loop-part l =

@@ -1,6 +1,6 @@
 use Rattle.std.proofs.Common.{refl}
 use Rattle.term_model.specs.declared.term.Head.TheVariants as heads
-use Rattle.core_lang.specs.Matching.{list_term}
+use Rattle.core_lang.specs.Building.{list_term}
 use Rattle.core_eval.proofs.InstanceLaws.{one_too_large}
 use Rattle.core_eval.proofs.MakingLaws.{part_too_large}
 use Rattle.core_eval.proofs.making.list.Goals as goal

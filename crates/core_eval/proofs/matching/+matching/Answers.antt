@@ -3,7 +3,7 @@ use Rattle.term_model.specs.declared.term.Head.TheVariants as heads
 use Rattle.term_model.specs.Term.{parts_of, term, trees_of}
 use Rattle.core_lang.specs.Program.{list}
 use Rattle.core_lang.specs.Tried.{tried, tried_elements}
-use Rattle.core_lang.specs.Resolved.{by_places}
+use Rattle.core_lang.specs.Resolved.{by_coordinates}
 use Rattle.core_lang.specs.Views.{pattern_of, patterns_of, elements_in, rest_of}
 use Rattle.core_lang.proofs.ReadLaws.{reads_applied, reads_list}
 use Rattle.core_eval.specs.Frame.{environment_of}
@@ -15,7 +15,7 @@ all_match-returns-then-patterns-terms t c = other_count _ c.args.patterns.now c.
 
 pub matches-returns-in_ok-yes-in-Applied : goal.matches-returns-in_ok-yes-in-Applied
 matches-returns-in_ok-yes-in-Applied t c =
-    let place = by_places.place_of (environment_of c.args.frame.now) in
+    let place = by_coordinates.place_of (environment_of c.args.frame.now) in
     let parts = rw (c.as_slice.ensures.value, c.children.ensures) at c.in_ok-yes-in-Applied.ensures in
     rw (same_symbol_tried place (pattern_of c.args.p.now) c.in-Applied.symbol (patterns_of c.in-Applied.parts.items) c.args.t.now c.args.places.now.items c.is_application.result
     (ap pattern_of c.in-Applied.is ∙ reads_applied _ _) c.is_application.ensures c.if-not-is_application.false)
@@ -26,7 +26,7 @@ first_match-returns-then-terms-patterns t c = λ r. too_few _ c.args.patterns.no
 
 pub matches-returns-in_ok-yes-in-None : goal.matches-returns-in_ok-yes-in-None
 matches-returns-in_ok-yes-in-None t c =
-    let place = by_places.place_of (environment_of c.args.frame.now) in
+    let place = by_coordinates.place_of (environment_of c.args.frame.now) in
     let ps = c.in-List.elements.items in
     let us = trees_of (parts_of c.args.t.now) in
     let read = ap pattern_of c.in-List.is ∙ (reads_list _ _ ∙ ap (λ o. list (elements_in (map pattern_of ps) (rest_of o))) c.in-None.is) in
@@ -37,7 +37,7 @@ matches-returns-in_ok-yes-in-None t c =
 
 pub matches-returns-then-not-branch-2 : goal.matches-returns-then-not-branch-2
 matches-returns-then-not-branch-2 t c =
-    let place = by_places.place_of (environment_of c.args.frame.now) in
+    let place = by_coordinates.place_of (environment_of c.args.frame.now) in
     let ps = c.in-List.elements.items in
     let r = pattern_of c.in-Some.rest.value in
     let read = ap pattern_of c.in-List.is ∙ (reads_list _ _ ∙ ap (λ o. list (elements_in (map pattern_of ps) (rest_of o))) c.in-Some.is) in
@@ -49,7 +49,7 @@ matches-returns-then-not-branch-2 t c =
 
 pub matches-returns-in_ok-yes-in-Some : goal.matches-returns-in_ok-yes-in-Some
 matches-returns-in_ok-yes-in-Some t c =
-    let place = by_places.place_of (environment_of c.args.frame.now) in
+    let place = by_coordinates.place_of (environment_of c.args.frame.now) in
     let ps = c.in-List.elements.items in
     let r = pattern_of c.in-Some.rest.value in
     let read = ap pattern_of c.in-List.is ∙ (reads_list _ _ ∙ ap (λ o. list (elements_in (map pattern_of ps) (rest_of o))) c.in-Some.is) in

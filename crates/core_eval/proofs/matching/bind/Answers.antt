@@ -1,6 +1,7 @@
 use Rattle.std.proofs.Common.{◌∙◌, sym, ap, arith, Some}
 use Rattle.std.specs.Prelude.{slice_set}
-use Rattle.core_eval.proofs.MatchingLaws.{put_past, put_free, bound_before}
+use Rattle.core_eval.proofs.MatchingLaws.{bound_before}
+use Rattle.core_lang.proofs.PutLaws.{put_past, put_free}
 use Rattle.core_eval.proofs.matching.bind.Goals as goal
 
 pub returns-then-at-len : goal.returns-then-at-len

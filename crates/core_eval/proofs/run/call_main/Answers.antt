@@ -5,13 +5,12 @@ use Rattle.core_lang.specs.Program.{call, no_strategies, no_patterns}
 use Rattle.core_lang.specs.Resolved.{here}
 use Rattle.core_lang.specs.Views.{definitions_of, strategies_of, patterns_of}
 use Rattle.core_lang.proofs.ReadLaws.{reads_call}
-use Rattle.core_eval.specs.Frame.{environment_of}
 use Rattle.core_eval.proofs.EvalLaws.{moved_to}
 use Rattle.core_eval.proofs.FrameLaws.{reads_definitions, reads_outermost}
 use Rattle.core_eval.proofs.run.call_main.Goals as goal
 
-pub returns : goal.returns
-returns c =
+pub returns-clause-outcome : goal.returns-clause-outcome
+returns-clause-outcome c M =
     let program = program_of c.args.core.now in
     let x = here c.main.result in (
       _,
@@ -19,5 +18,5 @@ returns c =
           (reads_definitions _ _ ∙ (ap (λ ds. definitions (definitions_of ds) _) c.defs.ensures.same ∙ ap (λ V. definitions program V) reads_outermost))
           (reads_call _ _ _ ∙ (ap (λ ss. call x (strategies_of ss) (patterns_of c.new-2.result.items)) c.new.ensures.items ∙
           (ap (λ ps. call x no_strategies (patterns_of ps)) c.new-2.ensures.items ∙ ap (λ i. call (here i) no_strategies no_patterns) c.main.ensures)))
-          c.new-places.ensures.items c.in_ok-outcome.ensures,
+          c.new-places.ensures.items (c.in_ok-outcome.ensures.each M),
     )

@@ -1,5 +1,6 @@
 use Rattle.std.proofs.Common.{◌≡◌, ◌+◌, drop}
-use Rattle.str_lexer.specs.Tokens.{first_is, is_digit}
+use Rattle.term_model.specs.Bytes.{is_digit}
+use Rattle.str_lexer.specs.Tokens.{first_is}
 use Rattle.str_lexer.specs.Readings.{run_length}
 use Rattle.str_lexer.proofs.runs.digit_count.Given as goal
 

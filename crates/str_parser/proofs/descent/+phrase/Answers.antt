@@ -16,8 +16,8 @@ use Rattle.str_parser.proofs.descent.+phrase.Goals as goal
 
 -- ---- patterns
 
-pub pattern-returns-then-level-gt-MOST_LEVELS : goal.pattern-returns-then-level-gt-MOST_LEVELS
-pattern-returns-then-level-gt-MOST_LEVELS t c =
+pub pattern-returns-then-level-gt-MAX_LEVEL : goal.pattern-returns-then-level-gt-MAX_LEVEL
+pattern-returns-then-level-gt-MAX_LEVEL t c =
     beyond_fault (inner_pattern c.args.in_match c.args.level) (AtMost 3) c.args.input c.begins_pattern.result c.beyond.result
     (λ b. pattern_nested _ _ _ (omega arith) (sym c.begins_pattern.ensures ∙ b))
     (λ b. pattern_beyond _ _ _ (sym c.begins_pattern.ensures ∙ b))
@@ -164,8 +164,8 @@ primary-loop-begun-preserved t c =
 
 -- ---- sequences
 
-pub sequence-returns-then-level-gt-MOST_LEVELS : goal.sequence-returns-then-level-gt-MOST_LEVELS
-sequence-returns-then-level-gt-MOST_LEVELS t c =
+pub sequence-returns-then-level-gt-MAX_LEVEL : goal.sequence-returns-then-level-gt-MAX_LEVEL
+sequence-returns-then-level-gt-MAX_LEVEL t c =
     beyond_fault (inner_sequence c.args.level) (AtMost 1) c.args.input c.begins_strategy.result c.beyond.result
     (λ b. sequence_nested _ _ (omega arith) (sym c.begins_strategy.ensures ∙ b)) (λ b. sequence_beyond _ _ (sym c.begins_strategy.ensures ∙ b)) c.beyond.ensures
 
@@ -213,8 +213,8 @@ step-returns t c =
 
 -- ---- strategies
 
-pub strategy-returns-then-level-gt-MOST_LEVELS : goal.strategy-returns-then-level-gt-MOST_LEVELS
-strategy-returns-then-level-gt-MOST_LEVELS t c =
+pub strategy-returns-then-level-gt-MAX_LEVEL : goal.strategy-returns-then-level-gt-MAX_LEVEL
+strategy-returns-then-level-gt-MAX_LEVEL t c =
     beyond_fault (inner_strategy c.args.level) (AtMost 0) c.args.input c.begins_strategy.result c.beyond.result
     (λ b. strategy_nested _ _ (omega arith) (sym c.begins_strategy.ensures ∙ b)) (λ b. strategy_beyond _ _ (sym c.begins_strategy.ensures ∙ b)) c.beyond.ensures
 

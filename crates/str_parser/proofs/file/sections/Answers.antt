@@ -1,4 +1,4 @@
--- Sections one behind the other, up to the end.
+-- Sections one after the other, up to the end.
 use Rattle.std.proofs.Common.{refl}
 use Rattle.std.proofs.lemmas.List.{map-append}
 use Rattle.std.proofs.lemmas.Result.{err_from_is_err_and}

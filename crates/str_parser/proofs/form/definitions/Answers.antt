@@ -1,4 +1,4 @@
--- Rules and definitions one behind the other.
+-- Rules and definitions one after the other.
 use Rattle.std.proofs.Common.{sym, ◌∙◌}
 use Rattle.std.proofs.lemmas.List.{map-append}
 use Rattle.std.proofs.lemmas.Result.{err_from_is_err_and}

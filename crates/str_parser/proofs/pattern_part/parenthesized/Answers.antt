@@ -4,6 +4,9 @@ use Rattle.str_syntax.specs.Views.{pattern_of}
 use Rattle.str_syntax.proofs.ReadLaws.{reads_grouped, reads_tuple}
 use Rattle.str_parser.proofs.PatternLists.{one_grouped, more_tuple, zero_told, some_told}
 use Rattle.str_parser.proofs.InnerLaws.{grouped_more, grouped_end}
+use Rattle.str_parser.proofs.PartFaults.{syntax_inner, no_grouped}
+use Rattle.str_parser.specs.declared.begun.BeforeInner.TheVariants as I
+use Rattle.str_parser.specs.Begun.{HasInner}
 use Rattle.str_parser.proofs.pattern_part.parenthesized.Goals as goal
 
 pub returns-in-Some : goal.returns-in-Some
@@ -14,6 +17,9 @@ returns-then-is_empty c =
     let z = zero_told _ _ c.is_empty.ensures c.if-is_empty.true in
     let none : length c.args.done.items ≡ 0 = omega arith in
     λ m k. rw c.in-Some-after.ensures (grouped_end m k _ _ _ _ (reads_grouped _ ∙ ap (λ b. grouped (pattern_of b)) c.in_ok-new.ensures.ok ∙ sym (one_grouped c.args.done (pattern_of c.args.part) none)))
+
+pub returns-in_default-after : goal.returns-in_default-after
+returns-in_default-after c = λ m. syntax_inner (HasInner (I.Parenthesized c.args.done) (pattern_of c.args.part)) m _ _ c.syntax.ensures (λ k. no_grouped m k c.args.done (pattern_of c.args.part) _ c.in_default.ensures c.in_default-after.ensures)
 
 pub returns : goal.returns
 returns c =

@@ -1,9 +1,9 @@
-use Rattle.std.proofs.Common.{ap, ◌∙◌}
-use Rattle.str_syntax.specs.Trees.{list_with_tail}
+use Rattle.std.proofs.Common.{ap, ◌∙◌, Some}
+use Rattle.str_syntax.specs.Trees.{list, one_pattern}
 use Rattle.str_syntax.specs.Views.{pattern_of, patterns_of}
-use Rattle.str_syntax.proofs.ReadLaws.{reads_list_with_tail}
+use Rattle.str_syntax.proofs.ReadLaws.{reads_list}
 use Rattle.str_parser.proofs.InnerLaws.{tail_leads}
 use Rattle.str_parser.proofs.pattern_part.tail.Goals as goal
 
 pub returns : goal.returns
-returns c = λ m k. rw c.in-Some.ensures (tail_leads m k _ _ _ _ (reads_list_with_tail _ _ ∙ ap (λ b. list_with_tail (patterns_of c.args.parts.items) (pattern_of b)) c.in_ok-new.ensures.ok))
+returns c = λ m k. rw c.in-Some.ensures (tail_leads m k _ _ _ _ (reads_list _ (Some _) ∙ ap (λ b. list (patterns_of c.args.parts.items) (one_pattern (pattern_of b))) c.in_ok-new.ensures.ok))

@@ -1,19 +1,19 @@
 use Rattle.std.proofs.Common.{◌∙◌, ap, sym}
-use Rattle.str_syntax.specs.Trees.{call, call_with}
+use Rattle.str_syntax.specs.Trees.{call, no_arguments, strategy_arguments}
 use Rattle.str_syntax.specs.Views.{strategies_of}
-use Rattle.str_syntax.proofs.ReadLaws.{reads_call, reads_call_with}
+use Rattle.str_syntax.proofs.ReadLaws.{reads_plain_call, reads_call_with}
 use Rattle.str_parser.specs.Begun.{Written, GoesBehindBar}
 use Rattle.str_parser.proofs.WholeLaws.{made_next, leads_next}
 use Rattle.str_parser.proofs.CallBeginLaws.{call_ends, empty_call_ends, bar_leads, arguments_lead}
 use Rattle.str_parser.proofs.primary_begin.begin_name.Goals as goal
 
 pub returns-in_default : goal.returns-in_default
-returns-in_default c = made_next Written _ _ _ _ _ (reads_call _ ∙ ap call c.in_ok-called.ensures) c.whole.ensures (λ k. call_ends k _ _ c.in_default.ensures)
+returns-in_default c = made_next Written _ _ _ _ _ (reads_plain_call _ ∙ ap (λ x. call x no_arguments) c.in_ok-called.ensures) c.whole.ensures (λ k. call_ends k _ _ c.in_default.ensures)
 
 pub returns-in-Some-after : goal.returns-in-Some-after
 returns-in-Some-after c =
     rw (c.in-Some.ensures, c.in-Some-after.ensures, sym c.in_ok-called.ensures)
-    (made_next Written _ _ _ _ _ (reads_call_with _ _ ∙ ap (λ xs. call_with c.in_ok-called.called (strategies_of xs)) c.new-in-Some-after.ensures.items)
+    (made_next Written _ _ _ _ _ (reads_call_with _ _ ∙ ap (λ xs. call c.in_ok-called.called (strategy_arguments (strategies_of xs))) c.new-in-Some-after.ensures.items)
     c.whole-in-Some-after.ensures (λ k. empty_call_ends k _ _))
 
 pub returns-in-Some-after-2 : goal.returns-in-Some-after-2

@@ -1,13 +1,17 @@
 use Rattle.std.proofs.Common.{sym}
-use Rattle.str_syntax.proofs.ReadLaws.{reads_lambda, reads_plain_rule}
-use Rattle.str_parser.proofs.WholeLaws.{whole_next}
+use Rattle.str_syntax.proofs.ReadLaws.{reads_lambda, reads_made_rule}
+use Rattle.str_parser.proofs.WholeLaws.{whole_next, syntax_next}
 use Rattle.str_parser.proofs.RuleParts.{rule_where_leads, rule_ends}
+use Rattle.str_parser.proofs.PartFaults.{no_rule_right}
 use Rattle.str_parser.proofs.primary_rule.rule_right.Goals as goal
 
 pub returns-in-Some : goal.returns-in-Some
 returns-in-Some c = λ k. rw (c.in-Some.ensures, sym c.in_ok-right.ensures.ok) (rule_where_leads k _ _ _)
 
+pub returns-in_default-after : goal.returns-in_default-after
+returns-in_default-after c = syntax_next _ _ _ c.syntax.ensures (λ k. no_rule_right k _ _ _ c.in_default.ensures c.in_default-after.ensures)
+
 pub returns : goal.returns
 returns c =
     whole_next _ _ _ _ _ c.whole.ensures
-    (λ k. rw (reads_lambda, c.in_ok-rule.ensures.ok, reads_plain_rule, c.in-Some-after.ensures, sym c.in_ok-right.ensures.ok) (rule_ends k _ c.in_ok-right.right _))
+    (λ k. rw (reads_lambda, c.in_ok-new.ensures.ok, reads_made_rule, c.in-Some-after.ensures, sym c.in_ok-right.ensures.ok) (rule_ends k _ c.in_ok-right.right _))

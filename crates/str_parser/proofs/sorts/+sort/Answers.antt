@@ -11,8 +11,8 @@ use Rattle.str_parser.proofs.sorts.+sort.Goals as goal
 pub sort-returns-in_default : goal.sort-returns-in_default
 sort-returns-in_default t c = at_syntax _ _ _ _ c.syntax.ensures (missing_sort _ _ c.in_default.ensures)
 
-pub sort-returns-then-level-gt-MOST_LEVELS : goal.sort-returns-then-level-gt-MOST_LEVELS
-sort-returns-then-level-gt-MOST_LEVELS t c = deep_sort _ _ _ _ (omega arith) c.in-Some.ensures
+pub sort-returns-then-level-gt-MAX_LEVEL : goal.sort-returns-then-level-gt-MAX_LEVEL
+sort-returns-then-level-gt-MAX_LEVEL t c = deep_sort _ _ _ _ (omega arith) c.in-Some.ensures
 
 pub sort-returns-in_default-after : goal.sort-returns-in_default-after
 sort-returns-in_default-after t c = rw (reads_sort, c.in_ok-name.ensures) (found_named _ _ _ _ (omega arith) c.in-Some.ensures c.in_default-after.ensures)

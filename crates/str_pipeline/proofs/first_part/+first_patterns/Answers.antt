@@ -1,7 +1,7 @@
 use Rattle.std.proofs.Common.{◌≡◌, ◌∷◌, [], ◌∙◌, ◌+◌, ap, drop, map, subst, sym, drop_of_length-le}
 use Rattle.std.proofs.lemmas.List.{map-append}
 use Rattle.str_syntax.specs.Views as whole
-use Rattle.str_pipeline.specs.SourceTree.{pattern_of}
+use Rattle.str_pipeline.specs.SourceViews.{pattern_of}
 use Rattle.str_pipeline.specs.FirstPart.{patterns_in}
 use Rattle.str_pipeline.proofs.FirstPartLaws.{Continues, behind, missing, more_made, none_left, rest_of}
 use Rattle.str_pipeline.proofs.first_part.+first_patterns.Goals as goal

@@ -1,6 +1,6 @@
 use Rattle.std.proofs.Common.{◌≡◌, map, drop}
 use Rattle.str_syntax.specs.Views as whole
-use Rattle.str_pipeline.specs.SourceTree.{pattern_of}
+use Rattle.str_pipeline.specs.SourceViews.{pattern_of}
 use Rattle.str_pipeline.specs.FirstPart.{patterns_in}
 use Rattle.str_pipeline.proofs.FirstPartLaws.{behind}
 use Rattle.str_pipeline.proofs.first_part.+first_patterns.Given as goal

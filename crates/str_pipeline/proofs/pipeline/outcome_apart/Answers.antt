@@ -1,7 +1,9 @@
 use Rattle.std.proofs.Common.{◌≤◌, inr, length}
 use Rattle.term_model.specs.declared.fault.Fault.TheVariants.{TermTooLong}
-use Rattle.str_pipeline.specs.Judged.{IsFile, max_definitions, max_term}
-use Rattle.str_pipeline.specs.Written.{IsFirstFault, IsResult}
+use Rattle.str_pipeline.specs.Judged.{IsFile}
+use Rattle.str_pipeline.specs.Limits.{max_definitions, max_term}
+use Rattle.str_pipeline.specs.Written.{IsFirstFault}
+use Rattle.str_pipeline.specs.Steps.{IsResult}
 use Rattle.str_pipeline.proofs.OneLine.{none_refused}
 use Rattle.str_pipeline.proofs.WrittenLaws.{of_told, of_told_long}
 use Rattle.str_pipeline.proofs.pipeline.outcome_apart.Goals as goal

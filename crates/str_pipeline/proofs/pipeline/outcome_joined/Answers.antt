@@ -1,8 +1,10 @@
 use Rattle.std.proofs.Common.{◌≡◌, ◌<◌, ◌≤◌, inr, subst, List, ℕ, length, Err}
 use Rattle.term_model.specs.declared.fault.Fault.TheVariants.{TermTooLong}
 use Rattle.str_pipeline.specs.Search.{definitions_of, term_of}
-use Rattle.str_pipeline.specs.Judged.{IsFile, IsProgram, max_term, max_definitions}
-use Rattle.str_pipeline.specs.Written.{IsResult, IsFirstFault}
+use Rattle.str_pipeline.specs.Judged.{IsFile}
+use Rattle.str_pipeline.specs.Limits.{max_definitions, max_term}
+use Rattle.str_pipeline.specs.Written.{IsFirstFault}
+use Rattle.str_pipeline.specs.Steps.{IsProgram, IsResult}
 use Rattle.str_pipeline.proofs.WrittenLaws.{of_split, for_each_told, told_then, program_fault, passed}
 use Rattle.str_pipeline.proofs.pipeline.outcome_joined.Goals as goal
 

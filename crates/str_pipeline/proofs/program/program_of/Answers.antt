@@ -1,4 +1,4 @@
-use Rattle.str_pipeline.specs.SourceTree.{file_of}
+use Rattle.str_pipeline.specs.SourceViews.{file_of}
 use Rattle.str_pipeline.specs.Judged.{AreTokens, IsFile}
 use Rattle.str_pipeline.proofs.ProgramLaws.{first_file, read_tokens}
 use Rattle.str_pipeline.proofs.program.program_of.Goals as goal

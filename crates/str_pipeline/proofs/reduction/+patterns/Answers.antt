@@ -1,7 +1,8 @@
 use Rattle.std.proofs.Common.{◌∷◌, [], List, map, drop, ◌+◌, ap, subst, ◌∙◌, sym, drop_of_length-le}
 use Rattle.std.proofs.lemmas.List.{map-append}
 use Rattle.core_lang.specs.Views as views
-use Rattle.str_pipeline.specs.SourceTree.{PatternTrees, pattern_of, patterns_of}
+use Rattle.str_pipeline.specs.SourceTree.{PatternTrees}
+use Rattle.str_pipeline.specs.SourceViews.{pattern_of, patterns_of}
 use Rattle.str_pipeline.proofs.PlacementLaws.{Continues, one_more, none_left, rest_of}
 use Rattle.str_pipeline.proofs.reduction.+patterns.Goals as goal
 

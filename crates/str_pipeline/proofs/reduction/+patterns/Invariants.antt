@@ -1,6 +1,6 @@
 use Rattle.std.proofs.Common.{map, drop}
 use Rattle.core_lang.specs.Views as views
-use Rattle.str_pipeline.specs.SourceTree.{pattern_of, patterns_of}
+use Rattle.str_pipeline.specs.SourceViews.{pattern_of, patterns_of}
 use Rattle.str_pipeline.proofs.PlacementLaws.{Continues}
 use Rattle.str_pipeline.proofs.reduction.+patterns.Given as goal
 

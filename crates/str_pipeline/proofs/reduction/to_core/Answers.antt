@@ -1,4 +1,4 @@
-use Rattle.str_pipeline.specs.SourceTree.{choice_of, file_of}
+use Rattle.str_pipeline.specs.SourceViews.{choice_of, file_of}
 use Rattle.str_pipeline.proofs.FileLaws.{body_is_placed, core_is_in_range, core_is_resolved}
 use Rattle.str_pipeline.proofs.reduction.to_core.Goals as goal
 

@@ -8,5 +8,5 @@ returns-clause-bytes c =
     let device = c.begins_badly.new.self in
     let same = sym c.begins_badly.ensures.coming in (
       same ∙ front_given device.bytes.items _ _ device.taken c.min-count.result (rw c.deref.ensures.value at c.copy_from_slice.ensures.after) (grind (arith, common_steps)),
-      λ none room. same ∙ nothing_left device.bytes.items device.taken (grind (arith, common_steps)),
+      λ none room. nothing_left device.bytes.items _ (grind (arith, common_steps)),
     )

@@ -1,9 +1,0 @@
-use Rattle.std.proofs.Common.{arith, ◌+◌, ◌-◌, ◌*◌, get_or, drop}
-use Rattle.str_lexer.proofs.RunLaws.{value_more, value_above}
-use Rattle.str_lexer.proofs.integer.number.Goals as goal
-
-pub returns-then-value-gt-MOST : goal.returns-then-value-gt-MOST
-returns-then-value-gt-MOST c =
-    let ds = c.args.digits.now in
-    let i = c.loop-digit.digit-index in
-    omega (arith, value_more ds i c.loop-digit.value _ (omega arith) c.loop-digit.invariant.value, value_above (10 * c.loop-digit.value + (get_or ds i 0 - 48)) (drop (i + 1) ds), c.from.ensures)

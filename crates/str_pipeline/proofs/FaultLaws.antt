@@ -1,0 +1,74 @@
+-- Groups of faults, by their numbers.
+use Rattle.std.proofs.Common.{◌≡◌, ◌<◌, ◌≤◌, ℕ, List, Err, arith, inl, inr, refl, false}
+use Rattle.term_model.specs.declared.fault.Fault.{Fault}
+use Rattle.term_model.specs.declared.fault.Fault.TheVariants as faults
+use Rattle.term_model.specs.Fault.{number_of}
+use Rattle.aterm_text.specs.ReadTerm.{IsReading}
+use Rattle.str_pipeline.specs.Faults.{IsReadingFault, IsRefusal, IsOfDefinitions, is_read}
+use Rattle.str_pipeline.specs.Steps.{IsStop, IsProgram}
+
+-- a refusal is no fault of memory, reading or writing
+pub no_low_refusal : (fault : Fault) → IsRefusal fault → number_of fault ≤ 3 → ⊥
+no_low_refusal fault (inl of_definitions) low = omega arith
+no_low_refusal fault (inr of_term) low = omega arith
+
+-- a stop of a greater number than those of memory and reading
+pub is_refusal : (fault : Fault) → IsStop fault → 2 < number_of fault → IsRefusal fault
+is_refusal fault (inl reading) high = absurd (omega arith)
+is_refusal fault (inr refusal) high = refusal
+
+-- one of those numbers
+pub is_reading : (fault : Fault) → IsStop fault → number_of fault ≤ 2 → IsReadingFault fault
+is_reading fault (inl reading) low = reading
+is_reading fault (inr refusal) low = absurd (no_low_refusal fault refusal (omega arith))
+
+pub is_no_read : (fault : Fault) → 2 < number_of fault → is_read fault ≡ false
+is_no_read faults.Read high = absurd (omega arith)
+is_no_read _ high = refl
+
+-- the faults of reading the text of a term
+pub text_stops : (text : List ℕ) (fault : Fault) → IsReading text (Err fault) → IsStop fault
+text_stops text faults.Memory reading = inl (omega arith, omega arith)
+text_stops text (faults.TermOversize at) reading = inr (inr (omega arith, omega arith))
+text_stops text (faults.TermSyntax at) reading = inr (inr (omega arith, omega arith))
+text_stops text _ reading = absurd reading
+
+pub text_apart : (text : List ℕ) (fault : Fault) → IsReading text (Err fault) → IsOfDefinitions fault → ⊥
+text_apart text faults.Memory reading of_definitions = omega arith
+text_apart text (faults.TermOversize at) reading of_definitions = omega arith
+text_apart text (faults.TermSyntax at) reading of_definitions = omega arith
+text_apart text _ reading of_definitions = absurd reading
+
+pub text_no_read : (text : List ℕ) (fault : Fault) → IsReading text (Err fault) → is_read fault ≡ false
+text_no_read text faults.Read reading = absurd reading
+text_no_read text _ reading = refl
+
+-- those of reading the bytes of a device
+pub reading_stops : (fault : Fault) → IsReadingFault fault → IsStop fault
+reading_stops fault reading = inl reading
+
+pub reading_apart : (fault : Fault) → IsReadingFault fault → IsOfDefinitions fault → ⊥
+reading_apart fault reading of_definitions = omega arith
+
+-- those of making a program of definitions
+pub program_stops : (defs : List ℕ) (fault : Fault) → IsProgram defs (Err fault) → IsStop fault
+program_stops defs faults.Memory made = inl (omega arith, omega arith)
+program_stops defs (faults.Lexical at) made = inr (inl (omega arith, omega arith))
+program_stops defs (faults.ReservedWord at) made = inr (inl (omega arith, omega arith))
+program_stops defs (faults.Syntax at) made = inr (inl (omega arith, omega arith))
+program_stops defs (faults.Nesting at) made = inr (inl (omega arith, omega arith))
+program_stops defs _ made = absurd made
+
+pub program_no_read : (defs : List ℕ) (fault : Fault) → IsProgram defs (Err fault) → is_read fault ≡ false
+program_no_read defs faults.Read made = absurd made
+program_no_read defs _ made = refl
+
+-- those of texts that are too long
+pub long_definitions_stop : IsStop faults.DefsTooLong
+long_definitions_stop = inr (inl (omega arith, omega arith))
+
+pub long_term_stops : IsStop faults.TermTooLong
+long_term_stops = inr (inr (omega arith, omega arith))
+
+pub long_term_apart : IsOfDefinitions faults.TermTooLong → ⊥
+long_term_apart of_definitions = omega arith

@@ -1,0 +1,71 @@
+//! Whole runs over the readers and writers of std in memory.
+ghost use Rattle.std.specs.Prelude.{◌≤◌, IfOk};
+ghost use Rattle.term_model.specs.Flat.{Meaning};
+ghost use Rattle.term_model.specs.Limits.{max_budget};
+ghost use Rattle.str_pipeline.specs.Written.{IsWritten};
+
+use crate::{Counted, MAX_BUDGET, Options, Status, transform};
+use std::alloc::Global;
+use std::test::Fail;
+use term_model::Fault;
+
+/// The status of a run, and what was written.
+#[derive(Drop)]
+struct Answer {
+    status: Status,
+    line: Vec<u8>,
+}
+
+/// Transforms texts in memory: the line and the status are those of the definitions, the term and
+/// the budget.
+#[tactic(auto, using(crate::proofs::MemoryLaws::written_whole))]
+fn transformed(alloc: Global, defs: &[u8], term: &[u8], budget: u32) -> Result<Answer, Fault>
+    requires { budget ≤ max_budget }
+    ensures { IfOk result (λ answer. (M : Meaning) → IsWritten M defs.now term.now budget answer.status answer.line.items) }
+{
+    let options = Options { budget };
+    let mut first = Counted::new(defs);
+    let mut second = Counted::new(term);
+    let mut out = Counted::new(Vec::new(alloc));
+    let status = transform(alloc, &mut first, &mut second, &options, &mut out)?;
+    Ok(Answer {
+        status,
+        line: out.into_inner(),
+    })
+}
+
+#[test]
+fn texts_in_memory(rt: HostRuntime) -> Result<(), Fail> {
+    // definitions, term, budget; the line
+    let rows = [
+        (
+            "strategies main = ?(x,_); !x",
+            "(7,f(1))",
+            MAX_BUDGET,
+            "7\n",
+        ),
+        ("strategies main = ?(x,_); !x", "7", MAX_BUDGET, "#failed\n"),
+        ("strategies main = ?(x,_); !x", "(7,1)", 4, "#spent\n"),
+        (
+            "strategies main = id",
+            "(7,",
+            MAX_BUDGET,
+            "#refused TermSyntax\n",
+        ),
+        ("strategies main = #", "7", MAX_BUDGET, "#refused Lexical\n"),
+    ];
+    for (defs, term, budget, line) in rows {
+        let answer = transformed(
+            rt.alloc(),
+            defs.as_bytes(),
+            term.as_bytes(),
+            budget.min(MAX_BUDGET),
+        )?;
+        assert_eq!(rt; answer.line.as_slice(), line.as_bytes());
+        assert_eq!(rt;
+            matches!(answer.status, Status::Rewritten),
+            !line.starts_with("#")
+        );
+    }
+    Ok(())
+}
