@@ -1,6 +1,7 @@
 //! From the bytes of definitions and of a term to the bytes of the answer.
-ghost use Rattle.std.specs.Prelude.{◌≡◌, ◌+◌, ◌≤◌, ℕ, List, Result, Err, if◌then◌else◌, IfOk, IfErr, IfSome, IsErrOf, IsErrAnd};
+ghost use Rattle.std.specs.Prelude.{◌≡◌, ◌↔◌, ◌+◌, ◌≤◌, ℕ, List, Result, Err, IsTrue, if◌then◌else◌, IfOk, IfErr, IfSome, IsErrOf, IsErrAnd};
 ghost use Rattle.term_model.specs.declared.fault.Fault.{Fault};
+ghost use Rattle.term_model.specs.Fault.{number_of};
 ghost use Rattle.str_pipeline.specs.Joined.{IsSplit};
 ghost use Rattle.str_pipeline.specs.Limits.{max_definitions, max_term};
 ghost use Rattle.term_model.specs.Limits.{max_budget};
@@ -96,6 +97,13 @@ fn finish<W: Sink>(
     }
 }
 
+// Returns whether no line is written about the fault: one of memory or of reading.
+fn has_no_line(fault: &Fault) -> bool
+    ensures { IsTrue result ↔ number_of fault.now ≤ 2 }
+{
+    matches!(fault, Fault::Memory | Fault::Read)
+}
+
 /// Writes the line of a refusal. A fault of reading or of memory is returned as it is.
 #[tactic(auto, using(crate::proofs::WrittenLaws::refusal_has_begun, crate::proofs::WrittenLaws::refusal_written, crate::proofs::WrittenLaws::refusal_status, crate::proofs::WrittenLaws::writes_not_read, crate::proofs::FaultLaws::is_refusal, crate::proofs::FaultLaws::is_reading, crate::proofs::FaultLaws::is_no_read))]
 fn write_fault<W: Sink>(alloc: Global, fault: Fault, out: &mut W) -> Result<Status, Fault>
@@ -109,7 +117,7 @@ fn write_fault<W: Sink>(alloc: Global, fault: Fault, out: &mut W) -> Result<Stat
     ensures failed { W.failed_writes out.new ≡ W.failed_writes out.old + (if is_write_fault result then 1 else 0) }
     ensures kinds { IfErr result IsTransferFault }
 {
-    if fault.number() <= 2 {
+    if has_no_line(&fault) {
         return Err(fault);
     }
     write_refusal(alloc, fault, out)
