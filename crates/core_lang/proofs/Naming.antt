@@ -19,7 +19,7 @@ free (layer_of_definitions ds L) = definitions_count ds + free L
 
 -- the name that has a number
 module _ (named : ℕ → Name) where
-  -- so many names, from a number on
+  -- the names of k numbers, from b on
   abbrev pub names_from : ℕ → ℕ → List Name
   names_from b zero = []
   names_from b (suc k) = named b ∷ names_from (suc b) k

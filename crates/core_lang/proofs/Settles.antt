@@ -1,4 +1,4 @@
--- Every strategy is settled within every budget: it has an ending with so many nodes, or none.
+-- Every strategy is settled within every budget: it has an ending within that number of nodes, or none.
 use Rattle.std.proofs.Common.{◌≡◌, ℕ, zero, suc, ◌+◌, ◌≤◌, ◌⊎◌, inl, inr, Option, Some, None, length, ◌++◌, refl, arith, subst}
 use Rattle.std.specs.Prelude.{Bool, true, false}
 use Rattle.std.proofs.Math.Numerals.{one-add}

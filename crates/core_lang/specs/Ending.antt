@@ -21,7 +21,7 @@ failed = stop failure
 abbrev pub oversize : {A : Type 0} → Ending A
 oversize = stop excess
 
--- only the first places are kept, so many
+-- only this number of first places is kept
 abbrev pub keeping : ℕ → Ending Tree → Ending Tree
 keeping i (ok t e) = ok t (take i e)
 keeping i (stop q) = stop q

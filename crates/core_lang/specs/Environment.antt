@@ -34,10 +34,10 @@ pub record Reading (X B : Type 0) : Type 0 where
   pub none : B
   -- the place of a variable
   pub place_of : Environment X B → X → Option ℕ
-  -- the callee of an identifier with so many strategy and term arguments
+  -- the callee of an identifier with these numbers of strategy and term arguments
   pub callee_of : Environment X B → X → ℕ → ℕ → Option (Callee X B)
 
--- so many new places, with nothing
+-- this number of new places, with nothing
 abbrev pub empty_places : ℕ → Bindings
 empty_places k = replicate k None
 

@@ -7,11 +7,11 @@ use Rattle.core_lang.specs.Program.{Pattern, anything, variable, alias, integer,
 -- the layers that a part of a program over coordinates stands in, innermost first
 pub data Layers : Type 0 where
   no_layers : Layers
-  -- of a scope or a definition: so many strategy parameters and variables
+  -- of a scope or a definition: the numbers of its strategy parameters and of its variables
   layer_of : (parameters variables : ℕ) → Layers → Layers
   layer_of_definitions : ResolvedDefinitions → Layers → Layers
 
--- the layers without the innermost, so many
+-- the layers without this number of the innermost ones
 abbrev pub outside : Layers → ℕ → Layers
 outside L zero = L
 outside no_layers (suc i) = no_layers
@@ -30,7 +30,7 @@ IsDefinition no_definitions i m k = ⊥
 IsDefinition (more_definitions y m' k' s ds) zero m k = (m ≡ m') × (k ≡ k')
 IsDefinition (more_definitions y m' k' s ds) (suc i) m k = IsDefinition ds i m k
 
--- the innermost layer has at this position what can be called with m strategies and k terms: a definition with so many
+-- the innermost layer has at this position what can be called with m strategies and k terms: a definition with as many
 -- parameters, or a strategy parameter, which is called without arguments
 abbrev pub IsCallee : Layers → ℕ → ℕ → ℕ → Type 0
 IsCallee no_layers i m k = ⊥

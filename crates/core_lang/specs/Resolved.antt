@@ -8,7 +8,7 @@ use Rattle.core_lang.specs.Derivation.{Derives}
 use Rattle.core_lang.specs.declared.coordinate.Coordinate.{Coordinate}
 use Rattle.core_lang.specs.Environment.{Environment, Closures, outermost, layer, definitions, Callee, Reading, closure_at, definition_at}
 
--- parts of programs over coordinates: a binder binds so many
+-- parts of programs over coordinates: a binder is the number of what it binds
 abbrev pub ResolvedStrategy : Type 0
 ResolvedStrategy = Strategy Coordinate ℕ
 
@@ -31,7 +31,7 @@ ResolvedCallee = Callee Coordinate ℕ
 abbrev pub here : ℕ → Coordinate
 here i = record { layers_up = 0; slot = i }
 
--- the environment without its innermost layers, so many
+-- the environment without this number of its innermost layers
 abbrev pub layers_up : ResolvedEnvironment → ℕ → ResolvedEnvironment
 layers_up V zero = V
 layers_up outermost (suc i) = outermost

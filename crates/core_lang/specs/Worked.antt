@@ -199,7 +199,7 @@ adds = defined_as main (primitive add (more_patterns (integer (pos 3)) (more_pat
 abbrev pub doubles : Definitions Name Names
 doubles = defined_as main (scope (x ∷ []) (seq (match (variable x)) (choice (build (on_two Tuple (variable x) (variable x))) id id))) no_definitions
 
--- so many layers up, and the position there
+-- this number of layers up, and the position there
 abbrev pub at : ℕ → ℕ → Coordinate
 at h i = record { layers_up = h; slot = i }
 

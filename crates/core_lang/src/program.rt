@@ -31,7 +31,7 @@ pub enum CoreStrategy {
     Choice(Box<CoreArm>, Vec<CoreArm>, Box<CoreStrategy>),
     Match(CorePattern),
     Build(CorePattern),
-    /// So many new variables, and the strategy that sees them.
+    /// This number of new variables, and the strategy that sees them.
     Scope(usize, Box<CoreStrategy>),
     /// The strategy on each part of the term.
     All(Box<CoreStrategy>),
