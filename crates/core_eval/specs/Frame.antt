@@ -32,11 +32,11 @@ environment_of = fold-Frame (Environment Coordinate ℕ) Closed frame_step closu
 abbrev pub closure_of : Closure → Closed
 closure_of = fold-Closure (Environment Coordinate ℕ) Closed frame_step closure_step
 
--- the place of a variable of a layer of so many, which begins at a base
+-- the place of a variable of a layer that begins at a base and has this number of variables
 abbrev pub variable_place : (base count slot : ℕ) → Option ℕ
 variable_place base count slot = if nat_lt slot count then Some (base + slot) else None
 
--- no place, or one that so many places do not have
+-- no place, or one past this number of places
 abbrev pub IsPast : Option ℕ → ℕ → Type 0
 IsPast None n = Unit {0}
 IsPast (Some i) n = n ≤ i

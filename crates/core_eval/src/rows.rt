@@ -9,7 +9,7 @@ pub enum Ends {
     Oversize,
 }
 
-// The words of a program, the pieces of a term, and how the run ends with so many nodes.
+// The words of a program, the pieces of a term, how the run ends, and the number of nodes of its derivation.
 pub type Row = (&'static str, &'static [W], &'static [T], Ends, u32);
 
 // The greatest text of which two fit in a pair, one that does not fit twice, and a heavier one.

@@ -11,10 +11,10 @@ pub enum Word {
     // The number of layers up, and the slot there.
     Variable(usize, usize),
     Number(i32),
-    // A symbol on so many patterns.
+    // A symbol applied to this number of patterns.
     Tuple(usize),
     Applied(&'static [u8], usize),
-    // The list of so many elements, and such a list with a pattern of the rest after them.
+    // A list of this number of elements, and such a list with a pattern of the rest after them.
     List(usize),
     ListAndRest(usize),
     Alias(usize, usize),
@@ -23,9 +23,9 @@ pub enum Word {
     Fail,
     Match,
     Build,
-    // Two strategies one after another, and so many more.
+    // Two strategies one after another, and this number of further ones.
     Sequence(usize),
-    // A guard and what follows it, so many more of these, and what is done otherwise.
+    // A guard and what follows it, this number of further such pairs, and what is done otherwise.
     Choice(usize),
     Scope(usize),
     AllParts,
@@ -33,9 +33,9 @@ pub enum Word {
     SomeParts,
     // The number of layers up and the slot, and how many strategies and patterns are arguments.
     Call(usize, usize, usize, usize),
-    // A definition with so many strategy and term parameters.
+    // A definition with these numbers of strategy and term parameters.
     Definition(usize, usize),
-    // So many definitions, and the strategy that sees them.
+    // This number of definitions, and the strategy that sees them.
     Let(usize),
 }
 
@@ -48,7 +48,7 @@ pub enum Piece {
     ListOf(usize),
     // The annotation 5.
     Marked,
-    // A string of so many bytes.
+    // A string of this number of bytes.
     Text(usize),
 }
 
