@@ -11,7 +11,7 @@ use Rattle.term_model.specs.Same.{same, same_head}
 use Rattle.core_lang.specs.Environment.{Bindings}
 use Rattle.core_lang.specs.declared.coordinate.Coordinate.{Coordinate}
 use Rattle.core_lang.specs.declared.program.CorePattern.{CorePattern}
-use Rattle.core_lang.specs.Program.{Pattern, applied, Patterns, list, Elements}
+use Rattle.core_lang.specs.Program.{Pattern, applied, Patterns, list, Elements, no_elements}
 use Rattle.core_lang.specs.Tried.{put, put_at, and_then, tried, tried_all, tried_elements}
 use Rattle.core_lang.specs.Views.{pattern_of, patterns_of, elements_in}
 use Rattle.core_lang.proofs.PutLaws.{put_past, put_held}
@@ -59,33 +59,28 @@ module _ (place : Coordinate → Option ℕ) where
   list_tried p ps t e test_is is test out =
       ap (λ q. tried place q t e) is ∙ (list_tried_by ps t e ∙ ap (λ b. if b then tried_elements place ps (trees_of (parts_of t)) e else None) (sym test ∙ out))
 
-  same_behind : (o : Option Bindings) (f g : Bindings → Option Bindings) → ((e : Bindings) → f e ≡ g e) → and_then o f ≡ and_then o g
-  same_behind None f g h = refl
-  same_behind (Some e) f g h = h e
-
-  -- elements without a rest are several patterns
-  pub elements_tried : (ps : List CorePattern) (ts : Trees) (e : Bindings) → tried_elements place (elements_in (map pattern_of ps) None) ts e ≡ tried_all place (patterns_of ps) ts e
-  elements_tried [] end e = refl
-  elements_tried [] (more t ts) e = refl
-  elements_tried (p ∷ ps) end e = refl
-  elements_tried (p ∷ ps) (more t ts) e =
-      same_behind (tried place (pattern_of p) t e) (λ f. tried_elements place (elements_in (map pattern_of ps) None) ts f) (λ f. tried_all place (patterns_of ps) ts f) (λ f. elements_tried ps ts f)
-
-  pub too_few : (ps : List CorePattern) (ts : List Tree) (e : Bindings) (r : Pattern Coordinate) → length ts < length ps → tried_elements place (elements_in (map pattern_of ps) (Some r)) (trees_of ts) e ≡ None
-  too_few [] ts e r h = absurd (omega arith)
-  too_few (p ∷ ps) [] e r h = refl
-  too_few (p ∷ ps) (t ∷ ts) e r h =
-      no_rest (tried place (pattern_of p) t e) (λ f. tried_elements place (elements_in (map pattern_of ps) (Some r)) (trees_of ts) f) (λ f. too_few ps ts f r (omega arith))
+  -- the first elements of a list, whatever its rest
+  pub too_few : (ps : List CorePattern) (ts : List Tree) (e : Bindings) (rest : Option (Pattern Coordinate)) → length ts < length ps → tried_elements place (elements_in (map pattern_of ps) rest) (trees_of ts) e ≡ None
+  too_few [] ts e rest h = absurd (omega arith)
+  too_few (p ∷ ps) [] e rest h = refl
+  too_few (p ∷ ps) (t ∷ ts) e rest h =
+      no_rest (tried place (pattern_of p) t e) (λ f. tried_elements place (elements_in (map pattern_of ps) rest) (trees_of ts) f) (λ f. too_few ps ts f rest (omega arith))
 
   pub first_lacks : (ps : List (Pattern Coordinate)) (ts us : Trees) (e f : Bindings) (enough : Type 0) (b : Bool) → FirstFound place ps ts e b us f enough → b ≡ false →
-      (r : Pattern Coordinate) → tried_elements place (elements_in ps (Some r)) ts e ≡ None
+      (rest : Option (Pattern Coordinate)) → tried_elements place (elements_in ps rest) ts e ≡ None
   first_lacks ps ts us e f enough true h is = absurd (cc)
   first_lacks ps ts us e f enough false h is = h
 
   pub first_goes_on : (ps : List (Pattern Coordinate)) (ts us : Trees) (e f : Bindings) (enough : Type 0) (b : Bool) → FirstFound place ps ts e b us f enough → b ≡ true →
-      (r : Pattern Coordinate) → tried_elements place (elements_in ps (Some r)) ts e ≡ tried place r (node heads.List us end) f
+      (rest : Option (Pattern Coordinate)) → tried_elements place (elements_in ps rest) ts e ≡ tried_elements place (elements_in [] rest) us f
   first_goes_on ps ts us e f enough true h is = h.0
   first_goes_on ps ts us e f enough false h is = absurd (cc)
+
+  -- an absent rest does not match where parts are left
+  pub some_left : (ts : List Tree) (n : ℕ) (e : Bindings) → n < length ts → tried_elements place no_elements (trees_of (drop n ts)) e ≡ None
+  some_left [] n e h = absurd (omega arith)
+  some_left (t ∷ ts) zero e h = refl
+  some_left (t ∷ ts) (suc n) e h = some_left ts n e (omega arith)
 
 -- the parts behind the first ones weigh no more than all, and are no deeper
 parts_behind : (ts : List Tree) (n : ℕ) → (weights (trees_of (drop n ts)) ≤ weights (trees_of ts)) × (depths (trees_of (drop n ts)) ≤ depths (trees_of ts))

@@ -27,12 +27,11 @@ pub fn instance(
     ensures { IfOk result (λ made. made ≡ option_map made_of (made_like_other (building.instance (by_coordinates.place_of (environment_of frame.now)) (pattern_of p.now) places.now) other.entry)) }
 {
     match p {
-        CorePattern::Anything => Ok(None),
+        CorePattern::Anything | CorePattern::Alias(_, _) => Ok(None),
         CorePattern::Variable(x) => {
             let made = variable(alloc, *x, other, frame, places)?;
             Ok(made)
         }
-        CorePattern::Alias(_, _) => Ok(None),
         CorePattern::Integer(number) => {
             let made = integer(alloc, *number, other)?;
             Ok(Some(made))

@@ -1,8 +1,8 @@
 // Matching a pattern with a term.
 ghost use Rattle.std.specs.Prelude.{◌≡◌, ◌≤◌, IfOk, [], length, drop, map};
 ghost use Rattle.core_lang.specs.Resolved.{by_coordinates};
-ghost use Rattle.core_lang.specs.Tried.{put, put_at, tried, tried_all};
-ghost use Rattle.core_lang.specs.Views.{pattern_of, patterns_of};
+ghost use Rattle.core_lang.specs.Tried.{put, put_at, tried, tried_all, tried_elements};
+ghost use Rattle.core_lang.specs.Views.{elements_in, pattern_of, patterns_of, rest_of};
 ghost use Rattle.term_model.specs.Same.{same_head};
 ghost use Rattle.term_model.specs.Term.{head_of, parts_of, term, trees_of};
 ghost use Rattle.core_eval.specs.Frame.{environment_of};
@@ -48,21 +48,12 @@ pub fn matches(
             if !is_list(t) {
                 return Ok(false);
             }
-            match rest {
-                None => {
-                    let yes = all_match(alloc, elements.as_slice(), frame, t.children(), places)?;
-                    Ok(yes)
-                }
-                Some(rest) => {
-                    let elements = elements.as_slice();
-                    if !first_match(alloc, elements, frame, t.children(), places)? {
-                        return Ok(false);
-                    }
-                    let others = list_behind(alloc, t, elements.len())?;
-                    let yes = matches(alloc, rest, frame, &others, places)?;
-                    Ok(yes)
-                }
+            let elements = elements.as_slice();
+            if !first_match(alloc, elements, frame, t.children(), places)? {
+                return Ok(false);
             }
+            let yes = rest_matches(alloc, rest, frame, t, elements.len(), places)?;
+            Ok(yes)
         }
         CorePattern::Like(_, _) => Ok(false),
     }
@@ -110,6 +101,35 @@ fn first_match(
         }
     }
     Ok(true)
+}
+
+// Whether the rest of a list matches the parts of the term after this number of first ones; an absent rest, whether there
+// are none.
+#[cycle(matching)]
+fn rest_matches(
+    alloc: Global,
+    rest: &Option<Box<CorePattern>>,
+    frame: &Frame,
+    t: &Term,
+    from: usize,
+    places: &mut Vec<Option<Term>>,
+) -> Result<bool, AllocError>
+    requires { from ≤ length (parts_of t.now) }
+    ensures { IfOk result (λ yes. Found (tried_elements (by_coordinates.place_of (environment_of frame.now)) (elements_in [] (rest_of rest.now)) (trees_of (drop from (parts_of t.now))) places.old.items) yes places.new.items) }
+{
+    match rest {
+        None => {
+            if from < t.children().len() {
+                return Ok(false);
+            }
+            Ok(true)
+        }
+        Some(p) => {
+            let others = list_behind(alloc, t, from)?;
+            let yes = matches(alloc, p, frame, &others, places)?;
+            Ok(yes)
+        }
+    }
 }
 
 // Returns the parts of the term after this number of first ones, as a list.

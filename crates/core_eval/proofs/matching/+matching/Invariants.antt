@@ -1,4 +1,4 @@
-use Rattle.std.proofs.Common.{◌≡◌, drop, map, Some}
+use Rattle.std.proofs.Common.{◌≡◌, drop, map, Option}
 use Rattle.core_lang.specs.declared.coordinate.Coordinate.{Coordinate}
 use Rattle.core_lang.specs.Program.{Pattern}
 use Rattle.core_lang.specs.Resolved.{by_coordinates}
@@ -16,5 +16,5 @@ invariant-all_match-loop-i l =
 abbrev pub invariant-first_match-loop-at : goal.invariant-first_match-loop-at
 invariant-first_match-loop-at l =
     let place = by_coordinates.place_of (environment_of l.frame) in
-    (r : Pattern Coordinate) → tried_elements place (elements_in (map pattern_of l.patterns) (Some r)) (trees_of l.terms) l.initial.places.items ≡
-    tried_elements place (elements_in (map pattern_of (drop l.at l.patterns)) (Some r)) (trees_of (drop l.at l.terms)) l.places.items
+    (rest : Option (Pattern Coordinate)) → tried_elements place (elements_in (map pattern_of l.patterns) rest) (trees_of l.terms) l.initial.places.items ≡
+    tried_elements place (elements_in (map pattern_of (drop l.at l.patterns)) rest) (trees_of (drop l.at l.terms)) l.places.items
