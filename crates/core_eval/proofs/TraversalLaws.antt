@@ -224,11 +224,12 @@ pub record Walk (K : Meaning → Known) (whole : List Tree) (e0 : Bindings) (b0 
   pub decides : DecidesAlways K whole e0 b0 found (drop i whole) e b done
   pub count : length done ≡ i
 
-pub walk_moved : {K : Meaning → Known} {whole : List Tree} {e0 : Bindings} {b0 : ℕ} {found now_found : Bool} {i : ℕ} {e f : Bindings} {b : ℕ} {done now_done : List Tree} →
-    now_found ≡ found → f ≡ e → now_done ≡ done → Walk K whole e0 b0 found i e b done → Walk K whole e0 b0 now_found i f b now_done
-walk_moved {K} {whole} {e0} {b0} {found} {now_found} {i} {e} {f} {b} {done} {now_done} hf he hd x =
-    subst (λ z. Walk K whole e0 b0 z i f b now_done) (sym hf)
-    (subst (λ z. Walk K whole e0 b0 found i z b now_done) (sym he) (subst (λ z. Walk K whole e0 b0 found i e b z) (sym hd) x))
+pub walk_moved : {K : Meaning → Known} {whole : List Tree} {e0 : Bindings} {b0 : ℕ} {found now_found : Bool} {i : ℕ} {e f : Bindings} {b c : ℕ} {done now_done : List Tree} →
+    now_found ≡ found → f ≡ e → c ≡ b → now_done ≡ done → Walk K whole e0 b0 found i e b done → Walk K whole e0 b0 now_found i f c now_done
+walk_moved {K} {whole} {e0} {b0} {found} {now_found} {i} {e} {f} {b} {c} {done} {now_done} hf he hb hd x =
+    subst (λ z. Walk K whole e0 b0 z i f c now_done) (sym hf)
+    (subst (λ z. Walk K whole e0 b0 found i z c now_done) (sym he)
+    (subst (λ z. Walk K whole e0 b0 found i e z now_done) (sym hb) (subst (λ z. Walk K whole e0 b0 found i e b z) (sym hd) x)))
 
 -- no part is left: whether one was ok decides
 module _ (M : Meaning) (V : Environment Coordinate ℕ) (s : Strategy Coordinate ℕ) (e : Bindings) (b : ℕ) (found : Bool) where

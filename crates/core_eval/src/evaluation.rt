@@ -15,6 +15,7 @@ use crate::callee::{Callee, callee_at, closures_of};
 use crate::frame::Frame;
 use crate::instance::{instance, instances};
 use crate::matching::matches;
+use crate::state::State;
 use core_lang::{Coordinate, CoreArm, CoreDef, CorePattern, CoreStrategy, Outcome};
 use std::alloc::{AllocError, Global};
 use term_model::{Made, Term};
@@ -22,62 +23,55 @@ use term_model::{Made, Term};
 /// Evaluates the strategy on the term, each node of the derivation for one of the budget.
 #[cycle(eval)]
 pub fn evaluate(
-    alloc: Global,
     s: &CoreStrategy,
     frame: &Frame,
     t: &Term,
-    places: &mut Vec<Option<Term>>,
-    budget: &mut u32,
+    state: &mut State,
 ) -> Result<Outcome<Term>, AllocError>
-    ensures { IfOk result (λ r. EvaluatesAlways (environment_of frame.now) (strategy_of s.now) t.now places.old.items budget.old (verdict_of r places.new.items) budget.new) }
+    ensures { IfOk result (λ r. EvaluatesAlways (environment_of frame.now) (strategy_of s.now) t.now state.old.places.items state.old.budget (verdict_of r state.new.places.items) state.new.budget) }
 {
-    if *budget == 0 {
+    if state.budget == 0 {
         return Ok(Outcome::Spent);
     }
-    *budget -= 1;
+    state.budget -= 1;
     match s {
         CoreStrategy::Id => Ok(Outcome::Rewritten(t.clone()?)),
         CoreStrategy::Fail => Ok(Outcome::Failed),
         CoreStrategy::Sequence(first, second, rest) => {
-            let rest = rest.as_slice();
-            evaluate_sequence(alloc, first, second, rest, frame, t, places, budget)
+            evaluate_sequence(first, second, rest.as_slice(), frame, t, state)
         }
         CoreStrategy::Choice(arm, more, otherwise) => {
-            let more = more.as_slice();
-            evaluate_arms(alloc, arm, more, otherwise, frame, t, places, budget)
+            evaluate_arms(arm, more.as_slice(), otherwise, frame, t, state)
         }
         CoreStrategy::Match(p) => {
-            let ending = evaluate_match(alloc, p, frame, t, places)?;
+            let ending = evaluate_match(p, frame, t, state)?;
             Ok(ending)
         }
-        CoreStrategy::Build(p) => Ok(built(instance(alloc, p, None, frame, places.as_slice())?)),
-        CoreStrategy::Scope(count, body) => {
-            evaluate_scope(alloc, *count, body, frame, t, places, budget)
+        CoreStrategy::Build(p) => {
+            let made = instance(state.alloc, p, None, frame, state.places.as_slice())?;
+            Ok(built(made))
         }
-        CoreStrategy::All(body) => evaluate_all(alloc, body, frame, t, places, budget),
-        CoreStrategy::One(body) => evaluate_one(alloc, body, frame, t, places, budget),
-        CoreStrategy::Some(body) => evaluate_some(alloc, body, frame, t, places, budget),
-        CoreStrategy::LetIn(defs, body) => {
-            evaluate_let(alloc, defs.as_slice(), body, frame, t, places, budget)
-        }
+        CoreStrategy::Scope(count, body) => evaluate_scope(*count, body, frame, t, state),
+        CoreStrategy::All(body) => evaluate_all(body, frame, t, state),
+        CoreStrategy::One(body) => evaluate_one(body, frame, t, state),
+        CoreStrategy::Some(body) => evaluate_some(body, frame, t, state),
+        CoreStrategy::LetIn(defs, body) => evaluate_let(defs.as_slice(), body, frame, t, state),
         CoreStrategy::Call(x, strategies, terms) => {
-            let (strategies, terms) = (strategies.as_slice(), terms.as_slice());
-            evaluate_call(alloc, *x, strategies, terms, frame, t, places, budget)
+            evaluate_call(*x, strategies.as_slice(), terms.as_slice(), frame, t, state)
         }
     }
 }
 
 // Matches the pattern with the term; the node of the match is paid.
 fn evaluate_match(
-    alloc: Global,
     p: &CorePattern,
     frame: &Frame,
     t: &Term,
-    places: &mut Vec<Option<Term>>,
+    state: &mut State,
 ) -> Result<Outcome<Term>, AllocError>
-    ensures { IfOk result (λ r. (b : ℕ) → EvaluatesAlways (environment_of frame.now) (program.match (pattern_of p.now)) t.now places.old.items (1 + b) (verdict_of r places.new.items) b) }
+    ensures { IfOk result (λ r. EvaluatesAlways (environment_of frame.now) (program.match (pattern_of p.now)) t.now state.old.places.items (1 + state.old.budget) (verdict_of r state.new.places.items) state.new.budget) }
 {
-    if !matches(alloc, p, frame, t, places)? {
+    if !matches(state.alloc, p, frame, t, &mut state.places)? {
         return Ok(Outcome::Failed);
     }
     Ok(Outcome::Rewritten(t.clone()?))
@@ -86,52 +80,46 @@ fn evaluate_match(
 // Evaluates a strategy that sees definitions; their node is paid.
 #[cycle(eval)]
 fn evaluate_let(
-    alloc: Global,
     defs: &[CoreDef],
     body: &CoreStrategy,
     frame: &Frame,
     t: &Term,
-    places: &mut Vec<Option<Term>>,
-    budget: &mut u32,
+    state: &mut State,
 ) -> Result<Outcome<Term>, AllocError>
-    ensures { IfOk result (λ r. EvaluatesAlways (environment_of frame.now) (with_definitions (definitions_of defs.now) (strategy_of body.now)) t.now places.old.items (1 + budget.old) (verdict_of r places.new.items) budget.new) }
+    ensures { IfOk result (λ r. EvaluatesAlways (environment_of frame.now) (with_definitions (definitions_of defs.now) (strategy_of body.now)) t.now state.old.places.items (1 + state.old.budget) (verdict_of r state.new.places.items) state.new.budget) }
 {
     let inner = Frame::Definitions {
         defs,
         outer: &*frame,
     };
-    let ending = evaluate(alloc, body, &inner, t, places, budget)?;
+    let ending = evaluate(body, &inner, t, state)?;
     Ok(ending)
 }
 
 // Evaluates a sequence, whose first node is paid.
 #[cycle(eval)]
 fn evaluate_sequence(
-    alloc: Global,
     first: &CoreStrategy,
     second: &CoreStrategy,
     rest: &[CoreStrategy],
     frame: &Frame,
     t: &Term,
-    places: &mut Vec<Option<Term>>,
-    budget: &mut u32,
+    state: &mut State,
 ) -> Result<Outcome<Term>, AllocError>
-    ensures { IfOk result (λ r. EvaluatesAlways (environment_of frame.now) (chain (strategy_of first.now) (strategy_of second.now ∷ map strategy_of rest.now)) t.now places.old.items (1 + budget.old) (verdict_of r places.new.items) budget.new) }
+    ensures { IfOk result (λ r. EvaluatesAlways (environment_of frame.now) (chain (strategy_of first.now) (strategy_of second.now ∷ map strategy_of rest.now)) t.now state.old.places.items (1 + state.old.budget) (verdict_of r state.new.places.items) state.new.budget) }
 {
-    match evaluate(alloc, first, frame, t, places, budget)? {
+    match evaluate(first, frame, t, state)? {
         Outcome::Rewritten(u) => match rest.split_first() {
             None => {
-                let ending = evaluate(alloc, second, frame, &u, places, budget)?;
+                let ending = evaluate(second, frame, &u, state)?;
                 Ok(ending)
             }
             Some((next, more)) => {
-                if *budget == 0 {
+                if state.budget == 0 {
                     return Ok(Outcome::Spent);
                 }
-                *budget -= 1;
-                let ending = evaluate_sequence(
-                    alloc, second, next, more, frame, &u, places, budget,
-                )?;
+                state.budget -= 1;
+                let ending = evaluate_sequence(second, next, more, frame, &u, state)?;
                 Ok(ending)
             }
         },
@@ -142,38 +130,34 @@ fn evaluate_sequence(
 // Evaluates a choice, whose first node is paid.
 #[cycle(eval)]
 fn evaluate_arms(
-    alloc: Global,
     arm: &CoreArm,
     more: &[CoreArm],
     otherwise: &CoreStrategy,
     frame: &Frame,
     t: &Term,
-    places: &mut Vec<Option<Term>>,
-    budget: &mut u32,
+    state: &mut State,
 ) -> Result<Outcome<Term>, AllocError>
-    ensures { IfOk result (λ r. EvaluatesAlways (environment_of frame.now) (first_of (arm_of arm.now ∷ map arm_of more.now) (strategy_of otherwise.now)) t.now places.old.items (1 + budget.old) (verdict_of r places.new.items) budget.new) }
+    ensures { IfOk result (λ r. EvaluatesAlways (environment_of frame.now) (first_of (arm_of arm.now ∷ map arm_of more.now) (strategy_of otherwise.now)) t.now state.old.places.items (1 + state.old.budget) (verdict_of r state.new.places.items) state.new.budget) }
 {
-    let before = save(alloc, places.as_slice())?;
-    match evaluate(alloc, &arm.guard, frame, t, places, budget)? {
+    let before = save(state.alloc, state.places.as_slice())?;
+    match evaluate(&arm.guard, frame, t, state)? {
         Outcome::Rewritten(u) => {
-            let ending = evaluate(alloc, &arm.then, frame, &u, places, budget)?;
+            let ending = evaluate(&arm.then, frame, &u, state)?;
             Ok(ending)
         }
         Outcome::Failed => {
-            *places = before;
+            state.places = before;
             match more.split_first() {
                 None => {
-                    let ending = evaluate(alloc, otherwise, frame, t, places, budget)?;
+                    let ending = evaluate(otherwise, frame, t, state)?;
                     Ok(ending)
                 }
                 Some((next, rest)) => {
-                    if *budget == 0 {
+                    if state.budget == 0 {
                         return Ok(Outcome::Spent);
                     }
-                    *budget -= 1;
-                    let ending = evaluate_arms(
-                        alloc, next, rest, otherwise, frame, t, places, budget,
-                    )?;
+                    state.budget -= 1;
+                    let ending = evaluate_arms(next, rest, otherwise, frame, t, state)?;
                     Ok(ending)
                 }
             }
@@ -185,18 +169,16 @@ fn evaluate_arms(
 // Evaluates a scope, whose node is paid.
 #[cycle(eval)]
 fn evaluate_scope(
-    alloc: Global,
     count: usize,
     body: &CoreStrategy,
     frame: &Frame,
     t: &Term,
-    places: &mut Vec<Option<Term>>,
-    budget: &mut u32,
+    state: &mut State,
 ) -> Result<Outcome<Term>, AllocError>
-    ensures { IfOk result (λ r. EvaluatesAlways (environment_of frame.now) (scope count (strategy_of body.now)) t.now places.old.items (1 + budget.old) (verdict_of r places.new.items) budget.new) }
+    ensures { IfOk result (λ r. EvaluatesAlways (environment_of frame.now) (scope count (strategy_of body.now)) t.now state.old.places.items (1 + state.old.budget) (verdict_of r state.new.places.items) state.new.budget) }
 {
-    let base = places.len();
-    push_empty(places, count)?;
+    let base = state.places.len();
+    push_empty(&mut state.places, count)?;
     let inner = Frame::Layer {
         base,
         parameters: 0,
@@ -204,60 +186,56 @@ fn evaluate_scope(
         closures: &[],
         outer: &*frame,
     };
-    let ending = evaluate(alloc, body, &inner, t, places, budget)?;
-    places.truncate(base);
+    let ending = evaluate(body, &inner, t, state)?;
+    state.places.truncate(base);
     Ok(ending)
 }
 
 // Evaluates a strategy on each part of the term; its own node is paid.
 #[cycle(eval)]
 fn evaluate_all(
-    alloc: Global,
     s: &CoreStrategy,
     frame: &Frame,
     t: &Term,
-    places: &mut Vec<Option<Term>>,
-    budget: &mut u32,
+    state: &mut State,
 ) -> Result<Outcome<Term>, AllocError>
-    ensures { IfOk result (λ r. EvaluatesAlways (environment_of frame.now) (all (strategy_of s.now)) t.now places.old.items (1 + budget.old) (verdict_of r places.new.items) budget.new) }
+    ensures { IfOk result (λ r. EvaluatesAlways (environment_of frame.now) (all (strategy_of s.now)) t.now state.old.places.items (1 + state.old.budget) (verdict_of r state.new.places.items) state.new.budget) }
 {
     let parts = t.children();
-    let mut done = Vec::new(alloc);
+    let mut done = Vec::new(state.alloc);
     for part in parts {
-        match evaluate(alloc, s, frame, part, places, budget)? {
+        match evaluate(s, frame, part, state)? {
             Outcome::Rewritten(u) => {
                 done.push(u)?;
             }
             other => return Ok(other),
         }
     }
-    let made = t.rebuild(alloc, done)?;
+    let made = t.rebuild(state.alloc, done)?;
     Ok(built(Some(made)))
 }
 
 // Evaluates a strategy on the first part of the term where it does not fail; its own node is paid.
 #[cycle(eval)]
 fn evaluate_one(
-    alloc: Global,
     s: &CoreStrategy,
     frame: &Frame,
     t: &Term,
-    places: &mut Vec<Option<Term>>,
-    budget: &mut u32,
+    state: &mut State,
 ) -> Result<Outcome<Term>, AllocError>
-    ensures { IfOk result (λ r. EvaluatesAlways (environment_of frame.now) (one (strategy_of s.now)) t.now places.old.items (1 + budget.old) (verdict_of r places.new.items) budget.new) }
+    ensures { IfOk result (λ r. EvaluatesAlways (environment_of frame.now) (one (strategy_of s.now)) t.now state.old.places.items (1 + state.old.budget) (verdict_of r state.new.places.items) state.new.budget) }
 {
     let parts = t.children();
     for (i, part) in parts.iter().enumerate() {
-        let saved = save(alloc, places.as_slice())?;
-        match evaluate(alloc, s, frame, part, places, budget)? {
+        let saved = save(state.alloc, state.places.as_slice())?;
+        match evaluate(s, frame, part, state)? {
             Outcome::Rewritten(u) => {
-                let changed = replaced(alloc, parts, i, u)?;
-                let made = t.rebuild(alloc, changed)?;
+                let changed = replaced(state.alloc, parts, i, u)?;
+                let made = t.rebuild(state.alloc, changed)?;
                 return Ok(built(Some(made)));
             }
             Outcome::Failed => {
-                *places = saved;
+                state.places = saved;
             }
             other => return Ok(other),
         }
@@ -268,27 +246,25 @@ fn evaluate_one(
 // Evaluates a strategy on each part of the term where it does not fail, one at least; its own node is paid.
 #[cycle(eval)]
 fn evaluate_some(
-    alloc: Global,
     s: &CoreStrategy,
     frame: &Frame,
     t: &Term,
-    places: &mut Vec<Option<Term>>,
-    budget: &mut u32,
+    state: &mut State,
 ) -> Result<Outcome<Term>, AllocError>
-    ensures { IfOk result (λ r. EvaluatesAlways (environment_of frame.now) (some (strategy_of s.now)) t.now places.old.items (1 + budget.old) (verdict_of r places.new.items) budget.new) }
+    ensures { IfOk result (λ r. EvaluatesAlways (environment_of frame.now) (some (strategy_of s.now)) t.now state.old.places.items (1 + state.old.budget) (verdict_of r state.new.places.items) state.new.budget) }
 {
     let parts = t.children();
-    let mut results = Vec::new(alloc);
+    let mut results = Vec::new(state.alloc);
     let mut found = false;
     for part in parts {
-        let kept = save(alloc, places.as_slice())?;
-        match evaluate(alloc, s, frame, part, places, budget)? {
+        let kept = save(state.alloc, state.places.as_slice())?;
+        match evaluate(s, frame, part, state)? {
             Outcome::Rewritten(u) => {
                 found = true;
                 results.push(u)?;
             }
             Outcome::Failed => {
-                *places = kept;
+                state.places = kept;
                 results.push(part.clone()?)?;
             }
             other => return Ok(other),
@@ -297,34 +273,30 @@ fn evaluate_some(
     if !found {
         return Ok(Outcome::Failed);
     }
-    let made = t.rebuild(alloc, results)?;
+    let made = t.rebuild(state.alloc, results)?;
     Ok(built(Some(made)))
 }
 
 // Evaluates a call, whose node is paid. Where it is of nothing there is no derivation.
 #[cycle(eval)]
 fn evaluate_call(
-    alloc: Global,
     x: Coordinate,
     strategies: &[CoreStrategy],
     terms: &[CorePattern],
     frame: &Frame,
     t: &Term,
-    places: &mut Vec<Option<Term>>,
-    budget: &mut u32,
+    state: &mut State,
 ) -> Result<Outcome<Term>, AllocError>
-    ensures { IfOk result (λ r. EvaluatesAlways (environment_of frame.now) (call x (strategies_of strategies.now) (patterns_of terms.now)) t.now places.old.items (1 + budget.old) (verdict_of r places.new.items) budget.new) }
+    ensures { IfOk result (λ r. EvaluatesAlways (environment_of frame.now) (call x (strategies_of strategies.now) (patterns_of terms.now)) t.now state.old.places.items (1 + state.old.budget) (verdict_of r state.new.places.items) state.new.budget) }
 {
     match callee_at(&*frame, x) {
         None => Ok(Outcome::Spent),
         Some(Callee::Parameter(closure)) => {
-            let ending = evaluate(alloc, closure.strategy, closure.frame, t, places, budget)?;
+            let ending = evaluate(closure.strategy, closure.frame, t, state)?;
             Ok(ending)
         }
         Some(Callee::Definition(def, home)) => {
-            let ending = evaluate_definition(
-                alloc, def, home, strategies, terms, frame, t, places, budget,
-            )?;
+            let ending = evaluate_definition(def, home, strategies, terms, frame, t, state)?;
             Ok(ending)
         }
     }
@@ -333,26 +305,24 @@ fn evaluate_call(
 // Evaluates a call of a definition, whose node is paid.
 #[cycle(eval)]
 fn evaluate_definition(
-    alloc: Global,
     def: &CoreDef,
     home: &Frame,
     strategies: &[CoreStrategy],
     terms: &[CorePattern],
     frame: &Frame,
     t: &Term,
-    places: &mut Vec<Option<Term>>,
-    budget: &mut u32,
+    state: &mut State,
 ) -> Result<Outcome<Term>, AllocError>
     ensures { IfOk result (λ r. (x : Coordinate) → callee_in (layers_up (environment_of frame.now) x.layers_up) x.slot ≡ Some (definition (def_of def.now).strats (def_of def.now).terms (def_of def.now).body (environment_of home.now)) →
-        EvaluatesAlways (environment_of frame.now) (call x (strategies_of strategies.now) (patterns_of terms.now)) t.now places.old.items (1 + budget.old) (verdict_of r places.new.items) budget.new) }
+        EvaluatesAlways (environment_of frame.now) (call x (strategies_of strategies.now) (patterns_of terms.now)) t.now state.old.places.items (1 + state.old.budget) (verdict_of r state.new.places.items) state.new.budget) }
 {
-    let closures = closures_of(alloc, &*strategies, &*frame)?;
-    match instances(alloc, terms, frame, places.as_slice())? {
+    let closures = closures_of(state.alloc, &*strategies, &*frame)?;
+    match instances(state.alloc, terms, frame, state.places.as_slice())? {
         None => Ok(Outcome::Failed),
         Some(Made::Oversize) => Ok(Outcome::Oversize),
         Some(Made::Fits(values)) => {
-            let first = places.len();
-            push_terms(places, values.as_slice())?;
+            let first = state.places.len();
+            push_terms(&mut state.places, values.as_slice())?;
             let closures = closures.as_slice();
             let inner = Frame::Layer {
                 base: first,
@@ -361,8 +331,8 @@ fn evaluate_definition(
                 closures,
                 outer: &*home,
             };
-            let ending = evaluate(alloc, &def.body, &inner, t, places, budget)?;
-            places.truncate(first);
+            let ending = evaluate(&def.body, &inner, t, state)?;
+            state.places.truncate(first);
             Ok(ending)
         }
     }

@@ -9,6 +9,7 @@ mod instance;
 mod making;
 mod matching;
 mod run;
+mod state;
 
 pub use run::eval;
 

@@ -12,6 +12,7 @@ ghost use Rattle.core_eval.specs.Evaluates.{EvaluatesOn, IsRun};
 
 use crate::evaluation::evaluate;
 use crate::frame::Frame;
+use crate::state::State;
 use core_lang::{Coordinate, Core, CoreStrategy, Outcome, Run};
 use std::alloc::{AllocError, Global};
 use term_model::{Fault, Term};
@@ -26,11 +27,15 @@ pub fn eval(alloc: Global, core: &Core, term: &Term, budget: u32) -> Result<Run<
         ResolvesProgram P main (program_of core.now) core.now.main → IsRun M P main term.now budget run) }
     ensures fault { IfErr result (λ fault. fault ≡ Fault.Memory) }
 {
-    let mut left = budget;
-    let outcome = call_main(alloc, core, term, &mut left)?;
+    let mut state = State {
+        alloc,
+        places: Vec::new(alloc),
+        budget,
+    };
+    let outcome = call_main(core, term, &mut state)?;
     let rules = match &outcome {
         Outcome::Spent => budget,
-        _ => budget - left,
+        _ => budget - state.budget,
     };
     Ok(Run {
         outcome,
@@ -39,27 +44,22 @@ pub fn eval(alloc: Global, core: &Core, term: &Term, budget: u32) -> Result<Run<
     })
 }
 
-// Evaluates the call of main.
-fn call_main(
-    alloc: Global,
-    core: &Core,
-    term: &Term,
-    budget: &mut u32,
-) -> Result<Outcome<Term>, AllocError>
-    ensures outcome { IfOk result (λ r. (M : Meaning) → EvaluatesOn M (definitions (program_of core.now) outermost) (call (here core.now.main) no_strategies no_patterns) term.now budget.old r budget.new) }
-    ensures left { OnOk result (budget.new ≤ budget.old) }
+// Evaluates the call of main, in a state without bindings.
+fn call_main(core: &Core, term: &Term, state: &mut State) -> Result<Outcome<Term>, AllocError>
+    requires { state.old.places.items ≡ [] }
+    ensures outcome { IfOk result (λ r. (M : Meaning) → EvaluatesOn M (definitions (program_of core.now) outermost) (call (here core.now.main) no_strategies no_patterns) term.now state.old.budget r state.new.budget) }
+    ensures left { OnOk result (state.new.budget ≤ state.old.budget) }
 {
     let main = Coordinate {
         layers_up: 0,
         slot: core.main(),
     };
-    let call = CoreStrategy::Call(main, Vec::new(alloc), Vec::new(alloc));
+    let call = CoreStrategy::Call(main, Vec::new(state.alloc), Vec::new(state.alloc));
     let outermost = Frame::Outermost;
     let program = Frame::Definitions {
         defs: core.defs(),
         outer: &outermost,
     };
-    let mut places = Vec::new(alloc);
-    let outcome = evaluate(alloc, &call, &program, term, &mut places, budget)?;
+    let outcome = evaluate(&call, &program, term, state)?;
     Ok(outcome)
 }

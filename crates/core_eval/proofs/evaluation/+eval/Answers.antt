@@ -24,34 +24,34 @@ use Rattle.core_eval.proofs.TraversalLaws.{DecidesAlways, OfOne, decide_always, 
 use Rattle.core_eval.proofs.evaluation.+eval.Goals as goal
 use Rattle.core_eval.proofs.evaluation.+eval.Goals.{evaluate_some-in-Rewritten+in_ok-push-in-Rewritten, evaluate_some-in-Failed+in_ok-clone-in-Failed+in_ok-push-in-Failed}
 
-pub evaluate-returns-then-budget-eq0 : goal.evaluate-returns-then-budget-eq0
-evaluate-returns-then-budget-eq0 t c =
+pub evaluate-returns-then-state-eq0 : goal.evaluate-returns-then-state-eq0
+evaluate-returns-then-state-eq0 t c =
     always (λ M.
-    at_zero _ c.if-budget-eq0.true)
+    at_zero _ c.if-state-eq0.true)
 
 pub evaluate-returns-in_ok-clone-in-Id : goal.evaluate-returns-in_ok-clone-in-Id
 evaluate-returns-in_ok-clone-in-Id t c =
     always (λ M.
-    rw c.in_ok-clone-in-Id.ensures.cases (at_id (ap strategy_of c.in-Id.is ∙ reads_id) c.if-budget-eq0.false))
+    rw c.in_ok-clone-in-Id.ensures.cases (at_id (ap strategy_of c.in-Id.is ∙ reads_id) c.if-state-eq0.false))
 
 pub evaluate-returns-in-Fail : goal.evaluate-returns-in-Fail
 evaluate-returns-in-Fail t c =
     always (λ M.
-    at_fail (ap strategy_of c.in-Fail.is ∙ reads_fail) c.if-budget-eq0.false)
+    at_fail (ap strategy_of c.in-Fail.is ∙ reads_fail) c.if-state-eq0.false)
 
 pub evaluate-returns-in_ok-ending-in-Match : goal.evaluate-returns-in_ok-ending-in-Match
 evaluate-returns-in_ok-ending-in-Match t c =
     always (λ M.
-    taken (ap strategy_of c.in-Match.is ∙ reads_match _) c.if-budget-eq0.false ((c.in_ok-ending-in-Match.ensures _).each M))
+    taken (ap strategy_of c.in-Match.is ∙ reads_match _) c.if-state-eq0.false (c.in_ok-ending-in-Match.ensures.each M))
 
-pub evaluate-returns-in_ok-instance-in-Build : goal.evaluate-returns-in_ok-instance-in-Build
-evaluate-returns-in_ok-instance-in-Build t c =
+pub evaluate-returns-in_ok-made-in-Build : goal.evaluate-returns-in_ok-made-in-Build
+evaluate-returns-in_ok-made-in-Build t c =
     always (λ M.
     let place = by_coordinates.place_of (environment_of c.args.frame.now) in
-    let e = c.args.places.now.items in
-    at_build (ap strategy_of c.in-Build.is ∙ reads_build _) c.if-budget-eq0.false
+    let e = c.args.state.now.places.items in
+    at_build (ap strategy_of c.in-Build.is ∙ reads_build _) c.if-state-eq0.false
     (c.built.ensures e ∙
-    (ap (λ m. ends (made_ending m e)) (c.in_ok-instance-in-Build.ensures ∙ ap (λ x. option_map made_of (instance place (pattern_of c.in-Build.p) x)) c.as_slice.ensures.value) ∙
+    (ap (λ m. ends (made_ending m e)) (c.in_ok-made-in-Build.ensures ∙ ap (λ x. option_map made_of (instance place (pattern_of c.in-Build.p) x)) c.as_slice-in-Build.ensures.value) ∙
     ap (λ o. ends o) (made_built (instance place (pattern_of c.in-Build.p) e) e))))
 
 pub evaluate_let-returns : goal.evaluate_let-returns
@@ -71,7 +71,7 @@ pub evaluate_arms-returns-in_ok-ending-in-None : goal.evaluate_arms-returns-in_o
 evaluate_arms-returns-in_ok-ending-in-None t c =
     always (λ M.
     let read = reads_arm c.args.arm.now in
-    let saved : c.in_ok-before.before.items ≡ c.args.places.now.items = c.in_ok-before.ensures ∙ c.as_slice.ensures.value in
+    let saved : c.in_ok-before.before.items ≡ c.args.state.now.places.items = c.in_ok-before.ensures ∙ c.as_slice.ensures.value in
     choice_tries_other
     (failed_to _ c.in-Failed.is (moved_to refl (ap (λ z. z.guard) (sym read)) refl (c.in_ok-other.ensures.each M)))
     (moved_to refl (sym (no_arms _ (strategy_of c.args.otherwise.now) c.in-None.ensures.cases)) saved (c.in_ok-ending-in-None.ensures.each M)))
@@ -80,18 +80,18 @@ pub evaluate_arms-returns-in_ok-ending-in-Some : goal.evaluate_arms-returns-in_o
 evaluate_arms-returns-in_ok-ending-in-Some t c =
     always (λ M.
     let read = reads_arm c.args.arm.now in
-    let saved : c.in_ok-before.before.items ≡ c.args.places.now.items = c.in_ok-before.ensures ∙ c.as_slice.ensures.value in
+    let saved : c.in_ok-before.before.items ≡ c.args.state.now.places.items = c.in_ok-before.ensures ∙ c.as_slice.ensures.value in
     choice_tries_other
     (failed_to _ c.in-Failed.is (moved_to refl (ap (λ z. z.guard) (sym read)) refl (c.in_ok-other.ensures.each M)))
-    (taken (arms_next _ _ _ (strategy_of c.args.otherwise.now) c.in-Some.ensures.cases) c.if-budget-eq0.false (moved_to refl refl saved (c.in_ok-ending-in-Some.ensures.each M))))
+    (taken (arms_next _ _ _ (strategy_of c.args.otherwise.now) c.in-Some.ensures.cases) c.if-state-eq0.false (moved_to refl refl saved (c.in_ok-ending-in-Some.ensures.each M))))
 
-pub evaluate_arms-returns-then-budget-eq0 : goal.evaluate_arms-returns-then-budget-eq0
-evaluate_arms-returns-then-budget-eq0 t c =
+pub evaluate_arms-returns-then-state-eq0 : goal.evaluate_arms-returns-then-state-eq0
+evaluate_arms-returns-then-state-eq0 t c =
     always (λ M.
     let read = reads_arm c.args.arm.now in
     choice_tries_other
     (failed_to _ c.in-Failed.is (moved_to refl (ap (λ z. z.guard) (sym read)) refl (c.in_ok-other.ensures.each M)))
-    (at_zero _ c.if-budget-eq0.true))
+    (at_zero _ c.if-state-eq0.true))
 
 pub evaluate_arms-returns-in_default : goal.evaluate_arms-returns-in_default
 evaluate_arms-returns-in_default t c =
@@ -103,10 +103,10 @@ evaluate_arms-returns-in_default t c =
 pub evaluate_scope-returns : goal.evaluate_scope-returns
 evaluate_scope-returns t c =
     always (λ M.
-    let e = c.args.places.now.items in
+    let e = c.args.state.now.places.items in
     let up = environment_of c.args.frame.now in
-    let base : c.len-base.result ≡ length e = c.len-base.ensures ∙ c.args.places.now.ok.0 in
-    let cut : c.truncate.new.self.items ≡ take c.len-base.result c.evaluate.new.places.items = c.truncate.ensures.items in
+    let base : c.len-base.result ≡ length e = c.len-base.ensures ∙ c.args.state.now.places.ok.0 in
+    let cut : c.truncate.new.self.items ≡ take c.len-base.result c.evaluate.new.state.places.items = c.truncate.ensures.items in
     rw (cut, base) (scope_done _ c.in_ok-ending.ending
     (moved_to (reads_layer _ _ _ _ _ ∙ ap (λ m. layer m 0 c.args.count no_closures up) base) refl c.in_ok-push_empty.ensures (c.in_ok-ending.ensures.each M))))
 
@@ -116,16 +116,16 @@ evaluate_sequence-returns-in-None t c =
     sequence_goes_on (rewritten_to _ c.in-Rewritten.is (c.in_ok-other.ensures.each M))
     (moved_to refl (sym (chain_ends (strategy_of c.args.second.now) _ c.in-None.ensures.cases)) refl (c.in_ok-ending-in-None.ensures.each M)))
 
-pub evaluate_sequence-returns-then-budget-eq0 : goal.evaluate_sequence-returns-then-budget-eq0
-evaluate_sequence-returns-then-budget-eq0 t c =
+pub evaluate_sequence-returns-then-state-eq0 : goal.evaluate_sequence-returns-then-state-eq0
+evaluate_sequence-returns-then-state-eq0 t c =
     always (λ M.
-    sequence_goes_on (rewritten_to _ c.in-Rewritten.is (c.in_ok-other.ensures.each M)) (at_zero _ c.if-budget-eq0.true))
+    sequence_goes_on (rewritten_to _ c.in-Rewritten.is (c.in_ok-other.ensures.each M)) (at_zero _ c.if-state-eq0.true))
 
 pub evaluate_sequence-returns-in-Rewritten : goal.evaluate_sequence-returns-in-Rewritten
 evaluate_sequence-returns-in-Rewritten t c =
     always (λ M.
     sequence_goes_on (rewritten_to _ c.in-Rewritten.is (c.in_ok-other.ensures.each M))
-    (taken (chain_next (strategy_of c.args.second.now) _ _ _ c.in-Some.ensures.cases) c.if-budget-eq0.false (c.in_ok-ending-in-Some.ensures.each M)))
+    (taken (chain_next (strategy_of c.args.second.now) _ _ _ c.in-Some.ensures.cases) c.if-state-eq0.false (c.in_ok-ending-in-Some.ensures.each M)))
 
 pub evaluate_sequence-returns : goal.evaluate_sequence-returns
 evaluate_sequence-returns t c =
@@ -160,12 +160,12 @@ evaluate_all-returns t c =
     always (λ M.
     let V = environment_of c.args.frame.now in
     let s = strategy_of c.args.s.now in
-    let e = c.loop-part.places.items in
+    let e = c.loop-part.state.places.items in
     let us = c.loop-part.done.items in
     let none_left = drop_all c.loop-part.part-index c.children-parts.result.now c.loop-part-test.false in
     let so_far = c.loop-part.invariant.decides.each M in
     all_done c.args.t.now c.children-parts.ensures so_far.less (trees_of us) e _ (c.built.ensures e ∙ remade_ending c.args.t.now us c.in_ok-made.made e c.in_ok-made.ensures)
-    (decides_end none_left so_far (all_at_end V s e c.loop-part.budget)))
+    (decides_end none_left so_far (all_at_end V s e c.loop-part.state.budget)))
 
 pub evaluate_one-returns-in-Rewritten : goal.evaluate_one-returns-in-Rewritten
 evaluate_one-returns-in-Rewritten t c =
@@ -175,7 +175,7 @@ evaluate_one-returns-in-Rewritten t c =
     let left = left_at xs i c.index-parts-i.result c.loop-i-test.true c.index-parts-i.is in
     let so_far = c.loop-i.invariant.each M in
     let ran = rewritten_to _ c.in-Rewritten.is (c.in_ok-other.ensures.each M) in
-    let f = c.evaluate.new.places.items in
+    let f = c.evaluate.new.state.places.items in
     let changed = more c.in-Rewritten.u (trees_of (drop (i + 1) xs)) in
     let less = ran.left in
     let before = so_far.less in
@@ -204,9 +204,9 @@ evaluate_one-loop-i-preserved t c =
     let i = c.loop-i.i in
     let left = left_at xs i c.index-parts-i.result c.loop-i-test.true c.index-parts-i.is in
     let K = OfOne (environment_of c.args.frame.now) (strategy_of c.args.s.now) in
-    let saved : c.in_ok-saved.saved.items ≡ c.loop-i.places.items = c.in_ok-saved.ensures ∙ c.as_slice.ensures.value in
+    let saved : c.in_ok-saved.saved.items ≡ c.loop-i.state.places.items = c.in_ok-saved.ensures ∙ c.as_slice.ensures.value in
     let next = taken_at xs i c.index-parts-i.result c.loop-i-test.true c.index-parts-i.is in
-    subst (λ z. DecidesAlways K xs c.args.places.now.items c.args.budget.now false (drop (i + 1) xs) z c.evaluate.new.budget (take (i + 1) xs)) (sym saved)
+    subst (λ z. DecidesAlways K xs c.args.state.now.places.items c.args.state.now.budget false (drop (i + 1) xs) z c.evaluate.new.state.budget (take (i + 1) xs)) (sym saved)
     (decide_always (λ M.
     let ran = failed_to _ c.in-Failed.is (c.in_ok-other.ensures.each M) in
     decides_on left (c.loop-i.invariant.each M) c.index-parts-i.result next ran.left (λ v d y. one_goes_on ran.settled y)))
@@ -216,10 +216,10 @@ evaluate_one-returns t c =
     always (λ M.
     let V = environment_of c.args.frame.now in
     let s = strategy_of c.args.s.now in
-    let e = c.loop-i.places.items in
+    let e = c.loop-i.state.places.items in
     let so_far = c.loop-i.invariant.each M in
     one_stopped c.args.t.now c.children-parts.ensures so_far.less e Failed tt
-    (decides_none (drop_all c.loop-i.i c.children-parts.result.now c.loop-i-test.false) so_far (one_at_end V s e c.loop-i.budget)))
+    (decides_none (drop_all c.loop-i.i c.children-parts.result.now c.loop-i-test.false) so_far (one_at_end V s e c.loop-i.state.budget)))
 
 pub evaluate_some-returns-in_default : goal.evaluate_some-returns-in_default
 evaluate_some-returns-in_default t c =
@@ -241,11 +241,11 @@ evaluate_some-loop-part-preserved t c =
     let i = c.loop-part.part-index in
     let left = left_at xs i c.part-item.result c.loop-part-test.true c.part-item.is in
     let so_far = c.loop-part.invariant in
-    let saved : c.in_ok-kept.kept.items ≡ c.loop-part.places.items = c.in_ok-kept.ensures ∙ c.as_slice.ensures.value in
+    let saved : c.in_ok-kept.kept.items ≡ c.loop-part.state.places.items = c.in_ok-kept.ensures ∙ c.as_slice.ensures.value in
     elim c.match-branch-3.branch [
       | evaluate_some-in-Rewritten+in_ok-push-in-Rewritten w ↦
           let pushed = w.in_ok-push-in-Rewritten.ensures.items in
-          walk_moved w.found-is (ap (λ v. v.items) w.places-is) (ap (λ v. v.items) w.results-is)
+          walk_moved w.found-is (ap (λ z. z.places.items) w.state-is) (ap (λ z. z.budget) w.state-is) (ap (λ v. v.items) w.results-is)
           (record {
             decides = decide_always (λ M.
                 let ran = rewritten_to _ w.in-Rewritten.is (c.in_ok-other.ensures.each M) in
@@ -254,7 +254,7 @@ evaluate_some-loop-part-preserved t c =
           })
       | evaluate_some-in-Failed+in_ok-clone-in-Failed+in_ok-push-in-Failed w ↦
           let pushed = w.in_ok-push-in-Failed.ensures.items ∙ ap (λ u. c.loop-part.results.items ++ u ∷ []) w.in_ok-clone-in-Failed.ensures.cases in
-          walk_moved w.found-is (ap (λ v. v.items) w.places-is ∙ saved) (ap (λ v. v.items) w.results-is)
+          walk_moved w.found-is (ap (λ z. z.places.items) w.state-is ∙ saved) (ap (λ z. z.budget) w.state-is) (ap (λ v. v.items) w.results-is)
           (record {
             decides = decide_always (λ M.
                 let ran = failed_to _ w.in-Failed.is (c.in_ok-other.ensures.each M) in
@@ -268,22 +268,22 @@ evaluate_some-returns-then-not-found t c =
     always (λ M.
     let V = environment_of c.args.frame.now in
     let s = strategy_of c.args.s.now in
-    let e = c.loop-part.places.items in
+    let e = c.loop-part.state.places.items in
     let so_far = c.loop-part.invariant.decides.each M in
     some_stopped c.args.t.now c.children-parts.ensures so_far.less e Failed tt
-    (decides_none (drop_all c.loop-part.part-index c.children-parts.result.now c.loop-part-test.false) so_far (none_found M V s e c.loop-part.budget c.loop-part.found c.if-not-found.true)))
+    (decides_none (drop_all c.loop-part.part-index c.children-parts.result.now c.loop-part-test.false) so_far (none_found M V s e c.loop-part.state.budget c.loop-part.found c.if-not-found.true)))
 
 pub evaluate_some-returns : goal.evaluate_some-returns
 evaluate_some-returns t c =
     always (λ M.
     let V = environment_of c.args.frame.now in
     let s = strategy_of c.args.s.now in
-    let e = c.loop-part.places.items in
+    let e = c.loop-part.state.places.items in
     let us = c.loop-part.results.items in
     let none_left = drop_all c.loop-part.part-index c.children-parts.result.now c.loop-part-test.false in
     let so_far = c.loop-part.invariant.decides.each M in
     some_done c.args.t.now c.children-parts.ensures so_far.less (trees_of us) e _ (c.built.ensures e ∙ remade_ending c.args.t.now us c.in_ok-made.made e c.in_ok-made.ensures)
-    (decides_end none_left so_far (some_found M V s e c.loop-part.budget c.loop-part.found c.if-not-found.false)))
+    (decides_end none_left so_far (some_found M V s e c.loop-part.state.budget c.loop-part.found c.if-not-found.false)))
 
 pub evaluate_call-returns-in-None : goal.evaluate_call-returns-in-None
 evaluate_call-returns-in-None t c =
@@ -318,13 +318,13 @@ evaluate_definition-returns t c =
     let terms = patterns_of c.args.terms.now in
     let same = ap (λ e. instances place terms e) (sym c.as_slice.ensures.value) in
     let made = all_made c.in_ok-instances.ensures c.in-Some-Fits.is c.in-Some-Fits.field-0-is in
-    let e = c.args.places.now.items in
+    let e = c.args.state.now.places.items in
     let up = environment_of c.args.home.now in
     let def = reads_def c.args.def.now in
     let m = (out-CoreDef c.args.def.now).strats in
     let k = (out-CoreDef c.args.def.now).terms in
-    let base : c.len-first.result ≡ length e = c.len-first.ensures ∙ c.args.places.now.ok.0 in
-    let cut : c.truncate.new.self.items ≡ take c.len-first.result c.evaluate.new.places.items = c.truncate.ensures.items in
+    let base : c.len-first.result ≡ length e = c.len-first.ensures ∙ c.args.state.now.places.ok.0 in
+    let cut : c.truncate.new.self.items ≡ take c.len-first.result c.evaluate.new.state.places.items = c.truncate.ensures.items in
     let closures : closures_in (map closure_of c.as_slice-closures.result.now) ≡ closures_of by_coordinates (environment_of c.args.frame.now) (strategies_of c.args.strategies.now) =
     ap (λ cs. closures_in (map closure_of cs)) c.as_slice-closures.ensures.value ∙ sym c.in_ok-closures.ensures in
     let inner = reads_layer _ _ _ _ _ ∙ (ap (λ n. layer n m k (closures_in (map closure_of c.as_slice-closures.result.now)) up) base ∙

@@ -2,7 +2,7 @@ use Rattle.core_eval.proofs.EvalLaws.{always, match_done, no_match_done, found_t
 use Rattle.core_eval.proofs.evaluation.evaluate_match.Goals as goal
 
 pub returns : goal.returns
-returns c = λ b. always (λ M. rw c.in_ok-clone.ensures.cases (match_done (found_true _ _ _ c.in_ok-matches.ensures c.if-not-branch.false)))
+returns c = always (λ M. rw c.in_ok-clone.ensures.cases (match_done (found_true _ _ _ c.in_ok-matches.ensures c.if-not-branch.false)))
 
 pub returns-then-not-branch : goal.returns-then-not-branch
-returns-then-not-branch c = λ b. always (λ M. no_match_done (found_false _ _ _ c.in_ok-matches.ensures c.if-not-branch.true))
+returns-then-not-branch c = always (λ M. no_match_done (found_false _ _ _ c.in_ok-matches.ensures c.if-not-branch.true))
