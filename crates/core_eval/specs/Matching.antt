@@ -3,7 +3,7 @@ use Rattle.std.specs.Prelude.{◌≡◌, ℕ, Bool, true, false, Option, Some, N
 use Rattle.core_lang.specs.declared.coordinate.Coordinate.{Coordinate}
 use Rattle.core_lang.specs.Environment.{Bindings}
 use Rattle.core_lang.specs.Program.{Pattern}
-use Rattle.core_lang.specs.Tried.{tried, tried_elements}
+use Rattle.core_lang.specs.Tried.{tried_elements}
 use Rattle.core_lang.specs.Views.{elements_in}
 use Rattle.term_model.specs.Term.{Trees}
 

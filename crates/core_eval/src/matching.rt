@@ -31,11 +31,8 @@ pub fn matches(
         CorePattern::Variable(x) => bind_variable(*x, frame, t, places),
         CorePattern::Integer(value) => Ok(is_integer(t, *value)),
         CorePattern::Alias(x, part) => {
-            if !bind_variable(*x, frame, t, places)? {
-                return Ok(false);
-            }
-            let yes = matches(alloc, part, frame, t, places)?;
-            Ok(yes)
+            let bound = bind_variable(*x, frame, t, places)?;
+            Ok(bound && matches(alloc, part, frame, t, places)?)
         }
         CorePattern::Applied(symbol, parts) => {
             if !is_application(t, symbol) {

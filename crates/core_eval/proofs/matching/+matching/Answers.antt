@@ -1,4 +1,4 @@
-use Rattle.std.proofs.Common.{◌≡◌, ◌≤◌, ◌<◌, ◌∙◌, ap, sym, subst, map, drop, length, []}
+use Rattle.std.proofs.Common.{◌≤◌, ◌<◌, ◌∙◌, ap, sym, subst, map, drop, length, []}
 use Rattle.term_model.specs.Term.{parts_of, trees_of}
 use Rattle.core_lang.specs.Tried.{tried_elements}
 use Rattle.core_lang.specs.Resolved.{by_coordinates}
@@ -22,8 +22,8 @@ matches-returns-in_ok-yes-in-Applied t c =
 pub first_match-returns-then-terms-patterns : goal.first_match-returns-then-terms-patterns
 first_match-returns-then-terms-patterns t c = λ r. too_few _ c.args.patterns.now c.args.terms.now c.args.places.now.items r c.if-terms-patterns.true
 
-pub matches-returns-then-not-branch-2 : goal.matches-returns-then-not-branch-2
-matches-returns-then-not-branch-2 t c =
+pub matches-returns-then-not-branch : goal.matches-returns-then-not-branch
+matches-returns-then-not-branch t c =
     let place = by_coordinates.place_of (environment_of c.args.frame.now) in
     let ps = c.in-List.elements.items in
     let rest = rest_of c.in-List.rest in
@@ -33,7 +33,7 @@ matches-returns-then-not-branch-2 t c =
     list_tried place (pattern_of c.args.p.now) (elements_in (map pattern_of ps) rest) c.args.t.now e c.is_list.result (ap pattern_of c.in-List.is ∙ reads_list _ _) c.is_list.ensures c.if-not-is_list.false ∙
     (ap (λ xs. tried_elements place (elements_in (map pattern_of xs) rest) (trees_of (parts_of c.args.t.now)) e) (sym c.as_slice-elements.ensures.value) ∙
     (ap (λ us. tried_elements place (elements_in (map pattern_of firsts) rest) (trees_of us) e) (sym c.children-in-List.ensures) ∙
-    first_lacks place (map pattern_of firsts) (trees_of parts) (trees_of (drop (length firsts) parts)) e c.first_match.new.places.items (length firsts ≤ length parts) c.in_ok-first_match-in-List.field-0 c.in_ok-first_match-in-List.ensures c.if-not-branch-2.true rest))
+    first_lacks place (map pattern_of firsts) (trees_of parts) (trees_of (drop (length firsts) parts)) e c.first_match.new.places.items (length firsts ≤ length parts) c.in_ok-first_match-in-List.field-0 c.in_ok-first_match-in-List.ensures c.if-not-branch.true rest))
 
 pub matches-returns-in_ok-yes-in-List : goal.matches-returns-in_ok-yes-in-List
 matches-returns-in_ok-yes-in-List t c =
@@ -47,7 +47,7 @@ matches-returns-in_ok-yes-in-List t c =
     rw (list_tried place (pattern_of c.args.p.now) (elements_in (map pattern_of ps) rest) c.args.t.now e c.is_list.result (ap pattern_of c.in-List.is ∙ reads_list _ _) c.is_list.ensures c.if-not-is_list.false ∙
     (ap (λ xs. tried_elements place (elements_in (map pattern_of xs) rest) (trees_of (parts_of c.args.t.now)) e) (sym c.as_slice-elements.ensures.value) ∙
     (ap (λ us. tried_elements place (elements_in (map pattern_of firsts) rest) (trees_of us) e) (sym c.children-in-List.ensures) ∙
-    (first_goes_on place (map pattern_of firsts) (trees_of parts) (trees_of (drop (length firsts) parts)) e f (length firsts ≤ length parts) c.in_ok-first_match-in-List.field-0 c.in_ok-first_match-in-List.ensures c.if-not-branch-2.false rest ∙
+    (first_goes_on place (map pattern_of firsts) (trees_of parts) (trees_of (drop (length firsts) parts)) e f (length firsts ≤ length parts) c.in_ok-first_match-in-List.field-0 c.in_ok-first_match-in-List.ensures c.if-not-branch.false rest ∙
     ap (λ us. tried_elements place (elements_in [] rest) (trees_of (drop (length firsts) us)) f) c.children-in-List.ensures))))
     c.in_ok-yes-in-List.ensures
 
