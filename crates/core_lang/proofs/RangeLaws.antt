@@ -11,7 +11,7 @@ use Rattle.core_lang.specs.declared.range.Layers.TheVariants as code
 use Rattle.core_lang.specs.declared.range.Layers.TheOpen as forms
 use Rattle.core_lang.specs.declared.range.Layers as declared
 use Rattle.core_lang.specs.declared.range.Layers.TheFolds.{fold-roll-Layers}
-use Rattle.core_lang.specs.InRange.{Layers, layer_of, layer_of_definitions, no_layers, outside, IsVariable, IsDefinition, IsCallee, StrategyInRange, StrategiesInRange, PatternInRange, PatternsInRange, ElementsInRange}
+use Rattle.core_lang.specs.InRange.{Layers, layer_of, layer_of_definitions, no_layers, outside, IsDefinition, IsCallee, StrategyInRange, StrategiesInRange, PatternInRange, PatternsInRange, ElementsInRange}
 use Rattle.core_lang.specs.RangeOfCode.{layers_step, layers_of, ArmInRange, ArmsInRange}
 use Rattle.core_lang.specs.Resolved.{ResolvedStrategy}
 use Rattle.core_lang.specs.declared.coordinate.Coordinate.{Coordinate}
