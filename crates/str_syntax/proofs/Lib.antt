@@ -1,3 +1,4 @@
 pub mod ReadLaws
 pub mod NameLaws
 pub mod ArityLaws
+pub mod SortLaws

@@ -7,6 +7,7 @@ mod copy;
 pub mod definition;
 #[cfg(test)]
 mod samples;
+mod same_sort;
 pub mod sort;
 pub mod strategy;
 #[cfg(test)]

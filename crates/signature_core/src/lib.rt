@@ -1,0 +1,2 @@
+//! The constructors that a definition file declares.
+#![tactic(auto)]
