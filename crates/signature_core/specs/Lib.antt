@@ -1,2 +1,5 @@
 pub mod Signature
 pub mod DeclaredTerm
+pub mod SameDeclaration
+pub mod Arities
+pub mod Views

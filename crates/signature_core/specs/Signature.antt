@@ -22,7 +22,7 @@ arity_of d = number_of_sorts d.arguments
 
 -- the names, the sorts of the arguments and the results are the same
 abbrev pub same_declaration : Declared → Declared → Bool
-same_declaration d e = same_name d.name e.name && (same_sorts d.arguments e.arguments && same_sort d.result e.result)
+same_declaration d e = (same_name d.name e.name && same_sorts d.arguments e.arguments) && same_sort d.result e.result
 
 -- the declaration is among these
 abbrev pub is_declared : List Declared → Declared → Bool

@@ -1,5 +1,5 @@
 -- Equality of sorts.
-use Rattle.std.proofs.Common.{◌≡◌, ◌↔◌, ◌≢◌, IsTrue, Bool, false, List, [], ◌∷◌, length, map, suc, refl, ap}
+use Rattle.std.proofs.Common.{◌≡◌, ◌↔◌, ◌≢◌, IsTrue, Bool, false, List, [], ◌∷◌, length, suc, refl, ap}
 use Rattle.std.proofs.Math.Bool.{and-false}
 use Rattle.str_syntax.specs.SameSort.{same_sort, same_sorts, same_sort-Decides}
 use Rattle.str_syntax.specs.declared.sort.Sort.{Sort}

@@ -1,5 +1,5 @@
 -- What a sort feeds a hasher: the same where the sorts are the same.
-use Rattle.std.specs.Prelude.{◌≡◌, ◌++◌, Bool, true}
+use Rattle.std.specs.Prelude.{◌≡◌, ◌++◌, true}
 use Rattle.std.specs.Hash as fed
 use Rattle.std.proofs.Common.{ap}
 use Rattle.str_syntax.specs.SameSort.{same_sort, same_sort-true}
