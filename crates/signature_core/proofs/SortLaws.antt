@@ -1,14 +1,15 @@
 -- Sorts as lists, and as trees one after another.
-use Rattle.std.proofs.Common.{◌≡◌, ◌&&◌, ◌++◌, List, [], ◌∷◌, length, suc, refl, ap}
+use Rattle.std.proofs.Common.{◌≡◌, ◌&&◌, ◌++◌, ◌∙◌, ℕ, List, [], ◌∷◌, length, suc, sym, refl, ap}
 use Rattle.std.specs.Cmp.Lexicographic.{pointwise}
-use Rattle.std.specs.Hash.{HashWrites}
-use Rattle.std.specs.List.{flat_map}
+use Rattle.std.specs.Hash as fed
+use Rattle.std.specs.List.{flat_map, fold}
 use Rattle.str_syntax.specs.declared.sort.Sort.{Sort}
 use Rattle.str_syntax.specs.SameSort.{same_sort, same_sorts}
 use Rattle.str_syntax.specs.SortHashing.{sort_writes}
 use Rattle.str_syntax.specs.Views.{sort_tree_of, sorts_of}
-use Rattle.signature_core.specs.SameDeclaration.{each_sort_writes}
+use Rattle.signature_core.specs.SameDeclaration.{each_sort_writes, declaration_writes}
 use Rattle.signature_core.specs.Signature.{number_of_sorts}
+use Rattle.signature_core.specs.Views.{declaration}
 
 pub number_of_sorts-sorts_of : (xs : List Sort) → number_of_sorts (sorts_of xs) ≡ length xs
 number_of_sorts-sorts_of [] = refl
@@ -25,5 +26,17 @@ pointwise-same_sorts (x ∷ xs) (y ∷ ys) = ap (λ rest. same_sort (sort_tree_o
 pub flat_map-sort_writes : (xs : List Sort) → flat_map (λ a. sort_writes (sort_tree_of a)) xs ≡ each_sort_writes (sorts_of xs)
 flat_map-sort_writes [] = refl
 flat_map-sort_writes (x ∷ xs) = ap (λ rest. sort_writes (sort_tree_of x) ++ rest) (flat_map-sort_writes xs)
+
+-- what a name and sorts feed a hasher, one after another, is what their declaration does
+pub fed_declaration : {S : Type 0} (write : S → List ℕ → S) (s t u v : S) (name : List ℕ) (xs : List Sort) (to : Sort)
+    → t ≡ fold write s (fed.slice fed.u8 name) → u ≡ fold write t (fed.slice (λ a. sort_writes (sort_tree_of a)) xs) → v ≡ fold write u (sort_writes (sort_tree_of to))
+    → v ≡ fold write s (declaration_writes (declaration name xs to))
+fed_declaration write s t u v name xs to of_name of_arguments of_result =
+    let number : fed.usize (length xs) ≡ fed.usize (number_of_sorts (sorts_of xs)) = ap fed.usize (sym (number_of_sorts-sorts_of xs)) in
+    let written : fed.slice (λ a. sort_writes (sort_tree_of a)) xs ≡ fed.usize (number_of_sorts (sorts_of xs)) ++ each_sort_writes (sorts_of xs) = λ i. number i ++ flat_map-sort_writes xs i in
+    let arguments : u ≡ fold write t (fed.usize (number_of_sorts (sorts_of xs)) ++ each_sort_writes (sorts_of xs)) = of_arguments ∙ ap (fold write t) written in
+    let rest : fed.HashWrites = (fed.usize (number_of_sorts (sorts_of xs)) ++ each_sort_writes (sorts_of xs)) ++ sort_writes (sort_tree_of to) in
+    let later : v ≡ fold write t rest = fed.fed_then write t u v (fed.usize (number_of_sorts (sorts_of xs)) ++ each_sort_writes (sorts_of xs)) (sort_writes (sort_tree_of to)) arguments of_result in
+    fed.fed_then write s t v (fed.slice fed.u8 name) rest of_name later
 
 pub ruleset sorts = (number_of_sorts-sorts_of, pointwise-same_sorts, flat_map-sort_writes)

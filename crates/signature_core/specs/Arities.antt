@@ -3,7 +3,7 @@ use Rattle.std.specs.Prelude.{◌≡◌, ℕ, Bool, ◌==◌, nat_eq, List, [], 
 use Rattle.std.specs.declared.alloc.Global.{Global}
 use Rattle.std.specs.Cmp.Lexicographic.{pointwise}
 use Rattle.std.specs.List.{list_any}
-use Rattle.std.specs.Option.{option_map_or}
+use Rattle.std.specs.Option.{unwrap_or}
 use Rattle.indexmap.specs.IndexMap.{IndexMap, get_by}
 use Rattle.str_syntax.specs.SameName.{same_name}
 use Rattle.str_syntax.specs.Trees.{Bytes}
@@ -24,7 +24,7 @@ first_number (n ∷ ns) = Some n
 
 -- the numbers that a table has for a name
 abbrev pub numbers_of : {S : Type 0} → IndexMap (Vec ℕ Global) (List ℕ) S → Bytes → List ℕ
-numbers_of table f = option_map_or (λ ns. ns) (get_by (λ key. pointwise nat_eq f key.items) table) []
+numbers_of table f = unwrap_or (get_by (λ key. pointwise nat_eq f key.items) table) []
 
 -- the numbers that a table has are those of the declarations, the first of them first
 pub record AreNumbersOf {S : Type 0} (ds : List Declared) (table : IndexMap (Vec ℕ Global) (List ℕ) S) : Type 0 where

@@ -3,3 +3,4 @@ pub mod DeclaredTerm
 pub mod SameDeclaration
 pub mod Arities
 pub mod Views
+pub mod DeclaredCode

@@ -88,7 +88,6 @@ impl Arities {
     }
 
     // Adds the number to those of the name.
-    #[tactic(auto, using(crate::proofs::ArityLaws::notes))]
     pub(crate) fn note(&mut self, name: &[u8], number: usize) -> Result<(), AllocError>
         ensures noted { OnOk result (IsNoted self.old.by_name name.now number self.new.by_name) }
         ensures unchanged { OnErr result (self.new.by_name.entries ≡ self.old.by_name.entries) }

@@ -21,6 +21,10 @@ impl Model for Constructor {
 
     ghost Value = { Declared };
 
+    ghost use Rattle.signature_core.specs.DeclaredCode.{declared_code};
+
+    ghost coded = { declared_code };
+
     ghost view = { λ c. declaration c.name c.arguments.items c.to };
 }
 

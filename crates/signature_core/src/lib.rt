@@ -4,5 +4,7 @@
 mod arities;
 mod constructor;
 pub mod signature;
+#[cfg(test)]
+mod tests;
 
 pub use signature::Signature;

@@ -28,6 +28,11 @@ impl Model for Signature {
 
     ghost Value = { List Declared };
 
+    ghost use Rattle.std.specs.Coded.{coded_list};
+    ghost use Rattle.signature_core.specs.DeclaredCode.{declared_code};
+
+    ghost coded = { coded_list declared_code };
+
     ghost view = { λ s. s.declarations.keys };
 
     ghost invariant = { λ s. AreNumbersOf s.declarations.keys s.arities.by_name };
