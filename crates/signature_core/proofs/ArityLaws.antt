@@ -126,8 +126,8 @@ pub noted_there : {S : Type 0} (old new : IndexMap (Vec ℕ Global) (List ℕ) S
     → get_by (has_name name) old ≡ Some ns → new.entries ≡ set_value (has_name name) old.entries w → w ≡ with_number ns n → IsNoted old name n new
 noted_there old new name n ns w found set added =
     noted old new name n w
-        (λ f. ap (lookup (has_name f)) set ∙ lookup-set_value f name old.entries w ns found)
-        (added ∙ ap (λ more. with_number more n) (sym (ap (λ r. unwrap_or r []) found)))
+    (λ f. ap (lookup (has_name f)) set ∙ lookup-set_value f name old.entries w ns found)
+    (added ∙ ap (λ more. with_number more n) (sym (ap (λ r. unwrap_or r []) found)))
 
 pub noted_new : {S : Type 0} (old kept new : IndexMap (Vec ℕ Global) (List ℕ) S) (name : Bytes) (key : Vec ℕ Global) (n : ℕ) (v : List ℕ)
     → key.items ≡ name → v ≡ n ∷ [] → get_by (has_name name) old ≡ None → kept ≡ old
@@ -135,8 +135,8 @@ pub noted_new : {S : Type 0} (old kept new : IndexMap (Vec ℕ Global) (List ℕ
 noted_new old kept new name key n v spelled alone absent same put =
     let unknown : get_by (has_name key.items) old ≡ None = ap (λ f. get_by (has_name f) old) spelled ∙ absent in
     noted old new name n v
-        (λ f. ap (lookup (has_name f)) (put ∙ ap (λ m. insert_entry (λ x y. pointwise nat_eq x.items y.items) m.entries key v) same) ∙ lookup-insert_entry f key old.entries v unknown ∙ ap (λ g. cond (same_name f g) (Some v) (lookup (has_name f) old.entries)) spelled)
-        (alone ∙ ap (λ more. with_number more n) (sym (ap (λ r. unwrap_or r []) absent)))
+    (λ f. ap (lookup (has_name f)) (put ∙ ap (λ m. insert_entry (λ x y. pointwise nat_eq x.items y.items) m.entries key v) same) ∙ lookup-insert_entry f key old.entries v unknown ∙ ap (λ g. cond (same_name f g) (Some v) (lookup (has_name f) old.entries)) spelled)
+    (alone ∙ ap (λ more. with_number more n) (sym (ap (λ r. unwrap_or r []) absent)))
 
 -- adding a number to one and others adds it to the others, where it is not the one
 pub with_number-others : (first n : ℕ) (others : List ℕ) → nat_eq n first ≡ false → first ∷ with_number others n ≡ with_number (first ∷ others) n
@@ -203,6 +203,7 @@ one_more_noted ds d old new before noted = record { known = known; first = first
         by : (b : Bool) → same_name f d.name ≡ b → has_number (cond (same_name f d.name) (with_number (numbers_of old f) (arity_of d)) (numbers_of old f)) n ≡ (arity_known ds f n || ((same_name f d.name && n == arity_of d) || false))
         by true here = rw here (has_number-with_number (numbers_of old f) (arity_of d) n ∙ ap (λ b. b || (n == arity_of d)) (before.known f n) ∙ ap (λ b. arity_known ds f n || b) (sym (or-false (n == arity_of d))))
         by false here = rw here (before.known f n ∙ sym (or-false (arity_known ds f n)))
+
     first : (f : Bytes) → first_number (numbers_of new f) ≡ first_arity (ds ++ d ∷ []) f
     first f = ap first_number (noted f) ∙ by (same_name f d.name) refl ∙ sym (first_arity-append ds d f)
       where
@@ -220,6 +221,9 @@ is_declared_name-first_arity (d ∷ ds) f = by (same_name f d.name) (is_declared
     by false rest = rest
 
 pub ruleset numbers = (with_number-others)
+
 pub ruleset none = (none_noted)
+
 pub ruleset declares = (still_noted, one_more_noted)
+
 pub ruleset names = (is_declared_name-first_arity)

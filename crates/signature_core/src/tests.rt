@@ -5,33 +5,36 @@ use std::test::Fail;
 use str_syntax::{Name, Sort};
 use term_model::{Fault, Made, Sym, Term};
 
-// A sort, written `A`, or with the name in front of what it is applied to: `List A` is `List(A)`.
-fn sort(alloc: Global, words: &[&str]) -> Result<Sort, Fail> {
-    let Some((word, inner)) = words.split_first() else {
-        return Err("no sort".into());
-    };
-    let name = Name::new(alloc, word.as_bytes(), 0)?;
+// A sort, written `A`, or with the name in front of the names that it is applied to: `List:A` is `List(A)`.
+fn sort(alloc: Global, text: &str) -> Result<Sort, Fail> {
+    let mut name = None;
+    let mut inner = Vec::new(alloc);
+    for word in text.split(':') {
+        let next = Name::new(alloc, word.as_bytes(), 0)?;
+        if name.is_none() {
+            name = Some(next);
+        } else {
+            inner.push(Sort::Named(next))?;
+        }
+    }
+    let name = name.ok_or("no sort")?;
     if inner.is_empty() {
         return Ok(Sort::Named(name));
     }
-    let mut sorts = Vec::new(alloc);
-    for word in inner {
-        sorts.push(Sort::Named(Name::new(alloc, word.as_bytes(), 1)?))?;
-    }
-    Ok(Sort::Applied(name, sorts))
+    Ok(Sort::Applied(name, inner))
 }
 
-// Declares, and returns whether the declaration was new.
+// Declares, and returns whether the declaration was new. The sorts of the arguments have blanks between them.
 fn declares(
     alloc: Global,
     signature: &mut Signature,
     name: &str,
-    arguments: &[&[&str]],
-    to: &[&str],
+    arguments: &str,
+    to: &str,
 ) -> Result<bool, Fail> {
     let mut sorts = Vec::new(alloc);
-    for words in arguments {
-        sorts.push(sort(alloc, words)?)?;
+    for text in arguments.split_whitespace() {
+        sorts.push(sort(alloc, text)?)?;
     }
     let to = sort(alloc, to)?;
     let name = Name::new(alloc, name.as_bytes(), 2)?;
@@ -48,8 +51,8 @@ fn one_constructor(rt: HostRuntime) -> Result<(), Fail> {
     let mut signature = Signature::new(alloc);
     assert!(rt; !signature.arity_known(b"F", 1));
     assert!(rt; signature.first_arity(b"F").is_none());
-    assert!(rt; declares(alloc, &mut signature, "F", &[&["A"]], &["A"])?);
-    assert!(rt; !declares(alloc, &mut signature, "F", &[&["A"]], &["A"])?);
+    assert!(rt; declares(alloc, &mut signature, "F", "A", "A")?);
+    assert!(rt; !declares(alloc, &mut signature, "F", "A", "A")?);
     assert!(rt; signature.arity_known(b"F", 1));
     assert!(rt; !signature.arity_known(b"F", 2));
     assert!(rt; signature.is_declared_name(b"F"));
@@ -61,27 +64,27 @@ fn one_constructor(rt: HostRuntime) -> Result<(), Fail> {
 fn overloads(rt: HostRuntime) -> Result<(), Fail> {
     let alloc = rt.alloc();
     let mut signature = Signature::new(alloc);
-    let rows: [(&str, &[&[&str]], &[&str], bool); 14] = [
-        ("Zero", &[], &["Exp"], true),
-        ("Zero", &[], &["Exp"], false),
-        ("Var", &[&["Str"]], &["Exp"], true),
-        ("Var", &[&["Str"]], &["Ty"], true),
-        ("Var", &[&["Str"]], &["Exp"], false),
-        ("Var", &[&["Exp"]], &["Exp"], true),
-        ("Var", &[&["Str"], &["Str"]], &["Exp"], true),
-        ("Var", &[], &["Exp"], true),
-        ("Call", &[&["List", "Exp"]], &["Exp"], true),
-        ("Call", &[&["List", "Str"]], &["Exp"], true),
-        ("Call", &[&["List"], &["Exp"]], &["Exp"], true),
-        ("Call", &[&["List", "Exp"]], &["Exp"], false),
-        ("Call", &[&["Pair", "Exp", "Exp"]], &["Exp"], true),
-        ("Call", &[&["Pair", "Exp"]], &["Exp"], true),
+    let rows = [
+        ("Zero", "", "Exp", true),
+        ("Zero", "", "Exp", false),
+        ("Var", "Str", "Exp", true),
+        ("Var", "Str", "Ty", true),
+        ("Var", "Str", "Exp", false),
+        ("Var", "Exp", "Exp", true),
+        ("Var", "Str Str", "Exp", true),
+        ("Var", "", "Exp", true),
+        ("Call", "List:Exp", "Exp", true),
+        ("Call", "List:Str", "Exp", true),
+        ("Call", "List Exp", "Exp", true),
+        ("Call", "List:Exp", "Exp", false),
+        ("Call", "Pair:Exp:Exp", "Exp", true),
+        ("Call", "Pair:Exp", "Exp", true),
     ];
     for (name, arguments, to, is_new) in &rows {
         let declared = declares(alloc, &mut signature, name, arguments, to)?;
         assert_eq!(rt; declared, *is_new);
     }
-    let asked: [(&str, usize, bool); 9] = [
+    let asked = [
         ("Zero", 0, true),
         ("Zero", 1, false),
         ("Var", 0, true),
@@ -159,12 +162,15 @@ fn build(alloc: Global, words: &[Word]) -> Result<Term, Fail> {
 fn terms(rt: HostRuntime) -> Result<(), Fail> {
     let alloc = rt.alloc();
     let mut signature = Signature::new(alloc);
-    assert!(rt; declares(alloc, &mut signature, "F", &[&["A"]], &["A"])?);
-    assert!(rt; declares(alloc, &mut signature, "Zero", &[], &["A"])?);
+    assert!(rt; declares(alloc, &mut signature, "F", "A", "A")?);
+    assert!(rt; declares(alloc, &mut signature, "Zero", "", "A")?);
     let rows: [(&[Word], bool); 16] = [
         (&[Word::Int(7)], true),
         (&[Word::Int(7), Word::Plain("F", 1)], true),
-        (&[Word::Int(7), Word::Plain("G", 1), Word::Plain("F", 1)], false),
+        (
+            &[Word::Int(7), Word::Plain("G", 1), Word::Plain("F", 1)],
+            false,
+        ),
         (&[Word::Plain("F", 0)], false),
         (&[Word::Int(1), Word::Int(2), Word::Plain("F", 2)], false),
         (&[Word::Plain("Zero", 0), Word::Plain("F", 1)], true),
@@ -175,9 +181,23 @@ fn terms(rt: HostRuntime) -> Result<(), Fail> {
         (&[Word::Plain("G", 0), Word::Tuple(1)], false),
         (&[Word::Int(1), Word::Quoted("s", 0), Word::List(2)], true),
         (&[Word::Int(1), Word::Plain("G", 0), Word::List(2)], false),
-        (&[Word::Int(1), Word::Plain("Zero", 0), Word::Annotated(1)], true),
-        (&[Word::Int(1), Word::Plain("G", 0), Word::Annotated(1)], false),
-        (&[Word::List(0), Word::Int(7), Word::Quoted("F", 1), Word::Annotated(1)], false),
+        (
+            &[Word::Int(1), Word::Plain("Zero", 0), Word::Annotated(1)],
+            true,
+        ),
+        (
+            &[Word::Int(1), Word::Plain("G", 0), Word::Annotated(1)],
+            false,
+        ),
+        (
+            &[
+                Word::List(0),
+                Word::Int(7),
+                Word::Quoted("F", 1),
+                Word::Annotated(1),
+            ],
+            false,
+        ),
     ];
     for (words, declared) in &rows {
         let term = build(alloc, words)?;

@@ -6,15 +6,15 @@ use Rattle.signature_core.proofs.arities.Arities.note.Goals as goal
 pub returns-in-Some-clause-noted : goal.returns-in-Some-clause-noted
 returns-in-Some-clause-noted c =
     on_ok c.add.result
-        (noted_there c.args.self.now.by_name (c.get_mut.follows.lender c.add.new.self) c.args.name.now c.args.number c.in-Some.numbers.now c.add.new.self (sym c.in-Some.ensures.value) (c.get_mut.follows.holds c.add.new.self).0)
-        c.add.ensures.added
+    (noted_there c.args.self.now.by_name (c.get_mut.follows.lender c.add.new.self) c.args.name.now c.args.number c.in-Some.numbers.now c.add.new.self (sym c.in-Some.ensures.value) (c.get_mut.follows.holds c.add.new.self).0)
+    c.add.ensures.added
 
 -- src/arities.rt:97:13
 pub returns-in-Some-clause-unchanged : goal.returns-in-Some-clause-unchanged
 returns-in-Some-clause-unchanged c =
     on_err c.add.result
-        (λ same. (c.get_mut.follows.holds c.add.new.self).0 ∙ set_value-unchanged _ _ c.add.new.self c.in-Some.numbers.now (sym c.in-Some.ensures.value) same)
-        c.add.ensures.unchanged
+    (λ same. (c.get_mut.follows.holds c.add.new.self).0 ∙ set_value-unchanged _ _ c.add.new.self c.in-Some.numbers.now (sym c.in-Some.ensures.value) same)
+    c.add.ensures.unchanged
 
 -- src/arities.rt:91:5
 pub returns-clause-noted : goal.returns-clause-noted
