@@ -3,7 +3,7 @@ use Rattle.std.specs.Prelude.{◌≡◌, ℕ, List}
 use Rattle.std.specs.Coded.{Coded, code_by, coded×, coded_ℕ, coded_list}
 use Rattle.std.proofs.Common.{refl}
 use base.Stored.{Gv, gnil, gcons}
-use Rattle.str_syntax.specs.Trees.{Bytes, SortTree, sort, sort_of, SortTrees, no_sorts, more_sorts}
+use Rattle.str_syntax.specs.Trees.{SortTree, sort, sort_of, SortTrees, no_sorts, more_sorts}
 use Rattle.signature_core.specs.Signature.{Declared}
 
 abbrev pub name_code : Coded (List ℕ)

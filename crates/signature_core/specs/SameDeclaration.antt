@@ -1,5 +1,5 @@
 -- Laws of the test whether two declarations are the same, and what a declaration feeds a hasher.
-use Rattle.std.specs.Prelude.{◌≡◌, ◌++◌, [], Bool, true, ◌&&◌}
+use Rattle.std.specs.Prelude.{◌≡◌, ◌++◌, [], true, ◌&&◌}
 use Rattle.std.specs.Bool.{Decides}
 use Rattle.std.specs.Cmp.{IsEquivalence, IsPartialEquivalence, decided, partial_equiv_from_equiv, first_so, second_so}
 use Rattle.std.specs.Hash as fed
