@@ -1,0 +1,90 @@
+-- What a call can be of: keys, and which of them are seen at a place of a file.
+use Rattle.std.specs.Prelude.{ℕ, Bool, false, ◌&&◌, ◌||◌, ◌==◌, List, [], ◌∷◌, ◌++◌, map}
+use Rattle.std.specs.List.{list_any}
+use Rattle.str_syntax.specs.Arity.{strategy_parameters, term_parameters}
+use Rattle.str_syntax.specs.SameName.{same_name}
+use Rattle.str_syntax.specs.Trees.{Bytes, ParameterTree, absent, strategies_only, with_terms, HeadTree, head, DefinitionTree, definition, DefinitionTrees, no_definitions, more_definitions, FormTree, rule_form, strategy_form, TopTree, SectionTree, signature, rules, strategies, FileTree}
+
+-- a name with numbers of strategies and of terms
+pub record Key : Type 0 where
+  pub name : Bytes
+  pub strategies : ℕ
+  pub terms : ℕ
+
+abbrev pub same_key : Key → Key → Bool
+same_key k l = same_name k.name l.name && (k.strategies == l.strategies && k.terms == l.terms)
+
+-- which keys a call at a place can be of
+abbrev pub Seen : Type 0
+Seen = Key → Bool
+
+-- these keys
+abbrev pub among : List Key → Seen
+among ks k = list_any (same_key k) ks
+
+-- no key
+abbrev pub nothing : Seen
+nothing k = false
+
+-- what is seen further in and what is seen further out
+abbrev pub inner : Seen → Seen → Seen
+inner A B k = A k || B k
+
+-- the key of a strategy parameter or a rec: it is called without arguments
+abbrev pub plain_key : Bytes → Key
+plain_key f = record { name = f; strategies = 0; terms = 0 }
+
+abbrev pub strategy_names : ParameterTree → List Bytes
+strategy_names absent = []
+strategy_names (strategies_only fs) = fs
+strategy_names (with_terms fs xs) = fs
+
+abbrev pub term_names : ParameterTree → List Bytes
+term_names absent = []
+term_names (strategies_only fs) = []
+term_names (with_terms fs xs) = xs
+
+-- the key of a rule or a definition
+abbrev pub key_of : HeadTree → Key
+key_of (head f ps) = record { name = f; strategies = strategy_parameters ps; terms = term_parameters ps }
+
+-- the keys of its strategy parameters
+abbrev pub parameter_keys : HeadTree → List Key
+parameter_keys (head f ps) = map plain_key (strategy_names ps)
+
+-- the heads of definitions that stand together
+abbrev pub heads_in : DefinitionTrees → List HeadTree
+heads_in no_definitions = []
+heads_in (more_definitions (definition h s) ds) = h ∷ heads_in ds
+
+-- what is seen in a rec, in a let, and in the body of a definition
+abbrev pub in_rec : Bytes → Seen → Seen
+in_rec f L = inner (among (plain_key f ∷ [])) L
+
+abbrev pub in_let : DefinitionTrees → Seen → Seen
+in_let ds L = inner (among (map key_of (heads_in ds))) L
+
+abbrev pub in_body : HeadTree → Seen → Seen
+in_body h L = inner (among (parameter_keys h)) L
+
+-- the rules and definitions of a file, in order
+abbrev pub tops_in : List SectionTree → List TopTree
+tops_in [] = []
+tops_in (signature _ ∷ sections) = tops_in sections
+tops_in (rules tops ∷ sections) = tops ++ tops_in sections
+tops_in (strategies tops ∷ sections) = tops ++ tops_in sections
+
+abbrev pub head_of_form : FormTree → HeadTree
+head_of_form (rule_form h r) = h
+head_of_form (strategy_form (definition h s)) = h
+
+abbrev pub head_of_top : TopTree → HeadTree
+head_of_top t = head_of_form t.form
+
+-- their heads
+abbrev pub top_heads : FileTree → List HeadTree
+top_heads file = map head_of_top (tops_in file.sections)
+
+-- what is seen at top level
+abbrev pub at_top : FileTree → Seen
+at_top file = among (map key_of (top_heads file))

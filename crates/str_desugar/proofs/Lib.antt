@@ -1,0 +1,11 @@
+pub mod BoundLaws
+pub mod BroughtNames
+pub mod FileResolution
+pub mod FormLaws
+pub mod GroupLaws
+pub mod HeadLaws
+pub mod NameLists
+pub mod PartLaws
+pub mod PatternResolution
+pub mod SeenLaws
+pub mod StrategyResolution
