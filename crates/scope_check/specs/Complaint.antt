@@ -6,12 +6,12 @@ use Rattle.term_model.specs.declared.fault.Fault.{Fault}
 use Rattle.term_model.specs.declared.fault.Fault.TheVariants.{DuplicateDeclaration, Undeclared, Parameters, Clash, UnknownStrategy, NotBuildable, UnknownPrimitive, NoMain}
 use Rattle.str_syntax.specs.Arity.{number_of_patterns, number_of_strategies, given_strategies, given_terms}
 use Rattle.str_syntax.specs.SameName.{same_name}
-use Rattle.str_syntax.specs.Trees.{Bytes, ParameterTree, HeadTree, head, PatternTree, wildcard, alias, application, PrimaryTree, scope, recursive, primitive, call, ArgumentTree, no_arguments, strategy_arguments, all_arguments, FileTree}
+use Rattle.str_syntax.specs.Trees.{Bytes, HeadTree, head, wildcard, alias, application, scope, recursive, primitive, call, ArgumentTree, no_arguments, strategy_arguments, all_arguments, FileTree}
 use Rattle.signature_core.specs.Signature.{Declared, arity_known, is_declared, is_declared_name, declarations_of}
 use Rattle.scope_check.specs.declared.side.Side.{Side}
 use Rattle.scope_check.specs.declared.side.Side.TheVariants.{Match, Build}
 use Rattle.scope_check.specs.Seen.{Key, same_key, plain_key, strategy_names, term_names, key_of, at_top}
-use Rattle.scope_check.specs.Somewhere.{Test, Node, pattern, strategy, heading, group, in_file}
+use Rattle.scope_check.specs.Somewhere.{Test, pattern, strategy, heading, group, in_file}
 
 pub data Complaint : Type 0 where
   duplicate_declaration : Complaint

@@ -3,7 +3,7 @@ use Rattle.std.specs.Prelude.{ℕ, Bool, false, ◌&&◌, ◌||◌, ◌==◌, Li
 use Rattle.std.specs.List.{list_any}
 use Rattle.str_syntax.specs.Arity.{strategy_parameters, term_parameters}
 use Rattle.str_syntax.specs.SameName.{same_name}
-use Rattle.str_syntax.specs.Trees.{Bytes, ParameterTree, absent, strategies_only, with_terms, HeadTree, head, DefinitionTree, definition, DefinitionTrees, no_definitions, more_definitions, FormTree, rule_form, strategy_form, TopTree, SectionTree, signature, rules, strategies, FileTree}
+use Rattle.str_syntax.specs.Trees.{Bytes, ParameterTree, absent, strategies_only, with_terms, HeadTree, head, definition, DefinitionTrees, no_definitions, more_definitions, FormTree, rule_form, strategy_form, TopTree, SectionTree, signature, rules, strategies, FileTree}
 
 -- a name with numbers of strategies and of terms
 pub record Key : Type 0 where

@@ -3,7 +3,7 @@ use Rattle.std.specs.Prelude.{Bool, false, ◌||◌, List}
 use Rattle.std.specs.List.{list_any}
 use Rattle.scope_check.specs.declared.side.Side.{Side}
 use Rattle.scope_check.specs.declared.side.Side.TheVariants.{Match, Build}
-use Rattle.scope_check.specs.Seen.{Seen, nothing, in_rec, in_let, in_body, heads_in, head_of_form, tops_in, top_heads, at_top}
+use Rattle.scope_check.specs.Seen.{Seen, nothing, in_rec, in_let, in_body, heads_in, tops_in, top_heads, at_top}
 use Rattle.str_syntax.specs.Trees.{HeadTree, PatternTree, variable, wildcard, alias, integer, quoted, application, grouped, tuple, list, applied, applied_to, PatternTrees, no_patterns, more_patterns, OptionalPattern, no_pattern, one_pattern, StrategyTree, plain_sequence, left_choice, guarded_choice, StrategyTrees, no_strategies, more_strategies, OptionalStrategy, no_strategy, one_strategy, SequenceTree, last, then, StepTree, plain_step, matching, PrimaryTree, identity, failure, match, build, apply, parenthesized, scope, operator, conditional, recursive, let_in, primitive, lambda, call, tuple_congruence, list_congruence, ArgumentTree, no_arguments, strategy_arguments, all_arguments, RuleTree, rewrites, DefinitionTree, definition, DefinitionTrees, no_definitions, more_definitions, FormTree, rule_form, strategy_form, TopTree, FileTree}
 
 pub data Node : Type 0 where
