@@ -5,9 +5,9 @@ mod arity;
 pub mod build;
 mod copy;
 pub mod definition;
+mod same_sort;
 #[cfg(test)]
 mod samples;
-mod same_sort;
 pub mod sort;
 pub mod strategy;
 #[cfg(test)]
