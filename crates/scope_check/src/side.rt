@@ -14,7 +14,7 @@ impl Side {
     ghost use Rattle.scope_check.specs.Complaint.{is_built};
 
     /// Whether the pattern is built.
-    pub fn is_built(self) -> bool
+    pub(crate) fn is_built(self) -> bool
         ensures { result ≡ is_built self }
     {
         match self {

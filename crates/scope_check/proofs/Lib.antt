@@ -1,0 +1,9 @@
+pub mod NameLaws
+pub mod GroupLaws
+pub mod WalkLaws
+pub mod TopLaws
+pub mod LayerLaws
+pub mod HeadLaws
+pub mod DeclarationLaws
+pub mod FileLaws
+pub mod LeastLaws

@@ -1,0 +1,145 @@
+//! The judgement of a file.
+ghost use Rattle.std.specs.Prelude.{◌≡◌, ◌⊎◌, Some, IfErr, IfOk};
+ghost use Rattle.scope_check.specs.Checked.{IsChecked};
+ghost use Rattle.scope_check.specs.Complaint.{complaints, first_fault, first_of};
+ghost use Rattle.scope_check.specs.Found.{found_in_file, told};
+ghost use Rattle.scope_check.specs.Seen.{at_top, plain_key};
+ghost use Rattle.str_syntax.specs.Views.{file_of};
+ghost use Rattle.term_model.specs.declared.fault.Fault.TheVariants.{Memory};
+
+use crate::declarations::signature_of;
+use crate::file::with_heads;
+use crate::findings::Findings;
+use crate::groups::has_plain;
+use crate::top_heads::heads_in_sections;
+use signature_core::Signature;
+use std::alloc::{AllocError, Global};
+use std::marker::Model;
+use str_syntax::File;
+use term_model::Fault;
+
+/// A file without a fault, its signature, and the name of its main definition.
+#[derive(Drop)]
+pub struct Checked {
+    file: File,
+    signature: Signature,
+    main: Vec<u8>,
+}
+
+impl Model for Checked {
+    ghost use Rattle.scope_check.specs.Checked.{Checked, IsChecked};
+    ghost use Rattle.str_syntax.specs.Views.{file_of};
+
+    ghost Value = { Checked };
+
+    ghost use Rattle.std.specs.Coded.{codes};
+    ghost use Rattle.signature_core.specs.DeclaredCode.{declared_code};
+    ghost use Rattle.str_syntax.specs.contracts.definition.File as files;
+
+    ghost coded = { Prim.hlevel (codes, files.the_row.coded, declared_code) };
+
+    ghost view = { λ c. record { file = c.file; declarations = c.signature; main = c.main.items } };
+
+    ghost invariant = { λ c. IsChecked (file_of c.file) c.signature c.main.items };
+}
+
+impl Checked {
+    /// The file, with all definitions that stand in it.
+    pub fn file(&self) -> &File
+        ensures file { result.now ≡ self.now.file }
+        ensures checked { IsChecked (file_of self.now.file) self.now.declarations self.now.main }
+    {
+        &self.file
+    }
+
+    /// The constructors that the file declares.
+    pub fn signature(&self) -> &Signature
+        ensures signature { result.now ≡ self.now.declarations }
+        ensures checked { IsChecked (file_of self.now.file) self.now.declarations self.now.main }
+    {
+        &self.signature
+    }
+
+    /// The name of the main definition.
+    pub fn main(&self) -> &[u8]
+        ensures main { result.now ≡ self.now.main }
+        ensures checked { IsChecked (file_of self.now.file) self.now.declarations self.now.main }
+    {
+        &self.main
+    }
+}
+
+/// Judges the file, whose definition `main` is to be run, and keeps it with its signature. An error is the fault of the least number
+/// among those that occur anywhere in the file:
+///
+/// - `DuplicateDeclaration` where a constructor is declared twice with the same sorts;
+/// - `Undeclared` where a pattern has a constructor that is not declared with this number of sorts;
+/// - `Parameters` where a definition or a scope repeats a name, where alternatives of one key have other parameters, or where a key
+///   has over 1,000 alternatives;
+/// - `Clash` where a definition, a strategy parameter or a `rec` has the name of a declared constructor;
+/// - `UnknownStrategy` where a call is no congruence, and what it calls is not seen where it stands;
+/// - `NotBuildable` where a build has `_` or `x@p`;
+/// - `UnknownPrimitive` where a primitive is called, since there are none yet;
+/// - `NoMain` where no definition at top level has the name `main` and no parameters.
+///
+/// `Memory` where a growth is refused, whatever else occurs. After an error the file is dropped.
+pub fn check(alloc: Global, file: File, main: &[u8]) -> Result<Checked, Fault>
+    ensures file { IfOk result (λ checked. checked.file ≡ file) }
+    ensures main { IfOk result (λ checked. checked.main ≡ main.now) }
+    ensures checked { IfOk result (λ checked. IsChecked (file_of file) checked.declarations main.now) }
+    ensures fault { IfErr result (λ fault. (fault ≡ Memory) ⊎ (first_fault (file_of file) main.now ≡ Some fault)) }
+{
+    let signature = signature_of(alloc, &file)?;
+    if let Some(fault) = fault_found(alloc, &signature, &file, main)? {
+        return Err(fault);
+    }
+    let main = Vec::from_slice(alloc, main)?;
+    Ok(Checked {
+        file,
+        signature,
+        main,
+    })
+}
+
+// The fault of the least number in a file of this signature, where no declaration stands twice.
+fn fault_found(
+    alloc: Global,
+    signature: &Signature,
+    file: &File,
+    main: &[u8],
+) -> Result<Option<Fault>, AllocError>
+    ensures { IfOk result (λ fault. fault ≡ first_of (told (found_in_file signature.now (file_of file.now)) (at_top (file_of file.now) (plain_key main.now))) complaints) }
+{
+    let heads = heads_in_sections(alloc, &file.sections)?;
+    let has_main = has_plain(&heads, main);
+    let found = with_heads(alloc, signature, &heads, &file.sections)?;
+    Ok(least_fault(found, has_main))
+}
+
+// The fault of the least number among those that were found.
+fn least_fault(found: Findings, has_main: bool) -> Option<Fault>
+    ensures { result ≡ first_of (told found has_main) complaints }
+{
+    if found.undeclared {
+        return Some(Fault::Undeclared);
+    }
+    if found.bad_parameters {
+        return Some(Fault::Parameters);
+    }
+    if found.clash {
+        return Some(Fault::Clash);
+    }
+    if found.unknown_strategy {
+        return Some(Fault::UnknownStrategy);
+    }
+    if found.not_buildable {
+        return Some(Fault::NotBuildable);
+    }
+    if found.unknown_primitive {
+        return Some(Fault::UnknownPrimitive);
+    }
+    if !has_main {
+        return Some(Fault::NoMain);
+    }
+    None
+}

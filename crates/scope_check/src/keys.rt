@@ -1,0 +1,127 @@
+// Keys of definitions, and tables of them.
+ghost use Rattle.std.specs.Prelude.{◌≡◌, ◌||◌, [], not, IfOk, OnOk};
+ghost use Rattle.scope_check.specs.Seen as spec;
+ghost use Rattle.scope_check.specs.Seen.{among, plain_key, same_key};
+
+use indexmap::IndexSet;
+use std::alloc::{AllocError, Global};
+use std::hash::{Hash, Hasher};
+use std::marker::Model;
+
+/// A name with numbers of strategies and of terms. The name stands in a tree.
+#[derive(Drop)]
+pub(crate) struct Key<'a> {
+    name: &'a [u8],
+    strategies: usize,
+    terms: usize,
+}
+
+impl<'a> Model for Key<'a> {
+    ghost use Rattle.scope_check.specs.Seen.{Key};
+
+    ghost Value = { Key };
+
+    ghost view = { λ k. record { name = k.name.now; strategies = k.strategies; terms = k.terms } };
+}
+
+impl<'a> Key<'a> {
+    pub(crate) fn new(name: &'a [u8], strategies: usize, terms: usize) -> Key<'a>
+        ensures { result ≡ record { name = name.now; strategies = strategies; terms = terms } }
+    {
+        Key {
+            name,
+            strategies,
+            terms,
+        }
+    }
+
+    /// The key of a strategy parameter or of a `rec`.
+    pub(crate) fn plain(name: &'a [u8]) -> Key<'a>
+        ensures { result ≡ plain_key name.now }
+    {
+        Key::new(name, 0, 0)
+    }
+
+    /// Whether this is the key of a strategy parameter or of a `rec` of this name.
+    pub(crate) fn is_plain(&self, name: &[u8]) -> bool
+        ensures { result ≡ same_key self.now (plain_key name.now) }
+    {
+        self.name == name && (self.strategies == 0 && self.terms == 0)
+    }
+}
+
+impl<'a> PartialEq for Key<'a> {
+    ghost use Rattle.scope_check.specs.Seen.{same_key};
+    ghost use Rattle.scope_check.specs.SameKey.{same_key_partial_equiv};
+
+    ghost eq = { same_key };
+
+    ghost laws = { same_key_partial_equiv };
+
+    fn eq(&self, other: &Key<'a>) -> bool {
+        self.name == other.name
+            && (self.strategies == other.strategies && self.terms == other.terms)
+    }
+}
+
+impl<'a> Eq for Key<'a> {
+    ghost use Rattle.scope_check.specs.SameKey.{same_key_equiv};
+
+    ghost laws = { same_key_equiv };
+}
+
+impl<'a> Hash for Key<'a> {
+    ghost use Rattle.scope_check.specs.SameKey.{key_writes, key_writes-same};
+
+    ghost hash_input = { key_writes };
+
+    ghost respects_eq = { key_writes-same };
+
+    fn hash<H: Hasher>(&self, state: &mut H) {
+        self.name.hash(state);
+        self.strategies.hash(state);
+        self.terms.hash(state);
+    }
+}
+
+/// Keys that were noted. A look-up does not walk them.
+#[derive(Drop)]
+pub(crate) struct Keys<'a> {
+    table: IndexSet<Key<'a>>,
+}
+
+// The keys, each once, in the order in which they were noted.
+impl<'a> Model for Keys<'a> {
+    ghost use Rattle.std.specs.Prelude.{List};
+    ghost use Rattle.scope_check.specs.Seen.{Key};
+
+    ghost Value = { List Key };
+
+    ghost view = { λ t. t.table.keys };
+}
+
+impl<'a> Keys<'a> {
+    /// No keys.
+    pub(crate) fn new(alloc: Global) -> Keys<'a>
+        ensures { result ≡ [] }
+    {
+        Keys {
+            table: IndexSet::new(alloc),
+        }
+    }
+
+    /// Notes the key, and returns whether it was not there before. `AllocError` where a growth is refused.
+    pub(crate) fn note(&mut self, key: Key<'a>) -> Result<bool, AllocError>
+        ensures noted { OnOk result ((k : spec.Key) → among self.new k ≡ (among self.old k || same_key k key.entry)) }
+        ensures new { IfOk result (λ new. new ≡ not (among self.old key.entry)) }
+    {
+        Ok(self.table.insert(key)?)
+    }
+
+    /// Whether the key was noted.
+    pub(crate) fn has(&self, key: &Key<'a>) -> bool
+        ensures { result ≡ among self.now key.now }
+    {
+        self.table.contains(&*key)
+    }
+}
