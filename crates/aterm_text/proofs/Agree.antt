@@ -10,7 +10,7 @@ use Rattle.term_model.specs.declared.made.Made.TheVariants as made
 use Rattle.term_model.specs.Limits.{max_depth}
 use Rattle.term_model.specs.Symbol.{Symbol, Plain, begins_name, continues_name}
 use Rattle.term_model.specs.Term.{Tree, node, Trees, end, trees_of, fits, all_fit, made_of}
-use Rattle.term_model.proofs.FitsLaws.{large_part, large_annotation, all_fit-last}
+use Rattle.term_model.proofs.FitsLaws.{large_part, large_annotation, bare_large, all_fit-last}
 use Rattle.term_model.proofs.TermLemmas.{trees_of-list_of}
 use Rattle.aterm_text.specs.Depth.{Opening, Open, begins_term}
 use Rattle.aterm_text.specs.Depth as grammar
@@ -19,7 +19,7 @@ use Rattle.aterm_text.proofs.Machine as m
 use Rattle.aterm_text.specs.declared.place.Bracket.{Bracket}
 use Rattle.aterm_text.specs.declared.place.Bracket.TheVariants.{Applied, Elements, Annotations}
 use Rattle.aterm_text.specs.declared.place.Place.TheVariants.{Expect, Fresh, Name, Sign, Digits, Text, Escape, Octal, Octals, Named, Whole, Done}
-use Rattle.aterm_text.specs.Reading.{item_of, whole_term, closed, Inside, Spot, At, Deep, Wrong, opened, add, closer, digits, first, begin, next, whole, named, quoted, escape, step}
+use Rattle.aterm_text.specs.Reading.{item_of, closed, Inside, Spot, At, Deep, Wrong, opened, add, closer, digits, first, begin, next, whole, named, quoted, escape, step}
 use Rattle.aterm_text.proofs.Slices.{slice_more, slice_none}
 
 -- the term, if it fits
@@ -28,10 +28,6 @@ kept t = item_of (made_of t)
 
 abbrev pub all_kept : List Tree → Option (List Tree)
 all_kept ts = cond (all_fit (trees_of ts)) (Some ts) None
-
--- the term without annotations, if each of its parts fits
-abbrev pub bare : Head → Trees → Option Tree
-bare h ps = cond (all_fit ps) (Some (node h ps end)) None
 
 add_kept : (ts : List Tree) (t : Tree) → add (all_kept ts) (kept t) ≡ all_kept (ts ++ t ∷ [])
 add_kept ts t = go (all_fit (trees_of ts)) (fits t) (all_fit-last ts t)
@@ -44,7 +40,7 @@ add_kept ts t = go (all_fit (trees_of ts)) (fits t) (all_fit-last ts t)
 abbrev pub bracket_of : Opening → Bracket
 bracket_of (grammar.Applied y) = Applied y
 bracket_of grammar.Elements = Elements
-bracket_of (grammar.Annotations h ps) = Annotations (bare h ps)
+bracket_of (grammar.Annotations h ps) = Annotations (kept (node h ps end))
 
 abbrev pub inside_of : Open → Inside
 inside_of o = record { bracket = bracket_of o.opening; earlier = all_kept o.earlier }
@@ -63,7 +59,7 @@ pub data Sim (text : List ℕ) : ℕ → m.State → Spot → Type 0 where
   sim_octal : {at : ℕ} {b : List ℕ} {v : ℕ} {s : List Open} → Sim text at (m.InOctal b v s) (At (Octal b v) (insides s))
   sim_octals : {at : ℕ} {b : List ℕ} {v : ℕ} {s : List Open} → Sim text at (m.InOctals b v s) (At (Octals b v) (insides s))
   sim_named : {at : ℕ} {y : Symbol} {s : List Open} → Sim text at (m.Named y s) (At (Named y) (insides s))
-  sim_whole : {at : ℕ} {h : Head} {ps : Trees} {s : List Open} {u : Option Tree} → u ≡ bare h ps → Sim text at (m.Whole h ps s) (At (Whole u) (insides s))
+  sim_whole : {at : ℕ} {h : Head} {ps : Trees} {s : List Open} {u : Option Tree} → u ≡ kept (node h ps end) → Sim text at (m.Whole h ps s) (At (Whole u) (insides s))
   sim_done : {at : ℕ} {t : Tree} {s : List Open} {u : Option Tree} → u ≡ kept t → Sim text at (m.Done t s) (At (Done u) (insides s))
   sim_deep : {at : ℕ} → Sim text at m.Deep Deep
   sim_wrong : {at : ℕ} → Sim text at m.Wrong Wrong
@@ -84,32 +80,24 @@ closer_same (grammar.Annotations h ps) = refl
 not_kept : (t : Tree) → fits t ≡ false → None ≡ kept t
 not_kept t e = rw e refl
 
--- the term of what is kept up to its annotations
-pub bare_made : (h : Head) (ps : Trees) → whole_term (bare h ps) ≡ kept (node h ps end)
-bare_made h ps = go (all_fit ps) refl
-  where
-    go : (b : Bool) → all_fit ps ≡ b → whole_term (cond b (Some (node h ps end)) None) ≡ kept (node h ps end)
-    go true e = refl
-    go false e = not_kept (node h ps end) (large_part h ps end e)
-
 module _ {text : List ℕ} {at : ℕ} where
   close_sim : (k : Opening) (ts : List Tree) (s : List Open) → Sim text at (m.closed k ts s) (At (closed (bracket_of k) (all_kept ts)) (insides s))
   close_sim (grammar.Applied y) ts s = go (all_fit (trees_of ts)) refl
     where
       go : (b : Bool) → all_fit (trees_of ts) ≡ b → Sim text at (m.Whole (heads.App y) (trees_of ts) s) (At (closed (Applied y) (cond b (Some ts) None)) (insides s))
-      go true e = sim_whole (rw e refl)
-      go false e = sim_whole (rw e refl)
+      go true e = sim_whole refl
+      go false e = sim_whole (not_kept (node (heads.App y) (trees_of ts) end) (large_part (heads.App y) (trees_of ts) end e))
   close_sim grammar.Elements ts s = go (all_fit (trees_of ts)) refl
     where
       go : (b : Bool) → all_fit (trees_of ts) ≡ b → Sim text at (m.Whole heads.List (trees_of ts) s) (At (closed Elements (cond b (Some ts) None)) (insides s))
-      go true e = sim_whole (rw e refl)
-      go false e = sim_whole (rw e refl)
-  close_sim (grammar.Annotations h ps) ts s = go (all_fit (trees_of ts)) (all_fit ps) refl refl
+      go true e = sim_whole refl
+      go false e = sim_whole (not_kept (node heads.List (trees_of ts) end) (large_part heads.List (trees_of ts) end e))
+  close_sim (grammar.Annotations h ps) ts s = go (all_fit (trees_of ts)) (fits (node h ps end)) refl refl
     where
-      go : (b c : Bool) → all_fit (trees_of ts) ≡ b → all_fit ps ≡ c
-          → Sim text at (m.Done (node h ps (trees_of ts)) s) (At (closed (Annotations (cond c (Some (node h ps end)) None)) (cond b (Some ts) None)) (insides s))
+      go : (b c : Bool) → all_fit (trees_of ts) ≡ b → fits (node h ps end) ≡ c
+          → Sim text at (m.Done (node h ps (trees_of ts)) s) (At (closed (Annotations (item_of (cond c (made.Fits (node h ps end)) made.Oversize))) (cond b (Some ts) None)) (insides s))
       go true true e f = sim_done (ap (λ qs. kept (node h qs (trees_of ts))) (trees_of-list_of ps))
-      go true false e f = sim_done (not_kept (node h ps (trees_of ts)) (large_part h ps (trees_of ts) f))
+      go true false e f = sim_done (not_kept (node h ps (trees_of ts)) (bare_large h ps (trees_of ts) f))
       go false c e f = sim_done (not_kept (node h ps (trees_of ts)) (large_annotation h ps (trees_of ts) e))
 
   next_sim : (t : Tree) (u : Option Tree) (s : List Open) (c : ℕ) → u ≡ kept t → Sim text at (m.next t s c) (next u (insides s) c)
@@ -125,17 +113,17 @@ module _ {text : List ℕ} {at : ℕ} where
       added : add (all_kept o.earlier) u ≡ all_kept (o.earlier ++ t ∷ [])
       added = ap (add (all_kept o.earlier)) e ∙ add_kept o.earlier t
 
-  whole_sim : (h : Head) (ps : Trees) (u : Option Tree) (s : List Open) (c : ℕ) → u ≡ bare h ps → Sim text at (m.whole h ps s c) (whole u (insides s) c)
+  whole_sim : (h : Head) (ps : Trees) (u : Option Tree) (s : List Open) (c : ℕ) → u ≡ kept (node h ps end) → Sim text at (m.whole h ps s c) (whole u (insides s) c)
   whole_sim h ps u s c e =
       choose (is_blank c) (is_blank c) refl (λ _. sim_whole e) (λ _.
       choose (c == 123) (c == 123) refl
       (λ _. let R : Option Tree → Type 0 = λ v. Sim text at (m.Fresh (m.opened (grammar.Annotations h ps)) s) (At Fresh (opened (Annotations v) ∷ insides s)) in subst R (sym e) (sim_fresh refl))
-      (λ _. next_sim (node h ps end) (whole_term u) s c (ap whole_term e ∙ bare_made h ps)))
+      (λ _. next_sim (node h ps end) u s c e))
 
   named_sim : (y : Symbol) (s : List Open) (c : ℕ) → Sim text at (m.named y s c) (named y (insides s) c)
   named_sim y s c =
       choose (is_blank c) (is_blank c) refl (λ _. sim_named) (λ _.
-      choose (c == 40) (c == 40) refl (λ _. sim_fresh refl) (λ _. whole_sim (heads.App y) end (Some (node (heads.App y) end end)) s c refl))
+      choose (c == 40) (c == 40) refl (λ _. sim_fresh refl) (λ _. whole_sim (heads.App y) end (kept (node (heads.App y) end end)) s c refl))
 
   digits_sim : (sign : Bool) (v c : ℕ) (s : List Open) → Sim text at (m.digits sign v c s) (digits sign v c (insides s))
   digits_sim sign v c s = choose _ _ refl (λ _. sim_digits) (λ _. sim_wrong)
@@ -193,7 +181,7 @@ step_sim {text} {at} c h e x = go x
         (λ _. sim_name (omega arith) (slice_more text from at le h ∙ rw (is, e) refl))
         (λ _. let R : List ℕ → Type 0 = λ k. Sim text (at + 1) (m.named (Plain n) s c) (named (Plain k) (insides s) c) in subst R (sym is) (named_sim (Plain n) s c))
     go (sim_sign {s = s}) = choose (is_digit c) (is_digit c) refl (λ _. digits_sim true 0 c s) (λ _. sim_wrong)
-    go (sim_digits {sign = sign} {v = v} {s = s}) = choose (is_digit c) (is_digit c) refl (λ _. digits_sim sign v c s) (λ _. whole_sim (heads.Int (signed sign v)) end (Some (node (heads.Int (signed sign v)) end end)) s c refl)
+    go (sim_digits {sign = sign} {v = v} {s = s}) = choose (is_digit c) (is_digit c) refl (λ _. digits_sim sign v c s) (λ _. whole_sim (heads.Int (signed sign v)) end (kept (node (heads.Int (signed sign v)) end end)) s c refl)
     go (sim_text {copied = copied} {from = from} {b = b} {s = s} le is) =
         let R : List ℕ → Type 0 = λ xs. Sim text (at + 1) (m.text b s c) (quoted copied from xs (insides s) c) in subst R (sym is) (quoted_sim copied b from c s le h e is)
     go (sim_escape {b = b} {s = s}) = escape_sim at (unescaped c) b c s

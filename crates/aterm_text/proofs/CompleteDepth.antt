@@ -55,10 +55,10 @@ unfolding after
 read_earlier [] k es s a xs w j =
     let R : List ℕ → Type 0 = λ ys. OrDeep (Unit {0}) (Awaits (open_with k (es ++ []) ∷ s)) (after a ys) in
     let R' : List Tree → Type 0 = λ us. Awaits (open_with k us ∷ s) a in
-    subst R (sym j) (inl (subst R' (sym (nothing_behind es)) w))
+    subst R (sym j) (inl (subst R' (sym (nothing_after es)) w))
   where
-    nothing_behind : (us : List Tree) → us ++ [] ≡ us
-    nothing_behind us = search rules
+    nothing_after : (us : List Tree) → us ++ [] ≡ us
+    nothing_after us = search rules
 read_earlier (t ∷ ts) k es s a xs w j =
     through (Unit {0}) (λ b. Ends b t (open_with k es ∷ s)) (Awaits (open_with k (es ++ t ∷ ts) ∷ s)) xs a j
     (let R : State → Type 0 = OrDeep (Unit {0}) (λ b. Ends b t (open_with k es ∷ s)) in subst R (sym (w j.front (starts_term t j.front j.first))) (weaken (λ b. Ends b t (open_with k es ∷ s)) (λ _. tt) (read_term t j.front (open_with k es ∷ s) j.first)))

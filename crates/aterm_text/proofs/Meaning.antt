@@ -14,14 +14,14 @@ use Rattle.aterm_text.specs.Depth.{Open, TooDeep}
 use Rattle.aterm_text.proofs.Basics.{test}
 use Rattle.aterm_text.specs.declared.place.Place.TheVariants.{Expect, Name, Sign, Digits, Text, Escape, Octal, Octals, Named, Whole, Done}
 use Rattle.aterm_text.specs.declared.place.Place.{Place}
-use Rattle.aterm_text.specs.Reading.{whole_term, ended, Spot, At, Deep, Wrong, run, Outcome, Read, TooDeepText, NoTerm, outcome, outcome_of, Answers}
+use Rattle.aterm_text.specs.Reading.{ended, Spot, At, Deep, Wrong, run, Outcome, Read, TooDeepText, NoTerm, outcome, outcome_of, Answers}
 use Rattle.aterm_text.specs.ReadTerm.{IsReading, Spelled}
 use Rattle.aterm_text.proofs.Machine as m
 use Rattle.aterm_text.proofs.Sound.{read_sound, deep_sound}
 use Rattle.aterm_text.proofs.Endings.{Ends, at_name, at_digits, at_named, at_whole, at_done, OrDeep}
 use Rattle.aterm_text.proofs.Complete.{text_read}
 use Rattle.aterm_text.proofs.CompleteDepth.{too_deep}
-use Rattle.aterm_text.proofs.Agree.{kept, bare_made, insides, Sim, sim_expect, sim_fresh, sim_name, sim_sign, sim_digits, sim_text, sim_escape, sim_octal, sim_octals, sim_named, sim_whole, sim_done, sim_deep, sim_wrong, step_sim, spot_step}
+use Rattle.aterm_text.proofs.Agree.{kept, insides, Sim, sim_expect, sim_fresh, sim_name, sim_sign, sim_digits, sim_text, sim_escape, sim_octal, sim_octals, sim_named, sim_whole, sim_done, sim_deep, sim_wrong, step_sim, spot_step}
 use Rattle.aterm_text.proofs.ReadLemmas.{drop_more, run_wrong, run_deep}
 
 run_step : (text : List ℕ) (at : ℕ) (spot : Spot) (c : ℕ) (cs : List ℕ) → run text at spot (c ∷ cs) ≡ run text (at + 1) (spot_step text at spot c) cs
@@ -80,7 +80,7 @@ outcome_sim text e (sim_escape {b = b} {s = s}) = at_end text (Escape b) s NoTer
 outcome_sim text e (sim_octal {b = b} {v = v} {s = s}) = at_end text (Octal b v) s NoTerm refl ∙ no_term s
 outcome_sim text e (sim_octals {b = b} {v = v} {s = s}) = at_end text (Octals b v) s NoTerm refl ∙ no_term s
 outcome_sim text e (sim_named {y = y} {s = s}) = at_end text (Named y) s (Read (kept (node (heads.App y) end end))) refl
-outcome_sim text e (sim_whole {h = h} {ps = ps} {s = s} {u = u} p) = at_end text (Whole u) s (Read (kept (node h ps end))) (ap Read (ap whole_term p ∙ bare_made h ps))
+outcome_sim text e (sim_whole {h = h} {ps = ps} {s = s} {u = u} p) = at_end text (Whole u) s (Read (kept (node h ps end))) (ap Read p)
 outcome_sim text e (sim_done {t = t} {s = s} {u = u} p) = at_end text (Done u) s (Read (kept t)) (ap Read p)
 outcome_sim text e sim_deep = refl
 outcome_sim text e sim_wrong = refl

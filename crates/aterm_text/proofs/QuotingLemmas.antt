@@ -26,8 +26,8 @@ run_all old new bs from at e f = ap (λ xs. xs ++ items_text (drop at bs)) f ∙
 pub run_and_item : (old mid new bs : List ℕ) (from at : ℕ) → items_text (drop from bs) ≡ slice_range bs from at ++ items_text (drop at bs) → at < length bs
     → mid ≡ old ++ slice_range bs from at → new ≡ mid ++ item_text (slice_index bs at) → new ++ items_text (drop (at + 1) bs) ≡ old ++ items_text (drop from bs)
 run_and_item old mid new bs from at e h f g =
-    let behind : items_text (drop at bs) ≡ item_text (slice_index bs at) ++ items_text (drop (at + 1) bs) = ap items_text (drop_more bs at h) in
-    ap (λ xs. xs ++ items_text (drop (at + 1) bs)) g ∙ append_assoc mid (item_text (slice_index bs at)) (items_text (drop (at + 1) bs)) ∙ ap (λ xs. mid ++ xs) (sym behind)
+    let following : items_text (drop at bs) ≡ item_text (slice_index bs at) ++ items_text (drop (at + 1) bs) = ap items_text (drop_more bs at h) in
+    ap (λ xs. xs ++ items_text (drop (at + 1) bs)) g ∙ append_assoc mid (item_text (slice_index bs at)) (items_text (drop (at + 1) bs)) ∙ ap (λ xs. mid ++ xs) (sym following)
     ∙ run_all old mid bs from at e f
 
 -- no items are left at the end

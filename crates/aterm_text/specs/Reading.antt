@@ -24,17 +24,12 @@ abbrev pub item_of : Made Tree → Option Tree
 item_of (made.Fits t) = Some t
 item_of made.Oversize = None
 
--- the term of what was read up to its annotations, if it has none
-abbrev pub whole_term : Option Tree → Option Tree
-whole_term None = None
-whole_term (Some t) = item_of (made_of t)
-
 -- what is read once the bracket closes after these terms
 abbrev pub closed : Bracket → Option (List Tree) → Place
 closed (Applied y) None = Whole None
-closed (Applied y) (Some ts) = Whole (Some (term (heads.App y) ts []))
+closed (Applied y) (Some ts) = Whole (item_of (made_of (term (heads.App y) ts [])))
 closed Elements None = Whole None
-closed Elements (Some ts) = Whole (Some (term heads.List ts []))
+closed Elements (Some ts) = Whole (item_of (made_of (term heads.List ts [])))
 closed (Annotations _) None = Done None
 closed (Annotations None) (Some ts) = Done None
 closed (Annotations (Some t)) (Some ts) = Done (item_of (made_of (term (head_of t) (parts_of t) ts)))
@@ -99,13 +94,13 @@ next t (o ∷ s) c =
     else Wrong
 
 abbrev pub whole : Option Tree → List Inside → ℕ → Spot
-whole t s c = if is_blank c then At (Whole t) s else if c == 123 then At Fresh (opened (Annotations t) ∷ s) else next (whole_term t) s c
+whole t s c = if is_blank c then At (Whole t) s else if c == 123 then At Fresh (opened (Annotations t) ∷ s) else next t s c
 
 abbrev pub named : Symbol → List Inside → ℕ → Spot
 named y s c =
     if is_blank c then At (Named y) s
     else if c == 40 then At Fresh (opened (Applied y) ∷ s)
-    else whole (Some (term (heads.App y) [] [])) s c
+    else whole (item_of (made_of (term (heads.App y) [] []))) s c
 
 abbrev pub fresh : ℕ → List Inside → ℕ → Spot
 fresh at [] c = Wrong
@@ -191,7 +186,7 @@ abbrev pub ended : List ℕ → Place → Outcome
 ended text (Name from) = Read (item_of (made_of (term (heads.App (Plain (slice_range text from (length text)))) [] [])))
 ended text (Digits sign v) = Read (Some (term (heads.Int (signed sign v)) [] []))
 ended text (Named y) = Read (item_of (made_of (term (heads.App y) [] [])))
-ended text (Whole t) = Read (whole_term t)
+ended text (Whole t) = Read t
 ended text (Done t) = Read t
 ended text _ = NoTerm
 

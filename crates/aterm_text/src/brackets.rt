@@ -1,12 +1,21 @@
 // What follows a symbol and a term: brackets that open and close, and commas.
-ghost use Rattle.std.specs.Prelude.{◌≡◌, List, [], ◌∷◌, IfOk};
-ghost use Rattle.aterm_text.specs.Reading.{closed, terms_in, add, closer as closing, stack_of, Gives, next as next_then, whole as whole_then, named as named_then, At, opened, IsCalm};
+ghost use Rattle.std.specs.Prelude.{◌≡◌, List, [], ◌∷◌, IfOk, OnOk};
+ghost use Rattle.aterm_text.specs.Reading.{item_of, closed, terms_in, add, closer as closing, stack_of, Gives, next as next_then, whole as whole_then, named as named_then, At, opened, IsCalm};
 
-use crate::bare::{Bare, finished};
 use crate::place::{Bracket, Level, Levels, Place};
 use std::alloc::{AllocError, Global};
 use term_model::bytes::is_blank_byte;
-use term_model::{Fault, Sym, Term};
+use term_model::{Fault, Made, Sym, Term};
+
+// The term, if it fits.
+pub(crate) fn item(made: Made<Term>) -> Option<Term>
+    ensures { result ≡ item_of made }
+{
+    match made {
+        Made::Fits(term) => Some(term),
+        Made::Oversize => None,
+    }
+}
 
 // What is read once the bracket closes after these terms.
 pub(crate) fn close(
@@ -24,10 +33,10 @@ pub(crate) fn close(
         };
     };
     match bracket {
-        Bracket::Applied(symbol) => Ok(Place::Whole(Some(Bare::app(symbol, terms)))),
-        Bracket::Elements => Ok(Place::Whole(Some(Bare::list(terms)))),
+        Bracket::Applied(symbol) => Ok(Place::Whole(item(Term::app(alloc, symbol, terms)?))),
+        Bracket::Elements => Ok(Place::Whole(item(Term::list(alloc, terms)?))),
         Bracket::Annotations(None) => Ok(Place::Done(None)),
-        Bracket::Annotations(Some(bare)) => Ok(Place::Done(bare.with_annos(alloc, terms)?)),
+        Bracket::Annotations(Some(term)) => Ok(Place::Done(item(term.annotated(alloc, terms)?))),
     }
 }
 
@@ -41,21 +50,19 @@ pub(crate) fn closer(bracket: &Bracket) -> u8
     }
 }
 
-// These terms and one more, if all of them fit.
+// Puts one more term after these, if all of them fit.
 #[inline(always)]
-pub(crate) fn with_term(
-    earlier: Option<Vec<Term>>,
-    term: Option<Term>,
-) -> Result<Option<Vec<Term>>, AllocError>
-    ensures { IfOk result (λ terms. terms_in terms ≡ add (terms_in earlier) term) }
+fn put(earlier: &mut Option<Vec<Term>>, term: Option<Term>) -> Result<(), AllocError>
+    ensures { OnOk result (terms_in earlier.new ≡ add (terms_in earlier.old) term) }
 {
-    match (earlier, term) {
-        (Some(mut terms), Some(term)) => {
-            terms.push(term)?;
-            Ok(Some(terms))
-        }
-        _ => Ok(None),
+    let Some(term) = term else {
+        *earlier = None;
+        return Ok(());
+    };
+    if let Some(terms) = earlier {
+        terms.push(term)?;
     }
+    Ok(())
 }
 
 // A comma after a term.
@@ -71,7 +78,7 @@ fn comma(term: Option<Term>, levels: &mut Levels, at: u64) -> Result<Place, Faul
     let Some(level) = levels.get_mut(innermost) else {
         return Err(Fault::TermSyntax { at });
     };
-    level.earlier = with_term(level.earlier.take(), term)?;
+    put(&mut level.earlier, term)?;
     Ok(Place::Expect)
 }
 
@@ -94,7 +101,8 @@ pub(crate) fn next(
         return Err(Fault::TermSyntax { at });
     };
     if byte == closer(&bracket) {
-        let terms = with_term(earlier, term)?;
+        let mut terms = earlier;
+        put(&mut terms, term)?;
         return Ok(close(alloc, bracket, terms)?);
     }
     Err(Fault::TermSyntax { at })
@@ -116,21 +124,20 @@ pub(crate) fn open(levels: &mut Levels, bracket: Bracket, alloc: Global) -> Resu
 #[inline(always)]
 pub(crate) fn whole(
     alloc: Global,
-    bare: Option<Bare>,
+    term: Option<Term>,
     levels: &mut Levels,
     byte: u8,
     at: u64,
 ) -> Result<Place, Fault>
-    ensures gives { Gives result (stack_of levels.new.items) (whole_then bare (stack_of levels.old.items) byte) }
+    ensures gives { Gives result (stack_of levels.new.items) (whole_then term (stack_of levels.old.items) byte) }
     ensures calm { IfOk result IsCalm }
 {
     if is_blank_byte(byte) {
-        return Ok(Place::Whole(bare));
+        return Ok(Place::Whole(term));
     }
     if byte == b'{' {
-        return open(levels, Bracket::Annotations(bare), alloc);
+        return open(levels, Bracket::Annotations(term), alloc);
     }
-    let term = finished(alloc, bare)?;
     next(alloc, term, levels, byte, at)
 }
 
@@ -152,6 +159,6 @@ pub(crate) fn named(
     if byte == b'(' {
         return open(levels, Bracket::Applied(symbol), alloc);
     }
-    let bare = Bare::app(symbol, Vec::new(alloc));
-    whole(alloc, Some(bare), levels, byte, at)
+    let term = item(Term::app(alloc, symbol, Vec::new(alloc))?);
+    whole(alloc, term, levels, byte, at)
 }

@@ -1,7 +1,6 @@
 //! The textual format of terms: reading a text, and writing the canonical text of a term.
 #![tactic(auto)]
 
-mod bare;
 mod brackets;
 mod length;
 mod output;

@@ -1,5 +1,4 @@
 // Where the reader is: the open brackets, and what it reads in the innermost one.
-use crate::bare::Bare;
 use crate::quoted::Bytes;
 use smallvec::SmallVec;
 use std::alloc::Global;
@@ -11,7 +10,7 @@ use term_model::{Sym, Term};
 pub(crate) enum Bracket {
     Applied(Sym),
     Elements,
-    Annotations(Option<Bare>),
+    Annotations(Option<Term>),
 }
 
 // An open bracket, with the terms that stand in it already, unless one of them does not fit.
@@ -43,8 +42,8 @@ pub(crate) enum Place {
     Octals { copied: Bytes, value: u8 },
     // A symbol, with blanks after it or the closing quote.
     Named(Sym),
-    // A term whose annotations may follow, unless one of its parts does not fit.
-    Whole(Option<Bare>),
+    // A term whose annotations may follow, if it fits.
+    Whole(Option<Term>),
     // A term with its annotations, if it fits.
     Done(Option<Term>),
 }

@@ -8,8 +8,7 @@ ghost use Rattle.term_model.specs.Symbol.{is_name, Plain};
 ghost use Rattle.term_model.specs.Term.{term};
 ghost use Rattle.term_model.specs.declared.term.Head.TheVariants.{Int};
 
-use crate::bare::{Bare, finished, item};
-use crate::brackets::{close, closer, named, next, open, whole};
+use crate::brackets::{close, closer, item, named, next, open, whole};
 use crate::place::{Bracket, Level, Levels, Place};
 use crate::quoted::{Bytes, escape, octal, octals, within};
 use crate::runs::resume;
@@ -114,12 +113,13 @@ fn number(
     if is_digit_byte(byte) {
         return digits(negative, value, byte, at);
     }
-    let bare = Bare::int(alloc, signed(negative, value));
-    whole(alloc, Some(bare), levels, byte, at)
+    let term = Term::int(alloc, signed(negative, value))?;
+    whole(alloc, Some(term), levels, byte, at)
 }
 
 // Takes the byte at the index.
 #[tactic(auto, using(crate::proofs::Slices::name_goes_on))]
+#[inline(always)]
 fn step(
     alloc: Global,
     text: &[u8],
@@ -151,7 +151,7 @@ fn step(
         Place::Octal { copied, value } => octal(copied, value, byte, at),
         Place::Octals { copied, value } => octals(copied, value, byte, index),
         Place::Named(symbol) => named(alloc, symbol, levels, byte, at),
-        Place::Whole(bare) => whole(alloc, bare, levels, byte, at),
+        Place::Whole(term) => whole(alloc, term, levels, byte, at),
         Place::Done(term) if is_blank_byte(byte) => Ok(Place::Done(term)),
         Place::Done(term) => next(alloc, term, levels, byte, at),
     }
@@ -173,8 +173,7 @@ fn finish(alloc: Global, text: &[u8], place: Place, is_closed: bool) -> Result<T
         }
         Place::Digits { negative, value } => Some(Term::int(alloc, signed(negative, value))?),
         Place::Named(symbol) => item(Term::app(alloc, symbol, Vec::new(alloc))?),
-        Place::Whole(bare) => finished(alloc, bare)?,
-        Place::Done(term) => term,
+        Place::Whole(term) | Place::Done(term) => term,
         Place::Expect
         | Place::Fresh
         | Place::Sign

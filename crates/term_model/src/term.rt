@@ -223,7 +223,7 @@ impl Term {
     pub fn app(alloc: Global, symbol: Sym, parts: Vec<Term>) -> Result<Made<Term>, AllocError>
         ensures { IfOk result (λ made. made ≡ made_of (term (Head.App symbol) parts.items [])) }
     {
-        Term::new(alloc, Head::App(symbol), parts, Vec::new(alloc))
+        make(alloc, Head::App(symbol), parts, None)
     }
 
     /// The list of these elements, with no annotations; `Oversize` exactly where that term does not
@@ -232,7 +232,7 @@ impl Term {
     pub fn list(alloc: Global, elements: Vec<Term>) -> Result<Made<Term>, AllocError>
         ensures { IfOk result (λ made. made ≡ made_of (term Head.List elements.items [])) }
     {
-        Term::new(alloc, Head::List, elements, Vec::new(alloc))
+        make(alloc, Head::List, elements, None)
     }
 
     /// The same term with exactly these annotations in place of its own; `Oversize` exactly where
@@ -245,6 +245,21 @@ impl Term {
         let head = self.node.head.clone()?;
         let parts = Vec::from_clones(alloc, &self.node.parts)?;
         Term::new(alloc, head, parts, annos)
+    }
+
+    /// The term with exactly these annotations in place of its own; `Oversize` exactly where that term
+    /// does not fit. Where this is the only owner of its node, the node is taken apart, and no list of
+    /// its parts is made. `AllocError` where there is no memory for a node and, where the node has other
+    /// owners, for a list of the parts. The annotations are dropped where no term is made.
+    #[tactic(auto, using(crate::proofs::TermLemmas::kept))]
+    pub fn annotated(self, alloc: Global, annos: Vec<Term>) -> Result<Made<Term>, AllocError>
+        ensures { IfOk result (λ made. made ≡ made_of (term (head_of self) (parts_of self) annos.items)) }
+    {
+        let Term { node } = self;
+        match Rc::try_unwrap(node) {
+            Ok(node) => Term::new(alloc, node.head, node.parts, annos),
+            Err(node) => Term { node }.with_annos(alloc, annos),
+        }
     }
 
     /// The same term with these parts in place of its own, of which there are as many; `Oversize`

@@ -195,12 +195,24 @@ fn annotated_terms(rt: HostRuntime) -> Result<(), Fail> {
     let f = applied(alloc, b"f", vec![in alloc; seven.clone()?]?)?;
     let annotated = fitting(f.with_annos(alloc, vec![in alloc; x.clone()?]?)?).ok_or("oversize")?;
     let head = Head::App(Sym::named(alloc, b"f")?);
-    let made = Term::new(alloc, head, vec![in alloc; seven]?, vec![in alloc; x]?)?;
+    let made = Term::new(
+        alloc,
+        head,
+        vec![in alloc; seven.clone()?]?,
+        vec![in alloc; x]?,
+    )?;
     assert_eq!(rt; made, Made::Fits(annotated.clone()?));
     let like = Term::new_like(alloc, Head::Int(8), Vec::new(alloc), &annotated)?;
     let like = fitting(like).ok_or("oversize")?;
     assert!(rt; *like.head() == Head::Int(8));
     assert!(rt; like.annos() == annotated.annos());
+    let shared = f
+        .clone()?
+        .annotated(alloc, vec![in alloc; seven.clone()?]?)?;
+    let owned = f.annotated(alloc, vec![in alloc; seven]?)?;
+    assert_eq!(rt; owned, shared);
+    let owned = fitting(owned).ok_or("oversize")?;
+    assert_eq!(rt; (owned.children().len(), owned.annos().len()), (1, 1));
     Ok(())
 }
 
