@@ -129,7 +129,7 @@ pub failed_to : {M : Meaning} {V : Environment Coordinate ℕ} {s : Strategy Coo
     o ≡ Failed → Evaluates M V s t e b (verdict_of o f) c → Evaluates M V s t e b (ends failed) c
 failed_to {M} {V} {s} {t} {e} {b} f {c} is x = subst (λ z. Evaluates M V s t e b (verdict_of z f) c) is x
 
--- behind a call
+-- following a call
 pub on_ok : {A E : Type 0} (res : Result A E) {P Q : A → Type 0} → ((r : A) → P r → Q r) → IfOk res P → IfOk res Q
 on_ok (Ok r) f h = f r h
 on_ok (Err x) f h = tt

@@ -87,9 +87,9 @@ last_too_large (more t ts) us h = last (fits t) _ (last_too_large ts us h)
     last true b h = h
     last false b h = refl
 
-pub nothing_behind : (us vs : Option Trees) → vs ≡ None → both_terms us vs ≡ None
-nothing_behind None vs is = refl
-nothing_behind (Some ts) vs is = ap (λ o. both_terms (Some ts) o) is
+pub nothing_after : (us vs : Option Trees) → vs ≡ None → both_terms us vs ≡ None
+nothing_after None vs is = refl
+nothing_after (Some ts) vs is = ap (λ o. both_terms (Some ts) o) is
 
 pub nothing_before : (us vs : Option Trees) → us ≡ None → both_terms us vs ≡ None
 nothing_before us vs is = ap (λ o. both_terms o vs) is

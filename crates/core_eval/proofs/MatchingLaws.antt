@@ -82,16 +82,16 @@ module _ (place : Coordinate → Option ℕ) where
   some_left (t ∷ ts) zero e h = refl
   some_left (t ∷ ts) (suc n) e h = some_left ts n e (omega arith)
 
--- the parts behind the first ones weigh no more than all, and are no deeper
-parts_behind : (ts : List Tree) (n : ℕ) → (weights (trees_of (drop n ts)) ≤ weights (trees_of ts)) × (depths (trees_of (drop n ts)) ≤ depths (trees_of ts))
-parts_behind [] zero = (omega arith, omega arith)
-parts_behind [] (suc n) = (omega arith, omega arith)
-parts_behind (t ∷ ts) zero = (omega arith, omega arith)
-parts_behind (t ∷ ts) (suc n) = let less = parts_behind ts n in let light = less.0 in let flat = less.1 in (omega arith, omega arith)
+-- the parts following the first ones weigh no more than all, and are no deeper
+parts_after : (ts : List Tree) (n : ℕ) → (weights (trees_of (drop n ts)) ≤ weights (trees_of ts)) × (depths (trees_of (drop n ts)) ≤ depths (trees_of ts))
+parts_after [] zero = (omega arith, omega arith)
+parts_after [] (suc n) = (omega arith, omega arith)
+parts_after (t ∷ ts) zero = (omega arith, omega arith)
+parts_after (t ∷ ts) (suc n) = let less = parts_after ts n in let light = less.0 in let flat = less.1 in (omega arith, omega arith)
 
-behind_fits : (t : Tree) (n : ℕ) → Fits t → fits (term heads.List (drop n (parts_of t)) []) ≡ true
-behind_fits (node h ts annos) n whole =
-    let less = parts_behind (list_of ts) n in
+after_fits : (t : Tree) (n : ℕ) → Fits t → fits (term heads.List (drop n (parts_of t)) []) ≡ true
+after_fits (node h ts annos) n whole =
+    let less = parts_after (list_of ts) n in
     let light_parts : weights (trees_of (drop n (list_of ts))) ≤ weights ts = subst (λ us. weights (trees_of (drop n (list_of ts))) ≤ weights us) (trees_of-list_of ts) less.0 in
     let flat_parts : depths (trees_of (drop n (list_of ts))) ≤ depths ts = subst (λ us. depths (trees_of (drop n (list_of ts))) ≤ depths us) (trees_of-list_of ts) less.1 in
     let weight_fits = whole.weight in
@@ -113,11 +113,11 @@ drop_length (x ∷ xs) zero = omega arith
 drop_length (x ∷ xs) (suc n) = let less = drop_length xs n in omega arith
 
 -- a slice from a position on
-pub slice_behind : (xs : List Tree) (n : ℕ) → take (length xs - n) (drop n xs) ≡ drop n xs
-slice_behind xs n = take_enough (drop n xs) (length xs - n) (drop_length xs n)
+pub slice_after : (xs : List Tree) (n : ℕ) → take (length xs - n) (drop n xs) ≡ drop n xs
+slice_after xs n = take_enough (drop n xs) (length xs - n) (drop_length xs n)
 
-pub behind_made : (t : Tree) (n : ℕ) (m : Made Tree) → Fits t → m ≡ made_of (term heads.List (drop n (parts_of t)) []) → m ≡ made.Oversize → ⊥
-behind_made t n m whole is large = no_oversize (fits (term heads.List (drop n (parts_of t)) [])) (term heads.List (drop n (parts_of t)) []) (behind_fits t n whole) (sym large ∙ is)
+pub after_made : (t : Tree) (n : ℕ) (m : Made Tree) → Fits t → m ≡ made_of (term heads.List (drop n (parts_of t)) []) → m ≡ made.Oversize → ⊥
+after_made t n m whole is large = no_oversize (fits (term heads.List (drop n (parts_of t)) [])) (term heads.List (drop n (parts_of t)) []) (after_fits t n whole) (sym large ∙ is)
   where
     no_oversize : (b : Bool) (u : Tree) → b ≡ true → made.Oversize ≡ (if b then made.Fits u else made.Oversize) → ⊥
     no_oversize true u h e = cc

@@ -70,7 +70,7 @@ after_stop (u ∷ us) o = ap (λ z. verdict_in_front u z) (after_stop us o) ∙ 
     in_front Oversize = refl
     in_front Spent = refl
 
--- whatever comes of the parts that are left, the whole comes to that behind what is done
+-- whatever comes of the parts that are left, the whole comes to that following what is done
 pub record Decides (K : Known) (whole : List Tree) (e0 : Bindings) (b0 : ℕ) (found : Bool) (left : List Tree) (e : Bindings) (b : ℕ) (done : List Tree) : Type 0 where
   pub less : b ≤ b0
   pub decides : (v : Verdict Trees) (c : ℕ) → K found (trees_of left) e b v c → K false (trees_of whole) e0 b0 (after done v) c

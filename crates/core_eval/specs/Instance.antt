@@ -32,7 +32,7 @@ abbrev pub made_like_other : Option Tree → Option (Bor Tree) → Option Tree
 made_like_other t None = t
 made_like_other t (Some o) = made_like t (Some o.now)
 
--- terms, and others behind them
+-- terms, and others following them
 abbrev pub joined : Trees → Trees → Trees
 joined end us = us
 joined (more t ts) us = more t (joined ts us)

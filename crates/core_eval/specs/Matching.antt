@@ -12,7 +12,7 @@ abbrev pub Found : Option Bindings → Bool → Bindings → Type 0
 Found o true e = o ≡ Some e
 Found o false e = o ≡ None
 
--- the first elements of a list: yes, and whatever rest the pattern has decides on the terms behind them, or no, and with
+-- the first elements of a list: yes, and whatever rest the pattern has decides on the terms following them, or no, and with
 -- no rest the pattern matches
 abbrev pub FirstFound : (Coordinate → Option ℕ) → List (Pattern Coordinate) → Trees → Bindings → Bool → Trees → Bindings → Type 0 → Type 0
 FirstFound place ps ts e true us f enough = ((rest : Option (Pattern Coordinate)) → tried_elements place (elements_in ps rest) ts e ≡ tried_elements place (elements_in [] rest) us f) × enough

@@ -122,7 +122,7 @@ fn rest_matches(
             Ok(true)
         }
         Some(p) => {
-            let others = list_behind(alloc, t, from)?;
+            let others = list_after(alloc, t, from)?;
             let yes = matches(alloc, p, frame, &others, places)?;
             Ok(yes)
         }
@@ -130,7 +130,7 @@ fn rest_matches(
 }
 
 // Returns the parts of the term after this number of first ones, as a list.
-fn list_behind(alloc: Global, t: &Term, from: usize) -> Result<Term, AllocError>
+fn list_after(alloc: Global, t: &Term, from: usize) -> Result<Term, AllocError>
     requires { from ≤ length (parts_of t.now) }
     ensures { IfOk result (λ list. list ≡ term Head.List (drop from (parts_of t.now)) []) }
 {

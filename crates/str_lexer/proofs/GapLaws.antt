@@ -67,14 +67,14 @@ no_gap bs e g rest b = let k = gap_head g bs rest b in cc
 slash_blank : (b : ℕ) → b ≡ 47 → is_blank b ≡ true → ⊥
 slash_blank b e f = let g : is_blank 47 ≡ true = ap is_blank (sym e) ∙ f in cc
 
-pub no_gap_of : (bs behind : List ℕ) → bs ≡ 47 ∷ behind → (first_is (λ c. c == 47) behind ≡ false) → ((inner other : List ℕ) → behind ≡ 42 ∷ inner → Closes inner other → ⊥) → (g : Gap) (rest : List ℕ) → BeginsGap g bs rest → ⊥
-no_gap_of bs behind e f n (blank b) rest g = slash_blank b (heads b 47 _ _ (sym g.bytes ∙ e)) g.is_gap
-no_gap_of bs behind e f n (line inner) rest g =
-    let h : behind ≡ 47 ∷ (inner ++ rest) = tails 47 47 _ _ (sym e ∙ g.bytes) in
+pub no_gap_of : (bs following : List ℕ) → bs ≡ 47 ∷ following → (first_is (λ c. c == 47) following ≡ false) → ((inner other : List ℕ) → following ≡ 42 ∷ inner → Closes inner other → ⊥) → (g : Gap) (rest : List ℕ) → BeginsGap g bs rest → ⊥
+no_gap_of bs following e f n (blank b) rest g = slash_blank b (heads b 47 _ _ (sym g.bytes ∙ e)) g.is_gap
+no_gap_of bs following e f n (line inner) rest g =
+    let h : following ≡ 47 ∷ (inner ++ rest) = tails 47 47 _ _ (sym e ∙ g.bytes) in
     let k : first_is (λ c. c == 47) (47 ∷ (inner ++ rest)) ≡ false = rw h at f in
     cc
-no_gap_of bs behind e f n (comment inner) rest g =
-    let h : behind ≡ 42 ∷ ((inner ++ (42 ∷ 47 ∷ [])) ++ rest) = tails 47 47 _ _ (sym e ∙ g.bytes) in
+no_gap_of bs following e f n (comment inner) rest g =
+    let h : following ≡ 42 ∷ ((inner ++ (42 ∷ 47 ∷ [])) ++ rest) = tails 47 47 _ _ (sym e ∙ g.bytes) in
     n (inner ++ (42 ∷ 47 ∷ rest)) rest (h ∙ ap (λ x. 42 ∷ x) (append_assoc inner (42 ∷ 47 ∷ []) rest)) (record { inner = inner; bytes = refl; run = g.is_gap })
 
 -- the bytes begin with one gap alone

@@ -27,35 +27,35 @@ no_token_in t bs rest e b = let h = ap length e in absurd (omega (arith, token_s
 -- ---- a gap before the tokens
 
 more_gap : (size : ℕ) (g : Gap) (bs rest : List ℕ) (ts : List Token) → BeginsGap g bs rest → LexesEnd size rest ts → LexesEnd size bs ts
-more_gap size g bs rest [] b l = record { gaps = g ∷ l.gaps; are_gaps = record { rest = rest; begins = b; behind = l.are_gaps } }
+more_gap size g bs rest [] b l = record { gaps = g ∷ l.gaps; are_gaps = record { rest = rest; begins = b; following = l.are_gaps } }
 more_gap size g bs rest (t ∷ ts) b l = record {
   gaps = g ∷ l.gaps;
   written = l.written;
   rest = l.rest;
-  are_gaps = record { rest = rest; begins = b; behind = l.are_gaps };
+  are_gaps = record { rest = rest; begins = b; following = l.are_gaps };
   is_token = l.is_token;
   from = l.from;
   to = l.to;
-  behind = l.behind;
+  following = l.following;
 }
 
-gaps_behind : (g : Gap) (bs rest : List ℕ) (gaps : List Gap) → BeginsGap g bs rest → Gaps gaps [] bs → OnlyGaps rest
-gaps_behind g bs rest [] b a = absurd (no_gap_in g bs rest a b)
-gaps_behind g bs rest (h ∷ gaps) b a = record { gaps = gaps; are_gaps = subst (Gaps gaps []) (gap_once g h bs rest a.rest b a.begins) a.behind }
+gaps_after : (g : Gap) (bs rest : List ℕ) (gaps : List Gap) → BeginsGap g bs rest → Gaps gaps [] bs → OnlyGaps rest
+gaps_after g bs rest [] b a = absurd (no_gap_in g bs rest a b)
+gaps_after g bs rest (h ∷ gaps) b a = record { gaps = gaps; are_gaps = subst (Gaps gaps []) (gap_once g h bs rest a.rest b a.begins) a.following }
 
 -- the gaps after the first, before these bytes
 record GapsBehind (end rest : List ℕ) : Type 0 where
   pub gaps : List Gap
   pub are_gaps : Gaps gaps end rest
 
-token_behind : (g : Gap) (bs rest : List ℕ) (t : TokenKind) (written other : List ℕ) (gaps : List Gap) → BeginsGap g bs rest → IsToken t written other → Gaps gaps (written ++ other) bs → GapsBehind (written ++ other) rest
-token_behind g bs rest t written other [] b i a = absurd (gap_or_token g t bs rest other b (record { written = written; bytes = a; is_token = i }))
-token_behind g bs rest t written other (h ∷ gaps) b i a = record { gaps = gaps; are_gaps = subst (Gaps gaps (written ++ other)) (gap_once g h bs rest a.rest b a.begins) a.behind }
+token_after : (g : Gap) (bs rest : List ℕ) (t : TokenKind) (written other : List ℕ) (gaps : List Gap) → BeginsGap g bs rest → IsToken t written other → Gaps gaps (written ++ other) bs → GapsBehind (written ++ other) rest
+token_after g bs rest t written other [] b i a = absurd (gap_or_token g t bs rest other b (record { written = written; bytes = a; is_token = i }))
+token_after g bs rest t written other (h ∷ gaps) b i a = record { gaps = gaps; are_gaps = subst (Gaps gaps (written ++ other)) (gap_once g h bs rest a.rest b a.begins) a.following }
 
 less_gap : (size : ℕ) (g : Gap) (bs rest : List ℕ) (ts : List Token) → BeginsGap g bs rest → LexesEnd size bs ts → LexesEnd size rest ts
-less_gap size g bs rest [] b l = gaps_behind g bs rest l.gaps b l.are_gaps
+less_gap size g bs rest [] b l = gaps_after g bs rest l.gaps b l.are_gaps
 less_gap size g bs rest (t ∷ ts) b l =
-    let k = token_behind g bs rest t.kind l.written l.rest l.gaps b l.is_token l.are_gaps in
+    let k = token_after g bs rest t.kind l.written l.rest l.gaps b l.is_token l.are_gaps in
     record {
       gaps = k.gaps;
       written = l.written;
@@ -64,7 +64,7 @@ less_gap size g bs rest (t ∷ ts) b l =
       is_token = l.is_token;
       from = l.from;
       to = l.to;
-      behind = l.behind;
+      following = l.following;
     }
 
 -- ---- a token at the front
@@ -84,7 +84,7 @@ more_token size t bs rest ts b l = record {
   is_token = b.begins.is_token;
   from = rw (ap length b.begins.bytes) at b.from;
   to = b.to;
-  behind = l;
+  following = l;
 }
 
 no_gaps : (t : TokenKind) (bs rest : List ℕ) (gaps : List Gap) → BeginsToken t bs rest → Gaps gaps [] bs → ⊥
@@ -115,7 +115,7 @@ ahead_more size done t bs rest ts (u ∷ us) b d l =
     record {
       ahead = us;
       is = d ∙ ap (λ x. done ++ x ∷ us) (same_token t u o.0 f g) ∙ sym (append_assoc done (t ∷ []) us);
-      lexes = subst (λ x. LexesEnd size x us) o.1 l.behind;
+      lexes = subst (λ x. LexesEnd size x us) o.1 l.following;
     }
 
 -- ---- some of the tokens, and what remains of the bytes
@@ -133,22 +133,22 @@ lex_begins text = record {
   within = omega arith;
 }
 
-pub lex_gap : (text : List ℕ) (done : List Token) (rest behind : List ℕ) (g : Gap) → Partly text done rest → BeginsGap g rest behind → Partly text done behind
-lex_gap text done rest behind g p b = record {
-  joins = λ ts l. p.joins ts (more_gap (length text) g rest behind ts b l);
+pub lex_gap : (text : List ℕ) (done : List Token) (rest following : List ℕ) (g : Gap) → Partly text done rest → BeginsGap g rest following → Partly text done following
+lex_gap text done rest following g p b = record {
+  joins = λ ts l. p.joins ts (more_gap (length text) g rest following ts b l);
   splits = λ ts l.
       let a = p.splits ts l in
-      record { ahead = a.ahead; is = a.is; lexes = less_gap (length text) g rest behind a.ahead b a.lexes };
-  within = omega (arith, p.within, gap_shorter g rest behind b);
+      record { ahead = a.ahead; is = a.is; lexes = less_gap (length text) g rest following a.ahead b a.lexes };
+  within = omega (arith, p.within, gap_shorter g rest following b);
 }
 
-pub lex_token : (text : List ℕ) (done : List Token) (rest behind : List ℕ) (t : Token) → Partly text done rest → Spans (length text) t rest behind → Partly text (done ++ t ∷ []) behind
-lex_token text done rest behind t p b = record {
-  joins = λ ts l. rw (append_assoc done (t ∷ []) ts) (p.joins (t ∷ ts) (more_token (length text) t rest behind ts b l));
+pub lex_token : (text : List ℕ) (done : List Token) (rest following : List ℕ) (t : Token) → Partly text done rest → Spans (length text) t rest following → Partly text (done ++ t ∷ []) following
+lex_token text done rest following t p b = record {
+  joins = λ ts l. rw (append_assoc done (t ∷ []) ts) (p.joins (t ∷ ts) (more_token (length text) t rest following ts b l));
   splits = λ ts l.
       let a = p.splits ts l in
-      ahead_more (length text) done t rest behind ts a.ahead b a.is a.lexes;
-  within = omega (arith, p.within, token_shorter t.kind rest behind b.begins);
+      ahead_more (length text) done t rest following ts a.ahead b a.is a.lexes;
+  within = omega (arith, p.within, token_shorter t.kind rest following b.begins);
 }
 
 nothing_front : (bs : List ℕ) (gaps : List Gap) → (bs ≡ [] → ⊥) → ((g : Gap) (other : List ℕ) → BeginsGap g bs other → ⊥) → Gaps gaps [] bs → ⊥

@@ -124,11 +124,11 @@ pub record ReadItems (text done rest : List ℕ) : Type 0 where
 pub read_none : (text : List ℕ) → ReadItems text [] text
 read_none text = record { written = []; items = refl; bytes = refl }
 
-pub read_more : (text done rest behind : List ℕ) (byte : ℕ) → ReadItems text done rest → FoundItem byte rest behind → ReadItems text (done ++ byte ∷ []) behind
-read_more text done rest behind byte r f = record {
+pub read_more : (text done rest following : List ℕ) (byte : ℕ) → ReadItems text done rest → FoundItem byte rest following → ReadItems text (done ++ byte ∷ []) following
+read_more text done rest following byte r f = record {
   written = r.written ++ f.written;
   items = items_more done byte r.written f.written r.items f.item;
-  bytes = r.bytes ∙ ap (λ x. r.written ++ x) f.bytes ∙ sym (append_assoc r.written f.written behind);
+  bytes = r.bytes ∙ ap (λ x. r.written ++ x) f.bytes ∙ sym (append_assoc r.written f.written following);
 }
 
 first_item : (b : ℕ) (text ys s r : List ℕ) (j : Joined (Item b) (AreItems text) ys) → r ≡ ys ++ s → FoundItem b r (j.back ++ s)
@@ -192,9 +192,9 @@ pub escape_read : (b : ℕ) (bs rest : List ℕ) (read : Option (ℕ × Bor (Lis
 escape_read b bs rest None e f o = no_item_escape b bs rest e f o
 escape_read b bs rest (Some (byte, other)) e f o = o
 
-pub behind_first : (b : ℕ) (bs : List ℕ) → first_is (λ c. c == b) bs ≡ true → bs ≡ b ∷ drop 1 bs
-behind_first b [] e = cc
-behind_first b (c ∷ bs) e = ap (λ x. x ∷ bs) ((unsigned_Decides c b).0 e)
+pub after_first : (b : ℕ) (bs : List ℕ) → first_is (λ c. c == b) bs ≡ true → bs ≡ b ∷ drop 1 bs
+after_first b [] e = cc
+after_first b (c ∷ bs) e = ap (λ x. x ∷ bs) ((unsigned_Decides c b).0 e)
 
 pub not_first : (b c : ℕ) (bs rest : List ℕ) → bs ≡ c ∷ rest → (c ≡ b → ⊥) → first_is (λ x. x == b) bs ≡ false
 not_first b c bs rest e n = rw e (go (c == b) refl)

@@ -15,7 +15,7 @@ record Skipped (end bs : List ℕ) : Type 0 where
 skip : (gaps : List Gap) (end bs : List ℕ) → Gaps gaps end bs → Skipped end bs
 skip [] end bs a = record { skipped = []; bytes = a }
 skip (g ∷ gaps) end bs a =
-    let k = skip gaps end a.rest a.behind in
+    let k = skip gaps end a.rest a.following in
     record { skipped = gap_bytes g ++ k.skipped; bytes = a.begins.bytes ∙ ap (λ x. gap_bytes g ++ x) k.bytes ∙ sym (append_assoc (gap_bytes g) k.skipped end) }
 
 drop_seam : (text p q : List ℕ) (n : ℕ) → text ≡ p ++ q → n + length q ≡ length text → drop n text ≡ q
@@ -50,7 +50,7 @@ slices_from text front bs (t ∷ ts) e l =
     let from = l.from in
     let to = l.to in
     let j : length (p ++ l.written) ≡ t.to = omega arith in
-    (omega arith, one_slice text p l.written l.rest t f l.is_token l.from l.to, subst (λ i. AreSlices text i ts) j (slices_from text (p ++ l.written) l.rest ts g l.behind))
+    (omega arith, one_slice text p l.written l.rest t f l.is_token l.from l.to, subst (λ i. AreSlices text i ts) j (slices_from text (p ++ l.written) l.rest ts g l.following))
 
 pub slices_of : (text : List ℕ) (ts : List Token) → Lexes text ts → AreSlices text 0 ts
 slices_of text ts l = slices_from text [] text ts refl l

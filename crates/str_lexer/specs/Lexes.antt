@@ -36,7 +36,7 @@ pub record BeginsGap (g : Gap) (bs rest : List ℕ) : Type 0 where
 pub record GapThen (g : Gap) (Behind : List ℕ → Type 0) (bs : List ℕ) : Type 0 where
   pub rest : List ℕ
   pub begins : BeginsGap g bs rest
-  pub behind : Behind rest
+  pub following : Behind rest
 
 -- the bytes are these gaps, and then the rest
 abbrev pub Gaps : List Gap → List ℕ → List ℕ → Type 0
@@ -57,7 +57,7 @@ pub record Begins (size : ℕ) (token : Token) (Behind : List ℕ → Type 0) (b
   pub is_token : IsToken token.kind written rest
   pub from : token.from + length (written ++ rest) ≡ size
   pub to : token.to + length rest ≡ size
-  pub behind : Behind rest
+  pub following : Behind rest
 
 -- the end of a text of this size is these tokens, with gaps around them
 abbrev pub LexesEnd : ℕ → List ℕ → List Token → Type 0

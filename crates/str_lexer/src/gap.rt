@@ -1,7 +1,7 @@
 // What stands between tokens.
 ghost use Rattle.str_lexer.specs.Readings.{IsGapRead};
 
-use crate::runs::{behind_comment, line_length};
+use crate::runs::{after_comment, line_length};
 use term_model::bytes::is_blank_byte;
 
 // The bytes after the blank or the comment that the bytes begin with.
@@ -22,5 +22,5 @@ pub(crate) fn gap<'a>(text: &'a [u8]) -> Option<&'a [u8]>
     if *second != b'*' {
         return None;
     }
-    behind_comment(inner)
+    after_comment(inner)
 }

@@ -86,19 +86,19 @@ fn cut(alloc: Global, text: &[u8]) -> Result<(Vec<Token>, Option<usize>), Fault>
     let mut left_out = None;
     let mut rest = text;
     while !rest.is_empty() {
-        if let Some(behind) = gap(rest) {
-            rest = behind;
+        if let Some(following) = gap(rest) {
+            rest = following;
             continue;
         }
         let from = text.len() - rest.len();
-        let Some((kind, behind)) = token(alloc, rest)? else {
+        let Some((kind, following)) = token(alloc, rest)? else {
             return Err(Fault::Lexical { at: from as u64 });
         };
-        let to = text.len() - behind.len();
+        let to = text.len() - following.len();
         let token = Token { kind, from, to };
         left_out = first_left_out(left_out, &token);
         tokens.push(token)?;
-        rest = behind;
+        rest = following;
     }
     Ok((tokens, left_out))
 }

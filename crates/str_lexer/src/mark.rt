@@ -5,7 +5,7 @@ ghost use Rattle.str_lexer.specs.Readings.{begins_longer, IsMarkRead, IsByteRead
 use crate::token::Mark;
 
 // The bytes after this one, if they begin with it.
-pub(crate) fn behind_byte<'a>(byte: u8, text: &'a [u8]) -> Option<&'a [u8]>
+pub(crate) fn after_byte<'a>(byte: u8, text: &'a [u8]) -> Option<&'a [u8]>
     ensures { IsByteRead byte text.now result }
 {
     let (first, others) = text.split_first()?;
@@ -48,19 +48,19 @@ pub(crate) fn mark<'a>(text: &'a [u8]) -> Option<(Mark, &'a [u8])>
 {
     let (first, others) = text.split_first()?;
     if *first == b'=' {
-        let Some(behind) = behind_byte(b'>', others) else {
+        let Some(following) = after_byte(b'>', others) else {
             return Some((Mark::Equals, others));
         };
-        return Some((Mark::DoubleArrow, behind));
+        return Some((Mark::DoubleArrow, following));
     }
     if *first == b'<' {
-        let Some(behind) = behind_byte(b'+', others) else {
+        let Some(following) = after_byte(b'+', others) else {
             return Some((Mark::Less, others));
         };
-        return Some((Mark::LeftChoice, behind));
+        return Some((Mark::LeftChoice, following));
     }
     if *first == b'-' {
-        return Some((Mark::Arrow, behind_byte(b'>', others)?));
+        return Some((Mark::Arrow, after_byte(b'>', others)?));
     }
     Some((short_mark(*first)?, others))
 }

@@ -59,9 +59,9 @@ pub(crate) fn quoted<'a>(
 {
     let mut bytes = Vec::new(alloc);
     let mut rest = &text[1..];
-    while let Some((byte, behind)) = item(rest) {
+    while let Some((byte, following)) = item(rest) {
         bytes.push(byte)?;
-        rest = behind;
+        rest = following;
     }
     let Some((first, others)) = rest.split_first() else {
         return Ok(None);

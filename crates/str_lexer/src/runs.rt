@@ -5,7 +5,7 @@ ghost use Rattle.term_model.specs.Symbol.{begins_name};
 ghost use Rattle.str_lexer.specs.Tokens.{continues_word, first_is, goes_on as word_goes_on, stays_on_line};
 ghost use Rattle.str_lexer.specs.Readings.{run_length, IsCloseAt, IsCloseRead};
 
-use crate::mark::behind_byte;
+use crate::mark::after_byte;
 use term_model::bytes::is_digit_byte;
 use term_model::symbol::begins;
 
@@ -83,21 +83,21 @@ pub(crate) fn line_length(text: &[u8]) -> usize
 }
 
 // The bytes after `*/`, if they begin with it.
-fn behind_close<'a>(text: &'a [u8]) -> Option<&'a [u8]>
+fn after_close<'a>(text: &'a [u8]) -> Option<&'a [u8]>
     ensures { IsCloseAt text.now result }
 {
-    behind_byte(b'/', behind_byte(b'*', text)?)
+    after_byte(b'/', after_byte(b'*', text)?)
 }
 
 // The bytes after the first `*/`, if there is one.
-pub(crate) fn behind_comment<'a>(text: &'a [u8]) -> Option<&'a [u8]>
+pub(crate) fn after_comment<'a>(text: &'a [u8]) -> Option<&'a [u8]>
     ensures { IsCloseRead text.now result }
 {
     for index in 0..text.len() {
-        let Some(behind) = behind_close(&text[index..]) else {
+        let Some(following) = after_close(&text[index..]) else {
             continue;
         };
-        return Some(behind);
+        return Some(following);
     }
     None
 }

@@ -9,7 +9,7 @@ use Rattle.str_syntax.specs.Views.{pattern_of, strategies_of}
 use Rattle.str_parser.specs.Lexemes.{Lexeme, name, mark}
 use Rattle.str_parser.specs.Items.{Item, Way, either, Runs}
 use Rattle.str_parser.specs.Readings.{Run, Leads, NotAt, strength}
-use Rattle.str_parser.specs.Begun.{patterns_then, patterns_with, Written, goes_arguments, goes_to_terms, goes_terms, GoesBehindBar, goes_behind_bar, Continues, at_strategy, at_pattern}
+use Rattle.str_parser.specs.Begun.{patterns_then, patterns_with, Written, goes_arguments, goes_to_terms, goes_terms, GoesBehindBar, goes_after_bar, Continues, at_strategy, at_pattern}
 use Rattle.str_parser.specs.declared.begun.BeforeStrategy.TheVariants as B
 use Rattle.str_parser.specs.declared.begun.BeforePattern.TheVariants as P
 use Rattle.str_parser.specs.declared.begun.Begun.TheVariants as states
@@ -51,14 +51,14 @@ module _ (k : ℕ) where
       none = ap strategies_of e
 
       sound : Sound k (GoesBehindBar f v k) (name f) (mark M.OpenParenthesis ∷ mark M.Bar ∷ rest) rest
-      sound way u is left (goes_behind_bar ps g) r = rw (g ∙ ap (λ ss. call f (all_arguments ss ps)) none) (refl, (refl, (refl, r)))
+      sound way u is left (goes_after_bar ps g) r = rw (g ∙ ap (λ ss. call f (all_arguments ss ps)) none) (refl, (refl, (refl, r)))
 
       all : Complete k (GoesBehindBar f v k) (name f) (mark M.OpenParenthesis ∷ mark M.Bar ∷ rest) rest
       all u is h led_call r = absurd (no_parenthesis is _ h r.1)
       all u is h (led_call_with {ss = no_strategies}) r = let e = r.1.1.0 in cc
       all u is h (led_call_with {ss = more_strategies s ss}) r = let e = inner_strategy_begins _ s _ _ _ r.1.1 in cc
       all u is h (led_call_with_terms {ss = no_strategies} {ps = ps}) r =
-          record { left = _; goes = goes_behind_bar ps (sym (ap (λ ss. call f (all_arguments ss ps)) none)); runs = r.1.1.1 }
+          record { left = _; goes = goes_after_bar ps (sym (ap (λ ss. call f (all_arguments ss ps)) none)); runs = r.1.1.1 }
       all u is h (led_call_with_terms {ss = more_strategies s ss}) r = let e = inner_strategy_begins _ s _ _ _ r.1.1 in cc
 
   pub arguments_lead : (f : Bytes) (v : Vec Strategy Global) (rest : List Lexeme) → v.items ≡ [] →
@@ -84,15 +84,15 @@ module _ (k : ℕ) where
 module _ (k : ℕ) (f : Bytes) (ss : Vec Strategy Global) (rest : List Lexeme) where
   pub no_terms_end : EndsWith (GoesBehindBar f ss k) (call f (all_arguments (strategies_of ss.items) no_patterns)) (mark M.CloseParenthesis ∷ rest) rest
   no_terms_end = record {
-    sound = λ way is r. record { left = _; goes = goes_behind_bar no_patterns refl; runs = (refl, r) };
+    sound = λ way is r. record { left = _; goes = goes_after_bar no_patterns refl; runs = (refl, r) };
     all = λ u is h r. all u is r.left r.goes r.runs;
     no_longer = omega arith;
   }
     where
       all : (u : PrimaryTree) (is left : List Item) → GoesBehindBar f ss k u is left → Runs either left (mark M.CloseParenthesis ∷ rest) →
           (u ≡ call f (all_arguments (strategies_of ss.items) no_patterns)) × Runs either is rest
-      all u is left (goes_behind_bar no_patterns e) r = (e, r.1)
-      all u is left (goes_behind_bar (more_patterns p ps) e) r = let e = inner_build_begins _ p _ _ _ r in cc
+      all u is left (goes_after_bar no_patterns e) r = (e, r.1)
+      all u is left (goes_after_bar (more_patterns p ps) e) r = let e = inner_build_begins _ p _ _ _ r in cc
 
   pub terms_lead : (v : Vec Pattern Global) → v.items ≡ [] → NotAt (mark M.CloseParenthesis) rest →
       Leads (GoesBehindBar f ss k) (Continues k (states.ToPattern (P.Terms f ss v) rest)) rest rest
@@ -108,10 +108,10 @@ module _ (k : ℕ) (f : Bytes) (ss : Vec Strategy Global) (rest : List Lexeme) w
       sound : (way : Way) (u : PrimaryTree) (is left : List Item) → Continues k (states.ToPattern (P.Terms f ss v) rest) u is left → Runs way left rest →
           Run (GoesBehindBar f ss k) way u is rest
       sound way u is left (at_pattern p (goes_terms ps g)) r =
-          record { left = _; goes = goes_behind_bar (more_patterns p ps) (g ∙ ap (λ qs. call f (all_arguments (strategies_of ss.items) qs)) (first p ps)); runs = r }
+          record { left = _; goes = goes_after_bar (more_patterns p ps) (g ∙ ap (λ qs. call f (all_arguments (strategies_of ss.items) qs)) (first p ps)); runs = r }
 
       all : (u : PrimaryTree) (is left : List Item) → GoesBehindBar f ss k u is left → Runs either left rest →
           Run (Continues k (states.ToPattern (P.Terms f ss v) rest)) either u is rest
-      all u is left (goes_behind_bar no_patterns g) r = absurd (not_at either _ _ _ n r)
-      all u is left (goes_behind_bar (more_patterns p ps) g) r =
+      all u is left (goes_after_bar no_patterns g) r = absurd (not_at either _ _ _ n r)
+      all u is left (goes_after_bar (more_patterns p ps) g) r =
           record { left = _; goes = at_pattern p (goes_terms ps (g ∙ sym (ap (λ qs. call f (all_arguments (strategies_of ss.items) qs)) (first p ps)))); runs = r }

@@ -60,40 +60,40 @@ found_plain k ts rest q f c l = record {
 -- ---- <+ after it
 
 -- a strategy that runs along the tokens is a left choice with this sequence, and goes on with the strategy on its right
-record ToRight (k : ℕ) (behind : List Lexeme) (q : SequenceTree) (u : StrategyTree) (is : List Item) : Type 0 where
+record ToRight (k : ℕ) (following : List Lexeme) (q : SequenceTree) (u : StrategyTree) (is : List Item) : Type 0 where
   right : StrategyTree
   is_choice : u ≡ left_choice q right
-  runs : Runs either (inner_strategy (k + 1) right is) behind
+  runs : Runs either (inner_strategy (k + 1) right is) following
 
-to_right : (k : ℕ) (ts behind : List Lexeme) (q : SequenceTree) → Found (inner_sequence k) (AtMost 1) ts q (mark M.LeftChoice ∷ behind) →
-    (u : StrategyTree) (is : List Item) → AtMost 0 is → Runs either (inner_strategy k u is) ts → ToRight k behind q u is
-to_right k ts behind q f (plain_sequence p) is h r = absurd (no_operator is (mark M.LeftChoice) behind h (omega arith) (f.only_one p is (omega (arith, h)) r).1)
-to_right k ts behind q f (left_choice p s) is h r =
+to_right : (k : ℕ) (ts following : List Lexeme) (q : SequenceTree) → Found (inner_sequence k) (AtMost 1) ts q (mark M.LeftChoice ∷ following) →
+    (u : StrategyTree) (is : List Item) → AtMost 0 is → Runs either (inner_strategy k u is) ts → ToRight k following q u is
+to_right k ts following q f (plain_sequence p) is h r = absurd (no_operator is (mark M.LeftChoice) following h (omega arith) (f.only_one p is (omega (arith, h)) r).1)
+to_right k ts following q f (left_choice p s) is h r =
     let e = f.only_one p (sign M.LeftChoice ∷ inner_strategy (k + 1) s is) (omega arith) r in
     record { right = s; is_choice = ap (λ x. left_choice x s) e.0; runs = e.1.1 }
-to_right k ts behind q f (guarded_choice p s t) is h r =
+to_right k ts following q f (guarded_choice p s t) is h r =
     let e = f.only_one p (sign M.Less ∷ inner_strategy (k + 1) s (sign M.Plus ∷ inner_strategy (k + 1) t is)) (omega arith) r in
     let m = e.1.0 in cc
 
-pub missing_right : (k : ℕ) (ts behind : List Lexeme) (q : SequenceTree) → Found (inner_sequence k) (AtMost 1) ts q (mark M.LeftChoice ∷ behind) →
-    Missing (inner_strategy (k + 1)) (AtMost 0) behind → Missing (inner_strategy k) (AtMost 0) ts
-missing_right k ts behind q f n = record {
-  none = λ u is h r. let t = to_right k ts behind q f u is h r in n.none t.right is h t.runs;
+pub missing_right : (k : ℕ) (ts following : List Lexeme) (q : SequenceTree) → Found (inner_sequence k) (AtMost 1) ts q (mark M.LeftChoice ∷ following) →
+    Missing (inner_strategy (k + 1)) (AtMost 0) following → Missing (inner_strategy k) (AtMost 0) ts
+missing_right k ts following q f n = record {
+  none = λ u is h r. let t = to_right k ts following q f u is h r in n.none t.right is h t.runs;
 }
 
-pub nested_right : (k : ℕ) (ts behind : List Lexeme) (q : SequenceTree) → Found (inner_sequence k) (AtMost 1) ts q (mark M.LeftChoice ∷ behind) →
-    Nested (inner_strategy (k + 1)) behind → Nested (inner_strategy k) ts
-nested_right k ts behind q f n = record {
+pub nested_right : (k : ℕ) (ts following : List Lexeme) (q : SequenceTree) → Found (inner_sequence k) (AtMost 1) ts q (mark M.LeftChoice ∷ following) →
+    Nested (inner_strategy (k + 1)) following → Nested (inner_strategy k) ts
+nested_right k ts following q f n = record {
   tree = left_choice q n.tree;
   runs = λ is. f.sound too_deep (sign M.LeftChoice ∷ inner_strategy (k + 1) n.tree is) (refl, n.runs is);
 }
 
-pub found_choice : (k : ℕ) (ts behind rest : List Lexeme) (q : SequenceTree) (s : StrategyTree) → Found (inner_sequence k) (AtMost 1) ts q (mark M.LeftChoice ∷ behind) →
-    Found (inner_strategy (k + 1)) (AtMost 0) behind s rest → Found (inner_strategy k) (AtMost 0) ts (left_choice q s) rest
-found_choice k ts behind rest q s f g = record {
+pub found_choice : (k : ℕ) (ts following rest : List Lexeme) (q : SequenceTree) (s : StrategyTree) → Found (inner_sequence k) (AtMost 1) ts q (mark M.LeftChoice ∷ following) →
+    Found (inner_strategy (k + 1)) (AtMost 0) following s rest → Found (inner_strategy k) (AtMost 0) ts (left_choice q s) rest
+found_choice k ts following rest q s f g = record {
   sound = λ way is r. f.sound way (sign M.LeftChoice ∷ inner_strategy (k + 1) s is) (refl, g.sound way is r);
   only_one = λ u is h r.
-      let t = to_right k ts behind q f u is h r in
+      let t = to_right k ts following q f u is h r in
       let e = g.only_one t.right is h t.runs in
       (t.is_choice ∙ ap (left_choice q) e.0, e.1);
   shorter = omega (arith, f.shorter, g.shorter);
@@ -102,65 +102,65 @@ found_choice k ts behind rest q s f g = record {
 -- ---- < after it
 
 -- a strategy that runs along the tokens is a guarded choice with this sequence, and goes on with the two strategies on its right
-record ToBranches (k : ℕ) (behind : List Lexeme) (q : SequenceTree) (u : StrategyTree) (is : List Item) : Type 0 where
+record ToBranches (k : ℕ) (following : List Lexeme) (q : SequenceTree) (u : StrategyTree) (is : List Item) : Type 0 where
   first : StrategyTree
   second : StrategyTree
   is_choice : u ≡ guarded_choice q first second
-  runs : Runs either (inner_strategy (k + 1) first (sign M.Plus ∷ inner_strategy (k + 1) second is)) behind
+  runs : Runs either (inner_strategy (k + 1) first (sign M.Plus ∷ inner_strategy (k + 1) second is)) following
 
-to_branches : (k : ℕ) (ts behind : List Lexeme) (q : SequenceTree) → Found (inner_sequence k) (AtMost 1) ts q (mark M.Less ∷ behind) →
-    (u : StrategyTree) (is : List Item) → AtMost 0 is → Runs either (inner_strategy k u is) ts → ToBranches k behind q u is
-to_branches k ts behind q f (plain_sequence p) is h r = absurd (no_operator is (mark M.Less) behind h (omega arith) (f.only_one p is (omega (arith, h)) r).1)
-to_branches k ts behind q f (left_choice p s) is h r =
+to_branches : (k : ℕ) (ts following : List Lexeme) (q : SequenceTree) → Found (inner_sequence k) (AtMost 1) ts q (mark M.Less ∷ following) →
+    (u : StrategyTree) (is : List Item) → AtMost 0 is → Runs either (inner_strategy k u is) ts → ToBranches k following q u is
+to_branches k ts following q f (plain_sequence p) is h r = absurd (no_operator is (mark M.Less) following h (omega arith) (f.only_one p is (omega (arith, h)) r).1)
+to_branches k ts following q f (left_choice p s) is h r =
     let e = f.only_one p (sign M.LeftChoice ∷ inner_strategy (k + 1) s is) (omega arith) r in
     let m = e.1.0 in cc
-to_branches k ts behind q f (guarded_choice p s t) is h r =
+to_branches k ts following q f (guarded_choice p s t) is h r =
     let e = f.only_one p (sign M.Less ∷ inner_strategy (k + 1) s (sign M.Plus ∷ inner_strategy (k + 1) t is)) (omega arith) r in
     record { first = s; second = t; is_choice = ap (λ x. guarded_choice x s t) e.0; runs = e.1.1 }
 
-pub missing_first : (k : ℕ) (ts behind : List Lexeme) (q : SequenceTree) → Found (inner_sequence k) (AtMost 1) ts q (mark M.Less ∷ behind) →
-    Missing (inner_strategy (k + 1)) (AtMost 0) behind → Missing (inner_strategy k) (AtMost 0) ts
-missing_first k ts behind q f n = record {
-  none = λ u is h r. let t = to_branches k ts behind q f u is h r in n.none t.first (sign M.Plus ∷ inner_strategy (k + 1) t.second is) (omega arith) t.runs;
+pub missing_first : (k : ℕ) (ts following : List Lexeme) (q : SequenceTree) → Found (inner_sequence k) (AtMost 1) ts q (mark M.Less ∷ following) →
+    Missing (inner_strategy (k + 1)) (AtMost 0) following → Missing (inner_strategy k) (AtMost 0) ts
+missing_first k ts following q f n = record {
+  none = λ u is h r. let t = to_branches k ts following q f u is h r in n.none t.first (sign M.Plus ∷ inner_strategy (k + 1) t.second is) (omega arith) t.runs;
 }
 
-pub nested_first : (k : ℕ) (ts behind : List Lexeme) (q : SequenceTree) → Found (inner_sequence k) (AtMost 1) ts q (mark M.Less ∷ behind) →
-    Nested (inner_strategy (k + 1)) behind → Nested (inner_strategy k) ts
-nested_first k ts behind q f n = record {
+pub nested_first : (k : ℕ) (ts following : List Lexeme) (q : SequenceTree) → Found (inner_sequence k) (AtMost 1) ts q (mark M.Less ∷ following) →
+    Nested (inner_strategy (k + 1)) following → Nested (inner_strategy k) ts
+nested_first k ts following q f n = record {
   tree = guarded_choice q n.tree n.tree;
   runs = λ is. f.sound too_deep (sign M.Less ∷ inner_strategy (k + 1) n.tree (sign M.Plus ∷ inner_strategy (k + 1) n.tree is)) (refl, n.runs (sign M.Plus ∷ inner_strategy (k + 1) n.tree is));
 }
 
-pub missing_plus : (k : ℕ) (ts behind rest : List Lexeme) (q : SequenceTree) (s : StrategyTree) → Found (inner_sequence k) (AtMost 1) ts q (mark M.Less ∷ behind) →
-    Found (inner_strategy (k + 1)) (AtMost 0) behind s rest → NotAt (mark M.Plus) rest → Missing (inner_strategy k) (AtMost 0) ts
-missing_plus k ts behind rest q s f g n = record {
+pub missing_plus : (k : ℕ) (ts following rest : List Lexeme) (q : SequenceTree) (s : StrategyTree) → Found (inner_sequence k) (AtMost 1) ts q (mark M.Less ∷ following) →
+    Found (inner_strategy (k + 1)) (AtMost 0) following s rest → NotAt (mark M.Plus) rest → Missing (inner_strategy k) (AtMost 0) ts
+missing_plus k ts following rest q s f g n = record {
   none = λ u is h r.
-      let t = to_branches k ts behind q f u is h r in
+      let t = to_branches k ts following q f u is h r in
       not_at_runs (mark M.Plus) (inner_strategy (k + 1) t.second is) rest n (g.only_one t.first (sign M.Plus ∷ inner_strategy (k + 1) t.second is) (omega arith) t.runs).1;
 }
 
-pub missing_second : (k : ℕ) (ts behind after : List Lexeme) (q : SequenceTree) (s : StrategyTree) → Found (inner_sequence k) (AtMost 1) ts q (mark M.Less ∷ behind) →
-    Found (inner_strategy (k + 1)) (AtMost 0) behind s (mark M.Plus ∷ after) → Missing (inner_strategy (k + 1)) (AtMost 0) after → Missing (inner_strategy k) (AtMost 0) ts
-missing_second k ts behind after q s f g n = record {
+pub missing_second : (k : ℕ) (ts following after : List Lexeme) (q : SequenceTree) (s : StrategyTree) → Found (inner_sequence k) (AtMost 1) ts q (mark M.Less ∷ following) →
+    Found (inner_strategy (k + 1)) (AtMost 0) following s (mark M.Plus ∷ after) → Missing (inner_strategy (k + 1)) (AtMost 0) after → Missing (inner_strategy k) (AtMost 0) ts
+missing_second k ts following after q s f g n = record {
   none = λ u is h r.
-      let t = to_branches k ts behind q f u is h r in
+      let t = to_branches k ts following q f u is h r in
       n.none t.second is h (g.only_one t.first (sign M.Plus ∷ inner_strategy (k + 1) t.second is) (omega arith) t.runs).1.1;
 }
 
-pub nested_second : (k : ℕ) (ts behind after : List Lexeme) (q : SequenceTree) (s : StrategyTree) → Found (inner_sequence k) (AtMost 1) ts q (mark M.Less ∷ behind) →
-    Found (inner_strategy (k + 1)) (AtMost 0) behind s (mark M.Plus ∷ after) → Nested (inner_strategy (k + 1)) after → Nested (inner_strategy k) ts
-nested_second k ts behind after q s f g n = record {
+pub nested_second : (k : ℕ) (ts following after : List Lexeme) (q : SequenceTree) (s : StrategyTree) → Found (inner_sequence k) (AtMost 1) ts q (mark M.Less ∷ following) →
+    Found (inner_strategy (k + 1)) (AtMost 0) following s (mark M.Plus ∷ after) → Nested (inner_strategy (k + 1)) after → Nested (inner_strategy k) ts
+nested_second k ts following after q s f g n = record {
   tree = guarded_choice q s n.tree;
   runs = λ is. f.sound too_deep (sign M.Less ∷ inner_strategy (k + 1) s (sign M.Plus ∷ inner_strategy (k + 1) n.tree is)) (refl, g.sound too_deep (sign M.Plus ∷ inner_strategy (k + 1) n.tree is) (refl, n.runs is));
 }
 
-pub found_guarded : (k : ℕ) (ts behind after rest : List Lexeme) (q : SequenceTree) (s t : StrategyTree) → Found (inner_sequence k) (AtMost 1) ts q (mark M.Less ∷ behind) →
-    Found (inner_strategy (k + 1)) (AtMost 0) behind s (mark M.Plus ∷ after) → Found (inner_strategy (k + 1)) (AtMost 0) after t rest →
+pub found_guarded : (k : ℕ) (ts following after rest : List Lexeme) (q : SequenceTree) (s t : StrategyTree) → Found (inner_sequence k) (AtMost 1) ts q (mark M.Less ∷ following) →
+    Found (inner_strategy (k + 1)) (AtMost 0) following s (mark M.Plus ∷ after) → Found (inner_strategy (k + 1)) (AtMost 0) after t rest →
     Found (inner_strategy k) (AtMost 0) ts (guarded_choice q s t) rest
-found_guarded k ts behind after rest q s t f g j = record {
+found_guarded k ts following after rest q s t f g j = record {
   sound = λ way is r. f.sound way (sign M.Less ∷ inner_strategy (k + 1) s (sign M.Plus ∷ inner_strategy (k + 1) t is)) (refl, g.sound way (sign M.Plus ∷ inner_strategy (k + 1) t is) (refl, j.sound way is r));
   only_one = λ u is h r.
-      let b = to_branches k ts behind q f u is h r in
+      let b = to_branches k ts following q f u is h r in
       let e = g.only_one b.first (sign M.Plus ∷ inner_strategy (k + 1) b.second is) (omega arith) b.runs in
       let d = j.only_one b.second is h e.1.1 in
       (b.is_choice ∙ ap (λ x. guarded_choice q x b.second) e.0 ∙ ap (guarded_choice q s) d.0, d.1);

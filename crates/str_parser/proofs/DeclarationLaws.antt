@@ -16,9 +16,9 @@ factors_are : (ss : SortTrees) (to : SortTree) (is : List Item) → factors ss t
 factors_are no_sorts to is = refl
 factors_are (more_sorts s ss) to is = ap (λ l. sign M.Star ∷ inner_sort 1 s l) (factors_are ss to is)
 
-behind_colon : (way : Way) (ss : SortTrees) (to : SortTree) (is : List Item) (ts : List Lexeme) → Runs way (declared_type ss to is) (mark M.Colon ∷ ts) → Runs way (typed (mapping ss to) is) ts
-behind_colon way no_sorts to is ts r = let e = r.0 in cc
-behind_colon way (more_sorts s ss) to is ts r = subst (λ l. Runs way (inner_sort 1 s l) ts) (factors_are ss to is) r.1
+after_colon : (way : Way) (ss : SortTrees) (to : SortTree) (is : List Item) (ts : List Lexeme) → Runs way (declared_type ss to is) (mark M.Colon ∷ ts) → Runs way (typed (mapping ss to) is) ts
+after_colon way no_sorts to is ts r = let e = r.0 in cc
+after_colon way (more_sorts s ss) to is ts r = subst (λ l. Runs way (inner_sort 1 s l) ts) (factors_are ss to is) r.1
 
 with_colon : (way : Way) (ss : SortTrees) (to : SortTree) (is : List Item) (ts : List Lexeme) → Runs way (typed (mapping ss to) is) ts → Runs way (declared_type ss to is) (mark M.Colon ∷ ts)
 with_colon way no_sorts to is ts r = let e = r.0 in cc
@@ -57,7 +57,7 @@ injection_only : (ahead rest : List Lexeme) (ss : SortTrees) (s : SortTree) → 
 injection_only ahead rest ss s f (constant c v) is h r = let e = r.1.0 in cc
 injection_only ahead rest ss s f (constructor c us v) is h r = let e = r.1.0 in cc
 injection_only ahead rest ss s f (injection us v) is h r =
-    let o = f.only_one (mapping us v) is h (behind_colon either us v is ahead r) in
+    let o = f.only_one (mapping us v) is h (after_colon either us v is ahead r) in
     let e = o.0 in (cc, o.1)
 
 pub found_injection : (ahead rest : List Lexeme) (ss : SortTrees) (s : SortTree) → Typed ahead (mapping ss s) rest → Found declaration (NoneOf declaration_goes_on) (mark M.Colon ∷ ahead) (injection ss s) rest
@@ -73,7 +73,7 @@ none_plain : (ahead rest : List Lexeme) (s : SortTree) → Typed ahead (plain s)
 none_plain ahead rest s f (constant c v) is h r = let e = r.1.0 in cc
 none_plain ahead rest s f (constructor c us v) is h r = let e = r.1.0 in cc
 none_plain ahead rest s f (injection us v) is h r =
-    let o = f.only_one (mapping us v) is h (behind_colon either us v is ahead r) in
+    let o = f.only_one (mapping us v) is h (after_colon either us v is ahead r) in
     let e = o.0 in cc
 
 pub missing_plain : (ahead rest : List Lexeme) (s : SortTree) → Typed ahead (plain s) rest → Missing declaration (NoneOf declaration_goes_on) (mark M.Colon ∷ ahead)
@@ -83,7 +83,7 @@ none_typed : (ahead : List Lexeme) → Missing typed (NoneOf declaration_goes_on
     (u : DeclarationTree) (is : List Item) → NoneOf declaration_goes_on is → Runs either (declaration u is) (mark M.Colon ∷ ahead) → ⊥
 none_typed ahead m (constant c v) is h r = let e = r.1.0 in cc
 none_typed ahead m (constructor c us v) is h r = let e = r.1.0 in cc
-none_typed ahead m (injection us v) is h r = m.none (mapping us v) is h (behind_colon either us v is ahead r)
+none_typed ahead m (injection us v) is h r = m.none (mapping us v) is h (after_colon either us v is ahead r)
 
 pub missing_injection : (ahead : List Lexeme) → Missing typed (NoneOf declaration_goes_on) ahead → Missing declaration (NoneOf declaration_goes_on) (mark M.Colon ∷ ahead)
 missing_injection ahead m = record { none = none_typed ahead m }
@@ -113,7 +113,7 @@ declared_only c ahead rest v f (constant d s) is h r =
     let q : constant d s ≡ constant c s = cc in
     (q ∙ ap (declared_as c) o.0, o.1)
 declared_only c ahead rest v f (constructor d ss s) is h r =
-    let o = f.only_one (mapping ss s) is h (behind_colon either ss s is ahead r.1.1) in
+    let o = f.only_one (mapping ss s) is h (after_colon either ss s is ahead r.1.1) in
     let e = r.1.0 in
     let q : constructor d ss s ≡ constructor c ss s = cc in
     (q ∙ ap (declared_as c) o.0, o.1)
@@ -133,7 +133,7 @@ found_declared c ts middle ahead rest v k e g f = rw e (rw g (declared_at c ahea
 none_declared : (c : List ℕ) (ahead : List Lexeme) → Missing typed (NoneOf declaration_goes_on) ahead →
     (u : DeclarationTree) (is : List Item) → NoneOf declaration_goes_on is → Runs either (declaration u is) (name c ∷ mark M.Colon ∷ ahead) → ⊥
 none_declared c ahead m (constant d s) is h r = m.none (plain s) is h r.1.1.1
-none_declared c ahead m (constructor d ss s) is h r = m.none (mapping ss s) is h (behind_colon either ss s is ahead r.1.1)
+none_declared c ahead m (constructor d ss s) is h r = m.none (mapping ss s) is h (after_colon either ss s is ahead r.1.1)
 none_declared c ahead m (injection ss s) is h r = no_colon ss s is (name c ∷ mark M.Colon ∷ ahead) (name_no_colon c (mark M.Colon ∷ ahead)) r
 
 pub missing_declared : (c : List ℕ) (ts middle ahead : List Lexeme) → ts ≡ name c ∷ middle → middle ≡ mark M.Colon ∷ ahead → Missing typed (NoneOf declaration_goes_on) ahead → Missing declaration (NoneOf declaration_goes_on) ts

@@ -148,17 +148,17 @@ pub sections_written : (ss : List SectionTree) (is : List Item) → several sect
 sections_written [] is = refl
 sections_written (s ∷ ss) is = ap (section s) (sections_written ss is)
 
-nothing_behind : EndsSection []
-nothing_behind = (omega arith, λ t rest w. let e : t ∷ rest ≡ [] = w in cc)
+nothing_after : EndsSection []
+nothing_after = (omega arith, λ t rest w. let e : t ∷ rest ≡ [] = w in cc)
 
-section_behind : (s : SectionTree) (is : List Item) → EndsSection (section s is)
-section_behind (signature ps) is = (omega arith, λ t rest w. ap is_inside w.0)
-section_behind (rules ds) is = (omega arith, λ t rest w. ap is_inside w.0)
-section_behind (strategies ds) is = (omega arith, λ t rest w. ap is_inside w.0)
+section_after : (s : SectionTree) (is : List Item) → EndsSection (section s is)
+section_after (signature ps) is = (omega arith, λ t rest w. ap is_inside w.0)
+section_after (rules ds) is = (omega arith, λ t rest w. ap is_inside w.0)
+section_after (strategies ds) is = (omega arith, λ t rest w. ap is_inside w.0)
 
 pub sections_follow : Follows section EndsSection AtEnd
-sections_follow [] is h = rw h nothing_behind
-sections_follow (s ∷ ss) is h = section_behind s (several section ss is)
+sections_follow [] is h = rw h nothing_after
+sections_follow (s ∷ ss) is h = section_after s (several section ss is)
 
 -- with a token another one comes
 pub token_goes_on : (rest : List Lexeme) → (rest ≡ [] → ⊥) → GoesOn AtEnd rest

@@ -18,7 +18,7 @@ use Rattle.str_parser.proofs.WayLaws.{not_along}
 
 -- the tokens begin with a left side and ->, and these come after
 abbrev pub LeftAt : PatternTree → List Lexeme → List Lexeme → Type 0
-LeftAt l ts behind = Found (inner_pattern true 1) (AtMost 3) ts l (mark M.Arrow ∷ behind)
+LeftAt l ts following = Found (inner_pattern true 1) (AtMost 3) ts l (mark M.Arrow ∷ following)
 
 -- any tree at all
 pub some_strategy : StrategyTree
@@ -48,89 +48,89 @@ no_arrow l ts rest f n (rewrites p q (one_strategy s)) is r =
 pub arrow_missing : (l : PatternTree) (ts rest : List Lexeme) → Found (inner_pattern true 1) (AtMost 3) ts l rest → NotAt (mark M.Arrow) rest → Missing (rule 1) EndsRule ts
 arrow_missing l ts rest f n = record { none = λ u is e r. no_arrow l ts rest f n u is r }
 
-no_right : (l : PatternTree) (ts behind : List Lexeme) → LeftAt l ts behind → Missing (inner_pattern false 1) (AtMost 3) behind → (u : RuleTree) (is : List Item) → EndsRule is → Runs either (rule 1 u is) ts → ⊥
-no_right l ts behind f m (rewrites p q no_strategy) is e r =
+no_right : (l : PatternTree) (ts following : List Lexeme) → LeftAt l ts following → Missing (inner_pattern false 1) (AtMost 3) following → (u : RuleTree) (is : List Item) → EndsRule is → Runs either (rule 1 u is) ts → ⊥
+no_right l ts following f m (rewrites p q no_strategy) is e r =
     let a = f.only_one p (sign M.Arrow ∷ inner_pattern false 1 q is) (omega arith) r in
     m.none q is (omega (arith, e.0)) a.1.1
-no_right l ts behind f m (rewrites p q (one_strategy s)) is e r =
+no_right l ts following f m (rewrites p q (one_strategy s)) is e r =
     let a = f.only_one p (sign M.Arrow ∷ inner_pattern false 1 q (word K.Where ∷ inner_strategy 1 s is)) (omega arith) r in
     m.none q (word K.Where ∷ inner_strategy 1 s is) (omega arith) a.1.1
 
-pub right_missing : (l : PatternTree) (ts behind : List Lexeme) → LeftAt l ts behind → Missing (inner_pattern false 1) (AtMost 3) behind → Missing (rule 1) EndsRule ts
-right_missing l ts behind f m = record { none = no_right l ts behind f m }
+pub right_missing : (l : PatternTree) (ts following : List Lexeme) → LeftAt l ts following → Missing (inner_pattern false 1) (AtMost 3) following → Missing (rule 1) EndsRule ts
+right_missing l ts following f m = record { none = no_right l ts following f m }
 
-pub right_nested : (l : PatternTree) (ts behind : List Lexeme) → LeftAt l ts behind → Nested (inner_pattern false 1) behind → Nested (rule 1) ts
-right_nested l ts behind f n = record {
+pub right_nested : (l : PatternTree) (ts following : List Lexeme) → LeftAt l ts following → Nested (inner_pattern false 1) following → Nested (rule 1) ts
+right_nested l ts following f n = record {
   tree = rewrites l n.tree no_strategy;
   runs = λ is. f.sound too_deep (sign M.Arrow ∷ inner_pattern false 1 n.tree is) (refl, n.runs is);
 }
 
-plain_only : (l r : PatternTree) (ts behind rest : List Lexeme) → LeftAt l ts behind → Found (inner_pattern false 1) (AtMost 3) behind r rest → NotAt (keyword K.Where) rest → (u : RuleTree) (is : List Item) → EndsRule is → Runs either (rule 1 u is) ts → (u ≡ rewrites l r no_strategy) × Runs either is rest
-plain_only l r ts behind rest f g n (rewrites p q no_strategy) is e w =
+plain_only : (l r : PatternTree) (ts following rest : List Lexeme) → LeftAt l ts following → Found (inner_pattern false 1) (AtMost 3) following r rest → NotAt (keyword K.Where) rest → (u : RuleTree) (is : List Item) → EndsRule is → Runs either (rule 1 u is) ts → (u ≡ rewrites l r no_strategy) × Runs either is rest
+plain_only l r ts following rest f g n (rewrites p q no_strategy) is e w =
     let a = f.only_one p (sign M.Arrow ∷ inner_pattern false 1 q is) (omega arith) w in
     let b = g.only_one q is (omega (arith, e.0)) a.1.1 in
     (rw (a.0, b.0) refl, b.1)
-plain_only l r ts behind rest f g n (rewrites p q (one_strategy s)) is e w =
+plain_only l r ts following rest f g n (rewrites p q (one_strategy s)) is e w =
     let a = f.only_one p (sign M.Arrow ∷ inner_pattern false 1 q (word K.Where ∷ inner_strategy 1 s is)) (omega arith) w in
     let b = g.only_one q (word K.Where ∷ inner_strategy 1 s is) (omega arith) a.1.1 in
     absurd (not_along (keyword K.Where) (inner_strategy 1 s is) rest n b.1)
 
-pub plain_found : (l r : PatternTree) (ts behind rest : List Lexeme) → LeftAt l ts behind → Found (inner_pattern false 1) (AtMost 3) behind r rest → NotAt (keyword K.Where) rest → Found (rule 1) EndsRule ts (rewrites l r no_strategy) rest
-plain_found l r ts behind rest f g n = record {
+pub plain_found : (l r : PatternTree) (ts following rest : List Lexeme) → LeftAt l ts following → Found (inner_pattern false 1) (AtMost 3) following r rest → NotAt (keyword K.Where) rest → Found (rule 1) EndsRule ts (rewrites l r no_strategy) rest
+plain_found l r ts following rest f g n = record {
   sound = λ way is w. f.sound way (sign M.Arrow ∷ inner_pattern false 1 r is) (refl, g.sound way is w);
-  only_one = plain_only l r ts behind rest f g n;
+  only_one = plain_only l r ts following rest f g n;
   shorter = let a = f.shorter in let b = g.shorter in omega arith;
 }
 
 -- the tokens begin with two sides and where, and these come after
-pub record SidesAt (l r : PatternTree) (ts behind : List Lexeme) : Type 0 where
+pub record SidesAt (l r : PatternTree) (ts following : List Lexeme) : Type 0 where
   pub right_at : List Lexeme
   pub left : LeftAt l ts right_at
-  pub right : Found (inner_pattern false 1) (AtMost 3) right_at r (keyword K.Where ∷ behind)
+  pub right : Found (inner_pattern false 1) (AtMost 3) right_at r (keyword K.Where ∷ following)
 
 -- only a rule with a condition goes on with where
-pub record Conditioned (l r : PatternTree) (u : RuleTree) (is : List Item) (behind : List Lexeme) : Type 0 where
+pub record Conditioned (l r : PatternTree) (u : RuleTree) (is : List Item) (following : List Lexeme) : Type 0 where
   pub condition : StrategyTree
   pub tree : u ≡ rewrites l r (one_strategy condition)
-  pub runs : Runs either (inner_strategy 1 condition is) behind
+  pub runs : Runs either (inner_strategy 1 condition is) following
 
-conditioned : (l r : PatternTree) (ts behind : List Lexeme) → SidesAt l r ts behind → (u : RuleTree) (is : List Item) → EndsRule is → Runs either (rule 1 u is) ts → Conditioned l r u is behind
-conditioned l r ts behind f (rewrites p q no_strategy) is e w =
+conditioned : (l r : PatternTree) (ts following : List Lexeme) → SidesAt l r ts following → (u : RuleTree) (is : List Item) → EndsRule is → Runs either (rule 1 u is) ts → Conditioned l r u is following
+conditioned l r ts following f (rewrites p q no_strategy) is e w =
     let a = f.left.only_one p (sign M.Arrow ∷ inner_pattern false 1 q is) (omega arith) w in
     let b = f.right.only_one q is (omega (arith, e.0)) a.1.1 in
-    let c : true ≡ false = e.1 (keyword K.Where) behind b.1 in
+    let c : true ≡ false = e.1 (keyword K.Where) following b.1 in
     cc
-conditioned l r ts behind f (rewrites p q (one_strategy s)) is e w =
+conditioned l r ts following f (rewrites p q (one_strategy s)) is e w =
     let a = f.left.only_one p (sign M.Arrow ∷ inner_pattern false 1 q (word K.Where ∷ inner_strategy 1 s is)) (omega arith) w in
     let b = f.right.only_one q (word K.Where ∷ inner_strategy 1 s is) (omega arith) a.1.1 in
     record { condition = s; tree = rw (a.0, b.0) refl; runs = b.1.1 }
 
-pub condition_missing : (l r : PatternTree) (ts behind : List Lexeme) → SidesAt l r ts behind → Missing (inner_strategy 1) (AtMost 0) behind → Missing (rule 1) EndsRule ts
-condition_missing l r ts behind f m = record {
-  none = λ u is e w. let c = conditioned l r ts behind f u is e w in m.none c.condition is e.0 c.runs;
+pub condition_missing : (l r : PatternTree) (ts following : List Lexeme) → SidesAt l r ts following → Missing (inner_strategy 1) (AtMost 0) following → Missing (rule 1) EndsRule ts
+condition_missing l r ts following f m = record {
+  none = λ u is e w. let c = conditioned l r ts following f u is e w in m.none c.condition is e.0 c.runs;
 }
 
-sides_sound : (l r : PatternTree) (ts behind : List Lexeme) → SidesAt l r ts behind → (s : StrategyTree) (way : Way) (is : List Item) → Runs way (inner_strategy 1 s is) behind → Runs way (rule 1 (rewrites l r (one_strategy s)) is) ts
-sides_sound l r ts behind f s way is w =
+sides_sound : (l r : PatternTree) (ts following : List Lexeme) → SidesAt l r ts following → (s : StrategyTree) (way : Way) (is : List Item) → Runs way (inner_strategy 1 s is) following → Runs way (rule 1 (rewrites l r (one_strategy s)) is) ts
+sides_sound l r ts following f s way is w =
     f.left.sound way (sign M.Arrow ∷ inner_pattern false 1 r (word K.Where ∷ inner_strategy 1 s is))
     (refl, f.right.sound way (word K.Where ∷ inner_strategy 1 s is) (refl, w))
 
-pub condition_nested : (l r : PatternTree) (ts behind : List Lexeme) → SidesAt l r ts behind → Nested (inner_strategy 1) behind → Nested (rule 1) ts
-condition_nested l r ts behind f n = record {
+pub condition_nested : (l r : PatternTree) (ts following : List Lexeme) → SidesAt l r ts following → Nested (inner_strategy 1) following → Nested (rule 1) ts
+condition_nested l r ts following f n = record {
   tree = rewrites l r (one_strategy n.tree);
-  runs = λ is. sides_sound l r ts behind f n.tree too_deep is (n.runs is);
+  runs = λ is. sides_sound l r ts following f n.tree too_deep is (n.runs is);
 }
 
-conditional_only : (l r : PatternTree) (s : StrategyTree) (ts behind rest : List Lexeme) → SidesAt l r ts behind → Found (inner_strategy 1) (AtMost 0) behind s rest → (u : RuleTree) (is : List Item) → EndsRule is → Runs either (rule 1 u is) ts → (u ≡ rewrites l r (one_strategy s)) × Runs either is rest
-conditional_only l r s ts behind rest f g u is e w =
-    let c = conditioned l r ts behind f u is e w in
+conditional_only : (l r : PatternTree) (s : StrategyTree) (ts following rest : List Lexeme) → SidesAt l r ts following → Found (inner_strategy 1) (AtMost 0) following s rest → (u : RuleTree) (is : List Item) → EndsRule is → Runs either (rule 1 u is) ts → (u ≡ rewrites l r (one_strategy s)) × Runs either is rest
+conditional_only l r s ts following rest f g u is e w =
+    let c = conditioned l r ts following f u is e w in
     let d = g.only_one c.condition is e.0 c.runs in
     (c.tree ∙ ap (λ t. rewrites l r (one_strategy t)) d.0, d.1)
 
-pub conditional_found : (l r : PatternTree) (s : StrategyTree) (ts behind rest : List Lexeme) → SidesAt l r ts behind → Found (inner_strategy 1) (AtMost 0) behind s rest → Found (rule 1) EndsRule ts (rewrites l r (one_strategy s)) rest
-conditional_found l r s ts behind rest f g = record {
-  sound = λ way is w. sides_sound l r ts behind f s way is (g.sound way is w);
-  only_one = conditional_only l r s ts behind rest f g;
+pub conditional_found : (l r : PatternTree) (s : StrategyTree) (ts following rest : List Lexeme) → SidesAt l r ts following → Found (inner_strategy 1) (AtMost 0) following s rest → Found (rule 1) EndsRule ts (rewrites l r (one_strategy s)) rest
+conditional_found l r s ts following rest f g = record {
+  sound = λ way is w. sides_sound l r ts following f s way is (g.sound way is w);
+  only_one = conditional_only l r s ts following rest f g;
   shorter = let a = f.left.shorter in let b = f.right.shorter in let c = g.shorter in omega arith;
 }
 
@@ -211,80 +211,80 @@ pub sign_missing : (x : Bytes) (ps : ParameterTree) (ts rest : List Lexeme) → 
 sign_missing x ps ts rest f n m = record { none = λ u is e w. no_sign x ps ts rest f n m u is w }
 
 -- a form whose head is followed by a colon is a rule
-record Ruled (x : Bytes) (ps : ParameterTree) (u : FormTree) (is : List Item) (behind : List Lexeme) : Type 0 where
+record Ruled (x : Bytes) (ps : ParameterTree) (u : FormTree) (is : List Item) (following : List Lexeme) : Type 0 where
   r : RuleTree
   tree : u ≡ rule_form (head x ps) r
-  runs : Runs either (rule 1 r is) behind
+  runs : Runs either (rule 1 r is) following
 
-ruled : (x : Bytes) (ps : ParameterTree) (ts behind : List Lexeme) → HeadAt x ps ts (mark M.Colon ∷ behind) → (u : FormTree) (is : List Item) → Runs either (form u is) ts → Ruled x ps u is behind
-ruled x ps ts behind f (rule_form (head y qs) r) is w =
+ruled : (x : Bytes) (ps : ParameterTree) (ts following : List Lexeme) → HeadAt x ps ts (mark M.Colon ∷ following) → (u : FormTree) (is : List Item) → Runs either (form u is) ts → Ruled x ps u is following
+ruled x ps ts following f (rule_form (head y qs) r) is w =
     let a = f.only_one (head y qs) (sign M.Colon ∷ rule 1 r is) (omega arith) w in
     record { r = r; tree = ap (λ h. rule_form h r) a.0; runs = a.1.1 }
-ruled x ps ts behind f (strategy_form (definition (head y qs) s)) is w =
+ruled x ps ts following f (strategy_form (definition (head y qs) s)) is w =
     let a = f.only_one (head y qs) (sign M.Equals ∷ inner_strategy 1 s is) (omega arith) w in
     let e = a.1.0 in
     cc
 
-pub rule_missing : (x : Bytes) (ps : ParameterTree) (ts behind : List Lexeme) → HeadAt x ps ts (mark M.Colon ∷ behind) → Missing (rule 1) EndsRule behind → Missing form EndsRule ts
-rule_missing x ps ts behind f m = record {
-  none = λ u is e w. let c = ruled x ps ts behind f u is w in m.none c.r is e c.runs;
+pub rule_missing : (x : Bytes) (ps : ParameterTree) (ts following : List Lexeme) → HeadAt x ps ts (mark M.Colon ∷ following) → Missing (rule 1) EndsRule following → Missing form EndsRule ts
+rule_missing x ps ts following f m = record {
+  none = λ u is e w. let c = ruled x ps ts following f u is w in m.none c.r is e c.runs;
 }
 
-pub rule_nested : (x : Bytes) (ps : ParameterTree) (ts behind : List Lexeme) → HeadAt x ps ts (mark M.Colon ∷ behind) → Nested (rule 1) behind → Nested form ts
-rule_nested x ps ts behind f n = record {
+pub rule_nested : (x : Bytes) (ps : ParameterTree) (ts following : List Lexeme) → HeadAt x ps ts (mark M.Colon ∷ following) → Nested (rule 1) following → Nested form ts
+rule_nested x ps ts following f n = record {
   tree = rule_form (head x ps) n.tree;
   runs = λ is. f.sound too_deep (sign M.Colon ∷ rule 1 n.tree is) (refl, n.runs is);
 }
 
-rule_only : (x : Bytes) (ps : ParameterTree) (r : RuleTree) (ts behind rest : List Lexeme) → HeadAt x ps ts (mark M.Colon ∷ behind) → Found (rule 1) EndsRule behind r rest → (u : FormTree) (is : List Item) → EndsRule is → Runs either (form u is) ts → (u ≡ rule_form (head x ps) r) × Runs either is rest
-rule_only x ps r ts behind rest f g u is e w =
-    let c = ruled x ps ts behind f u is w in
+rule_only : (x : Bytes) (ps : ParameterTree) (r : RuleTree) (ts following rest : List Lexeme) → HeadAt x ps ts (mark M.Colon ∷ following) → Found (rule 1) EndsRule following r rest → (u : FormTree) (is : List Item) → EndsRule is → Runs either (form u is) ts → (u ≡ rule_form (head x ps) r) × Runs either is rest
+rule_only x ps r ts following rest f g u is e w =
+    let c = ruled x ps ts following f u is w in
     let d = g.only_one c.r is e c.runs in
     (c.tree ∙ ap (rule_form (head x ps)) d.0, d.1)
 
-pub rule_found : (x : Bytes) (ps : ParameterTree) (r : RuleTree) (ts behind rest : List Lexeme) → HeadAt x ps ts (mark M.Colon ∷ behind) → Found (rule 1) EndsRule behind r rest → Found form EndsRule ts (rule_form (head x ps) r) rest
-rule_found x ps r ts behind rest f g = record {
+pub rule_found : (x : Bytes) (ps : ParameterTree) (r : RuleTree) (ts following rest : List Lexeme) → HeadAt x ps ts (mark M.Colon ∷ following) → Found (rule 1) EndsRule following r rest → Found form EndsRule ts (rule_form (head x ps) r) rest
+rule_found x ps r ts following rest f g = record {
   sound = λ way is w. f.sound way (sign M.Colon ∷ rule 1 r is) (refl, g.sound way is w);
-  only_one = rule_only x ps r ts behind rest f g;
+  only_one = rule_only x ps r ts following rest f g;
   shorter = let a = f.shorter in let b = g.shorter in omega arith;
 }
 
 -- a form whose head is followed by an equals sign is a definition
-record Defined (x : Bytes) (ps : ParameterTree) (u : FormTree) (is : List Item) (behind : List Lexeme) : Type 0 where
+record Defined (x : Bytes) (ps : ParameterTree) (u : FormTree) (is : List Item) (following : List Lexeme) : Type 0 where
   s : StrategyTree
   tree : u ≡ strategy_form (definition (head x ps) s)
-  runs : Runs either (inner_strategy 1 s is) behind
+  runs : Runs either (inner_strategy 1 s is) following
 
-defines : (x : Bytes) (ps : ParameterTree) (ts behind : List Lexeme) → HeadAt x ps ts (mark M.Equals ∷ behind) → (u : FormTree) (is : List Item) → Runs either (form u is) ts → Defined x ps u is behind
-defines x ps ts behind f (rule_form (head y qs) r) is w =
+defines : (x : Bytes) (ps : ParameterTree) (ts following : List Lexeme) → HeadAt x ps ts (mark M.Equals ∷ following) → (u : FormTree) (is : List Item) → Runs either (form u is) ts → Defined x ps u is following
+defines x ps ts following f (rule_form (head y qs) r) is w =
     let a = f.only_one (head y qs) (sign M.Colon ∷ rule 1 r is) (omega arith) w in
     let e = a.1.0 in
     cc
-defines x ps ts behind f (strategy_form (definition (head y qs) s)) is w =
+defines x ps ts following f (strategy_form (definition (head y qs) s)) is w =
     let a = f.only_one (head y qs) (sign M.Equals ∷ inner_strategy 1 s is) (omega arith) w in
     record { s = s; tree = ap (λ h. strategy_form (definition h s)) a.0; runs = a.1.1 }
 
-pub body_missing : (x : Bytes) (ps : ParameterTree) (ts behind : List Lexeme) → HeadAt x ps ts (mark M.Equals ∷ behind) → Missing (inner_strategy 1) (AtMost 0) behind → Missing form EndsRule ts
-body_missing x ps ts behind f m = record {
-  none = λ u is e w. let c = defines x ps ts behind f u is w in m.none c.s is e.0 c.runs;
+pub body_missing : (x : Bytes) (ps : ParameterTree) (ts following : List Lexeme) → HeadAt x ps ts (mark M.Equals ∷ following) → Missing (inner_strategy 1) (AtMost 0) following → Missing form EndsRule ts
+body_missing x ps ts following f m = record {
+  none = λ u is e w. let c = defines x ps ts following f u is w in m.none c.s is e.0 c.runs;
 }
 
-pub body_nested : (x : Bytes) (ps : ParameterTree) (ts behind : List Lexeme) → HeadAt x ps ts (mark M.Equals ∷ behind) → Nested (inner_strategy 1) behind → Nested form ts
-body_nested x ps ts behind f n = record {
+pub body_nested : (x : Bytes) (ps : ParameterTree) (ts following : List Lexeme) → HeadAt x ps ts (mark M.Equals ∷ following) → Nested (inner_strategy 1) following → Nested form ts
+body_nested x ps ts following f n = record {
   tree = strategy_form (definition (head x ps) n.tree);
   runs = λ is. f.sound too_deep (sign M.Equals ∷ inner_strategy 1 n.tree is) (refl, n.runs is);
 }
 
-body_only : (x : Bytes) (ps : ParameterTree) (s : StrategyTree) (ts behind rest : List Lexeme) → HeadAt x ps ts (mark M.Equals ∷ behind) → Found (inner_strategy 1) (AtMost 0) behind s rest → (u : FormTree) (is : List Item) → EndsRule is → Runs either (form u is) ts → (u ≡ strategy_form (definition (head x ps) s)) × Runs either is rest
-body_only x ps s ts behind rest f g u is e w =
-    let c = defines x ps ts behind f u is w in
+body_only : (x : Bytes) (ps : ParameterTree) (s : StrategyTree) (ts following rest : List Lexeme) → HeadAt x ps ts (mark M.Equals ∷ following) → Found (inner_strategy 1) (AtMost 0) following s rest → (u : FormTree) (is : List Item) → EndsRule is → Runs either (form u is) ts → (u ≡ strategy_form (definition (head x ps) s)) × Runs either is rest
+body_only x ps s ts following rest f g u is e w =
+    let c = defines x ps ts following f u is w in
     let d = g.only_one c.s is e.0 c.runs in
     (c.tree ∙ ap (λ v. strategy_form (definition (head x ps) v)) d.0, d.1)
 
-pub body_found : (x : Bytes) (ps : ParameterTree) (s : StrategyTree) (ts behind rest : List Lexeme) → HeadAt x ps ts (mark M.Equals ∷ behind) → Found (inner_strategy 1) (AtMost 0) behind s rest → Found form EndsRule ts (strategy_form (definition (head x ps) s)) rest
-body_found x ps s ts behind rest f g = record {
+pub body_found : (x : Bytes) (ps : ParameterTree) (s : StrategyTree) (ts following rest : List Lexeme) → HeadAt x ps ts (mark M.Equals ∷ following) → Found (inner_strategy 1) (AtMost 0) following s rest → Found form EndsRule ts (strategy_form (definition (head x ps) s)) rest
+body_found x ps s ts following rest f g = record {
   sound = λ way is w. f.sound way (sign M.Equals ∷ inner_strategy 1 s is) (refl, g.sound way is w);
-  only_one = body_only x ps s ts behind rest f g;
+  only_one = body_only x ps s ts following rest f g;
   shorter = let a = f.shorter in let b = g.shorter in omega arith;
 }
 

@@ -9,7 +9,7 @@ use Rattle.str_parser.specs.Items.{Item, token, part, no_build, only, Way, too_d
 use Rattle.str_parser.specs.Phrases.{named, sign, other_names, names, some_names, parameters}
 use Rattle.str_parser.specs.Readings.{NotAt, AtMost, lexeme_strength, mark_strength, one_name, names_of, Found, Missing, Nested, IsReading}
 use Rattle.str_parser.specs.Runs.{NoneOf, FoundAny, IsReadingAny, names_go_on, any_names_go_on}
-use Rattle.str_parser.proofs.RunLaws.{many, some, behind, Partly, partly_first, partly_more, partly_found, next_behind, none_behind, none_at, missing_behind}
+use Rattle.str_parser.proofs.RunLaws.{many, some, following, Partly, partly_first, partly_more, partly_found, next_after, none_after, none_at, missing_after}
 use Rattle.str_parser.proofs.FaultLaws.{fault_means, found_written, missing_written}
 
 -- ---- strengths
@@ -45,37 +45,37 @@ none_opens (only b ∷ is) rest h r = none_opens is rest h r.1
 
 -- ---- names
 
-pub other_names_are : (xs : List (List ℕ)) (is : List Item) → many (behind (mark M.Comma)) one_name xs is ≡ other_names xs is
+pub other_names_are : (xs : List (List ℕ)) (is : List Item) → many (following (mark M.Comma)) one_name xs is ≡ other_names xs is
 other_names_are [] is = refl
 other_names_are (x ∷ xs) is = ap (λ l. sign M.Comma ∷ named x ∷ l) (other_names_are xs is)
 
-pub some_names_are : (xs : List (List ℕ)) (is : List Item) → some (behind (mark M.Comma)) one_name xs is ≡ some_names xs is
+pub some_names_are : (xs : List (List ℕ)) (is : List Item) → some (following (mark M.Comma)) one_name xs is ≡ some_names xs is
 some_names_are [] is = refl
 some_names_are (x ∷ xs) is = ap (λ l. named x ∷ l) (other_names_are xs is)
 
 abbrev pub PartlyNames : List (List ℕ) → List Lexeme → List Lexeme → Type 0
-PartlyNames all ts rest = Partly (some (behind (mark M.Comma)) one_name) (behind (mark M.Comma)) one_name names_go_on 1 all ts rest
+PartlyNames all ts rest = Partly (some (following (mark M.Comma)) one_name) (following (mark M.Comma)) one_name names_go_on 1 all ts rest
 
-follows : (us : List (List ℕ)) (is : List Item) → NoneOf names_go_on is → AtMost 4 (many (behind (mark M.Comma)) one_name us is)
-follows us is h = at_most_four (many (behind (mark M.Comma)) one_name us is)
+follows : (us : List (List ℕ)) (is : List Item) → NoneOf names_go_on is → AtMost 4 (many (following (mark M.Comma)) one_name us is)
+follows us is h = at_most_four (many (following (mark M.Comma)) one_name us is)
 
 pub names_first : (x : List ℕ) (ts rest : List Lexeme) → Found one_name (AtMost 4) ts x rest → PartlyNames (x ∷ []) ts rest
-names_first x ts rest f = partly_first (behind (mark M.Comma)) one_name (AtMost 4) names_go_on x ts rest follows f
+names_first x ts rest f = partly_first (following (mark M.Comma)) one_name (AtMost 4) names_go_on x ts rest follows f
 
 pub names_more : (all : List (List ℕ)) (x : List ℕ) (ts rest ahead after : List Lexeme) → PartlyNames all ts rest → rest ≡ mark M.Comma ∷ ahead → Found one_name (AtMost 4) ahead x after → PartlyNames (all ++ (x ∷ [])) ts after
 names_more all x ts rest ahead after w e f =
-    partly_more (some (behind (mark M.Comma)) one_name) (behind (mark M.Comma)) one_name names_go_on 1 all x ts rest after w
-    (next_behind (mark M.Comma) one_name (AtMost 4) names_go_on x rest ahead after refl follows e f)
+    partly_more (some (following (mark M.Comma)) one_name) (following (mark M.Comma)) one_name names_go_on 1 all x ts rest after w
+    (next_after (mark M.Comma) one_name (AtMost 4) names_go_on x rest ahead after refl follows e f)
 
 pub names_found : (all : List (List ℕ)) (ts rest : List Lexeme) → PartlyNames all ts rest → NotAt (mark M.Comma) rest → Found some_names (NoneOf names_go_on) ts all rest
 names_found all ts rest w n =
-    found_written (some (behind (mark M.Comma)) one_name) some_names (NoneOf names_go_on) ts all rest some_names_are
-    (partly_found (some (behind (mark M.Comma)) one_name) (behind (mark M.Comma)) one_name names_go_on all ts rest w (none_behind (mark M.Comma) one_name names_go_on rest n))
+    found_written (some (following (mark M.Comma)) one_name) some_names (NoneOf names_go_on) ts all rest some_names_are
+    (partly_found (some (following (mark M.Comma)) one_name) (following (mark M.Comma)) one_name names_go_on all ts rest w (none_after (mark M.Comma) one_name names_go_on rest n))
 
 pub names_missing : (all : List (List ℕ)) (ts rest ahead : List Lexeme) → PartlyNames all ts rest → rest ≡ mark M.Comma ∷ ahead → Missing one_name (AtMost 4) ahead → Missing some_names (NoneOf names_go_on) ts
 names_missing all ts rest ahead w e m =
-    missing_written (some (behind (mark M.Comma)) one_name) some_names (NoneOf names_go_on) ts some_names_are
-    (missing_behind (some (behind (mark M.Comma)) one_name) (mark M.Comma) one_name (AtMost 4) names_go_on 1 all ts rest ahead w refl follows e m)
+    missing_written (some (following (mark M.Comma)) one_name) some_names (NoneOf names_go_on) ts some_names_are
+    (missing_after (some (following (mark M.Comma)) one_name) (mark M.Comma) one_name (AtMost 4) names_go_on 1 all ts rest ahead w refl follows e m)
 
 first_missing : (ts : List Lexeme) → Missing one_name (AtMost 4) ts → (us : List (List ℕ)) (is : List Item) → Runs either (some_names us is) ts → ⊥
 first_missing ts m [] is r = let e = r.0 in cc
@@ -187,9 +187,9 @@ terms_at fs xs ahead middle after f g = record {
   no_longer = omega (arith, f.no_longer, g.no_longer);
 }
 
-pub found_terms : (fs xs : List (List ℕ)) (ts ahead middle rest behind_terms after : List Lexeme) → ts ≡ mark M.OpenParenthesis ∷ ahead → Names ahead fs rest → rest ≡ mark M.Bar ∷ middle →
-    Names middle xs behind_terms → behind_terms ≡ mark M.CloseParenthesis ∷ after → FoundAny parameters (AtMost 3) ts (with_terms fs xs) after
-found_terms fs xs ts ahead middle rest behind_terms after e f g k l = rw e (terms_at fs xs ahead middle after (rw g at f) (rw l at k))
+pub found_terms : (fs xs : List (List ℕ)) (ts ahead middle rest after_terms after : List Lexeme) → ts ≡ mark M.OpenParenthesis ∷ ahead → Names ahead fs rest → rest ≡ mark M.Bar ∷ middle →
+    Names middle xs after_terms → after_terms ≡ mark M.CloseParenthesis ∷ after → FoundAny parameters (AtMost 3) ts (with_terms fs xs) after
+found_terms fs xs ts ahead middle rest after_terms after e f g k l = rw e (terms_at fs xs ahead middle after (rw g at f) (rw l at k))
 
 -- no names after the parenthesis
 names_none_in : (ahead : List Lexeme) → Missing names (NoneOf any_names_go_on) ahead → (u : ParameterTree) (is : List Item) → AtMost 3 is → Runs either (parameters u is) (mark M.OpenParenthesis ∷ ahead) → ⊥

@@ -52,11 +52,11 @@ alone : (xs : List Pattern) (p : PatternTree) → length xs ≡ 0 → patterns_i
 alone [] p e = refl
 alone (x ∷ xs) p e = absurd (omega arith)
 
-behind_some : (xs : List Pattern) (p : PatternTree) → 0 < length xs →
+after_some : (xs : List Pattern) (p : PatternTree) → 0 < length xs →
     patterns_in_parentheses (patterns_then (map pattern_of xs) (more_patterns p no_patterns)) ≡ tuple (patterns_then (map pattern_of xs) (more_patterns p no_patterns))
-behind_some [] p h = absurd (omega arith)
-behind_some (x ∷ []) p h = refl
-behind_some (x ∷ y ∷ xs) p h = refl
+after_some [] p h = absurd (omega arith)
+after_some (x ∷ []) p h = refl
+after_some (x ∷ y ∷ xs) p h = refl
 
 -- one pattern alone is grouped
 pub one_grouped : (done : Vec Pattern Global) (p : PatternTree) → length done.items ≡ 0 → patterns_in_parentheses (patterns_with done p no_patterns) ≡ grouped p
@@ -65,7 +65,7 @@ one_grouped done p e = alone done.items p e
 -- a pattern after others makes them a tuple
 pub more_tuple : (done grown : Vec Pattern Global) (part : Pattern) → grown.items ≡ done.items ++ (part ∷ []) → 0 < length done.items →
     patterns_in_parentheses (patterns_with done (pattern_of part) no_patterns) ≡ tuple (patterns_of grown.items)
-more_tuple done grown part e h = behind_some done.items (pattern_of part) h ∙ ap tuple (sym (pushed_last done grown part e))
+more_tuple done grown part e h = after_some done.items (pattern_of part) h ∙ ap tuple (sym (pushed_last done grown part e))
 
 -- ---- what a test of an empty list tells
 

@@ -17,8 +17,8 @@ abbrev pub some : {T : Type 0} → (List Item → List Item) → (T → List Ite
 some lead write [] is = only false ∷ is
 some lead write (x ∷ xs) is = write x (many lead write xs is)
 
-abbrev pub behind : Lexeme → List Item → List Item
-behind t is = token t ∷ is
+abbrev pub following : Lexeme → List Item → List Item
+following t is = token t ∷ is
 
 -- the first of these trees are all those that have been read
 pub record Left {T : Type 0} (lead : List Item → List Item) (write : T → List Item → List Item) (all us : List T) (is : List Item) (rest : List Lexeme) : Type 0 where
@@ -136,12 +136,12 @@ partly_nested begin lead write these least all x ts rest w d = record {
 goes_on : (these : Lexeme → Bool) (t : Lexeme) (rest : List Lexeme) → these t ≡ true → (is : List Item) → NoneOf these is → Runs either is (t ∷ rest) → ⊥
 goes_on these t rest e is h r = let f = h t rest r in cc
 
-pub next_behind : {T : Type 0} (t : Lexeme) (write : T → List Item → List Item) (Stops : List Item → Type 0) (these : Lexeme → Bool) (x : T) (rest ahead after : List Lexeme) →
-    these t ≡ true → ((us : List T) (is : List Item) → NoneOf these is → Stops (many (behind t) write us is)) → rest ≡ t ∷ ahead → Found write Stops ahead x after →
-    Next (behind t) write these x rest after
-next_behind t write Stops these x rest ahead after on follows e f = rw e (record {
+pub next_after : {T : Type 0} (t : Lexeme) (write : T → List Item → List Item) (Stops : List Item → Type 0) (these : Lexeme → Bool) (x : T) (rest ahead after : List Lexeme) →
+    these t ≡ true → ((us : List T) (is : List Item) → NoneOf these is → Stops (many (following t) write us is)) → rest ≡ t ∷ ahead → Found write Stops ahead x after →
+    Next (following t) write these x rest after
+next_after t write Stops these x rest ahead after on follows e f = rw e (record {
   sound = λ way is r. (refl, f.sound way is r);
-  only_one = λ u us is h r. f.only_one u (many (behind t) write us is) (follows us is h) r.1;
+  only_one = λ u us is h r. f.only_one u (many (following t) write us is) (follows us is h) r.1;
   goes_on = goes_on these t ahead on;
   no_longer = omega (arith, f.shorter);
 })
@@ -150,24 +150,24 @@ pub none_at : (t : Lexeme) (rest : List Lexeme) (is : List Item) → NotAt t res
 none_at t [] is n r = absurd r
 none_at t (u ∷ rest) is n r = n rest (ap (λ v. v ∷ rest) r.0)
 
-pub none_behind : {T : Type 0} (t : Lexeme) (write : T → List Item → List Item) (these : Lexeme → Bool) (rest : List Lexeme) → NotAt t rest → NoMore (behind t) write these rest
-none_behind t write these rest n = record { none = λ u us is h r. none_at t rest (write u (many (behind t) write us is)) n r }
+pub none_after : {T : Type 0} (t : Lexeme) (write : T → List Item → List Item) (these : Lexeme → Bool) (rest : List Lexeme) → NotAt t rest → NoMore (following t) write these rest
+none_after t write these rest n = record { none = λ u us is h r. none_at t rest (write u (many (following t) write us is)) n r }
 
 -- after the token is no tree
-pub missing_behind : {T : Type 0} (begin : List T → List Item → List Item) (t : Lexeme) (write : T → List Item → List Item) (Stops : List Item → Type 0) (these : Lexeme → Bool) (least : ℕ) (all : List T) (ts rest ahead : List Lexeme) →
-    Partly begin (behind t) write these least all ts rest → these t ≡ true → ((us : List T) (is : List Item) → NoneOf these is → Stops (many (behind t) write us is)) →
+pub missing_after : {T : Type 0} (begin : List T → List Item → List Item) (t : Lexeme) (write : T → List Item → List Item) (Stops : List Item → Type 0) (these : Lexeme → Bool) (least : ℕ) (all : List T) (ts rest ahead : List Lexeme) →
+    Partly begin (following t) write these least all ts rest → these t ≡ true → ((us : List T) (is : List Item) → NoneOf these is → Stops (many (following t) write us is)) →
     rest ≡ t ∷ ahead → Missing write Stops ahead → Missing begin (NoneOf these) ts
-missing_behind begin t write Stops these least all ts rest ahead w on follows e m =
-    let w' : Partly begin (behind t) write these least all ts (t ∷ ahead) = rw e at w in
-    partly_missing begin (behind t) write these least all ts (t ∷ ahead) w'
-    (record { none = λ u us is h r. m.none u (many (behind t) write us is) (follows us is h) r.1 })
+missing_after begin t write Stops these least all ts rest ahead w on follows e m =
+    let w' : Partly begin (following t) write these least all ts (t ∷ ahead) = rw e at w in
+    partly_missing begin (following t) write these least all ts (t ∷ ahead) w'
+    (record { none = λ u us is h r. m.none u (many (following t) write us is) (follows us is h) r.1 })
     (goes_on these t ahead on)
 
-pub nested_behind : {T : Type 0} (begin : List T → List Item → List Item) (t : Lexeme) (write : T → List Item → List Item) (these : Lexeme → Bool) (least : ℕ) (all : List T) (ts rest ahead : List Lexeme) →
-    Partly begin (behind t) write these least all ts rest → rest ≡ t ∷ ahead → Nested write ahead → Nested begin ts
-nested_behind begin t write these least all ts rest ahead w e d =
-    let w' : Partly begin (behind t) write these least all ts (t ∷ ahead) = rw e at w in
-    partly_nested begin (behind t) write these least all d.tree ts (t ∷ ahead) w' (λ is. (refl, d.runs is))
+pub nested_after : {T : Type 0} (begin : List T → List Item → List Item) (t : Lexeme) (write : T → List Item → List Item) (these : Lexeme → Bool) (least : ℕ) (all : List T) (ts rest ahead : List Lexeme) →
+    Partly begin (following t) write these least all ts rest → rest ≡ t ∷ ahead → Nested write ahead → Nested begin ts
+nested_after begin t write these least all ts rest ahead w e d =
+    let w' : Partly begin (following t) write these least all ts (t ∷ ahead) = rw e at w in
+    partly_nested begin (following t) write these least all d.tree ts (t ∷ ahead) w' (λ is. (refl, d.runs is))
 
 -- ---- one tree right after the other
 

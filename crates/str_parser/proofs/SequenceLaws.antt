@@ -57,39 +57,39 @@ found_last k ts rest a l f n = record {
 -- ---- ; after it
 
 -- a sequence that runs along the tokens has this step first, and goes on with the sequence on its right
-record ToOthers (k : ℕ) (behind : List Lexeme) (a : StepTree) (u : SequenceTree) (is : List Item) : Type 0 where
+record ToOthers (k : ℕ) (following : List Lexeme) (a : StepTree) (u : SequenceTree) (is : List Item) : Type 0 where
   others : SequenceTree
   is_then : u ≡ then a others
-  runs : Runs either (inner_sequence (k + 1) others is) behind
+  runs : Runs either (inner_sequence (k + 1) others is) following
 
-to_others : (k : ℕ) (ts behind : List Lexeme) (a : StepTree) → k ≤ 200 → Found (step k) (AtMost 2) ts a (mark M.Semicolon ∷ behind) →
-    (u : SequenceTree) (is : List Item) → AtMost 1 is → Runs either (inner_sequence k u is) ts → ToOthers k behind a u is
-to_others k ts behind a l f (last b) is h r =
+to_others : (k : ℕ) (ts following : List Lexeme) (a : StepTree) → k ≤ 200 → Found (step k) (AtMost 2) ts a (mark M.Semicolon ∷ following) →
+    (u : SequenceTree) (is : List Item) → AtMost 1 is → Runs either (inner_sequence k u is) ts → ToOthers k following a u is
+to_others k ts following a l f (last b) is h r =
     let e = f.only_one b is (omega (arith, h)) (passed strategy_part k (step k b is) ts l r) in
-    absurd (omega (arith, binds_less is (mark M.Semicolon) behind e.1, h))
-to_others k ts behind a l f (then b q) is h r =
+    absurd (omega (arith, binds_less is (mark M.Semicolon) following e.1, h))
+to_others k ts following a l f (then b q) is h r =
     let e = f.only_one b (sign M.Semicolon ∷ inner_sequence (k + 1) q is) (omega arith) (passed strategy_part k (step k b (sign M.Semicolon ∷ inner_sequence (k + 1) q is)) ts l r) in
     record { others = q; is_then = ap (λ x. then x q) e.0; runs = e.1.1 }
 
-pub missing_others : (k : ℕ) (ts behind : List Lexeme) (a : StepTree) → k ≤ 200 → Found (step k) (AtMost 2) ts a (mark M.Semicolon ∷ behind) →
-    Missing (inner_sequence (k + 1)) (AtMost 1) behind → Missing (inner_sequence k) (AtMost 1) ts
-missing_others k ts behind a l f n = record {
-  none = λ u is h r. let t = to_others k ts behind a l f u is h r in n.none t.others is h t.runs;
+pub missing_others : (k : ℕ) (ts following : List Lexeme) (a : StepTree) → k ≤ 200 → Found (step k) (AtMost 2) ts a (mark M.Semicolon ∷ following) →
+    Missing (inner_sequence (k + 1)) (AtMost 1) following → Missing (inner_sequence k) (AtMost 1) ts
+missing_others k ts following a l f n = record {
+  none = λ u is h r. let t = to_others k ts following a l f u is h r in n.none t.others is h t.runs;
 }
 
-pub nested_others : (k : ℕ) (ts behind : List Lexeme) (a : StepTree) → k ≤ 200 → Found (step k) (AtMost 2) ts a (mark M.Semicolon ∷ behind) →
-    Nested (inner_sequence (k + 1)) behind → Nested (inner_sequence k) ts
-nested_others k ts behind a l f n = record {
+pub nested_others : (k : ℕ) (ts following : List Lexeme) (a : StepTree) → k ≤ 200 → Found (step k) (AtMost 2) ts a (mark M.Semicolon ∷ following) →
+    Nested (inner_sequence (k + 1)) following → Nested (inner_sequence k) ts
+nested_others k ts following a l f n = record {
   tree = then a n.tree;
   runs = λ is. passes too_deep strategy_part k (step k a (sign M.Semicolon ∷ inner_sequence (k + 1) n.tree is)) ts l (f.sound too_deep (sign M.Semicolon ∷ inner_sequence (k + 1) n.tree is) (refl, n.runs is));
 }
 
-pub found_then : (k : ℕ) (ts behind rest : List Lexeme) (a : StepTree) (q : SequenceTree) → k ≤ 200 → Found (step k) (AtMost 2) ts a (mark M.Semicolon ∷ behind) →
-    Found (inner_sequence (k + 1)) (AtMost 1) behind q rest → Found (inner_sequence k) (AtMost 1) ts (then a q) rest
-found_then k ts behind rest a q l f g = record {
+pub found_then : (k : ℕ) (ts following rest : List Lexeme) (a : StepTree) (q : SequenceTree) → k ≤ 200 → Found (step k) (AtMost 2) ts a (mark M.Semicolon ∷ following) →
+    Found (inner_sequence (k + 1)) (AtMost 1) following q rest → Found (inner_sequence k) (AtMost 1) ts (then a q) rest
+found_then k ts following rest a q l f g = record {
   sound = λ way is r. passes way strategy_part k (step k a (sign M.Semicolon ∷ inner_sequence (k + 1) q is)) ts l (f.sound way (sign M.Semicolon ∷ inner_sequence (k + 1) q is) (refl, g.sound way is r));
   only_one = λ u is h r.
-      let t = to_others k ts behind a l f u is h r in
+      let t = to_others k ts following a l f u is h r in
       let e = g.only_one t.others is h t.runs in
       (t.is_then ∙ ap (then a) e.0, e.1);
   shorter = omega (arith, f.shorter, g.shorter);
@@ -124,39 +124,39 @@ found_plain_step k ts rest a f n = record {
 }
 
 -- a step that runs along the tokens is this primary with => and the pattern on its right
-record ToPattern (k : ℕ) (behind : List Lexeme) (a : PrimaryTree) (u : StepTree) (is : List Item) : Type 0 where
+record ToPattern (k : ℕ) (following : List Lexeme) (a : PrimaryTree) (u : StepTree) (is : List Item) : Type 0 where
   right : PatternTree
   is_matching : u ≡ matching a right
-  runs : Runs either (inner_pattern true (k + 1) right is) behind
+  runs : Runs either (inner_pattern true (k + 1) right is) following
 
-to_pattern : (k : ℕ) (ts behind : List Lexeme) (a : PrimaryTree) → Found (primary k) (AtMost 3) ts a (mark M.DoubleArrow ∷ behind) →
-    (u : StepTree) (is : List Item) → AtMost 2 is → Runs either (step k u is) ts → ToPattern k behind a u is
-to_pattern k ts behind a f (plain_step b) is h r =
+to_pattern : (k : ℕ) (ts following : List Lexeme) (a : PrimaryTree) → Found (primary k) (AtMost 3) ts a (mark M.DoubleArrow ∷ following) →
+    (u : StepTree) (is : List Item) → AtMost 2 is → Runs either (step k u is) ts → ToPattern k following a u is
+to_pattern k ts following a f (plain_step b) is h r =
     let e = f.only_one b is (omega (arith, h)) r in
-    absurd (omega (arith, binds_less is (mark M.DoubleArrow) behind e.1, h))
-to_pattern k ts behind a f (matching b p) is h r =
+    absurd (omega (arith, binds_less is (mark M.DoubleArrow) following e.1, h))
+to_pattern k ts following a f (matching b p) is h r =
     let e = f.only_one b (sign M.DoubleArrow ∷ inner_pattern true (k + 1) p is) (omega arith) r in
     record { right = p; is_matching = ap (λ x. matching x p) e.0; runs = e.1.1 }
 
-pub missing_matched : (k : ℕ) (ts behind : List Lexeme) (a : PrimaryTree) → Found (primary k) (AtMost 3) ts a (mark M.DoubleArrow ∷ behind) →
-    Missing (inner_pattern true (k + 1)) (AtMost 3) behind → Missing (step k) (AtMost 2) ts
-missing_matched k ts behind a f n = record {
-  none = λ u is h r. let t = to_pattern k ts behind a f u is h r in n.none t.right is (omega (arith, h)) t.runs;
+pub missing_matched : (k : ℕ) (ts following : List Lexeme) (a : PrimaryTree) → Found (primary k) (AtMost 3) ts a (mark M.DoubleArrow ∷ following) →
+    Missing (inner_pattern true (k + 1)) (AtMost 3) following → Missing (step k) (AtMost 2) ts
+missing_matched k ts following a f n = record {
+  none = λ u is h r. let t = to_pattern k ts following a f u is h r in n.none t.right is (omega (arith, h)) t.runs;
 }
 
-pub nested_matched : (k : ℕ) (ts behind : List Lexeme) (a : PrimaryTree) → Found (primary k) (AtMost 3) ts a (mark M.DoubleArrow ∷ behind) →
-    Nested (inner_pattern true (k + 1)) behind → Nested (step k) ts
-nested_matched k ts behind a f n = record {
+pub nested_matched : (k : ℕ) (ts following : List Lexeme) (a : PrimaryTree) → Found (primary k) (AtMost 3) ts a (mark M.DoubleArrow ∷ following) →
+    Nested (inner_pattern true (k + 1)) following → Nested (step k) ts
+nested_matched k ts following a f n = record {
   tree = matching a n.tree;
   runs = λ is. f.sound too_deep (sign M.DoubleArrow ∷ inner_pattern true (k + 1) n.tree is) (refl, n.runs is);
 }
 
-pub found_matching : (k : ℕ) (ts behind rest : List Lexeme) (a : PrimaryTree) (p : PatternTree) → Found (primary k) (AtMost 3) ts a (mark M.DoubleArrow ∷ behind) →
-    Found (inner_pattern true (k + 1)) (AtMost 3) behind p rest → Found (step k) (AtMost 2) ts (matching a p) rest
-found_matching k ts behind rest a p f g = record {
+pub found_matching : (k : ℕ) (ts following rest : List Lexeme) (a : PrimaryTree) (p : PatternTree) → Found (primary k) (AtMost 3) ts a (mark M.DoubleArrow ∷ following) →
+    Found (inner_pattern true (k + 1)) (AtMost 3) following p rest → Found (step k) (AtMost 2) ts (matching a p) rest
+found_matching k ts following rest a p f g = record {
   sound = λ way is r. f.sound way (sign M.DoubleArrow ∷ inner_pattern true (k + 1) p is) (refl, g.sound way is r);
   only_one = λ u is h r.
-      let t = to_pattern k ts behind a f u is h r in
+      let t = to_pattern k ts following a f u is h r in
       let e = g.only_one t.right is (omega (arith, h)) t.runs in
       (t.is_matching ∙ ap (matching a) e.0, e.1);
   shorter = omega (arith, f.shorter, g.shorter);

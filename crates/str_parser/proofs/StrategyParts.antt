@@ -10,7 +10,7 @@ use Rattle.str_syntax.specs.Views.{strategy_of, strategies_of}
 use Rattle.str_parser.specs.Lexemes.{Lexeme, keyword, mark}
 use Rattle.str_parser.specs.Items.{Item, Way, either, Runs}
 use Rattle.str_parser.specs.Readings.{Run, Leads, NoRun, NotAt}
-use Rattle.str_parser.specs.Begun.{strategies_then, strategies_with, in_parentheses, Goes, goes_apply, goes_parenthesized, goes_bracketed, goes_to_tail, goes_tail, goes_arguments, goes_to_terms, goes_scope, goes_operator, goes_recursive, goes_condition, goes_condition_else, goes_consequence, goes_consequence_else, goes_alternative, GoesBehindBar, goes_behind_bar, goes_apply_to, Continues, at_strategy, at_pattern}
+use Rattle.str_parser.specs.Begun.{strategies_then, strategies_with, in_parentheses, Goes, goes_apply, goes_parenthesized, goes_bracketed, goes_to_tail, goes_tail, goes_arguments, goes_to_terms, goes_scope, goes_operator, goes_recursive, goes_condition, goes_condition_else, goes_consequence, goes_consequence_else, goes_alternative, GoesBehindBar, goes_after_bar, goes_apply_to, Continues, at_strategy, at_pattern}
 use Rattle.str_parser.specs.declared.begun.BeforeStrategy.TheVariants as B
 use Rattle.str_parser.specs.declared.begun.BeforePattern.TheVariants as P
 use Rattle.str_parser.specs.declared.begun.Begun.TheVariants as states
@@ -254,7 +254,7 @@ argument_leads k f done parts s rest pushed = record {
 bar_sound : (k : ℕ) (f : Bytes) (done parts : Vec Strategy Global) (s : Strategy) (rest : List Lexeme) → parts.items ≡ done.items ++ (s ∷ []) →
     (way : Way) (u : PrimaryTree) (is left : List Item) → GoesBehindBar f parts k u is left → Runs way left rest →
     Run (Goes k (B.Arguments f done) (strategy_of s)) way u is (mark M.Bar ∷ rest)
-bar_sound k f done parts s rest pushed way u is left (goes_behind_bar ps e) r = record {
+bar_sound k f done parts s rest pushed way u is left (goes_after_bar ps e) r = record {
   left = _;
   goes = goes_to_terms no_strategies ps (e ∙ ap (λ xs. call f (all_arguments xs ps)) (sym (strategies_ended done parts s pushed)));
   runs = (refl, r);
@@ -267,7 +267,7 @@ bar_all k f done parts s rest pushed u is left (goes_arguments no_strategies e) 
 bar_all k f done parts s rest pushed u is left (goes_arguments (more_strategies t ss) e) r = let no : mark M.Bar ≡ mark M.Comma = r.0 in cc
 bar_all k f done parts s rest pushed u is left (goes_to_terms no_strategies ps e) r = record {
   left = _;
-  goes = goes_behind_bar ps (e ∙ ap (λ xs. call f (all_arguments xs ps)) (strategies_ended done parts s pushed));
+  goes = goes_after_bar ps (e ∙ ap (λ xs. call f (all_arguments xs ps)) (strategies_ended done parts s pushed));
   runs = r.1;
 }
 bar_all k f done parts s rest pushed u is left (goes_to_terms (more_strategies t ss) ps e) r = let no : mark M.Bar ≡ mark M.Comma = r.0 in cc

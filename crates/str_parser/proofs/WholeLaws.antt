@@ -34,7 +34,7 @@ whole_leads k b e ends = record {
 
 pub whole_next : (Rest : ℕ → PrimaryTree → List Item → List Item → Type 0) (t : PrimaryTree) (ts rest : List Lexeme) (result : Result Begun Fault) →
     IsWhole t rest result → ((k : ℕ) → EndsWith (Rest k) t ts rest) → IsNext Rest ts result
-whole_next Rest t ts rest (Ok (states.Whole b behind)) w ends = λ k. rw (w.1) (whole_leads k b w.0 (ends k))
+whole_next Rest t ts rest (Ok (states.Whole b following)) w ends = λ k. rw (w.1) (whole_leads k b w.0 (ends k))
 whole_next Rest t ts rest (Err faults.Memory) w ends = tt
 whole_next Rest t ts rest (Ok (states.ToStrategy _ _)) w ends = absurd w
 whole_next Rest t ts rest (Ok (states.ToPattern _ _)) w ends = absurd w

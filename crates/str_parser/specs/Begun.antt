@@ -148,7 +148,7 @@ pub data GoesToDefinition (done : Vec StrategyDefinition Global) (k : ℕ) : Pri
 
 -- how a call goes on after its strategies and |
 pub data GoesBehindBar (f : Bytes) (ss : Vec Strategy Global) (k : ℕ) : PrimaryTree → List Item → List Item → Type 0 where
-  goes_behind_bar : (ps : PatternTrees) {u : PrimaryTree} {is : List Item} →
+  goes_after_bar : (ps : PatternTrees) {u : PrimaryTree} {is : List Item} →
       u ≡ call f (all_arguments (strategies_of ss.items) ps) → GoesBehindBar f ss k u is (patterns false (k + 1) ps (sign M.CloseParenthesis ∷ is))
 
 -- whether the pattern that comes next is in a match
@@ -166,14 +166,14 @@ pub data Continues (k : ℕ) : Begun → PrimaryTree → List Item → List Item
       GoesBy k before p u is left → Continues k (states.ToPattern before rest) u is (inner_pattern (wants_match before) (k + 1) p left)
 
 -- the tokens after what has been read
-abbrev pub behind : Begun → List Lexeme
-behind (states.Whole _ rest) = rest
-behind (states.ToStrategy _ rest) = rest
-behind (states.ToPattern _ rest) = rest
+abbrev pub following : Begun → List Lexeme
+following (states.Whole _ rest) = rest
+following (states.ToStrategy _ rest) = rest
+following (states.ToPattern _ rest) = rest
 
 -- the primary goes on, at every level, as what has been read says; or it does not go on so
 abbrev pub IsNext : (ℕ → PrimaryTree → List Item → List Item → Type 0) → List Lexeme → Result Begun Fault → Type 0
-IsNext Rest ts (Ok b) = (k : ℕ) → Leads (Rest k) (Continues k b) ts (behind b)
+IsNext Rest ts (Ok b) = (k : ℕ) → Leads (Rest k) (Continues k b) ts (following b)
 IsNext Rest ts (Err faults.Memory) = Unit {0}
 IsNext Rest ts (Err (faults.Syntax _)) = (k : ℕ) → NoRun (Rest k) ts
 IsNext Rest ts (Err _) = ⊥
@@ -222,14 +222,14 @@ pub data ContinuesPattern (in_match : Bool) (k : ℕ) : BegunPattern → Pattern
   pattern_at_pattern : {before : BeforeInner} {rest : List Lexeme} (p : PatternTree) {u : PatternTree} {is left : List Item} →
       GoesIn in_match k before p u is left → ContinuesPattern in_match k (pattern_states.ToPattern before rest) u is (inner_pattern in_match (k + 1) p left)
 
-abbrev pub behind_pattern : BegunPattern → List Lexeme
-behind_pattern (pattern_states.Whole _ rest) = rest
-behind_pattern (pattern_states.ToStrategy rest) = rest
-behind_pattern (pattern_states.ToPattern _ rest) = rest
+abbrev pub after_pattern : BegunPattern → List Lexeme
+after_pattern (pattern_states.Whole _ rest) = rest
+after_pattern (pattern_states.ToStrategy rest) = rest
+after_pattern (pattern_states.ToPattern _ rest) = rest
 
 -- the pattern goes on, at every level, as what has been read says; or it does not go on so
 abbrev pub IsNextPattern : (Bool → ℕ → PatternTree → List Item → List Item → Type 0) → Bool → List Lexeme → Result BegunPattern Fault → Type 0
-IsNextPattern Rest in_match ts (Ok b) = (k : ℕ) → Leads (Rest in_match k) (ContinuesPattern in_match k b) ts (behind_pattern b)
+IsNextPattern Rest in_match ts (Ok b) = (k : ℕ) → Leads (Rest in_match k) (ContinuesPattern in_match k b) ts (after_pattern b)
 IsNextPattern Rest in_match ts (Err faults.Memory) = Unit {0}
 IsNextPattern Rest in_match ts (Err (faults.Syntax _)) = (k : ℕ) → NoRun (Rest in_match k) ts
 IsNextPattern Rest in_match ts (Err _) = ⊥

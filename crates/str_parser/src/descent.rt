@@ -80,14 +80,14 @@ pub(crate) fn strategy<'a>(
         return Err(beyond(&input, begins_strategy(&input)));
     }
     let (first, rest) = sequence(alloc, input, level)?;
-    if let Some(behind) = rest.after(Mark::LeftChoice) {
-        let (other, rest) = strategy(alloc, behind, level + 1)?;
+    if let Some(following) = rest.after(Mark::LeftChoice) {
+        let (other, rest) = strategy(alloc, following, level + 1)?;
         return Ok((Strategy::LeftChoice(first, Box::new(alloc, other)?), rest));
     }
-    let Some(behind) = rest.after(Mark::Less) else {
+    let Some(following) = rest.after(Mark::Less) else {
         return Ok((Strategy::Sequence(first), rest));
     };
-    guarded_choice(alloc, first, behind, level)
+    guarded_choice(alloc, first, following, level)
 }
 
 // Reads the guarded choice at this level of which the first sequence and `<` stand before the tokens; also returns the tokens after it.
@@ -102,10 +102,10 @@ fn guarded_choice<'a>(
     ensures { (ts : List L) → Found (inner_sequence level) (AtMost 1) ts (sequence_of first) (mark M.Less ∷ input.entry) → IsReading (inner_strategy level) (AtMost 0) strategy_of ts result }
 {
     let (then, rest) = strategy(alloc, input, level + 1)?;
-    let Some(behind) = rest.after(Mark::Plus) else {
+    let Some(following) = rest.after(Mark::Plus) else {
         return Err(rest.syntax());
     };
-    let (other, rest) = strategy(alloc, behind, level + 1)?;
+    let (other, rest) = strategy(alloc, following, level + 1)?;
     let then = Box::new(alloc, then)?;
     let made = Strategy::GuardedChoice(first, then, Box::new(alloc, other)?);
     Ok((made, rest))
@@ -121,10 +121,10 @@ fn sequence<'a>(alloc: Global, input: Input<'a>, level: u32) -> Result<(Sequence
         return Err(beyond(&input, begins_strategy(&input)));
     }
     let (first, rest) = step(alloc, input, level)?;
-    let Some(behind) = rest.after(Mark::Semicolon) else {
+    let Some(following) = rest.after(Mark::Semicolon) else {
         return Ok((Sequence::Last(first), rest));
     };
-    let (others, rest) = sequence(alloc, behind, level + 1)?;
+    let (others, rest) = sequence(alloc, following, level + 1)?;
     Ok((Sequence::Then(first, Box::new(alloc, others)?), rest))
 }
 
@@ -135,10 +135,10 @@ fn step<'a>(alloc: Global, input: Input<'a>, level: u32) -> Result<(Step, Input<
     ensures { IsReading (step level) (AtMost 2) step_of input.entry result }
 {
     let (first, rest) = primary(alloc, input, level)?;
-    let Some(behind) = rest.after(Mark::DoubleArrow) else {
+    let Some(following) = rest.after(Mark::DoubleArrow) else {
         return Ok((Step::Plain(first), rest));
     };
-    let (matched, rest) = pattern(alloc, behind, true, level + 1)?;
+    let (matched, rest) = pattern(alloc, following, true, level + 1)?;
     Ok((Step::Matching(first, Box::new(alloc, matched)?), rest))
 }
 

@@ -19,18 +19,18 @@ use term_model::Fault;
 fn section<'a>(alloc: Global, input: Input<'a>) -> Result<(Section, Input<'a>), Fault>
     ensures { IsReading Phrases.section EndsSection section_of input.entry result }
 {
-    if let Some(behind) = input.after_keyword(Keyword::Signature) {
-        let (parts, rest) = signature_parts(alloc, behind)?;
+    if let Some(following) = input.after_keyword(Keyword::Signature) {
+        let (parts, rest) = signature_parts(alloc, following)?;
         return Ok((Section::Signature(parts), rest));
     }
-    if let Some(behind) = input.after_keyword(Keyword::Rules) {
-        let (definitions, rest) = definitions(alloc, behind)?;
+    if let Some(following) = input.after_keyword(Keyword::Rules) {
+        let (definitions, rest) = definitions(alloc, following)?;
         return Ok((Section::Rules(definitions), rest));
     }
-    let Some(behind) = input.after_keyword(Keyword::Strategies) else {
+    let Some(following) = input.after_keyword(Keyword::Strategies) else {
         return Err(input.syntax());
     };
-    let (definitions, rest) = definitions(alloc, behind)?;
+    let (definitions, rest) = definitions(alloc, following)?;
     Ok((Section::Strategies(definitions), rest))
 }
 
@@ -41,9 +41,9 @@ fn sections<'a>(alloc: Global, input: Input<'a>) -> Result<Vec<Section>, Fault>
     let mut sections = Vec::new(alloc);
     let mut rest = input;
     while !rest.is_empty() {
-        let (section, behind) = section(alloc, rest)?;
+        let (section, following) = section(alloc, rest)?;
         sections.push(section)?;
-        rest = behind;
+        rest = following;
     }
     Ok(sections)
 }

@@ -22,12 +22,12 @@ fn rule<'a>(alloc: Global, input: Input<'a>) -> Result<(Rule, Input<'a>), Fault>
 {
     let (left, rest) = pattern(alloc, input, true, 1)?;
     let left = Box::new(alloc, left)?;
-    let Some(behind) = rest.after(Mark::Arrow) else {
+    let Some(following) = rest.after(Mark::Arrow) else {
         return Err(rest.syntax());
     };
-    let (right, rest) = pattern(alloc, behind, false, 1)?;
+    let (right, rest) = pattern(alloc, following, false, 1)?;
     let right = Box::new(alloc, right)?;
-    let Some(behind) = rest.after_keyword(Keyword::Where) else {
+    let Some(following) = rest.after_keyword(Keyword::Where) else {
         let condition = None;
         return Ok((
             Rule {
@@ -38,7 +38,7 @@ fn rule<'a>(alloc: Global, input: Input<'a>) -> Result<(Rule, Input<'a>), Fault>
             rest,
         ));
     };
-    let (condition, rest) = strategy(alloc, behind, 1)?;
+    let (condition, rest) = strategy(alloc, following, 1)?;
     let condition = Some(Box::new(alloc, condition)?);
     let made = Rule {
         left,
@@ -62,15 +62,15 @@ fn form<'a>(alloc: Global, input: Input<'a>) -> Result<(DefinitionForm, Input<'a
     ensures { IsReading Phrases.form EndsRule form_of input.entry result }
 {
     let (head, rest) = head(alloc, input)?;
-    if let Some(behind) = rest.after(Mark::Colon) {
-        let (rule, rest) = rule(alloc, behind)?;
+    if let Some(following) = rest.after(Mark::Colon) {
+        let (rule, rest) = rule(alloc, following)?;
         let definition = RuleDefinition { head, rule };
         return Ok((DefinitionForm::Rule(definition), rest));
     }
-    let Some(behind) = rest.after(Mark::Equals) else {
+    let Some(following) = rest.after(Mark::Equals) else {
         return Err(rest.syntax());
     };
-    let (body, rest) = strategy(alloc, behind, 1)?;
+    let (body, rest) = strategy(alloc, following, 1)?;
     let body = Box::new(alloc, body)?;
     let definition = StrategyDefinition { head, body };
     Ok((DefinitionForm::Strategy(definition), rest))
@@ -102,9 +102,9 @@ pub(crate) fn definitions<'a>(
     let mut definitions = Vec::new(alloc);
     let mut rest = input;
     while begins_form(&rest) {
-        let (definition, behind) = definition(alloc, rest)?;
+        let (definition, following) = definition(alloc, rest)?;
         definitions.push(definition)?;
-        rest = behind;
+        rest = following;
     }
     Ok((definitions, rest))
 }

@@ -27,10 +27,10 @@ pub(crate) fn names<'a>(alloc: Global, input: Input<'a>) -> Result<(Vec<Name>, I
     let (first, mut rest) = name(alloc, input)?;
     let mut found = Vec::with_capacity(alloc, 1)?;
     found.push(first)?;
-    while let Some(behind) = rest.after(Mark::Comma) {
-        let (other, behind) = name(alloc, behind)?;
+    while let Some(following) = rest.after(Mark::Comma) {
+        let (other, following) = name(alloc, following)?;
         found.push(other)?;
-        rest = behind;
+        rest = following;
     }
     Ok((found, rest))
 }
@@ -52,17 +52,17 @@ pub(crate) fn parameters<'a>(
 ) -> Result<(Parameters, Input<'a>), Fault>
     ensures { IsReadingAny written_parameters (AtMost 3) parameters_of input.entry result }
 {
-    let Some(behind) = input.after(Mark::OpenParenthesis) else {
+    let Some(following) = input.after(Mark::OpenParenthesis) else {
         return Ok((Parameters::Absent, input));
     };
-    let (strategies, rest) = names_up_to(alloc, behind)?;
+    let (strategies, rest) = names_up_to(alloc, following)?;
     if let Some(rest) = rest.after(Mark::CloseParenthesis) {
         return Ok((Parameters::Strategies(strategies), rest));
     }
-    let Some(behind) = rest.after(Mark::Bar) else {
+    let Some(following) = rest.after(Mark::Bar) else {
         return Err(rest.syntax());
     };
-    let (terms, rest) = names_up_to(alloc, behind)?;
+    let (terms, rest) = names_up_to(alloc, following)?;
     let Some(rest) = rest.after(Mark::CloseParenthesis) else {
         return Err(rest.syntax());
     };

@@ -97,19 +97,19 @@ fn begin_name<'a>(
     ensures { (in_match : Bool) → IsNextPattern WrittenPattern in_match (name bytes.now ∷ input.entry) result }
 {
     let name = Name::new(alloc, bytes, at)?;
-    if let Some(behind) = input.after(Mark::At) {
-        return Ok(BegunPattern::ToPattern(BeforeInner::Alias(name), behind));
+    if let Some(following) = input.after(Mark::At) {
+        return Ok(BegunPattern::ToPattern(BeforeInner::Alias(name), following));
     }
-    let Some(behind) = input.after(Mark::OpenParenthesis) else {
+    let Some(following) = input.after(Mark::OpenParenthesis) else {
         return Ok(BegunPattern::Whole(Pattern::Variable(name), input));
     };
     if !is_constructor(bytes) {
         return Ok(BegunPattern::Whole(Pattern::Variable(name), input));
     }
-    if let Some(rest) = behind.after(Mark::CloseParenthesis) {
+    if let Some(rest) = following.after(Mark::CloseParenthesis) {
         return Ok(BegunPattern::Whole(Pattern::Application(name, Vec::new(alloc)), rest));
     }
     let parts = Vec::with_capacity(alloc, 1)?;
     let before = BeforeInner::Application(name, parts);
-    Ok(BegunPattern::ToPattern(before, behind))
+    Ok(BegunPattern::ToPattern(before, following))
 }

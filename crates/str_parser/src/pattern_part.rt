@@ -55,8 +55,8 @@ fn application<'a>(
 {
     let mut parts = done;
     parts.push(part)?;
-    if let Some(behind) = input.after(Mark::Comma) {
-        return Ok(BegunPattern::ToPattern(BeforeInner::Application(name, parts), behind));
+    if let Some(following) = input.after(Mark::Comma) {
+        return Ok(BegunPattern::ToPattern(BeforeInner::Application(name, parts), following));
     }
     let Some(rest) = input.after(Mark::CloseParenthesis) else {
         return Err(input.syntax());
@@ -73,9 +73,9 @@ fn parenthesized<'a>(
     ensures { (in_match : Bool) → IsNextPattern (HasInner (BeforeInner.Parenthesized done) (pattern_of part)) in_match input.entry result }
 {
     let mut parts = done;
-    if let Some(behind) = input.after(Mark::Comma) {
+    if let Some(following) = input.after(Mark::Comma) {
         parts.push(part)?;
-        return Ok(BegunPattern::ToPattern(BeforeInner::Parenthesized(parts), behind));
+        return Ok(BegunPattern::ToPattern(BeforeInner::Parenthesized(parts), following));
     }
     let Some(rest) = input.after(Mark::CloseParenthesis) else {
         return Err(input.syntax());
@@ -96,11 +96,11 @@ fn bracketed<'a>(
 {
     let mut parts = done;
     parts.push(part)?;
-    if let Some(behind) = input.after(Mark::Comma) {
-        return Ok(BegunPattern::ToPattern(BeforeInner::Bracketed(parts), behind));
+    if let Some(following) = input.after(Mark::Comma) {
+        return Ok(BegunPattern::ToPattern(BeforeInner::Bracketed(parts), following));
     }
-    if let Some(behind) = input.after(Mark::Bar) {
-        return Ok(BegunPattern::ToPattern(BeforeInner::Tail(parts), behind));
+    if let Some(following) = input.after(Mark::Bar) {
+        return Ok(BegunPattern::ToPattern(BeforeInner::Tail(parts), following));
     }
     let Some(rest) = input.after(Mark::CloseBracket) else {
         return Err(input.syntax());

@@ -77,10 +77,10 @@ fn begin_scope<'a>(alloc: Global, input: Input<'a>) -> Result<Begun<'a>, Fault>
     ensures { IsNext Written (L.mark Mark.OpenBrace ∷ input.entry) result }
 {
     let (variables, rest) = names(alloc, input)?;
-    let Some(behind) = rest.after(Mark::Colon) else {
+    let Some(following) = rest.after(Mark::Colon) else {
         return Err(rest.syntax());
     };
-    Ok(Begun::ToStrategy(BeforeStrategy::Scope(variables), behind))
+    Ok(Begun::ToStrategy(BeforeStrategy::Scope(variables), following))
 }
 
 // The primary whose keyword, at this byte, stands before the tokens.
@@ -112,10 +112,10 @@ fn begin_keyword<'a>(
 fn begin_operator<'a>(operator: Operator, input: Input<'a>) -> Result<Begun<'a>, Fault>
     ensures { IsNext Written (L.keyword (keyword_of operator) ∷ input.entry) result }
 {
-    let Some(behind) = input.after(Mark::OpenParenthesis) else {
+    let Some(following) = input.after(Mark::OpenParenthesis) else {
         return Err(input.syntax());
     };
-    Ok(Begun::ToStrategy(BeforeStrategy::Operator(operator), behind))
+    Ok(Begun::ToStrategy(BeforeStrategy::Operator(operator), following))
 }
 
 // The recursive strategy whose `rec` stands before the tokens.
@@ -123,34 +123,34 @@ fn begin_recursive<'a>(alloc: Global, input: Input<'a>) -> Result<Begun<'a>, Fau
     ensures { IsNext Written (L.keyword Keyword.Rec ∷ input.entry) result }
 {
     let (recursive, rest) = name(alloc, input)?;
-    let Some(behind) = rest.after(Mark::OpenParenthesis) else {
+    let Some(following) = rest.after(Mark::OpenParenthesis) else {
         return Err(rest.syntax());
     };
-    Ok(Begun::ToStrategy(BeforeStrategy::Recursive(recursive), behind))
+    Ok(Begun::ToStrategy(BeforeStrategy::Recursive(recursive), following))
 }
 
 // The primitive whose `prim` stands before the tokens.
 fn begin_primitive<'a>(alloc: Global, input: Input<'a>) -> Result<Begun<'a>, Fault>
     ensures { IsNext Written (L.keyword Keyword.Prim ∷ input.entry) result }
 {
-    let Some(behind) = input.after(Mark::OpenParenthesis) else {
+    let Some(following) = input.after(Mark::OpenParenthesis) else {
         return Err(input.syntax());
     };
-    let Some((first, rest)) = behind.first() else {
-        return Err(behind.syntax());
+    let Some((first, rest)) = following.first() else {
+        return Err(following.syntax());
     };
     let Lexeme::Quoted(text) = first else {
-        return Err(behind.syntax());
+        return Err(following.syntax());
     };
     let text = Text::new(alloc, text)?;
     if let Some(rest) = rest.after(Mark::CloseParenthesis) {
         return whole(alloc, Primary::Primitive(text, Vec::new(alloc)), rest);
     }
-    let Some(behind) = rest.after(Mark::Comma) else {
+    let Some(following) = rest.after(Mark::Comma) else {
         return Err(rest.syntax());
     };
     let before = BeforePattern::Primitive(text, Vec::new(alloc));
-    Ok(Begun::ToPattern(before, behind))
+    Ok(Begun::ToPattern(before, following))
 }
 
 // The call whose name, at this byte, stands before the tokens.
@@ -163,19 +163,19 @@ fn begin_name<'a>(
     ensures { IsNext Written (L.name called.now ∷ input.entry) result }
 {
     let called = Name::new(alloc, called, at)?;
-    let Some(behind) = input.after(Mark::OpenParenthesis) else {
+    let Some(following) = input.after(Mark::OpenParenthesis) else {
         return whole(alloc, Primary::Call(called, Arguments::Absent), input);
     };
-    if let Some(rest) = behind.after(Mark::CloseParenthesis) {
+    if let Some(rest) = following.after(Mark::CloseParenthesis) {
         let made = Primary::Call(called, Arguments::Strategies(Vec::new(alloc)));
         return whole(alloc, made, rest);
     }
-    if let Some(rest) = behind.after(Mark::Bar) {
+    if let Some(rest) = following.after(Mark::Bar) {
         return begin_terms(alloc, called, Vec::new(alloc), rest);
     }
     let arguments = Vec::with_capacity(alloc, 1)?;
     let before = BeforeStrategy::Arguments(called, arguments);
-    Ok(Begun::ToStrategy(before, behind))
+    Ok(Begun::ToStrategy(before, following))
 }
 
 // The call with these strategies whose `|` stands before the tokens.
@@ -189,7 +189,8 @@ pub(crate) fn begin_terms<'a>(
 {
     let terms: Vec<Pattern> = Vec::new(alloc);
     if let Some(rest) = input.after(Mark::CloseParenthesis) {
-        let made = Primary::Call(called, Arguments::WithTerms(strategies, terms));
+        let arguments = Arguments::WithTerms(strategies, Box::new(alloc, terms)?);
+        let made = Primary::Call(called, arguments);
         return whole(alloc, made, rest);
     }
     let before = BeforePattern::Terms(called, strategies, terms);

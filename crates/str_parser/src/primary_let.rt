@@ -21,11 +21,11 @@ pub(crate) fn begin_definition<'a>(
 {
     let (defined, rest) = name(alloc, input)?;
     let (parameters, rest) = parameters(alloc, rest)?;
-    let Some(behind) = rest.after(Mark::Equals) else {
+    let Some(following) = rest.after(Mark::Equals) else {
         return Err(rest.syntax());
     };
     let before = BeforeStrategy::Definition(done, defined, parameters);
-    Ok(Begun::ToStrategy(before, behind))
+    Ok(Begun::ToStrategy(before, following))
 }
 
 // The let after this body of a definition.
@@ -43,8 +43,8 @@ pub(crate) fn definition<'a>(
     let body = Box::new(alloc, body)?;
     let head = DefinitionHead { name, parameters };
     definitions.push(StrategyDefinition { head, body })?;
-    if let Some(behind) = input.after_keyword(Keyword::In) {
-        return Ok(Begun::ToStrategy(BeforeStrategy::LetBody(definitions), behind));
+    if let Some(following) = input.after_keyword(Keyword::In) {
+        return Ok(Begun::ToStrategy(BeforeStrategy::LetBody(definitions), following));
     }
     begin_definition(alloc, definitions, input)
 }

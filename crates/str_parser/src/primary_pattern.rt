@@ -67,14 +67,15 @@ fn terms<'a>(
 {
     let mut parts = done;
     parts.push(part)?;
-    if let Some(behind) = input.after(Mark::Comma) {
+    if let Some(following) = input.after(Mark::Comma) {
         let before = BeforePattern::Terms(called, strategies, parts);
-        return Ok(Begun::ToPattern(before, behind));
+        return Ok(Begun::ToPattern(before, following));
     }
     let Some(rest) = input.after(Mark::CloseParenthesis) else {
         return Err(input.syntax());
     };
-    let made = Primary::Call(called, Arguments::WithTerms(strategies, parts));
+    let arguments = Arguments::WithTerms(strategies, Box::new(alloc, parts)?);
+    let made = Primary::Call(called, arguments);
     whole(alloc, made, rest)
 }
 
@@ -89,8 +90,8 @@ fn primitive<'a>(
 {
     let mut parts = done;
     parts.push(part)?;
-    if let Some(behind) = input.after(Mark::Comma) {
-        return Ok(Begun::ToPattern(BeforePattern::Primitive(text, parts), behind));
+    if let Some(following) = input.after(Mark::Comma) {
+        return Ok(Begun::ToPattern(BeforePattern::Primitive(text, parts), following));
     }
     let Some(rest) = input.after(Mark::CloseParenthesis) else {
         return Err(input.syntax());

@@ -18,11 +18,11 @@ pub(crate) fn rule_left<'a>(
 ) -> Result<Begun<'a>, Fault>
     ensures { IsNext (HasPattern BeforePattern.RuleLeft (pattern_of left)) input.entry result }
 {
-    let Some(behind) = input.after(Mark::Arrow) else {
+    let Some(following) = input.after(Mark::Arrow) else {
         return Err(input.syntax());
     };
     let before = BeforePattern::RuleRight(Box::new(alloc, left)?);
-    Ok(Begun::ToPattern(before, behind))
+    Ok(Begun::ToPattern(before, following))
 }
 
 // The rule after its right side.
@@ -35,9 +35,9 @@ pub(crate) fn rule_right<'a>(
     ensures { IsNext (HasPattern (BeforePattern.RuleRight left) (pattern_of right)) input.entry result }
 {
     let right = Box::new(alloc, right)?;
-    if let Some(behind) = input.after_keyword(Keyword::Where) {
+    if let Some(following) = input.after_keyword(Keyword::Where) {
         let before = BeforeStrategy::RuleCondition(left, right);
-        return Ok(Begun::ToStrategy(before, behind));
+        return Ok(Begun::ToStrategy(before, following));
     }
     let Some(rest) = input.after(Mark::Backslash) else {
         return Err(input.syntax());

@@ -50,11 +50,11 @@ impl BeforeStrategy {
 fn apply<'a>(alloc: Global, applied: Strategy, input: Input<'a>) -> Result<Begun<'a>, Fault>
     ensures { IsNext (HasStrategy BeforeStrategy.Apply (strategy_of applied)) input.entry result }
 {
-    let Some(behind) = input.after(Mark::Greater) else {
+    let Some(following) = input.after(Mark::Greater) else {
         return Err(input.syntax());
     };
     let before = BeforePattern::ApplyTo(Box::new(alloc, applied)?);
-    Ok(Begun::ToPattern(before, behind))
+    Ok(Begun::ToPattern(before, following))
 }
 
 fn parenthesized<'a>(
@@ -66,9 +66,9 @@ fn parenthesized<'a>(
     ensures { IsNext (HasStrategy (BeforeStrategy.Parenthesized done) (strategy_of part)) input.entry result }
 {
     let mut parts = done;
-    if let Some(behind) = input.after(Mark::Comma) {
+    if let Some(following) = input.after(Mark::Comma) {
         parts.push(part)?;
-        return Ok(Begun::ToStrategy(BeforeStrategy::Parenthesized(parts), behind));
+        return Ok(Begun::ToStrategy(BeforeStrategy::Parenthesized(parts), following));
     }
     let Some(rest) = input.after(Mark::CloseParenthesis) else {
         return Err(input.syntax());
@@ -90,11 +90,11 @@ fn bracketed<'a>(
 {
     let mut parts = done;
     parts.push(part)?;
-    if let Some(behind) = input.after(Mark::Comma) {
-        return Ok(Begun::ToStrategy(BeforeStrategy::Bracketed(parts), behind));
+    if let Some(following) = input.after(Mark::Comma) {
+        return Ok(Begun::ToStrategy(BeforeStrategy::Bracketed(parts), following));
     }
-    if let Some(behind) = input.after(Mark::Bar) {
-        return Ok(Begun::ToStrategy(BeforeStrategy::Tail(parts), behind));
+    if let Some(following) = input.after(Mark::Bar) {
+        return Ok(Begun::ToStrategy(BeforeStrategy::Tail(parts), following));
     }
     let Some(rest) = input.after(Mark::CloseBracket) else {
         return Err(input.syntax());
@@ -128,11 +128,11 @@ fn arguments<'a>(
 {
     let mut parts = done;
     parts.push(part)?;
-    if let Some(behind) = input.after(Mark::Comma) {
-        return Ok(Begun::ToStrategy(BeforeStrategy::Arguments(called, parts), behind));
+    if let Some(following) = input.after(Mark::Comma) {
+        return Ok(Begun::ToStrategy(BeforeStrategy::Arguments(called, parts), following));
     }
-    if let Some(behind) = input.after(Mark::Bar) {
-        return begin_terms(alloc, called, parts, behind);
+    if let Some(following) = input.after(Mark::Bar) {
+        return begin_terms(alloc, called, parts, following);
     }
     let Some(rest) = input.after(Mark::CloseParenthesis) else {
         return Err(input.syntax());
@@ -189,11 +189,11 @@ fn recursive<'a>(
 fn condition<'a>(alloc: Global, part: Strategy, input: Input<'a>) -> Result<Begun<'a>, Fault>
     ensures { IsNext (HasStrategy BeforeStrategy.Condition (strategy_of part)) input.entry result }
 {
-    let Some(behind) = input.after_keyword(Keyword::Then) else {
+    let Some(following) = input.after_keyword(Keyword::Then) else {
         return Err(input.syntax());
     };
     let before = BeforeStrategy::Consequence(Box::new(alloc, part)?);
-    Ok(Begun::ToStrategy(before, behind))
+    Ok(Begun::ToStrategy(before, following))
 }
 
 fn consequence<'a>(
@@ -205,9 +205,9 @@ fn consequence<'a>(
     ensures { IsNext (HasStrategy (BeforeStrategy.Consequence condition) (strategy_of part)) input.entry result }
 {
     let part = Box::new(alloc, part)?;
-    if let Some(behind) = input.after_keyword(Keyword::Else) {
+    if let Some(following) = input.after_keyword(Keyword::Else) {
         let before = BeforeStrategy::Alternative(condition, part);
-        return Ok(Begun::ToStrategy(before, behind));
+        return Ok(Begun::ToStrategy(before, following));
     }
     let Some(rest) = input.after_keyword(Keyword::End) else {
         return Err(input.syntax());

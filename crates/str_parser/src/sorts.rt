@@ -83,15 +83,15 @@ fn sort<'a>(alloc: Global, input: Input<'a>, level: u32) -> Result<(Sort, Input<
     requires { level ≤ max_level + 1 }
     ensures { IsReading (inner_sort level) (NoneOf sort_goes_on) sort_tree_of input.entry result }
 {
-    let Some((bytes, behind)) = first_name(&input) else {
+    let Some((bytes, following)) = first_name(&input) else {
         return Err(input.syntax());
     };
     if level > MAX_LEVEL {
         return Err(Fault::Nesting { at: input.at() });
     }
     let name = Name::new(alloc, bytes, input.at())?;
-    let Some(inner) = behind.after(Mark::OpenParenthesis) else {
-        return Ok((Sort::Named(name), behind));
+    let Some(inner) = following.after(Mark::OpenParenthesis) else {
+        return Ok((Sort::Named(name), following));
     };
     let (parts, rest) = sort_list(alloc, inner, level + 1)?;
     let Some(rest) = rest.after(Mark::CloseParenthesis) else {
@@ -113,10 +113,10 @@ fn sort_list<'a>(
     let (first, mut rest) = sort(alloc, input, level)?;
     let mut parts = Vec::new(alloc);
     parts.push(first)?;
-    while let Some(behind) = rest.after(Mark::Comma) {
-        let (other, behind) = sort(alloc, behind, level)?;
+    while let Some(following) = rest.after(Mark::Comma) {
+        let (other, following) = sort(alloc, following, level)?;
         parts.push(other)?;
-        rest = behind;
+        rest = following;
     }
     Ok((parts, rest))
 }
@@ -128,9 +128,9 @@ fn sort_run<'a>(alloc: Global, input: Input<'a>) -> Result<(Vec<Sort>, Input<'a>
     let mut found = Vec::new(alloc);
     let mut rest = input;
     'sorts: while at_sort(&rest) {
-        let (other, behind) = sort(alloc, rest, 1)?;
+        let (other, following) = sort(alloc, rest, 1)?;
         found.push(other)?;
-        rest = behind;
+        rest = following;
     }
     Ok((found, rest))
 }
@@ -142,10 +142,10 @@ fn factors<'a>(alloc: Global, input: Input<'a>) -> Result<(Vec<Sort>, Input<'a>)
     let (first, mut rest) = sort(alloc, input, 1)?;
     let mut parts = Vec::new(alloc);
     parts.push(first)?;
-    while let Some(behind) = rest.after(Mark::Star) {
-        let (other, behind) = sort(alloc, behind, 1)?;
+    while let Some(following) = rest.after(Mark::Star) {
+        let (other, following) = sort(alloc, following, 1)?;
         parts.push(other)?;
-        rest = behind;
+        rest = following;
     }
     Ok((parts, rest))
 }
@@ -166,8 +166,8 @@ fn sort_type<'a>(alloc: Global, input: Input<'a>) -> Result<(SortType, Input<'a>
     ensures { IsReading typed (NoneOf declaration_goes_on) type_of input.entry result }
 {
     let (parts, rest) = factors(alloc, input)?;
-    if let Some(behind) = rest.after(Mark::Arrow) {
-        let (made, rest) = sort(alloc, behind, 1)?;
+    if let Some(following) = rest.after(Mark::Arrow) {
+        let (made, rest) = sort(alloc, following, 1)?;
         return Ok((SortType::Mapping(parts, made), rest));
     }
     let Some(made) = sole(parts) else {
@@ -191,20 +191,20 @@ fn injection<'a>(alloc: Global, input: Input<'a>) -> Result<(Declaration, Input<
 fn declaration<'a>(alloc: Global, input: Input<'a>) -> Result<(Declaration, Input<'a>), Fault>
     ensures { IsReading written_declaration (NoneOf declaration_goes_on) declaration_of input.entry result }
 {
-    if let Some(behind) = input.after(Mark::Colon) {
-        return injection(alloc, behind);
+    if let Some(following) = input.after(Mark::Colon) {
+        return injection(alloc, following);
     }
-    let Some((bytes, behind)) = first_name(&input) else {
+    let Some((bytes, following)) = first_name(&input) else {
         return Err(input.syntax());
     };
     if !is_constructor(bytes) {
         return Err(input.syntax());
     }
-    let Some(behind) = behind.after(Mark::Colon) else {
-        return Err(behind.syntax());
+    let Some(following) = following.after(Mark::Colon) else {
+        return Err(following.syntax());
     };
     let name = Name::new(alloc, bytes, input.at())?;
-    let (found, rest) = sort_type(alloc, behind)?;
+    let (found, rest) = sort_type(alloc, following)?;
     match found {
         SortType::Plain(made) => Ok((Declaration::Constant(name, made), rest)),
         SortType::Mapping(parts, made) => Ok((Declaration::Constructor(name, parts, made), rest)),
@@ -218,9 +218,9 @@ fn declarations<'a>(alloc: Global, input: Input<'a>) -> Result<(Vec<Declaration>
     let mut found = Vec::new(alloc);
     let mut rest = input;
     'declarations: while at_declaration(&rest) {
-        let (other, behind) = declaration(alloc, rest)?;
+        let (other, following) = declaration(alloc, rest)?;
         found.push(other)?;
-        rest = behind;
+        rest = following;
     }
     Ok((found, rest))
 }
@@ -229,14 +229,14 @@ fn declarations<'a>(alloc: Global, input: Input<'a>) -> Result<(Vec<Declaration>
 fn signature_part<'a>(alloc: Global, input: Input<'a>) -> Result<(SignaturePart, Input<'a>), Fault>
     ensures { IsReading written_part (NoneOf signature_part_goes_on) signature_of input.entry result }
 {
-    if let Some(behind) = input.after_keyword(Keyword::Sorts) {
-        let (found, rest) = sort_run(alloc, behind)?;
+    if let Some(following) = input.after_keyword(Keyword::Sorts) {
+        let (found, rest) = sort_run(alloc, following)?;
         return Ok((SignaturePart::Sorts(found), rest));
     }
-    let Some(behind) = input.after_keyword(Keyword::Constructors) else {
+    let Some(following) = input.after_keyword(Keyword::Constructors) else {
         return Err(input.syntax());
     };
-    let (found, rest) = declarations(alloc, behind)?;
+    let (found, rest) = declarations(alloc, following)?;
     Ok((SignaturePart::Constructors(found), rest))
 }
 
@@ -250,9 +250,9 @@ pub(crate) fn signature_parts<'a>(
     let mut found = Vec::new(alloc);
     let mut rest = input;
     'parts: while at_signature_part(&rest) {
-        let (other, behind) = signature_part(alloc, rest)?;
+        let (other, following) = signature_part(alloc, rest)?;
         found.push(other)?;
-        rest = behind;
+        rest = following;
     }
     Ok((found, rest))
 }

@@ -186,8 +186,8 @@ reads_no_arguments = ap arguments_of (sym argument_forms.rolls-Absent) ∙ argum
 pub reads_strategy_arguments : (ss : Vec Strategy Global) → arguments_of (argument_forms.Strategies ss) ≡ strategy_arguments (strategies_of ss.items)
 reads_strategy_arguments ss = ap arguments_of (sym (argument_forms.rolls-Strategies ss)) ∙ argument_roll (forms.Strategies ss)
 
-pub reads_all_arguments : (ss : Vec Strategy Global) (ps : Vec Pattern Global) →
-    arguments_of (argument_forms.WithTerms ss ps) ≡ all_arguments (strategies_of ss.items) (patterns_of ps.items)
+pub reads_all_arguments : (ss : Vec Strategy Global) (ps : Box (Vec Pattern Global) Global) →
+    arguments_of (argument_forms.WithTerms ss ps) ≡ all_arguments (strategies_of ss.items) (patterns_of ps.value.items)
 reads_all_arguments ss ps = ap arguments_of (sym (argument_forms.rolls-WithTerms ss ps)) ∙ argument_roll (forms.WithTerms ss ps)
 
 -- the three ways in which a call is written
@@ -198,8 +198,8 @@ pub reads_call_with : (f : List ℕ) (ss : Vec Strategy Global) →
     primary_of (primaries.Call f (argument_forms.Strategies ss)) ≡ call f (strategy_arguments (strategies_of ss.items))
 reads_call_with f ss = reads_call f _ ∙ ap (call f) (reads_strategy_arguments ss)
 
-pub reads_call_with_terms : (f : List ℕ) (ss : Vec Strategy Global) (ps : Vec Pattern Global) →
-    primary_of (primaries.Call f (argument_forms.WithTerms ss ps)) ≡ call f (all_arguments (strategies_of ss.items) (patterns_of ps.items))
+pub reads_call_with_terms : (f : List ℕ) (ss : Vec Strategy Global) (ps : Box (Vec Pattern Global) Global) →
+    primary_of (primaries.Call f (argument_forms.WithTerms ss ps)) ≡ call f (all_arguments (strategies_of ss.items) (patterns_of ps.value.items))
 reads_call_with_terms f ss ps = reads_call f _ ∙ ap (call f) (reads_all_arguments ss ps)
 
 sort_roll : (x : sort_forms.Sort-F Sort) → sort_tree_of (roll-Sort x) ≡ sort_step (map-Sort Sort SortTree sort_tree_of x)

@@ -68,7 +68,7 @@ optional_strategy (Some s) = one_strategy s.value
 abbrev pub argument_step : Arguments-F ArgumentTree PatternTree PrimaryTree SequenceTree StepTree StrategyTree RuleTree DefinitionTree → ArgumentTree
 argument_step forms.Absent = no_arguments
 argument_step (forms.Strategies ss) = strategy_arguments (strategies_in ss.items)
-argument_step (forms.WithTerms ss ps) = all_arguments (strategies_in ss.items) (patterns_in ps.items)
+argument_step (forms.WithTerms ss ps) = all_arguments (strategies_in ss.items) (patterns_in ps.value.items)
 
 abbrev pub pattern_step : Pattern-F ArgumentTree PatternTree PrimaryTree SequenceTree StepTree StrategyTree RuleTree DefinitionTree → PatternTree
 pattern_step (forms.Variable x) = variable x

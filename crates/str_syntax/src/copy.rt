@@ -129,7 +129,9 @@ impl Arguments {
             Arguments::Absent => Ok(Arguments::Absent),
             Arguments::Strategies(ss) => Ok(Arguments::Strategies(strategies(alloc, ss)?)),
             Arguments::WithTerms(ss, ps) => {
-                Ok(Arguments::WithTerms(strategies(alloc, ss)?, patterns(alloc, ps)?))
+                let strategies = strategies(alloc, ss)?;
+                let terms = patterns(alloc, ps)?;
+                Ok(Arguments::WithTerms(strategies, Box::new(alloc, terms)?))
             }
         }
     }

@@ -116,7 +116,7 @@ fn basic_primaries(alloc: Global) -> Result<Vec<Primary>, AllocError> {
 
 fn calls_with_arguments(alloc: Global) -> Result<Vec<Primary>, AllocError> {
     let mut all = Vec::new(alloc);
-    let both = Arguments::WithTerms(calls(alloc)?, variables(alloc)?);
+    let both = Arguments::WithTerms(calls(alloc)?, Box::new(alloc, variables(alloc)?)?);
     all.push(Primary::Call(name(alloc, "a")?, Arguments::Absent))?;
     all.push(Primary::Call(name(alloc, "a")?, Arguments::Strategies(calls(alloc)?)))?;
     all.push(Primary::Call(name(alloc, "a")?, both))?;

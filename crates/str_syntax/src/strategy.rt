@@ -95,8 +95,9 @@ pub enum Arguments {
     Absent,
     /// `(s, ..)`, strategies.
     Strategies(Vec<Strategy>),
-    /// `(s, .. | p, ..)`, strategies and terms.
-    WithTerms(Vec<Strategy>, Vec<Pattern>),
+    /// `(s, .. | p, ..)`, strategies and terms. The terms stand in a box: few calls have any, and each primary takes the room of the
+    /// largest.
+    WithTerms(Vec<Strategy>, Box<Vec<Pattern>>),
 }
 
 /// `p -> p` or `p -> p where s`

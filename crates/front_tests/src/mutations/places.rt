@@ -50,7 +50,7 @@ fn expect(
     if found != expected {
         writeln!(
             differences,
-            "{found:?} in place of {expected:?} for {put:?} behind {front}"
+            "{found:?} in place of {expected:?} for {put:?} following {front}"
         )?;
     }
     Ok(())

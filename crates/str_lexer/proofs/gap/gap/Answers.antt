@@ -14,4 +14,4 @@ returns-then-second-eq47 c =
 pub returns : goal.returns
 returns c =
     let e = c.in_ok-first.ensures.cases.0 ∙ ap (λ b. b ∷ c.in_ok-first.others.now) c.if-first-ne47.false ∙ ap (λ x. 47 ∷ x) (c.in_ok-second.ensures.cases.0 ∙ ap (λ b. b ∷ c.in_ok-second.inner.now) c.if-second-ne42.false) in
-    comment_read _ _ _ e c.behind_comment.ensures
+    comment_read _ _ _ e c.after_comment.ensures

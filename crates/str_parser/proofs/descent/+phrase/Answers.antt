@@ -182,7 +182,7 @@ pub sequence-returns-in_err-others : goal.sequence-returns-in_err-others
 sequence-returns-in_err-others t c =
     let p = err_from_is_err_and c.from_residual-in_err-others.result c.from_residual-in_err-others.ensures.1 in
     let f = rw c.in-Some.ensures at c.in_ok-first.ensures in
-    rw (p.1, p.2) (fault_means (inner_sequence (c.args.level + 1)) (AtMost 1) c.in-Some.behind (inner_sequence c.args.level) (AtMost 1) c.args.input _ (missing_others _ _ _ _ (omega arith) f) (nested_others _ _ _ _ (omega arith) f) c.in_err-others.ensures)
+    rw (p.1, p.2) (fault_means (inner_sequence (c.args.level + 1)) (AtMost 1) c.in-Some.following (inner_sequence c.args.level) (AtMost 1) c.args.input _ (missing_others _ _ _ _ (omega arith) f) (nested_others _ _ _ _ (omega arith) f) c.in_err-others.ensures)
 
 pub sequence-returns : goal.sequence-returns
 sequence-returns t c =
@@ -204,7 +204,7 @@ pub step-returns-in_err-matched : goal.step-returns-in_err-matched
 step-returns-in_err-matched t c =
     let p = err_from_is_err_and c.from_residual-in_err-matched.result c.from_residual-in_err-matched.ensures.1 in
     let f = rw c.in-Some.ensures at c.in_ok-first.ensures in
-    rw (p.1, p.2) (fault_means (inner_pattern true (c.args.level + 1)) (AtMost 3) c.in-Some.behind (step c.args.level) (AtMost 2) c.args.input _ (missing_matched _ _ _ _ f) (nested_matched _ _ _ _ f) c.in_err-matched.ensures)
+    rw (p.1, p.2) (fault_means (inner_pattern true (c.args.level + 1)) (AtMost 3) c.in-Some.following (step c.args.level) (AtMost 2) c.args.input _ (missing_matched _ _ _ _ f) (nested_matched _ _ _ _ f) c.in_err-matched.ensures)
 
 pub step-returns : goal.step-returns
 step-returns t c =
@@ -227,7 +227,7 @@ pub strategy-returns-in_err-other : goal.strategy-returns-in_err-other
 strategy-returns-in_err-other t c =
     let p = err_from_is_err_and c.from_residual-in_err-other.result c.from_residual-in_err-other.ensures.1 in
     let f = rw c.in-Some.ensures at c.in_ok-first.ensures in
-    rw (p.1, p.2) (fault_means (inner_strategy (c.args.level + 1)) (AtMost 0) c.in-Some.behind (inner_strategy c.args.level) (AtMost 0) c.args.input _ (missing_right _ _ _ _ f) (nested_right _ _ _ _ f) c.in_err-other.ensures)
+    rw (p.1, p.2) (fault_means (inner_strategy (c.args.level + 1)) (AtMost 0) c.in-Some.following (inner_strategy c.args.level) (AtMost 0) c.args.input _ (missing_right _ _ _ _ f) (nested_right _ _ _ _ f) c.in_err-other.ensures)
 
 pub strategy-returns-in-Some : goal.strategy-returns-in-Some
 strategy-returns-in-Some t c =
@@ -256,7 +256,7 @@ pub guarded_choice-returns-in_err-other : goal.guarded_choice-returns-in_err-oth
 guarded_choice-returns-in_err-other t c =
     let p = err_from_is_err_and c.from_residual-in_err-other.result c.from_residual-in_err-other.ensures.1 in
     let g = rw c.in-Some.ensures at c.in_ok-then.ensures in
-    rw (p.1, p.2) (λ ts f. fault_means (inner_strategy (c.args.level + 1)) (AtMost 0) c.in-Some.behind (inner_strategy c.args.level) (AtMost 0) ts _ (missing_second _ _ _ _ _ _ f g) (nested_second _ _ _ _ _ _ f g) c.in_err-other.ensures)
+    rw (p.1, p.2) (λ ts f. fault_means (inner_strategy (c.args.level + 1)) (AtMost 0) c.in-Some.following (inner_strategy c.args.level) (AtMost 0) ts _ (missing_second _ _ _ _ _ _ f g) (nested_second _ _ _ _ _ _ f g) c.in_err-other.ensures)
 
 pub guarded_choice-returns : goal.guarded_choice-returns
 guarded_choice-returns t c =

@@ -1,6 +1,6 @@
 use Rattle.std.proofs.Common.{◌+◌, ◌-◌, ◌*◌, length}
 use Rattle.str_parser.specs.Readings.{Leads}
-use Rattle.str_parser.specs.Begun.{Written, Continues, behind, WrittenPattern, ContinuesPattern, behind_pattern}
+use Rattle.str_parser.specs.Begun.{Written, Continues, following, WrittenPattern, ContinuesPattern, after_pattern}
 use Rattle.str_parser.proofs.descent.+phrase.Given as goal
 
 abbrev pub decreases-strategy : goal.decreases-strategy
@@ -23,13 +23,13 @@ decreases-pattern l = 4 * (201 - l.level)
 
 -- what has been read leads here
 abbrev pub invariant-primary-loop-begun : goal.invariant-primary-loop-begun
-invariant-primary-loop-begun l = Leads (Written l.level) (Continues l.level l.begun) l.fn.input (behind l.begun)
+invariant-primary-loop-begun l = Leads (Written l.level) (Continues l.level l.begun) l.fn.input (following l.begun)
 
 abbrev pub decreases-primary-loop-begun : goal.decreases-primary-loop-begun
-decreases-primary-loop-begun l = length (behind l.begun)
+decreases-primary-loop-begun l = length (following l.begun)
 
 abbrev pub invariant-pattern-loop-begun : goal.invariant-pattern-loop-begun
-invariant-pattern-loop-begun l = Leads (WrittenPattern l.in_match l.level) (ContinuesPattern l.in_match l.level l.begun) l.fn.input (behind_pattern l.begun)
+invariant-pattern-loop-begun l = Leads (WrittenPattern l.in_match l.level) (ContinuesPattern l.in_match l.level l.begun) l.fn.input (after_pattern l.begun)
 
 abbrev pub decreases-pattern-loop-begun : goal.decreases-pattern-loop-begun
-decreases-pattern-loop-begun l = length (behind_pattern l.begun)
+decreases-pattern-loop-begun l = length (after_pattern l.begun)

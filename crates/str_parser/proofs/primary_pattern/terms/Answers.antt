@@ -1,3 +1,4 @@
+use Rattle.std.proofs.Common.{◌∙◌, ap}
 use Rattle.str_syntax.proofs.ReadLaws.{reads_call_with_terms}
 use Rattle.str_parser.proofs.WholeLaws.{whole_next}
 use Rattle.str_parser.proofs.PatternParts.{terms_more_leads, terms_ends}
@@ -7,4 +8,4 @@ pub returns-in-Some : goal.returns-in-Some
 returns-in-Some c = λ k. rw c.in-Some.ensures (terms_more_leads k _ _ _ _ _ c.in_ok-push.ensures.items _)
 
 pub returns : goal.returns
-returns c = whole_next _ _ _ _ _ c.whole.ensures (λ k. rw (reads_call_with_terms, c.in-Some-after.ensures) (terms_ends k _ _ _ c.push.new.self _ c.in_ok-push.ensures.items _))
+returns c = whole_next _ _ _ _ _ c.whole.ensures (λ k. rw (reads_call_with_terms, c.in-Some-after.ensures) (terms_ends k _ _ _ c.in_ok-new.field-0.value _ (ap (λ v. v.items) c.in_ok-new.ensures.ok ∙ c.in_ok-push.ensures.items) _))

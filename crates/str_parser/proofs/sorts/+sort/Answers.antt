@@ -39,20 +39,20 @@ sort_list-returns-in_err-first t c =
     let p = err_from_is_err_and c.from_residual.result c.from_residual.ensures.1 in
     rw (p.1, p.2) (fault_means _ _ _ _ _ _ _ (sorts_none _ _) (sorts_deep _ _) c.in_err-first.ensures)
 
-pub sort_list-loop-behind-init : goal.sort_list-loop-behind-init
-sort_list-loop-behind-init t c = rw (c.in_ok-push.ensures.items, c.new-parts.ensures.items) (sorts_first _ _ _ _ c.in_ok-first.ensures)
+pub sort_list-loop-following-init : goal.sort_list-loop-following-init
+sort_list-loop-following-init t c = rw (c.in_ok-push.ensures.items, c.new-parts.ensures.items) (sorts_first _ _ _ _ c.in_ok-first.ensures)
 
 pub sort_list-returns-in_err-other : goal.sort_list-returns-in_err-other
 sort_list-returns-in_err-other t c =
     let p = err_from_is_err_and c.from_residual-in_err-other.result c.from_residual-in_err-other.ensures.1 in
     rw (p.1, p.2) (fault_means _ _ _ _ _ _ _
-    (sorts_missing _ _ _ _ _ c.loop-behind.invariant c.in-Some.ensures)
-    (sorts_nested _ _ _ _ _ c.loop-behind.invariant c.in-Some.ensures)
+    (sorts_missing _ _ _ _ _ c.loop-following.invariant c.in-Some.ensures)
+    (sorts_nested _ _ _ _ _ c.loop-following.invariant c.in-Some.ensures)
     c.in_err-other.ensures)
 
-pub sort_list-loop-behind-preserved : goal.sort_list-loop-behind-preserved
-sort_list-loop-behind-preserved t c =
-    rw (c.in_ok-push-2.ensures.items, map-append) (sorts_more _ _ _ _ _ _ _ c.loop-behind.invariant c.in-Some.ensures c.in_ok-other.ensures)
+pub sort_list-loop-following-preserved : goal.sort_list-loop-following-preserved
+sort_list-loop-following-preserved t c =
+    rw (c.in_ok-push-2.ensures.items, map-append) (sorts_more _ _ _ _ _ _ _ c.loop-following.invariant c.in-Some.ensures c.in_ok-other.ensures)
 
 pub sort_list-returns : goal.sort_list-returns
-sort_list-returns t c = sorts_found _ _ _ _ c.loop-behind.invariant c.in_default.ensures
+sort_list-returns t c = sorts_found _ _ _ _ c.loop-following.invariant c.in_default.ensures

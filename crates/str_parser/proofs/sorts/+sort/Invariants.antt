@@ -9,8 +9,8 @@ decreases-sort l = 2 * (202 - l.level)
 abbrev pub decreases-sort_list : goal.decreases-sort_list
 decreases-sort_list l = 2 * (202 - l.level) + 1
 
-abbrev pub invariant-sort_list-loop-behind : goal.invariant-sort_list-loop-behind
-invariant-sort_list-loop-behind l = PartlySorts l.fn.level (map sort_tree_of l.parts.items) l.fn.input l.rest
+abbrev pub invariant-sort_list-loop-following : goal.invariant-sort_list-loop-following
+invariant-sort_list-loop-following l = PartlySorts l.fn.level (map sort_tree_of l.parts.items) l.fn.input l.rest
 
-abbrev pub decreases-sort_list-loop-behind : goal.decreases-sort_list-loop-behind
-decreases-sort_list-loop-behind l = length l.rest
+abbrev pub decreases-sort_list-loop-following : goal.decreases-sort_list-loop-following
+decreases-sort_list-loop-following l = length l.rest
