@@ -10,17 +10,10 @@ use Rattle.str_syntax.specs.Trees.{SignatureTree, SectionTree, sorts, constructo
 use Rattle.signature_core.specs.Signature.{declarations_of_signature, declarations_of_sections}
 use Rattle.scope_check.specs.Complaint.{repeats_declaration}
 use Rattle.scope_check.specs.Tables.{declares_again, AreDeclared, IsRefusal, declared_in, declared_by}
-use Rattle.scope_check.proofs.NameLaws.{or-false, or-assoc, drop_more, drop_past}
+use Rattle.scope_check.proofs.NameLaws.{test-sym, swapped, or-false, or-assoc, drop_more, drop_past}
 
--- the test goes both ways
 same_declaration-sym : (d e : Declared) → same_declaration d e ≡ same_declaration e d
-same_declaration-sym d e = by (same_declaration d e) (same_declaration e d) refl refl
-  where
-    by : (a b : Bool) → same_declaration d e ≡ a → same_declaration e d ≡ b → a ≡ b
-    by true true x y = refl
-    by false false x y = refl
-    by true false x y = sym ((same_declaration-Decides e d).1 (sym ((same_declaration-Decides d e).0 x))) ∙ y
-    by false true x y = sym x ∙ (same_declaration-Decides d e).1 (sym ((same_declaration-Decides e d).0 y))
+same_declaration-sym d e = test-sym same_declaration same_declaration-Decides d e
 
 -- one after another
 pub again-append : (old xs ys : List Declared) → declares_again old (xs ++ ys) ≡ (declares_again old xs || declares_again (old ++ xs) ys)
@@ -29,30 +22,23 @@ again-append old (x ∷ xs) ys =
     ap (λ b. is_declared old x || b) (again-append (old ++ x ∷ []) xs ys ∙ ap (λ ds. declares_again (old ++ x ∷ []) xs || declares_again ds ys) (append_assoc old (x ∷ []) xs)) ∙
     sym (or-assoc (is_declared old x) (declares_again (old ++ x ∷ []) xs) (declares_again (old ++ x ∷ xs) ys))
 
-swapped : (a b c d : Bool) → (a || ((b || c) || d)) ≡ ((a || b) || (c || d))
-swapped true b c d = refl
-swapped false true c d = refl
-swapped false false c d = refl
+regrouped : (a b c d : Bool) → (a || ((b || c) || d)) ≡ ((a || b) || (c || d))
+regrouped true b c d = refl
+regrouped false true c d = refl
+regrouped false false c d = refl
 
 split_any : (old : List Declared) (x : Declared) (xs : List Declared) → list_any (is_declared (old ++ x ∷ [])) xs ≡ (list_any (is_declared old) xs || is_declared xs x)
 split_any old x [] = refl
 split_any old x (y ∷ ys) =
     let one : is_declared (old ++ x ∷ []) y ≡ (is_declared old y || same_declaration x y) =
     list_any-append (same_declaration y) old (x ∷ []) ∙ ap (λ b. is_declared old y || b) (or-false (same_declaration y x) ∙ same_declaration-sym y x) in
-    rw (one, split_any old x ys) (crossed (is_declared old y) (same_declaration x y) (list_any (is_declared old) ys) (is_declared ys x))
-  where
-    crossed : (a b c d : Bool) → ((a || b) || (c || d)) ≡ ((a || c) || (b || d))
-    crossed true b c d = refl
-    crossed false true true d = refl
-    crossed false true false d = refl
-    crossed false false true d = refl
-    crossed false false false d = refl
+    rw (one, split_any old x ys) (swapped (is_declared old y) (same_declaration x y) (list_any (is_declared old) ys) (is_declared ys x))
 
 again-is : (old ds : List Declared) → declares_again old ds ≡ (list_any (is_declared old) ds || repeats_declaration ds)
 again-is old [] = refl
 again-is old (d ∷ ds) =
     ap (λ b. is_declared old d || b) (again-is (old ++ d ∷ []) ds ∙ ap (λ b. b || repeats_declaration ds) (split_any old d ds)) ∙
-    swapped (is_declared old d) (list_any (is_declared old) ds) (is_declared ds d) (repeats_declaration ds)
+    regrouped (is_declared old d) (list_any (is_declared old) ds) (is_declared ds d) (repeats_declaration ds)
 
 -- after no declarations, only what stands again after itself is there before
 pub again-none : (ds : List Declared) → declares_again [] ds ≡ repeats_declaration ds

@@ -1,8 +1,8 @@
 -- The heads of definitions that stand together.
-use Rattle.std.proofs.Common.{◌≡◌, ◌∙◌, ℕ, ◌+◌, ◌<◌, Bool, true, false, ◌||◌, List, [], ◌∷◌, map, take, length, get_or, sym, refl, ap}
+use Rattle.std.proofs.Common.{◌≡◌, ◌∙◌, ℕ, ◌<◌, Bool, true, ◌||◌, List, [], ◌∷◌, map, length, get_or, sym, refl, ap}
 use Rattle.std.specs.Borrow.{Bor}
 use Rattle.std.specs.List.{list_any}
-use Rattle.std.proofs.lemmas.List.Folds.{list_any_at, list_any_more}
+use Rattle.std.proofs.lemmas.List.Folds.{list_any_at}
 use Rattle.str_syntax.specs.declared.strategy.DefinitionHead.{DefinitionHead}
 use Rattle.scope_check.specs.Tables.{heads_of}
 use Rattle.str_syntax.specs.declared.strategy.StrategyDefinition.{StrategyDefinition}
@@ -26,9 +26,3 @@ any-map p (h ∷ hs) = ap (λ b. p (head_of h.now) || b) (any-map p hs)
 
 pub one_head : (p : HeadTree → Bool) (hs : List (Bor DefinitionHead)) (i : ℕ) (h : Bor DefinitionHead) → i < length hs → h ≡ get_or hs i h → p (head_of h.now) ≡ true → list_any p (heads_of hs) ≡ true
 one_head p hs i h within is test = any-map p hs ∙ list_any_at (λ g. p (head_of g.now)) hs i h within (ap (λ (g : Bor DefinitionHead). p (head_of g.now)) (sym is) ∙ test)
-
-pub no_head_more : (p : HeadTree → Bool) (hs : List (Bor DefinitionHead)) (i : ℕ) (h : Bor DefinitionHead) → i < length hs → h ≡ get_or hs i h → list_any p (heads_of (take i hs)) ≡ false → p (head_of h.now) ≡ false
-    → list_any p (heads_of (take (i + 1) hs)) ≡ false
-no_head_more p hs i h within is before test =
-    any-map p (take (i + 1) hs) ∙ list_any_more (λ g. p (head_of g.now)) hs i h within ∙
-    ap (λ b. b || p (head_of (get_or hs i h).now)) (sym (any-map p (take i hs)) ∙ before) ∙ ap (λ (g : Bor DefinitionHead). p (head_of g.now)) (sym is) ∙ test

@@ -1,4 +1,4 @@
--- The fault that is told is that of the least number.
+-- The fault that is reported is that of the least number.
 use Rattle.std.proofs.Common.{◌≡◌, ◌∙◌, ◌≤◌, ◌⊎◌, inl, inr, ℕ, Bool, true, false, List, [], ◌∷◌, refl, ap, arith, Some}
 use Rattle.term_model.specs.declared.fault.Fault.{Fault}
 use Rattle.term_model.specs.Fault.{number_of}

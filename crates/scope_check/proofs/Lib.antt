@@ -1,5 +1,6 @@
 pub mod NameLaws
 pub mod GroupLaws
+pub mod AlternativeLaws
 pub mod WalkLaws
 pub mod TopLaws
 pub mod LayerLaws

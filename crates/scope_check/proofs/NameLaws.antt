@@ -1,9 +1,11 @@
 -- Names that stand again after themselves, found by noting one after another.
 use Rattle.std.proofs.Common.{◌≡◌, ◌∙◌, ℕ, ◌+◌, ◌<◌, ◌≤◌, Bool, true, false, ◌||◌, ◌&&◌, not, List, [], ◌∷◌, ◌++◌, map, take, drop, length, get_or, sym, refl, ap, arith}
+use Rattle.std.proofs.lemmas.Bool.Decides.{same_from_decides, Decides-like}
 use Rattle.std.proofs.lemmas.Grind.{common_steps}
 use Rattle.std.proofs.lemmas.List.{map_more}
 use Rattle.std.proofs.lemmas.List.Folds.{list_any-append}
 use Rattle.std.proofs.Common.{add-one, drop-cons}
+use Rattle.std.specs.Bool.{Decides}
 use Rattle.std.specs.List.{list_any}
 use Rattle.str_syntax.specs.SameName.{same_name, same_name-Decides}
 use Rattle.str_syntax.specs.Trees.{Bytes}
@@ -27,15 +29,12 @@ or-assoc false b c = refl
 pub extensional : (A B : Seen) → ((k : Key) → A k ≡ B k) → A ≡ B
 extensional A B e = λ i k. e k i
 
--- the test goes both ways
-pub same_name-sym : (x y : Bytes) → same_name x y ≡ same_name y x
-same_name-sym x y = by (same_name x y) (same_name y x) refl refl
-  where
-    by : (a b : Bool) → same_name x y ≡ a → same_name y x ≡ b → a ≡ b
-    by true true e f = refl
-    by false false e f = refl
-    by true false e f = sym ((same_name-Decides y x).1 (sym ((same_name-Decides x y).0 e))) ∙ f
-    by false true e f = sym e ∙ (same_name-Decides x y).1 (sym ((same_name-Decides y x).0 f))
+-- a test that decides equality goes both ways
+pub test-sym : {X : Type 0} (t : X → X → Bool) → ((x y : X) → Decides (t x y) (x ≡ y)) → (x y : X) → t x y ≡ t y x
+test-sym t decides x y = same_from_decides (t x y) (t y x) (decides x y) (Decides-like (t y x) (λ e. sym e) (λ e. sym e) (decides y x))
+
+same_name-sym : (x y : Bytes) → same_name x y ≡ same_name y x
+same_name-sym x y = test-sym same_name same_name-Decides x y
 
 pub plain_key-same : (x y : Bytes) → same_key (plain_key x) (plain_key y) ≡ same_name x y
 plain_key-same x y = and-true (same_name x y)
@@ -50,7 +49,7 @@ mixed false true c d e = refl
 mixed false false true d e = refl
 mixed false false false d e = refl
 
-swapped : (a b c d : Bool) → ((a || b) || (c || d)) ≡ ((a || c) || (b || d))
+pub swapped : (a b c d : Bool) → ((a || b) || (c || d)) ≡ ((a || c) || (b || d))
 swapped true b c d = refl
 swapped false true true d = refl
 swapped false true false d = refl

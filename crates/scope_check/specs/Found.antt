@@ -108,12 +108,12 @@ abbrev pub found_in_file : List Declared → FileTree → Findings
 found_in_file ds file = noted (λ k. in_file (is_bad ds k) file)
 
 -- whether a complaint holds, by what was found and whether main is there, where no declaration stands twice
-abbrev pub told : Findings → Bool → Complaint → Bool
-told found has_main duplicate_declaration = false
-told found has_main undeclared = found.undeclared
-told found has_main bad_parameters = found.bad_parameters
-told found has_main clash = found.clash
-told found has_main unknown_strategy = found.unknown_strategy
-told found has_main not_buildable = found.not_buildable
-told found has_main unknown_primitive = found.unknown_primitive
-told found has_main no_main = not has_main
+abbrev pub occurring : Findings → Bool → Complaint → Bool
+occurring found has_main duplicate_declaration = false
+occurring found has_main undeclared = found.undeclared
+occurring found has_main bad_parameters = found.bad_parameters
+occurring found has_main clash = found.clash
+occurring found has_main unknown_strategy = found.unknown_strategy
+occurring found has_main not_buildable = found.not_buildable
+occurring found has_main unknown_primitive = found.unknown_primitive
+occurring found has_main no_main = not has_main

@@ -5,18 +5,23 @@ ghost use Rattle.signature_core.specs.Signature.{declarations_of, declarations_o
 ghost use Rattle.signature_core.specs.Views.{declaration};
 ghost use Rattle.str_syntax.specs.Views.{declaration_of, file_of, section_of, signature_of, sort_tree_of};
 
+use crate::notes::{Detail, Notes};
 use signature_core::Signature;
 use std::alloc::{AllocError, Global};
 use str_syntax::{Declaration, File, Name, Section, SignaturePart, Sort};
 use term_model::Fault;
 
 /// The signature of the file. `DuplicateDeclaration` where a declaration stands twice, `Memory` where a growth is refused.
-pub(crate) fn signature_of(alloc: Global, file: &File) -> Result<Signature, Fault>
+pub(crate) fn signature_of(
+    alloc: Global,
+    file: &File,
+    notes: &mut Notes,
+) -> Result<Signature, Fault>
     ensures declared { IfOk result (λ made. AreDeclared [] (declarations_of (file_of file.now)) made) }
     ensures refused { IfErr result (IsRefusal [] (declarations_of (file_of file.now))) }
 {
     let mut signature = Signature::new(alloc);
-    declare_sections(alloc, &mut signature, &file.sections)?;
+    declare_sections(alloc, &mut signature, &file.sections, notes)?;
     Ok(signature)
 }
 
@@ -25,23 +30,29 @@ fn declare_sections(
     alloc: Global,
     signature: &mut Signature,
     sections: &[Section],
+    notes: &mut Notes,
 ) -> Result<(), Fault>
     ensures declared { OnOk result (AreDeclared signature.old (declarations_of_sections (map section_of sections.now)) signature.new) }
     ensures refused { IfErr result (IsRefusal signature.old (declarations_of_sections (map section_of sections.now))) }
 {
     for section in sections {
-        declare_section(alloc, signature, section)?;
+        declare_section(alloc, signature, section, notes)?;
     }
     Ok(())
 }
 
 // Declares what the section declares.
-fn declare_section(alloc: Global, signature: &mut Signature, section: &Section) -> Result<(), Fault>
+fn declare_section(
+    alloc: Global,
+    signature: &mut Signature,
+    section: &Section,
+    notes: &mut Notes,
+) -> Result<(), Fault>
     ensures declared { OnOk result (AreDeclared signature.old (declared_in (section_of section.now)) signature.new) }
     ensures refused { IfErr result (IsRefusal signature.old (declared_in (section_of section.now))) }
 {
     match section {
-        Section::Signature(parts) => declare_parts(alloc, signature, parts),
+        Section::Signature(parts) => declare_parts(alloc, signature, parts, notes),
         Section::Rules(_) => Ok(()),
         Section::Strategies(_) => Ok(()),
     }
@@ -52,46 +63,64 @@ fn declare_parts(
     alloc: Global,
     signature: &mut Signature,
     parts: &[SignaturePart],
+    notes: &mut Notes,
 ) -> Result<(), Fault>
     ensures declared { OnOk result (AreDeclared signature.old (declarations_of_signature (map signature_of parts.now)) signature.new) }
     ensures refused { IfErr result (IsRefusal signature.old (declarations_of_signature (map signature_of parts.now))) }
 {
     for part in parts {
-        declare_part(alloc, signature, part)?;
+        declare_part(alloc, signature, part, notes)?;
     }
     Ok(())
 }
 
 // Declares what the part of a signature declares.
-fn declare_part(alloc: Global, signature: &mut Signature, part: &SignaturePart) -> Result<(), Fault>
+fn declare_part(
+    alloc: Global,
+    signature: &mut Signature,
+    part: &SignaturePart,
+    notes: &mut Notes,
+) -> Result<(), Fault>
     ensures declared { OnOk result (AreDeclared signature.old (declared_by (signature_of part.now)) signature.new) }
     ensures refused { IfErr result (IsRefusal signature.old (declared_by (signature_of part.now))) }
 {
     match part {
         SignaturePart::Sorts(_) => Ok(()),
-        SignaturePart::Constructors(all) => declare_all(alloc, signature, all),
+        SignaturePart::Constructors(all) => declare_all(alloc, signature, all, notes),
     }
 }
 
 // Declares the constructors.
-fn declare_all(alloc: Global, signature: &mut Signature, all: &[Declaration]) -> Result<(), Fault>
+fn declare_all(
+    alloc: Global,
+    signature: &mut Signature,
+    all: &[Declaration],
+    notes: &mut Notes,
+) -> Result<(), Fault>
     ensures declared { OnOk result (AreDeclared signature.old (declarations_of_parts (map declaration_of all.now)) signature.new) }
     ensures refused { IfErr result (IsRefusal signature.old (declarations_of_parts (map declaration_of all.now))) }
 {
     for one in all {
-        declare(alloc, signature, one)?;
+        declare(alloc, signature, one, notes)?;
     }
     Ok(())
 }
 
 // Declares the constructor, if the declaration is of one.
-fn declare(alloc: Global, signature: &mut Signature, one: &Declaration) -> Result<(), Fault>
+fn declare(
+    alloc: Global,
+    signature: &mut Signature,
+    one: &Declaration,
+    notes: &mut Notes,
+) -> Result<(), Fault>
     ensures declared { OnOk result (AreDeclared signature.old (declarations_of_part (declaration_of one.now)) signature.new) }
     ensures refused { IfErr result (IsRefusal signature.old (declarations_of_part (declaration_of one.now))) }
 {
     match one {
-        Declaration::Constant(c, a) => declare_constructor(alloc, signature, c, &[], a),
-        Declaration::Constructor(c, parts, a) => declare_constructor(alloc, signature, c, parts, a),
+        Declaration::Constant(c, a) => declare_constructor(alloc, signature, c, &[], a, notes),
+        Declaration::Constructor(c, parts, a) => declare_constructor(
+            alloc, signature, c, parts, a, notes,
+        ),
         Declaration::Injection(_, _) => Ok(()),
     }
 }
@@ -103,15 +132,19 @@ fn declare_constructor(
     name: &Name,
     arguments: &[Sort],
     to: &Sort,
+    notes: &mut Notes,
 ) -> Result<(), Fault>
     ensures declared { OnOk result (AreDeclared signature.old (declaration name.now arguments.now to.now ∷ []) signature.new) }
     ensures refused { IfErr result (IsRefusal signature.old (declaration name.now arguments.now to.now ∷ [])) }
 {
-    let name = name.copy(alloc)?;
+    let copied = name.copy(alloc)?;
     let arguments = copy_sorts(alloc, arguments)?;
     let to = to.copy(alloc)?;
-    signature.declare(name, arguments, to)?;
-    Ok(())
+    let declared = signature.declare(copied, arguments, to);
+    if declared.is_err() {
+        notes.at(name, Detail::DeclaredAgain);
+    }
+    declared
 }
 
 fn copy_sorts(alloc: Global, source: &[Sort]) -> Result<Vec<Sort>, AllocError>

@@ -9,6 +9,7 @@ use crate::findings::Findings;
 use crate::groups::{found_in_group, keys_of};
 use crate::keys::Keys;
 use crate::layers::Layers;
+use crate::notes::Notes;
 use crate::tops::sections;
 use signature_core::Signature;
 use std::alloc::{AllocError, Global};
@@ -20,12 +21,13 @@ pub(crate) fn with_heads<'t>(
     signature: &Signature,
     heads: &[&'t DefinitionHead],
     all: &'t [Section],
+    notes: &mut Notes,
 ) -> Result<Findings, AllocError>
     ensures { IfOk result (λ found. found ≡ joined (found_group (heads_of heads.now)) (found_in_tops signature.now (inner (among (map key_of (heads_of heads.now))) nothing) (tops_in (map section_of all.now)))) }
 {
-    let here = found_in_group(heads);
+    let here = found_in_group(alloc, heads, notes)?;
     let keys = keys_of(alloc, heads)?;
-    let inside = in_keys(alloc, signature, &keys, all)?;
+    let inside = in_keys(alloc, signature, &keys, all, notes)?;
     Ok(here.or(inside))
 }
 
@@ -35,6 +37,7 @@ fn in_keys<'t>(
     signature: &Signature,
     keys: &Keys<'t>,
     all: &'t [Section],
+    notes: &mut Notes,
 ) -> Result<Findings, AllocError>
     ensures { IfOk result (λ found. found ≡ found_in_tops signature.now (inner (among keys.now) nothing) (tops_in (map section_of all.now))) }
 {
@@ -43,5 +46,5 @@ fn in_keys<'t>(
         keys: &*keys,
         outer: &outermost,
     };
-    sections(alloc, signature, &inner, all)
+    sections(alloc, signature, &inner, all, notes)
 }

@@ -10,7 +10,9 @@ ghost use Rattle.str_syntax.specs.Views.{head_of, parameters_of};
 
 use crate::findings::Findings;
 use crate::keys::{Key, Keys};
-use crate::names::{have_repeats, note_names};
+use crate::names::{add_names, have_repeats};
+use crate::nodes::is_clash;
+use crate::notes::Notes;
 use signature_core::Signature;
 use std::alloc::{AllocError, Global};
 use str_syntax::{DefinitionHead, Name, Parameters};
@@ -53,7 +55,11 @@ pub(crate) fn parameter_keys(alloc: Global, head: &DefinitionHead) -> Result<Key
     ensures { IfOk result (λ keys. among keys ≡ among (parameter_keys (head_of head.now))) }
 {
     let mut keys = Keys::new(alloc);
-    note_names(&mut keys, strategy_names(&head.parameters))?;
+    add_names(
+        &mut keys,
+        strategy_names(&head.parameters),
+        &mut Notes::none(),
+    )?;
     Ok(keys)
 }
 
@@ -62,13 +68,14 @@ pub(crate) fn check_head(
     alloc: Global,
     signature: &Signature,
     head: &DefinitionHead,
+    notes: &mut Notes,
 ) -> Result<Findings, AllocError>
     ensures { IfOk result (λ found. found ≡ found_at signature.now (heading (head_of head.now))) }
 {
     let strategies = strategy_names(&head.parameters);
     let terms = term_names(&head.parameters);
-    let bad_parameters = have_repeats(alloc, strategies, terms)?;
-    let clash = clashes(signature, head);
+    let bad_parameters = have_repeats(alloc, strategies, terms, notes)?;
+    let clash = clashes(signature, head, notes);
     Ok(Findings {
         bad_parameters,
         clash,
@@ -77,19 +84,19 @@ pub(crate) fn check_head(
 }
 
 // Whether the name or a strategy parameter is the name of a declared constructor.
-fn clashes(signature: &Signature, head: &DefinitionHead) -> bool
+fn clashes(signature: &Signature, head: &DefinitionHead, notes: &mut Notes) -> bool
     ensures { result ≡ clashes signature.now nothing (heading (head_of head.now)) }
 {
-    signature.is_declared_name(head.name.bytes())
-        || any_declared(signature, strategy_names(&head.parameters))
+    is_clash(signature, &head.name, notes)
+        || any_declared(signature, strategy_names(&head.parameters), notes)
 }
 
 // Whether one of the names is the name of a declared constructor.
-fn any_declared(signature: &Signature, names: &[Name]) -> bool
+fn any_declared(signature: &Signature, names: &[Name], notes: &mut Notes) -> bool
     ensures { result ≡ list_any (is_declared_name signature.now) names.now }
 {
     for name in names {
-        if signature.is_declared_name(name.bytes()) {
+        if is_clash(signature, name, notes) {
             return true;
         }
     }

@@ -1,9 +1,10 @@
 //! The judgement of a file.
-ghost use Rattle.std.specs.Prelude.{◌≡◌, ◌⊎◌, Some, IfErr, IfOk};
+ghost use Rattle.std.specs.Prelude.{◌≡◌, ◌⊎◌, Some, map, IfErr, IfOk};
 ghost use Rattle.scope_check.specs.Checked.{IsChecked};
 ghost use Rattle.scope_check.specs.Complaint.{complaints, first_fault, first_of};
-ghost use Rattle.scope_check.specs.Found.{found_in_file, told};
-ghost use Rattle.scope_check.specs.Seen.{at_top, plain_key};
+ghost use Rattle.scope_check.specs.Found.{found_in_file, occurring};
+ghost use Rattle.scope_check.specs.Seen.{among, at_top, key_of, plain_key};
+ghost use Rattle.scope_check.specs.Tables.{heads_of};
 ghost use Rattle.str_syntax.specs.Views.{file_of};
 ghost use Rattle.term_model.specs.declared.fault.Fault.TheVariants.{Memory};
 
@@ -11,11 +12,12 @@ use crate::declarations::signature_of;
 use crate::file::with_heads;
 use crate::findings::Findings;
 use crate::groups::has_plain;
+use crate::notes::{Detail, Notes};
 use crate::top_heads::heads_in_sections;
 use signature_core::Signature;
 use std::alloc::{AllocError, Global};
 use std::marker::Model;
-use str_syntax::File;
+use str_syntax::{DefinitionHead, File};
 use term_model::Fault;
 
 /// A file without a fault, its signature, and the name of its main definition.
@@ -89,8 +91,25 @@ pub fn check(alloc: Global, file: File, main: &[u8]) -> Result<Checked, Fault>
     ensures checked { IfOk result (λ checked. IsChecked (file_of file) checked.declarations main.now) }
     ensures fault { IfErr result (λ fault. (fault ≡ Memory) ⊎ (first_fault (file_of file) main.now ≡ Some fault)) }
 {
-    let signature = signature_of(alloc, &file)?;
-    if let Some(fault) = fault_found(alloc, &signature, &file, main)? {
+    let mut notes = Notes::none();
+    check_with_notes(alloc, file, main, &mut notes)
+}
+
+/// Judges the file as `check` does, and notes where it is at fault. What was noted before is dropped.
+pub fn check_with_notes(
+    alloc: Global,
+    file: File,
+    main: &[u8],
+    notes: &mut Notes,
+) -> Result<Checked, Fault>
+    ensures file { IfOk result (λ checked. checked.file ≡ file) }
+    ensures main { IfOk result (λ checked. checked.main ≡ main.now) }
+    ensures checked { IfOk result (λ checked. IsChecked (file_of file) checked.declarations main.now) }
+    ensures fault { IfErr result (λ fault. (fault ≡ Memory) ⊎ (first_fault (file_of file) main.now ≡ Some fault)) }
+{
+    *notes = Notes::none();
+    let signature = signature_of(alloc, &file, notes)?;
+    if let Some(fault) = fault_found(alloc, &signature, &file, main, notes)? {
         return Err(fault);
     }
     let main = Vec::from_slice(alloc, main)?;
@@ -107,18 +126,30 @@ fn fault_found(
     signature: &Signature,
     file: &File,
     main: &[u8],
+    notes: &mut Notes,
 ) -> Result<Option<Fault>, AllocError>
-    ensures { IfOk result (λ fault. fault ≡ first_of (told (found_in_file signature.now (file_of file.now)) (at_top (file_of file.now) (plain_key main.now))) complaints) }
+    ensures { IfOk result (λ fault. fault ≡ first_of (occurring (found_in_file signature.now (file_of file.now)) (at_top (file_of file.now) (plain_key main.now))) complaints) }
 {
     let heads = heads_in_sections(alloc, &file.sections)?;
-    let has_main = has_plain(&heads, main);
-    let found = with_heads(alloc, signature, &heads, &file.sections)?;
+    let has_main = has_main(&heads, main, notes);
+    let found = with_heads(alloc, signature, &heads, &file.sections, notes)?;
     Ok(least_fault(found, has_main))
+}
+
+// Whether one of the heads has the name of main and no parameters.
+fn has_main(heads: &[&DefinitionHead], main: &[u8], notes: &mut Notes) -> bool
+    ensures { result ≡ among (map key_of (heads_of heads.now)) (plain_key main.now) }
+{
+    if has_plain(heads, main) {
+        return true;
+    }
+    notes.anywhere(main, Detail::NoMain);
+    false
 }
 
 // The fault of the least number among those that were found.
 fn least_fault(found: Findings, has_main: bool) -> Option<Fault>
-    ensures { result ≡ first_of (told found has_main) complaints }
+    ensures { result ≡ first_of (occurring found has_main) complaints }
 {
     if found.undeclared {
         return Some(Fault::Undeclared);

@@ -84,13 +84,13 @@ impl<'a> Hash for Key<'a> {
     }
 }
 
-/// Keys that were noted. A look-up does not walk them.
+/// Keys that were added. A look-up does not walk them.
 #[derive(Drop)]
 pub(crate) struct Keys<'a> {
     table: IndexSet<Key<'a>>,
 }
 
-// The keys, each once, in the order in which they were noted.
+// The keys, each once, in the order in which they were added.
 impl<'a> Model for Keys<'a> {
     ghost use Rattle.std.specs.Prelude.{List};
     ghost use Rattle.scope_check.specs.Seen.{Key};
@@ -110,18 +110,28 @@ impl<'a> Keys<'a> {
         }
     }
 
-    /// Notes the key, and returns whether it was not there before. `AllocError` where a growth is refused.
-    pub(crate) fn note(&mut self, key: Key<'a>) -> Result<bool, AllocError>
-        ensures noted { OnOk result ((k : spec.Key) → among self.new k ≡ (among self.old k || same_key k key.entry)) }
+    /// Adds the key, and returns whether it was not there before. `AllocError` where a growth is refused.
+    pub(crate) fn add(&mut self, key: Key<'a>) -> Result<bool, AllocError>
+        ensures added { OnOk result ((k : spec.Key) → among self.new k ≡ (among self.old k || same_key k key.entry)) }
         ensures new { IfOk result (λ new. new ≡ not (among self.old key.entry)) }
     {
         Ok(self.table.insert(key)?)
     }
 
-    /// Whether the key was noted.
+    /// Whether the key was added.
     pub(crate) fn has(&self, key: &Key<'a>) -> bool
         ensures { result ≡ among self.now key.now }
     {
         self.table.contains(&*key)
+    }
+
+    /// The numbers of the first key of this name.
+    pub(crate) fn numbers_of(&self, name: &[u8]) -> Option<(usize, usize)> {
+        for key in self.table.iter() {
+            if key.name == name {
+                return Some((key.strategies, key.terms));
+            }
+        }
+        None
     }
 }

@@ -7,7 +7,7 @@ ghost use Rattle.term_model.specs.declared.fault.Fault as refusals;
 
 /// The fault of a file is that of the least number among the complaints that occur in it, and in a file without a fault no complaint
 /// occurs.
-pub fn the_least_fault_is_told()
+pub fn the_least_fault_is_reported()
     ensures some { (file : FileTree) (main : Bytes) (fault : refusals.Fault) → first_fault file main ≡ Some fault → IsLeast (occurs file main) fault }
     ensures none { (file : FileTree) (main : Bytes) → first_fault file main ≡ None → (k : Complaint) → occurs file main k ≡ false }
 {}

@@ -32,3 +32,23 @@ pub(crate) fn is_seen<'t>(layers: &Layers<'_, 't>, key: &Key<'t>) -> bool
         Layers::Recursive { name, outer } => key.is_plain(name.bytes()) || is_seen(outer, &*key),
     }
 }
+
+/// The numbers of strategies and of terms with which the name is seen, innermost first.
+pub(crate) fn numbers_seen(layers: &Layers<'_, '_>, name: &[u8]) -> Option<(usize, usize)> {
+    match layers {
+        Layers::Outermost => None,
+        Layers::Inner { keys, outer } => {
+            let here = keys.numbers_of(name);
+            if here.is_some() {
+                return here;
+            }
+            numbers_seen(outer, name)
+        }
+        Layers::Recursive { name: own, outer } => {
+            if own.bytes() == name {
+                return Some((0, 0));
+            }
+            numbers_seen(outer, name)
+        }
+    }
+}

@@ -1,6 +1,8 @@
 //! The judgement of a whole definition file.
 #![tactic(auto)]
 
+mod alternatives;
+mod calls;
 mod declarations;
 mod file;
 mod findings;
@@ -11,6 +13,11 @@ mod keys;
 pub mod laws;
 mod layers;
 mod names;
+mod nodes;
+pub mod notes;
+mod rules;
+#[cfg(test)]
+mod samples;
 pub mod side;
 #[cfg(test)]
 mod tests;
@@ -18,5 +25,6 @@ mod top_heads;
 mod tops;
 mod walk;
 
-pub use judgement::{Checked, check};
+pub use judgement::{Checked, check, check_with_notes};
+pub use notes::{Detail, Note, Notes};
 pub use side::Side;

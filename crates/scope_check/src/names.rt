@@ -1,25 +1,43 @@
 // Names that must differ from one another.
-ghost use Rattle.std.specs.Prelude.{◌≡◌, ◌++◌, map, IfOk, OnOk};
+ghost use Rattle.std.specs.Prelude.{◌≡◌, ◌||◌, ◌++◌, map, not, IfOk, OnOk};
 ghost use Rattle.scope_check.specs.Complaint.{repeats};
-ghost use Rattle.scope_check.specs.Seen.{among, plain_key};
+ghost use Rattle.scope_check.specs.Seen as spec;
+ghost use Rattle.scope_check.specs.Seen.{among, plain_key, same_key};
 ghost use Rattle.scope_check.specs.Tables.{repeats_after, AreWith};
 
 use crate::keys::{Key, Keys};
+use crate::notes::{Detail, Notes};
 use std::alloc::{AllocError, Global};
 use str_syntax::Name;
 
-/// Notes the plain keys of the names, and returns whether one of them was there before or stands again. `AllocError` where a growth
+/// Adds the plain keys of the names, and returns whether one of them was there before or stands again. `AllocError` where a growth
 /// is refused.
-pub(crate) fn note_names<'a>(keys: &mut Keys<'a>, names: &'a [Name]) -> Result<bool, AllocError>
-    ensures noted { OnOk result (AreWith keys.old (map plain_key names.now) keys.new) }
+pub(crate) fn add_names<'a>(
+    keys: &mut Keys<'a>,
+    names: &'a [Name],
+    notes: &mut Notes,
+) -> Result<bool, AllocError>
+    ensures added { OnOk result (AreWith keys.old (map plain_key names.now) keys.new) }
     ensures repeated { IfOk result (λ repeated. repeated ≡ repeats_after (among keys.old) names.now) }
 {
     let mut repeated = false;
     for name in names {
-        let new = keys.note(Key::plain(name.bytes()))?;
+        let new = add_name(keys, name, notes)?;
         repeated = repeated || !new;
     }
     Ok(repeated)
+}
+
+// Adds the plain key of the name, and returns whether it was not there before.
+fn add_name<'a>(keys: &mut Keys<'a>, name: &'a Name, notes: &mut Notes) -> Result<bool, AllocError>
+    ensures added { OnOk result ((k : spec.Key) → among keys.new k ≡ (among keys.old k || same_key k (plain_key name.now))) }
+    ensures new { IfOk result (λ new. new ≡ not (among keys.old (plain_key name.now))) }
+{
+    let new = keys.add(Key::plain(name.bytes()))?;
+    if !new {
+        notes.at(name, Detail::Repeated);
+    }
+    Ok(new)
 }
 
 /// Whether a name stands again after itself, in both lists together. `AllocError` where a growth is refused.
@@ -28,11 +46,12 @@ pub(crate) fn have_repeats<'a>(
     alloc: Global,
     names: &'a [Name],
     others: &'a [Name],
+    notes: &mut Notes,
 ) -> Result<bool, AllocError>
     ensures { IfOk result (λ repeated. repeated ≡ repeats (names.now ++ others.now)) }
 {
     let mut keys = Keys::new(alloc);
-    let first = note_names(&mut keys, names)?;
-    let second = note_names(&mut keys, others)?;
+    let first = add_names(&mut keys, names, notes)?;
+    let second = add_names(&mut keys, others, notes)?;
     Ok(first || second)
 }

@@ -1,185 +1,24 @@
 // The judgement of small files with ample memory; what is expected was worked out by hand.
-use crate::{Checked, check};
+use crate::samples::{Body, defined, definition, file};
+use crate::{Checked, Notes, check, check_with_notes};
 use std::alloc::Global;
 use std::test::Fail;
-use str_syntax::{
-    Arguments, Declaration, Definition, DefinitionForm, File, Name, Origin, Parameters, Pattern,
-    Primary, Section, SignaturePart, Sort, Strategy, StrategyDefinition, Text, build,
-};
+use str_syntax::{Definition, DefinitionHead, File, Name, Parameters};
+use term_model::Fault;
 
-// The body of a definition.
-#[derive(Clone, Copy)]
-enum Body<'a> {
-    Id,
-    // `f`
-    Call(&'a str),
-    // `f(id)`
-    CallWith(&'a str),
-    // `prim("p")`
-    Primitive(&'a str),
-    // `?C(x)`
-    Match(&'a str),
-    // `?_`
-    MatchAny,
-    // `!_`
-    BuildAny,
-    // `!x@x`
-    BuildAlias(&'a str),
-    // `{x, y: id}`
-    Scope(&'a [&'a str]),
-    // `rec x(x)`
-    Recursive(&'a str),
-    // `let f = id in f end`
-    Let(&'a str),
+// The word of the fault that the file has and what is noted of it, or nothing.
+fn refusal(alloc: Global, file: File) -> Result<String, Fail> {
+    let mut notes = Notes::none();
+    let Err(fault) = check_with_notes(alloc, file, b"main", &mut notes) else {
+        return Ok(String::new(alloc));
+    };
+    let word = fault.word();
+    let note = notes.first().ok_or("nothing is noted")?;
+    Ok(format!(in alloc; "{word}: {note}")?)
 }
 
-fn name(alloc: Global, word: &str) -> Result<Name, Fail> {
-    Ok(build::name(alloc, word.as_bytes())?)
-}
-
-fn names(alloc: Global, words: &[&str]) -> Result<Vec<Name>, Fail> {
-    let mut made = Vec::new(alloc);
-    for word in words {
-        made.push(name(alloc, word)?)?;
-    }
-    Ok(made)
-}
-
-fn sorts(alloc: Global, number: usize) -> Result<Vec<Sort>, Fail> {
-    let mut made = Vec::new(alloc);
-    for _ in 0..number {
-        made.push(Sort::Named(name(alloc, "A")?))?;
-    }
-    Ok(made)
-}
-
-fn boxed(alloc: Global, primary: Primary) -> Result<Box<Strategy>, Fail> {
-    Ok(Box::new(alloc, build::strategy(alloc, primary)?)?)
-}
-
-// `f = id`
-fn named_id(alloc: Global, word: &str) -> Result<StrategyDefinition, Fail> {
-    let head = build::head(alloc, word.as_bytes(), Parameters::Absent)?;
-    let body = boxed(alloc, Primary::Id)?;
-    Ok(StrategyDefinition { head, body })
-}
-
-fn call(alloc: Global, word: &str) -> Result<Box<Strategy>, Fail> {
-    boxed(
-        alloc,
-        build::call(alloc, word.as_bytes(), Arguments::Absent)?,
-    )
-}
-
-fn call_with(alloc: Global, word: &str) -> Result<Box<Strategy>, Fail> {
-    let mut arguments = Vec::new(alloc);
-    arguments.push(build::strategy(alloc, Primary::Id)?)?;
-    let arguments = Arguments::Strategies(arguments);
-    boxed(alloc, build::call(alloc, word.as_bytes(), arguments)?)
-}
-
-fn application(alloc: Global, word: &str) -> Result<Box<Strategy>, Fail> {
-    let constructor = name(alloc, word)?;
-    let mut parts = Vec::new(alloc);
-    parts.push(build::variable(alloc, b"x")?)?;
-    boxed(
-        alloc,
-        Primary::Match(Pattern::Application(constructor, parts)),
-    )
-}
-
-fn alias(alloc: Global, word: &str) -> Result<Box<Strategy>, Fail> {
-    let outer = name(alloc, word)?;
-    let inner = Box::new(alloc, build::variable(alloc, word.as_bytes())?)?;
-    boxed(alloc, Primary::Build(Pattern::Alias(outer, inner)))
-}
-
-fn let_in(alloc: Global, word: &str) -> Result<Box<Strategy>, Fail> {
-    let mut definitions = Vec::new(alloc);
-    definitions.push(named_id(alloc, word)?)?;
-    let inner = call(alloc, word)?;
-    boxed(alloc, Primary::Let(definitions, inner))
-}
-
-fn strategy(alloc: Global, form: &Body) -> Result<Box<Strategy>, Fail> {
-    match form {
-        Body::Id => boxed(alloc, Primary::Id),
-        Body::Call(f) => call(alloc, f),
-        Body::CallWith(f) => call_with(alloc, f),
-        Body::Primitive(f) => {
-            let text = Text::new(alloc, f.as_bytes())?;
-            boxed(alloc, Primary::Primitive(text, Vec::new(alloc)))
-        }
-        Body::Match(c) => application(alloc, c),
-        Body::MatchAny => boxed(alloc, Primary::Match(Pattern::Wildcard(0))),
-        Body::BuildAny => boxed(alloc, Primary::Build(Pattern::Wildcard(0))),
-        Body::BuildAlias(x) => alias(alloc, x),
-        Body::Scope(xs) => {
-            let xs = names(alloc, xs)?;
-            let inner = boxed(alloc, Primary::Id)?;
-            boxed(alloc, Primary::Scope(xs, inner))
-        }
-        Body::Recursive(f) => {
-            let f = name(alloc, f)?;
-            let inner = boxed(alloc, Primary::Id)?;
-            boxed(alloc, Primary::Recursive(f, inner))
-        }
-        Body::Let(f) => let_in(alloc, f),
-    }
-}
-
-fn definition(
-    alloc: Global,
-    word: &str,
-    strategies: &[&str],
-    terms: &[&str],
-    form: &Body,
-) -> Result<Definition, Fail> {
-    let strategies = names(alloc, strategies)?;
-    let parameters = Parameters::WithTerms(strategies, names(alloc, terms)?);
-    let head = build::head(alloc, word.as_bytes(), parameters)?;
-    let body = strategy(alloc, form)?;
-    Ok(Definition {
-        origin: Origin::File,
-        form: DefinitionForm::Strategy(StrategyDefinition { head, body }),
-    })
-}
-
-fn declared(alloc: Global, constructors: &[(&str, usize)]) -> Result<Section, Fail> {
-    let mut made = Vec::new(alloc);
-    for (word, number) in constructors {
-        let constructor = name(alloc, word)?;
-        let arguments = sorts(alloc, *number)?;
-        let to = Sort::Named(name(alloc, "A")?);
-        made.push(Declaration::Constructor(constructor, arguments, to))?;
-    }
-    let mut parts = Vec::new(alloc);
-    parts.push(SignaturePart::Constructors(made))?;
-    Ok(Section::Signature(parts))
-}
-
-// The file that declares these constructors and has these definitions.
-fn file(
-    alloc: Global,
-    constructors: &[(&str, usize)],
-    definitions: Vec<Definition>,
-) -> Result<File, Fail> {
-    let signature = declared(alloc, constructors)?;
-    let mut sections = Vec::new(alloc);
-    sections.push(signature)?;
-    sections.push(Section::Strategies(definitions))?;
-    Ok(File { sections })
-}
-
-// The word of the fault that the file has, or nothing.
-fn told(alloc: Global, file: File) -> &'static str {
-    match check(alloc, file, b"main") {
-        Ok(_) => "",
-        Err(fault) => fault.word(),
-    }
-}
-
-// Constructors with their numbers of sorts; a definition, its parameters and its body, which stands in front of `main = id`; the fault.
+// Constructors with their numbers of sorts; a definition, its parameters and its body, which stands in front of `main = id`; the fault and
+// what is noted of it.
 const FAULTS: &[(
     &[(&str, usize)],
     &str,
@@ -194,13 +33,42 @@ const FAULTS: &[(
         &[],
         &[],
         Body::Id,
-        "DuplicateDeclaration",
+        "DuplicateDeclaration: constructor C is declared twice with the same sorts",
     ),
     (&[("C", 1), ("C", 2)], "f", &[], &[], Body::Id, ""),
-    (&[("C", 2)], "f", &[], &[], Body::Match("C"), "Undeclared"),
+    (
+        &[("C", 2)],
+        "f",
+        &[],
+        &[],
+        Body::Match("C"),
+        "Undeclared: constructor C with 1 part is not declared (it is declared with 2)",
+    ),
+    (
+        &[],
+        "f",
+        &[],
+        &[],
+        Body::Match("C"),
+        "Undeclared: constructor C with 1 part is not declared",
+    ),
     (&[("C", 1)], "f", &[], &[], Body::Match("C"), ""),
-    (&[], "f", &["s", "s"], &[], Body::Id, "Parameters"),
-    (&[], "f", &["s"], &["s"], Body::Id, "Parameters"),
+    (
+        &[],
+        "f",
+        &["s", "s"],
+        &[],
+        Body::Id,
+        "Parameters: name s stands twice among parameters or in a scope",
+    ),
+    (
+        &[],
+        "f",
+        &["s"],
+        &["s"],
+        Body::Id,
+        "Parameters: name s stands twice among parameters or in a scope",
+    ),
     (&[], "f", &["s", "t"], &["x"], Body::Id, ""),
     (
         &[],
@@ -208,15 +76,43 @@ const FAULTS: &[(
         &[],
         &[],
         Body::Scope(&["x", "y", "x"]),
-        "Parameters",
+        "Parameters: name x stands twice among parameters or in a scope",
     ),
     (&[], "f", &[], &[], Body::Scope(&["x", "y"]), ""),
-    (&[("C", 1)], "C", &[], &[], Body::Id, "Clash"),
-    (&[("C", 1)], "f", &["C"], &[], Body::Id, "Clash"),
+    (
+        &[("C", 1)],
+        "C",
+        &[],
+        &[],
+        Body::Id,
+        "Clash: name C is that of a declared constructor and of a strategy",
+    ),
+    (
+        &[("C", 1)],
+        "f",
+        &["C"],
+        &[],
+        Body::Id,
+        "Clash: name C is that of a declared constructor and of a strategy",
+    ),
     (&[("C", 1)], "f", &[], &["C"], Body::Id, ""),
-    (&[("C", 1)], "f", &[], &[], Body::Recursive("C"), "Clash"),
+    (
+        &[("C", 1)],
+        "f",
+        &[],
+        &[],
+        Body::Recursive("C"),
+        "Clash: name C is that of a declared constructor and of a strategy",
+    ),
     (&[("C", 1)], "f", &[], &[], Body::Recursive("D"), ""),
-    (&[], "f", &["s"], &[], Body::Call("f"), "UnknownStrategy"),
+    (
+        &[],
+        "f",
+        &["s"],
+        &[],
+        Body::Call("f"),
+        "UnknownStrategy: strategy f with 0 strategy and 0 term parameters is not defined (it is defined with 1 and 0)",
+    ),
     (&[], "f", &["s"], &[], Body::CallWith("f"), ""),
     (&[], "f", &["s"], &[], Body::Call("s"), ""),
     (
@@ -225,9 +121,16 @@ const FAULTS: &[(
         &["s"],
         &[],
         Body::CallWith("s"),
-        "UnknownStrategy",
+        "UnknownStrategy: strategy s with 1 strategy and 0 term parameters is not defined (it is defined with 0 and 0)",
     ),
-    (&[], "f", &[], &["x"], Body::Call("x"), "UnknownStrategy"),
+    (
+        &[],
+        "f",
+        &[],
+        &["x"],
+        Body::Call("x"),
+        "UnknownStrategy: strategy x with 0 strategy and 0 term parameters is not defined",
+    ),
     (&[("C", 1)], "f", &[], &[], Body::CallWith("C"), ""),
     (
         &[("C", 2)],
@@ -235,19 +138,33 @@ const FAULTS: &[(
         &[],
         &[],
         Body::CallWith("C"),
-        "UnknownStrategy",
+        "UnknownStrategy: strategy C with 1 strategy and 0 term parameters is not defined",
     ),
     (&[], "f", &[], &[], Body::Let("g"), ""),
-    (&[], "f", &[], &[], Body::BuildAny, "NotBuildable"),
+    (
+        &[],
+        "f",
+        &[],
+        &[],
+        Body::BuildAny,
+        "NotBuildable: pattern _ cannot be built",
+    ),
     (&[], "f", &[], &[], Body::MatchAny, ""),
-    (&[], "f", &[], &[], Body::BuildAlias("x"), "NotBuildable"),
+    (
+        &[],
+        "f",
+        &[],
+        &[],
+        Body::BuildAlias("x"),
+        "NotBuildable: pattern x@ cannot be built",
+    ),
     (
         &[],
         "f",
         &[],
         &[],
         Body::Primitive("main"),
-        "UnknownPrimitive",
+        "UnknownPrimitive: primitive main with 0 terms is unknown",
     ),
     (&[], "f", &[], &[], Body::Call("main"), ""),
     // The least of three faults.
@@ -257,7 +174,7 @@ const FAULTS: &[(
         &["s", "s"],
         &[],
         Body::Primitive("p"),
-        "Parameters",
+        "Parameters: name s stands twice among parameters or in a scope",
     ),
 ];
 
@@ -269,20 +186,64 @@ fn faults(rt: HostRuntime) -> Result<(), Fail> {
         all.push(definition(alloc, word, strategies, terms, form)?)?;
         all.push(definition(alloc, "main", &[], &[], &Body::Id)?)?;
         let file = file(alloc, constructors, all)?;
-        assert!(rt; told(alloc, file) == *expected);
+        let refusal = refusal(alloc, file)?;
+        assert!(rt; refusal.as_str() == *expected);
     }
     Ok(())
 }
 
-// A definition, its alternatives, their parameter, the parameter of one alternative more, and the fault.
+// A definition, its alternatives, their parameter, the parameter of one alternative more, the fault and what is
+// noted of it.
 const TOGETHER: &[(&str, usize, &str, &str, &str)] = &[
-    ("f", 1, "s", "s", "NoMain"),
-    ("f", 1, "s", "t", "Parameters"),
-    ("main", 1, "s", "s", "NoMain"),
-    ("main", 1, "s", "t", "Parameters"),
-    ("f", 2, "s", "t", "Parameters"),
-    ("f", 999, "s", "s", "NoMain"),
-    ("f", 1000, "s", "s", "Parameters"),
+    (
+        "f",
+        1,
+        "s",
+        "s",
+        "NoMain: strategy main without parameters is not defined",
+    ),
+    (
+        "f",
+        1,
+        "s",
+        "t",
+        "Parameters: strategy f has alternatives with other parameters",
+    ),
+    (
+        "main",
+        1,
+        "s",
+        "s",
+        "NoMain: strategy main without parameters is not defined",
+    ),
+    (
+        "main",
+        1,
+        "s",
+        "t",
+        "Parameters: strategy main has alternatives with other parameters",
+    ),
+    (
+        "f",
+        2,
+        "s",
+        "t",
+        "Parameters: strategy f has alternatives with other parameters",
+    ),
+    (
+        "f",
+        999,
+        "s",
+        "s",
+        "NoMain: strategy main without parameters is not defined",
+    ),
+    (
+        "f",
+        1000,
+        "s",
+        "s",
+        "Parameters: strategy f has over 1000 alternatives",
+    ),
 ];
 
 #[test]
@@ -295,7 +256,8 @@ fn definitions_together(rt: HostRuntime) -> Result<(), Fail> {
         }
         all.push(definition(alloc, word, &[*other], &[], &Body::Id)?)?;
         let file = file(alloc, &[], all)?;
-        assert!(rt; told(alloc, file) == *expected);
+        let refusal = refusal(alloc, file)?;
+        assert!(rt; refusal.as_str() == *expected);
     }
     Ok(())
 }
@@ -317,5 +279,76 @@ fn a_file_without_a_fault(rt: HostRuntime) -> Result<(), Fail> {
     let checked = check(alloc, file, b"main")?;
     let is_whole = has_its_parts(&checked);
     assert!(rt; is_whole);
+    Ok(())
+}
+
+// A definition with two parameters, and where its name and these stand.
+fn placed(
+    alloc: Global,
+    word: &str,
+    parameters: [&str; 2],
+    at: [u64; 3],
+) -> Result<Definition, Fail> {
+    let mut names = Vec::new(alloc);
+    names.push(Name::new(alloc, parameters[0].as_bytes(), at[1])?)?;
+    names.push(Name::new(alloc, parameters[1].as_bytes(), at[2])?)?;
+    let name = Name::new(alloc, word.as_bytes(), at[0])?;
+    let head = DefinitionHead {
+        name,
+        parameters: Parameters::Strategies(names),
+    };
+    defined(alloc, head, &Body::Id)
+}
+
+#[test]
+fn the_first_place_of_the_least_fault(rt: HostRuntime) -> Result<(), Fail> {
+    let alloc = rt.alloc();
+    let mut all = Vec::new(alloc);
+    all.push(placed(alloc, "C", ["s", "t"], [5, 6, 7])?)?;
+    all.push(placed(alloc, "g", ["a", "a"], [10, 12, 14])?)?;
+    all.push(placed(alloc, "f", ["s", "t"], [20, 22, 24])?)?;
+    all.push(placed(alloc, "f", ["s", "u"], [30, 32, 34])?)?;
+    let file = file(alloc, &[("C", 1)], all)?;
+    let mut notes = Notes::none();
+    let is_refused = check_with_notes(alloc, file, b"main", &mut notes).is_err();
+    assert!(rt; is_refused);
+    let note = notes.first().ok_or("nothing is noted")?;
+    assert!(rt; note.offset() == Some(14));
+    assert!(rt; note.name() == b"a".as_slice());
+    assert!(rt; note.detail().fault() == Fault::Parameters);
+    Ok(())
+}
+
+#[test]
+fn a_long_name_is_cut(rt: HostRuntime) -> Result<(), Fail> {
+    let alloc = rt.alloc();
+    let word = "abcdefghijklmnopqrstuvwxyz0123456789abcdefghijklmnopqrstuvwxyz0123456789";
+    let mut all = Vec::new(alloc);
+    all.push(definition(alloc, "main", &[], &[], &Body::Call(word))?)?;
+    let file = file(alloc, &[], all)?;
+    let refusal = refusal(alloc, file)?;
+    let expected =
+        "UnknownStrategy: strategy abcdefghijklmnopqrstuvwxyz0123456789abcdefghijklmnopqrstuvwxyz01.. with 0 strategy and 0 term parameters is not defined";
+    assert!(rt; refusal.as_str() == expected);
+    Ok(())
+}
+
+// A name for the number.
+fn numbered(alloc: Global, number: usize) -> Result<String, Fail> {
+    Ok(format!(in alloc; "f{number}")?)
+}
+
+#[test]
+fn a_large_file(rt: HostRuntime) -> Result<(), Fail> {
+    let alloc = rt.alloc();
+    let mut all = Vec::new(alloc);
+    for number in 0..10000 {
+        let word = numbered(alloc, number)?;
+        all.push(definition(alloc, word.as_str(), &["s"], &[], &Body::Call("s"))?)?;
+    }
+    all.push(definition(alloc, "main", &[], &[], &Body::Id)?)?;
+    let file = file(alloc, &[], all)?;
+    let is_checked = check(alloc, file, b"main").is_ok();
+    assert!(rt; is_checked);
     Ok(())
 }

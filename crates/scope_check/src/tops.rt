@@ -7,7 +7,9 @@ ghost use Rattle.scope_check.specs.Seen.{tops_in};
 
 use crate::findings::Findings;
 use crate::layers::Layers;
-use crate::walk::{definition, rule_definition};
+use crate::notes::Notes;
+use crate::rules::rule_definition;
+use crate::walk::definition;
 use signature_core::Signature;
 use std::alloc::{AllocError, Global};
 use str_syntax::{Definition, DefinitionForm, Section};
@@ -18,12 +20,13 @@ pub(crate) fn tops<'t>(
     signature: &Signature,
     layers: &Layers<'_, 't>,
     all: &'t [Definition],
+    notes: &mut Notes,
 ) -> Result<Findings, AllocError>
     ensures { IfOk result (λ found. found ≡ found_in_tops signature.now (layers_of layers.now) (map top_of all.now)) }
 {
     let mut found = Findings::none();
     for one in all {
-        let more = top(alloc, signature, layers, one)?;
+        let more = top(alloc, signature, layers, one, notes)?;
         found = found.or(more);
     }
     Ok(found)
@@ -35,12 +38,15 @@ fn top<'t>(
     signature: &Signature,
     layers: &Layers<'_, 't>,
     one: &'t Definition,
+    notes: &mut Notes,
 ) -> Result<Findings, AllocError>
     ensures { IfOk result (λ found. found ≡ found_in_top signature.now (layers_of layers.now) (top_of one.now)) }
 {
     match &one.form {
-        DefinitionForm::Rule(r) => rule_definition(alloc, signature, layers, &r.head, &r.rule),
-        DefinitionForm::Strategy(d) => definition(alloc, signature, layers, d),
+        DefinitionForm::Rule(r) => rule_definition(
+            alloc, signature, layers, &r.head, &r.rule, notes,
+        ),
+        DefinitionForm::Strategy(d) => definition(alloc, signature, layers, d, notes),
     }
 }
 
@@ -50,12 +56,13 @@ pub(crate) fn sections<'t>(
     signature: &Signature,
     layers: &Layers<'_, 't>,
     all: &'t [Section],
+    notes: &mut Notes,
 ) -> Result<Findings, AllocError>
     ensures { IfOk result (λ found. found ≡ found_in_tops signature.now (layers_of layers.now) (tops_in (map section_of all.now))) }
 {
     let mut found = Findings::none();
     for one in all {
-        let more = section(alloc, signature, layers, one)?;
+        let more = section(alloc, signature, layers, one, notes)?;
         found = found.or(more);
     }
     Ok(found)
@@ -67,12 +74,13 @@ fn section<'t>(
     signature: &Signature,
     layers: &Layers<'_, 't>,
     one: &'t Section,
+    notes: &mut Notes,
 ) -> Result<Findings, AllocError>
     ensures { IfOk result (λ found. found ≡ found_in_tops signature.now (layers_of layers.now) (tops_of (section_of one.now))) }
 {
     match one {
         Section::Signature(_) => Ok(Findings::none()),
-        Section::Rules(all) => tops(alloc, signature, layers, all),
-        Section::Strategies(all) => tops(alloc, signature, layers, all),
+        Section::Rules(all) => tops(alloc, signature, layers, all, notes),
+        Section::Strategies(all) => tops(alloc, signature, layers, all, notes),
     }
 }

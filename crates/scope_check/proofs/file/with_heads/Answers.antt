@@ -9,4 +9,4 @@ pub returns : goal.returns
 returns c =
     let inside : c.in_ok-inside.inside ≡ found_in_tops c.args.signature.now (inner (among (map key_of (heads_of c.args.heads.now))) nothing) (tops_in (map section_of c.args.all.now)) =
     c.in_ok-inside.ensures ∙ ap (λ A. found_in_tops c.args.signature.now (inner A nothing) (tops_in (map section_of c.args.all.now))) c.in_ok-keys.ensures in
-    c.or.ensures ∙ ap (λ f. joined f c.in_ok-inside.inside) c.found_in_group-here.ensures ∙ ap (λ f. joined (found_group (heads_of c.args.heads.now)) f) inside
+    c.or.ensures ∙ ap (λ f. joined f c.in_ok-inside.inside) c.in_ok-here.ensures ∙ ap (λ f. joined (found_group (heads_of c.args.heads.now)) f) inside

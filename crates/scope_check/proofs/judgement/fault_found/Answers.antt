@@ -2,7 +2,7 @@ use Rattle.std.proofs.Common.{◌≡◌, ◌∙◌, Bool, List, map, ap}
 use Rattle.str_syntax.specs.Trees.{HeadTree}
 use Rattle.str_syntax.specs.Views.{file_of, section_of}
 use Rattle.scope_check.specs.Complaint.{complaints, first_of}
-use Rattle.scope_check.specs.Found.{found_group, found_in_file, found_in_tops, joined, told}
+use Rattle.scope_check.specs.Found.{found_group, found_in_file, found_in_tops, joined, occurring}
 use Rattle.scope_check.specs.Seen.{among, at_top, head_of_top, inner, key_of, nothing, plain_key, top_heads, tops_in}
 use Rattle.scope_check.specs.Tables.{heads_of}
 use Rattle.scope_check.proofs.FileLaws.{file_found}
@@ -18,8 +18,8 @@ returns c =
     ap (λ (hs : List HeadTree). joined (found_group hs) (found_in_tops c.args.signature.now (inner (among (map key_of hs)) nothing) (tops_in (map section_of c.deref-4.result.now)))) heads ∙
     ap (λ ss. joined (found_group (top_heads file)) (found_in_tops c.args.signature.now (inner (among (map key_of (top_heads file))) nothing) (tops_in (map section_of ss)))) c.deref-4.ensures.value ∙
     file_found c.args.signature.now file in
-    let main : c.has_plain-has_main.result ≡ at_top file (plain_key c.args.main.now) =
-    c.has_plain-has_main.ensures ∙ ap (λ hs. among (map key_of (heads_of hs)) (plain_key c.args.main.now)) c.deref-2.ensures.value ∙
+    let main : c.has_main-has_main.result ≡ at_top file (plain_key c.args.main.now) =
+    c.has_main-has_main.ensures ∙ ap (λ hs. among (map key_of (heads_of hs)) (plain_key c.args.main.now)) c.deref-2.ensures.value ∙
     ap (λ (hs : List HeadTree). among (map key_of hs) (plain_key c.args.main.now)) heads in
-    c.least_fault.ensures ∙ ap (λ f. first_of (told f c.has_plain-has_main.result) complaints) found ∙
-    ap (λ (b : Bool). first_of (told (found_in_file c.args.signature.now file) b) complaints) main
+    c.least_fault.ensures ∙ ap (λ f. first_of (occurring f c.has_main-has_main.result) complaints) found ∙
+    ap (λ (b : Bool). first_of (occurring (found_in_file c.args.signature.now file) b) complaints) main

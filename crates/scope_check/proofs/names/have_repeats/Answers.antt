@@ -13,7 +13,7 @@ returns c =
       | else-first w ↦ w.result-is ∙ sym (ap (λ b. b || c.in_ok-second.second) w.if-first.false)
     ] in
     either ∙
-    repeats_together c.args.names.now c.args.others.now c.note_names.new.keys c.in_ok-first.first c.in_ok-second.second
+    repeats_together c.args.names.now c.args.others.now c.add_names.new.keys c.in_ok-first.first c.in_ok-second.second
     (c.in_ok-first.ensures.repeated ∙ ap (λ ks. repeats_after (among ks) c.args.names.now) c.new-keys.ensures)
-    (subst (λ ks. AreWith ks (map plain_key c.args.names.now) c.note_names.new.keys) c.new-keys.ensures c.in_ok-first.ensures.noted)
+    (subst (λ ks. AreWith ks (map plain_key c.args.names.now) c.add_names.new.keys) c.new-keys.ensures c.in_ok-first.ensures.added)
     c.in_ok-second.ensures.repeated

@@ -67,8 +67,8 @@ pub primary-returns-in-Primitive : goal.primary-returns-in-Primitive
 primary-returns-in-Primitive t c =
     let P : PrimaryTree → Type 0 = λ p. IfOk c.primitive.result (λ f. f ≡ found_in_primary c.args.signature.now (layers_of c.args.layers.now) p) in
     subst P
-    (ap (λ ps. primitive c.in-Primitive.field-0 (patterns_of ps)) c.deref-in-Primitive.ensures.value ∙
-    sym (ap primary_of c.in-Primitive.is ∙ reads_primitive c.in-Primitive.field-0 c.in-Primitive.ps))
+    (ap (λ ps. primitive c.in-Primitive.f (patterns_of ps)) c.deref-in-Primitive.ensures.value ∙
+    sym (ap primary_of c.in-Primitive.is ∙ reads_primitive c.in-Primitive.f c.in-Primitive.ps))
     c.primitive.ensures
 
 pub definition-returns : goal.definition-returns

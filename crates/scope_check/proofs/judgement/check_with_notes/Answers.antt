@@ -2,8 +2,8 @@ use Rattle.std.proofs.Common.{◌∙◌, inr, subst, sym}
 use Rattle.std.proofs.lemmas.Result.{err_from_is_err_and}
 use Rattle.str_syntax.specs.Views.{file_of}
 use Rattle.scope_check.specs.Checked.{IsChecked}
-use Rattle.scope_check.proofs.FileLaws.{is_checked, is_refused, is_told}
-use Rattle.scope_check.proofs.judgement.check.Goals as goal
+use Rattle.scope_check.proofs.FileLaws.{is_checked, is_refused, is_reported}
+use Rattle.scope_check.proofs.judgement.check_with_notes.Goals as goal
 
 pub returns-in_err-signature-clause-fault : goal.returns-in_err-signature-clause-fault
 returns-in_err-signature-clause-fault c =
@@ -11,7 +11,7 @@ returns-in_err-signature-clause-fault c =
     rw (p.1, p.2) (is_refused (file_of c.args.file) c.args.main.now _ c.in_err-signature.ensures.refused)
 
 pub returns-in-Some-clause-fault : goal.returns-in-Some-clause-fault
-returns-in-Some-clause-fault c = inr (is_told (file_of c.args.file) c.args.main.now c.in_ok-signature.signature _ c.in_ok-signature.ensures.declared (sym c.in-Some.is ∙ c.in_ok-fault.ensures))
+returns-in-Some-clause-fault c = inr (is_reported (file_of c.args.file) c.args.main.now c.in_ok-signature.signature _ c.in_ok-signature.ensures.declared (sym c.in-Some.is ∙ c.in_ok-fault.ensures))
 
 pub invariant_of-result : goal.invariant_of-result
 invariant_of-result c =

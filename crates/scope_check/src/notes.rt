@@ -1,0 +1,255 @@
+//! Where a file is at fault, for a person. No contract of the judgement speaks of it.
+ghost use Rattle.std.specs.Prelude.{◌≤◌};
+
+use std::{fmt, str};
+use str_syntax::Name;
+use term_model::Fault;
+
+// The most bytes of a name that are kept.
+const MOST: usize = 64;
+
+/// What is wrong at a place of a file, with the numbers that matter there.
+#[derive(Clone, Copy)]
+pub enum Detail {
+    /// The constructor is declared again with the same sorts.
+    DeclaredAgain,
+    /// The constructor is not declared with this number of parts. The number of its first declaration, where there is one.
+    Undeclared {
+        parts: usize,
+        declared: Option<usize>,
+    },
+    /// The name stands twice among parameters or in a scope.
+    Repeated,
+    /// An alternative has other parameters than the first of its key.
+    OtherParameters,
+    /// The key has over 1,000 alternatives.
+    ManyAlternatives,
+    /// A declared constructor and a strategy have the name.
+    Clash,
+    /// No strategy of this name with these numbers of parameters is seen. The numbers with which one is seen, where there is one.
+    UnknownStrategy {
+        strategies: usize,
+        terms: usize,
+        seen: Option<(usize, usize)>,
+    },
+    /// A wildcard is built.
+    BuiltWildcard,
+    /// A pattern with `@` is built. The name is that in front of it.
+    BuiltAlias,
+    /// There is no primitive of this name with this number of terms.
+    UnknownPrimitive {
+        terms: usize,
+    },
+    /// No definition at top level has the name and no parameters.
+    NoMain,
+}
+
+impl Detail {
+    /// The fault that this is.
+    pub fn fault(&self) -> Fault {
+        match self {
+            Detail::DeclaredAgain => Fault::DuplicateDeclaration,
+            Detail::Undeclared { .. } => Fault::Undeclared,
+            Detail::Repeated | Detail::OtherParameters | Detail::ManyAlternatives => {
+                Fault::Parameters
+            }
+            Detail::Clash => Fault::Clash,
+            Detail::UnknownStrategy { .. } => Fault::UnknownStrategy,
+            Detail::BuiltWildcard | Detail::BuiltAlias => Fault::NotBuildable,
+            Detail::UnknownPrimitive { .. } => Fault::UnknownPrimitive,
+            Detail::NoMain => Fault::NoMain,
+        }
+    }
+
+    // What the name is a name of.
+    fn subject(&self) -> &'static str {
+        match self {
+            Detail::DeclaredAgain | Detail::Undeclared { .. } => "constructor",
+            Detail::Repeated | Detail::Clash => "name",
+            Detail::OtherParameters | Detail::ManyAlternatives => "strategy",
+            Detail::UnknownStrategy { .. } | Detail::NoMain => "strategy",
+            Detail::BuiltWildcard | Detail::BuiltAlias => "pattern",
+            Detail::UnknownPrimitive { .. } => "primitive",
+        }
+    }
+}
+
+// What is said of the name.
+impl fmt::Display for Detail {
+    fn fmt<W: fmt::Write>(&self, f: &mut fmt::Formatter<W>) -> fmt::Result {
+        match self {
+            Detail::DeclaredAgain => write!(f, " is declared twice with the same sorts"),
+            Detail::Undeclared { parts, declared } => {
+                let s = plural(*parts);
+                write!(f, " with {parts} part{s} is not declared")?;
+                write_declared(f, *declared)
+            }
+            Detail::Repeated => write!(f, " stands twice among parameters or in a scope"),
+            Detail::OtherParameters => write!(f, " has alternatives with other parameters"),
+            Detail::ManyAlternatives => write!(f, " has over 1000 alternatives"),
+            Detail::Clash => write!(f, " is that of a declared constructor and of a strategy"),
+            Detail::UnknownStrategy {
+                strategies,
+                terms,
+                seen,
+            } => {
+                write!(f, " with {strategies} strategy and {terms} term parameters")?;
+                write!(f, " is not defined")?;
+                write_seen(f, *seen)
+            }
+            Detail::BuiltWildcard => write!(f, " cannot be built"),
+            Detail::BuiltAlias => write!(f, "@ cannot be built"),
+            Detail::UnknownPrimitive { terms } => {
+                let s = plural(*terms);
+                write!(f, " with {terms} term{s} is unknown")
+            }
+            Detail::NoMain => write!(f, " without parameters is not defined"),
+        }
+    }
+}
+
+// Writes with which number the constructor is declared, if it is.
+fn write_declared<W: fmt::Write>(
+    f: &mut fmt::Formatter<W>,
+    declared: Option<usize>,
+) -> fmt::Result {
+    match declared {
+        Some(number) => write!(f, " (it is declared with {number})"),
+        None => Ok(()),
+    }
+}
+
+// Writes with which numbers the strategy is defined, if it is.
+fn write_seen<W: fmt::Write>(
+    f: &mut fmt::Formatter<W>,
+    seen: Option<(usize, usize)>,
+) -> fmt::Result {
+    match seen {
+        Some((strategies, terms)) => write!(f, " (it is defined with {strategies} and {terms})"),
+        None => Ok(()),
+    }
+}
+
+// The ending of a word that is counted.
+fn plural(number: usize) -> &'static str {
+    if number == 1 { "" } else { "s" }
+}
+
+/// A place of a file that is at fault: the name that stands there, cut to 64 bytes, and what is wrong with it.
+#[derive(Clone, Copy)]
+pub struct Note {
+    detail: Detail,
+    offset: Option<u64>,
+    bytes: [u8; MOST],
+    length: usize,
+    is_cut: bool,
+    ghost within: { length ≤ 64 },
+}
+
+impl Note {
+    // The note about this name.
+    fn new(detail: Detail, offset: Option<u64>, name: &[u8]) -> Note {
+        let length = name.len().min(MOST);
+        let mut bytes = [0; MOST];
+        bytes[..length].copy_from_slice(&name[..length]);
+        Note {
+            detail,
+            offset,
+            bytes,
+            length,
+            is_cut: name.len() > MOST,
+        }
+    }
+
+    /// What is wrong with the name.
+    pub fn detail(&self) -> Detail {
+        self.detail
+    }
+
+    /// The byte of the file at which the name stands. Of a primitive and of the name that was asked for none is known.
+    pub fn offset(&self) -> Option<u64> {
+        self.offset
+    }
+
+    /// The first 64 bytes of the name.
+    pub fn name(&self) -> &[u8] {
+        &self.bytes[..self.length]
+    }
+
+    // Whether this is of a fault of a lesser number than the other, or of the same and further to the front.
+    fn is_before(&self, other: &Note) -> bool {
+        let number = self.detail.fault().number();
+        let least = other.detail.fault().number();
+        if number != least {
+            return number < least;
+        }
+        match (self.offset, other.offset) {
+            (Some(at), Some(first)) => at < first,
+            _ => false,
+        }
+    }
+}
+
+/// One line of text without its end: the name, what it is a name of, and what is wrong with it.
+impl fmt::Display for Note {
+    fn fmt<W: fmt::Write>(&self, f: &mut fmt::Formatter<W>) -> fmt::Result {
+        let subject = self.detail.subject();
+        let name = str::from_utf8(self.name()).unwrap_or("?");
+        let dots = if self.is_cut { ".." } else { "" };
+        let detail = self.detail;
+        write!(f, "{subject} {name}{dots}{detail}")
+    }
+}
+
+/// What was noted of a file: of its places at fault the one whose fault has the least number, and of several of that number the
+/// first in the text. Has a fixed size, and takes no memory.
+#[derive(Clone, Copy)]
+pub struct Notes {
+    first: Option<Note>,
+}
+
+impl Notes {
+    /// Nothing was noted.
+    pub fn none() -> Notes {
+        Notes { first: None }
+    }
+
+    /// The place at fault, if one was noted. Where a file was refused for another fault, as out of memory, it says nothing of that.
+    pub fn first(&self) -> Option<&Note> {
+        self.first.as_ref()
+    }
+
+    // Whether neither this fault nor one of a lesser number was noted.
+    pub(crate) fn lacks(&self, fault: &Fault) -> bool {
+        match &self.first {
+            Some(first) => fault.number() < first.detail.fault().number(),
+            None => true,
+        }
+    }
+
+    // Notes what is wrong with a name that stands in the file.
+    pub(crate) fn at(&mut self, name: &Name, detail: Detail) {
+        self.keep(Note::new(detail, Some(name.offset()), name.bytes()));
+    }
+
+    // Notes that a wildcard that stands at the offset is built.
+    pub(crate) fn built_wildcard(&mut self, offset: u64) {
+        self.keep(Note::new(Detail::BuiltWildcard, Some(offset), b"_"));
+    }
+
+    // Notes what is wrong with a name of which no place is known.
+    pub(crate) fn anywhere(&mut self, name: &[u8], detail: Detail) {
+        self.keep(Note::new(detail, None, name));
+    }
+
+    // Keeps the note, if it comes before what was noted.
+    fn keep(&mut self, note: Note) {
+        let is_first = match &self.first {
+            Some(first) => note.is_before(first),
+            None => true,
+        };
+        if is_first {
+            self.first = Some(note);
+        }
+    }
+}
