@@ -9,11 +9,11 @@ use Rattle.str_desugar.specs.Brought.{names_from, first_names, patterns_from, el
 use Rattle.str_desugar.specs.Frames.{frames_of, patterns_at, elements_at}
 use Rattle.str_desugar.proofs.BoundLaws.{IsBound, bound_in_names}
 
--- so many brought names are variables of these layers
+-- the first n brought names are variables of these layers
 abbrev pub Brings : Scopes → ℕ → Type 0
 Brings S n = (j : ℕ) → j < n → IsBound S (brought j)
 
--- the names of so many results are
+-- the names of n results are
 abbrev pub BringsResults : Scopes → ℕ → Type 0
 BringsResults S n = (j : ℕ) → j < n → IsBound S (brought (suc j))
 

@@ -62,7 +62,7 @@ sees_in_scope S (x ∷ xs) L sees = sees_further S [] (map written (x ∷ xs)) L
 
 -- ---- scopes that keep the current term
 
--- the layers in a scope that keeps the current term, with place for so many results; without results there is no such scope
+-- the layers in a scope that keeps the current term, with place for k results; without results there is no such scope
 abbrev pub keeps : Scopes → ℕ → Scopes
 keeps S zero = S
 keeps S (suc k) = names [] (first_names (suc (suc k))) S

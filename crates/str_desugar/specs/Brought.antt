@@ -5,12 +5,12 @@ use Rattle.std.specs.Prelude.{ℕ, zero, suc, List, [], ◌∷◌}
 use Rattle.core_lang.specs.Named.{Name, brought}
 use Rattle.core_lang.specs.Program.{variable, Patterns, no_patterns, more_patterns, Elements, no_elements, the_rest, more_elements}
 
--- so many names, from the ith on
+-- k names, from the ith on
 abbrev pub names_from : ℕ → ℕ → List Name
 names_from i zero = []
 names_from i (suc k) = brought i ∷ names_from (suc i) k
 
--- what a scope brings that brings so many
+-- the names of a scope that brings k of them
 abbrev pub first_names : ℕ → List Name
 first_names k = names_from 0 k
 

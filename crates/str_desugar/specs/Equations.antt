@@ -24,7 +24,7 @@ abbrev pub scoped : List Bytes → NamedStrategy → NamedStrategy
 scoped [] s = s
 scoped (x ∷ xs) s = core.scope (map written (x ∷ xs)) s
 
--- {c, z1, .., zk: ?c; ..}: the current term is kept, and there is place for so many results
+-- {c, z1, .., zk: ?c; ..}: the current term is kept, and there is place for k results
 abbrev pub keeping : ℕ → List NamedStrategy → NamedStrategy
 keeping k items = core.scope (first_names (suc k)) (in_turn (core.match (core.variable kept)) items)
 
@@ -94,7 +94,7 @@ abbrev pub result_name : ℕ → Name
 result_name i = brought (suc i)
 
 abbrev mutual
-  -- what is built, each outermost <..> by the name of its result, where so many results come first
+  -- what is built, each outermost <..> by the name of its result, where i results come first
   pub built : ℕ → PatternTree → Pattern Name
   built i (variable x) = core.variable (written x)
   built i wildcard = core.anything
@@ -245,7 +245,7 @@ abbrev mutual
   parts declared n i no_strategies = []
   parts declared n i (more_strategies s ss) = part_of n i (strategy_core declared s) ++ parts declared n (suc i) ss
 
-  -- the items that give the results of the outermost <..> of a build, where so many results come first
+  -- the items that give the results of the outermost <..> of a build, where i results come first
   pub results : (Bytes → ℕ → Bool) → ℕ → PatternTree → List NamedStrategy
   results declared i (variable x) = []
   results declared i wildcard = []

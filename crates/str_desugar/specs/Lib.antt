@@ -1,6 +1,15 @@
 pub mod Alternatives
+pub mod Assembled
 pub mod Brought
 pub mod Equations
 pub mod FileProgram
+pub mod Forms
 pub mod Frames
+pub mod Gathered
+pub mod GroupViews
+pub mod Groups
+pub mod Heads
+pub mod Keys
+pub mod Layers
+pub mod SameDefinition
 pub mod Variables

@@ -1,6 +1,30 @@
-//! The equations of the language: which program over names a definition file is.
+//! The equations of the language: from a checked definition file to a core program over coordinates.
 #![tactic(auto)]
 
+mod alternatives;
+mod assembly;
+mod bound;
+mod build;
+mod built;
+mod call;
+mod congruence;
+mod forms;
+mod items;
+mod keys;
 pub mod laws;
+mod locals;
+mod matched;
+mod names;
+mod parameters;
+mod parts;
+pub mod program;
+mod rules;
+mod scopes;
+mod strategy;
+mod symbols;
+#[cfg(test)]
+mod tests;
+mod variables;
 
 pub use laws::checked_files_resolve;
+pub use program::to_core;

@@ -1,0 +1,96 @@
+// Items of sequences: those that give one result of a build, and those of one part of a congruence.
+ghost use Rattle.std.specs.Prelude.{◌≡◌, ◌+◌, ◌++◌, ◌∷◌, [], IfOk, OnOk, map};
+ghost use Rattle.core_lang.specs.Program as core;
+ghost use Rattle.core_lang.specs.Views as views;
+ghost use Rattle.str_desugar.specs.Assembled.{keeping_here, part_here, result_here};
+ghost use Rattle.str_desugar.specs.Brought.{kept};
+ghost use Rattle.str_desugar.specs.Frames.{variable_at};
+ghost use Rattle.str_desugar.specs.Layers.{layers_of};
+
+use crate::assembly::keeping;
+use crate::parts::{successor, sum, variable};
+use crate::scopes::Scopes;
+use core_lang::{CorePattern, CoreStrategy};
+use std::alloc::{AllocError, Global};
+
+/// Puts the items of the next result after the others: the strategy on the kept term gives it.
+pub(crate) fn put_result(
+    scopes: &Scopes,
+    only: CoreStrategy,
+    next: &mut usize,
+    items: &mut Vec<CoreStrategy>,
+) -> Result<(), AllocError>
+    ensures items { OnOk result (map views.strategy_of items.new.items ≡ map views.strategy_of items.old.items ++ result_here (layers_of scopes.now) next.old (views.strategy_of only ∷ [])) }
+    ensures next { OnOk result (next.new ≡ next.old + 1) }
+{
+    items.push(CoreStrategy::Build(variable(scopes, 0)?))?;
+    items.push(only)?;
+    *next = successor(*next)?;
+    items.push(CoreStrategy::Match(variable(scopes, *next)?))?;
+    Ok(())
+}
+
+/// Puts the items of the next result after the others: the first strategy on the kept term, and then the second, give it.
+pub(crate) fn put_result_of(
+    scopes: &Scopes,
+    first: CoreStrategy,
+    second: CoreStrategy,
+    next: &mut usize,
+    items: &mut Vec<CoreStrategy>,
+) -> Result<(), AllocError>
+    ensures items { OnOk result (map views.strategy_of items.new.items ≡ map views.strategy_of items.old.items ++ result_here (layers_of scopes.now) next.old (views.strategy_of first ∷ views.strategy_of second ∷ [])) }
+    ensures next { OnOk result (next.new ≡ next.old + 1) }
+{
+    items.push(CoreStrategy::Build(variable(scopes, 0)?))?;
+    items.push(first)?;
+    items.push(second)?;
+    *next = successor(*next)?;
+    items.push(CoreStrategy::Match(variable(scopes, *next)?))?;
+    Ok(())
+}
+
+/// Puts the items of the part at this index, of this number of parts, after the others: the strategy on the part gives its outcome.
+pub(crate) fn put_part(
+    scopes: &Scopes,
+    count: usize,
+    index: usize,
+    only: CoreStrategy,
+    items: &mut Vec<CoreStrategy>,
+) -> Result<(), AllocError>
+    ensures { OnOk result (map views.strategy_of items.new.items ≡ map views.strategy_of items.old.items ++ part_here (layers_of scopes.now) count index (views.strategy_of only)) }
+{
+    let part = variable(scopes, successor(index)?)?;
+    let outcome = variable(scopes, successor(sum(count, index)?)?)?;
+    items.push(CoreStrategy::Build(part))?;
+    items.push(only)?;
+    items.push(CoreStrategy::Match(outcome))?;
+    Ok(())
+}
+
+/// The build of the pattern after the items for its results.
+pub(crate) fn build_after(
+    alloc: Global,
+    count: usize,
+    mut items: Vec<CoreStrategy>,
+    pattern: CorePattern,
+) -> Result<CoreStrategy, AllocError>
+    ensures { IfOk result (λ made. views.strategy_of made ≡ keeping_here count (map views.strategy_of items.items ++ core.build (views.pattern_of pattern) ∷ [])) }
+{
+    items.push(CoreStrategy::Build(pattern))?;
+    keeping(alloc, count, items)
+}
+
+/// The call on the kept term after the items for its results.
+pub(crate) fn call_after(
+    alloc: Global,
+    scopes: &Scopes,
+    count: usize,
+    mut items: Vec<CoreStrategy>,
+    last: CoreStrategy,
+) -> Result<CoreStrategy, AllocError>
+    ensures { IfOk result (λ made. views.strategy_of made ≡ keeping_here count (map views.strategy_of items.items ++ core.build (core.variable (variable_at (layers_of scopes.now) kept)) ∷ views.strategy_of last ∷ [])) }
+{
+    items.push(CoreStrategy::Build(variable(scopes, 0)?))?;
+    items.push(last)?;
+    keeping(alloc, count, items)
+}

@@ -1,0 +1,204 @@
+// Definitions inside strategies: `rec` and `let`.
+ghost use Rattle.std.specs.Prelude.{◌≡◌, ℕ, Bool, List, IfOk, map};
+ghost use Rattle.core_lang.specs.Named.{written};
+ghost use Rattle.core_lang.specs.Program as core;
+ghost use Rattle.core_lang.specs.Resolved.{here};
+ghost use Rattle.core_lang.specs.Views as views;
+ghost use Rattle.str_syntax.specs.Trees as trees;
+ghost use Rattle.str_syntax.specs.Views.{definition_of, definitions_of, parameters_of, strategy_of};
+ghost use Rattle.str_desugar.specs.Alternatives.{Alternative, definitions_of_all};
+ghost use Rattle.str_desugar.specs.Equations.{alternative_core, alternatives, primary_core, strategy_core};
+ghost use Rattle.str_desugar.specs.Frames.{callee_at, definitions_at, strategy_at};
+ghost use Rattle.str_desugar.specs.Groups.{bodies_at, body_among, head_in, within};
+ghost use Rattle.str_desugar.specs.Layers.{layers_of};
+ghost use Rattle.signature_core.specs.Signature.{arity_known};
+ghost use Rattle.str_desugar.specs.Variables.{strategy_names, term_names};
+ghost use Rattle.str_syntax.specs.Trees.{Bytes};
+
+use crate::alternatives::Groups;
+use crate::names::{Names, names_in};
+use crate::scopes::Scopes;
+use crate::strategy::{Context, strategy};
+use crate::symbols::Symbols;
+use core_lang::{CoreDef, CoreStrategy};
+use std::alloc::{AllocError, Global};
+use str_syntax::{Name, Parameters, Strategy, StrategyDefinition};
+
+// The definition of this body without parameters, and a call of it.
+fn called_at_once(
+    alloc: Global,
+    scopes: &Scopes,
+    name: &Name,
+    body: CoreStrategy,
+) -> Result<CoreStrategy, AllocError>
+    ensures { IfOk result (λ made. views.strategy_of made ≡ core.with_definitions (core.more_definitions (here 0) 0 0 (views.strategy_of body) core.no_definitions) (core.call (callee_at (layers_of scopes.now) (written name.now) 0 0) core.no_strategies core.no_patterns)) }
+{
+    let mut definitions = Vec::new(alloc);
+    definitions.push(CoreDef {
+        strats: 0,
+        terms: 0,
+        body,
+    })?;
+    let at = scopes.callee(name, 0, 0)?;
+    let call = CoreStrategy::Call(at, Vec::new(alloc), Vec::new(alloc));
+    Ok(CoreStrategy::LetIn(definitions, Box::new(alloc, call)?))
+}
+
+/// The core of a `rec`: a definition, and a call of it.
+#[cycle(walk)]
+pub(crate) fn recursive(
+    context: &Context,
+    name: &Name,
+    source: &Strategy,
+    scopes: &Scopes,
+    symbols: &mut Symbols,
+) -> Result<CoreStrategy, AllocError>
+    ensures { IfOk result (λ made. views.strategy_of made ≡ strategy_at (layers_of scopes.now) (primary_core (arity_known context.now.signature.now) (trees.recursive name.now (strategy_of source.now)))) }
+{
+    let layer = Scopes::Recursive {
+        name: &*name,
+        outer: &*scopes,
+    };
+    let none = Names::new(context.alloc);
+    let inner = Scopes::Parameters {
+        strategies: &none,
+        terms: &none,
+        outer: &layer,
+    };
+    let body = strategy(context, source, &inner, symbols)?;
+    let made = called_at_once(context.alloc, &layer, name, body)?;
+    Ok(made)
+}
+
+// The names of the strategy parameters.
+fn strategies_of(alloc: Global, parameters: &Parameters) -> Result<Names, AllocError>
+    ensures { IfOk result (λ made. made ≡ strategy_names (parameters_of parameters.now)) }
+{
+    match parameters {
+        Parameters::Absent => Ok(Names::new(alloc)),
+        Parameters::Strategies(names) => names_in(alloc, names),
+        Parameters::WithTerms(names, _) => names_in(alloc, names),
+    }
+}
+
+// The names of the term parameters.
+fn terms_of(alloc: Global, parameters: &Parameters) -> Result<Names, AllocError>
+    ensures { IfOk result (λ made. made ≡ term_names (parameters_of parameters.now)) }
+{
+    match parameters {
+        Parameters::Absent => Ok(Names::new(alloc)),
+        Parameters::Strategies(_) => Ok(Names::new(alloc)),
+        Parameters::WithTerms(_, names) => names_in(alloc, names),
+    }
+}
+
+/// The alternatives of a `let`, in groups.
+pub(crate) fn groups_of<'a>(
+    alloc: Global,
+    sources: &'a [StrategyDefinition],
+) -> Result<Groups<'a>, AllocError>
+    ensures { IfOk result (λ made. (declared : Bytes → ℕ → Bool) → made ≡ map head_in (alternatives declared (definitions_of sources.now))) }
+{
+    let mut heads = Vec::with_capacity(alloc, sources.len())?;
+    for source in sources {
+        heads.push(&source.head)?;
+    }
+    let made = Groups::new(alloc, heads)?;
+    Ok(made)
+}
+
+/// The definitions of a `let`, where these are the groups of its alternatives.
+#[cycle(walk)]
+pub(crate) fn let_definitions<'a>(
+    context: &Context,
+    sources: &'a [StrategyDefinition],
+    groups: &Groups<'a>,
+    scopes: &Scopes,
+    symbols: &mut Symbols,
+) -> Result<Vec<CoreDef>, AllocError>
+    requires { groups.now ≡ map head_in (alternatives (arity_known context.now.signature.now) (definitions_of sources.now)) }
+    ensures { IfOk result (λ made. views.definitions_of made.items ≡ definitions_at (within (alternatives (arity_known context.now.signature.now) (definitions_of sources.now)) (layers_of scopes.now)) (definitions_of_all (alternatives (arity_known context.now.signature.now) (definitions_of sources.now)))) }
+{
+    let keys = groups.keys(context.alloc)?;
+    let inner = Scopes::Defined {
+        keys: &keys,
+        outer: &*scopes,
+    };
+    let each = bodies(context, sources, groups, &inner, symbols)?;
+    let made = groups.join(context.alloc, each)?;
+    Ok(made)
+}
+
+/// The body of a `let`, where these are the groups of its alternatives.
+#[cycle(walk)]
+pub(crate) fn let_body<'a>(
+    context: &Context,
+    source: &Strategy,
+    groups: &Groups<'a>,
+    scopes: &Scopes,
+    symbols: &mut Symbols,
+) -> Result<CoreStrategy, AllocError>
+    ensures { IfOk result (λ made. (all : List Alternative) → map head_in all ≡ groups.now → views.strategy_of made ≡ strategy_at (within all (layers_of scopes.now)) (strategy_core (arity_known context.now.signature.now) (strategy_of source.now))) }
+{
+    let keys = groups.keys(context.alloc)?;
+    let inner = Scopes::Defined {
+        keys: &keys,
+        outer: &*scopes,
+    };
+    let made = strategy(context, source, &inner, symbols)?;
+    Ok(made)
+}
+
+/// The body under the definitions.
+pub(crate) fn let_in(
+    alloc: Global,
+    definitions: Vec<CoreDef>,
+    body: CoreStrategy,
+) -> Result<CoreStrategy, AllocError>
+    ensures { IfOk result (λ made. views.strategy_of made ≡ core.with_definitions (views.definitions_of definitions.items) (views.strategy_of body)) }
+{
+    Ok(CoreStrategy::LetIn(definitions, Box::new(alloc, body)?))
+}
+
+// The bodies of the alternatives of a `let`, each with the parameters of the first of its definition.
+#[cycle(walk)]
+fn bodies<'a>(
+    context: &Context,
+    sources: &'a [StrategyDefinition],
+    groups: &Groups<'a>,
+    scopes: &Scopes,
+    symbols: &mut Symbols,
+) -> Result<Vec<CoreStrategy>, AllocError>
+    requires { groups.now ≡ map head_in (alternatives (arity_known context.now.signature.now) (definitions_of sources.now)) }
+    ensures { IfOk result (λ made. map views.strategy_of made.items ≡ bodies_at (layers_of scopes.now) (alternatives (arity_known context.now.signature.now) (definitions_of sources.now))) }
+{
+    let mut made = Vec::with_capacity(context.alloc, sources.len())?;
+    for source in sources {
+        let body = alternative(context, source, groups, scopes, symbols)?;
+        made.push(body)?;
+    }
+    Ok(made)
+}
+
+// The body of an alternative.
+#[cycle(walk)]
+fn alternative<'a>(
+    context: &Context,
+    source: &'a StrategyDefinition,
+    groups: &Groups<'a>,
+    scopes: &Scopes,
+    symbols: &mut Symbols,
+) -> Result<CoreStrategy, AllocError>
+    ensures { IfOk result (λ made. views.strategy_of made ≡ body_among (layers_of scopes.now) groups.now (alternative_core (arity_known context.now.signature.now) (definition_of source.now))) }
+{
+    let first = groups.first_of(&source.head);
+    let strategies = strategies_of(context.alloc, &first.parameters)?;
+    let terms = terms_of(context.alloc, &first.parameters)?;
+    let inner = Scopes::Parameters {
+        strategies: &strategies,
+        terms: &terms,
+        outer: &*scopes,
+    };
+    let made = strategy(context, &source.body, &inner, symbols)?;
+    Ok(made)
+}

@@ -1,0 +1,118 @@
+// Names that a layer gives slots to.
+ghost use Rattle.std.specs.Prelude.{◌≡◌, [], ◌∷◌, ◌++◌, length, map, IfOk, OnOk};
+ghost use Rattle.std.specs.Str.{bytes_eq};
+ghost use Rattle.core_lang.specs.Named.{position_of, written};
+ghost use Rattle.str_desugar.specs.Gathered.{has_name, with_new};
+
+use indexmap::IndexSet;
+use std::alloc::{AllocError, Global};
+use std::marker::Model;
+use str_syntax::Name;
+
+/// Names in the order of their slots. A look-up does not walk them, as long as no name is a repeated one; in a checked file none is.
+#[derive(Drop)]
+pub(crate) struct Names {
+    // The names in front of the first one that repeats another.
+    distinct: IndexSet<Name>,
+    // The names from there on.
+    others: Vec<Name>,
+}
+
+impl Model for Names {
+    ghost use Rattle.std.specs.Prelude.{◌++◌, ℕ, List};
+
+    ghost Value = { List (List ℕ) };
+
+    ghost view = { λ names. names.distinct.keys ++ names.others.items };
+}
+
+impl Names {
+    /// No names.
+    pub(crate) fn new(alloc: Global) -> Names
+        ensures { result ≡ [] }
+    {
+        Names {
+            distinct: IndexSet::new(alloc),
+            others: Vec::new(alloc),
+        }
+    }
+
+    /// How many names there are.
+    pub(crate) fn len(&self) -> usize
+        ensures { result ≡ length self.now }
+    {
+        self.distinct.len() + self.others.len()
+    }
+
+    /// Puts a copy of the name after the others. `AllocError` where the memory for it is refused.
+    pub(crate) fn push(&mut self, alloc: Global, name: &Name) -> Result<(), AllocError>
+        ensures { OnOk result (self.new ≡ self.old ++ name.now ∷ []) }
+    {
+        let copy = name.copy(alloc)?;
+        if !self.others.is_empty() || self.distinct.contains(&*name) {
+            self.others.push(copy)?;
+            return Ok(());
+        }
+        self.distinct.insert(copy)?;
+        Ok(())
+    }
+
+    /// Whether the name is one of these.
+    #[tactic(auto, using(crate::proofs::GatheredLaws::has_position))]
+    pub(crate) fn contains(&self, name: &Name) -> bool
+        ensures { result ≡ has_name self.now name.now }
+    {
+        self.position(name).is_some()
+    }
+
+    /// Puts a copy of the name after the others where it is new. `AllocError` where the memory for it is refused.
+    pub(crate) fn insert_new(&mut self, alloc: Global, name: &Name) -> Result<(), AllocError>
+        ensures { OnOk result (self.new ≡ with_new self.old name.now) }
+    {
+        if self.contains(name) {
+            return Ok(());
+        }
+        self.push(alloc, name)
+    }
+
+    /// The slot of the first name that is the same.
+    pub(crate) fn position(&self, name: &Name) -> Option<usize>
+        ensures { result ≡ position_of (written name.now) (map written self.now) }
+    {
+        if let Some(slot) = self.distinct.get_index_of(&*name) {
+            return Some(slot);
+        }
+        let slot = position_among(&self.others, name)?;
+        Some(self.distinct.len() + slot)
+    }
+}
+
+// The position of the first of these names that is the same.
+fn position_among(names: &[Name], name: &Name) -> Option<usize>
+    ensures { result ≡ position_of (written name.now) (map written names.now) }
+{
+    for (slot, other) in names.iter().enumerate() {
+        if same(name, other) {
+            return Some(slot);
+        }
+    }
+    None
+}
+
+/// Whether two names are the same.
+pub(crate) fn same(name: &Name, other: &Name) -> bool
+    ensures { result ≡ bytes_eq name.now other.now }
+{
+    name.bytes() == other.bytes()
+}
+
+/// The names of a list, in order. `AllocError` where the memory for them is refused.
+pub(crate) fn names_in(alloc: Global, source: &[Name]) -> Result<Names, AllocError>
+    ensures { IfOk result (λ made. made ≡ source.now) }
+{
+    let mut made = Names::new(alloc);
+    for name in source {
+        made.push(alloc, name)?;
+    }
+    Ok(made)
+}

@@ -1,0 +1,160 @@
+//! From a checked file to its core program.
+ghost use Rattle.std.specs.Prelude.{◌≡◌, IfOk, map};
+ghost use Rattle.core_lang.specs.Core.{program_of};
+ghost use Rattle.core_lang.specs.Named.{written};
+ghost use Rattle.core_lang.specs.Resolution.{ResolvesProgram};
+ghost use Rattle.core_lang.specs.Views as views;
+ghost use Rattle.signature_core.specs.Signature.{arity_known};
+ghost use Rattle.str_syntax.specs.Views.{file_of, form_of, strategy_of};
+ghost use Rattle.str_desugar.specs.Alternatives.{definitions_of_all};
+ghost use Rattle.str_desugar.specs.Equations.{scoped, strategy_core, top_core};
+ghost use Rattle.str_desugar.specs.FileProgram.{program_of_file};
+ghost use Rattle.str_desugar.specs.Forms.{read_forms, tops_at};
+ghost use Rattle.str_desugar.specs.Frames.{definitions_at, keys_of, of_definitions, outermost, strategy_at};
+ghost use Rattle.str_desugar.specs.Groups.{bodies_at, body_among, head_in};
+ghost use Rattle.str_desugar.specs.Layers.{layers_of};
+
+use crate::alternatives::Groups;
+use crate::forms::{forms_in, groups_of, head_of};
+use crate::keys::Keys;
+use crate::names::{Names, names_in};
+use crate::parameters::{strategy_names, term_names};
+use crate::rules::scoped_rule;
+use crate::scopes::Scopes;
+use crate::strategy::{Context, strategy};
+use crate::symbols::Symbols;
+use crate::variables::{free_of_rule, free_of_strategy};
+use core_lang::{Core, CoreDef, CoreStrategy};
+use scope_check::Checked;
+use std::alloc::{AllocError, Global};
+use str_syntax::{DefinitionForm, Name, Strategy};
+
+/// Reduces a checked file to its core program, in which each identifier is resolved. `AllocError` where the memory for it is refused.
+pub fn to_core(alloc: Global, checked: &Checked) -> Result<Core, AllocError>
+    ensures { IfOk result (λ core. ResolvesProgram (program_of_file (file_of checked.now.file)) (written checked.now.main) (program_of core) core.main) }
+{
+    let context = Context {
+        alloc,
+        signature: checked.signature(),
+    };
+    let name = Name::new(alloc, checked.main(), 0)?;
+    let forms = forms_in(alloc, checked.file())?;
+    let forms = forms.as_slice();
+    let groups = groups_of(alloc, forms)?;
+    let keys = groups.keys(alloc)?;
+    let main = keys.position(&name, 0, 0).unwrap();
+    let defs = definitions(&context, forms, &groups, &keys)?;
+    Ok(Core::new(defs, main))
+}
+
+// The definitions of these groups, in the layer that has their keys.
+fn definitions<'a>(
+    context: &Context,
+    forms: &[&'a DefinitionForm],
+    groups: &Groups<'a>,
+    keys: &Keys,
+) -> Result<Vec<CoreDef>, AllocError>
+    requires heads { groups.now ≡ map head_in (tops_at (arity_known context.now.signature.now) (read_forms forms.now)) }
+    requires keys { keys.now ≡ keys_of (definitions_of_all (tops_at (arity_known context.now.signature.now) (read_forms forms.now))) }
+    ensures { IfOk result (λ made. views.definitions_of made.items ≡ definitions_at (of_definitions keys.now outermost) (definitions_of_all (tops_at (arity_known context.now.signature.now) (read_forms forms.now)))) }
+{
+    let outer = Scopes::Outermost;
+    let scopes = Scopes::Defined {
+        keys: &*keys,
+        outer: &outer,
+    };
+    let mut symbols = Symbols::new(context.alloc);
+    let each = bodies(context, forms, groups, &scopes, &mut symbols)?;
+    let made = groups.join(context.alloc, each)?;
+    Ok(made)
+}
+
+// The bodies of the rules and definitions, each with the parameters of the first of its group.
+fn bodies<'a>(
+    context: &Context,
+    forms: &[&'a DefinitionForm],
+    groups: &Groups<'a>,
+    scopes: &Scopes,
+    symbols: &mut Symbols,
+) -> Result<Vec<CoreStrategy>, AllocError>
+    requires { groups.now ≡ map head_in (tops_at (arity_known context.now.signature.now) (read_forms forms.now)) }
+    ensures { IfOk result (λ made. map views.strategy_of made.items ≡ bodies_at (layers_of scopes.now) (tops_at (arity_known context.now.signature.now) (read_forms forms.now))) }
+{
+    let mut made = Vec::with_capacity(context.alloc, forms.len())?;
+    for form in forms {
+        let body = alternative(context, form, groups, scopes, symbols)?;
+        made.push(body)?;
+    }
+    Ok(made)
+}
+
+// The body of a rule or a definition, with the parameters of the first of its group.
+fn alternative<'a>(
+    context: &Context,
+    form: &'a DefinitionForm,
+    groups: &Groups<'a>,
+    scopes: &Scopes,
+    symbols: &mut Symbols,
+) -> Result<CoreStrategy, AllocError>
+    ensures { IfOk result (λ made. views.strategy_of made ≡ body_among (layers_of scopes.now) groups.now (top_core (arity_known context.now.signature.now) (form_of form.now))) }
+{
+    let first = groups.first_of(head_of(form));
+    let strategies = names_in(context.alloc, strategy_names(&first.parameters))?;
+    let terms = names_in(context.alloc, term_names(&first.parameters))?;
+    let inner = Scopes::Parameters {
+        strategies: &strategies,
+        terms: &terms,
+        outer: &*scopes,
+    };
+    let made = body(context, form, &inner, symbols)?;
+    Ok(made)
+}
+
+// The body in a scope of its variables but its term parameters.
+fn body(
+    context: &Context,
+    form: &DefinitionForm,
+    scopes: &Scopes,
+    symbols: &mut Symbols,
+) -> Result<CoreStrategy, AllocError>
+    ensures { IfOk result (λ made. views.strategy_of made ≡ strategy_at (layers_of scopes.now) (top_core (arity_known context.now.signature.now) (form_of form.now)).body) }
+{
+    match form {
+        DefinitionForm::Rule(source) => {
+            let terms = term_names(&source.head.parameters);
+            let names = free_of_rule(context.alloc, &source.rule, terms)?;
+            let made = scoped_rule(context, &names, &source.rule, scopes, symbols)?;
+            Ok(made)
+        }
+        DefinitionForm::Strategy(source) => {
+            let terms = term_names(&source.head.parameters);
+            let names = free_of_strategy(context.alloc, &source.body, terms)?;
+            let made = scoped_strategy(context, &names, &source.body, scopes, symbols)?;
+            Ok(made)
+        }
+    }
+}
+
+// The core of a strategy in a scope of these variables, if there are any.
+fn scoped_strategy(
+    context: &Context,
+    names: &Names,
+    source: &Strategy,
+    scopes: &Scopes,
+    symbols: &mut Symbols,
+) -> Result<CoreStrategy, AllocError>
+    ensures { IfOk result (λ made. views.strategy_of made ≡ strategy_at (layers_of scopes.now) (scoped names.now (strategy_core (arity_known context.now.signature.now) (strategy_of source.now)))) }
+{
+    let count = names.len();
+    if count == 0 {
+        let only = strategy(context, source, scopes, symbols)?;
+        return Ok(only);
+    }
+    let inner = Scopes::Variables {
+        names: &*names,
+        outer: &*scopes,
+    };
+    let body = strategy(context, source, &inner, symbols)?;
+    let body = Box::new(context.alloc, body)?;
+    Ok(CoreStrategy::Scope(count, body))
+}

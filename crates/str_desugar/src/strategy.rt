@@ -1,0 +1,243 @@
+// The walk over strategies, which recurses along the nesting of a file alone.
+ghost use Rattle.std.specs.Prelude.{◌≡◌, IfOk};
+ghost use Rattle.core_lang.specs.Program as core;
+ghost use Rattle.core_lang.specs.Views as views;
+ghost use Rattle.str_syntax.specs.Trees as trees;
+ghost use Rattle.str_syntax.specs.Views.{optional_strategy_of, pattern_of, primary_of, sequence_of, step_of, strategy_of};
+ghost use Rattle.str_desugar.specs.Equations as equations;
+ghost use Rattle.str_desugar.specs.Equations.{strategy_core, sequence_core, step_core, primary_core, otherwise_core, where_core};
+ghost use Rattle.str_desugar.specs.Frames.{strategy_at};
+ghost use Rattle.str_desugar.specs.Layers.{layers_of};
+ghost use Rattle.signature_core.specs.Signature.{arity_known};
+
+use crate::assembly::{choice, seq, where_of};
+use crate::build::build;
+use crate::call::call;
+use crate::congruence::{
+    elements_congruence, items_before_rest, number_of, rest_congruence, symbol_congruence,
+};
+use crate::locals::{groups_of, let_body, let_definitions, let_in, recursive};
+use crate::matched::matched;
+use crate::names::names_in;
+use crate::rules::lambda;
+use crate::scopes::Scopes;
+use crate::symbols::Symbols;
+use core_lang::CoreStrategy;
+use signature_core::Signature;
+use std::alloc::{AllocError, Global};
+use str_syntax::{Name, Operator, Pattern, Primary, Sequence, Step, Strategy};
+use term_model::Sym;
+
+/// What the whole walk over a file needs.
+#[derive(Clone, Copy)]
+pub(crate) struct Context<'a> {
+    pub(crate) alloc: Global,
+    pub(crate) signature: &'a Signature,
+}
+
+/// The core of a strategy.
+#[cycle(walk)]
+pub(crate) fn strategy(
+    context: &Context,
+    source: &Strategy,
+    scopes: &Scopes,
+    symbols: &mut Symbols,
+) -> Result<CoreStrategy, AllocError>
+    ensures { IfOk result (λ made. views.strategy_of made ≡ strategy_at (layers_of scopes.now) (strategy_core (arity_known context.now.signature.now) (strategy_of source.now))) }
+{
+    match source {
+        Strategy::Sequence(only) => sequence(context, only, scopes, symbols),
+        Strategy::LeftChoice(first, others) => {
+            let guard = sequence(context, first, scopes, symbols)?;
+            let otherwise = strategy(context, others, scopes, symbols)?;
+            choice(context.alloc, guard, CoreStrategy::Id, otherwise)
+        }
+        Strategy::GuardedChoice(first, second, third) => {
+            let guard = sequence(context, first, scopes, symbols)?;
+            let then = strategy(context, second, scopes, symbols)?;
+            let otherwise = strategy(context, third, scopes, symbols)?;
+            choice(context.alloc, guard, then, otherwise)
+        }
+    }
+}
+
+#[cycle(walk)]
+fn sequence(
+    context: &Context,
+    source: &Sequence,
+    scopes: &Scopes,
+    symbols: &mut Symbols,
+) -> Result<CoreStrategy, AllocError>
+    ensures { IfOk result (λ made. views.strategy_of made ≡ strategy_at (layers_of scopes.now) (sequence_core (arity_known context.now.signature.now) (sequence_of source.now))) }
+{
+    match source {
+        Sequence::Last(only) => step(context, only, scopes, symbols),
+        Sequence::Then(first, others) => {
+            let first = step(context, first, scopes, symbols)?;
+            let second = sequence(context, others, scopes, symbols)?;
+            seq(context.alloc, first, second)
+        }
+    }
+}
+
+#[cycle(walk)]
+fn step(
+    context: &Context,
+    source: &Step,
+    scopes: &Scopes,
+    symbols: &mut Symbols,
+) -> Result<CoreStrategy, AllocError>
+    ensures { IfOk result (λ made. views.strategy_of made ≡ strategy_at (layers_of scopes.now) (step_core (arity_known context.now.signature.now) (step_of source.now))) }
+{
+    match source {
+        Step::Plain(only) => primary(context, only, scopes, symbols),
+        Step::Matching(first, pattern) => {
+            let first = primary(context, first, scopes, symbols)?;
+            let second = match_of(context.alloc, pattern, scopes, symbols)?;
+            seq(context.alloc, first, second)
+        }
+    }
+}
+
+// The core of a match.
+fn match_of(
+    alloc: Global,
+    source: &Pattern,
+    scopes: &Scopes,
+    symbols: &mut Symbols,
+) -> Result<CoreStrategy, AllocError>
+    ensures { IfOk result (λ made. views.strategy_of made ≡ strategy_at (layers_of scopes.now) (core.match (equations.matched (pattern_of source.now)))) }
+{
+    Ok(CoreStrategy::Match(matched(alloc, source, scopes, symbols)?))
+}
+
+#[cycle(walk)]
+fn primary(
+    context: &Context,
+    source: &Primary,
+    scopes: &Scopes,
+    symbols: &mut Symbols,
+) -> Result<CoreStrategy, AllocError>
+    ensures { IfOk result (λ made. views.strategy_of made ≡ strategy_at (layers_of scopes.now) (primary_core (arity_known context.now.signature.now) (primary_of source.now))) }
+{
+    match source {
+        Primary::Id => Ok(CoreStrategy::Id),
+        Primary::Fail => Ok(CoreStrategy::Fail),
+        Primary::Match(pattern) => match_of(context.alloc, pattern, scopes, symbols),
+        Primary::Build(pattern) => build(context, pattern, scopes, symbols),
+        Primary::Apply(after, pattern) => {
+            let first = build(context, pattern, scopes, symbols)?;
+            let second = strategy(context, after, scopes, symbols)?;
+            seq(context.alloc, first, second)
+        }
+        Primary::Parenthesized(inner) => strategy(context, inner, scopes, symbols),
+        Primary::Scope(names, body) => scope(context, names, body, scopes, symbols),
+        Primary::Operator(kind, inner) => operator(context, *kind, inner, scopes, symbols),
+        Primary::If(guard, then, otherwise) => {
+            let guard = where_at(context, guard, scopes, symbols)?;
+            let then = strategy(context, then, scopes, symbols)?;
+            let otherwise = otherwise_of(context, otherwise, scopes, symbols)?;
+            choice(context.alloc, guard, then, otherwise)
+        }
+        Primary::TupleCongruence(parts) => {
+            symbol_congruence(context, Sym::tuple(), parts, scopes, symbols)
+        }
+        Primary::ListCongruence(elements, rest) => match rest {
+            None => elements_congruence(context, elements, scopes, symbols),
+            Some(rest) => {
+                let items = items_before_rest(context, elements, scopes, symbols)?;
+                let count = number_of(elements);
+                let made = rest_congruence(context, rest, count, items, scopes, symbols)?;
+                Ok(made)
+            }
+        },
+        Primary::Call(name, arguments) => call(context, name, arguments, scopes, symbols),
+        Primary::Recursive(name, body) => recursive(context, name, body, scopes, symbols),
+        Primary::Lambda(rule) => lambda(context, rule, scopes, symbols),
+        Primary::Let(definitions, body) => {
+            let groups = groups_of(context.alloc, definitions)?;
+            let made = let_definitions(context, definitions, &groups, scopes, symbols)?;
+            let body = let_body(context, body, &groups, scopes, symbols)?;
+            let_in(context.alloc, made, body)
+        }
+        // No primitive occurs in a checked file, and the core has no form for one.
+        Primary::Primitive(_, _) => Err(AllocError),
+    }
+}
+
+#[cycle(walk)]
+fn scope(
+    context: &Context,
+    names: &[Name],
+    source: &Strategy,
+    scopes: &Scopes,
+    symbols: &mut Symbols,
+) -> Result<CoreStrategy, AllocError>
+    ensures { IfOk result (λ made. views.strategy_of made ≡ strategy_at (layers_of scopes.now) (primary_core (arity_known context.now.signature.now) (trees.scope names.now (strategy_of source.now)))) }
+{
+    let alloc = context.alloc;
+    let variables = names_in(alloc, names)?;
+    let inner = Scopes::Variables {
+        names: &variables,
+        outer: &*scopes,
+    };
+    let body = strategy(context, source, &inner, symbols)?;
+    Ok(CoreStrategy::Scope(names.len(), Box::new(alloc, body)?))
+}
+
+#[cycle(walk)]
+fn operator(
+    context: &Context,
+    kind: Operator,
+    source: &Strategy,
+    scopes: &Scopes,
+    symbols: &mut Symbols,
+) -> Result<CoreStrategy, AllocError>
+    ensures { IfOk result (λ made. views.strategy_of made ≡ strategy_at (layers_of scopes.now) (primary_core (arity_known context.now.signature.now) (trees.operator kind (strategy_of source.now)))) }
+{
+    if let Operator::Where = kind {
+        return where_at(context, source, scopes, symbols);
+    }
+    let inner = strategy(context, source, scopes, symbols)?;
+    let alloc = context.alloc;
+    match kind {
+        Operator::Where => where_of(alloc, inner),
+        Operator::Not => choice(alloc, inner, CoreStrategy::Fail, CoreStrategy::Id),
+        Operator::All => Ok(CoreStrategy::All(Box::new(alloc, inner)?)),
+        Operator::One => Ok(CoreStrategy::One(Box::new(alloc, inner)?)),
+        Operator::Some => Ok(CoreStrategy::Some(Box::new(alloc, inner)?)),
+    }
+}
+
+/// The strategy on the current term, which it leaves as it is.
+#[cycle(walk)]
+pub(crate) fn where_at(
+    context: &Context,
+    source: &Strategy,
+    scopes: &Scopes,
+    symbols: &mut Symbols,
+) -> Result<CoreStrategy, AllocError>
+    ensures { IfOk result (λ made. views.strategy_of made ≡ strategy_at (layers_of scopes.now) (where_core (strategy_core (arity_known context.now.signature.now) (strategy_of source.now)))) }
+{
+    let inner = Scopes::Brought {
+        count: 1,
+        outer: &*scopes,
+    };
+    let body = strategy(context, source, &inner, symbols)?;
+    where_of(context.alloc, body)
+}
+
+#[cycle(walk)]
+fn otherwise_of(
+    context: &Context,
+    source: &Option<Box<Strategy>>,
+    scopes: &Scopes,
+    symbols: &mut Symbols,
+) -> Result<CoreStrategy, AllocError>
+    ensures { IfOk result (λ made. views.strategy_of made ≡ strategy_at (layers_of scopes.now) (otherwise_core (arity_known context.now.signature.now) (optional_strategy_of source.now))) }
+{
+    match source {
+        None => Ok(CoreStrategy::Id),
+        Some(other) => strategy(context, other, scopes, symbols),
+    }
+}
