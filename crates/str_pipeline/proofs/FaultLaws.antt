@@ -6,11 +6,11 @@ use Rattle.term_model.specs.Fault.{number_of}
 use Rattle.aterm_text.specs.ReadTerm.{IsReading}
 use Rattle.str_pipeline.specs.Faults.{IsReadingFault, IsRefusal, IsOfDefinitions, is_read}
 use Rattle.str_pipeline.specs.Steps.{IsStop, IsProgram}
+use Rattle.str_pipeline.proofs.CheckLaws.{no_check_fault, check_fault_refuses}
 
 -- a refusal is no fault of memory, reading or writing
 pub no_low_refusal : (fault : Fault) → IsRefusal fault → number_of fault ≤ 3 → ⊥
-no_low_refusal fault (inl of_definitions) low = omega arith
-no_low_refusal fault (inr of_term) low = omega arith
+no_low_refusal fault refusal low = omega arith
 
 -- a stop of a greater number than those of memory and reading
 pub is_refusal : (fault : Fault) → IsStop fault → 2 < number_of fault → IsRefusal fault
@@ -29,8 +29,8 @@ is_no_read _ high = refl
 -- the faults of reading the text of a term
 pub text_stops : (text : List ℕ) (fault : Fault) → IsReading text (Err fault) → IsStop fault
 text_stops text faults.Memory reading = inl (omega arith, omega arith)
-text_stops text (faults.TermOversize at) reading = inr (inr (omega arith, omega arith))
-text_stops text (faults.TermSyntax at) reading = inr (inr (omega arith, omega arith))
+text_stops text (faults.TermOversize at) reading = inr (omega arith, omega arith)
+text_stops text (faults.TermSyntax at) reading = inr (omega arith, omega arith)
 text_stops text _ reading = absurd reading
 
 pub text_apart : (text : List ℕ) (fault : Fault) → IsReading text (Err fault) → IsOfDefinitions fault → ⊥
@@ -53,22 +53,22 @@ reading_apart fault reading of_definitions = omega arith
 -- those of making a program of definitions
 pub program_stops : (defs : List ℕ) (fault : Fault) → IsProgram defs (Err fault) → IsStop fault
 program_stops defs faults.Memory made = inl (omega arith, omega arith)
-program_stops defs (faults.Lexical at) made = inr (inl (omega arith, omega arith))
-program_stops defs (faults.ReservedWord at) made = inr (inl (omega arith, omega arith))
-program_stops defs (faults.Syntax at) made = inr (inl (omega arith, omega arith))
-program_stops defs (faults.Nesting at) made = inr (inl (omega arith, omega arith))
-program_stops defs _ made = absurd made
+program_stops defs (faults.Lexical at) made = inr (omega arith, omega arith)
+program_stops defs (faults.ReservedWord at) made = inr (omega arith, omega arith)
+program_stops defs (faults.Syntax at) made = inr (omega arith, omega arith)
+program_stops defs (faults.Nesting at) made = inr (omega arith, omega arith)
+program_stops defs fault made = inr (check_fault_refuses fault made)
 
 pub program_no_read : (defs : List ℕ) (fault : Fault) → IsProgram defs (Err fault) → is_read fault ≡ false
-program_no_read defs faults.Read made = absurd made
+program_no_read defs faults.Read made = absurd (no_check_fault faults.Read made (λ numbered. omega arith))
 program_no_read defs _ made = refl
 
 -- those of texts that are too long
 pub long_definitions_stop : IsStop faults.DefsTooLong
-long_definitions_stop = inr (inl (omega arith, omega arith))
+long_definitions_stop = inr (omega arith, omega arith)
 
 pub long_term_stops : IsStop faults.TermTooLong
-long_term_stops = inr (inr (omega arith, omega arith))
+long_term_stops = inr (omega arith, omega arith)
 
 pub long_term_apart : IsOfDefinitions faults.TermTooLong → ⊥
 long_term_apart of_definitions = omega arith

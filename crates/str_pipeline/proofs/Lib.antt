@@ -1,16 +1,9 @@
+pub mod CheckLaws
 pub mod CutLemmas
 pub mod DeviceLemmas
 pub mod FaultLaws
-pub mod FileLaws
-pub mod FirstPartLaws
 pub mod MemoryLaws
-pub mod OnceLaws
-pub mod PlacementLaws
 pub mod ProgramLaws
-pub mod ReductionSteps
-pub mod ResolutionLaws
-pub mod SlotLaws
 pub mod SplitLaws
-pub mod TreeLaws
 pub mod WrittenLaws
 pub mod OneLine

@@ -10,15 +10,15 @@ use Rattle.core_lang.specs.Ending.{Ending}
 use Rattle.core_lang.proofs.Unique.{unique}
 use Rattle.str_pipeline.specs.declared.status.Status.{Status}
 use Rattle.str_pipeline.specs.declared.status.Status.TheVariants.{Rewritten, Failed, Oversize, Spent, Refused}
-use Rattle.str_pipeline.specs.SourceTree.{FileTree}
 use Rattle.str_lexer.specs.declared.token.Token.{Token}
 use Rattle.str_lexer.specs.Lexes.{OnlyTokens, HoldsLeftOut, holds_left_out}
-use Rattle.str_syntax.specs.Trees as whole
+use Rattle.str_syntax.specs.Trees.{FileTree}
 use Rattle.str_parser.specs.Lexemes.{lexemes}
 use Rattle.str_parser.specs.Phrases.{IsPhrase, TooNested}
-use Rattle.str_pipeline.specs.FirstPart.{file_in}
+use Rattle.scope_check.specs.Complaint.{first_fault}
+use Rattle.str_pipeline.specs.Main.{main_bytes}
 use Rattle.str_pipeline.specs.Limits.{max_definitions, max_term}
-use Rattle.str_pipeline.specs.Judged.{HasNoTokens, AreTokens, AreTooNested, HasNoPhrase, AreRefused, AreAccepted, IsRefused, IsAccepted}
+use Rattle.str_pipeline.specs.Judged.{HasNoTokens, AreTokens, AreTooNested, HasNoPhrase, IsFile, FailsChecks, PassesChecks, AreRefused, AreAccepted, IsRefused, IsAccepted}
 use Rattle.str_pipeline.specs.Written.{Rewrites, IsAnswer, AreAlike, IsFirstFault, IsWritten, line_of, refusal_line}
 
 -- ---- refusals of definitions
@@ -44,6 +44,35 @@ not_nested : {bytes : List ℕ} {ts : List Token} → AreTokens bytes ts → (To
 not_nested {bytes = bytes} are flat deep =
     flat (subst (λ us. TooNested (lexemes bytes us)) (same_tokens deep.are_tokens.only are.only) deep.nested)
 
+-- the phrase of other tokens of the same bytes
+phrase_again : {bytes : List ℕ} {ts us : List Token} (f : FileTree) → AreTokens bytes ts → AreTokens bytes us → IsPhrase (lexemes bytes ts) f →
+    IsPhrase (lexemes bytes us) f
+phrase_again {bytes = bytes} f one other is = subst (λ ts. IsPhrase (lexemes bytes ts) f) (same_tokens one.only other.only) is
+
+-- ---- files
+
+-- the bytes of a file are tokens
+no_tokens_of_file : {bytes : List ℕ} {f : FileTree} → IsFile bytes f → HasNoTokens bytes → ⊥
+no_tokens_of_file file none = none file.tokens file.are_tokens.only.tokens
+
+-- and a phrase
+a_phrase : {bytes : List ℕ} {f : FileTree} → IsFile bytes f → HasNoPhrase bytes → ⊥
+a_phrase {f = f} file other = other.none f (phrase_again f file.are_tokens other.are_tokens file.only_phrase.phrase)
+
+-- of one file
+same_file : {bytes : List ℕ} {f g : FileTree} → IsFile bytes f → IsFile bytes g → f ≡ g
+same_file {f = f} file other = other.only_phrase.only_one f (phrase_again f file.are_tokens other.are_tokens file.only_phrase.phrase)
+
+-- which has one first fault
+same_first : {bytes : List ℕ} {f g : Fault} → FailsChecks bytes f → FailsChecks bytes g → f ≡ g
+same_first bad wrong = some_is_one (sym bad.fails ∙ (ap (λ file. first_fault file main_bytes) (same_file bad.is_file wrong.is_file) ∙ wrong.fails))
+
+-- or none
+no_fault : {bytes : List ℕ} {f : FileTree} {fault : Fault} → FailsChecks bytes fault → PassesChecks bytes f → ⊥
+no_fault bad good = some_is_no_none (sym bad.fails ∙ (ap (λ file. first_fault file main_bytes) (same_file bad.is_file good.is_file) ∙ good.passes))
+
+-- ---- causes
+
 -- the causes, without the place
 data Cause (defs : List ℕ) : Fault → Type 0 where
   too_long : max_definitions < length defs → Cause defs DefsTooLong
@@ -51,6 +80,7 @@ data Cause (defs : List ℕ) : Fault → Type 0 where
   left_out : {at : ℕ} → length defs ≤ max_definitions → HoldsLeftOut defs → Cause defs (ReservedWord at)
   too_nested : {at : ℕ} → length defs ≤ max_definitions → AreTooNested defs → Cause defs (Nesting at)
   no_phrase : {at : ℕ} → length defs ≤ max_definitions → HasNoPhrase defs → Cause defs (Syntax at)
+  fails : {fault : Fault} → length defs ≤ max_definitions → FailsChecks defs fault → Cause defs fault
 
 -- one fault, but for the place
 abbrev AreOne : Fault → Fault → Type 0
@@ -62,7 +92,10 @@ cause_of defs (Lexical at) (short, none) = no_tokens short none
 cause_of defs (ReservedWord at) (short, held) = left_out short held
 cause_of defs (Nesting at) (short, deep) = too_nested short deep
 cause_of defs (Syntax at) (short, none) = no_phrase short none
-cause_of defs _ refused = absurd refused
+cause_of defs _ (short, bad) = fails short bad
+
+same_check : {defs : List ℕ} {f g : Fault} → FailsChecks defs f → FailsChecks defs g → AreOne f g
+same_check bad wrong = (ap word_of (same_first bad wrong), ap number_of (same_first bad wrong))
 
 same_cause : {defs : List ℕ} {f g : Fault} → Cause defs f → Cause defs g → AreOne f g
 same_cause (too_long long) (too_long also) = (refl, refl)
@@ -70,6 +103,17 @@ same_cause (no_tokens short none) (no_tokens also nothing) = (refl, refl)
 same_cause (left_out short held) (left_out also holds) = (refl, refl)
 same_cause (too_nested short deep) (too_nested also nested) = (refl, refl)
 same_cause (no_phrase short none) (no_phrase also nothing) = (refl, refl)
+same_cause (fails short bad) (fails also wrong) = same_check bad wrong
+same_cause (fails short bad) (too_long long) = absurd (omega arith)
+same_cause (too_long long) (fails short bad) = absurd (omega arith)
+same_cause (fails short bad) (no_tokens also none) = absurd (no_tokens_of_file bad.is_file none)
+same_cause (no_tokens also none) (fails short bad) = absurd (no_tokens_of_file bad.is_file none)
+same_cause (fails short bad) (left_out also held) = absurd (none_held bad.is_file.are_tokens held)
+same_cause (left_out also held) (fails short bad) = absurd (none_held bad.is_file.are_tokens held)
+same_cause (fails short bad) (too_nested also deep) = absurd (not_nested bad.is_file.are_tokens bad.is_file.not_nested deep)
+same_cause (too_nested also deep) (fails short bad) = absurd (not_nested bad.is_file.are_tokens bad.is_file.not_nested deep)
+same_cause (fails short bad) (no_phrase also none) = absurd (a_phrase bad.is_file none)
+same_cause (no_phrase also none) (fails short bad) = absurd (a_phrase bad.is_file none)
 same_cause (too_long long) (no_tokens short none) = absurd (omega arith)
 same_cause (too_long long) (left_out short held) = absurd (omega arith)
 same_cause (too_long long) (too_nested short deep) = absurd (omega arith)
@@ -91,20 +135,14 @@ same_cause (no_phrase also some) (left_out short held) = absurd (none_held some.
 same_cause (too_nested short deep) (no_phrase also some) = absurd (not_nested some.are_tokens some.not_nested deep)
 same_cause (no_phrase also some) (too_nested short deep) = absurd (not_nested some.are_tokens some.not_nested deep)
 
--- the phrase of other tokens of the same bytes
-phrase_again : {bytes : List ℕ} {ts us : List Token} (f : whole.FileTree) → AreTokens bytes ts → AreTokens bytes us → IsPhrase (lexemes bytes ts) f →
-    IsPhrase (lexemes bytes us) f
-phrase_again {bytes = bytes} f one other is = subst (λ ts. IsPhrase (lexemes bytes ts) f) (same_tokens one.only other.only) is
-
 -- definitions that are refused are not those of a file
 no_file : {defs : List ℕ} {fault : Fault} {f : FileTree} → Cause defs fault → AreAccepted defs f → ⊥
-no_file (too_long long) (short, file) = omega arith
-no_file (no_tokens short none) (also, file) = none file.tokens file.are_tokens.only.tokens
-no_file (left_out short held) (also, file) = none_held file.are_tokens held
-no_file (too_nested short deep) (also, file) = not_nested file.are_tokens file.not_nested deep
-no_file {f = f} (no_phrase short some) (also, file) =
-    let none = some.none file.file (phrase_again file.file file.are_tokens some.are_tokens file.only_phrase.phrase) in
-    some_is_no_none (sym file.in_first_part ∙ none)
+no_file (too_long long) (short, good) = omega arith
+no_file (no_tokens short none) (also, good) = no_tokens_of_file good.is_file none
+no_file (left_out short held) (also, good) = none_held good.is_file.are_tokens held
+no_file (too_nested short deep) (also, good) = not_nested good.is_file.are_tokens good.is_file.not_nested deep
+no_file (no_phrase short none) (also, good) = a_phrase good.is_file none
+no_file (fails short bad) (also, good) = no_fault bad good
 
 -- nor is what a reader told, where these bytes are all of it
 pub none_refused : (told : Option (List ℕ)) (defs : List ℕ) (f : FileTree) (Y : Type 0) → IfSome told (λ d. defs ≡ d) → AreAccepted defs f →
@@ -114,9 +152,7 @@ none_refused (Some d) defs f Y same accepted = λ fault refused. absurd (no_file
 
 -- they are those of one file
 one_file : {defs : List ℕ} {f g : FileTree} → AreAccepted defs f → AreAccepted defs g → f ≡ g
-one_file {f = f} {g = g} (short, file) (also, other) =
-    let same = other.only_phrase.only_one file.file (phrase_again file.file file.are_tokens other.are_tokens file.only_phrase.phrase) in
-    some_is_one (sym file.in_first_part ∙ (ap file_in same ∙ other.in_first_part))
+one_file (short, good) (also, other) = same_file good.is_file other.is_file
 
 -- ---- refusals of terms
 

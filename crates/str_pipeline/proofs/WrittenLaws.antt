@@ -5,8 +5,9 @@ use Rattle.term_model.specs.Flat.{Meaning}
 use Rattle.core_lang.specs.declared.run.Outcome.{Outcome}
 use Rattle.core_lang.specs.declared.run.Outcome.TheVariants.{Rewritten, Failed, Oversize, Spent}
 use Rattle.core_lang.specs.Run.{IsOutcome}
-use Rattle.str_pipeline.specs.SourceTree.{FileTree}
-use Rattle.str_pipeline.specs.Reduction.{program_core, main_name}
+use Rattle.str_syntax.specs.Trees.{FileTree}
+use Rattle.str_desugar.specs.FileProgram.{program_of_file}
+use Rattle.str_pipeline.specs.Main.{main_name}
 use Rattle.aterm_text.specs.ReadTerm.{IsReading}
 use Rattle.core_lang.specs.declared.run.Run.{Run}
 use Rattle.core_lang.specs.Program.{Definitions}
@@ -25,15 +26,16 @@ use Rattle.str_pipeline.specs.Judged.{AreAccepted, IsAccepted}
 use Rattle.str_pipeline.specs.Faults.{IsRefusal, is_read_fault}
 use Rattle.str_pipeline.specs.Steps.{IsProgram, IsResult, status_of, outcome_line}
 use Rattle.str_pipeline.specs.declared.status.Status.{Status}
-use Rattle.std.specs.Prelude.{IfOk, OnOk, IfErr, IsErrOf}
+use Rattle.std.specs.Prelude.{IfOk, OnOk, IsErrOf}
 use Rattle.std.specs.Prelude.{true, false}
 use Rattle.str_pipeline.specs.Written.{IsWritten, refusal_line, IsFirstFault, HasWritten, HasBegun}
 use Rattle.str_pipeline.proofs.FaultLaws.{no_low_refusal}
+use Rattle.str_pipeline.proofs.CheckLaws.{no_check_fault}
 use Rattle.str_pipeline.proofs.CutLemmas.{one_split}
 
 -- the line and the status of a run
 pub run_written : (M : Meaning) (defs term : List ℕ) (f : FileTree) (t : Tree) (budget : ℕ) (outcome : Outcome Tree) (rules : ℕ)
-    → AreAccepted defs f → IsAccepted term t → IsOutcome M (program_core f) main_name t budget outcome rules
+    → AreAccepted defs f → IsAccepted term t → IsOutcome M (program_of_file f) main_name t budget outcome rules
     → IsWritten M defs term budget (status_of outcome) (outcome_line outcome)
 run_written M defs term f t budget (Rewritten u) rules file spelled (e, ending) = (f, t, file, spelled, (u, e, rules, ending.derived, ending.within, refl))
 run_written M defs term f t budget Failed rules file spelled ending = (f, t, file, spelled, (rules, ending.derived, ending.within, refl))
@@ -43,10 +45,10 @@ run_written M defs term f t budget Spent rules file spelled (none, all) = (f, t,
 -- what a run says of each file that the core is resolved from
 pub run_result : (core : CoreParts) (term : List ℕ) (t : Tree) (budget : ℕ) (run : Run Tree) → length term ≤ max_term → IsReading term (Ok t)
     → ((M : Meaning) (P : Definitions Name (List Name)) (x : Name) → ResolvesProgram P x (program_of core) core.main → IsRun M P x t budget run)
-    → (defs : List ℕ) (f : FileTree) → AreAccepted defs f → ResolvesProgram (program_core f) main_name (program_of core) core.main
+    → (defs : List ℕ) (f : FileTree) → AreAccepted defs f → ResolvesProgram (program_of_file f) main_name (program_of core) core.main
     → IsResult defs term budget (Ok run.outcome)
 run_result core term t budget run short reading runs defs f file resolved =
-    λ M. run_written M defs term f t budget run.outcome run.rules file (short, reading) (runs M (program_core f) main_name resolved).outcome
+    λ M. run_written M defs term f t budget run.outcome run.rules file (short, reading) (runs M (program_of_file f) main_name resolved).outcome
 
 pub outcome_has_written : (old new : Option (List ℕ)) (o : Outcome Tree) (d t : List ℕ) (n : ℕ) → Gains old new (outcome_line o) → IsResult d t n (Ok o)
     → HasWritten d t n (status_of o) old new
@@ -77,6 +79,13 @@ pub of_told : (defs term : Option (List ℕ)) (d t : List ℕ) (X : List ℕ →
 of_told None term d t X same_defs same_term known = tt
 of_told (Some told) None d t X same_defs same_term known = tt
 of_told (Some told) (Some text) d t X same_defs same_term known = rw (← same_defs, ← same_term) known
+
+-- the same where it holds whatever the term is
+pub of_told_each : (defs term : Option (List ℕ)) (d : List ℕ) (X : List ℕ → List ℕ → Type 0) → IfSome defs (λ told. d ≡ told) → ((t : List ℕ) → X d t)
+    → IfSome defs (λ d. IfSome term (λ t. X d t))
+of_told_each None term d X same_defs known = tt
+of_told_each (Some told) None d X same_defs known = tt
+of_told_each (Some told) (Some text) d X same_defs known = rw (← same_defs) (known text)
 
 -- the same where of the term only its length is known
 pub of_told_long : (defs term : Option (List ℕ)) (d : List ℕ) (most : ℕ) (X : List ℕ → List ℕ → Type 0) → IfSome defs (λ told. d ≡ told)
@@ -110,7 +119,9 @@ program_fault defs term budget (faults.Lexical at) short made = inl (short, made
 program_fault defs term budget (faults.ReservedWord at) short made = inl (short, made)
 program_fault defs term budget (faults.Syntax at) short made = inl (short, made)
 program_fault defs term budget (faults.Nesting at) short made = inl (short, made)
-program_fault defs term budget _ short made = absurd made
+program_fault defs term budget faults.Read short made = tt
+program_fault defs term budget faults.DefsTooLong short made = absurd (no_check_fault faults.DefsTooLong made (λ numbered. omega arith))
+program_fault defs term budget _ short made = inl (short, made)
 
 -- a result that is this fault
 pub passed : {A : Type 0} (result : Result A Fault) (fault : Fault) → IsErrAnd result (λ e. e ≡ fault) → result ≡ Err fault

@@ -1,5 +1,5 @@
 -- Groups of faults, by their numbers.
-use Rattle.std.specs.Prelude.{◌≤◌, ◌⊎◌, ℕ, Bool, true, false, Result, Err}
+use Rattle.std.specs.Prelude.{◌≤◌, ℕ, Bool, true, false, Result, Err}
 use Rattle.term_model.specs.declared.fault.Fault.{Fault}
 use Rattle.term_model.specs.declared.fault.Fault.TheVariants.{Read, Write}
 use Rattle.term_model.specs.Fault.{number_of}
@@ -22,9 +22,9 @@ IsReadingFault fault = IsNumbered 1 2 fault
 abbrev pub IsOfDefinitions : Fault → Type 0
 IsOfDefinitions fault = IsNumbered 4 16 fault
 
--- a refusal that strc makes today: of the size, the tokens or the phrase of definitions, or of the text of a term
+-- a refusal of definitions or of the text of a term
 abbrev pub IsRefusal : Fault → Type 0
-IsRefusal fault = IsNumbered 4 8 fault ⊎ IsNumbered 17 19 fault
+IsRefusal fault = IsNumbered 4 19 fault
 
 -- where the status is a refusal, it is one of those
 abbrev pub HoldsRefusal : Status → Type 0

@@ -6,11 +6,11 @@ use Rattle.term_model.specs.Term.{Tree}
 use Rattle.aterm_text.specs.ReadTerm.{IsReading}
 use Rattle.str_lexer.specs.declared.token.Token.{Token}
 use Rattle.str_lexer.specs.Lexes.{Lexes, OnlyTokens, HoldsLeftOut, holds_left_out}
-use Rattle.str_syntax.specs.Trees as whole
+use Rattle.str_syntax.specs.Trees.{FileTree}
 use Rattle.str_parser.specs.Lexemes.{lexemes}
 use Rattle.str_parser.specs.Phrases.{IsPhrase, OnlyPhrase, TooNested}
-use Rattle.str_pipeline.specs.SourceTree.{FileTree}
-use Rattle.str_pipeline.specs.FirstPart.{file_in}
+use Rattle.scope_check.specs.Complaint.{first_fault}
+use Rattle.str_pipeline.specs.Main.{main_bytes}
 use Rattle.str_pipeline.specs.Limits.{max_definitions, max_term}
 
 -- the bytes are no tokens
@@ -28,34 +28,43 @@ pub record AreTooNested (bytes : List ℕ) : Type 0 where
   pub are_tokens : AreTokens bytes tokens
   pub nested : TooNested (lexemes bytes tokens)
 
--- the bytes are tokens that are not nested too deep, and the phrase of no file of the first part
+-- the bytes are tokens that are not nested too deep, and the phrase of no file
 pub record HasNoPhrase (bytes : List ℕ) : Type 0 where
   pub tokens : List Token
   pub are_tokens : AreTokens bytes tokens
   pub not_nested : ¬ (TooNested (lexemes bytes tokens))
-  pub none : (f : whole.FileTree) → IsPhrase (lexemes bytes tokens) f → file_in f ≡ None
+  pub none : (f : FileTree) → ¬ (IsPhrase (lexemes bytes tokens) f)
 
--- the bytes are tokens, and these the phrase of one file, which is this file of the first part
+-- the bytes are tokens that are not nested too deep, and the phrase of this file and of no other
 pub record IsFile (bytes : List ℕ) (f : FileTree) : Type 0 where
   pub tokens : List Token
   pub are_tokens : AreTokens bytes tokens
   pub not_nested : ¬ (TooNested (lexemes bytes tokens))
-  pub file : whole.FileTree
-  pub only_phrase : OnlyPhrase (lexemes bytes tokens) file
-  pub in_first_part : file_in file ≡ Some f
+  pub only_phrase : OnlyPhrase (lexemes bytes tokens) f
 
--- the definitions are refused with this fault
+-- the bytes are those of a file, and this is its first fault
+pub record FailsChecks (bytes : List ℕ) (fault : Fault) : Type 0 where
+  pub file : FileTree
+  pub is_file : IsFile bytes file
+  pub fails : first_fault file main_bytes ≡ Some fault
+
+-- the bytes are those of this file, and it has no fault
+pub record PassesChecks (bytes : List ℕ) (f : FileTree) : Type 0 where
+  pub is_file : IsFile bytes f
+  pub passes : first_fault f main_bytes ≡ None
+
+-- the definitions are refused with this fault: for their size, their tokens, their nesting, their phrase, or what the checks of a file find
 abbrev pub AreRefused : List ℕ → Fault → Type 0
 AreRefused defs DefsTooLong = max_definitions < length defs
 AreRefused defs (Lexical at) = (length defs ≤ max_definitions) × HasNoTokens defs
 AreRefused defs (ReservedWord at) = (length defs ≤ max_definitions) × HoldsLeftOut defs
 AreRefused defs (Nesting at) = (length defs ≤ max_definitions) × AreTooNested defs
 AreRefused defs (Syntax at) = (length defs ≤ max_definitions) × HasNoPhrase defs
-AreRefused defs fault = ⊥
+AreRefused defs fault = (length defs ≤ max_definitions) × FailsChecks defs fault
 
--- the definitions are those of this file
+-- the definitions are those of this file, in which nothing is wrong
 abbrev pub AreAccepted : List ℕ → FileTree → Type 0
-AreAccepted defs f = (length defs ≤ max_definitions) × IsFile defs f
+AreAccepted defs f = (length defs ≤ max_definitions) × PassesChecks defs f
 
 -- the text of the term is refused with this fault
 abbrev pub IsRefused : List ℕ → Fault → Type 0

@@ -1,14 +1,10 @@
 pub mod Asked
 pub mod Device
 pub mod Faults
-pub mod FirstPart
 pub mod Joined
 pub mod Judged
 pub mod Limits
-pub mod Placement
-pub mod Reduction
+pub mod Main
 pub mod Search
-pub mod SourceTree
-pub mod SourceViews
 pub mod Steps
 pub mod Written

@@ -10,9 +10,10 @@ use Rattle.core_lang.specs.Resolution.{ResolvesProgram}
 use Rattle.core_lang.specs.declared.run.Outcome.{Outcome}
 use Rattle.core_lang.specs.declared.run.Outcome.TheVariants as outcomes
 use Rattle.str_lexer.specs.Lexes.{HoldsLeftOut}
-use Rattle.str_pipeline.specs.SourceTree.{FileTree}
-use Rattle.str_pipeline.specs.Reduction.{program_core, main_name}
-use Rattle.str_pipeline.specs.Judged.{HasNoTokens, AreTooNested, HasNoPhrase, IsFile}
+use Rattle.str_syntax.specs.Trees.{FileTree}
+use Rattle.str_desugar.specs.FileProgram.{program_of_file}
+use Rattle.str_pipeline.specs.Main.{main_name}
+use Rattle.str_pipeline.specs.Judged.{HasNoTokens, AreTooNested, HasNoPhrase, FailsChecks, PassesChecks}
 use Rattle.str_pipeline.specs.Faults.{IsReadingFault, IsRefusal}
 use Rattle.str_pipeline.specs.Written.{line_of, IsFirstFault, IsWritten}
 use Rattle.str_pipeline.specs.declared.status.Status.{Status}
@@ -24,13 +25,13 @@ IsStop fault = IsReadingFault fault ⊎ IsRefusal fault
 
 -- the program that is made of definitions: a core that the program of the file is resolved to
 abbrev pub IsProgram : List ℕ → Result CoreParts Fault → Type 0
-IsProgram defs (Ok core) = (f : FileTree) × IsFile defs f × ResolvesProgram (program_core f) main_name (program_of core) core.main
+IsProgram defs (Ok core) = (f : FileTree) × PassesChecks defs f × ResolvesProgram (program_of_file f) main_name (program_of core) core.main
 IsProgram defs (Err Memory) = Unit {0}
 IsProgram defs (Err (Lexical at)) = HasNoTokens defs
 IsProgram defs (Err (ReservedWord at)) = HoldsLeftOut defs
 IsProgram defs (Err (Nesting at)) = AreTooNested defs
 IsProgram defs (Err (Syntax at)) = HasNoPhrase defs
-IsProgram defs (Err fault) = ⊥
+IsProgram defs (Err fault) = FailsChecks defs fault
 
 abbrev pub status_of : Outcome Tree → Status
 status_of (outcomes.Rewritten u) = Rewritten

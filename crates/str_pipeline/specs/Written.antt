@@ -8,8 +8,9 @@ use Rattle.aterm_text.specs.Text.{text}
 use Rattle.core_lang.specs.Environment.{Bindings}
 use Rattle.core_lang.specs.Ending.{Ending, ok, failed, oversize}
 use Rattle.core_lang.specs.Named as named
-use Rattle.str_pipeline.specs.SourceTree.{FileTree}
-use Rattle.str_pipeline.specs.Reduction.{program_core, main_name}
+use Rattle.str_syntax.specs.Trees.{FileTree}
+use Rattle.str_desugar.specs.FileProgram.{program_of_file}
+use Rattle.str_pipeline.specs.Main.{main_name}
 use Rattle.str_pipeline.specs.Judged.{AreRefused, AreAccepted, IsRefused, IsAccepted}
 use Rattle.str_pipeline.specs.Device.{Gains, GainsPrefix}
 use Rattle.str_pipeline.specs.declared.status.Status.{Status}
@@ -24,7 +25,7 @@ refusal_line fault = line_of (codes "#refused " ++ word_of fault)
 
 -- the file rewrites the term so, by n nodes, where primitives mean M
 abbrev pub Rewrites : Meaning → FileTree → Tree → Ending Tree → ℕ → Type 0
-Rewrites M f t o n = named.Rewrites M (program_core f) main_name t o n
+Rewrites M f t o n = named.Rewrites M (program_of_file f) main_name t o n
 
 -- the first fault: of the definitions, and of the term only where the definitions have none
 abbrev pub IsFirstFault : List ℕ → List ℕ → Fault → Type 0

@@ -3,8 +3,9 @@ ghost use Rattle.std.specs.Prelude.{◌≡◌, ◌+◌, ◌≤◌, ◌++◌, ℕ
 ghost use Rattle.term_model.specs.Flat.{Meaning};
 ghost use Rattle.core_lang.specs.Core.{program_of};
 ghost use Rattle.core_lang.specs.Resolution.{ResolvesProgram};
-ghost use Rattle.str_pipeline.specs.SourceTree.{FileTree};
-ghost use Rattle.str_pipeline.specs.Reduction.{program_core, main_name};
+ghost use Rattle.str_syntax.specs.Trees.{FileTree};
+ghost use Rattle.str_desugar.specs.FileProgram.{program_of_file};
+ghost use Rattle.str_pipeline.specs.Main.{main_name};
 ghost use Rattle.str_pipeline.specs.Device.{Gains, GainsPrefix};
 ghost use Rattle.str_pipeline.specs.Limits.{max_term};
 ghost use Rattle.term_model.specs.Limits.{max_budget};
@@ -41,7 +42,7 @@ pub(crate) fn outcome_of(
     requires budget { budget ≤ max_budget }
     requires fits { length text.now ≤ max_term }
     ensures result { (defs : List ℕ) (f : FileTree) → AreAccepted defs f →
-        ResolvesProgram (program_core f) main_name (program_of core.now) core.now.main → IsResult defs text.now budget result }
+        ResolvesProgram (program_of_file f) main_name (program_of core.now) core.now.main → IsResult defs text.now budget result }
     ensures kinds { IfErr result IsStop }
     ensures apart { IfErr result (λ fault. IsOfDefinitions fault → ⊥) }
     ensures read { is_read_fault result ≡ false }

@@ -4,21 +4,16 @@
 mod answer;
 mod counted;
 mod faulty;
-mod first_part;
 mod joined;
 mod laws;
-mod name;
 mod pipeline;
 mod program;
-mod reduction;
 mod sink;
 mod source;
-mod source_tree;
 mod status;
 mod tally;
 #[cfg(test)]
 mod tests;
-mod variables;
 
 pub use answer::{MAX_BUDGET, MAX_DEFINITIONS, MAX_TERM};
 pub use counted::Counted;

@@ -1,23 +1,21 @@
 //! From the bytes of definitions to their program.
 ghost use Rattle.str_pipeline.specs.Steps.{IsProgram};
 
-use crate::first_part::first_part;
-use crate::reduction::to_core;
 use core_lang::Core;
+use scope_check::check;
 use std::alloc::Global;
+use str_desugar::to_core;
 use str_lexer::lex;
 use str_parser::parse;
 use term_model::Fault;
 
-/// Makes the core of a definition file. The fault is `Lexical`, `ReservedWord`, `Syntax` or `Nesting`, as
-/// `lex` and `parse` say, `Syntax` at 0 where the file is none of the first part, and `Memory`.
+/// Makes the core of a definition file, of which the definition `main` without parameters is run. The fault is `Memory`, or the first of
+/// these: `Lexical` or `ReservedWord`, as `lex` says; `Syntax` or `Nesting`, as `parse` says; and what `check` finds in the file.
 pub(crate) fn program_of(alloc: Global, definitions: &[u8]) -> Result<Core, Fault>
     ensures { IsProgram definitions.now result }
 {
     let tokens = lex(alloc, definitions)?;
     let file = parse(alloc, definitions, &tokens)?;
-    let Some(file) = first_part(alloc, &file)? else {
-        return Err(Fault::Syntax { at: 0 });
-    };
-    Ok(to_core(alloc, &file)?)
+    let checked = check(alloc, file, b"main")?;
+    Ok(to_core(alloc, &checked)?)
 }

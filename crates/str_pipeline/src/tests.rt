@@ -1,5 +1,8 @@
 //! What no clause says: outside vectors and whole runs.
+mod complaints;
 mod devices;
+mod forms;
+mod language_rows;
 mod memory;
 mod pipeline;
 mod rows;

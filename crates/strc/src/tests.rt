@@ -37,8 +37,8 @@ fn statuses(rt: HostRuntime) -> Result<(), Fail> {
             None,
             None,
             2,
-            "#refused Syntax\n",
-            "strc: Syntax at byte 0\n",
+            "#refused UnknownStrategy\n",
+            "strc: UnknownStrategy\n",
         ),
         (
             "strategies main = id\n#term\nF(1",

@@ -46,6 +46,7 @@ fn texts_in_memory(rt: HostRuntime) -> Result<(), Fail> {
         ),
         ("strategies main = ?(x,_); !x", "7", MAX_BUDGET, "#failed\n"),
         ("strategies main = ?(x,_); !x", "(7,1)", 4, "#spent\n"),
+        ("strategies main = rec x(x)", "7", 100, "#spent\n"),
         (
             "strategies main = id",
             "(7,",
@@ -53,6 +54,12 @@ fn texts_in_memory(rt: HostRuntime) -> Result<(), Fail> {
             "#refused TermSyntax\n",
         ),
         ("strategies main = #", "7", MAX_BUDGET, "#refused Lexical\n"),
+        (
+            "strategies main = go",
+            "7",
+            MAX_BUDGET,
+            "#refused UnknownStrategy\n",
+        ),
     ];
     for (defs, term, budget, line) in rows {
         let answer = transformed(

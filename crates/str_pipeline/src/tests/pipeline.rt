@@ -2,6 +2,9 @@
 ghost use Rattle.std.specs.Prelude.{◌≤◌};
 ghost use Rattle.term_model.specs.Limits.{max_budget};
 
+use crate::tests::complaints::{PARTS, Part};
+use crate::tests::forms::{FORMS, SIGNATURE};
+use crate::tests::language_rows::{CHECK_ROWS, LANGUAGE_ROWS};
 use crate::tests::rows::{JOINED_ROWS, Pieces, ROWS};
 use crate::tests::term_rows::TERM_ROWS;
 use crate::{Faulty, MAX_BUDGET, Options, Status, transform, transform_joined};
@@ -77,6 +80,25 @@ fn gives_joined(
     Ok(fits(&status, line) && out.written() == line)
 }
 
+/// Whether definitions and a term give this line, and where a number of rules is told, by no fewer.
+fn takes(
+    alloc: Global,
+    defs: &[u8],
+    term: &[u8],
+    rules: Option<u32>,
+    line: &[u8],
+) -> Result<bool, Fault> {
+    let is_line = gives(alloc, defs, term, MAX_BUDGET, line)?;
+    let Some(rules) = rules else {
+        return Ok(is_line);
+    };
+    let rules = rules.min(MAX_BUDGET);
+    let is_enough = gives(alloc, defs, term, rules, line)?;
+    let is_spent = gives(alloc, defs, term, rules.saturating_sub(1), b"#spent\n")?;
+    let is_begun = gives(alloc, defs, term, 0, b"#spent\n")?;
+    Ok(is_line && is_enough && is_spent && is_begun)
+}
+
 #[test]
 fn rows(rt: HostRuntime) -> Result<(), Fail> {
     let alloc = rt.alloc();
@@ -85,22 +107,63 @@ fn rows(rt: HostRuntime) -> Result<(), Fail> {
         let term = text_of(alloc, row.term)?;
         let line = line_of(alloc, row.line)?;
         assert!(rt;
-            gives(alloc, &defs, &term, MAX_BUDGET, &line)?,
+            takes(alloc, &defs, &term, row.rules, &line)?,
             "row {index}"
         );
-        let Some(rules) = row.rules else {
-            continue;
-        };
-        assert!(rt;
-            gives(alloc, &defs, &term, rules.min(MAX_BUDGET), &line)?,
-            "row {index}"
-        );
-        let less = rules.saturating_sub(1).min(MAX_BUDGET);
-        assert!(rt;
-            gives(alloc, &defs, &term, less, b"#spent\n")?,
-            "row {index}"
-        );
-        assert!(rt; gives(alloc, &defs, &term, 0, b"#spent\n")?, "row {index}");
+    }
+    Ok(())
+}
+
+#[test]
+fn text_rows(rt: HostRuntime) -> Result<(), Fail> {
+    let alloc = rt.alloc();
+    for (front, rows) in [("", LANGUAGE_ROWS), ("", CHECK_ROWS), (SIGNATURE, FORMS)] {
+        for (definitions, term, line, rules) in rows {
+            let mut defs = front.as_bytes().to_vec(alloc)?;
+            defs.extend_from_slice(definitions.as_bytes())?;
+            let mut text = line.as_bytes().to_vec(alloc)?;
+            text.push(b'\n')?;
+            assert!(rt;
+                takes(alloc, &defs, term.as_bytes(), *rules, &text)?,
+                "{definitions} on {term}"
+            );
+        }
+    }
+    Ok(())
+}
+
+/// A file with both parts.
+fn file_with(alloc: Global, first: &Part, second: &Part) -> Result<Vec<u8>, AllocError> {
+    let mut text = b"signature constructors ".to_vec(alloc)?;
+    text.extend_from_slice(first.declarations.as_bytes())?;
+    text.extend_from_slice(second.declarations.as_bytes())?;
+    text.extend_from_slice(b" strategies ")?;
+    text.extend_from_slice(first.definitions.as_bytes())?;
+    text.extend_from_slice(second.definitions.as_bytes())?;
+    if first.has_main && second.has_main {
+        text.extend_from_slice(b"main = id")?;
+    }
+    Ok(text)
+}
+
+#[test]
+fn the_least_complaint(rt: HostRuntime) -> Result<(), Fail> {
+    let alloc = rt.alloc();
+    for (index, part) in PARTS.iter().enumerate() {
+        let mut line = b"#refused ".to_vec(alloc)?;
+        line.extend_from_slice(part.word.as_bytes())?;
+        line.push(b'\n')?;
+        for other in PARTS.iter().skip(index).skip(1) {
+            for (first, second) in [(part, other), (other, part)] {
+                let file = file_with(alloc, first, second)?;
+                assert!(rt;
+                    gives(alloc, &file, b"1", MAX_BUDGET, &line)?,
+                    "{} {}",
+                    first.word,
+                    second.word
+                );
+            }
+        }
     }
     Ok(())
 }
@@ -172,6 +235,11 @@ fn refused_definitions_leave_the_term(rt: HostRuntime) -> Result<(), Fail> {
         ("strategies main = #", b"#refused Lexical\n".as_slice()),
         ("strategies main = id;", b"#refused Syntax\n".as_slice()),
         ("module m", b"#refused ReservedWord\n".as_slice()),
+        (
+            "strategies main = go",
+            b"#refused UnknownStrategy\n".as_slice(),
+        ),
+        ("", b"#refused NoMain\n".as_slice()),
     ] {
         let mut first = Faulty::reader(defs.as_bytes().to_vec(alloc)?, 9, None);
         let mut second = Faulty::reader(b"1".to_vec(alloc)?, 9, Some(1));

@@ -11,6 +11,9 @@ pub(super) struct Row {
     pub(super) rules: Option<u32>,
 }
 
+/// The same in one text each.
+pub(super) type TextRow = (&'static str, &'static str, &'static str, Option<u32>);
+
 /// A text of the joined form, and the line.
 pub(super) struct JoinedRow {
     pub(super) text: Pieces,
@@ -93,7 +96,7 @@ pub(super) const ROWS: &[Row] = &[
     Row {
         defs: &[("strategies main = foo", 1)],
         term: &[("1", 1)],
-        line: &[("#refused Syntax", 1)],
+        line: &[("#refused UnknownStrategy", 1)],
         rules: None,
     },
     Row {
@@ -164,14 +167,14 @@ pub(super) const ROWS: &[Row] = &[
     },
     Row {
         defs: &[("rules r: x -> x strategies main = !1", 1)],
-        term: &[("1", 1)],
-        line: &[("#refused Syntax", 1)],
-        rules: None,
+        term: &[("2", 1)],
+        line: &[("1", 1)],
+        rules: Some(2),
     },
     Row {
         defs: &[("strategies main = !_", 1)],
         term: &[("1", 1)],
-        line: &[("#refused Syntax", 1)],
+        line: &[("#refused NotBuildable", 1)],
         rules: None,
     },
     Row {
@@ -189,8 +192,8 @@ pub(super) const ROWS: &[Row] = &[
     Row {
         defs: &[("strategies main = ", 1), ("(", 200), (")", 200)],
         term: &[("()", 1)],
-        line: &[("#refused Syntax", 1)],
-        rules: None,
+        line: &[("()", 1)],
+        rules: Some(2),
     },
     Row {
         defs: &[("module m", 1)],
@@ -209,6 +212,20 @@ pub(super) const ROWS: &[Row] = &[
         term: &[("f(", 999), ("f", 1), (")", 999)],
         line: &[("f(", 999), ("f", 1), (")", 999)],
         rules: Some(2),
+    },
+    // too-many-alternatives
+    Row {
+        defs: &[("strategies", 1), (" main = id", 1_001), (" ", 1)],
+        term: &[("1", 1)],
+        line: &[("#refused Parameters", 1)],
+        rules: None,
+    },
+    // thousand-alternatives
+    Row {
+        defs: &[("strategies", 1), (" main = id", 1_000), (" ", 1)],
+        term: &[("1", 1)],
+        line: &[("1", 1)],
+        rules: Some(4),
     },
 ];
 
@@ -263,7 +280,7 @@ pub(super) const JOINED_ROWS: &[JoinedRow] = &[
     },
     JoinedRow {
         text: &[("", 1)],
-        line: &[("#refused Syntax", 1)],
+        line: &[("#refused NoMain", 1)],
     },
     JoinedRow {
         text: &[("strategies main = id\n#term\n1", 1)],
@@ -271,19 +288,19 @@ pub(super) const JOINED_ROWS: &[JoinedRow] = &[
     },
     JoinedRow {
         text: &[("#term\n1", 1)],
-        line: &[("#refused Syntax", 1)],
+        line: &[("#refused NoMain", 1)],
     },
     JoinedRow {
         text: &[("#term", 1)],
-        line: &[("#refused Syntax", 1)],
+        line: &[("#refused NoMain", 1)],
     },
     JoinedRow {
         text: &[("#term\r\n1", 1)],
-        line: &[("#refused Syntax", 1)],
+        line: &[("#refused NoMain", 1)],
     },
     JoinedRow {
         text: &[("\n#term\n1", 1)],
-        line: &[("#refused Syntax", 1)],
+        line: &[("#refused NoMain", 1)],
     },
     JoinedRow {
         text: &[("strategies main = !1\n#term\n#term\n", 1)],

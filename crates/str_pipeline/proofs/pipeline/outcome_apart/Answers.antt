@@ -1,24 +1,34 @@
-use Rattle.std.proofs.Common.{◌≤◌, inr, length}
+use Rattle.std.proofs.Common.{◌≤◌, inr, length, subst, List, ℕ, Err}
 use Rattle.term_model.specs.declared.fault.Fault.TheVariants.{TermTooLong}
-use Rattle.str_pipeline.specs.Judged.{IsFile}
+use Rattle.str_pipeline.specs.Judged.{PassesChecks}
 use Rattle.str_pipeline.specs.Limits.{max_definitions, max_term}
 use Rattle.str_pipeline.specs.Written.{IsFirstFault}
-use Rattle.str_pipeline.specs.Steps.{IsResult}
+use Rattle.str_pipeline.specs.Steps.{IsProgram, IsResult}
 use Rattle.str_pipeline.proofs.OneLine.{none_refused}
-use Rattle.str_pipeline.proofs.WrittenLaws.{of_told, of_told_long}
+use Rattle.str_pipeline.proofs.WrittenLaws.{of_told, of_told_each, of_told_long, passed, program_fault}
 use Rattle.str_pipeline.proofs.pipeline.outcome_apart.Goals as goal
+
+pub returns-in_err-core-clause-result : goal.returns-in_err-core-clause-result
+returns-in_err-core-clause-result g c =
+    let short : length c.in-Some.text.items ≤ max_definitions = rw (← c.deref.ensures.value, c.deref.ensures.len) (rw c.in-Some.is at c.in_ok-text.ensures.fits) in
+    of_told_each (g.D.Source.coming c.args.defs.now) (g.T.Source.coming c.args.term.now) c.in-Some.text.items
+    (λ d t. IsResult d t c.args.budget c.from_residual-in_err-core.result)
+    (rw c.in-Some.is at c.in_ok-text.ensures.whole)
+    (λ t. rw (passed c.from_residual-in_err-core.result c.in_err-core.field-0.0 c.from_residual-in_err-core.ensures.1)
+    (program_fault c.in-Some.text.items t c.args.budget c.in_err-core.field-0.0 short
+    (subst (λ (bytes : List ℕ). IsProgram bytes (Err c.in_err-core.field-0.0)) c.deref.ensures.value c.in_err-core.ensures)))
 
 pub returns-in_err-text-2-clause-unread_told : goal.returns-in_err-text-2-clause-unread_told
 returns-in_err-text-2-clause-unread_told g c =
     let made = c.in_ok-core.ensures in
-    let file : IsFile c.in-Some.text.items made.0 = rw c.deref.ensures.value at made.1 in
+    let file : PassesChecks c.in-Some.text.items made.0 = rw c.deref.ensures.value at made.1 in
     let short : length c.in-Some.text.items ≤ max_definitions = rw (← c.deref.ensures.value, c.deref.ensures.len) (rw c.in-Some.is at c.in_ok-text.ensures.fits) in
     none_refused (g.D.Source.coming c.args.defs.now) c.in-Some.text.items made.0 _ (rw c.in-Some.is at c.in_ok-text.ensures.whole) (short, file)
 
 pub returns-in_default-2-clause-result : goal.returns-in_default-2-clause-result
 returns-in_default-2-clause-result g c =
     let made = c.in_ok-core.ensures in
-    let file : IsFile c.in-Some.text.items made.0 = rw c.deref.ensures.value at made.1 in
+    let file : PassesChecks c.in-Some.text.items made.0 = rw c.deref.ensures.value at made.1 in
     let short : length c.in-Some.text.items ≤ max_definitions = rw (← c.deref.ensures.value, c.deref.ensures.len) (rw c.in-Some.is at c.in_ok-text.ensures.fits) in
     of_told_long (g.D.Source.coming c.args.defs.now) (g.T.Source.coming c.args.term.now) c.in-Some.text.items max_term (λ d t. IsFirstFault d t TermTooLong)
     (rw c.in-Some.is at c.in_ok-text.ensures.whole)
@@ -28,21 +38,21 @@ returns-in_default-2-clause-result g c =
 pub returns-in_default-2-clause-unread_told : goal.returns-in_default-2-clause-unread_told
 returns-in_default-2-clause-unread_told g c =
     let made = c.in_ok-core.ensures in
-    let file : IsFile c.in-Some.text.items made.0 = rw c.deref.ensures.value at made.1 in
+    let file : PassesChecks c.in-Some.text.items made.0 = rw c.deref.ensures.value at made.1 in
     let short : length c.in-Some.text.items ≤ max_definitions = rw (← c.deref.ensures.value, c.deref.ensures.len) (rw c.in-Some.is at c.in_ok-text.ensures.fits) in
     none_refused (g.D.Source.coming c.args.defs.now) c.in-Some.text.items made.0 _ (rw c.in-Some.is at c.in_ok-text.ensures.whole) (short, file)
 
 pub returns-clause-unread_told : goal.returns-clause-unread_told
 returns-clause-unread_told g c =
     let made = c.in_ok-core.ensures in
-    let file : IsFile c.in-Some.text.items made.0 = rw c.deref.ensures.value at made.1 in
+    let file : PassesChecks c.in-Some.text.items made.0 = rw c.deref.ensures.value at made.1 in
     let short : length c.in-Some.text.items ≤ max_definitions = rw (← c.deref.ensures.value, c.deref.ensures.len) (rw c.in-Some.is at c.in_ok-text.ensures.fits) in
     none_refused (g.D.Source.coming c.args.defs.now) c.in-Some.text.items made.0 _ (rw c.in-Some.is at c.in_ok-text.ensures.whole) (short, file)
 
 pub returns-clause-result : goal.returns-clause-result
 returns-clause-result g c =
     let made = c.in_ok-core.ensures in
-    let file : IsFile c.in-Some.text.items made.0 = rw c.deref.ensures.value at made.1 in
+    let file : PassesChecks c.in-Some.text.items made.0 = rw c.deref.ensures.value at made.1 in
     of_told (g.D.Source.coming c.args.defs.now) (g.T.Source.coming c.args.term.now) c.in-Some.text.items c.in-Some-2.text.items
     (λ d t. IsResult d t c.args.budget c.outcome_of.result)
     (rw c.in-Some.is at c.in_ok-text.ensures.whole)

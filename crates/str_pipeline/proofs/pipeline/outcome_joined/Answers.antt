@@ -1,7 +1,7 @@
 use Rattle.std.proofs.Common.{◌≡◌, ◌<◌, ◌≤◌, inr, subst, List, ℕ, length, Err}
 use Rattle.term_model.specs.declared.fault.Fault.TheVariants.{TermTooLong}
 use Rattle.str_pipeline.specs.Search.{definitions_of, term_of}
-use Rattle.str_pipeline.specs.Judged.{IsFile}
+use Rattle.str_pipeline.specs.Judged.{PassesChecks}
 use Rattle.str_pipeline.specs.Limits.{max_definitions, max_term}
 use Rattle.str_pipeline.specs.Written.{IsFirstFault}
 use Rattle.str_pipeline.specs.Steps.{IsProgram, IsResult}
@@ -22,7 +22,7 @@ returns-in_err-core-clause-result g c =
 pub returns-in_default-2-clause-result : goal.returns-in_default-2-clause-result
 returns-in_default-2-clause-result g c =
     let made = c.in_ok-core.ensures in
-    let file : IsFile (definitions_of c.in-Some.front) made.0 = rw c.definitions.ensures at made.1 in
+    let file : PassesChecks (definitions_of c.in-Some.front) made.0 = rw c.definitions.ensures at made.1 in
     let short : length (definitions_of c.in-Some.front) ≤ max_definitions = rw c.in-Some.is at c.in_ok-front.ensures.fits in
     of_split (g.S.Source.coming c.args.input.now) (g.S.Source.coming c.read_front.new.input) (definitions_of c.in-Some.front) (term_of c.in-Some.front)
     (λ d t. IsFirstFault d t TermTooLong)
@@ -33,7 +33,7 @@ returns-in_default-2-clause-result g c =
 pub returns-clause-result : goal.returns-clause-result
 returns-clause-result g c =
     let made = c.in_ok-core.ensures in
-    let file : IsFile (definitions_of c.in-Some.front) made.0 = rw c.definitions.ensures at made.1 in
+    let file : PassesChecks (definitions_of c.in-Some.front) made.0 = rw c.definitions.ensures at made.1 in
     let short : length (definitions_of c.in-Some.front) ≤ max_definitions = rw c.in-Some.is at c.in_ok-front.ensures.fits in
     of_split (g.S.Source.coming c.args.input.now) (g.S.Source.coming c.read_front.new.input) (definitions_of c.in-Some.front) (term_of c.in-Some.front)
     (λ d t. IsResult d t c.args.budget c.outcome_of.result)

@@ -1,12 +1,20 @@
-use Rattle.str_pipeline.specs.SourceViews.{file_of}
-use Rattle.str_pipeline.specs.Judged.{AreTokens, IsFile}
-use Rattle.str_pipeline.proofs.ProgramLaws.{first_file, read_tokens}
+use Rattle.str_syntax.specs.Views.{file_of}
+use Rattle.str_pipeline.proofs.ProgramLaws.{not_passed, passed_file, same_program}
+use Rattle.str_pipeline.proofs.WrittenLaws.{passed}
 use Rattle.str_pipeline.proofs.program.program_of.Goals as goal
+
+pub returns-in_err-checked : goal.returns-in_err-checked
+returns-in_err-checked c =
+    rw (passed c.from_residual-in_err-checked.result c.in_err-checked.field-0.0 c.from_residual-in_err-checked.ensures.1)
+    (not_passed c.args.definitions.now c.in_ok-tokens.tokens c.in_ok-file.file c.in_err-checked.field-0.0 c.in_ok-tokens.ensures.exact
+    (rw c.deref.ensures.value at c.in_ok-file.ensures) c.in_err-checked.ensures.fault)
 
 pub returns : goal.returns
 returns c =
-    let are : AreTokens c.args.definitions.now c.in_ok-tokens.tokens.items = read_tokens c.args.definitions.now c.in_ok-tokens.tokens c.in_ok-tokens.ensures.exact in
-    let file : IsFile c.args.definitions.now (file_of c.in-Some.file) =
-    first_file c.args.definitions.now c.in_ok-tokens.tokens.items c.in_ok-file.file (file_of c.in-Some.file) are
-    (rw c.deref.ensures.value at c.in_ok-file.ensures) (rw c.in-Some.is at c.in_ok-file-2.ensures) in
-    (file_of c.in-Some.file, file, c.in_ok-to_core.ensures)
+    let good = passed_file c.args.definitions.now c.in_ok-tokens.tokens c.in_ok-file.file c.in_ok-tokens.ensures.exact
+    (rw c.deref.ensures.value at c.in_ok-file.ensures) c.in_ok-checked.ensures.checked.faultless in (
+      file_of c.in_ok-file.file,
+      good,
+      same_program c.in_ok-checked.checked.file c.in_ok-file.file c.in_ok-checked.checked.main c.in_ok-to_core.field-0
+          c.in_ok-checked.ensures.file c.in_ok-checked.ensures.main c.in_ok-to_core.ensures,
+    )
