@@ -1,7 +1,9 @@
-//! Tests of `lex` and `parse` together. They stand in a crate of their own, since a crate with tests is proved
-//! once more for them, and the parser is the longest proof of all.
+//! Tests of `lex` and `parse` together, and of `to_core`. They stand in a crate of their own, since a crate with
+//! tests is proved once more for them, and the parser and the reduction are the longest proofs of all.
 #![tactic(auto)]
 
+#[cfg(test)]
+mod cores;
 #[cfg(test)]
 mod files;
 #[cfg(test)]

@@ -22,8 +22,6 @@ mod rules;
 mod scopes;
 mod strategy;
 mod symbols;
-#[cfg(test)]
-mod tests;
 mod variables;
 
 pub use laws::checked_files_resolve;

@@ -1,9 +1,9 @@
 // The core programs of small files with ample memory; what is expected was worked out by hand.
-use crate::to_core;
 use core_lang::{Coordinate, Core, CoreArm, CoreDef, CorePattern, CoreStrategy};
 use scope_check::{Checked, check};
 use std::alloc::Global;
 use std::test::Fail;
+use str_desugar::to_core;
 use str_syntax::{
     Arguments, Definition, DefinitionForm, File, Origin, Parameters, Primary, Section, Strategy,
     build,
