@@ -5,6 +5,7 @@ pub mod WalkLaws
 pub mod TopLaws
 pub mod LayerLaws
 pub mod HeadLaws
+pub mod KeyLaws
 pub mod DeclarationLaws
 pub mod FileLaws
 pub mod LeastLaws

@@ -7,3 +7,4 @@ pub mod Least
 pub mod Checked
 pub mod Found
 pub mod Tables
+pub mod OfChecks

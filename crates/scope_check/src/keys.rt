@@ -84,20 +84,33 @@ impl<'a> Hash for Key<'a> {
     }
 }
 
-/// Keys that were added. A look-up does not walk them.
+// The most keys that a look-up walks.
+const FEW: usize = 8;
+
+// Whether the key is one of these.
+fn stands_among<'a>(keys: &[Key<'a>], key: &Key<'a>) -> bool
+    ensures { result ≡ among keys.now key.now }
+{
+    keys.iter().any(|other| *key == *other)
+}
+
+/// Keys that were added. A look-up compares at most eight of them.
 #[derive(Drop)]
 pub(crate) struct Keys<'a> {
+    // The first keys.
+    few: Vec<Key<'a>>,
+    // The keys after them.
     table: IndexSet<Key<'a>>,
 }
 
 // The keys, each once, in the order in which they were added.
 impl<'a> Model for Keys<'a> {
-    ghost use Rattle.std.specs.Prelude.{List};
+    ghost use Rattle.std.specs.Prelude.{List, ◌++◌};
     ghost use Rattle.scope_check.specs.Seen.{Key};
 
     ghost Value = { List Key };
 
-    ghost view = { λ t. t.table.keys };
+    ghost view = { λ t. t.few.items ++ t.table.keys };
 }
 
 impl<'a> Keys<'a> {
@@ -106,6 +119,7 @@ impl<'a> Keys<'a> {
         ensures { result ≡ [] }
     {
         Keys {
+            few: Vec::new(alloc),
             table: IndexSet::new(alloc),
         }
     }
@@ -115,6 +129,13 @@ impl<'a> Keys<'a> {
         ensures added { OnOk result ((k : spec.Key) → among self.new k ≡ (among self.old k || same_key k key.entry)) }
         ensures new { IfOk result (λ new. new ≡ not (among self.old key.entry)) }
     {
+        if stands_among(&self.few, &key) {
+            return Ok(false);
+        }
+        if self.few.len() < FEW && self.table.is_empty() {
+            self.few.push(key)?;
+            return Ok(true);
+        }
         Ok(self.table.insert(key)?)
     }
 
@@ -122,12 +143,15 @@ impl<'a> Keys<'a> {
     pub(crate) fn has(&self, key: &Key<'a>) -> bool
         ensures { result ≡ among self.now key.now }
     {
-        self.table.contains(&*key)
+        if stands_among(&self.few, &*key) {
+            return true;
+        }
+        !self.table.is_empty() && self.table.contains(&*key)
     }
 
     /// The numbers of the first key of this name.
     pub(crate) fn numbers_of(&self, name: &[u8]) -> Option<(usize, usize)> {
-        for key in self.table.iter() {
+        for key in self.few.iter().chain(self.table.iter()) {
             if key.name == name {
                 return Some((key.strategies, key.terms));
             }

@@ -1,5 +1,6 @@
 //! Where a file is at fault, for a person. No contract of the judgement speaks of it.
 ghost use Rattle.std.specs.Prelude.{◌≤◌};
+ghost use Rattle.scope_check.specs.OfChecks.{IsOfChecks};
 
 use std::{fmt, str};
 use str_syntax::Name;
@@ -45,8 +46,10 @@ pub enum Detail {
 }
 
 impl Detail {
-    /// The fault that this is.
-    pub fn fault(&self) -> Fault {
+    /// Returns the fault that this is, one of the eight that the checks report.
+    pub fn fault(&self) -> Fault
+        ensures { IsOfChecks result }
+    {
         match self {
             Detail::DeclaredAgain => Fault::DuplicateDeclaration,
             Detail::Undeclared { .. } => Fault::Undeclared,
@@ -146,12 +149,22 @@ pub struct Note {
     ghost within: { length ≤ 64 },
 }
 
+// Returns the byte where it is a printable character of ASCII, and `?` for any other.
+fn printable(byte: u8) -> u8 {
+    if byte.is_ascii_graphic() || byte == b' ' {
+        return byte;
+    }
+    b'?'
+}
+
 impl Note {
-    // The note about this name.
+    // Makes the note about this name.
     fn new(detail: Detail, offset: Option<u64>, name: &[u8]) -> Note {
         let length = name.len().min(MOST);
         let mut bytes = [0; MOST];
-        bytes[..length].copy_from_slice(&name[..length]);
+        for (place, byte) in bytes.iter_mut().zip(name) {
+            *place = printable(*byte);
+        }
         Note {
             detail,
             offset,
@@ -171,7 +184,7 @@ impl Note {
         self.offset
     }
 
-    /// The first 64 bytes of the name.
+    /// The first 64 bytes of the name, with `?` for each that is no printable character of ASCII.
     pub fn name(&self) -> &[u8] {
         &self.bytes[..self.length]
     }

@@ -9,6 +9,7 @@ pub mod Gathered
 pub mod GroupViews
 pub mod Groups
 pub mod Heads
+pub mod HeldNames
 pub mod Keys
 pub mod Layers
 pub mod SameDefinition

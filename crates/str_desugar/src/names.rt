@@ -9,21 +9,92 @@ use std::alloc::{AllocError, Global};
 use std::marker::Model;
 use str_syntax::Name;
 
-/// Names in the order of their slots. A look-up does not walk them, as long as no name is a repeated one; in a checked file none is.
+// The most names that a look-up walks.
+const FEW: usize = 8;
+
+// Names in order, which a look-up does not walk, as long as no name is a repeated one; in a checked file none is.
 #[derive(Drop)]
-pub(crate) struct Names {
+struct Hashed {
     // The names in front of the first one that repeats another.
     distinct: IndexSet<Name>,
     // The names from there on.
     others: Vec<Name>,
 }
 
-impl Model for Names {
+impl Model for Hashed {
     ghost use Rattle.std.specs.Prelude.{◌++◌, ℕ, List};
 
     ghost Value = { List (List ℕ) };
 
     ghost view = { λ names. names.distinct.keys ++ names.others.items };
+}
+
+impl Hashed {
+    // The names of a list, in order.
+    fn of(alloc: Global, source: &[Name]) -> Result<Hashed, AllocError>
+        ensures { IfOk result (λ made. made ≡ source.now) }
+    {
+        let mut made = Hashed {
+            distinct: IndexSet::new(alloc),
+            others: Vec::new(alloc),
+        };
+        for name in source {
+            made.push(name.copy(alloc)?)?;
+        }
+        Ok(made)
+    }
+
+    // How many names there are.
+    fn len(&self) -> usize
+        ensures { result ≡ length self.now }
+    {
+        self.distinct.len() + self.others.len()
+    }
+
+    // Puts the name after the others.
+    fn push(&mut self, name: Name) -> Result<(), AllocError>
+        ensures { OnOk result (self.new ≡ self.old ++ name ∷ []) }
+    {
+        if !self.others.is_empty() || self.distinct.contains(&name) {
+            self.others.push(name)?;
+            return Ok(());
+        }
+        self.distinct.insert(name)?;
+        Ok(())
+    }
+
+    // The slot of the first name that is the same.
+    fn position(&self, name: &Name) -> Option<usize>
+        ensures { result ≡ position_of (written name.now) (map written self.now) }
+    {
+        if let Some(slot) = self.distinct.get_index_of(&*name) {
+            return Some(slot);
+        }
+        let slot = position_among(&self.others, name)?;
+        Some(self.distinct.len() + slot)
+    }
+}
+
+// Few names are walked, and more are hashed.
+#[derive(Drop)]
+enum Held {
+    Few(Vec<Name>),
+    Many(Hashed),
+}
+
+/// Names in the order of their slots. A look-up compares at most eight of them, as long as no name is a repeated one.
+#[derive(Drop)]
+pub(crate) struct Names {
+    held: Held,
+}
+
+impl Model for Names {
+    ghost use Rattle.std.specs.Prelude.{ℕ, List};
+    ghost use Rattle.str_desugar.specs.HeldNames.{held_names};
+
+    ghost Value = { List (List ℕ) };
+
+    ghost view = { λ names. held_names names.held };
 }
 
 impl Names {
@@ -32,8 +103,7 @@ impl Names {
         ensures { result ≡ [] }
     {
         Names {
-            distinct: IndexSet::new(alloc),
-            others: Vec::new(alloc),
+            held: Held::Few(Vec::new(alloc)),
         }
     }
 
@@ -41,7 +111,10 @@ impl Names {
     pub(crate) fn len(&self) -> usize
         ensures { result ≡ length self.now }
     {
-        self.distinct.len() + self.others.len()
+        match &self.held {
+            Held::Few(names) => names.len(),
+            Held::Many(names) => names.len(),
+        }
     }
 
     /// Puts a copy of the name after the others. `AllocError` where the memory for it is refused.
@@ -49,11 +122,18 @@ impl Names {
         ensures { OnOk result (self.new ≡ self.old ++ name.now ∷ []) }
     {
         let copy = name.copy(alloc)?;
-        if !self.others.is_empty() || self.distinct.contains(&*name) {
-            self.others.push(copy)?;
-            return Ok(());
+        match &mut self.held {
+            Held::Many(names) => names.push(copy)?,
+            Held::Few(names) => {
+                if names.len() < FEW {
+                    names.push(copy)?;
+                    return Ok(());
+                }
+                let mut many = Hashed::of(alloc, names)?;
+                many.push(copy)?;
+                self.held = Held::Many(many);
+            }
         }
-        self.distinct.insert(copy)?;
         Ok(())
     }
 
@@ -79,11 +159,10 @@ impl Names {
     pub(crate) fn position(&self, name: &Name) -> Option<usize>
         ensures { result ≡ position_of (written name.now) (map written self.now) }
     {
-        if let Some(slot) = self.distinct.get_index_of(&*name) {
-            return Some(slot);
+        match &self.held {
+            Held::Few(names) => position_among(names, name),
+            Held::Many(names) => names.position(name),
         }
-        let slot = position_among(&self.others, name)?;
-        Some(self.distinct.len() + slot)
     }
 }
 

@@ -8,7 +8,10 @@ use std::alloc::{AllocError, Global};
 use str_syntax::{Name, Text};
 use term_model::Sym;
 
-/// The symbols of a file. Each is kept once and shared.
+// The most bytes of a symbol that is not shared, since it stands in place.
+const IN_PLACE: usize = 14;
+
+/// The symbols of a file. Each long one is kept once and shared.
 #[derive(Drop)]
 pub(crate) struct Symbols {
     alloc: Global,
@@ -46,6 +49,9 @@ impl Symbols {
     fn shared(&mut self, symbol: Sym) -> Result<Sym, AllocError>
         ensures { IfOk result (λ made. made ≡ symbol) }
     {
+        if symbol.bytes().len() <= IN_PLACE {
+            return Ok(symbol);
+        }
         if let Some(known) = self.known.get(&symbol) {
             let shared = known.clone()?;
             return Ok(shared);

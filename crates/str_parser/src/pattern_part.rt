@@ -14,6 +14,7 @@ use term_model::Fault;
 
 impl BeforeInner {
     // The pattern with this pattern after what has been read, up to its next part.
+    #[inline(always)]
     pub(crate) fn with<'a>(
         self,
         alloc: Global,

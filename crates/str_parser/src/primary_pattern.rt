@@ -21,6 +21,7 @@ impl BeforePattern {
     }
 
     // The primary with this pattern after what has been read, up to its next part.
+    #[inline(always)]
     pub(crate) fn with<'a>(
         self,
         alloc: Global,

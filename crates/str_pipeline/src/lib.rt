@@ -19,7 +19,9 @@ pub use answer::{MAX_BUDGET, MAX_DEFINITIONS, MAX_TERM};
 pub use counted::Counted;
 pub use faulty::Faulty;
 pub use laws::{joined_form_law, one_line_law};
-pub use pipeline::{transform, transform_joined};
+pub use pipeline::{
+    transform, transform_joined, transform_joined_with_notes, transform_with_notes,
+};
 pub use sink::{Sink, write_all};
 pub use source::{Source, read_all};
 pub use status::{Options, Status};

@@ -17,6 +17,7 @@ use crate::sink::Sink;
 use crate::source::{Source, read_all};
 use crate::status::{Options, Status};
 use core_lang::Outcome;
+use scope_check::Notes;
 use std::alloc::Global;
 use term_model::{Fault, Term};
 
@@ -27,6 +28,7 @@ fn outcome_apart<D: Source, T: Source>(
     defs: &mut D,
     term: &mut T,
     budget: u32,
+    notes: &mut Notes,
 ) -> Result<Outcome<Term>, Fault>
     requires { budget ≤ max_budget }
     ensures result { IfSome (D.coming defs.old) (λ d. IfSome (T.coming term.old) (λ t. IsResult d t budget result)) }
@@ -41,7 +43,7 @@ fn outcome_apart<D: Source, T: Source>(
     let Some(text) = read_all(alloc, defs, MAX_DEFINITIONS)? else {
         return Err(Fault::DefsTooLong);
     };
-    let core = program_of(alloc, &text)?;
+    let core = program_of(alloc, &text, notes)?;
     let Some(text) = read_all(alloc, term, MAX_TERM)? else {
         return Err(Fault::TermTooLong);
     };
@@ -54,6 +56,7 @@ fn outcome_joined<S: Source>(
     alloc: Global,
     input: &mut S,
     budget: u32,
+    notes: &mut Notes,
 ) -> Result<Outcome<Term>, Fault>
     requires { budget ≤ max_budget }
     ensures result { IfSome (S.coming input.old) (λ told. (d t : List ℕ) → IsSplit told d t → IsResult d t budget result) }
@@ -65,7 +68,7 @@ fn outcome_joined<S: Source>(
     let Some(front) = read_front(alloc, input, MAX_DEFINITIONS)? else {
         return Err(Fault::DefsTooLong);
     };
-    let core = program_of(alloc, front.definitions())?;
+    let core = program_of(alloc, front.definitions(), notes)?;
     let Some(text) = front.read_term(alloc, input, MAX_TERM)? else {
         return Err(Fault::TermTooLong);
     };
@@ -156,7 +159,42 @@ pub fn transform<D: Source, T: Source, W: Sink>(
     ensures defs_bounded { D.reads defs.new ≤ D.reads defs.old + max_definitions + 1 }
     ensures term_bounded { T.reads term.new ≤ T.reads term.old + max_term + 1 }
 {
-    let outcome = outcome_apart(alloc, defs, term, options.budget);
+    let mut notes = Notes::none();
+    transform_with_notes(alloc, defs, term, options, &mut notes, out)
+}
+
+/// Does as `transform` does, and notes what a person wants to know where the checks refuse the definitions: which name is at fault, where
+/// and why. What was noted before is dropped. Neither what is written nor the result depends on notes.
+///
+/// # Errors
+/// As of `transform`.
+pub fn transform_with_notes<D: Source, T: Source, W: Sink>(
+    alloc: Global,
+    defs: &mut D,
+    term: &mut T,
+    options: &Options,
+    notes: &mut Notes,
+    out: &mut W,
+) -> Result<Status, Fault>
+    requires { options.now.budget ≤ max_budget }
+    ensures written { IfOk result (λ status. IfSome (D.coming defs.old) (λ d. IfSome (T.coming term.old) (λ t.
+        HasWritten d t options.now.budget status (W.written out.old) (W.written out.new)))) }
+    ensures begun { IsErrOf result Fault.Write → IfSome (D.coming defs.old) (λ d. IfSome (T.coming term.old) (λ t.
+        HasBegun d t options.now.budget (W.written out.old) (W.written out.new))) }
+    ensures status { IfOk result HoldsRefusal }
+    ensures kinds { IfErr result IsTransferFault }
+    ensures untouched_memory { IsErrOf result Fault.Memory → out.new ≡ out.old }
+    ensures untouched_read { IsErrOf result Fault.Read → out.new ≡ out.old }
+    ensures read_failed { D.failed_reads defs.new + T.failed_reads term.new
+        ≡ D.failed_reads defs.old + T.failed_reads term.old + (if is_read_fault result then 1 else 0) }
+    ensures write_failed { W.failed_writes out.new ≡ W.failed_writes out.old + (if is_write_fault result then 1 else 0) }
+    ensures unread { IfOk result (λ status. RefusesDefinitions status → term.new ≡ term.old) }
+    ensures unread_told { IfSome (D.coming defs.old) (λ d. (fault : Fault) → AreRefused d fault → term.new ≡ term.old) }
+    ensures defs_bounded { D.reads defs.new ≤ D.reads defs.old + max_definitions + 1 }
+    ensures term_bounded { T.reads term.new ≤ T.reads term.old + max_term + 1 }
+{
+    *notes = Notes::none();
+    let outcome = outcome_apart(alloc, defs, term, options.budget, notes);
     finish(alloc, outcome, out)
 }
 
@@ -187,6 +225,37 @@ pub fn transform_joined<S: Source, W: Sink>(
     ensures bounded { S.reads input.new ≤ S.reads input.old + max_definitions + 17 + max_term + 1 }
     ensures defs_bounded { IfOk result (λ status. RefusesDefinitions status → S.reads input.new ≤ S.reads input.old + max_definitions + 17) }
 {
-    let outcome = outcome_joined(alloc, input, options.budget);
+    let mut notes = Notes::none();
+    transform_joined_with_notes(alloc, input, options, &mut notes, out)
+}
+
+/// Does as `transform_joined` does, and notes what a person wants to know where the checks refuse the definitions. What was noted before
+/// is dropped. Neither what is written nor the result depends on notes.
+///
+/// # Errors
+/// As of `transform`.
+pub fn transform_joined_with_notes<S: Source, W: Sink>(
+    alloc: Global,
+    input: &mut S,
+    options: &Options,
+    notes: &mut Notes,
+    out: &mut W,
+) -> Result<Status, Fault>
+    requires { options.now.budget ≤ max_budget }
+    ensures written { IfOk result (λ status. IfSome (S.coming input.old) (λ told. (d t : List ℕ) → IsSplit told d t →
+        HasWritten d t options.now.budget status (W.written out.old) (W.written out.new))) }
+    ensures begun { IsErrOf result Fault.Write → IfSome (S.coming input.old) (λ told. (d t : List ℕ) → IsSplit told d t →
+        HasBegun d t options.now.budget (W.written out.old) (W.written out.new)) }
+    ensures status { IfOk result HoldsRefusal }
+    ensures kinds { IfErr result IsTransferFault }
+    ensures untouched_memory { IsErrOf result Fault.Memory → out.new ≡ out.old }
+    ensures untouched_read { IsErrOf result Fault.Read → out.new ≡ out.old }
+    ensures read_failed { S.failed_reads input.new ≡ S.failed_reads input.old + (if is_read_fault result then 1 else 0) }
+    ensures write_failed { W.failed_writes out.new ≡ W.failed_writes out.old + (if is_write_fault result then 1 else 0) }
+    ensures bounded { S.reads input.new ≤ S.reads input.old + max_definitions + 17 + max_term + 1 }
+    ensures defs_bounded { IfOk result (λ status. RefusesDefinitions status → S.reads input.new ≤ S.reads input.old + max_definitions + 17) }
+{
+    *notes = Notes::none();
+    let outcome = outcome_joined(alloc, input, options.budget, notes);
     finish(alloc, outcome, out)
 }

@@ -1,8 +1,9 @@
 -- The exit status, and the line of a fault on the diagnostic stream.
-use Rattle.std.specs.Prelude.{◌≡◌, ◌<◌, ℕ, List, [], ◌∷◌, ◌++◌, codes, decimal, Option, None, Some}
+use Rattle.std.specs.Prelude.{◌≡◌, ◌<◌, ◌⊎◌, ℕ, List, [], ◌∷◌, ◌++◌, codes, decimal, Option, None, Some}
 use Rattle.term_model.specs.declared.fault.Fault.{Fault}
 use Rattle.term_model.specs.declared.fault.Fault.TheVariants.{Memory, Read, Write, Lexical, ReservedWord, Syntax, Nesting, TermSyntax, TermOversize}
 use Rattle.term_model.specs.Fault.{word_of}
+use Rattle.scope_check.specs.OfChecks.{IsOfChecks}
 use Rattle.str_pipeline.specs.declared.status.Status.{Status}
 use Rattle.str_pipeline.specs.declared.status.Status.TheVariants.{Rewritten, Failed, Oversize, Spent, Refused}
 use Rattle.str_pipeline.specs.Device.{Gains, GainsPrefix}
@@ -57,7 +58,14 @@ pub record Tells (fault : Fault) (before after : ℕ) (old new : Option (List �
   pub beginning : GainsPrefix old new (diagnostic fault)
   pub whole : after ≡ before → Gains old new (diagnostic fault)
 
+-- the same of a refusal, of which a text may say more after the line where the checks refuse; what it says is for a person
+pub record TellsMore (fault : Fault) (before after : ℕ) (old new : Option (List ℕ)) : Type 0 where
+  pub more : List ℕ
+  pub checks : IsOfChecks fault ⊎ (more ≡ [])
+  pub beginning : GainsPrefix old new (diagnostic fault ++ more)
+  pub whole : after ≡ before → Gains old new (diagnostic fault ++ more)
+
 -- a refusal is told, and nothing else is
 abbrev pub IsReported : Status → ℕ → ℕ → Option (List ℕ) → Option (List ℕ) → Type 0
-IsReported (Refused fault) before after old new = Tells fault before after old new
+IsReported (Refused fault) before after old new = TellsMore fault before after old new
 IsReported status before after old new = new ≡ old

@@ -9,16 +9,19 @@ ghost use Rattle.str_pipeline.specs.Limits.{max_definitions, max_term};
 ghost use Rattle.term_model.specs.Limits.{max_budget};
 ghost use Rattle.strc.specs.Report.{exit_of, IsCause, Tells, IsReported};
 
-use crate::report::report;
+use crate::report::{report, report_refusal};
+use scope_check::Notes;
 use std::alloc::Global;
-use str_pipeline::{MAX_BUDGET, Options, Sink, Source, Status, transform_joined};
+use str_pipeline::{MAX_BUDGET, Options, Sink, Source, Status, transform_joined_with_notes};
 
 /// Transforms what comes from `input`, in the joined form, writes the line of the answer to `out`,
 /// and returns the exit status: 0 where the term was rewritten, 1 where the strategy failed, 2 where
 /// the definitions or the term were refused, 3 where the budget was spent or a term was too large,
 /// and 4 where memory, reading or writing failed. For 2 and 4 a line on `diagnostics` reports the
 /// fault: for 4 `Read` exactly where a read of `input` failed, `Write` exactly where a write to `out`
-/// failed, and `Memory` else. A write to `diagnostics` that fails changes nothing.
+/// failed, and `Memory` else. Where the checks refuse the definitions, a second line names what is at
+/// fault, with the byte of the definitions at which it stands; it is left out where memory for it is
+/// refused. A write to `diagnostics` that fails changes nothing.
 #[tactic(auto, using(crate::proofs::PrefixLaws::tells, crate::proofs::CauseLaws::cause))]
 pub fn run<I: Source, W: Sink, E: Sink>(
     alloc: Global,
@@ -42,11 +45,12 @@ pub fn run<I: Source, W: Sink, E: Sink>(
     ensures bounded { I.reads input.new ≤ I.reads input.old + max_definitions + 17 + max_term + 1 }
 {
     let options = Options { budget: MAX_BUDGET };
-    match transform_joined(alloc, input, &options, out) {
+    let mut notes = Notes::none();
+    match transform_joined_with_notes(alloc, input, &options, &mut notes, out) {
         Ok(Status::Rewritten) => 0,
         Ok(Status::Failed) => 1,
         Ok(Status::Refused(fault)) => {
-            let _ = report(&fault, diagnostics);
+            report_refusal(alloc, &fault, &notes, diagnostics);
             2
         }
         Ok(Status::Oversize | Status::Spent) => 3,

@@ -38,7 +38,7 @@ fn statuses(rt: HostRuntime) -> Result<(), Fail> {
             None,
             2,
             "#refused UnknownStrategy\n",
-            "strc: UnknownStrategy\n",
+            "strc: UnknownStrategy\nstrategy foo with 0 strategy and 0 term parameters is not defined at byte 18\n",
         ),
         (
             "strategies main = id\n#term\nF(1",
@@ -110,6 +110,18 @@ fn places_of_refusals(rt: HostRuntime) -> Result<(), Fail> {
         (
             "strategies main = id;\n#term\n1",
             "strc: Syntax at byte 22\n",
+        ),
+        (
+            "signature sorts E constructors C : E * E -> E strategies main = ?C(1)\n#term\n1",
+            "strc: Undeclared\nconstructor C with 1 part is not declared (it is declared with 2) at byte 65\n",
+        ),
+        (
+            "strategies main = prim(\"a\\nb\", 1)\n#term\n1",
+            "strc: UnknownPrimitive\nprimitive a?b with 1 term is unknown\n",
+        ),
+        (
+            "strategies f = id\n#term\n1",
+            "strc: NoMain\nstrategy main without parameters is not defined\n",
         ),
     ];
     for (text, diagnostics) in rows {

@@ -5,3 +5,4 @@ pub mod FitsLaws
 pub mod IntegerLaws
 pub mod Joins
 pub mod Items
+pub mod PrimNameLaws

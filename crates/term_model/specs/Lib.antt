@@ -12,3 +12,5 @@ pub mod Same
 pub mod Fault
 pub mod Flat
 pub mod Hashing
+pub mod PrimNames
+pub mod PrimKey

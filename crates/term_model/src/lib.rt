@@ -5,6 +5,7 @@ pub mod bytes;
 mod equality;
 pub mod fault;
 pub mod made;
+pub mod prim_names;
 pub mod short_text;
 mod size;
 pub mod symbol;
@@ -12,6 +13,7 @@ pub mod term;
 
 pub use fault::Fault;
 pub use made::Made;
+pub use prim_names::PrimNames;
 pub use short_text::ShortText;
 pub use symbol::{Kind, Sym};
 pub use term::{Head, Term};

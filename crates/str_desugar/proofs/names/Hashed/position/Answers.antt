@@ -1,7 +1,7 @@
 use Rattle.std.proofs.Common.{◌≡◌, ◌∙◌, ◌+◌, Some, None, map, ap, sym, arith, length}
 use Rattle.core_lang.specs.Named.{position_of, written}
 use Rattle.str_desugar.proofs.SlotLaws.{name_in, name_past, name_within}
-use Rattle.str_desugar.proofs.names.Names.position.Goals as goal
+use Rattle.str_desugar.proofs.names.Hashed.position.Goals as goal
 
 pub returns-in-Some : goal.returns-in-Some
 returns-in-Some c =

@@ -1,0 +1,3 @@
+pub mod DigitLaws
+pub mod NameLaws
+pub mod ValueLaws

@@ -1,0 +1,4 @@
+pub mod Values
+pub mod Standard
+pub mod Answers
+pub mod Entries

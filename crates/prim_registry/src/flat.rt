@@ -1,0 +1,85 @@
+//! Flat values: what primitives are given and return.
+ghost use Rattle.std.specs.Prelude.{◌≡◌, ℕ, ℤ, List};
+
+use std::marker::Model;
+
+/// The bytes of a string.
+#[derive(Debug, Drop)]
+pub struct Bytes {
+    bytes: Vec<u8>,
+}
+
+impl Model for Bytes {
+    ghost Value = { List ℕ };
+
+    ghost view = { λ b. b.bytes.items };
+}
+
+impl Bytes {
+    /// Returns the string of these bytes.
+    pub fn new(bytes: Vec<u8>) -> Bytes
+        ensures { result ≡ bytes.items }
+    {
+        Bytes { bytes }
+    }
+
+    /// Returns the bytes.
+    pub fn as_slice(&self) -> &[u8]
+        ensures { result.now ≡ self.now }
+    {
+        self.bytes.as_slice()
+    }
+
+    /// Returns the bytes as a vector, without a copy.
+    pub fn into_vec(self) -> Vec<u8>
+        ensures { result.items ≡ self }
+    {
+        self.bytes
+    }
+}
+
+/// The integers of a list.
+#[derive(Debug, Drop)]
+pub struct Numbers {
+    numbers: Vec<i32>,
+}
+
+impl Model for Numbers {
+    ghost Value = { List ℤ };
+
+    ghost view = { λ n. n.numbers.items };
+}
+
+impl Numbers {
+    /// Returns the list of these integers.
+    pub fn new(numbers: Vec<i32>) -> Numbers
+        ensures { result ≡ numbers.items }
+    {
+        Numbers { numbers }
+    }
+
+    /// Returns the integers.
+    pub fn as_slice(&self) -> &[i32]
+        ensures { result.now ≡ self.now }
+    {
+        self.numbers.as_slice()
+    }
+
+    /// Returns the integers as a vector, without a copy.
+    pub fn into_vec(self) -> Vec<i32>
+        ensures { result.items ≡ self }
+    {
+        self.numbers
+    }
+}
+
+/// A flat value.
+#[derive(Debug, Drop)]
+pub enum Flat {
+    /// An integer.
+    Int(i32),
+    /// A string.
+    Str(Bytes),
+    /// A list of integers, which may be empty.
+    Ints(Numbers),
+}

@@ -1,0 +1,17 @@
+//! Primitives: named functions on flat values, kept with what they return.
+#![tactic(auto)]
+
+mod arguments;
+pub mod flat;
+pub mod primitive;
+pub mod registry;
+pub mod standard;
+mod texts;
+
+pub use flat::{Bytes, Flat, Numbers};
+pub use primitive::{Action, Prim, PrimMeaning, Primitive};
+pub use registry::Registry;
+pub use standard::Standard;
+
+#[cfg(test)]
+mod tests;

@@ -1,0 +1,98 @@
+//! The standard primitives. Each function takes the arguments of a call, of whatever number and kinds.
+ghost use Rattle.std.specs.Prelude.{◌≡◌, codes};
+ghost use Rattle.prim_registry.specs.Standard.{ranged as ranged_value, standard};
+ghost use Rattle.prim_registry.specs.Values.{answer_of, values_of};
+
+use crate::arguments::{one_text, two_integers};
+use crate::flat::Flat;
+use crate::primitive::PrimMeaning;
+pub use crate::texts::{concat, explode, implode, int_text, text_int};
+
+/// The meaning of the standard primitives.
+pub struct Standard;
+
+impl PrimMeaning for Standard {
+    ghost answer = { standard };
+}
+
+// The integer, where it is one of 32 bits.
+fn ranged(value: i64) -> Option<Flat>
+    ensures { answer_of result ≡ ranged_value value }
+{
+    if -2_147_483_648 <= value && value <= 2_147_483_647 {
+        Some(Flat::Int(value as i32))
+    } else {
+        None
+    }
+}
+
+/// Returns the sum of two integers, where it has 32 bits; `None` at other arguments.
+pub fn add(args: &[Flat]) -> Option<Flat>
+    ensures { answer_of result ≡ standard (codes "add") (values_of args.now) }
+{
+    let (left, right) = two_integers(args)?;
+    ranged(i64::from(left) + i64::from(right))
+}
+
+/// Returns the first of two integers without the second, where that has 32 bits; `None` at other arguments.
+pub fn sub(args: &[Flat]) -> Option<Flat>
+    ensures { answer_of result ≡ standard (codes "sub") (values_of args.now) }
+{
+    let (left, right) = two_integers(args)?;
+    ranged(i64::from(left) - i64::from(right))
+}
+
+/// Returns the product of two integers, where it has 32 bits; `None` at other arguments.
+pub fn mul(args: &[Flat]) -> Option<Flat>
+    ensures { answer_of result ≡ standard (codes "mul") (values_of args.now) }
+{
+    let (left, right) = two_integers(args)?;
+    ranged(i64::from(left) * i64::from(right))
+}
+
+/// Returns the quotient of two integers, cut towards 0. `None` where the second is 0, where the quotient has more than 32 bits, and
+/// at other arguments.
+pub fn div(args: &[Flat]) -> Option<Flat>
+    ensures { answer_of result ≡ standard (codes "div") (values_of args.now) }
+{
+    let (left, right) = two_integers(args)?;
+    if right == 0 {
+        return None;
+    }
+    ranged(i64::from(left) / i64::from(right))
+}
+
+/// Returns what is left of the first of two integers without the second times their quotient, which is cut towards 0 and may
+/// have more than 32 bits. `None` where the second is 0, and at other arguments.
+pub fn modulo(args: &[Flat]) -> Option<Flat>
+    ensures { answer_of result ≡ standard (codes "mod") (values_of args.now) }
+{
+    let (left, right) = two_integers(args)?;
+    if right == 0 {
+        return None;
+    }
+    Some(Flat::Int(left.wrapping_rem(right)))
+}
+
+/// Returns the first of two integers where it is less than the second; `None` where it is not, and at other arguments.
+pub fn less(args: &[Flat]) -> Option<Flat>
+    ensures { answer_of result ≡ standard (codes "less") (values_of args.now) }
+{
+    let (left, right) = two_integers(args)?;
+    if left < right {
+        Some(Flat::Int(left))
+    } else {
+        None
+    }
+}
+
+/// Returns the number of bytes of a string, where it has 32 bits; `None` at other arguments.
+pub fn length(args: &[Flat]) -> Option<Flat>
+    ensures { answer_of result ≡ standard (codes "length") (values_of args.now) }
+{
+    let text = one_text(args)?;
+    if text.len() > 2_147_483_647 {
+        return None;
+    }
+    Some(Flat::Int(text.len() as i32))
+}
