@@ -16,6 +16,8 @@ ESCAPES = ["\\n", "\\t", '\\"', "\\\\", "\\101"]
 class Source:
     """Names and phrases. Depth counts down: at 0 a phrase has no parts."""
 
+    signatures = 0.1
+
     def __init__(self, seed):
         self.random = random.Random(seed)
         self.names = [self.new_name() for _ in range(400)]
@@ -120,7 +122,7 @@ class Source:
                 (lambda: f"!{build()}", 10),
                 (lambda: f"<{part()}> {build()}", 8),
                 (lambda: f"({part()})", 4),
-                (lambda: f"{{{self.some(self.variable, 1, 3)}: {part()}}}", 4),
+                (lambda: self.scope(depth), 4),
                 (lambda: f"{operator}({part()})", 8),
                 (lambda: f"if {part()} then {part()} end", 1),
                 (lambda: f"if {part()} then {part()} else {part()} end", 2),
@@ -137,6 +139,9 @@ class Source:
                 (lambda: f"[{self.some(part, 1, 2)} | {part()}]", 1),
             ]
         )
+
+    def scope(self, depth):
+        return f"{{{self.some(self.variable, 1, 3)}: {self.strategy(depth - 1)}}}"
 
     def local(self, depth):
         """A let of one definition or two."""
@@ -191,7 +196,7 @@ class Source:
     def section(self):
         """The lines of a section, first its head."""
         chance = self.random.random()
-        if chance < 0.1:
+        if chance < self.signatures:
             yield "signature\n"
             yield f"  sorts {' '.join(self.sort() for _ in range(6))}\n"
             yield "  constructors\n"
@@ -201,6 +206,67 @@ class Source:
         yield "rules\n" if chance < 0.6 else "strategies\n"
         for _ in range(self.random.randint(10, 40)):
             yield self.definition()
+
+
+class Sound(Source):
+    """Files in which the checks find no fault: whatever is called is defined, and whatever is matched or built is declared."""
+
+    signatures = 0
+
+    def __init__(self, seed):
+        super().__init__(seed)
+        self.names = sorted(set(self.names))
+        self.constructors = sorted(set(self.constructors))
+        self.variables = sorted(set(self.variables))
+        numbers = [(strategies, 0) for strategies in range(4)]
+        numbers += [(strategies, terms) for strategies in range(3) for terms in (1, 2)]
+        self.heads = [self.head(name, *number) for name in self.names for number in numbers]
+        self.defined = 0
+
+    def distinct(self, number):
+        return ", ".join(self.random.sample(self.variables, number))
+
+    def head(self, name, strategies, terms):
+        names = self.random.sample(self.variables, strategies + terms)
+        if terms:
+            return f"{name}({', '.join(names[:strategies])} | {', '.join(names[strategies:])})"
+        return f"{name}({', '.join(names)})" if names else name
+
+    def primary(self, depth):
+        while True:
+            made = super().primary(depth)
+            if not made.startswith("prim("):
+                return made
+
+    def parameters(self):
+        return f"({self.distinct(2)})" if self.random.random() < 0.4 else ""
+
+    def scope(self, depth):
+        return f"{{{self.distinct(self.random.randint(1, 3))}: {self.strategy(depth - 1)}}}"
+
+    def local(self, depth):
+        names = self.random.sample(self.names, self.random.randint(1, 2))
+        made = [f"{name}{self.parameters()} = {self.strategy(depth - 1)}" for name in names]
+        return f"let {' '.join(made)} in {self.strategy(depth - 1)} end"
+
+    def definition(self):
+        """The next head with a body; after the last head come further alternatives of the first ones."""
+        head = self.heads[self.defined % len(self.heads)]
+        self.defined += 1
+        if self.random.random() < 0.6:
+            return f"  {head} :\n    {self.rule(2)}\n"
+        return f"  {head} =\n    {self.strategy(3)}\n"
+
+    def section(self):
+        """The lines of a section: declarations first, then definitions."""
+        if self.defined == 0:
+            yield f"signature\n  sorts {' '.join(self.constructors[:20])}\n  constructors\n"
+            for constructor in self.constructors:
+                yield f"    {constructor} : {self.sort()}\n"
+                for parts in range(1, 4):
+                    yield f"    {constructor} : {' * '.join(self.sort() for _ in range(parts))} -> {self.sort()}\n"
+            yield "strategies\n  main = id\n"
+        yield from super().section()
 
 
 def file_of(source, size):
