@@ -1,6 +1,6 @@
 -- The keys of the library, one by one.
 use Rattle.std.proofs.Common.{◌≡◌, refl}
-use Rattle.std.specs.Prelude.{List, [], ◌∷◌, map, codes}
+use Rattle.std.specs.Prelude.{[], ◌∷◌, map, codes}
 use Rattle.str_syntax.specs.Trees.{Bytes}
 use Rattle.strategy_lib.specs.Keys.{LibraryKey, library_keys}
 

@@ -5,9 +5,6 @@ use Rattle.str_syntax.specs.declared.definition.Origin.TheVariants as origins
 use Rattle.str_syntax.specs.declared.strategy.Operator.TheVariants as operators
 use Rattle.str_syntax.specs.Trees.{Bytes, strategies_only, head, StrategyTree, plain_sequence, left_choice, no_strategies, more_strategies, no_strategy, one_strategy, last, then, plain_step, PrimaryTree, identity, operator, call, list_congruence, no_arguments, strategy_arguments, DefinitionTree, definition, strategy_form, TopTree, SectionTree, strategies, FileTree}
 
-infix 10 ◌≔◌
-infix 20 ◌<+◌
-infix 30 ◌⨟◌
 -- ---- the forms of strategies that the library is made of
 
 -- p, which no operator splits
@@ -15,10 +12,12 @@ abbrev pub alone : PrimaryTree → StrategyTree
 alone p = plain_sequence (last (plain_step p))
 
 -- p; q
+infix 30 ◌⨟◌
 abbrev pub ◌⨟◌ : PrimaryTree → PrimaryTree → StrategyTree
 p ⨟ q = plain_sequence (then (plain_step p) (last (plain_step q)))
 
 -- p <+ q
+infix 20 ◌<+◌
 abbrev pub ◌<+◌ : PrimaryTree → PrimaryTree → StrategyTree
 p <+ q = left_choice (last (plain_step p)) (alone q)
 
@@ -48,6 +47,7 @@ abbrev pub list_of : PrimaryTree → PrimaryTree → PrimaryTree
 list_of p q = list_congruence (more_strategies (alone p) no_strategies) (one_strategy (alone q))
 
 -- f(s) = body
+infix 10 ◌≔◌
 abbrev pub ◌≔◌ : Bytes → StrategyTree → DefinitionTree
 f ≔ body = definition (head f (strategies_only (codes "s" ∷ []))) body
 

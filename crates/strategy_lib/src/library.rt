@@ -113,11 +113,12 @@ fn library_section(alloc: Global) -> Result<Section, AllocError>
     Ok(Section::Strategies(all))
 }
 
-/// Returns the file with one more section behind its own, which has the definitions of the library in their order. They are marked as the
-/// library's, and their names stand in no file: the offset of each is 0. What the file defines itself is not looked at, nor whether
-/// anything calls the library. `AllocError` where the memory for the definitions is refused; the file is dropped then.
+/// Returns the file with one more section behind its own, which has the nine definitions of the library, in their order. They are
+/// marked as the library's, and no name in them stands in a file: the offset of each is 0. Nothing else of the file is looked at, so the
+/// definitions are there whether or not it calls them or defines one of their keys itself. `AllocError` where the memory for the
+/// definitions is refused; the file is dropped then.
 ///
-/// The definitions are those of the library that the Stratego/XT Manual describes, by the equations that stand there.
+/// The definitions are the equations that the Stratego/XT Manual gives for these names.
 pub fn with_library(alloc: Global, mut file: File) -> Result<File, AllocError>
     ensures { IfOk result (λ made. file_of made ≡ library.behind_file (file_of file)) }
 {
