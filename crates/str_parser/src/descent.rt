@@ -16,7 +16,7 @@ use crate::pattern_part::{applied, begins_pattern};
 use crate::{pattern_begin, primary_begin};
 use std::alloc::Global;
 use str_lexer::{Keyword, Mark};
-use str_syntax::{Pattern, Primary, Sequence, Step, Strategy};
+use str_syntax::{Pattern, Primary, Sequence, Step, Strategy, build};
 use term_model::Fault;
 
 // The fault where a part would stand beyond the greatest level: whether the tokens can begin it decides.
@@ -106,8 +106,7 @@ fn guarded_choice<'a>(
         return Err(rest.syntax());
     };
     let (other, rest) = strategy(alloc, following, level + 1)?;
-    let then = Box::new(alloc, then)?;
-    let made = Strategy::GuardedChoice(first, then, Box::new(alloc, other)?);
+    let made = build::guarded_choice(alloc, first, then, other)?;
     Ok((made, rest))
 }
 

@@ -12,7 +12,7 @@ use crate::names::{name, parameters};
 use std::alloc::Global;
 use str_lexer::{Keyword, Mark};
 use str_syntax::{
-    Definition, DefinitionForm, DefinitionHead, Origin, Rule, RuleDefinition, StrategyDefinition,
+    Definition, DefinitionForm, DefinitionHead, Origin, Rule, RuleDefinition, build,
 };
 use term_model::Fault;
 
@@ -21,30 +21,17 @@ fn rule<'a>(alloc: Global, input: Input<'a>) -> Result<(Rule, Input<'a>), Fault>
     ensures { IsReading (Phrases.rule 1) EndsRule rule_of input.entry result }
 {
     let (left, rest) = pattern(alloc, input, true, 1)?;
-    let left = Box::new(alloc, left)?;
     let Some(following) = rest.after(Mark::Arrow) else {
         return Err(rest.syntax());
     };
     let (right, rest) = pattern(alloc, following, false, 1)?;
-    let right = Box::new(alloc, right)?;
     let Some(following) = rest.after_keyword(Keyword::Where) else {
-        let condition = None;
-        return Ok((
-            Rule {
-                left,
-                right,
-                condition,
-            },
-            rest,
-        ));
+        let made = build::rule(alloc, left, right, None)?;
+        return Ok((made, rest));
     };
     let (condition, rest) = strategy(alloc, following, 1)?;
-    let condition = Some(Box::new(alloc, condition)?);
-    let made = Rule {
-        left,
-        right,
-        condition,
-    };
+    let condition = Box::new(alloc, condition)?;
+    let made = build::rule(alloc, left, right, Some(condition))?;
     Ok((made, rest))
 }
 
@@ -71,8 +58,7 @@ fn form<'a>(alloc: Global, input: Input<'a>) -> Result<(DefinitionForm, Input<'a
         return Err(rest.syntax());
     };
     let (body, rest) = strategy(alloc, following, 1)?;
-    let body = Box::new(alloc, body)?;
-    let definition = StrategyDefinition { head, body };
+    let definition = build::definition(alloc, head, body)?;
     Ok((DefinitionForm::Strategy(definition), rest))
 }
 

@@ -61,6 +61,6 @@ pub(crate) fn let_body<'a>(
     let Some(rest) = input.after_keyword(Keyword::End) else {
         return Err(input.syntax());
     };
-    let made = Primary::Let(definitions, Box::new(alloc, part)?);
-    whole(alloc, made, rest)
+    let body = Box::new(alloc, part)?;
+    whole(alloc, Primary::Let(definitions, body), rest)
 }

@@ -1,11 +1,13 @@
 // The tokens of a rule between backslashes.
-ghost use Rattle.str_syntax.specs.Views.{pattern_of, strategy_of};
+ghost use Rattle.std.specs.Prelude.{◌≡◌, IfOk};
+ghost use Rattle.str_syntax.specs.Trees as trees;
+ghost use Rattle.str_syntax.specs.Views.{pattern_of, primary_of, rule_of, strategy_of};
 ghost use Rattle.str_parser.specs.Begun.{IsNext, HasStrategy, HasPattern};
 
 use crate::begun::{BeforePattern, BeforeStrategy, Begun};
 use crate::input::Input;
 use crate::primary_begin::whole;
-use std::alloc::Global;
+use std::alloc::{AllocError, Global};
 use str_lexer::{Keyword, Mark};
 use str_syntax::{Pattern, Primary, Rule, Strategy};
 use term_model::Fault;
@@ -47,7 +49,8 @@ pub(crate) fn rule_right<'a>(
         right,
         condition: None,
     };
-    whole(alloc, Primary::Lambda(Box::new(alloc, rule)?), rest)
+    let primary = lambda(alloc, rule)?;
+    whole(alloc, primary, rest)
 }
 
 // The rule after its condition.
@@ -69,5 +72,13 @@ pub(crate) fn rule_condition<'a>(
         right,
         condition,
     };
-    whole(alloc, Primary::Lambda(Box::new(alloc, rule)?), rest)
+    let primary = lambda(alloc, rule)?;
+    whole(alloc, primary, rest)
+}
+
+// The rule between backslashes.
+fn lambda(alloc: Global, rule: Rule) -> Result<Primary, AllocError>
+    ensures { IfOk result (λ made. primary_of made ≡ trees.lambda (rule_of rule)) }
+{
+    Ok(Primary::Lambda(Box::new(alloc, rule)?))
 }

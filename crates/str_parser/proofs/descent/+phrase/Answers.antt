@@ -1,6 +1,6 @@
 -- Each way that reading can go is a law.
 use Rattle.std.proofs.Common.{◌+◌, arith, sym, ◌∙◌, true}
-use Rattle.str_syntax.proofs.ReadLaws.{reads_plain_sequence, reads_left_choice, reads_guarded_choice, reads_last, reads_then, reads_plain_step, reads_matching}
+use Rattle.str_syntax.proofs.ReadLaws.{reads_plain_sequence, reads_left_choice, reads_last, reads_then, reads_plain_step, reads_matching}
 use Rattle.std.proofs.lemmas.Result.{err_from_is_err_and}
 use Rattle.str_syntax.specs.Views.{strategy_of, pattern_of}
 use Rattle.str_parser.specs.Phrases.{step, primary}
@@ -261,4 +261,4 @@ guarded_choice-returns-in_err-other t c =
 pub guarded_choice-returns : goal.guarded_choice-returns
 guarded_choice-returns t c =
     let g = rw c.in-Some.ensures at c.in_ok-then.ensures in
-    λ ts f. rw (reads_guarded_choice, c.in_ok-then-2.ensures.ok, c.in_ok-new.ensures.ok) (found_guarded _ _ _ _ _ _ _ _ f g c.in_ok-other.ensures)
+    λ ts f. rw (c.in_ok-made.ensures) (found_guarded _ _ _ _ _ _ _ _ f g c.in_ok-other.ensures)

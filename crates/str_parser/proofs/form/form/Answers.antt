@@ -1,7 +1,6 @@
 -- Each way that reading a rule or a definition can go is a law.
 use Rattle.std.proofs.lemmas.Result.{err_from_is_err_and}
 use Rattle.str_parser.proofs.WayLaws.{fault_along, syntax_fault}
-use Rattle.str_syntax.proofs.ReadLaws.{reads_made_definition}
 use Rattle.str_parser.proofs.FormLaws.{head_missing, head_nested, sign_missing, rule_missing, rule_nested, rule_found, body_missing, body_nested, body_found}
 use Rattle.str_parser.proofs.form.form.Goals as goal
 
@@ -33,4 +32,4 @@ returns-in_err-body c =
 pub returns : goal.returns
 returns c =
     let f = rw c.in-Some-after.ensures at c.in_ok-head.ensures in
-    rw (reads_made_definition, c.in_ok-body-2.ensures.ok) (body_found _ _ _ _ _ _ f c.in_ok-body.ensures)
+    rw (c.in_ok-definition.ensures) (body_found _ _ _ _ _ _ f c.in_ok-body.ensures)

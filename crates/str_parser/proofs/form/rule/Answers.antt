@@ -1,6 +1,5 @@
 -- Each way that reading a rule can go is a law.
 use Rattle.std.proofs.lemmas.Result.{err_from_is_err_and}
-use Rattle.str_syntax.proofs.ReadLaws.{reads_made_rule}
 use Rattle.str_parser.proofs.WayLaws.{fault_along, syntax_fault}
 use Rattle.str_parser.proofs.FormLaws.{SidesAt, left_missing, left_nested, arrow_missing, right_missing, right_nested, plain_found, condition_missing, condition_nested, conditional_found}
 use Rattle.str_parser.proofs.form.rule.Goals as goal
@@ -22,7 +21,7 @@ returns-in_err-right c =
 pub returns-in_default-after_keyword : goal.returns-in_default-after_keyword
 returns-in_default-after_keyword c =
     let f = rw c.in-Some.ensures at c.in_ok-left.ensures in
-    rw (reads_made_rule, c.in_ok-left-2.ensures.ok, c.in_ok-right-2.ensures.ok) (plain_found _ _ _ _ _ f c.in_ok-right.ensures c.in_default-after_keyword.ensures)
+    rw (c.in_ok-made.ensures) (plain_found _ _ _ _ _ f c.in_ok-right.ensures c.in_default-after_keyword.ensures)
 
 pub returns-in_err-condition : goal.returns-in_err-condition
 returns-in_err-condition c =
@@ -36,5 +35,5 @@ pub returns : goal.returns
 returns c =
     let f = rw c.in-Some.ensures at c.in_ok-left.ensures in
     let g = rw c.in-Some-after_keyword.ensures at c.in_ok-right.ensures in
-    rw (reads_made_rule, c.in_ok-left-2.ensures.ok, c.in_ok-right-2.ensures.ok, c.in_ok-new.ensures.ok)
+    rw (c.in_ok-made-2.ensures, c.in_ok-condition-2.ensures.ok)
     (conditional_found _ _ _ _ _ _ (record { right_at = _; left = f; right = g }) c.in_ok-condition.ensures)

@@ -1,5 +1,5 @@
 use Rattle.std.proofs.Common.{sym}
-use Rattle.str_syntax.proofs.ReadLaws.{reads_lambda, reads_made_rule}
+use Rattle.str_syntax.proofs.ReadLaws.{reads_made_rule}
 use Rattle.str_parser.proofs.WholeLaws.{whole_next, syntax_next}
 use Rattle.str_parser.proofs.RuleParts.{rule_where_leads, rule_ends}
 use Rattle.str_parser.proofs.PartFaults.{no_rule_right}
@@ -14,4 +14,4 @@ returns-in_default-after c = syntax_next _ _ _ c.syntax.ensures (λ k. no_rule_r
 pub returns : goal.returns
 returns c =
     whole_next _ _ _ _ _ c.whole.ensures
-    (λ k. rw (reads_lambda, c.in_ok-new.ensures.ok, reads_made_rule, c.in-Some-after.ensures, sym c.in_ok-right.ensures.ok) (rule_ends k _ c.in_ok-right.right _))
+    (λ k. rw (c.in_ok-primary.ensures, reads_made_rule, c.in-Some-after.ensures, sym c.in_ok-right.ensures.ok) (rule_ends k _ c.in_ok-right.right _))
