@@ -1,4 +1,4 @@
--- The library: the strategy definitions that stand behind those of every file.
+-- The library: the strategy definitions that are added to every file.
 use Rattle.std.specs.Prelude.{List, [], ◌∷◌, ◌++◌, map, codes}
 use Rattle.str_syntax.specs.declared.definition.Origin.{Origin}
 use Rattle.str_syntax.specs.declared.definition.Origin.TheVariants as origins
@@ -92,7 +92,7 @@ map_definition = codes "map" ≔ empty_list <+ list_of s (with_s (codes "map"))
 abbrev pub library : List DefinitionTree
 library = try_definition ∷ repeat_definition ∷ topdown_definition ∷ bottomup_definition ∷ oncetd_definition ∷ oncebu_definition ∷ alltd_definition ∷ innermost_definition ∷ map_definition ∷ []
 
--- ---- the library behind a file
+-- ---- a file with the library
 
 -- a definition that comes from there
 abbrev pub from : Origin → DefinitionTree → TopTree
@@ -103,5 +103,5 @@ abbrev pub library_section : Origin → SectionTree
 library_section mark = strategies (map (from mark) library)
 
 -- the file's sections as they are, and then that of the library
-abbrev pub behind_file : FileTree → FileTree
-behind_file f = record { sections = f.sections ++ library_section origins.Library ∷ [] }
+abbrev pub with_library : FileTree → FileTree
+with_library f = record { sections = f.sections ++ library_section origins.Library ∷ [] }

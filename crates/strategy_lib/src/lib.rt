@@ -1,4 +1,4 @@
-//! The library of strategies, which stands behind the definitions of every file.
+//! The library of strategies, which is added to every file.
 #![tactic(auto)]
 
 mod forms;

@@ -1,4 +1,4 @@
-// The definitions of the library, and a file with them behind its own.
+// The definitions of the library, and a file with them after its own.
 ghost use Rattle.std.specs.Prelude.{◌≡◌, IfOk, map};
 ghost use Rattle.str_syntax.specs.declared.definition.Origin.TheVariants as origins;
 ghost use Rattle.str_syntax.specs.Views.{file_of, section_of, top_of};
@@ -113,14 +113,14 @@ fn library_section(alloc: Global) -> Result<Section, AllocError>
     Ok(Section::Strategies(all))
 }
 
-/// Returns the file with one more section behind its own, which has the nine definitions of the library, in their order. They are
+/// Returns the file with one more section after its own, which has the nine definitions of the library, in their order. They are
 /// marked as the library's, and no name in them stands in a file: the offset of each is 0. Nothing else of the file is looked at, so the
 /// definitions are there whether or not it calls them or defines one of their keys itself. `AllocError` where the memory for the
 /// definitions is refused; the file is dropped then.
 ///
 /// The definitions are the equations that the Stratego/XT Manual gives for these names.
 pub fn with_library(alloc: Global, mut file: File) -> Result<File, AllocError>
-    ensures { IfOk result (λ made. file_of made ≡ library.behind_file (file_of file)) }
+    ensures { IfOk result (λ made. file_of made ≡ library.with_library (file_of file)) }
 {
     file.sections.push(library_section(alloc)?)?;
     Ok(file)

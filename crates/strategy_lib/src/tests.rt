@@ -193,7 +193,7 @@ fn full_file(alloc: Global) -> Result<File, AllocError> {
     Ok(File { sections })
 }
 
-// The file as a text, with the library behind it.
+// The file as a text, with the library after it.
 fn written_with_library(alloc: Global, file: File) -> Result<Vec<u8>, AllocError> {
     let file = with_library(alloc, file)?;
     let mut out = Vec::new(alloc);
@@ -210,7 +210,7 @@ fn an_empty_file_has_the_library_alone(rt: HostRuntime) -> Result<(), Fail> {
 }
 
 #[test]
-fn the_library_stands_behind_the_file(rt: HostRuntime) -> Result<(), Fail> {
+fn the_library_comes_after_the_file(rt: HostRuntime) -> Result<(), Fail> {
     let text = written_with_library(rt.alloc(), full_file(rt.alloc())?)?;
     let mut expected = b"strategies\nown try\nsignature\nrules\n".to_vec(rt.alloc())?;
     expected.extend_from_slice(LIBRARY)?;
