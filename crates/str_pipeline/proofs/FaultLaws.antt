@@ -1,11 +1,12 @@
 -- Groups of faults, by their numbers.
-use Rattle.std.proofs.Common.{◌≡◌, ◌<◌, ◌≤◌, ℕ, List, Err, arith, inl, inr, refl, false}
+use Rattle.std.proofs.Common.{◌≡◌, ◌<◌, ◌≤◌, ℕ, Bool, List, Err, arith, inl, inr, refl, false}
 use Rattle.term_model.specs.declared.fault.Fault.{Fault}
 use Rattle.term_model.specs.declared.fault.Fault.TheVariants as faults
 use Rattle.term_model.specs.Fault.{number_of}
-use Rattle.aterm_text.specs.ReadTerm.{IsReading}
+use Rattle.str_syntax.specs.Trees.{Bytes}
+use Rattle.signature_core.specs.Signature.{Declared}
 use Rattle.str_pipeline.specs.Faults.{IsReadingFault, IsRefusal, IsOfDefinitions, is_read}
-use Rattle.str_pipeline.specs.Steps.{IsStop, IsProgram}
+use Rattle.str_pipeline.specs.Steps.{IsStop, IsProgram, IsTermRead}
 use Rattle.str_pipeline.proofs.CheckLaws.{no_check_fault, check_fault_refuses}
 
 -- a refusal is no fault of memory, reading or writing
@@ -26,22 +27,24 @@ pub is_no_read : (fault : Fault) → 2 < number_of fault → is_read fault ≡ f
 is_no_read faults.Read high = absurd (omega arith)
 is_no_read _ high = refl
 
--- the faults of reading the text of a term
-pub text_stops : (text : List ℕ) (fault : Fault) → IsReading text (Err fault) → IsStop fault
-text_stops text faults.Memory reading = inl (omega arith, omega arith)
-text_stops text (faults.TermOversize at) reading = inr (omega arith, omega arith)
-text_stops text (faults.TermSyntax at) reading = inr (omega arith, omega arith)
-text_stops text _ reading = absurd reading
+-- the faults of reading a term
+pub text_stops : (strict : Bool) (ds : List Declared) (text : List ℕ) (fault : Fault) → IsTermRead strict ds text (Err fault) → IsStop fault
+text_stops strict ds text faults.Memory reading = inl (omega arith, omega arith)
+text_stops strict ds text (faults.TermOversize at) reading = inr (omega arith, omega arith)
+text_stops strict ds text (faults.TermSyntax at) reading = inr (omega arith, omega arith)
+text_stops strict ds text faults.TermUndeclared reading = inr (omega arith, omega arith)
+text_stops strict ds text _ reading = absurd reading
 
-pub text_apart : (text : List ℕ) (fault : Fault) → IsReading text (Err fault) → IsOfDefinitions fault → ⊥
-text_apart text faults.Memory reading of_definitions = omega arith
-text_apart text (faults.TermOversize at) reading of_definitions = omega arith
-text_apart text (faults.TermSyntax at) reading of_definitions = omega arith
-text_apart text _ reading of_definitions = absurd reading
+pub text_apart : (strict : Bool) (ds : List Declared) (text : List ℕ) (fault : Fault) → IsTermRead strict ds text (Err fault) → IsOfDefinitions fault → ⊥
+text_apart strict ds text faults.Memory reading of_definitions = omega arith
+text_apart strict ds text (faults.TermOversize at) reading of_definitions = omega arith
+text_apart strict ds text (faults.TermSyntax at) reading of_definitions = omega arith
+text_apart strict ds text faults.TermUndeclared reading of_definitions = omega arith
+text_apart strict ds text _ reading of_definitions = absurd reading
 
-pub text_no_read : (text : List ℕ) (fault : Fault) → IsReading text (Err fault) → is_read fault ≡ false
-text_no_read text faults.Read reading = absurd reading
-text_no_read text _ reading = refl
+pub text_no_read : (strict : Bool) (ds : List Declared) (text : List ℕ) (fault : Fault) → IsTermRead strict ds text (Err fault) → is_read fault ≡ false
+text_no_read strict ds text faults.Read reading = absurd reading
+text_no_read strict ds text _ reading = refl
 
 -- those of reading the bytes of a device
 pub reading_stops : (fault : Fault) → IsReadingFault fault → IsStop fault
@@ -51,17 +54,17 @@ pub reading_apart : (fault : Fault) → IsReadingFault fault → IsOfDefinitions
 reading_apart fault reading of_definitions = omega arith
 
 -- those of making a program of definitions
-pub program_stops : (defs : List ℕ) (fault : Fault) → IsProgram defs (Err fault) → IsStop fault
-program_stops defs faults.Memory made = inl (omega arith, omega arith)
-program_stops defs (faults.Lexical at) made = inr (omega arith, omega arith)
-program_stops defs (faults.ReservedWord at) made = inr (omega arith, omega arith)
-program_stops defs (faults.Syntax at) made = inr (omega arith, omega arith)
-program_stops defs (faults.Nesting at) made = inr (omega arith, omega arith)
-program_stops defs fault made = inr (check_fault_refuses fault made)
+pub program_stops : (main : Bytes) (defs : List ℕ) (fault : Fault) → IsProgram main defs (Err fault) → IsStop fault
+program_stops main defs faults.Memory made = inl (omega arith, omega arith)
+program_stops main defs (faults.Lexical at) made = inr (omega arith, omega arith)
+program_stops main defs (faults.ReservedWord at) made = inr (omega arith, omega arith)
+program_stops main defs (faults.Syntax at) made = inr (omega arith, omega arith)
+program_stops main defs (faults.Nesting at) made = inr (omega arith, omega arith)
+program_stops main defs fault made = inr (check_fault_refuses fault made)
 
-pub program_no_read : (defs : List ℕ) (fault : Fault) → IsProgram defs (Err fault) → is_read fault ≡ false
-program_no_read defs faults.Read made = absurd (no_check_fault faults.Read made (λ numbered. omega arith))
-program_no_read defs _ made = refl
+pub program_no_read : (main : Bytes) (defs : List ℕ) (fault : Fault) → IsProgram main defs (Err fault) → is_read fault ≡ false
+program_no_read main defs faults.Read made = absurd (no_check_fault faults.Read made (λ numbered. omega arith))
+program_no_read main defs _ made = refl
 
 -- those of texts that are too long
 pub long_definitions_stop : IsStop faults.DefsTooLong

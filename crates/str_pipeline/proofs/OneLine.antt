@@ -1,24 +1,26 @@
--- Definitions, the text of a term and a budget have at most one line and one status.
-use Rattle.std.proofs.Common.{◌≡◌, ℕ, ◌<◌, ◌≤◌, List, length, refl, sym, ◌∙◌, ap, subst, arith, inl, inr, Ok, Err, Option, Some, None, IfSome, true, false, ◌++◌, codes}
+-- Definitions, the text of a term and options have at most one line and one status.
+use Rattle.std.proofs.Common.{◌≡◌, ℕ, ◌<◌, ◌≤◌, Bool, List, length, refl, sym, ◌∙◌, ap, subst, arith, inl, inr, Ok, Err, Option, Some, None, IfSome, true, false, ◌++◌, codes}
 use Rattle.term_model.specs.declared.fault.Fault.{Fault}
-use Rattle.term_model.specs.declared.fault.Fault.TheVariants.{DefsTooLong, Lexical, ReservedWord, Syntax, Nesting, TermTooLong, TermOversize, TermSyntax}
+use Rattle.term_model.specs.declared.fault.Fault.TheVariants.{DefsTooLong, Lexical, ReservedWord, Syntax, Nesting, TermTooLong, TermOversize, TermSyntax, TermUndeclared}
 use Rattle.term_model.specs.Fault.{number_of, word_of}
 use Rattle.term_model.specs.Flat.{Meaning}
 use Rattle.term_model.specs.Term.{Tree}
 use Rattle.aterm_text.specs.ReadTerm.{IsReading}
 use Rattle.core_lang.specs.Ending.{Ending}
 use Rattle.core_lang.proofs.Unique.{unique}
+use Rattle.str_pipeline.specs.declared.status.Options.{Options}
 use Rattle.str_pipeline.specs.declared.status.Status.{Status}
 use Rattle.str_pipeline.specs.declared.status.Status.TheVariants.{Rewritten, Failed, Oversize, Spent, Refused}
 use Rattle.str_lexer.specs.declared.token.Token.{Token}
 use Rattle.str_lexer.specs.Lexes.{OnlyTokens, HoldsLeftOut, holds_left_out}
-use Rattle.str_syntax.specs.Trees.{FileTree}
+use Rattle.str_syntax.specs.Trees.{Bytes, FileTree}
+use Rattle.signature_core.specs.Signature.{declarations_of}
+use Rattle.signature_core.specs.DeclaredTerm.{term_is_declared}
 use Rattle.str_parser.specs.Lexemes.{lexemes}
 use Rattle.str_parser.specs.Phrases.{IsPhrase, TooNested}
 use Rattle.scope_check.specs.Complaint.{first_fault}
-use Rattle.str_pipeline.specs.Main.{main_bytes}
 use Rattle.str_pipeline.specs.Limits.{max_definitions, max_term}
-use Rattle.str_pipeline.specs.Judged.{HasNoTokens, AreTokens, AreTooNested, HasNoPhrase, IsFile, FailsChecks, PassesChecks, AreRefused, AreAccepted, IsRefused, IsAccepted}
+use Rattle.str_pipeline.specs.Judged.{HasNoTokens, AreTokens, AreTooNested, HasNoPhrase, IsFile, FailsChecks, PassesChecks, AreRefused, AreAccepted, IsTerm, IsUndeclared, IsRefused, IsAccepted}
 use Rattle.str_pipeline.specs.Written.{Rewrites, IsAnswer, AreAlike, IsFirstFault, IsWritten, line_of, refusal_line}
 
 -- ---- refusals of definitions
@@ -64,40 +66,40 @@ same_file : {bytes : List ℕ} {f g : FileTree} → IsFile bytes f → IsFile by
 same_file {f = f} file other = other.only_phrase.only_one f (phrase_again f file.are_tokens other.are_tokens file.only_phrase.phrase)
 
 -- which has one first fault
-same_first : {bytes : List ℕ} {f g : Fault} → FailsChecks bytes f → FailsChecks bytes g → f ≡ g
-same_first bad wrong = some_is_one (sym bad.fails ∙ (ap (λ file. first_fault file main_bytes) (same_file bad.is_file wrong.is_file) ∙ wrong.fails))
+same_first : {main : Bytes} {bytes : List ℕ} {f g : Fault} → FailsChecks main bytes f → FailsChecks main bytes g → f ≡ g
+same_first {main = main} bad wrong = some_is_one (sym bad.fails ∙ (ap (λ file. first_fault file main) (same_file bad.is_file wrong.is_file) ∙ wrong.fails))
 
 -- or none
-no_fault : {bytes : List ℕ} {f : FileTree} {fault : Fault} → FailsChecks bytes fault → PassesChecks bytes f → ⊥
-no_fault bad good = some_is_no_none (sym bad.fails ∙ (ap (λ file. first_fault file main_bytes) (same_file bad.is_file good.is_file) ∙ good.passes))
+no_fault : {main : Bytes} {bytes : List ℕ} {f : FileTree} {fault : Fault} → FailsChecks main bytes fault → PassesChecks main bytes f → ⊥
+no_fault {main = main} bad good = some_is_no_none (sym bad.fails ∙ (ap (λ file. first_fault file main) (same_file bad.is_file good.is_file) ∙ good.passes))
 
 -- ---- causes
 
 -- the causes, without the place
-data Cause (defs : List ℕ) : Fault → Type 0 where
-  too_long : max_definitions < length defs → Cause defs DefsTooLong
-  no_tokens : {at : ℕ} → length defs ≤ max_definitions → HasNoTokens defs → Cause defs (Lexical at)
-  left_out : {at : ℕ} → length defs ≤ max_definitions → HoldsLeftOut defs → Cause defs (ReservedWord at)
-  too_nested : {at : ℕ} → length defs ≤ max_definitions → AreTooNested defs → Cause defs (Nesting at)
-  no_phrase : {at : ℕ} → length defs ≤ max_definitions → HasNoPhrase defs → Cause defs (Syntax at)
-  fails : {fault : Fault} → length defs ≤ max_definitions → FailsChecks defs fault → Cause defs fault
+data Cause (main : Bytes) (defs : List ℕ) : Fault → Type 0 where
+  too_long : max_definitions < length defs → Cause main defs DefsTooLong
+  no_tokens : {at : ℕ} → length defs ≤ max_definitions → HasNoTokens defs → Cause main defs (Lexical at)
+  left_out : {at : ℕ} → length defs ≤ max_definitions → HoldsLeftOut defs → Cause main defs (ReservedWord at)
+  too_nested : {at : ℕ} → length defs ≤ max_definitions → AreTooNested defs → Cause main defs (Nesting at)
+  no_phrase : {at : ℕ} → length defs ≤ max_definitions → HasNoPhrase defs → Cause main defs (Syntax at)
+  fails : {fault : Fault} → length defs ≤ max_definitions → FailsChecks main defs fault → Cause main defs fault
 
 -- one fault, but for the place
 abbrev AreOne : Fault → Fault → Type 0
 AreOne f g = (word_of f ≡ word_of g) × (number_of f ≡ number_of g)
 
-cause_of : (defs : List ℕ) (fault : Fault) → AreRefused defs fault → Cause defs fault
-cause_of defs DefsTooLong long = too_long long
-cause_of defs (Lexical at) (short, none) = no_tokens short none
-cause_of defs (ReservedWord at) (short, held) = left_out short held
-cause_of defs (Nesting at) (short, deep) = too_nested short deep
-cause_of defs (Syntax at) (short, none) = no_phrase short none
-cause_of defs _ (short, bad) = fails short bad
+cause_of : (main : Bytes) (defs : List ℕ) (fault : Fault) → AreRefused main defs fault → Cause main defs fault
+cause_of main defs DefsTooLong long = too_long long
+cause_of main defs (Lexical at) (short, none) = no_tokens short none
+cause_of main defs (ReservedWord at) (short, held) = left_out short held
+cause_of main defs (Nesting at) (short, deep) = too_nested short deep
+cause_of main defs (Syntax at) (short, none) = no_phrase short none
+cause_of main defs _ (short, bad) = fails short bad
 
-same_check : {defs : List ℕ} {f g : Fault} → FailsChecks defs f → FailsChecks defs g → AreOne f g
+same_check : {main : Bytes} {defs : List ℕ} {f g : Fault} → FailsChecks main defs f → FailsChecks main defs g → AreOne f g
 same_check bad wrong = (ap word_of (same_first bad wrong), ap number_of (same_first bad wrong))
 
-same_cause : {defs : List ℕ} {f g : Fault} → Cause defs f → Cause defs g → AreOne f g
+same_cause : {main : Bytes} {defs : List ℕ} {f g : Fault} → Cause main defs f → Cause main defs g → AreOne f g
 same_cause (too_long long) (too_long also) = (refl, refl)
 same_cause (no_tokens short none) (no_tokens also nothing) = (refl, refl)
 same_cause (left_out short held) (left_out also holds) = (refl, refl)
@@ -136,7 +138,7 @@ same_cause (too_nested short deep) (no_phrase also some) = absurd (not_nested so
 same_cause (no_phrase also some) (too_nested short deep) = absurd (not_nested some.are_tokens some.not_nested deep)
 
 -- definitions that are refused are not those of a file
-no_file : {defs : List ℕ} {fault : Fault} {f : FileTree} → Cause defs fault → AreAccepted defs f → ⊥
+no_file : {main : Bytes} {defs : List ℕ} {fault : Fault} {f : FileTree} → Cause main defs fault → AreAccepted main defs f → ⊥
 no_file (too_long long) (short, good) = omega arith
 no_file (no_tokens short none) (also, good) = no_tokens_of_file good.is_file none
 no_file (left_out short held) (also, good) = none_held good.is_file.are_tokens held
@@ -145,70 +147,102 @@ no_file (no_phrase short none) (also, good) = a_phrase good.is_file none
 no_file (fails short bad) (also, good) = no_fault bad good
 
 -- nor is what a reader told, where these bytes are all of it
-pub none_refused : (told : Option (List ℕ)) (defs : List ℕ) (f : FileTree) (Y : Type 0) → IfSome told (λ d. defs ≡ d) → AreAccepted defs f →
-    IfSome told (λ d. (fault : Fault) → AreRefused d fault → Y)
-none_refused None defs f Y same accepted = tt
-none_refused (Some d) defs f Y same accepted = λ fault refused. absurd (no_file (cause_of defs fault (rw same refused)) accepted)
+pub none_refused : (main : Bytes) (told : Option (List ℕ)) (defs : List ℕ) (f : FileTree) (Y : Type 0) → IfSome told (λ d. defs ≡ d) →
+    AreAccepted main defs f → IfSome told (λ d. (fault : Fault) → AreRefused main d fault → Y)
+none_refused main None defs f Y same accepted = tt
+none_refused main (Some d) defs f Y same accepted = λ fault refused. absurd (no_file (cause_of main defs fault (rw same refused)) accepted)
 
 -- they are those of one file
-one_file : {defs : List ℕ} {f g : FileTree} → AreAccepted defs f → AreAccepted defs g → f ≡ g
+one_file : {main : Bytes} {defs : List ℕ} {f g : FileTree} → AreAccepted main defs f → AreAccepted main defs g → f ≡ g
 one_file (short, good) (also, other) = same_file good.is_file other.is_file
 
 -- ---- refusals of terms
 
-data TermCause (text : List ℕ) : Fault → Type 0 where
-  long_term : max_term < length text → TermCause text TermTooLong
-  large_term : {at : ℕ} → length text ≤ max_term → IsReading text (Err (TermOversize at)) → TermCause text (TermOversize at)
-  no_term : {at : ℕ} → length text ≤ max_term → IsReading text (Err (TermSyntax at)) → TermCause text (TermSyntax at)
+data TermCause (strict : Bool) (f : FileTree) (text : List ℕ) : Fault → Type 0 where
+  long_term : max_term < length text → TermCause strict f text TermTooLong
+  large_term : {at : ℕ} → length text ≤ max_term → IsReading text (Err (TermOversize at)) → TermCause strict f text (TermOversize at)
+  no_term : {at : ℕ} → length text ≤ max_term → IsReading text (Err (TermSyntax at)) → TermCause strict f text (TermSyntax at)
+  undeclared_term : strict ≡ true → IsUndeclared f text → TermCause strict f text TermUndeclared
 
-term_cause_of : (text : List ℕ) (fault : Fault) → IsRefused text fault → TermCause text fault
-term_cause_of text TermTooLong long = long_term long
-term_cause_of text (TermOversize at) (short, reading) = large_term short reading
-term_cause_of text (TermSyntax at) (short, reading) = no_term short reading
-term_cause_of text _ refused = absurd refused
+term_cause_of : (strict : Bool) (f : FileTree) (text : List ℕ) (fault : Fault) → IsRefused strict f text fault → TermCause strict f text fault
+term_cause_of strict f text TermTooLong long = long_term long
+term_cause_of strict f text (TermOversize at) (short, reading) = large_term short reading
+term_cause_of strict f text (TermSyntax at) (short, reading) = no_term short reading
+term_cause_of strict f text TermUndeclared (on, undeclared) = undeclared_term on undeclared
+term_cause_of strict f text _ refused = absurd refused
 
 -- a text that is too large is not one that spells no term
 large_or_none : {text : List ℕ} (at place : ℕ) → IsReading text (Err (TermOversize at)) → IsReading text (Err (TermSyntax place)) → ⊥
 large_or_none at place (inl deep) (flat, none) = flat deep
 large_or_none at place (inr (t, spelled, large)) (flat, none) = none t spelled
 
-same_term_cause : {text : List ℕ} {f g : Fault} → TermCause text f → TermCause text g → AreOne f g
+-- nor one that spells a term that fits
+large_or_term : {text : List ℕ} (at : ℕ) {t : Tree} → IsReading text (Err (TermOversize at)) → IsTerm text t → ⊥
+large_or_term at (inl deep) (short, spelled) = spelled.not_deep deep
+large_or_term at {t = t} (inr (u, spells, large)) (short, spelled) =
+    let same : u ≡ t = spelled.only u spells in large (rw same spelled.fits)
+
+-- nor does a text that spells no term spell one
+none_or_term : {text : List ℕ} (at : ℕ) {t : Tree} → IsReading text (Err (TermSyntax at)) → IsTerm text t → ⊥
+none_or_term at {t = t} (flat, none) (short, spelled) = none t spelled.spells
+
+same_term_cause : {strict : Bool} {file : FileTree} {text : List ℕ} {f g : Fault} → TermCause strict file text f → TermCause strict file text g → AreOne f g
 same_term_cause (long_term long) (long_term also) = (refl, refl)
 same_term_cause (large_term short r) (large_term also q) = (refl, refl)
 same_term_cause (no_term short r) (no_term also q) = (refl, refl)
+same_term_cause (undeclared_term on u) (undeclared_term also v) = (refl, refl)
 same_term_cause (long_term long) (large_term short r) = absurd (omega arith)
 same_term_cause (long_term long) (no_term short r) = absurd (omega arith)
+same_term_cause (long_term long) (undeclared_term on u) = let short = u.is_term.0 in absurd (omega arith)
 same_term_cause (large_term short r) (long_term long) = absurd (omega arith)
 same_term_cause (no_term short r) (long_term long) = absurd (omega arith)
+same_term_cause (undeclared_term on u) (long_term long) = let short = u.is_term.0 in absurd (omega arith)
 same_term_cause (large_term {at = at} short r) (no_term {at = place} also q) = absurd (large_or_none at place r q)
 same_term_cause (no_term {at = place} also q) (large_term {at = at} short r) = absurd (large_or_none at place r q)
+same_term_cause (large_term {at = at} short r) (undeclared_term on u) = absurd (large_or_term at r u.is_term)
+same_term_cause (undeclared_term on u) (large_term {at = at} short r) = absurd (large_or_term at r u.is_term)
+same_term_cause (no_term {at = at} short r) (undeclared_term on u) = absurd (none_or_term at r u.is_term)
+same_term_cause (undeclared_term on u) (no_term {at = at} short r) = absurd (none_or_term at r u.is_term)
 
-large_or_term : {text : List ℕ} (at : ℕ) {t : Tree} → IsReading text (Err (TermOversize at)) → IsReading text (Ok t) → ⊥
-large_or_term at (inl deep) spelled = spelled.not_deep deep
-large_or_term at {t = t} (inr (u, spells, large)) spelled =
-    let same : u ≡ t = spelled.only u spells in large (rw same spelled.fits)
+-- a text is that of one term
+one_tree : {text : List ℕ} {t u : Tree} → IsTerm text t → IsTerm text u → t ≡ u
+one_tree {t = t} (short, spelled) (also, other) = other.only t spelled.spells
 
-no_accepted_term : {text : List ℕ} {fault : Fault} {t : Tree} → TermCause text fault → IsAccepted text t → ⊥
-no_accepted_term (long_term long) (short, spelled) = omega arith
-no_accepted_term (large_term {at = at} short r) (also, spelled) = large_or_term at r spelled
-no_accepted_term {t = t} (no_term short r) (also, spelled) = r.1 t spelled.spells
+no_accepted_term : {strict : Bool} {f : FileTree} {text : List ℕ} {fault : Fault} {t : Tree} → TermCause strict f text fault → IsAccepted strict f text t → ⊥
+no_accepted_term (long_term long) ((short, spelled), declared) = omega arith
+no_accepted_term (large_term {at = at} short r) (is_term, declared) = large_or_term at r is_term
+no_accepted_term (no_term {at = at} short r) (is_term, declared) = none_or_term at r is_term
+no_accepted_term {f = f} {t = t} (undeclared_term on u) (is_term, declared) =
+    let known : term_is_declared (declarations_of f) t ≡ true = declared on in
+    let missing : term_is_declared (declarations_of f) t ≡ false =
+    subst (λ (v : Tree). term_is_declared (declarations_of f) v ≡ false) (one_tree u.is_term is_term) u.undeclared in
+    let wrong : false ≡ true = sym missing ∙ known in cc
 
-one_term : {text : List ℕ} {t u : Tree} → IsAccepted text t → IsAccepted text u → t ≡ u
-one_term {t = t} (short, spelled) (also, other) = other.only t spelled.spells
+one_term : {strict : Bool} {f g : FileTree} {text : List ℕ} {t u : Tree} → IsAccepted strict f text t → IsAccepted strict g text u → t ≡ u
+one_term (is_term, declared) (also, known) = one_tree is_term also
 
 -- ---- the line
 
+-- what is said of a file holds of another one of the same definitions
+in_file : {main : Bytes} {defs : List ℕ} (f g : FileTree) (X : FileTree → Type 0) → AreAccepted main defs f → AreAccepted main defs g → X f → X g
+in_file f g X accepted also known = subst X (one_file accepted also) known
+
 -- the first fault
-one_fault : (defs term : List ℕ) (f g : Fault) → IsFirstFault defs term f → IsFirstFault defs term g → AreOne f g
-one_fault defs term f g (inl x) (inl y) = same_cause (cause_of _ f x) (cause_of _ g y)
-one_fault defs term f g (inl x) (inr (file, accepted, y)) = absurd (no_file (cause_of _ f x) accepted)
-one_fault defs term f g (inr (file, accepted, x)) (inl y) = absurd (no_file (cause_of _ g y) accepted)
-one_fault defs term f g (inr (file, accepted, x)) (inr (other, also, y)) = same_term_cause (term_cause_of _ f x) (term_cause_of _ g y)
+one_fault : (defs term : List ℕ) (options : Options) (f g : Fault) → IsFirstFault defs term options f → IsFirstFault defs term options g → AreOne f g
+one_fault defs term options f g (inl x) (inl y) = same_cause (cause_of _ _ f x) (cause_of _ _ g y)
+one_fault defs term options f g (inl x) (inr (file, accepted, y)) = absurd (no_file (cause_of _ _ f x) accepted)
+one_fault defs term options f g (inr (file, accepted, x)) (inl y) = absurd (no_file (cause_of _ _ g y) accepted)
+one_fault defs term options f g (inr (file, accepted, x)) (inr (other, also, y)) =
+    let here = in_file other file (λ h. IsRefused options.strict h term g) also accepted y in
+    same_term_cause (term_cause_of options.strict file term f x) (term_cause_of options.strict file term g here)
 
 -- a refusal leaves no file and term
-no_run : (defs term : List ℕ) (fault : Fault) {f : FileTree} {t : Tree} → IsFirstFault defs term fault → AreAccepted defs f → IsAccepted term t → ⊥
-no_run defs term fault (inl x) accepted spelled = no_file (cause_of _ fault x) accepted
-no_run defs term fault (inr (file, also, x)) accepted spelled = no_accepted_term (term_cause_of _ fault x) spelled
+no_run : (defs term : List ℕ) (options : Options) (fault : Fault) {f : FileTree} {t : Tree} → IsFirstFault defs term options fault →
+    AreAccepted options.main.items defs f → IsAccepted options.strict f term t → ⊥
+no_run defs term options fault (inl x) accepted spelled = no_file (cause_of _ _ fault x) accepted
+no_run defs term options fault {f = f} (inr (file, also, x)) accepted spelled =
+    let here = in_file file f (λ h. IsRefused options.strict h term fault) also accepted x in
+    no_accepted_term (term_cause_of options.strict f term fault here) spelled
 
 -- a status of a run
 data IsRun : Status → Type 0 where
@@ -218,59 +252,59 @@ data IsRun : Status → Type 0 where
   spending : IsRun Spent
 
 -- ended within the budget, and no derivation within it
-ended_or_spent : {M : Meaning} (f : FileTree) {t : Tree} {budget n : ℕ} {o : Ending Tree} →
-    Rewrites M f t o n → n ≤ budget → ((p : Ending Tree) (m : ℕ) → Rewrites M f t p m → budget < m) → ⊥
-ended_or_spent f {n = n} {o = o} derived within none = let more : _ < n = none o n derived in omega arith
+ended_or_spent : {M : Meaning} (f : FileTree) (main : Bytes) {t : Tree} {budget n : ℕ} {o : Ending Tree} →
+    Rewrites M f main t o n → n ≤ budget → ((p : Ending Tree) (m : ℕ) → Rewrites M f main t p m → budget < m) → ⊥
+ended_or_spent f main {n = n} {o = o} derived within none = let more : _ < n = none o n derived in omega arith
 
 -- the statuses and the lines of one file and one term
-one_answer : (M : Meaning) (f : FileTree) (t : Tree) (budget : ℕ) (s r : Status) (line other : List ℕ) →
-    IsRun s → IsRun r → IsAnswer M f t budget s line → IsAnswer M f t budget r other → AreAlike s r × (line ≡ other)
-one_answer M f t budget _ _ line other rewritten rewritten (u, e, n, x, within, is) (v, g, m, y, also, be) =
+one_answer : (M : Meaning) (f : FileTree) (main : Bytes) (t : Tree) (budget : ℕ) (s r : Status) (line other : List ℕ) →
+    IsRun s → IsRun r → IsAnswer M f main t budget s line → IsAnswer M f main t budget r other → AreAlike s r × (line ≡ other)
+one_answer M f main t budget _ _ line other rewritten rewritten (u, e, n, x, within, is) (v, g, m, y, also, be) =
     let same = (unique x y).outcome in (refl, cc)
-one_answer M f t budget _ _ line other rewritten failing (u, e, n, x, within, is) (m, y, also, be) = let same = (unique x y).outcome in (cc, cc)
-one_answer M f t budget _ _ line other rewritten too_large (u, e, n, x, within, is) (m, y, also, be) = let same = (unique x y).outcome in (cc, cc)
-one_answer M f t budget _ _ line other rewritten spending (u, e, n, x, within, is) (none, be) = absurd (ended_or_spent f x within none)
-one_answer M f t budget _ _ line other failing rewritten (n, x, within, is) (v, g, m, y, also, be) = let same = (unique x y).outcome in (cc, cc)
-one_answer M f t budget _ _ line other failing failing (n, x, within, is) (m, y, also, be) = (refl, cc)
-one_answer M f t budget _ _ line other failing too_large (n, x, within, is) (m, y, also, be) = let same = (unique x y).outcome in (cc, cc)
-one_answer M f t budget _ _ line other failing spending (n, x, within, is) (none, be) = absurd (ended_or_spent f x within none)
-one_answer M f t budget _ _ line other too_large rewritten (n, x, within, is) (v, g, m, y, also, be) = let same = (unique x y).outcome in (cc, cc)
-one_answer M f t budget _ _ line other too_large failing (n, x, within, is) (m, y, also, be) = let same = (unique x y).outcome in (cc, cc)
-one_answer M f t budget _ _ line other too_large too_large (n, x, within, is) (m, y, also, be) = (refl, cc)
-one_answer M f t budget _ _ line other too_large spending (n, x, within, is) (none, be) = absurd (ended_or_spent f x within none)
-one_answer M f t budget _ _ line other spending rewritten (none, is) (v, g, m, y, also, be) = absurd (ended_or_spent f y also none)
-one_answer M f t budget _ _ line other spending failing (none, is) (m, y, also, be) = absurd (ended_or_spent f y also none)
-one_answer M f t budget _ _ line other spending too_large (none, is) (m, y, also, be) = absurd (ended_or_spent f y also none)
-one_answer M f t budget _ _ line other spending spending (none, is) (nothing, be) = (refl, cc)
+one_answer M f main t budget _ _ line other rewritten failing (u, e, n, x, within, is) (m, y, also, be) = let same = (unique x y).outcome in (cc, cc)
+one_answer M f main t budget _ _ line other rewritten too_large (u, e, n, x, within, is) (m, y, also, be) = let same = (unique x y).outcome in (cc, cc)
+one_answer M f main t budget _ _ line other rewritten spending (u, e, n, x, within, is) (none, be) = absurd (ended_or_spent f main x within none)
+one_answer M f main t budget _ _ line other failing rewritten (n, x, within, is) (v, g, m, y, also, be) = let same = (unique x y).outcome in (cc, cc)
+one_answer M f main t budget _ _ line other failing failing (n, x, within, is) (m, y, also, be) = (refl, cc)
+one_answer M f main t budget _ _ line other failing too_large (n, x, within, is) (m, y, also, be) = let same = (unique x y).outcome in (cc, cc)
+one_answer M f main t budget _ _ line other failing spending (n, x, within, is) (none, be) = absurd (ended_or_spent f main x within none)
+one_answer M f main t budget _ _ line other too_large rewritten (n, x, within, is) (v, g, m, y, also, be) = let same = (unique x y).outcome in (cc, cc)
+one_answer M f main t budget _ _ line other too_large failing (n, x, within, is) (m, y, also, be) = let same = (unique x y).outcome in (cc, cc)
+one_answer M f main t budget _ _ line other too_large too_large (n, x, within, is) (m, y, also, be) = (refl, cc)
+one_answer M f main t budget _ _ line other too_large spending (n, x, within, is) (none, be) = absurd (ended_or_spent f main x within none)
+one_answer M f main t budget _ _ line other spending rewritten (none, is) (v, g, m, y, also, be) = absurd (ended_or_spent f main y also none)
+one_answer M f main t budget _ _ line other spending failing (none, is) (m, y, also, be) = absurd (ended_or_spent f main y also none)
+one_answer M f main t budget _ _ line other spending too_large (none, is) (m, y, also, be) = absurd (ended_or_spent f main y also none)
+one_answer M f main t budget _ _ line other spending spending (none, is) (nothing, be) = (refl, cc)
 
 -- the status and the line of a run, or of a refusal
-data Line (M : Meaning) (defs term : List ℕ) (budget : ℕ) : Status → List ℕ → Type 0 where
-  of_run : {line : List ℕ} (status : Status) → IsRun status → (f : FileTree) (t : Tree) → AreAccepted defs f → IsAccepted term t →
-      IsAnswer M f t budget status line → Line M defs term budget status line
-  of_fault : {line : List ℕ} (fault : Fault) → IsFirstFault defs term fault → line ≡ refusal_line fault → Line M defs term budget (Refused fault) line
+data Line (M : Meaning) (defs term : List ℕ) (options : Options) : Status → List ℕ → Type 0 where
+  of_run : {line : List ℕ} (status : Status) → IsRun status → (f : FileTree) (t : Tree) → AreAccepted options.main.items defs f →
+      IsAccepted options.strict f term t → IsAnswer M f options.main.items t options.budget status line → Line M defs term options status line
+  of_fault : {line : List ℕ} (fault : Fault) → IsFirstFault defs term options fault → line ≡ refusal_line fault → Line M defs term options (Refused fault) line
 
-line_of_status : (M : Meaning) (defs term : List ℕ) (budget : ℕ) (status : Status) (line : List ℕ) →
-    IsWritten M defs term budget status line → Line M defs term budget status line
-line_of_status M defs term budget (Refused fault) line (first, is) = of_fault fault first is
-line_of_status M defs term budget Rewritten line (f, t, file, spelled, answer) = of_run Rewritten rewritten f t file spelled answer
-line_of_status M defs term budget Failed line (f, t, file, spelled, answer) = of_run Failed failing f t file spelled answer
-line_of_status M defs term budget Oversize line (f, t, file, spelled, answer) = of_run Oversize too_large f t file spelled answer
-line_of_status M defs term budget Spent line (f, t, file, spelled, answer) = of_run Spent spending f t file spelled answer
+line_of_status : (M : Meaning) (defs term : List ℕ) (options : Options) (status : Status) (line : List ℕ) →
+    IsWritten M defs term options status line → Line M defs term options status line
+line_of_status M defs term options (Refused fault) line (first, is) = of_fault fault first is
+line_of_status M defs term options Rewritten line (f, t, file, spelled, answer) = of_run Rewritten rewritten f t file spelled answer
+line_of_status M defs term options Failed line (f, t, file, spelled, answer) = of_run Failed failing f t file spelled answer
+line_of_status M defs term options Oversize line (f, t, file, spelled, answer) = of_run Oversize too_large f t file spelled answer
+line_of_status M defs term options Spent line (f, t, file, spelled, answer) = of_run Spent spending f t file spelled answer
 
-one_of_lines : {M : Meaning} {defs term : List ℕ} {budget : ℕ} {s r : Status} {line other : List ℕ} → Line M defs term budget s line → Line M defs term budget r other →
-    AreAlike s r × (line ≡ other)
-one_of_lines {M = M} {budget = budget} {line = line} {other = other} (of_run s x f t file spelled answer) (of_run r y g u also spells reply) =
+one_of_lines : {M : Meaning} {defs term : List ℕ} {options : Options} {s r : Status} {line other : List ℕ} → Line M defs term options s line →
+    Line M defs term options r other → AreAlike s r × (line ≡ other)
+one_of_lines {M = M} {options = options} {line = line} {other = other} (of_run s x f t file spelled answer) (of_run r y g u also spells reply) =
     let same_file : g ≡ f = one_file also file in
     let same_term : u ≡ t = one_term spells spelled in
-    let P : FileTree → Tree → Type 0 = λ h v. IsAnswer M h v budget r other in
-    one_answer M f t budget s r line other x y answer (subst (λ v. P f v) same_term (subst (λ h. P h u) same_file reply))
-one_of_lines {defs = defs} {term = term} (of_run s x f t file spelled answer) (of_fault fault first is) = absurd (no_run defs term fault first file spelled)
-one_of_lines {defs = defs} {term = term} (of_fault fault first is) (of_run s x f t file spelled answer) = absurd (no_run defs term fault first file spelled)
-one_of_lines {defs = defs} {term = term} (of_fault f x is) (of_fault g y be) =
-    let one : AreOne f g = one_fault defs term f g x y in
+    let P : FileTree → Tree → Type 0 = λ h v. IsAnswer M h options.main.items v options.budget r other in
+    one_answer M f options.main.items t options.budget s r line other x y answer (subst (λ v. P f v) same_term (subst (λ h. P h u) same_file reply))
+one_of_lines {defs = defs} {term = term} {options = options} (of_run s x f t file spelled answer) (of_fault fault first is) = absurd (no_run defs term options fault first file spelled)
+one_of_lines {defs = defs} {term = term} {options = options} (of_fault fault first is) (of_run s x f t file spelled answer) = absurd (no_run defs term options fault first file spelled)
+one_of_lines {defs = defs} {term = term} {options = options} (of_fault f x is) (of_fault g y be) =
+    let one : AreOne f g = one_fault defs term options f g x y in
     (one.1, is ∙ (ap (λ w. line_of (codes "#refused " ++ w)) one.0 ∙ sym be))
 
--- definitions, a term's text and a budget have one status and one line
-pub one_line : (M : Meaning) (defs term : List ℕ) (budget : ℕ) (s r : Status) (line other : List ℕ) →
-    IsWritten M defs term budget s line → IsWritten M defs term budget r other → AreAlike s r × (line ≡ other)
-one_line M defs term budget s r line other x y = one_of_lines (line_of_status M defs term budget s line x) (line_of_status M defs term budget r other y)
+-- definitions, a term's text and options have one status and one line
+pub one_line : (M : Meaning) (defs term : List ℕ) (options : Options) (s r : Status) (line other : List ℕ) →
+    IsWritten M defs term options s line → IsWritten M defs term options r other → AreAlike s r × (line ≡ other)
+one_line M defs term options s r line other x y = one_of_lines (line_of_status M defs term options s line x) (line_of_status M defs term options r other y)

@@ -24,7 +24,7 @@ IsOfDefinitions fault = IsNumbered 4 16 fault
 
 -- a refusal of definitions or of the text of a term
 abbrev pub IsRefusal : Fault → Type 0
-IsRefusal fault = IsNumbered 4 19 fault
+IsRefusal fault = IsNumbered 4 20 fault
 
 -- where the status is a refusal, it is one of those
 abbrev pub HoldsRefusal : Status → Type 0

@@ -1,16 +1,17 @@
 -- Which definitions and which term texts are refused, and what the others stand for.
-use Rattle.std.specs.Prelude.{◌≡◌, ℕ, ◌<◌, ◌≤◌, false, List, length, Some, None, Ok, Err}
+use Rattle.std.specs.Prelude.{◌≡◌, ℕ, ◌<◌, ◌≤◌, Bool, true, false, List, length, Some, None, Ok, Err}
 use Rattle.term_model.specs.declared.fault.Fault.{Fault}
-use Rattle.term_model.specs.declared.fault.Fault.TheVariants.{DefsTooLong, Lexical, ReservedWord, Syntax, Nesting, TermTooLong, TermOversize, TermSyntax}
+use Rattle.term_model.specs.declared.fault.Fault.TheVariants.{DefsTooLong, Lexical, ReservedWord, Syntax, Nesting, TermTooLong, TermOversize, TermSyntax, TermUndeclared}
 use Rattle.term_model.specs.Term.{Tree}
 use Rattle.aterm_text.specs.ReadTerm.{IsReading}
 use Rattle.str_lexer.specs.declared.token.Token.{Token}
 use Rattle.str_lexer.specs.Lexes.{Lexes, OnlyTokens, HoldsLeftOut, holds_left_out}
-use Rattle.str_syntax.specs.Trees.{FileTree}
+use Rattle.str_syntax.specs.Trees.{Bytes, FileTree}
 use Rattle.str_parser.specs.Lexemes.{lexemes}
 use Rattle.str_parser.specs.Phrases.{IsPhrase, OnlyPhrase, TooNested}
+use Rattle.signature_core.specs.Signature.{declarations_of}
+use Rattle.signature_core.specs.DeclaredTerm.{term_is_declared}
 use Rattle.scope_check.specs.Complaint.{first_fault}
-use Rattle.str_pipeline.specs.Main.{main_bytes}
 use Rattle.str_pipeline.specs.Limits.{max_definitions, max_term}
 
 -- the bytes are no tokens
@@ -42,37 +43,49 @@ pub record IsFile (bytes : List ℕ) (f : FileTree) : Type 0 where
   pub not_nested : ¬ (TooNested (lexemes bytes tokens))
   pub only_phrase : OnlyPhrase (lexemes bytes tokens) f
 
--- the bytes are those of a file, and this is its first fault
-pub record FailsChecks (bytes : List ℕ) (fault : Fault) : Type 0 where
+-- the bytes are those of a file, and this is its first fault where the definition of this name is to be run
+pub record FailsChecks (main : Bytes) (bytes : List ℕ) (fault : Fault) : Type 0 where
   pub file : FileTree
   pub is_file : IsFile bytes file
-  pub fails : first_fault file main_bytes ≡ Some fault
+  pub fails : first_fault file main ≡ Some fault
 
--- the bytes are those of this file, and it has no fault
-pub record PassesChecks (bytes : List ℕ) (f : FileTree) : Type 0 where
+-- the bytes are those of this file, and it has no fault where the definition of this name is to be run
+pub record PassesChecks (main : Bytes) (bytes : List ℕ) (f : FileTree) : Type 0 where
   pub is_file : IsFile bytes f
-  pub passes : first_fault f main_bytes ≡ None
+  pub passes : first_fault f main ≡ None
 
--- the definitions are refused with this fault: for their size, their tokens, their nesting, their phrase, or what the checks of a file find
-abbrev pub AreRefused : List ℕ → Fault → Type 0
-AreRefused defs DefsTooLong = max_definitions < length defs
-AreRefused defs (Lexical at) = (length defs ≤ max_definitions) × HasNoTokens defs
-AreRefused defs (ReservedWord at) = (length defs ≤ max_definitions) × HoldsLeftOut defs
-AreRefused defs (Nesting at) = (length defs ≤ max_definitions) × AreTooNested defs
-AreRefused defs (Syntax at) = (length defs ≤ max_definitions) × HasNoPhrase defs
-AreRefused defs fault = (length defs ≤ max_definitions) × FailsChecks defs fault
+-- the definitions, of which the one of this name is to be run, are refused with this fault: for their size, their tokens, their nesting, their
+-- phrase, or what the checks of a file find
+abbrev pub AreRefused : Bytes → List ℕ → Fault → Type 0
+AreRefused main defs DefsTooLong = max_definitions < length defs
+AreRefused main defs (Lexical at) = (length defs ≤ max_definitions) × HasNoTokens defs
+AreRefused main defs (ReservedWord at) = (length defs ≤ max_definitions) × HoldsLeftOut defs
+AreRefused main defs (Nesting at) = (length defs ≤ max_definitions) × AreTooNested defs
+AreRefused main defs (Syntax at) = (length defs ≤ max_definitions) × HasNoPhrase defs
+AreRefused main defs fault = (length defs ≤ max_definitions) × FailsChecks main defs fault
 
--- the definitions are those of this file, in which nothing is wrong
-abbrev pub AreAccepted : List ℕ → FileTree → Type 0
-AreAccepted defs f = (length defs ≤ max_definitions) × PassesChecks defs f
-
--- the text of the term is refused with this fault
-abbrev pub IsRefused : List ℕ → Fault → Type 0
-IsRefused text TermTooLong = max_term < length text
-IsRefused text (TermOversize at) = (length text ≤ max_term) × IsReading text (Err (TermOversize at))
-IsRefused text (TermSyntax at) = (length text ≤ max_term) × IsReading text (Err (TermSyntax at))
-IsRefused text fault = ⊥
+-- the definitions are those of this file, in which nothing is wrong where the definition of this name is to be run
+abbrev pub AreAccepted : Bytes → List ℕ → FileTree → Type 0
+AreAccepted main defs f = (length defs ≤ max_definitions) × PassesChecks main defs f
 
 -- the text is that of this term
-abbrev pub IsAccepted : List ℕ → Tree → Type 0
-IsAccepted text t = (length text ≤ max_term) × IsReading text (Ok t)
+abbrev pub IsTerm : List ℕ → Tree → Type 0
+IsTerm text t = (length text ≤ max_term) × IsReading text (Ok t)
+
+-- the text is that of a term with an application that the file does not declare
+pub record IsUndeclared (f : FileTree) (text : List ℕ) : Type 0 where
+  pub tree : Tree
+  pub is_term : IsTerm text tree
+  pub undeclared : term_is_declared (declarations_of f) tree ≡ false
+
+-- the text of the term is refused with this fault; undeclared applications are refused in strict mode alone
+abbrev pub IsRefused : Bool → FileTree → List ℕ → Fault → Type 0
+IsRefused strict f text TermTooLong = max_term < length text
+IsRefused strict f text (TermOversize at) = (length text ≤ max_term) × IsReading text (Err (TermOversize at))
+IsRefused strict f text (TermSyntax at) = (length text ≤ max_term) × IsReading text (Err (TermSyntax at))
+IsRefused strict f text TermUndeclared = (strict ≡ true) × IsUndeclared f text
+IsRefused strict f text fault = ⊥
+
+-- the text is that of this term, and in strict mode the file declares each application in it
+abbrev pub IsAccepted : Bool → FileTree → List ℕ → Tree → Type 0
+IsAccepted strict f text t = IsTerm text t × (strict ≡ true → term_is_declared (declarations_of f) t ≡ true)

@@ -4,7 +4,6 @@ pub mod Faults
 pub mod Joined
 pub mod Judged
 pub mod Limits
-pub mod Main
 pub mod Search
 pub mod Steps
 pub mod Written

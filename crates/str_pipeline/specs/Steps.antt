@@ -1,21 +1,26 @@
 -- What the steps of a transformation return.
-use Rattle.std.specs.Prelude.{◌⊎◌, ℕ, List, codes, Result, Ok, Err}
+use Rattle.std.specs.Prelude.{◌≡◌, ◌⊎◌, ℕ, Bool, true, false, List, codes, Result, Ok, Err}
 use Rattle.term_model.specs.declared.fault.Fault.{Fault}
-use Rattle.term_model.specs.declared.fault.Fault.TheVariants.{Memory, Read, Lexical, ReservedWord, Syntax, Nesting}
+use Rattle.term_model.specs.declared.fault.Fault.TheVariants.{Memory, Read, Lexical, ReservedWord, Syntax, Nesting, TermUndeclared}
 use Rattle.term_model.specs.Term.{Tree}
 use Rattle.term_model.specs.Flat.{Meaning}
 use Rattle.aterm_text.specs.Text.{text}
-use Rattle.core_lang.specs.Core.{CoreParts, program_of}
+use Rattle.aterm_text.specs.ReadTerm.{IsReading}
+use Rattle.core_lang.specs.Core.{program_of}
+use Rattle.core_lang.specs.Named.{written}
 use Rattle.core_lang.specs.Resolution.{ResolvesProgram}
 use Rattle.core_lang.specs.declared.run.Outcome.{Outcome}
 use Rattle.core_lang.specs.declared.run.Outcome.TheVariants as outcomes
 use Rattle.str_lexer.specs.Lexes.{HoldsLeftOut}
-use Rattle.str_syntax.specs.Trees.{FileTree}
+use Rattle.str_syntax.specs.Trees.{Bytes, FileTree}
+use Rattle.signature_core.specs.Signature.{Declared, declarations_of}
+use Rattle.signature_core.specs.DeclaredTerm.{term_is_declared}
 use Rattle.str_desugar.specs.FileProgram.{program_of_file}
-use Rattle.str_pipeline.specs.Main.{main_name}
 use Rattle.str_pipeline.specs.Judged.{HasNoTokens, AreTooNested, HasNoPhrase, FailsChecks, PassesChecks}
 use Rattle.str_pipeline.specs.Faults.{IsReadingFault, IsRefusal}
 use Rattle.str_pipeline.specs.Written.{line_of, IsFirstFault, IsWritten}
+use Rattle.str_pipeline.specs.declared.program.Program.{Program}
+use Rattle.str_pipeline.specs.declared.status.Options.{Options}
 use Rattle.str_pipeline.specs.declared.status.Status.{Status}
 use Rattle.str_pipeline.specs.declared.status.Status.TheVariants.{Rewritten, Failed, Oversize, Spent}
 
@@ -23,15 +28,27 @@ use Rattle.str_pipeline.specs.declared.status.Status.TheVariants.{Rewritten, Fai
 abbrev pub IsStop : Fault → Type 0
 IsStop fault = IsReadingFault fault ⊎ IsRefusal fault
 
--- the program that is made of definitions: a core that the program of the file is resolved to
-abbrev pub IsProgram : List ℕ → Result CoreParts Fault → Type 0
-IsProgram defs (Ok core) = (f : FileTree) × PassesChecks defs f × ResolvesProgram (program_of_file f) main_name (program_of core) core.main
-IsProgram defs (Err Memory) = Unit {0}
-IsProgram defs (Err (Lexical at)) = HasNoTokens defs
-IsProgram defs (Err (ReservedWord at)) = HoldsLeftOut defs
-IsProgram defs (Err (Nesting at)) = AreTooNested defs
-IsProgram defs (Err (Syntax at)) = HasNoPhrase defs
-IsProgram defs (Err fault) = FailsChecks defs fault
+-- the declarations are those of the file, and the core is one that the program of the file is resolved to, with the definition of this name as
+-- the one that is run
+pub record IsProgramOf (main : Bytes) (f : FileTree) (program : Program) : Type 0 where
+  pub declared : program.checked.declarations ≡ declarations_of f
+  pub resolved : ResolvesProgram (program_of_file f) (written main) (program_of program.core) program.core.main
+
+-- what making the program of definitions returns
+abbrev pub IsProgram : Bytes → List ℕ → Result Program Fault → Type 0
+IsProgram main defs (Ok program) = (f : FileTree) × PassesChecks main defs f × IsProgramOf main f program
+IsProgram main defs (Err Memory) = Unit {0}
+IsProgram main defs (Err (Lexical at)) = HasNoTokens defs
+IsProgram main defs (Err (ReservedWord at)) = HoldsLeftOut defs
+IsProgram main defs (Err (Nesting at)) = AreTooNested defs
+IsProgram main defs (Err (Syntax at)) = HasNoPhrase defs
+IsProgram main defs (Err fault) = FailsChecks main defs fault
+
+-- what reading a term returns: in strict mode, one whose applications are among these declarations
+abbrev pub IsTermRead : Bool → List Declared → List ℕ → Result Tree Fault → Type 0
+IsTermRead strict ds text (Ok t) = IsReading text (Ok t) × (strict ≡ true → term_is_declared ds t ≡ true)
+IsTermRead strict ds text (Err TermUndeclared) = (strict ≡ true) × ((t : Tree) × IsReading text (Ok t) × (term_is_declared ds t ≡ false))
+IsTermRead strict ds text (Err fault) = IsReading text (Err fault)
 
 abbrev pub status_of : Outcome Tree → Status
 status_of (outcomes.Rewritten u) = Rewritten
@@ -46,8 +63,8 @@ outcome_line outcomes.Oversize = line_of (codes "#oversize")
 outcome_line outcomes.Spent = line_of (codes "#spent")
 
 -- what is known of the definitions and the term by the outcome of a run, or by the fault in place of one
-abbrev pub IsResult : List ℕ → List ℕ → ℕ → Result (Outcome Tree) Fault → Type 0
-IsResult defs term budget (Ok outcome) = (M : Meaning) → IsWritten M defs term budget (status_of outcome) (outcome_line outcome)
-IsResult defs term budget (Err Memory) = Unit {0}
-IsResult defs term budget (Err Read) = Unit {0}
-IsResult defs term budget (Err fault) = IsFirstFault defs term fault
+abbrev pub IsResult : List ℕ → List ℕ → Options → Result (Outcome Tree) Fault → Type 0
+IsResult defs term options (Ok outcome) = (M : Meaning) → IsWritten M defs term options (status_of outcome) (outcome_line outcome)
+IsResult defs term options (Err Memory) = Unit {0}
+IsResult defs term options (Err Read) = Unit {0}
+IsResult defs term options (Err fault) = IsFirstFault defs term options fault

@@ -8,11 +8,12 @@ use Rattle.aterm_text.specs.Text.{text}
 use Rattle.core_lang.specs.Environment.{Bindings}
 use Rattle.core_lang.specs.Ending.{Ending, ok, failed, oversize}
 use Rattle.core_lang.specs.Named as named
-use Rattle.str_syntax.specs.Trees.{FileTree}
+use Rattle.core_lang.specs.Named.{written}
+use Rattle.str_syntax.specs.Trees.{Bytes, FileTree}
 use Rattle.str_desugar.specs.FileProgram.{program_of_file}
-use Rattle.str_pipeline.specs.Main.{main_name}
 use Rattle.str_pipeline.specs.Judged.{AreRefused, AreAccepted, IsRefused, IsAccepted}
 use Rattle.str_pipeline.specs.Device.{Gains, GainsPrefix}
+use Rattle.str_pipeline.specs.declared.status.Options.{Options}
 use Rattle.str_pipeline.specs.declared.status.Status.{Status}
 use Rattle.str_pipeline.specs.declared.status.Status.TheVariants.{Rewritten, Failed, Oversize, Spent, Refused}
 
@@ -23,26 +24,28 @@ line_of bytes = bytes ++ 10 ∷ []
 abbrev pub refusal_line : Fault → List ℕ
 refusal_line fault = line_of (codes "#refused " ++ word_of fault)
 
--- the file rewrites the term so, by n nodes, where primitives mean M
-abbrev pub Rewrites : Meaning → FileTree → Tree → Ending Tree → ℕ → Type 0
-Rewrites M f t o n = named.Rewrites M (program_of_file f) main_name t o n
+-- the definition of this name in the file rewrites the term so, by n nodes, where primitives mean M
+abbrev pub Rewrites : Meaning → FileTree → Bytes → Tree → Ending Tree → ℕ → Type 0
+Rewrites M f main t o n = named.Rewrites M (program_of_file f) (written main) t o n
 
 -- the first fault: of the definitions, and of the term only where the definitions have none
-abbrev pub IsFirstFault : List ℕ → List ℕ → Fault → Type 0
-IsFirstFault defs term fault = AreRefused defs fault ⊎ ((f : FileTree) × AreAccepted defs f × IsRefused term fault)
+abbrev pub IsFirstFault : List ℕ → List ℕ → Options → Fault → Type 0
+IsFirstFault defs term options fault =
+    AreRefused options.main.items defs fault ⊎ ((f : FileTree) × AreAccepted options.main.items defs f × IsRefused options.strict f term fault)
 
 -- what a file does with a term within the budget: the line and the status
-abbrev pub IsAnswer : Meaning → FileTree → Tree → ℕ → Status → List ℕ → Type 0
-IsAnswer M f t budget Rewritten line = (u : Tree) × (e : Bindings) × (n : ℕ) × Rewrites M f t (ok u e) n × (n ≤ budget) × (line ≡ line_of (text u))
-IsAnswer M f t budget Failed line = (n : ℕ) × Rewrites M f t failed n × (n ≤ budget) × (line ≡ line_of (codes "#failed"))
-IsAnswer M f t budget Oversize line = (n : ℕ) × Rewrites M f t oversize n × (n ≤ budget) × (line ≡ line_of (codes "#oversize"))
-IsAnswer M f t budget Spent line = ((o : Ending Tree) (n : ℕ) → Rewrites M f t o n → budget < n) × (line ≡ line_of (codes "#spent"))
-IsAnswer M f t budget (Refused fault) line = ⊥
+abbrev pub IsAnswer : Meaning → FileTree → Bytes → Tree → ℕ → Status → List ℕ → Type 0
+IsAnswer M f main t budget Rewritten line = (u : Tree) × (e : Bindings) × (n : ℕ) × Rewrites M f main t (ok u e) n × (n ≤ budget) × (line ≡ line_of (text u))
+IsAnswer M f main t budget Failed line = (n : ℕ) × Rewrites M f main t failed n × (n ≤ budget) × (line ≡ line_of (codes "#failed"))
+IsAnswer M f main t budget Oversize line = (n : ℕ) × Rewrites M f main t oversize n × (n ≤ budget) × (line ≡ line_of (codes "#oversize"))
+IsAnswer M f main t budget Spent line = ((o : Ending Tree) (n : ℕ) → Rewrites M f main t o n → budget < n) × (line ≡ line_of (codes "#spent"))
+IsAnswer M f main t budget (Refused fault) line = ⊥
 
--- the line and the status for these definitions, this text of a term and this budget
-abbrev pub IsWritten : Meaning → List ℕ → List ℕ → ℕ → Status → List ℕ → Type 0
-IsWritten M defs term budget (Refused fault) line = IsFirstFault defs term fault × (line ≡ refusal_line fault)
-IsWritten M defs term budget status line = (f : FileTree) × (t : Tree) × AreAccepted defs f × IsAccepted term t × IsAnswer M f t budget status line
+-- the line and the status for these definitions, this text of a term and these options
+abbrev pub IsWritten : Meaning → List ℕ → List ℕ → Options → Status → List ℕ → Type 0
+IsWritten M defs term options (Refused fault) line = IsFirstFault defs term options fault × (line ≡ refusal_line fault)
+IsWritten M defs term options status line = (f : FileTree) × (t : Tree) × AreAccepted options.main.items defs f
+    × IsAccepted options.strict f term t × IsAnswer M f options.main.items t options.budget status line
 
 -- these are one status, but for the place of a fault
 abbrev pub AreAlike : Status → Status → Type 0
@@ -50,14 +53,14 @@ AreAlike (Refused fault) (Refused other) = number_of fault ≡ number_of other
 AreAlike status other = status ≡ other
 
 -- a writer that tells its bytes has gained the line, whatever primitives mean
-pub record HasWritten (defs term : List ℕ) (budget : ℕ) (status : Status) (old new : Option (List ℕ)) : Type 0 where
+pub record HasWritten (defs term : List ℕ) (options : Options) (status : Status) (old new : Option (List ℕ)) : Type 0 where
   pub line : List ℕ
   pub gained : Gains old new line
-  pub is_written : (M : Meaning) → IsWritten M defs term budget status line
+  pub is_written : (M : Meaning) → IsWritten M defs term options status line
 
 -- it has gained a beginning of the line
-pub record HasBegun (defs term : List ℕ) (budget : ℕ) (old new : Option (List ℕ)) : Type 0 where
+pub record HasBegun (defs term : List ℕ) (options : Options) (old new : Option (List ℕ)) : Type 0 where
   pub status : Status
   pub line : List ℕ
   pub gained : GainsPrefix old new line
-  pub is_written : (M : Meaning) → IsWritten M defs term budget status line
+  pub is_written : (M : Meaning) → IsWritten M defs term options status line

@@ -1,24 +1,21 @@
 //! What a file does with a term, and the line that says so.
 ghost use Rattle.std.specs.Prelude.{◌≡◌, ◌+◌, ◌≤◌, ◌++◌, ℕ, List, length, false, if◌then◌else◌, IfOk, IfErr, OnOk, IsErrOf};
-ghost use Rattle.term_model.specs.Flat.{Meaning};
-ghost use Rattle.core_lang.specs.Core.{program_of};
-ghost use Rattle.core_lang.specs.Resolution.{ResolvesProgram};
 ghost use Rattle.str_syntax.specs.Trees.{FileTree};
-ghost use Rattle.str_desugar.specs.FileProgram.{program_of_file};
-ghost use Rattle.str_pipeline.specs.Main.{main_name};
 ghost use Rattle.str_pipeline.specs.Device.{Gains, GainsPrefix};
 ghost use Rattle.str_pipeline.specs.Limits.{max_term};
 ghost use Rattle.term_model.specs.Limits.{max_budget};
 ghost use Rattle.str_pipeline.specs.Judged.{AreAccepted};
 ghost use Rattle.str_pipeline.specs.Written.{line_of, refusal_line};
-ghost use Rattle.str_pipeline.specs.Steps.{IsStop, IsResult, status_of, outcome_line};
+ghost use Rattle.str_pipeline.specs.Steps.{IsStop, IsProgramOf, IsTermRead, IsResult, status_of, outcome_line};
 ghost use Rattle.str_pipeline.specs.Faults.{IsOfDefinitions, IsTransferFault, is_read_fault, is_write_fault};
 
+use crate::program::Program;
 use crate::sink::{Sink, write_all};
-use crate::status::Status;
+use crate::status::{Options, Status};
 use aterm_text::{read_term, write_term};
 use core_eval::eval;
-use core_lang::{Core, Outcome};
+use core_lang::Outcome;
+use signature_core::Signature;
 use std::alloc::{AllocError, Global};
 use term_model::{Fault, Term};
 
@@ -31,24 +28,41 @@ pub const MAX_TERM: usize = 16_777_216;
 /// The greatest budget of a run, in rules.
 pub const MAX_BUDGET: u32 = 2_000;
 
+/// Reads a term, and in strict mode asks that the signature declares each application in it.
+
+fn term_of(
+    alloc: Global,
+    signature: &Signature,
+    text: &[u8],
+    is_strict: bool,
+) -> Result<Term, Fault>
+    ensures { IsTermRead is_strict signature.now text.now result }
+{
+    let term = read_term(alloc, text)?;
+    if is_strict {
+        signature.check_term(&term)?;
+    }
+    Ok(term)
+}
+
 /// Returns what the program does with the term of this text. The fault is one of the term's, or `Memory`.
 #[tactic(auto, using(crate::proofs::WrittenLaws::run_written, crate::proofs::FaultLaws::text_stops, crate::proofs::FaultLaws::text_apart, crate::proofs::FaultLaws::text_no_read))]
 pub(crate) fn outcome_of(
     alloc: Global,
-    core: &Core,
+    program: &Program,
     text: &[u8],
-    budget: u32,
+    options: &Options,
 ) -> Result<Outcome<Term>, Fault>
-    requires budget { budget ≤ max_budget }
+    requires budget { options.now.budget ≤ max_budget }
     requires fits { length text.now ≤ max_term }
-    ensures result { (defs : List ℕ) (f : FileTree) → AreAccepted defs f →
-        ResolvesProgram (program_of_file f) main_name (program_of core.now) core.now.main → IsResult defs text.now budget result }
+    ensures result { (defs : List ℕ) (f : FileTree) → AreAccepted options.now.main.items defs f →
+        IsProgramOf options.now.main.items f program.now → IsResult defs text.now options.now result }
     ensures kinds { IfErr result IsStop }
     ensures apart { IfErr result (λ fault. IsOfDefinitions fault → ⊥) }
     ensures read { is_read_fault result ≡ false }
 {
-    let term = read_term(alloc, text)?;
-    let run = eval(alloc, core, &term, budget)?;
+    let term = term_of(alloc, program.checked.signature(), text, options.strict)?;
+    let run = eval(alloc, &program.core, &term, options.budget)?;
     Ok(run.outcome)
 }
 

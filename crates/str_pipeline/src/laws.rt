@@ -1,6 +1,7 @@
 //! Laws of the definitions, with nothing to run.
 ghost use Rattle.std.specs.Prelude.{◌≡◌, ℕ, List};
 ghost use Rattle.term_model.specs.Flat.{Meaning};
+ghost use Rattle.str_pipeline.specs.declared.status.Options.{Options};
 ghost use Rattle.str_pipeline.specs.declared.status.Status.{Status};
 ghost use Rattle.str_pipeline.specs.Joined.{IsSplit};
 ghost use Rattle.str_pipeline.specs.Written.{AreAlike, IsWritten};
@@ -12,10 +13,10 @@ pub fn joined_form_law()
     ensures some { (text : List ℕ) → (d : List ℕ) × (t : List ℕ) × IsSplit text d t }
 {}
 
-/// Says that definitions, the text of a term and a budget have at most one line and one status, whatever primitives mean: two statuses
+/// Says that definitions, the text of a term and options have at most one line and one status, whatever primitives mean: two statuses
 /// that differ are refusals of the same fault, at other places.
 #[tactic(auto, using(crate::proofs::OneLine::one_line))]
 pub fn one_line_law()
-    ensures { (M : Meaning) (defs term : List ℕ) (budget : ℕ) (s r : Status) (line other : List ℕ) →
-        IsWritten M defs term budget s line → IsWritten M defs term budget r other → AreAlike s r × (line ≡ other) }
+    ensures { (M : Meaning) (defs term : List ℕ) (options : Options) (s r : Status) (line other : List ℕ) →
+        IsWritten M defs term options s line → IsWritten M defs term options r other → AreAlike s r × (line ≡ other) }
 {}

@@ -2,6 +2,7 @@
 ghost use Rattle.std.specs.Prelude.{◌≡◌, ◌↔◌, ◌+◌, ◌≤◌, ℕ, List, Result, Err, IsTrue, if◌then◌else◌, IfOk, IfErr, IfSome, IsErrOf, IsErrAnd};
 ghost use Rattle.term_model.specs.declared.fault.Fault.{Fault};
 ghost use Rattle.term_model.specs.Fault.{number_of};
+ghost use Rattle.str_pipeline.specs.declared.status.Options.{Options};
 ghost use Rattle.str_pipeline.specs.Joined.{IsSplit};
 ghost use Rattle.str_pipeline.specs.Limits.{max_definitions, max_term};
 ghost use Rattle.term_model.specs.Limits.{max_budget};
@@ -27,27 +28,27 @@ fn outcome_apart<D: Source, T: Source>(
     alloc: Global,
     defs: &mut D,
     term: &mut T,
-    budget: u32,
+    options: &Options,
     notes: &mut Notes,
 ) -> Result<Outcome<Term>, Fault>
-    requires { budget ≤ max_budget }
-    ensures result { IfSome (D.coming defs.old) (λ d. IfSome (T.coming term.old) (λ t. IsResult d t budget result)) }
+    requires { options.now.budget ≤ max_budget }
+    ensures result { IfSome (D.coming defs.old) (λ d. IfSome (T.coming term.old) (λ t. IsResult d t options.now result)) }
     ensures kinds { IfErr result IsStop }
     ensures failed { D.failed_reads defs.new + T.failed_reads term.new
         ≡ D.failed_reads defs.old + T.failed_reads term.old + (if is_read_fault result then 1 else 0) }
     ensures unread { IfErr result (λ fault. IsOfDefinitions fault → term.new ≡ term.old) }
-    ensures unread_told { IfSome (D.coming defs.old) (λ d. (fault : Fault) → AreRefused d fault → term.new ≡ term.old) }
+    ensures unread_told { IfSome (D.coming defs.old) (λ d. (fault : Fault) → AreRefused options.now.main.items d fault → term.new ≡ term.old) }
     ensures defs_bounded { D.reads defs.new ≤ D.reads defs.old + max_definitions + 1 }
     ensures term_bounded { T.reads term.new ≤ T.reads term.old + max_term + 1 }
 {
     let Some(text) = read_all(alloc, defs, MAX_DEFINITIONS)? else {
         return Err(Fault::DefsTooLong);
     };
-    let core = program_of(alloc, &text, notes)?;
+    let program = program_of(alloc, &text, options, notes)?;
     let Some(text) = read_all(alloc, term, MAX_TERM)? else {
         return Err(Fault::TermTooLong);
     };
-    outcome_of(alloc, &core, &text, budget)
+    outcome_of(alloc, &program, &text, options)
 }
 
 /// Does the same over one reader of the joined form.
@@ -55,11 +56,11 @@ fn outcome_apart<D: Source, T: Source>(
 fn outcome_joined<S: Source>(
     alloc: Global,
     input: &mut S,
-    budget: u32,
+    options: &Options,
     notes: &mut Notes,
 ) -> Result<Outcome<Term>, Fault>
-    requires { budget ≤ max_budget }
-    ensures result { IfSome (S.coming input.old) (λ told. (d t : List ℕ) → IsSplit told d t → IsResult d t budget result) }
+    requires { options.now.budget ≤ max_budget }
+    ensures result { IfSome (S.coming input.old) (λ told. (d t : List ℕ) → IsSplit told d t → IsResult d t options.now result) }
     ensures kinds { IfErr result IsStop }
     ensures failed { S.failed_reads input.new ≡ S.failed_reads input.old + (if is_read_fault result then 1 else 0) }
     ensures bounded { S.reads input.new ≤ S.reads input.old + max_definitions + 17 + max_term + 1 }
@@ -68,11 +69,11 @@ fn outcome_joined<S: Source>(
     let Some(front) = read_front(alloc, input, MAX_DEFINITIONS)? else {
         return Err(Fault::DefsTooLong);
     };
-    let core = program_of(alloc, front.definitions(), notes)?;
+    let program = program_of(alloc, front.definitions(), options, notes)?;
     let Some(text) = front.read_term(alloc, input, MAX_TERM)? else {
         return Err(Fault::TermTooLong);
     };
-    outcome_of(alloc, &core, &text, budget)
+    outcome_of(alloc, &program, &text, options)
 }
 
 /// Writes the line of the outcome, or of the refusal that came in place of it, and returns its
@@ -84,8 +85,8 @@ fn finish<W: Sink>(
     out: &mut W,
 ) -> Result<Status, Fault>
     requires { IfErr outcome IsStop }
-    ensures written { IfOk result (λ status. (d t : List ℕ) (n : ℕ) → IsResult d t n outcome → HasWritten d t n status (W.written out.old) (W.written out.new)) }
-    ensures begun { IsErrOf result Fault.Write → (d t : List ℕ) (n : ℕ) → IsResult d t n outcome → HasBegun d t n (W.written out.old) (W.written out.new) }
+    ensures written { IfOk result (λ status. (d t : List ℕ) (o : Options) → IsResult d t o outcome → HasWritten d t o status (W.written out.old) (W.written out.new)) }
+    ensures begun { IsErrOf result Fault.Write → (d t : List ℕ) (o : Options) → IsResult d t o outcome → HasBegun d t o (W.written out.old) (W.written out.new) }
     ensures status { IfOk result HoldsRefusal }
     ensures definitions { IfOk result (λ status. RefusesDefinitions status → IsErrAnd outcome IsOfDefinitions) }
     ensures read { is_read_fault result ≡ is_read_fault outcome }
@@ -111,8 +112,8 @@ fn has_no_line(fault: &Fault) -> bool
 #[tactic(auto, using(crate::proofs::WrittenLaws::refusal_has_begun, crate::proofs::WrittenLaws::refusal_written, crate::proofs::WrittenLaws::refusal_status, crate::proofs::WrittenLaws::writes_not_read, crate::proofs::FaultLaws::is_refusal, crate::proofs::FaultLaws::is_reading, crate::proofs::FaultLaws::is_no_read))]
 fn write_fault<W: Sink>(alloc: Global, fault: Fault, out: &mut W) -> Result<Status, Fault>
     requires { IsStop fault }
-    ensures written { IfOk result (λ status. (d t : List ℕ) (n : ℕ) → IsResult d t n (Err fault) → HasWritten d t n status (W.written out.old) (W.written out.new)) }
-    ensures begun { IsErrOf result Fault.Write → (d t : List ℕ) (n : ℕ) → IsResult d t n (Err fault) → HasBegun d t n (W.written out.old) (W.written out.new) }
+    ensures written { IfOk result (λ status. (d t : List ℕ) (o : Options) → IsResult d t o (Err fault) → HasWritten d t o status (W.written out.old) (W.written out.new)) }
+    ensures begun { IsErrOf result Fault.Write → (d t : List ℕ) (o : Options) → IsResult d t o (Err fault) → HasBegun d t o (W.written out.old) (W.written out.new) }
     ensures status { IfOk result (λ status. (status ≡ Status.Refused fault) × IsRefusal fault) }
     ensures read { is_read_fault result ≡ is_read fault }
     ensures untouched_memory { IsErrOf result Fault.Memory → out.new ≡ out.old }
@@ -128,8 +129,9 @@ fn write_fault<W: Sink>(alloc: Global, fault: Fault, out: &mut W) -> Result<Stat
 
 /// Reads definitions and then the text of a term, lets the definitions rewrite the term, and writes
 /// one line with its line feed: the canonical text of the result, `#failed`, `#oversize`, `#spent`,
-/// or `#refused ` and the word of the first fault. The definitions are read and judged first; where
-/// they are refused the term is not read. Nothing is written before the whole line is made. At most
+/// or `#refused ` and the word of the first fault. Applied is the definition whose name the options
+/// give. The definitions are read and judged first; where they are refused the term is not read.
+/// In strict mode a term with an application that the definitions do not declare is refused. Nothing is written before the whole line is made. At most
 /// 1,048,577 reads of definitions and 16,777,217 of the term are made.
 ///
 /// # Errors
@@ -144,9 +146,9 @@ pub fn transform<D: Source, T: Source, W: Sink>(
 ) -> Result<Status, Fault>
     requires { options.now.budget ≤ max_budget }
     ensures written { IfOk result (λ status. IfSome (D.coming defs.old) (λ d. IfSome (T.coming term.old) (λ t.
-        HasWritten d t options.now.budget status (W.written out.old) (W.written out.new)))) }
+        HasWritten d t options.now status (W.written out.old) (W.written out.new)))) }
     ensures begun { IsErrOf result Fault.Write → IfSome (D.coming defs.old) (λ d. IfSome (T.coming term.old) (λ t.
-        HasBegun d t options.now.budget (W.written out.old) (W.written out.new))) }
+        HasBegun d t options.now (W.written out.old) (W.written out.new))) }
     ensures status { IfOk result HoldsRefusal }
     ensures kinds { IfErr result IsTransferFault }
     ensures untouched_memory { IsErrOf result Fault.Memory → out.new ≡ out.old }
@@ -155,7 +157,7 @@ pub fn transform<D: Source, T: Source, W: Sink>(
         ≡ D.failed_reads defs.old + T.failed_reads term.old + (if is_read_fault result then 1 else 0) }
     ensures write_failed { W.failed_writes out.new ≡ W.failed_writes out.old + (if is_write_fault result then 1 else 0) }
     ensures unread { IfOk result (λ status. RefusesDefinitions status → term.new ≡ term.old) }
-    ensures unread_told { IfSome (D.coming defs.old) (λ d. (fault : Fault) → AreRefused d fault → term.new ≡ term.old) }
+    ensures unread_told { IfSome (D.coming defs.old) (λ d. (fault : Fault) → AreRefused options.now.main.items d fault → term.new ≡ term.old) }
     ensures defs_bounded { D.reads defs.new ≤ D.reads defs.old + max_definitions + 1 }
     ensures term_bounded { T.reads term.new ≤ T.reads term.old + max_term + 1 }
 {
@@ -178,9 +180,9 @@ pub fn transform_with_notes<D: Source, T: Source, W: Sink>(
 ) -> Result<Status, Fault>
     requires { options.now.budget ≤ max_budget }
     ensures written { IfOk result (λ status. IfSome (D.coming defs.old) (λ d. IfSome (T.coming term.old) (λ t.
-        HasWritten d t options.now.budget status (W.written out.old) (W.written out.new)))) }
+        HasWritten d t options.now status (W.written out.old) (W.written out.new)))) }
     ensures begun { IsErrOf result Fault.Write → IfSome (D.coming defs.old) (λ d. IfSome (T.coming term.old) (λ t.
-        HasBegun d t options.now.budget (W.written out.old) (W.written out.new))) }
+        HasBegun d t options.now (W.written out.old) (W.written out.new))) }
     ensures status { IfOk result HoldsRefusal }
     ensures kinds { IfErr result IsTransferFault }
     ensures untouched_memory { IsErrOf result Fault.Memory → out.new ≡ out.old }
@@ -189,12 +191,12 @@ pub fn transform_with_notes<D: Source, T: Source, W: Sink>(
         ≡ D.failed_reads defs.old + T.failed_reads term.old + (if is_read_fault result then 1 else 0) }
     ensures write_failed { W.failed_writes out.new ≡ W.failed_writes out.old + (if is_write_fault result then 1 else 0) }
     ensures unread { IfOk result (λ status. RefusesDefinitions status → term.new ≡ term.old) }
-    ensures unread_told { IfSome (D.coming defs.old) (λ d. (fault : Fault) → AreRefused d fault → term.new ≡ term.old) }
+    ensures unread_told { IfSome (D.coming defs.old) (λ d. (fault : Fault) → AreRefused options.now.main.items d fault → term.new ≡ term.old) }
     ensures defs_bounded { D.reads defs.new ≤ D.reads defs.old + max_definitions + 1 }
     ensures term_bounded { T.reads term.new ≤ T.reads term.old + max_term + 1 }
 {
     *notes = Notes::none();
-    let outcome = outcome_apart(alloc, defs, term, options.budget, notes);
+    let outcome = outcome_apart(alloc, defs, term, options, notes);
     finish(alloc, outcome, out)
 }
 
@@ -213,9 +215,9 @@ pub fn transform_joined<S: Source, W: Sink>(
 ) -> Result<Status, Fault>
     requires { options.now.budget ≤ max_budget }
     ensures written { IfOk result (λ status. IfSome (S.coming input.old) (λ told. (d t : List ℕ) → IsSplit told d t →
-        HasWritten d t options.now.budget status (W.written out.old) (W.written out.new))) }
+        HasWritten d t options.now status (W.written out.old) (W.written out.new))) }
     ensures begun { IsErrOf result Fault.Write → IfSome (S.coming input.old) (λ told. (d t : List ℕ) → IsSplit told d t →
-        HasBegun d t options.now.budget (W.written out.old) (W.written out.new)) }
+        HasBegun d t options.now (W.written out.old) (W.written out.new)) }
     ensures status { IfOk result HoldsRefusal }
     ensures kinds { IfErr result IsTransferFault }
     ensures untouched_memory { IsErrOf result Fault.Memory → out.new ≡ out.old }
@@ -243,9 +245,9 @@ pub fn transform_joined_with_notes<S: Source, W: Sink>(
 ) -> Result<Status, Fault>
     requires { options.now.budget ≤ max_budget }
     ensures written { IfOk result (λ status. IfSome (S.coming input.old) (λ told. (d t : List ℕ) → IsSplit told d t →
-        HasWritten d t options.now.budget status (W.written out.old) (W.written out.new))) }
+        HasWritten d t options.now status (W.written out.old) (W.written out.new))) }
     ensures begun { IsErrOf result Fault.Write → IfSome (S.coming input.old) (λ told. (d t : List ℕ) → IsSplit told d t →
-        HasBegun d t options.now.budget (W.written out.old) (W.written out.new)) }
+        HasBegun d t options.now (W.written out.old) (W.written out.new)) }
     ensures status { IfOk result HoldsRefusal }
     ensures kinds { IfErr result IsTransferFault }
     ensures untouched_memory { IsErrOf result Fault.Memory → out.new ≡ out.old }
@@ -256,6 +258,6 @@ pub fn transform_joined_with_notes<S: Source, W: Sink>(
     ensures defs_bounded { IfOk result (λ status. RefusesDefinitions status → S.reads input.new ≤ S.reads input.old + max_definitions + 17) }
 {
     *notes = Notes::none();
-    let outcome = outcome_joined(alloc, input, options.budget, notes);
+    let outcome = outcome_joined(alloc, input, options, notes);
     finish(alloc, outcome, out)
 }

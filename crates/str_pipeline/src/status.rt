@@ -4,6 +4,11 @@ use term_model::Fault;
 /// How a transformation is to be done.
 #[derive(Debug, Drop)]
 pub struct Options {
+    /// The name of the definition that is applied to the term, one without parameters. Any bytes will do: where no definition has
+    /// the name, the definitions are refused.
+    pub main: Vec<u8>,
+    /// Whether a term is refused that has an application which the definitions do not declare.
+    pub strict: bool,
     /// The most nodes of a derivation.
     pub budget: u32,
 }

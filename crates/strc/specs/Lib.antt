@@ -1,1 +1,3 @@
 pub mod Report
+pub mod Request
+pub mod Rules

@@ -1,16 +1,21 @@
-//! The program: definitions, the line `#term` and the text of a term from standard input, and the
-//! answer to standard output.
+//! The program: a definition file and a term, from files or from standard input, and the answer to
+//! standard output.
 #![tactic(auto)]
 
+mod paths;
 mod program;
 mod report;
+mod request;
 #[cfg(test)]
 mod tests;
+mod words;
 
+use paths::Files;
 use program::run;
 use std::io;
 use std::process::ExitCode;
 use str_pipeline::Counted;
+use words::{refuse, words_of};
 
 fn main(rt: HostRuntime) -> ExitCode {
     let stdout = rt.stdout();
@@ -18,5 +23,18 @@ fn main(rt: HostRuntime) -> ExitCode {
     let mut input = Counted::new(rt.reader());
     let mut out = Counted::new(io::writer(&stdout));
     let mut diagnostics = Counted::new(io::writer(&stderr));
-    ExitCode::from(run(rt.alloc(), &mut input, &mut out, &mut diagnostics))
+    let words = match words_of(&rt) {
+        Ok(words) => words,
+        Err(error) => return ExitCode::from(refuse(error.kind(), &mut diagnostics)),
+    };
+    let mut files = Files::new(&rt);
+    let status = run(
+        rt.alloc(),
+        &words,
+        &mut files,
+        &mut input,
+        &mut out,
+        &mut diagnostics,
+    );
+    ExitCode::from(status)
 }

@@ -1,37 +1,69 @@
-//! The work of the program, over any streams.
-ghost use Rattle.std.specs.Prelude.{◌≡◌, ◌+◌, ◌<◌, ◌≤◌, ◌⊎◌, ℕ, List, IfSome};
+//! The work of the program, over any streams and files.
+ghost use Rattle.std.specs.Prelude.{◌≡◌, ◌+◌, ◌<◌, ◌≤◌, ℕ, List, length, IfOk, IfErr, IfSome, if◌then◌else◌};
 ghost use Rattle.term_model.specs.declared.fault.Fault.{Fault};
+ghost use Rattle.term_model.specs.Limits.{max_budget};
+ghost use Rattle.str_pipeline.specs.declared.status.Options.{Options};
 ghost use Rattle.str_pipeline.specs.declared.status.Status.{Status};
 ghost use Rattle.str_pipeline.specs.Joined.{IsSplit};
 ghost use Rattle.str_pipeline.specs.Written.{HasWritten, HasBegun};
 ghost use Rattle.str_pipeline.specs.Faults.{HoldsRefusal};
 ghost use Rattle.str_pipeline.specs.Limits.{max_definitions, max_term};
-ghost use Rattle.term_model.specs.Limits.{max_budget};
 ghost use Rattle.strc.specs.Report.{exit_of, IsCause, Tells, IsReported};
+ghost use Rattle.strc.specs.Request.{ArePlain};
+ghost use Rattle.strc.specs.declared.request.Texts.TheVariants.{Joined};
 
+use crate::paths::Paths;
 use crate::report::{report, report_refusal};
+use crate::request::{Texts, options_of, request_of};
+use clap::Error;
+use clap::error::ErrorKind;
 use scope_check::Notes;
 use std::alloc::Global;
-use str_pipeline::{MAX_BUDGET, Options, Sink, Source, Status, transform_joined_with_notes};
+use str_pipeline::{
+    Options, Sink, Source, Status, transform_joined_with_notes, transform_with_notes, write_all,
+};
+use term_model::Fault;
 
-/// Transforms what comes from `input`, in the joined form, writes the line of the answer to `out`,
-/// and returns the exit status: 0 where the term was rewritten, 1 where the strategy failed, 2 where
-/// the definitions or the term were refused, 3 where the budget was spent or a term was too large,
-/// and 4 where memory, reading or writing failed. For 2 and 4 a line on `diagnostics` reports the
-/// fault: for 4 `Read` exactly where a read of `input` failed, `Write` exactly where a write to `out`
-/// failed, and `Memory` else. Where the checks refuse the definitions, a second line names what is at
-/// fault, with the byte of the definitions at which it stands; it is left out where memory for it is
-/// refused. A write to `diagnostics` that fails changes nothing.
-#[tactic(auto, using(crate::proofs::PrefixLaws::tells, crate::proofs::CauseLaws::cause))]
-pub fn run<I: Source, W: Sink, E: Sink>(
+/// Writes the diagnostic line of a fault that stops the program, and returns the status of such faults, 4.
+#[tactic(auto, using(crate::proofs::PrefixLaws::tells))]
+pub(crate) fn stop<E: Sink>(fault: &Fault, diagnostics: &mut E) -> u8
+    ensures status { result ≡ 4 }
+    ensures told { Tells fault.now (E.failed_writes diagnostics.old) (E.failed_writes diagnostics.new) (E.written diagnostics.old) (E.written diagnostics.new) }
+{
+    let _ = report(fault, diagnostics);
+    4
+}
+
+/// Reports how a transformation ended, and returns its exit status.
+fn conclude<E: Sink>(alloc: Global, status: Status, notes: &Notes, diagnostics: &mut E) -> u8
+    requires { HoldsRefusal status }
+    ensures status { (exit_of status ≡ result) × (result < 4) }
+    ensures told { IsReported status (E.failed_writes diagnostics.old) (E.failed_writes diagnostics.new) (E.written diagnostics.old) (E.written diagnostics.new) }
+{
+    match status {
+        Status::Rewritten => 0,
+        Status::Failed => 1,
+        Status::Refused(fault) => {
+            report_refusal(alloc, &fault, notes, diagnostics);
+            2
+        }
+        Status::Oversize | Status::Spent => 3,
+    }
+}
+
+/// Does the work where both texts come from `input`, in the joined form.
+#[tactic(auto, using(crate::proofs::CauseLaws::cause))]
+fn run_joined<I: Source, W: Sink, E: Sink>(
     alloc: Global,
     input: &mut I,
+    options: &Options,
     out: &mut W,
     diagnostics: &mut E,
 ) -> u8
+    requires { options.now.budget ≤ max_budget }
     ensures status { result ≤ 4 }
     ensures ended { result < 4 → (status : Status) × (exit_of status ≡ result) × HoldsRefusal status
-        × IfSome (I.coming input.old) (λ told. (d t : List ℕ) → IsSplit told d t → HasWritten d t max_budget status (W.written out.old) (W.written out.new))
+        × IfSome (I.coming input.old) (λ told. (d t : List ℕ) → IsSplit told d t → HasWritten d t options.now status (W.written out.old) (W.written out.new))
         × IsReported status (E.failed_writes diagnostics.old) (E.failed_writes diagnostics.new) (E.written diagnostics.old) (E.written diagnostics.new) }
     ensures stopped { result ≡ 4 → (fault : Fault)
         × IsCause (record { before = I.failed_reads input.old; after = I.failed_reads input.new })
@@ -39,24 +71,204 @@ pub fn run<I: Source, W: Sink, E: Sink>(
         × Tells fault (E.failed_writes diagnostics.old) (E.failed_writes diagnostics.new) (E.written diagnostics.old) (E.written diagnostics.new) }
     ensures unwritten { result ≡ 4 → W.failed_writes out.new ≡ W.failed_writes out.old → out.new ≡ out.old }
     ensures begun { W.failed_writes out.old < W.failed_writes out.new →
-        IfSome (I.coming input.old) (λ told. (d t : List ℕ) → IsSplit told d t → HasBegun d t max_budget (W.written out.old) (W.written out.new)) }
+        IfSome (I.coming input.old) (λ told. (d t : List ℕ) → IsSplit told d t → HasBegun d t options.now (W.written out.old) (W.written out.new)) }
     ensures read_failed { I.failed_reads input.old < I.failed_reads input.new → result ≡ 4 }
     ensures write_failed { W.failed_writes out.old < W.failed_writes out.new → result ≡ 4 }
     ensures bounded { I.reads input.new ≤ I.reads input.old + max_definitions + 17 + max_term + 1 }
 {
-    let options = Options { budget: MAX_BUDGET };
     let mut notes = Notes::none();
-    match transform_joined_with_notes(alloc, input, &options, &mut notes, out) {
-        Ok(Status::Rewritten) => 0,
-        Ok(Status::Failed) => 1,
-        Ok(Status::Refused(fault)) => {
-            report_refusal(alloc, &fault, &notes, diagnostics);
-            2
+    match transform_joined_with_notes(alloc, input, options, &mut notes, out) {
+        Ok(status) => conclude(alloc, status, &notes, diagnostics),
+        Err(fault) => stop(&fault, diagnostics),
+    }
+}
+
+/// Does the work over one reader for each of the texts.
+#[tactic(auto, using(crate::proofs::CauseLaws::cause))]
+fn run_apart<D: Source, T: Source, W: Sink, E: Sink>(
+    alloc: Global,
+    definitions: &mut D,
+    term: &mut T,
+    options: &Options,
+    out: &mut W,
+    diagnostics: &mut E,
+) -> u8
+    requires { options.now.budget ≤ max_budget }
+    ensures status { result ≤ 4 }
+    ensures ended { result < 4 → (status : Status) × (exit_of status ≡ result) × HoldsRefusal status
+        × IfSome (D.coming definitions.old) (λ d. IfSome (T.coming term.old) (λ t. HasWritten d t options.now status (W.written out.old) (W.written out.new)))
+        × IsReported status (E.failed_writes diagnostics.old) (E.failed_writes diagnostics.new) (E.written diagnostics.old) (E.written diagnostics.new) }
+    ensures stopped { result ≡ 4 → (fault : Fault)
+        × IsCause (record { before = D.failed_reads definitions.old + T.failed_reads term.old; after = D.failed_reads definitions.new + T.failed_reads term.new })
+        (record { before = W.failed_writes out.old; after = W.failed_writes out.new }) fault
+        × Tells fault (E.failed_writes diagnostics.old) (E.failed_writes diagnostics.new) (E.written diagnostics.old) (E.written diagnostics.new) }
+    ensures unwritten { result ≡ 4 → W.failed_writes out.new ≡ W.failed_writes out.old → out.new ≡ out.old }
+    ensures begun { W.failed_writes out.old < W.failed_writes out.new →
+        IfSome (D.coming definitions.old) (λ d. IfSome (T.coming term.old) (λ t. HasBegun d t options.now (W.written out.old) (W.written out.new))) }
+    ensures read_failed { D.failed_reads definitions.old + T.failed_reads term.old < D.failed_reads definitions.new + T.failed_reads term.new → result ≡ 4 }
+    ensures write_failed { W.failed_writes out.old < W.failed_writes out.new → result ≡ 4 }
+    ensures definitions_bounded { D.reads definitions.new ≤ D.reads definitions.old + max_definitions + 1 }
+    ensures term_bounded { T.reads term.new ≤ T.reads term.old + max_term + 1 }
+{
+    let mut notes = Notes::none();
+    match transform_with_notes(alloc, definitions, term, options, &mut notes, out) {
+        Ok(status) => conclude(alloc, status, &notes, diagnostics),
+        Err(fault) => stop(&fault, diagnostics),
+    }
+}
+
+/// Does the work with two files, of which that of the definitions is opened first.
+fn run_files<P: Paths, W: Sink, E: Sink>(
+    alloc: Global,
+    paths: &mut P,
+    definitions: &str,
+    term: &str,
+    options: &Options,
+    out: &mut W,
+    diagnostics: &mut E,
+) -> u8
+    requires { options.now.budget ≤ max_budget }
+    ensures status { result ≤ 4 }
+    ensures ended { result < 4 → (status : Status) × (exit_of status ≡ result) × HoldsRefusal status
+        × IsReported status (E.failed_writes diagnostics.old) (E.failed_writes diagnostics.new) (E.written diagnostics.old) (E.written diagnostics.new) }
+    ensures stopped { result ≡ 4 → (fault : Fault)
+        × Tells fault (E.failed_writes diagnostics.old) (E.failed_writes diagnostics.new) (E.written diagnostics.old) (E.written diagnostics.new) }
+    ensures unwritten { result ≡ 4 → W.failed_writes out.new ≡ W.failed_writes out.old → out.new ≡ out.old }
+    ensures write_failed { W.failed_writes out.old < W.failed_writes out.new → result ≡ 4 }
+{
+    let mut definitions = match paths.open(definitions) {
+        Ok(reader) => reader,
+        Err(fault) => return stop(&fault, diagnostics),
+    };
+    let mut term = match paths.open(term) {
+        Ok(reader) => reader,
+        Err(fault) => return stop(&fault, diagnostics),
+    };
+    run_apart(alloc, &mut definitions, &mut term, options, out, diagnostics)
+}
+
+/// Does the work with the texts that come from these places. A file that cannot be opened is a fault before anything is read.
+fn run_texts<P: Paths, I: Source, W: Sink, E: Sink>(
+    alloc: Global,
+    texts: Texts<'_>,
+    paths: &mut P,
+    input: &mut I,
+    options: &Options,
+    out: &mut W,
+    diagnostics: &mut E,
+) -> u8
+    requires { options.now.budget ≤ max_budget }
+    ensures status { result ≤ 4 }
+    ensures joined_ended { texts ≡ Joined → result < 4 → (status : Status) × (exit_of status ≡ result) × HoldsRefusal status
+        × IfSome (I.coming input.old) (λ told. (d t : List ℕ) → IsSplit told d t → HasWritten d t options.now status (W.written out.old) (W.written out.new))
+        × IsReported status (E.failed_writes diagnostics.old) (E.failed_writes diagnostics.new) (E.written diagnostics.old) (E.written diagnostics.new) }
+    ensures joined_stopped { texts ≡ Joined → result ≡ 4 → (fault : Fault)
+        × IsCause (record { before = I.failed_reads input.old; after = I.failed_reads input.new })
+        (record { before = W.failed_writes out.old; after = W.failed_writes out.new }) fault
+        × Tells fault (E.failed_writes diagnostics.old) (E.failed_writes diagnostics.new) (E.written diagnostics.old) (E.written diagnostics.new) }
+    ensures joined_begun { texts ≡ Joined → W.failed_writes out.old < W.failed_writes out.new →
+        IfSome (I.coming input.old) (λ told. (d t : List ℕ) → IsSplit told d t → HasBegun d t options.now (W.written out.old) (W.written out.new)) }
+    ensures ended { result < 4 → (status : Status) × (exit_of status ≡ result) × HoldsRefusal status
+        × IsReported status (E.failed_writes diagnostics.old) (E.failed_writes diagnostics.new) (E.written diagnostics.old) (E.written diagnostics.new) }
+    ensures stopped { result ≡ 4 → (fault : Fault)
+        × Tells fault (E.failed_writes diagnostics.old) (E.failed_writes diagnostics.new) (E.written diagnostics.old) (E.written diagnostics.new) }
+    ensures unwritten { result ≡ 4 → W.failed_writes out.new ≡ W.failed_writes out.old → out.new ≡ out.old }
+    ensures joined_read_failed { texts ≡ Joined → I.failed_reads input.old < I.failed_reads input.new → result ≡ 4 }
+    ensures write_failed { W.failed_writes out.old < W.failed_writes out.new → result ≡ 4 }
+    ensures bounded { I.reads input.new ≤ I.reads input.old + max_definitions + 17 + max_term + 1 }
+{
+    match texts {
+        Texts::Joined => run_joined(alloc, input, options, out, diagnostics),
+        Texts::Definitions(path) => {
+            let mut definitions = match paths.open(path) {
+                Ok(definitions) => definitions,
+                Err(fault) => return stop(&fault, diagnostics),
+            };
+            run_apart(alloc, &mut definitions, input, options, out, diagnostics)
         }
-        Ok(Status::Oversize | Status::Spent) => 3,
-        Err(fault) => {
-            let _ = report(&fault, diagnostics);
-            4
+        Texts::Both(first, second) => {
+            run_files(alloc, paths, first, second, options, out, diagnostics)
         }
     }
+}
+
+/// Tells what is wrong with the words on `diagnostics`, and returns 5; or writes the help text or the version to `out`, as was asked, and
+/// returns 0.
+fn explain<W: Sink, E: Sink>(
+    alloc: Global,
+    error: &Error,
+    out: &mut W,
+    diagnostics: &mut E,
+) -> u8
+    ensures status { result ≤ 5 }
+    ensures usage { result ≡ 5 → out.new ≡ out.old }
+    ensures stopped { result ≡ 4 → (fault : Fault)
+        × Tells fault (E.failed_writes diagnostics.old) (E.failed_writes diagnostics.new) (E.written diagnostics.old) (E.written diagnostics.new) }
+    ensures unwritten { result ≡ 4 → W.failed_writes out.new ≡ W.failed_writes out.old → out.new ≡ out.old }
+    ensures write_failed { W.failed_writes out.old < W.failed_writes out.new → result ≡ 4 }
+{
+    if error.kind() == ErrorKind::OutOfMemory {
+        return stop(&Fault::Memory, diagnostics);
+    }
+    let Ok(text) = format!(in alloc; "{error}") else {
+        return stop(&Fault::Memory, diagnostics);
+    };
+    if error.use_stderr() {
+        let _ = write_all(diagnostics, text.as_bytes());
+        return 5;
+    }
+    match write_all(out, text.as_bytes()) {
+        Ok(()) => 0,
+        Err(fault) => stop(&fault, diagnostics),
+    }
+}
+
+/// Does what the words of the command line ask for, of which the first is the name of the program: `[--rules N] [--main NAME] [--strict]
+/// [DEFS [TERM]]`. It transforms the definitions of the file DEFS and the term of the file TERM; without TERM the term comes from `input`,
+/// and without both paths the joined form does. The line of the answer goes to `out`. Files are opened before anything is read, DEFS
+/// first.
+///
+/// Returns the exit status: 0 where the term was rewritten, and for the help text and the version, which go to `out`; 1 where the strategy
+/// failed, 2 where the definitions or the term were refused, 3 where the budget was spent or a term was too large, 4 where memory, opening,
+/// reading or writing failed, and 5 where the words are wrong, and then nothing is read or written to `out`.
+///
+/// For 2 and 4 a line on `diagnostics` reports the fault. In the joined form and for 4 that is `Read` exactly where a read of `input`
+/// failed, `Write` exactly where a write to `out` failed, and `Memory` else. Where the checks refuse the definitions, a second line names
+/// what is at fault, with the byte of the definitions at which it stands; it is left out where memory for it is refused. For 5 it tells
+/// what is wrong with the words and how the help text is had. A write to `diagnostics` that fails changes nothing.
+pub fn run<P: Paths, I: Source, W: Sink, E: Sink>(
+    alloc: Global,
+    words: &[String],
+    paths: &mut P,
+    input: &mut I,
+    out: &mut W,
+    diagnostics: &mut E,
+) -> u8
+    ensures status { result ≤ 5 }
+    ensures usage { result ≡ 5 → (out.new ≡ out.old) × (input.new ≡ input.old) }
+    ensures stopped { result ≡ 4 → (fault : Fault)
+        × Tells fault (E.failed_writes diagnostics.old) (E.failed_writes diagnostics.new) (E.written diagnostics.old) (E.written diagnostics.new) }
+    ensures unwritten { result ≡ 4 → W.failed_writes out.new ≡ W.failed_writes out.old → out.new ≡ out.old }
+    ensures write_failed { W.failed_writes out.old < W.failed_writes out.new → result ≡ 4 }
+    ensures bounded { I.reads input.new ≤ I.reads input.old + max_definitions + 17 + max_term + 1 }
+    ensures plain_status { length words.now ≤ 1 → result ≤ 4 }
+    ensures plain_ended { length words.now ≤ 1 → result < 4 → (options : Options) × (status : Status) × ArePlain options × (exit_of status ≡ result) × HoldsRefusal status
+        × IfSome (I.coming input.old) (λ told. (d t : List ℕ) → IsSplit told d t → HasWritten d t options status (W.written out.old) (W.written out.new))
+        × IsReported status (E.failed_writes diagnostics.old) (E.failed_writes diagnostics.new) (E.written diagnostics.old) (E.written diagnostics.new) }
+    ensures plain_stopped { length words.now ≤ 1 → result ≡ 4 → (fault : Fault)
+        × IsCause (record { before = I.failed_reads input.old; after = I.failed_reads input.new })
+        (record { before = W.failed_writes out.old; after = W.failed_writes out.new }) fault
+        × Tells fault (E.failed_writes diagnostics.old) (E.failed_writes diagnostics.new) (E.written diagnostics.old) (E.written diagnostics.new) }
+    ensures plain_begun { length words.now ≤ 1 → W.failed_writes out.old < W.failed_writes out.new → (options : Options) × ArePlain options
+        × IfSome (I.coming input.old) (λ told. (d t : List ℕ) → IsSplit told d t → HasBegun d t options (W.written out.old) (W.written out.new)) }
+    ensures plain_read_failed { length words.now ≤ 1 → I.failed_reads input.old < I.failed_reads input.new → result ≡ 4 }
+{
+    let request = match request_of(alloc, words) {
+        Ok(request) => request,
+        Err(error) => return explain(alloc, &error, out, diagnostics),
+    };
+    let Ok(options) = options_of(alloc, &request) else {
+        return stop(&Fault::Memory, diagnostics);
+    };
+    run_texts(alloc, request.texts, paths, input, &options, out, diagnostics)
 }

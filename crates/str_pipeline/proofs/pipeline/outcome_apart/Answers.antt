@@ -8,53 +8,53 @@ use Rattle.str_pipeline.proofs.OneLine.{none_refused}
 use Rattle.str_pipeline.proofs.WrittenLaws.{of_told, of_told_each, of_told_long, passed, program_fault}
 use Rattle.str_pipeline.proofs.pipeline.outcome_apart.Goals as goal
 
-pub returns-in_err-core-clause-result : goal.returns-in_err-core-clause-result
-returns-in_err-core-clause-result g c =
+pub returns-in_err-program-clause-result : goal.returns-in_err-program-clause-result
+returns-in_err-program-clause-result g c =
     let short : length c.in-Some.text.items ≤ max_definitions = rw (← c.deref.ensures.value, c.deref.ensures.len) (rw c.in-Some.is at c.in_ok-text.ensures.fits) in
     of_told_each (g.D.Source.coming c.args.defs.now) (g.T.Source.coming c.args.term.now) c.in-Some.text.items
-    (λ d t. IsResult d t c.args.budget c.from_residual-in_err-core.result)
+    (λ d t. IsResult d t c.args.options.now c.from_residual-in_err-program.result)
     (rw c.in-Some.is at c.in_ok-text.ensures.whole)
-    (λ t. rw (passed c.from_residual-in_err-core.result c.in_err-core.field-0.0 c.from_residual-in_err-core.ensures.1)
-    (program_fault c.in-Some.text.items t c.args.budget c.in_err-core.field-0.0 short
-    (subst (λ (bytes : List ℕ). IsProgram bytes (Err c.in_err-core.field-0.0)) c.deref.ensures.value c.in_err-core.ensures)))
+    (λ t. rw (passed c.from_residual-in_err-program.result c.in_err-program.field-0.0 c.from_residual-in_err-program.ensures.1)
+    (program_fault c.in-Some.text.items t c.args.options.now c.in_err-program.field-0.0 short
+    (subst (λ (bytes : List ℕ). IsProgram c.args.options.now.main.items bytes (Err c.in_err-program.field-0.0)) c.deref.ensures.value c.in_err-program.ensures)))
 
 pub returns-in_err-text-2-clause-unread_told : goal.returns-in_err-text-2-clause-unread_told
 returns-in_err-text-2-clause-unread_told g c =
-    let made = c.in_ok-core.ensures in
-    let file : PassesChecks c.in-Some.text.items made.0 = rw c.deref.ensures.value at made.1 in
+    let made = c.in_ok-program.ensures in
+    let file : PassesChecks c.args.options.now.main.items c.in-Some.text.items made.0 = rw c.deref.ensures.value at made.1 in
     let short : length c.in-Some.text.items ≤ max_definitions = rw (← c.deref.ensures.value, c.deref.ensures.len) (rw c.in-Some.is at c.in_ok-text.ensures.fits) in
-    none_refused (g.D.Source.coming c.args.defs.now) c.in-Some.text.items made.0 _ (rw c.in-Some.is at c.in_ok-text.ensures.whole) (short, file)
+    none_refused c.args.options.now.main.items (g.D.Source.coming c.args.defs.now) c.in-Some.text.items made.0 _ (rw c.in-Some.is at c.in_ok-text.ensures.whole) (short, file)
 
 pub returns-in_default-2-clause-result : goal.returns-in_default-2-clause-result
 returns-in_default-2-clause-result g c =
-    let made = c.in_ok-core.ensures in
-    let file : PassesChecks c.in-Some.text.items made.0 = rw c.deref.ensures.value at made.1 in
+    let made = c.in_ok-program.ensures in
+    let file : PassesChecks c.args.options.now.main.items c.in-Some.text.items made.0 = rw c.deref.ensures.value at made.1 in
     let short : length c.in-Some.text.items ≤ max_definitions = rw (← c.deref.ensures.value, c.deref.ensures.len) (rw c.in-Some.is at c.in_ok-text.ensures.fits) in
-    of_told_long (g.D.Source.coming c.args.defs.now) (g.T.Source.coming c.args.term.now) c.in-Some.text.items max_term (λ d t. IsFirstFault d t TermTooLong)
+    of_told_long (g.D.Source.coming c.args.defs.now) (g.T.Source.coming c.args.term.now) c.in-Some.text.items max_term (λ d t. IsFirstFault d t c.args.options.now TermTooLong)
     (rw c.in-Some.is at c.in_ok-text.ensures.whole)
     (rw c.in_default-2.is at c.in_ok-text-2.ensures.whole)
     (λ t long. inr (made.0, (short, file), long))
 
 pub returns-in_default-2-clause-unread_told : goal.returns-in_default-2-clause-unread_told
 returns-in_default-2-clause-unread_told g c =
-    let made = c.in_ok-core.ensures in
-    let file : PassesChecks c.in-Some.text.items made.0 = rw c.deref.ensures.value at made.1 in
+    let made = c.in_ok-program.ensures in
+    let file : PassesChecks c.args.options.now.main.items c.in-Some.text.items made.0 = rw c.deref.ensures.value at made.1 in
     let short : length c.in-Some.text.items ≤ max_definitions = rw (← c.deref.ensures.value, c.deref.ensures.len) (rw c.in-Some.is at c.in_ok-text.ensures.fits) in
-    none_refused (g.D.Source.coming c.args.defs.now) c.in-Some.text.items made.0 _ (rw c.in-Some.is at c.in_ok-text.ensures.whole) (short, file)
+    none_refused c.args.options.now.main.items (g.D.Source.coming c.args.defs.now) c.in-Some.text.items made.0 _ (rw c.in-Some.is at c.in_ok-text.ensures.whole) (short, file)
 
 pub returns-clause-unread_told : goal.returns-clause-unread_told
 returns-clause-unread_told g c =
-    let made = c.in_ok-core.ensures in
-    let file : PassesChecks c.in-Some.text.items made.0 = rw c.deref.ensures.value at made.1 in
+    let made = c.in_ok-program.ensures in
+    let file : PassesChecks c.args.options.now.main.items c.in-Some.text.items made.0 = rw c.deref.ensures.value at made.1 in
     let short : length c.in-Some.text.items ≤ max_definitions = rw (← c.deref.ensures.value, c.deref.ensures.len) (rw c.in-Some.is at c.in_ok-text.ensures.fits) in
-    none_refused (g.D.Source.coming c.args.defs.now) c.in-Some.text.items made.0 _ (rw c.in-Some.is at c.in_ok-text.ensures.whole) (short, file)
+    none_refused c.args.options.now.main.items (g.D.Source.coming c.args.defs.now) c.in-Some.text.items made.0 _ (rw c.in-Some.is at c.in_ok-text.ensures.whole) (short, file)
 
 pub returns-clause-result : goal.returns-clause-result
 returns-clause-result g c =
-    let made = c.in_ok-core.ensures in
-    let file : PassesChecks c.in-Some.text.items made.0 = rw c.deref.ensures.value at made.1 in
+    let made = c.in_ok-program.ensures in
+    let file : PassesChecks c.args.options.now.main.items c.in-Some.text.items made.0 = rw c.deref.ensures.value at made.1 in
     of_told (g.D.Source.coming c.args.defs.now) (g.T.Source.coming c.args.term.now) c.in-Some.text.items c.in-Some-2.text.items
-    (λ d t. IsResult d t c.args.budget c.outcome_of.result)
+    (λ d t. IsResult d t c.args.options.now c.outcome_of.result)
     (rw c.in-Some.is at c.in_ok-text.ensures.whole)
     (rw c.in-Some-2.is at c.in_ok-text-2.ensures.whole)
     (rw (← c.deref-2.ensures.value) (c.outcome_of.ensures.result c.in-Some.text.items made.0 (rw (← c.deref.ensures.value, c.deref.ensures.len) (rw c.in-Some.is at c.in_ok-text.ensures.fits), file) made.2))

@@ -8,35 +8,35 @@ use Rattle.str_pipeline.specs.Steps.{IsProgram, IsResult}
 use Rattle.str_pipeline.proofs.WrittenLaws.{of_split, for_each_told, told_then, program_fault, passed}
 use Rattle.str_pipeline.proofs.pipeline.outcome_joined.Goals as goal
 
-pub returns-in_err-core-clause-result : goal.returns-in_err-core-clause-result
-returns-in_err-core-clause-result g c =
+pub returns-in_err-program-clause-result : goal.returns-in_err-program-clause-result
+returns-in_err-program-clause-result g c =
     of_split (g.S.Source.coming c.args.input.now) (g.S.Source.coming c.read_front.new.input) (definitions_of c.in-Some.front) (term_of c.in-Some.front)
-    (λ d t. IsResult d t c.args.budget c.from_residual-in_err-core.result)
+    (λ d t. IsResult d t c.args.options.now c.from_residual-in_err-program.result)
     (rw c.in-Some.is at c.in_ok-front.ensures.split)
-    (for_each_told (g.S.Source.coming c.read_front.new.input) (λ left. IsResult (definitions_of c.in-Some.front) (term_of c.in-Some.front left) c.args.budget c.from_residual-in_err-core.result)
-    (λ left. rw (passed c.from_residual-in_err-core.result c.in_err-core.field-0.0 c.from_residual-in_err-core.ensures.1)
-    (program_fault (definitions_of c.in-Some.front) (term_of c.in-Some.front left) c.args.budget c.in_err-core.field-0.0
+    (for_each_told (g.S.Source.coming c.read_front.new.input) (λ left. IsResult (definitions_of c.in-Some.front) (term_of c.in-Some.front left) c.args.options.now c.from_residual-in_err-program.result)
+    (λ left. rw (passed c.from_residual-in_err-program.result c.in_err-program.field-0.0 c.from_residual-in_err-program.ensures.1)
+    (program_fault (definitions_of c.in-Some.front) (term_of c.in-Some.front left) c.args.options.now c.in_err-program.field-0.0
     (rw c.in-Some.is at c.in_ok-front.ensures.fits)
-    (subst (λ (bytes : List ℕ). IsProgram bytes (Err c.in_err-core.field-0.0)) c.definitions.ensures c.in_err-core.ensures))))
+    (subst (λ (bytes : List ℕ). IsProgram c.args.options.now.main.items bytes (Err c.in_err-program.field-0.0)) c.definitions.ensures c.in_err-program.ensures))))
 
 pub returns-in_default-2-clause-result : goal.returns-in_default-2-clause-result
 returns-in_default-2-clause-result g c =
-    let made = c.in_ok-core.ensures in
-    let file : PassesChecks (definitions_of c.in-Some.front) made.0 = rw c.definitions.ensures at made.1 in
+    let made = c.in_ok-program.ensures in
+    let file : PassesChecks c.args.options.now.main.items (definitions_of c.in-Some.front) made.0 = rw c.definitions.ensures at made.1 in
     let short : length (definitions_of c.in-Some.front) ≤ max_definitions = rw c.in-Some.is at c.in_ok-front.ensures.fits in
     of_split (g.S.Source.coming c.args.input.now) (g.S.Source.coming c.read_front.new.input) (definitions_of c.in-Some.front) (term_of c.in-Some.front)
-    (λ d t. IsFirstFault d t TermTooLong)
+    (λ d t. IsFirstFault d t c.args.options.now TermTooLong)
     (rw c.in-Some.is at c.in_ok-front.ensures.split)
     (told_then _ (λ left. max_term < length (term_of c.in-Some.front left)) _ (rw c.in_default-2.is at c.in_ok-text.ensures.whole)
     (λ left long. inr (made.0, (short, file), long)))
 
 pub returns-clause-result : goal.returns-clause-result
 returns-clause-result g c =
-    let made = c.in_ok-core.ensures in
-    let file : PassesChecks (definitions_of c.in-Some.front) made.0 = rw c.definitions.ensures at made.1 in
+    let made = c.in_ok-program.ensures in
+    let file : PassesChecks c.args.options.now.main.items (definitions_of c.in-Some.front) made.0 = rw c.definitions.ensures at made.1 in
     let short : length (definitions_of c.in-Some.front) ≤ max_definitions = rw c.in-Some.is at c.in_ok-front.ensures.fits in
     of_split (g.S.Source.coming c.args.input.now) (g.S.Source.coming c.read_front.new.input) (definitions_of c.in-Some.front) (term_of c.in-Some.front)
-    (λ d t. IsResult d t c.args.budget c.outcome_of.result)
+    (λ d t. IsResult d t c.args.options.now c.outcome_of.result)
     (rw c.in-Some.is at c.in_ok-front.ensures.split)
     (told_then _ (λ left. c.in-Some-2.text.items ≡ term_of c.in-Some.front left) _ (rw c.in-Some-2.is at c.in_ok-text.ensures.whole)
     (λ left same. rw (← same, ← c.deref.ensures.value)
