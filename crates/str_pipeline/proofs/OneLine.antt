@@ -218,8 +218,8 @@ no_accepted_term {f = f} {t = t} (undeclared_term on u) (is_term, declared) =
     subst (λ (v : Tree). term_is_declared (declarations_of f) v ≡ false) (one_tree u.is_term is_term) u.undeclared in
     let wrong : false ≡ true = sym missing ∙ known in cc
 
-one_term : {strict : Bool} {f g : FileTree} {text : List ℕ} {t u : Tree} → IsAccepted strict f text t → IsAccepted strict g text u → t ≡ u
-one_term (is_term, declared) (also, known) = one_tree is_term also
+one_term : (strict : Bool) (f g : FileTree) {text : List ℕ} {t u : Tree} → IsAccepted strict f text t → IsAccepted strict g text u → t ≡ u
+one_term strict f g (is_term, declared) (also, known) = one_tree is_term also
 
 -- ---- the line
 
@@ -295,7 +295,7 @@ one_of_lines : {M : Meaning} {defs term : List ℕ} {options : Options} {s r : S
     Line M defs term options r other → AreAlike s r × (line ≡ other)
 one_of_lines {M = M} {options = options} {line = line} {other = other} (of_run s x f t file spelled answer) (of_run r y g u also spells reply) =
     let same_file : g ≡ f = one_file also file in
-    let same_term : u ≡ t = one_term spells spelled in
+    let same_term : u ≡ t = one_term options.strict g f spells spelled in
     let P : FileTree → Tree → Type 0 = λ h v. IsAnswer M h options.main.items v options.budget r other in
     one_answer M f options.main.items t options.budget s r line other x y answer (subst (λ v. P f v) same_term (subst (λ h. P h u) same_file reply))
 one_of_lines {defs = defs} {term = term} {options = options} (of_run s x f t file spelled answer) (of_fault fault first is) = absurd (no_run defs term options fault first file spelled)

@@ -23,7 +23,7 @@ use Rattle.str_pipeline.specs.Device.{Gains, GainsPrefix}
 use Rattle.str_pipeline.specs.Joined.{IsSplit}
 use Rattle.str_pipeline.specs.Limits.{max_definitions, max_term}
 use Rattle.str_pipeline.specs.Judged.{AreAccepted, IsAccepted}
-use Rattle.str_pipeline.specs.Faults.{IsRefusal, is_read_fault}
+use Rattle.str_pipeline.specs.Faults.{IsReadingFault, IsRefusal, is_read_fault}
 use Rattle.str_pipeline.specs.Steps.{IsProgram, IsProgramOf, IsTermRead, IsResult, status_of, outcome_line}
 use Rattle.str_pipeline.specs.declared.program.Program.{Program}
 use Rattle.str_pipeline.specs.declared.status.Options.{Options}
@@ -142,6 +142,29 @@ program_fault defs term options (faults.Nesting at) short made = inl (short, mad
 program_fault defs term options faults.Read short made = tt
 program_fault defs term options faults.DefsTooLong short made = absurd (no_check_fault faults.DefsTooLong made (λ numbered. omega arith))
 program_fault defs term options _ short made = inl (short, made)
+
+-- a fault of memory or of reading says nothing of definitions and term
+pub reading_result : (d t : List ℕ) (options : Options) (fault : Fault) → IsReadingFault fault → IsResult d t options (Err fault)
+reading_result d t options faults.Memory reading = tt
+reading_result d t options faults.Read reading = tt
+reading_result d t options faults.Write reading = absurd (omega arith)
+reading_result d t options faults.DefsTooLong reading = absurd (omega arith)
+reading_result d t options (faults.Lexical at) reading = absurd (omega arith)
+reading_result d t options (faults.ReservedWord at) reading = absurd (omega arith)
+reading_result d t options (faults.Syntax at) reading = absurd (omega arith)
+reading_result d t options (faults.Nesting at) reading = absurd (omega arith)
+reading_result d t options faults.DuplicateDeclaration reading = absurd (omega arith)
+reading_result d t options faults.Undeclared reading = absurd (omega arith)
+reading_result d t options faults.Parameters reading = absurd (omega arith)
+reading_result d t options faults.Clash reading = absurd (omega arith)
+reading_result d t options faults.UnknownStrategy reading = absurd (omega arith)
+reading_result d t options faults.NotBuildable reading = absurd (omega arith)
+reading_result d t options faults.UnknownPrimitive reading = absurd (omega arith)
+reading_result d t options faults.NoMain reading = absurd (omega arith)
+reading_result d t options faults.TermTooLong reading = absurd (omega arith)
+reading_result d t options (faults.TermSyntax at) reading = absurd (omega arith)
+reading_result d t options (faults.TermOversize at) reading = absurd (omega arith)
+reading_result d t options faults.TermUndeclared reading = absurd (omega arith)
 
 -- a result that is this fault
 pub passed : {A : Type 0} (result : Result A Fault) (fault : Fault) → IsErrAnd result (λ e. e ≡ fault) → result ≡ Err fault

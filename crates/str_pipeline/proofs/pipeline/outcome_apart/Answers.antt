@@ -1,11 +1,13 @@
 use Rattle.std.proofs.Common.{◌≤◌, inr, length, subst, List, ℕ, Err}
+use Rattle.std.proofs.lemmas.Result.{IfErr-weaker}
+use Rattle.std.specs.Prelude.{IfSome}
 use Rattle.term_model.specs.declared.fault.Fault.TheVariants.{TermTooLong}
 use Rattle.str_pipeline.specs.Judged.{PassesChecks}
 use Rattle.str_pipeline.specs.Limits.{max_definitions, max_term}
 use Rattle.str_pipeline.specs.Written.{IsFirstFault}
 use Rattle.str_pipeline.specs.Steps.{IsProgram, IsResult}
 use Rattle.str_pipeline.proofs.OneLine.{none_refused}
-use Rattle.str_pipeline.proofs.WrittenLaws.{of_told, of_told_each, of_told_long, passed, program_fault}
+use Rattle.str_pipeline.proofs.WrittenLaws.{of_told, of_told_each, of_told_long, for_each_told, passed, program_fault, reading_result}
 use Rattle.str_pipeline.proofs.pipeline.outcome_apart.Goals as goal
 
 pub returns-in_err-program-clause-result : goal.returns-in_err-program-clause-result
@@ -58,3 +60,13 @@ returns-clause-result g c =
     (rw c.in-Some.is at c.in_ok-text.ensures.whole)
     (rw c.in-Some-2.is at c.in_ok-text-2.ensures.whole)
     (rw (← c.deref-2.ensures.value) (c.outcome_of.ensures.result c.in-Some.text.items made.0 (rw (← c.deref.ensures.value, c.deref.ensures.len) (rw c.in-Some.is at c.in_ok-text.ensures.fits), file) made.2))
+
+pub returns-in_err-text-2-clause-result : goal.returns-in_err-text-2-clause-result
+returns-in_err-text-2-clause-result g c =
+    rw (passed c.from_residual-in_err-text-2.result c.in_err-text-2.field-0.0 c.from_residual-in_err-text-2.ensures.1)
+    (for_each_told (g.D.Source.coming c.args.defs.now) (λ d. IfSome (g.T.Source.coming c.args.term.now) (λ t. IsResult d t c.args.options.now (Err c.in_err-text-2.field-0.0)))
+    (λ d. for_each_told (g.T.Source.coming c.args.term.now) (λ t. IsResult d t c.args.options.now (Err c.in_err-text-2.field-0.0))
+    (λ t. reading_result d t c.args.options.now c.in_err-text-2.field-0.0 c.in_err-text-2.ensures.kinds)))
+
+pub returns-clause-unread : goal.returns-clause-unread
+returns-clause-unread g c = IfErr-weaker c.outcome_of.result _ _ (λ fault apart of_definitions. absurd (apart of_definitions)) c.outcome_of.ensures.apart

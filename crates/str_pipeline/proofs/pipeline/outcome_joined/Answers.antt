@@ -1,11 +1,13 @@
 use Rattle.std.proofs.Common.{◌≡◌, ◌<◌, ◌≤◌, inr, subst, List, ℕ, length, Err}
 use Rattle.term_model.specs.declared.fault.Fault.TheVariants.{TermTooLong}
+use Rattle.std.proofs.lemmas.Result.{IfErr-weaker}
+use Rattle.str_pipeline.specs.Joined.{IsSplit}
 use Rattle.str_pipeline.specs.Search.{definitions_of, term_of}
 use Rattle.str_pipeline.specs.Judged.{PassesChecks}
 use Rattle.str_pipeline.specs.Limits.{max_definitions, max_term}
 use Rattle.str_pipeline.specs.Written.{IsFirstFault}
 use Rattle.str_pipeline.specs.Steps.{IsProgram, IsResult}
-use Rattle.str_pipeline.proofs.WrittenLaws.{of_split, for_each_told, told_then, program_fault, passed}
+use Rattle.str_pipeline.proofs.WrittenLaws.{of_split, for_each_told, told_then, program_fault, reading_result, passed}
 use Rattle.str_pipeline.proofs.pipeline.outcome_joined.Goals as goal
 
 pub returns-in_err-program-clause-result : goal.returns-in_err-program-clause-result
@@ -41,3 +43,12 @@ returns-clause-result g c =
     (told_then _ (λ left. c.in-Some-2.text.items ≡ term_of c.in-Some.front left) _ (rw c.in-Some-2.is at c.in_ok-text.ensures.whole)
     (λ left same. rw (← same, ← c.deref.ensures.value)
     (c.outcome_of.ensures.result (definitions_of c.in-Some.front) made.0 (short, file) made.2)))
+
+pub returns-in_err-text-clause-result : goal.returns-in_err-text-clause-result
+returns-in_err-text-clause-result g c =
+    rw (passed c.from_residual-in_err-text.result c.in_err-text.field-0.0 c.from_residual-in_err-text.ensures.1)
+    (for_each_told (g.S.Source.coming c.args.input.now) (λ told. (d t : List ℕ) → IsSplit told d t → IsResult d t c.args.options.now (Err c.in_err-text.field-0.0))
+    (λ told d t split. reading_result d t c.args.options.now c.in_err-text.field-0.0 c.in_err-text.ensures.kinds))
+
+pub returns-clause-defs_bounded : goal.returns-clause-defs_bounded
+returns-clause-defs_bounded g c = IfErr-weaker c.outcome_of.result _ _ (λ fault apart of_definitions. absurd (apart of_definitions)) c.outcome_of.ensures.apart
