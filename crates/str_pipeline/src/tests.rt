@@ -4,6 +4,7 @@ mod devices;
 mod forms;
 mod language_rows;
 mod memory;
+mod option_rows;
 mod pipeline;
 mod rows;
 mod term_rows;

@@ -18,6 +18,7 @@ pub trait Paths {
 }
 
 /// The files of the system.
+#[derive(Drop)]
 pub(crate) struct Files<'a> {
     runtime: &'a HostRuntime,
 }

@@ -159,21 +159,21 @@ fn run_texts<P: Paths, I: Source, W: Sink, E: Sink>(
 ) -> u8
     requires { options.now.budget ≤ max_budget }
     ensures status { result ≤ 4 }
-    ensures joined_ended { texts ≡ Joined → result < 4 → (status : Status) × (exit_of status ≡ result) × HoldsRefusal status
+    ensures joined_ended { texts.entry ≡ Joined → result < 4 → (status : Status) × (exit_of status ≡ result) × HoldsRefusal status
         × IfSome (I.coming input.old) (λ told. (d t : List ℕ) → IsSplit told d t → HasWritten d t options.now status (W.written out.old) (W.written out.new))
         × IsReported status (E.failed_writes diagnostics.old) (E.failed_writes diagnostics.new) (E.written diagnostics.old) (E.written diagnostics.new) }
-    ensures joined_stopped { texts ≡ Joined → result ≡ 4 → (fault : Fault)
+    ensures joined_stopped { texts.entry ≡ Joined → result ≡ 4 → (fault : Fault)
         × IsCause (record { before = I.failed_reads input.old; after = I.failed_reads input.new })
         (record { before = W.failed_writes out.old; after = W.failed_writes out.new }) fault
         × Tells fault (E.failed_writes diagnostics.old) (E.failed_writes diagnostics.new) (E.written diagnostics.old) (E.written diagnostics.new) }
-    ensures joined_begun { texts ≡ Joined → W.failed_writes out.old < W.failed_writes out.new →
+    ensures joined_begun { texts.entry ≡ Joined → W.failed_writes out.old < W.failed_writes out.new →
         IfSome (I.coming input.old) (λ told. (d t : List ℕ) → IsSplit told d t → HasBegun d t options.now (W.written out.old) (W.written out.new)) }
     ensures ended { result < 4 → (status : Status) × (exit_of status ≡ result) × HoldsRefusal status
         × IsReported status (E.failed_writes diagnostics.old) (E.failed_writes diagnostics.new) (E.written diagnostics.old) (E.written diagnostics.new) }
     ensures stopped { result ≡ 4 → (fault : Fault)
         × Tells fault (E.failed_writes diagnostics.old) (E.failed_writes diagnostics.new) (E.written diagnostics.old) (E.written diagnostics.new) }
     ensures unwritten { result ≡ 4 → W.failed_writes out.new ≡ W.failed_writes out.old → out.new ≡ out.old }
-    ensures joined_read_failed { texts ≡ Joined → I.failed_reads input.old < I.failed_reads input.new → result ≡ 4 }
+    ensures joined_read_failed { texts.entry ≡ Joined → I.failed_reads input.old < I.failed_reads input.new → result ≡ 4 }
     ensures write_failed { W.failed_writes out.old < W.failed_writes out.new → result ≡ 4 }
     ensures bounded { I.reads input.new ≤ I.reads input.old + max_definitions + 17 + max_term + 1 }
 {

@@ -17,17 +17,16 @@ struct Answer {
 }
 
 /// Transforms texts in memory: the line and the status are those of the definitions, the term and
-/// the budget.
+/// the options.
 #[tactic(auto, using(crate::proofs::MemoryLaws::written_whole))]
-fn transformed(alloc: Global, defs: &[u8], term: &[u8], budget: u32) -> Result<Answer, Fault>
-    requires { budget ≤ max_budget }
-    ensures { IfOk result (λ answer. (M : Meaning) → IsWritten M defs.now term.now budget answer.status answer.line.items) }
+fn transformed(alloc: Global, defs: &[u8], term: &[u8], options: &Options) -> Result<Answer, Fault>
+    requires { options.now.budget ≤ max_budget }
+    ensures { IfOk result (λ answer. (M : Meaning) → IsWritten M defs.now term.now options.now answer.status answer.line.items) }
 {
-    let options = Options { budget };
     let mut first = Counted::new(defs);
     let mut second = Counted::new(term);
     let mut out = Counted::new(Vec::new(alloc));
-    let status = transform(alloc, &mut first, &mut second, &options, &mut out)?;
+    let status = transform(alloc, &mut first, &mut second, options, &mut out)?;
     Ok(Answer {
         status,
         line: out.into_inner(),
@@ -62,12 +61,12 @@ fn texts_in_memory(rt: HostRuntime) -> Result<(), Fail> {
         ),
     ];
     for (defs, term, budget, line) in rows {
-        let answer = transformed(
-            rt.alloc(),
-            defs.as_bytes(),
-            term.as_bytes(),
-            budget.min(MAX_BUDGET),
-        )?;
+        let options = Options {
+            main: b"main".to_vec(rt.alloc())?,
+            strict: false,
+            budget: budget.min(MAX_BUDGET),
+        };
+        let answer = transformed(rt.alloc(), defs.as_bytes(), term.as_bytes(), &options)?;
         assert_eq!(rt; answer.line.as_slice(), line.as_bytes());
         assert_eq!(rt;
             matches!(answer.status, Status::Rewritten),

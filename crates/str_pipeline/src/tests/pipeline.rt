@@ -1,10 +1,11 @@
 //! Whole runs, from bytes to bytes.
-ghost use Rattle.std.specs.Prelude.{◌≤◌};
+ghost use Rattle.std.specs.Prelude.{◌≡◌, ◌≤◌, IfOk};
 ghost use Rattle.term_model.specs.Limits.{max_budget};
 
 use crate::tests::complaints::{PARTS, Part};
 use crate::tests::forms::{FORMS, SIGNATURE};
 use crate::tests::language_rows::{CHECK_ROWS, LANGUAGE_ROWS};
+use crate::tests::option_rows::OPTION_ROWS;
 use crate::tests::rows::{JOINED_ROWS, Pieces, ROWS};
 use crate::tests::term_rows::TERM_ROWS;
 use crate::{Faulty, MAX_BUDGET, Options, Status, transform, transform_joined};
@@ -47,36 +48,59 @@ fn fits(status: &Status, line: &[u8]) -> bool {
     }
 }
 
-/// Whether definitions and a term give this line, in both forms.
+/// Returns the options for a run of `main` within this budget.
+fn plain_options(alloc: Global, budget: u32) -> Result<Options, AllocError>
+    ensures { IfOk result (λ options. options.budget ≡ budget) }
+{
+    Ok(Options {
+        main: b"main".to_vec(alloc)?,
+        strict: false,
+        budget,
+    })
+}
+
+/// Whether definitions and a term give this line within the budget, in both forms.
 fn gives(alloc: Global, defs: &[u8], term: &[u8], budget: u32, line: &[u8]) -> Result<bool, Fault>
     requires { budget ≤ max_budget }
 {
-    let options = Options { budget };
+    let options = plain_options(alloc, budget)?;
+    gives_with(alloc, defs, term, &options, line)
+}
+
+/// Whether definitions and a term give this line with these options, in both forms.
+fn gives_with(
+    alloc: Global,
+    defs: &[u8],
+    term: &[u8],
+    options: &Options,
+    line: &[u8],
+) -> Result<bool, Fault>
+    requires { options.now.budget ≤ max_budget }
+{
     let mut out = Faulty::writer(alloc, ROOM, PIECE, None, false)?;
     let mut first = Faulty::reader(defs.to_vec(alloc)?, PIECE, None);
     let mut second = Faulty::reader(term.to_vec(alloc)?, PIECE, None);
-    let status = transform(alloc, &mut first, &mut second, &options, &mut out)?;
+    let status = transform(alloc, &mut first, &mut second, options, &mut out)?;
     let is_apart = fits(&status, line) && out.written() == line;
     let mut text = defs.to_vec(alloc)?;
     text.extend_from_slice(b"\n#term\n")?;
     text.extend_from_slice(term)?;
-    Ok(is_apart && gives_joined(alloc, &text, PIECE, budget, line)?)
+    Ok(is_apart && gives_joined(alloc, &text, PIECE, options, line)?)
 }
 
 fn gives_joined(
     alloc: Global,
     text: &[u8],
     piece: usize,
-    budget: u32,
+    options: &Options,
     line: &[u8],
 ) -> Result<bool, Fault>
     requires piece { 1 ≤ piece }
-    requires budget { budget ≤ max_budget }
+    requires budget { options.now.budget ≤ max_budget }
 {
-    let options = Options { budget };
     let mut out = Faulty::writer(alloc, ROOM, PIECE, None, false)?;
     let mut input = Faulty::reader(text.to_vec(alloc)?, piece, None);
-    let status = transform_joined(alloc, &mut input, &options, &mut out)?;
+    let status = transform_joined(alloc, &mut input, options, &mut out)?;
     Ok(fits(&status, line) && out.written() == line)
 }
 
@@ -171,20 +195,21 @@ fn the_least_complaint(rt: HostRuntime) -> Result<(), Fail> {
 #[test]
 fn joined_rows(rt: HostRuntime) -> Result<(), Fail> {
     let alloc = rt.alloc();
+    let options = plain_options(alloc, MAX_BUDGET)?;
     for (index, row) in JOINED_ROWS.iter().enumerate() {
         let text = text_of(alloc, row.text)?;
         let line = line_of(alloc, row.line)?;
         assert!(rt;
-            gives_joined(alloc, &text, PIECE, MAX_BUDGET, &line)?,
+            gives_joined(alloc, &text, PIECE, &options, &line)?,
             "row {index}"
         );
         if text.len() < PIECE {
             assert!(rt;
-                gives_joined(alloc, &text, 1, MAX_BUDGET, &line)?,
+                gives_joined(alloc, &text, 1, &options, &line)?,
                 "row {index} by 1"
             );
             assert!(rt;
-                gives_joined(alloc, &text, 7, MAX_BUDGET, &line)?,
+                gives_joined(alloc, &text, 7, &options, &line)?,
                 "row {index} by 7"
             );
         }
@@ -193,9 +218,28 @@ fn joined_rows(rt: HostRuntime) -> Result<(), Fail> {
 }
 
 #[test]
+fn option_rows(rt: HostRuntime) -> Result<(), Fail> {
+    let alloc = rt.alloc();
+    for (defs, term, main, strict, budget, line) in OPTION_ROWS {
+        let options = Options {
+            main: main.as_bytes().to_vec(alloc)?,
+            strict: *strict,
+            budget: (*budget).min(MAX_BUDGET),
+        };
+        let mut text = line.as_bytes().to_vec(alloc)?;
+        text.push(b'\n')?;
+        assert!(rt;
+            gives_with(alloc, defs.as_bytes(), term.as_bytes(), &options, &text)?,
+            "{main} of {defs} on {term}"
+        );
+    }
+    Ok(())
+}
+
+#[test]
 fn failing_readers(rt: HostRuntime) -> Result<(), Fail> {
     let alloc = rt.alloc();
-    let options = Options { budget: MAX_BUDGET };
+    let options = plain_options(alloc, MAX_BUDGET)?;
     let defs = b"strategies main = ?(x,_); !x";
     let term = b"(7,f(1))";
     let joined = b"strategies main = ?(x,_); !x\n#term\n(7,f(1))";
@@ -230,7 +274,7 @@ fn failing_readers(rt: HostRuntime) -> Result<(), Fail> {
 #[test]
 fn refused_definitions_leave_the_term(rt: HostRuntime) -> Result<(), Fail> {
     let alloc = rt.alloc();
-    let options = Options { budget: MAX_BUDGET };
+    let options = plain_options(alloc, MAX_BUDGET)?;
     for (defs, line) in [
         ("strategies main = #", b"#refused Lexical\n".as_slice()),
         ("strategies main = id;", b"#refused Syntax\n".as_slice()),
@@ -254,7 +298,7 @@ fn refused_definitions_leave_the_term(rt: HostRuntime) -> Result<(), Fail> {
 #[test]
 fn failing_writers(rt: HostRuntime) -> Result<(), Fail> {
     let alloc = rt.alloc();
-    let options = Options { budget: MAX_BUDGET };
+    let options = plain_options(alloc, MAX_BUDGET)?;
     let line = b"f(1)\n";
     for bad in 1..8u64 {
         let silent = bad % 2 == 0;
