@@ -1,3 +1,4 @@
 pub mod CauseLaws
 pub mod PrefixLaws
+pub mod RequestLaws
 pub mod RulesLaws
