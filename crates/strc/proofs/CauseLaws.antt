@@ -4,8 +4,8 @@ use Rattle.std.specs.Prelude.{Err, if◌then◌else◌}
 use Rattle.term_model.specs.declared.fault.Fault.{Fault}
 use Rattle.term_model.specs.declared.fault.Fault.TheVariants.{Memory, Read, Write, DefsTooLong, Lexical, ReservedWord, Syntax, Nesting, DuplicateDeclaration, Undeclared, Parameters, Clash, UnknownStrategy, NotBuildable, UnknownPrimitive, NoMain, TermTooLong, TermSyntax, TermOversize, TermUndeclared}
 use Rattle.str_pipeline.specs.declared.status.Status.{Status}
-use Rattle.str_pipeline.specs.Faults.{IsTransferFault, is_read_fault, is_write_fault}
-use Rattle.strc.specs.Report.{IsCause}
+use Rattle.str_pipeline.specs.Faults.{IsReadingFault, IsTransferFault, is_read_fault, is_write_fault}
+use Rattle.strc.specs.Report.{Failures, IsCause}
 
 -- the fault that ends a transformation follows from the failed reads and writes in it
 pub cause : (fault : Fault) (r s v w : ℕ) → IsTransferFault fault
@@ -31,3 +31,14 @@ cause TermTooLong r s v w kinds read wrote = absurd (omega arith)
 cause (TermSyntax at) r s v w kinds read wrote = absurd (omega arith)
 cause (TermOversize at) r s v w kinds read wrote = absurd (omega arith)
 cause TermUndeclared r s v w kinds read wrote = absurd (omega arith)
+
+-- such a fault is one of memory, of reading or of writing
+pub of_transfer : (reads writes : Failures) (fault : Fault) → IsCause reads writes fault → IsTransferFault fault
+of_transfer reads writes Memory why = (omega arith, omega arith)
+of_transfer reads writes Read why = (omega arith, omega arith)
+of_transfer reads writes Write why = (omega arith, omega arith)
+of_transfer reads writes _ why = absurd why
+
+-- and so is one of opening a file
+pub of_reading : (fault : Fault) → IsReadingFault fault → IsTransferFault fault
+of_reading fault reading = (omega arith, omega arith)

@@ -6,7 +6,7 @@ use Rattle.std.specs.List.{All, slice_index_or}
 use Rattle.std.proofs.lemmas.Bool.{cases_lt}
 use Rattle.std.proofs.lemmas.List.Elements.{All-push, All-get_or}
 use Rattle.std.proofs.lemmas.Slice.Eq.{bytes_eq-Decides}
-use Rattle.clap.specs.Words.{Accepts, AddsArg, IsParsedFrom, IsPlainArg, IsSignedIn, SameRules, args_of, found_of, groups_of, one_text, read_as, reading_of, without_minus}
+use Rattle.clap.specs.Words.{Accepts, AddsArg, IsParsedFrom, IsSignedIn, SameRules, args_of, found_of, groups_of, one_text, read_as, reading_of, without_minus}
 use Rattle.clap.specs.Facts.{Entry, EntryPasses, IsKnownGroup, PassesArg, HasReading, parser_of, parser_of_value}
 use Rattle.clap.specs.Built.{IsAuto}
 use Rattle.clap.specs.Matches.{matched_of}
@@ -105,8 +105,8 @@ entry_ranged : (c : Command) (m : ArgMatches) (p : IsParsedFrom c m) → TakesRu
     (value : List ℕ) × (text ≡ without_minus value) × IsSignedIn (pos 0) (pos max_budget) value
 entry_ranged c m p takes e is passes text found =
     let alone : e.1.is_group ≡ true → ⊥ = λ group. no_group c m p takes e.0.now is (passes.3 group) in
-    let values : All (λ v. PassesArg p.built e.0.now v.now) e.1.vals.items = elim passes.0 [ | inl group ↦ absurd (alone group) | inr all ↦ all ] in
-    let how : HasReading p.built e.0.now e.1.reading = elim passes.4 [ | inl group ↦ absurd (alone group) | inr read ↦ read ] in
+    let values : All (λ v. PassesArg p.built e.0.now v.now) e.1.vals.items = elim passes.0 [ inl group ↦ absurd (alone group) | inr all ↦ all ] in
+    let how : HasReading p.built e.0.now e.1.reading = elim passes.4 [ inl group ↦ absurd (alone group) | inr read ↦ read ] in
     first_ranged e.1.vals.items e.1.reading text
     (λ k d within. value_ranged c m p takes e.0.now (slice_index_or e.1.vals.items k d).now is (values k d within))
     (read_so c m p takes e.0.now e.1.reading is how) found

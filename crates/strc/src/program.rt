@@ -1,12 +1,12 @@
 //! The work of the program, over any streams and files.
-ghost use Rattle.std.specs.Prelude.{◌≡◌, ◌+◌, ◌<◌, ◌≤◌, ℕ, List, length, IfOk, IfErr, IfSome, if◌then◌else◌};
+ghost use Rattle.std.specs.Prelude.{◌≡◌, ◌+◌, ◌<◌, ◌≤◌, ℕ, List, length, IfSome};
 ghost use Rattle.term_model.specs.declared.fault.Fault.{Fault};
 ghost use Rattle.term_model.specs.Limits.{max_budget};
 ghost use Rattle.str_pipeline.specs.declared.status.Options.{Options};
 ghost use Rattle.str_pipeline.specs.declared.status.Status.{Status};
 ghost use Rattle.str_pipeline.specs.Joined.{IsSplit};
 ghost use Rattle.str_pipeline.specs.Written.{HasWritten, HasBegun};
-ghost use Rattle.str_pipeline.specs.Faults.{HoldsRefusal};
+ghost use Rattle.str_pipeline.specs.Faults.{HoldsRefusal, IsTransferFault};
 ghost use Rattle.str_pipeline.specs.Limits.{max_definitions, max_term};
 ghost use Rattle.strc.specs.Report.{exit_of, IsCause, Tells, IsReported};
 ghost use Rattle.strc.specs.Request.{ArePlain};
@@ -118,6 +118,7 @@ fn run_apart<D: Source, T: Source, W: Sink, E: Sink>(
 }
 
 /// Does the work with two files, of which that of the definitions is opened first.
+#[tactic(auto, using(crate::proofs::CauseLaws::of_transfer, crate::proofs::CauseLaws::of_reading))]
 fn run_files<P: Paths, W: Sink, E: Sink>(
     alloc: Global,
     paths: &mut P,
@@ -131,7 +132,7 @@ fn run_files<P: Paths, W: Sink, E: Sink>(
     ensures status { result ≤ 4 }
     ensures ended { result < 4 → (status : Status) × (exit_of status ≡ result) × HoldsRefusal status
         × IsReported status (E.failed_writes diagnostics.old) (E.failed_writes diagnostics.new) (E.written diagnostics.old) (E.written diagnostics.new) }
-    ensures stopped { result ≡ 4 → (fault : Fault)
+    ensures stopped { result ≡ 4 → (fault : Fault) × IsTransferFault fault
         × Tells fault (E.failed_writes diagnostics.old) (E.failed_writes diagnostics.new) (E.written diagnostics.old) (E.written diagnostics.new) }
     ensures unwritten { result ≡ 4 → W.failed_writes out.new ≡ W.failed_writes out.old → out.new ≡ out.old }
     ensures write_failed { W.failed_writes out.old < W.failed_writes out.new → result ≡ 4 }
@@ -144,10 +145,18 @@ fn run_files<P: Paths, W: Sink, E: Sink>(
         Ok(reader) => reader,
         Err(fault) => return stop(&fault, diagnostics),
     };
-    run_apart(alloc, &mut definitions, &mut term, options, out, diagnostics)
+    run_apart(
+        alloc,
+        &mut definitions,
+        &mut term,
+        options,
+        out,
+        diagnostics,
+    )
 }
 
 /// Does the work with the texts that come from these places. A file that cannot be opened is a fault before anything is read.
+#[tactic(auto, using(crate::proofs::CauseLaws::of_transfer, crate::proofs::CauseLaws::of_reading))]
 fn run_texts<P: Paths, I: Source, W: Sink, E: Sink>(
     alloc: Global,
     texts: Texts<'_>,
@@ -170,7 +179,7 @@ fn run_texts<P: Paths, I: Source, W: Sink, E: Sink>(
         IfSome (I.coming input.old) (λ told. (d t : List ℕ) → IsSplit told d t → HasBegun d t options.now (W.written out.old) (W.written out.new)) }
     ensures ended { result < 4 → (status : Status) × (exit_of status ≡ result) × HoldsRefusal status
         × IsReported status (E.failed_writes diagnostics.old) (E.failed_writes diagnostics.new) (E.written diagnostics.old) (E.written diagnostics.new) }
-    ensures stopped { result ≡ 4 → (fault : Fault)
+    ensures stopped { result ≡ 4 → (fault : Fault) × IsTransferFault fault
         × Tells fault (E.failed_writes diagnostics.old) (E.failed_writes diagnostics.new) (E.written diagnostics.old) (E.written diagnostics.new) }
     ensures unwritten { result ≡ 4 → W.failed_writes out.new ≡ W.failed_writes out.old → out.new ≡ out.old }
     ensures joined_read_failed { texts.entry ≡ Joined → I.failed_reads input.old < I.failed_reads input.new → result ≡ 4 }
@@ -194,15 +203,10 @@ fn run_texts<P: Paths, I: Source, W: Sink, E: Sink>(
 
 /// Tells what is wrong with the words on `diagnostics`, and returns 5; or writes the help text or the version to `out`, as was asked, and
 /// returns 0.
-fn explain<W: Sink, E: Sink>(
-    alloc: Global,
-    error: &Error,
-    out: &mut W,
-    diagnostics: &mut E,
-) -> u8
+fn explain<W: Sink, E: Sink>(alloc: Global, error: &Error, out: &mut W, diagnostics: &mut E) -> u8
     ensures status { result ≤ 5 }
     ensures usage { result ≡ 5 → out.new ≡ out.old }
-    ensures stopped { result ≡ 4 → (fault : Fault)
+    ensures stopped { result ≡ 4 → (fault : Fault) × IsTransferFault fault
         × Tells fault (E.failed_writes diagnostics.old) (E.failed_writes diagnostics.new) (E.written diagnostics.old) (E.written diagnostics.new) }
     ensures unwritten { result ≡ 4 → W.failed_writes out.new ≡ W.failed_writes out.old → out.new ≡ out.old }
     ensures write_failed { W.failed_writes out.old < W.failed_writes out.new → result ≡ 4 }
@@ -246,7 +250,7 @@ pub fn run<P: Paths, I: Source, W: Sink, E: Sink>(
 ) -> u8
     ensures status { result ≤ 5 }
     ensures usage { result ≡ 5 → (out.new ≡ out.old) × (input.new ≡ input.old) }
-    ensures stopped { result ≡ 4 → (fault : Fault)
+    ensures stopped { result ≡ 4 → (fault : Fault) × IsTransferFault fault
         × Tells fault (E.failed_writes diagnostics.old) (E.failed_writes diagnostics.new) (E.written diagnostics.old) (E.written diagnostics.new) }
     ensures unwritten { result ≡ 4 → W.failed_writes out.new ≡ W.failed_writes out.old → out.new ≡ out.old }
     ensures write_failed { W.failed_writes out.old < W.failed_writes out.new → result ≡ 4 }
@@ -270,5 +274,13 @@ pub fn run<P: Paths, I: Source, W: Sink, E: Sink>(
     let Ok(options) = options_of(alloc, &request) else {
         return stop(&Fault::Memory, diagnostics);
     };
-    run_texts(alloc, request.texts, paths, input, &options, out, diagnostics)
+    run_texts(
+        alloc,
+        request.texts,
+        paths,
+        input,
+        &options,
+        out,
+        diagnostics,
+    )
 }

@@ -1,5 +1,5 @@
 //! The words of the command line.
-ghost use Rattle.std.specs.Prelude.{◌≡◌, ◌≤◌, length, IfOk, IsOkAnd};
+ghost use Rattle.std.specs.Prelude.{◌≤◌, length, IfOk, IsOkAnd};
 ghost use Rattle.term_model.specs.Limits.{max_budget};
 ghost use Rattle.strc.specs.Request.{IsPlainRequest, IsAsked};
 ghost use Rattle.strc.specs.Rules.{Fits, TakesRules, HasRules};

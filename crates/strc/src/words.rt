@@ -2,8 +2,8 @@
 ghost use Rattle.std.specs.Prelude.{◌≡◌, ◌⊎◌};
 
 use crate::program::stop;
-use std::io::{self, ErrorKind};
 use std::env;
+use std::io::{self, ErrorKind};
 use str_pipeline::{Sink, write_all};
 use term_model::Fault;
 

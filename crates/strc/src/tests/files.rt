@@ -49,17 +49,42 @@ fn runs(rt: HostRuntime) -> Result<(), Fail> {
         ("strc bad.str none.trm", "", 4, "", "strc: Read\n"),
         ("strc folder/ pair.trm", "", 4, "", "strc: Read\n"),
         ("strc id.str folder/", "", 4, "", "strc: Read\n"),
-        ("strc bad.str folder/", "", 2, "#refused UnknownStrategy\n", "strc: UnknownStrategy\n"),
-        ("strc --rules 2001 id.str", "7", 5, "", "error: invalid value '2001'"),
-        ("strc a b c", "", 5, "", "error: unexpected argument 'c' found\n"),
+        (
+            "strc bad.str folder/",
+            "",
+            2,
+            "#refused UnknownStrategy\n",
+            "strc: UnknownStrategy\n",
+        ),
+        (
+            "strc --rules 2001 id.str",
+            "7",
+            5,
+            "",
+            "error: invalid value '2001'",
+        ),
+        (
+            "strc a b c",
+            "",
+            5,
+            "",
+            "error: unexpected argument 'c' found\n",
+        ),
         ("strc --version", "", 0, "strc 0.1.0\n", ""),
     ];
     for (line, input, status, out, told) in rows {
         let ran = run_on(alloc, line, input.as_bytes(), None, None, None)?;
         assert_eq!(rt; ran.status, status, "{line}");
         assert_eq!(rt; ran.out.written(), out.as_bytes(), "{line}");
-        assert!(rt; ran.diagnostics.written().starts_with(told.as_bytes()), "{line}");
-        assert_eq!(rt; ran.diagnostics.written().is_empty(), told.is_empty(), "{line}");
+        assert!(rt;
+            ran.diagnostics.written().starts_with(told.as_bytes()),
+            "{line}"
+        );
+        assert_eq!(rt;
+            ran.diagnostics.written().is_empty(),
+            told.is_empty(),
+            "{line}"
+        );
     }
     Ok(())
 }
@@ -92,12 +117,20 @@ fn writes_that_fail(rt: HostRuntime) -> Result<(), Fail> {
         ("strc --help", Some(1), 4, "strc: Write\n"),
         ("strc --version", Some(2), 4, "strc: Write\n"),
         ("strc first.str pair.trm", Some(1), 4, "strc: Write\n"),
-        ("strc --nope", Some(1), 5, "error: unexpected argument '--nope' found\n"),
+        (
+            "strc --nope",
+            Some(1),
+            5,
+            "error: unexpected argument '--nope' found\n",
+        ),
     ];
     for (line, bad, status, told) in rows {
         let ran = run_on(alloc, line, b"", None, bad, None)?;
         assert_eq!(rt; ran.status, status, "{line}");
-        assert!(rt; ran.diagnostics.written().starts_with(told.as_bytes()), "{line}");
+        assert!(rt;
+            ran.diagnostics.written().starts_with(told.as_bytes()),
+            "{line}"
+        );
         let silent = run_on(alloc, line, b"", None, bad, Some(1))?;
         assert_eq!(rt; silent.status, status, "{line}");
     }

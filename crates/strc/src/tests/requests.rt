@@ -32,11 +32,26 @@ fn requests(rt: HostRuntime) -> Result<(), Fail> {
         ("strc --main= a.str b.trm", asks("", both)),
         ("strc --main -x- a.str b.trm", asks("-x-", both)),
         ("strc --main --strict a.str b.trm", asks("--strict", both)),
-        ("strc -- -a --strict", asks("main", Texts::Both("-a", "--strict"))),
+        (
+            "strc -- -a --strict",
+            asks("main", Texts::Both("-a", "--strict")),
+        ),
         ("strc -", asks("main", Texts::Definitions("-"))),
-        ("strc --rules 0", Request { rules: 0, ..asks("main", Texts::Joined) }),
+        (
+            "strc --rules 0",
+            Request {
+                rules: 0,
+                ..asks("main", Texts::Joined)
+            },
+        ),
         ("strc --rules=2000", asks("main", Texts::Joined)),
-        ("strc --rules 0007", Request { rules: 7, ..asks("main", Texts::Joined) }),
+        (
+            "strc --rules 0007",
+            Request {
+                rules: 7,
+                ..asks("main", Texts::Joined)
+            },
+        ),
         (
             "strc --strict --rules 5 a.str b.trm",
             Request {
@@ -132,7 +147,11 @@ fn faults_of_words(rt: HostRuntime) -> Result<(), Fail> {
         assert_eq!(rt; error.kind(), kind, "{line}");
         assert!(rt; text.as_str().starts_with(begins), "{line}: {text}");
         if error.use_stderr() {
-            assert!(rt; text.as_str().ends_with("\nFor more information, try '--help'.\n"), "{line}: {text}");
+            assert!(rt;
+                text.as_str()
+                    .ends_with("\nFor more information, try '--help'.\n"),
+                "{line}: {text}"
+            );
         }
     }
     Ok(())

@@ -11,7 +11,10 @@ use term_model::Fault;
 const FILES: [(&str, &str); 6] = [
     ("id.str", "strategies main = id"),
     ("first.str", "strategies main = ?(x,_); !x go = id"),
-    ("signed.str", "signature constructors F : T -> T strategies main = ?F(x); !x"),
+    (
+        "signed.str",
+        "signature constructors F : T -> T strategies main = ?F(x); !x",
+    ),
     ("bad.str", "strategies main = foo"),
     ("pair.trm", "(7,f(1))"),
     ("bad.trm", "F(1"),

@@ -133,6 +133,9 @@ fn the_place_of_nesting(rt: HostRuntime) -> Result<(), Fail> {
     let ran = run_on(alloc, "strc", &text, None, None, None)?;
     assert_eq!(rt; ran.status, 2);
     assert_eq!(rt; ran.out.written(), b"#refused Nesting\n".as_slice());
-    assert_eq!(rt; ran.diagnostics.written(), b"strc: Nesting at byte 218\n".as_slice());
+    assert_eq!(rt;
+        ran.diagnostics.written(),
+        b"strc: Nesting at byte 218\n".as_slice()
+    );
     Ok(())
 }
