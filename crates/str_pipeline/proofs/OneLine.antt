@@ -1,5 +1,5 @@
 -- Definitions, the text of a term and options have at most one line and one status.
-use Rattle.std.proofs.Common.{◌≡◌, ℕ, ◌<◌, ◌≤◌, Bool, List, length, refl, sym, ◌∙◌, ap, subst, arith, inl, inr, Ok, Err, Option, Some, None, IfSome, true, false, ◌++◌, codes}
+use Rattle.std.proofs.Common.{◌≡◌, ℕ, ◌<◌, ◌≤◌, Bool, List, length, refl, sym, ◌∙◌, ap, subst, arith, inl, inr, Err, Option, Some, None, IfSome, true, false, ◌++◌, codes}
 use Rattle.term_model.specs.declared.fault.Fault.{Fault}
 use Rattle.term_model.specs.declared.fault.Fault.TheVariants.{DefsTooLong, Lexical, ReservedWord, Syntax, Nesting, TermTooLong, TermOversize, TermSyntax, TermUndeclared}
 use Rattle.term_model.specs.Fault.{number_of, word_of}

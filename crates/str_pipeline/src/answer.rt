@@ -29,7 +29,6 @@ pub const MAX_TERM: usize = 16_777_216;
 pub const MAX_BUDGET: u32 = 2_000;
 
 /// Reads a term, and in strict mode asks that the signature declares each application in it.
-
 fn term_of(
     alloc: Global,
     signature: &Signature,
