@@ -11,9 +11,7 @@ use crate::input::{Input, Lexeme};
 use crate::names::{name, parameters};
 use std::alloc::Global;
 use str_lexer::{Keyword, Mark};
-use str_syntax::{
-    Definition, DefinitionForm, DefinitionHead, Origin, Rule, RuleDefinition, build,
-};
+use str_syntax::{Definition, DefinitionForm, DefinitionHead, Origin, Rule, RuleDefinition, build};
 use term_model::Fault;
 
 // Reads the rule that the tokens begin with; also returns the tokens after it.
