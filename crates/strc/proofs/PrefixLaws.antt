@@ -1,6 +1,6 @@
 -- What a writer has gained after several writes in a row.
-use Rattle.std.proofs.Common.{◌≡◌, ◌+◌, ◌≤◌, ℕ, List, ◌++◌, length, take, Option, None, Some, sym, ◌∙◌, ap, refl, arith, append_assoc, inl, false, true≢false, length-append}
-use Rattle.std.proofs.lemmas.List.{take-append-le, take-append-drop, take_at, take_all, drop_at}
+use Rattle.std.proofs.Common.{◌≡◌, ◌+◌, ◌≤◌, ℕ, List, ◌++◌, length, take, Option, None, Some, refl, arith, inl, false, true≢false, length-append}
+use Rattle.std.proofs.lemmas.List.{take-append-le, take_at, drop_at}
 use Rattle.std.proofs.Math.Seq.{take-add}
 use Rattle.std.proofs.lemmas.Grind.{common_steps}
 use Rattle.std.specs.Prelude.{Result, Ok, Err, OnOk, is_err, if◌then◌else◌}

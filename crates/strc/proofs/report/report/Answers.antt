@@ -1,6 +1,6 @@
-use Rattle.std.proofs.Common.{◌≡◌, ◌∙◌, ◌++◌, ◌∷◌, [], List, ℕ, codes}
+use Rattle.std.proofs.Common.{◌≡◌, ◌∙◌, ◌++◌, ◌∷◌, [], codes}
 use Rattle.term_model.specs.Fault.{word_of}
-use Rattle.strc.specs.Report.{place_of, place_text, diagnostic}
+use Rattle.strc.specs.Report.{place_of, place_text}
 use Rattle.strc.proofs.PrefixLaws.{begins_first, begins_second}
 use Rattle.strc.proofs.report.report.Goals as goal
 

@@ -1,4 +1,4 @@
-use Rattle.std.proofs.Common.{◌≡◌, ◌∙◌, List, ℕ, codes, decimal}
+use Rattle.std.proofs.Common.{◌≡◌, ◌∙◌, codes, decimal}
 use Rattle.strc.proofs.PrefixLaws.{begins_first, begins_second}
 use Rattle.strc.proofs.report.write_place.Goals as goal
 
