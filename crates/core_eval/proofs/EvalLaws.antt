@@ -11,17 +11,17 @@ use Rattle.core_lang.specs.declared.program.CoreStrategy.{CoreStrategy}
 use Rattle.core_lang.specs.declared.program.CoreArm.{CoreArm}
 use Rattle.core_lang.specs.declared.run.Outcome.{Outcome}
 use Rattle.core_lang.specs.declared.run.Outcome.TheVariants.{Rewritten, Failed, Oversize, Spent}
-use Rattle.core_lang.specs.Ending.{ok, failed, built, if_fits}
+use Rattle.core_lang.specs.Ending.{ok, failed, built, if_fits, arguments, answered}
 use Rattle.core_lang.specs.Environment.{Environment, layer, no_closures, Bindings, empty_places}
-use Rattle.core_lang.specs.Building.{instance}
-use Rattle.core_lang.specs.Program.{Pattern, Strategy, id, fail, seq, choice, match, build, scope}
+use Rattle.core_lang.specs.Building.{instance, instances}
+use Rattle.core_lang.specs.Program.{Pattern, Patterns, Strategy, primitive, id, fail, seq, choice, match, build, scope}
 use Rattle.core_lang.specs.Resolved.{by_coordinates}
 use Rattle.core_lang.specs.Settled.{Verdict, ends, spent}
 use Rattle.core_lang.specs.Tried.{tried}
 use Rattle.core_lang.specs.Views.{strategy_of, chain, arm_of, first_of}
-use Rattle.core_lang.proofs.SettledLaws.{spent_at_zero, id_settled, fail_settled, match_settled, no_match_settled, build_settled, seq_goes_on, seq_stops, seq_spent, choice_then, choice_else, choice_oversize, choice_spent, scope_ends, scope_spent}
+use Rattle.core_lang.proofs.SettledLaws.{spent_at_zero, id_settled, fail_settled, match_settled, no_match_settled, build_settled, primitive_settled, seq_goes_on, seq_stops, seq_spent, choice_then, choice_else, choice_oversize, choice_spent, scope_ends, scope_spent}
 use Rattle.core_lang.proofs.TriedLaws.{tried_matches, tried_none}
-use Rattle.core_eval.specs.Evaluates.{Evaluates, EvaluatesAlways, verdict_of, made_ending}
+use Rattle.core_eval.specs.Evaluates.{Evaluates, verdict_of, made_ending}
 use Rattle.core_eval.specs.Matching.{Found}
 
 -- the outcome is no term
@@ -36,15 +36,6 @@ no_term (Rewritten t) h = h t refl
 no_term Failed h = tt
 no_term Oversize h = tt
 no_term Spent h = tt
-
--- primitives that answer nothing
-pub silent : Meaning
-silent f vs = None
-
--- what holds of each meaning, and the budget that is left, which no meaning changes
-pub always : {V : Environment Coordinate ℕ} {s : Strategy Coordinate ℕ} {t : Tree} {e : Bindings} {b : ℕ} {v : Verdict Tree} {c : ℕ} →
-    ((M : Meaning) → Evaluates M V s t e b v c) → EvaluatesAlways V s t e b v c
-always h = record { each = h; left = (h silent).left }
 
 -- the same facts of things that are equal
 pub moved_to : {M : Meaning} {V W : Environment Coordinate ℕ} {s s' : Strategy Coordinate ℕ} {t : Tree} {e e' : Bindings} {b : ℕ} {v : Verdict Tree} {c : ℕ} →
@@ -77,6 +68,10 @@ module _ {M : Meaning} {V : Environment Coordinate ℕ} {t : Tree} {e : Bindings
 
   pub at_build : {s : Strategy Coordinate ℕ} {p : Pattern Coordinate} {v : Verdict Tree} → s ≡ build p → (b ≡ 0 → ⊥) → v ≡ ends (built (instance (by_coordinates.place_of V) p e) e) → Evaluates M V s t e b v (b - 1)
   at_build {s} {p} h some_left is = subst (λ z. Evaluates M V s t e b z (b - 1)) (sym is) (taken h some_left (record { settled = build_settled V p t e (b - 1); left = omega arith }))
+
+  pub at_primitive : {s : Strategy Coordinate ℕ} {f : List ℕ} {ps : Patterns Coordinate} {v : Verdict Tree} → s ≡ primitive f ps → (b ≡ 0 → ⊥) →
+      v ≡ ends (answered (M f) (arguments (instances (by_coordinates.place_of V) ps e) e)) → Evaluates M V s t e b v (b - 1)
+  at_primitive {s} {f} {ps} h some_left is = subst (λ z. Evaluates M V s t e b z (b - 1)) (sym is) (taken h some_left (record { settled = primitive_settled V f ps t e (b - 1); left = omega arith }))
 
   -- a sequence, whose node is taken
   pub sequence_goes_on : {r s : Strategy Coordinate ℕ} {u : Tree} {f : Bindings} {d c : ℕ} {v : Verdict Tree} →

@@ -7,3 +7,5 @@ pub mod EvalLaws
 pub mod CallLaws
 pub mod TraversalLaws
 pub mod RunLaws
+pub mod RegisteredLaws
+pub mod FlatLaws

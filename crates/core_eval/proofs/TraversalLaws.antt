@@ -17,20 +17,20 @@ use Rattle.core_lang.specs.Resolved.{by_coordinates}
 use Rattle.core_lang.specs.Settled.{Verdict, ends, spent, AllSettled, OneSettled, SomeSettled, verdict_in_front}
 use Rattle.core_lang.proofs.SettledLaws.{all_stops, all_spends, all_rebuilt, all_spent, one_stops, one_spends, one_rebuilt, one_spent, some_at_end, some_at_none, some_stops, some_spends, some_rebuilt, some_spent}
 use Rattle.core_eval.specs.Evaluates.{Evaluates, verdict_of, made_ending}
-use Rattle.core_eval.proofs.EvalLaws.{IsNoTerm, made_built, silent}
+use Rattle.core_eval.proofs.EvalLaws.{IsNoTerm, made_built}
 
 -- what is known of the parts from some bindings and budget on; the test says whether one before them was ok
 abbrev pub Known : Type 1
 Known = Bool → Trees → Bindings → ℕ → Verdict Trees → ℕ → Type 0
 
-abbrev pub OfAll : Environment Coordinate ℕ → Strategy Coordinate ℕ → Meaning → Known
-OfAll V s M found ts e b v c = AllSettled by_coordinates M V s ts e b v c
+abbrev pub OfAll : Meaning → Environment Coordinate ℕ → Strategy Coordinate ℕ → Known
+OfAll M V s found ts e b v c = AllSettled by_coordinates M V s ts e b v c
 
-abbrev pub OfOne : Environment Coordinate ℕ → Strategy Coordinate ℕ → Meaning → Known
-OfOne V s M found ts e b v c = OneSettled by_coordinates M V s ts e b v c
+abbrev pub OfOne : Meaning → Environment Coordinate ℕ → Strategy Coordinate ℕ → Known
+OfOne M V s found ts e b v c = OneSettled by_coordinates M V s ts e b v c
 
-abbrev pub OfSome : Environment Coordinate ℕ → Strategy Coordinate ℕ → Meaning → Known
-OfSome V s M found ts e b v c = SomeSettled by_coordinates M V s ts e found b v c
+abbrev pub OfSome : Meaning → Environment Coordinate ℕ → Strategy Coordinate ℕ → Known
+OfSome M V s found ts e b v c = SomeSettled by_coordinates M V s ts e found b v c
 
 -- the parts that are done, before the others
 abbrev pub joined : List Tree → Trees → Trees
@@ -149,39 +149,39 @@ remade_ending t us m e h =
     ap (λ z. ends (made_ending (Some z) e)) (h ∙ ap made_of (remade t us)) ∙ ap (λ z. ends z) (made_built (Some (with_parts t (trees_of us))) e)
 
 module _ {M : Meaning} {V : Environment Coordinate ℕ} {s : Strategy Coordinate ℕ} (t : Tree) {e : Bindings} {b c : ℕ} {xs : List Tree} (is : xs ≡ parts_of t) where
-  whole_all : (v : Verdict Trees) → OfAll V s M false (trees_of xs) e b v c → OfAll V s M false (parts t) e b v c
+  whole_all : (v : Verdict Trees) → OfAll M V s false (trees_of xs) e b v c → OfAll M V s false (parts t) e b v c
   whole_all v x = subst (λ ts. AllSettled by_coordinates M V s ts e b v c) (ap trees_of is ∙ the_parts t) x
 
-  whole_one : (v : Verdict Trees) → OfOne V s M false (trees_of xs) e b v c → OfOne V s M false (parts t) e b v c
+  whole_one : (v : Verdict Trees) → OfOne M V s false (trees_of xs) e b v c → OfOne M V s false (parts t) e b v c
   whole_one v x = subst (λ ts. OneSettled by_coordinates M V s ts e b v c) (ap trees_of is ∙ the_parts t) x
 
-  whole_some : (v : Verdict Trees) → OfSome V s M false (trees_of xs) e b v c → OfSome V s M false (parts t) e b v c
+  whole_some : (v : Verdict Trees) → OfSome M V s false (trees_of xs) e b v c → OfSome M V s false (parts t) e b v c
   whole_some v x = subst (λ ts. SomeSettled by_coordinates M V s ts e false b v c) (ap trees_of is ∙ the_parts t) x
 
   module _ (fewer : c ≤ b) where
-    pub all_done : (us : Trees) (f : Bindings) (v : Verdict Tree) → v ≡ ends (rebuilt t (ok us f)) → OfAll V s M false (trees_of xs) e b (ends (ok us f)) c → Evaluates M V (all s) t e (1 + b) v c
+    pub all_done : (us : Trees) (f : Bindings) (v : Verdict Tree) → v ≡ ends (rebuilt t (ok us f)) → OfAll M V s false (trees_of xs) e b (ends (ok us f)) c → Evaluates M V (all s) t e (1 + b) v c
     all_done us f v k x = subst (λ z. Evaluates M V (all s) t e (1 + b) z c) (sym k) (record { settled = all_rebuilt (whole_all (ends (ok us f)) x); left = omega arith })
 
-    pub one_done : (us : Trees) (f : Bindings) (v : Verdict Tree) → v ≡ ends (rebuilt t (ok us f)) → OfOne V s M false (trees_of xs) e b (ends (ok us f)) c → Evaluates M V (one s) t e (1 + b) v c
+    pub one_done : (us : Trees) (f : Bindings) (v : Verdict Tree) → v ≡ ends (rebuilt t (ok us f)) → OfOne M V s false (trees_of xs) e b (ends (ok us f)) c → Evaluates M V (one s) t e (1 + b) v c
     one_done us f v k x = subst (λ z. Evaluates M V (one s) t e (1 + b) z c) (sym k) (record { settled = one_rebuilt (whole_one (ends (ok us f)) x); left = omega arith })
 
-    pub some_done : (us : Trees) (f : Bindings) (v : Verdict Tree) → v ≡ ends (rebuilt t (ok us f)) → OfSome V s M false (trees_of xs) e b (ends (ok us f)) c → Evaluates M V (some s) t e (1 + b) v c
+    pub some_done : (us : Trees) (f : Bindings) (v : Verdict Tree) → v ≡ ends (rebuilt t (ok us f)) → OfSome M V s false (trees_of xs) e b (ends (ok us f)) c → Evaluates M V (some s) t e (1 + b) v c
     some_done us f v k x = subst (λ z. Evaluates M V (some s) t e (1 + b) z c) (sym k) (record { settled = some_rebuilt (whole_some (ends (ok us f)) x); left = omega arith })
 
     -- a part ends the walk, or there is none left
-    pub all_stopped : (f : Bindings) (o : Outcome Tree) → IsNoTerm o → OfAll V s M false (trees_of xs) e b (stop_of o) c → Evaluates M V (all s) t e (1 + b) (verdict_of o f) c
+    pub all_stopped : (f : Bindings) (o : Outcome Tree) → IsNoTerm o → OfAll M V s false (trees_of xs) e b (stop_of o) c → Evaluates M V (all s) t e (1 + b) (verdict_of o f) c
     all_stopped f (Rewritten u) n x = absurd n
     all_stopped f Failed n x = record { settled = all_rebuilt (whole_all (ends failed) x); left = omega arith }
     all_stopped f Oversize n x = record { settled = all_rebuilt (whole_all (ends oversize) x); left = omega arith }
     all_stopped f Spent n x = record { settled = all_spent (whole_all spent x); left = omega arith }
 
-    pub one_stopped : (f : Bindings) (o : Outcome Tree) → IsNoTerm o → OfOne V s M false (trees_of xs) e b (stop_of o) c → Evaluates M V (one s) t e (1 + b) (verdict_of o f) c
+    pub one_stopped : (f : Bindings) (o : Outcome Tree) → IsNoTerm o → OfOne M V s false (trees_of xs) e b (stop_of o) c → Evaluates M V (one s) t e (1 + b) (verdict_of o f) c
     one_stopped f (Rewritten u) n x = absurd n
     one_stopped f Failed n x = record { settled = one_rebuilt (whole_one (ends failed) x); left = omega arith }
     one_stopped f Oversize n x = record { settled = one_rebuilt (whole_one (ends oversize) x); left = omega arith }
     one_stopped f Spent n x = record { settled = one_spent (whole_one spent x); left = omega arith }
 
-    pub some_stopped : (f : Bindings) (o : Outcome Tree) → IsNoTerm o → OfSome V s M false (trees_of xs) e b (stop_of o) c → Evaluates M V (some s) t e (1 + b) (verdict_of o f) c
+    pub some_stopped : (f : Bindings) (o : Outcome Tree) → IsNoTerm o → OfSome M V s false (trees_of xs) e b (stop_of o) c → Evaluates M V (some s) t e (1 + b) (verdict_of o f) c
     some_stopped f (Rewritten u) n x = absurd n
     some_stopped f Failed n x = record { settled = some_rebuilt (whole_some (ends failed) x); left = omega arith }
     some_stopped f Oversize n x = record { settled = some_rebuilt (whole_some (ends oversize) x); left = omega arith }
@@ -189,42 +189,30 @@ module _ {M : Meaning} {V : Environment Coordinate ℕ} {s : Strategy Coordinate
 
 -- a part that is no term, by each of the three
 module _ {M : Meaning} {V : Environment Coordinate ℕ} {s : Strategy Coordinate ℕ} {t : Tree} {ts : Trees} {e : Bindings} {b c : ℕ} (f : Bindings) where
-  pub all_ended : (o : Outcome Tree) → IsNoTerm o → Evaluates M V s t e b (verdict_of o f) c → OfAll V s M false (more t ts) e b (stop_of o) c
+  pub all_ended : (o : Outcome Tree) → IsNoTerm o → Evaluates M V s t e b (verdict_of o f) c → OfAll M V s false (more t ts) e b (stop_of o) c
   all_ended (Rewritten u) n x = absurd n
   all_ended Failed n x = all_stops x.settled
   all_ended Oversize n x = all_stops x.settled
   all_ended Spent n x = all_spends x.settled
 
-  pub one_ended : (o : Outcome Tree) → IsNoTerm o → (o ≡ Failed → ⊥) → Evaluates M V s t e b (verdict_of o f) c → OfOne V s M false (more t ts) e b (stop_of o) c
+  pub one_ended : (o : Outcome Tree) → IsNoTerm o → (o ≡ Failed → ⊥) → Evaluates M V s t e b (verdict_of o f) c → OfOne M V s false (more t ts) e b (stop_of o) c
   one_ended (Rewritten u) n h x = absurd n
   one_ended Failed n h x = absurd (h refl)
   one_ended Oversize n h x = one_stops x.settled
   one_ended Spent n h x = one_spends x.settled
 
-  pub some_ended : (found : Bool) (o : Outcome Tree) → IsNoTerm o → (o ≡ Failed → ⊥) → Evaluates M V s t e b (verdict_of o f) c → OfSome V s M found (more t ts) e b (stop_of o) c
+  pub some_ended : (found : Bool) (o : Outcome Tree) → IsNoTerm o → (o ≡ Failed → ⊥) → Evaluates M V s t e b (verdict_of o f) c → OfSome M V s found (more t ts) e b (stop_of o) c
   some_ended found (Rewritten u) n h x = absurd n
   some_ended found Failed n h x = absurd (h refl)
   some_ended found Oversize n h x = some_stops x.settled
   some_ended found Spent n h x = some_spends x.settled
 
--- the same whatever primitives mean, and the budget, which no meaning changes
-pub record DecidesAlways (K : Meaning → Known) (whole : List Tree) (e0 : Bindings) (b0 : ℕ) (found : Bool) (left : List Tree) (e : Bindings) (b : ℕ) (done : List Tree) : Type 0 where
-  pub each : (M : Meaning) → Decides (K M) whole e0 b0 found left e b done
-  pub less : b ≤ b0
-
-pub decide_always : {K : Meaning → Known} {whole : List Tree} {e0 : Bindings} {b0 : ℕ} {found : Bool} {left : List Tree} {e : Bindings} {b : ℕ} {done : List Tree} →
-    ((M : Meaning) → Decides (K M) whole e0 b0 found left e b done) → DecidesAlways K whole e0 b0 found left e b done
-decide_always h = record { each = h; less = (h silent).less }
-
-pub starts : {K : Meaning → Known} {whole : List Tree} {e0 : Bindings} {b0 : ℕ} (left done : List Tree) → left ≡ whole → done ≡ [] → DecidesAlways K whole e0 b0 false left e0 b0 done
-starts left done h k = decide_always (λ M. decides_start left done h k)
-
 -- a loop's facts: what is left decides, and as many are done as the position says
-pub record Walk (K : Meaning → Known) (whole : List Tree) (e0 : Bindings) (b0 : ℕ) (found : Bool) (i : ℕ) (e : Bindings) (b : ℕ) (done : List Tree) : Type 0 where
-  pub decides : DecidesAlways K whole e0 b0 found (drop i whole) e b done
+pub record Walk (K : Known) (whole : List Tree) (e0 : Bindings) (b0 : ℕ) (found : Bool) (i : ℕ) (e : Bindings) (b : ℕ) (done : List Tree) : Type 0 where
+  pub decides : Decides K whole e0 b0 found (drop i whole) e b done
   pub count : length done ≡ i
 
-pub walk_moved : {K : Meaning → Known} {whole : List Tree} {e0 : Bindings} {b0 : ℕ} {found now_found : Bool} {i : ℕ} {e f : Bindings} {b c : ℕ} {done now_done : List Tree} →
+pub walk_moved : {K : Known} {whole : List Tree} {e0 : Bindings} {b0 : ℕ} {found now_found : Bool} {i : ℕ} {e f : Bindings} {b c : ℕ} {done now_done : List Tree} →
     now_found ≡ found → f ≡ e → c ≡ b → now_done ≡ done → Walk K whole e0 b0 found i e b done → Walk K whole e0 b0 now_found i f c now_done
 walk_moved {K} {whole} {e0} {b0} {found} {now_found} {i} {e} {f} {b} {c} {done} {now_done} hf he hb hd x =
     subst (λ z. Walk K whole e0 b0 z i f c now_done) (sym hf)
@@ -233,8 +221,8 @@ walk_moved {K} {whole} {e0} {b0} {found} {now_found} {i} {e} {f} {b} {c} {done} 
 
 -- no part is left: whether one was ok decides
 module _ (M : Meaning) (V : Environment Coordinate ℕ) (s : Strategy Coordinate ℕ) (e : Bindings) (b : ℕ) (found : Bool) where
-  pub none_found : found ≡ false → OfSome V s M found end e b (ends failed) b
+  pub none_found : found ≡ false → OfSome M V s found end e b (ends failed) b
   none_found is = subst (λ z. SomeSettled by_coordinates M V s end e z b (ends failed) b) (sym is) (some_at_none V s e b)
 
-  pub some_found : found ≡ true → OfSome V s M found end e b (ends (ok end e)) b
+  pub some_found : found ≡ true → OfSome M V s found end e b (ends (ok end e)) b
   some_found is = subst (λ z. SomeSettled by_coordinates M V s end e z b (ends (ok end e)) b) (sym is) (some_at_end V s e b)

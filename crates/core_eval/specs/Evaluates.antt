@@ -33,11 +33,6 @@ pub record Evaluates (M : Meaning) (V : Environment Coordinate ℕ) (s : Strateg
   pub settled : Settled by_coordinates M V s t e b v c
   pub left : c ≤ b
 
--- the same whatever primitives mean
-pub record EvaluatesAlways (V : Environment Coordinate ℕ) (s : Strategy Coordinate ℕ) (t : Tree) (e : Bindings) (b : ℕ) (v : Verdict Tree) (c : ℕ) : Type 0 where
-  pub each : (M : Meaning) → Evaluates M V s t e b v c
-  pub left : c ≤ b
-
 -- with the primitives' meaning M: the same without bindings, with some or other at the end
 abbrev pub EvaluatesOn : Meaning → Environment Coordinate ℕ → Strategy Coordinate ℕ → Tree → ℕ → Outcome Tree → ℕ → Type 0
 EvaluatesOn M V s t b r c = (e : Bindings) × Evaluates M V s t [] b (verdict_of r e) c

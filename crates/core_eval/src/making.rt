@@ -4,8 +4,12 @@ ghost use Rattle.std.specs.Option.{option_map};
 ghost use Rattle.core_lang.specs.Building.{applied_to, list_term};
 ghost use Rattle.term_model.specs.Same.{same_head};
 ghost use Rattle.term_model.specs.Term.{Trees, IsHead, head_of, made_of, term, trees_of};
+ghost use Rattle.core_lang.specs.Environment.{Bindings};
+ghost use Rattle.core_lang.specs.Settled.{ends};
+ghost use Rattle.core_eval.specs.Evaluates.{made_ending, verdict_of};
 ghost use Rattle.core_eval.specs.Instance.{AreMade, Kept, both_terms, made_like_other, tree_like_other};
 
+use core_lang::Outcome;
 use std::alloc::{AllocError, Global};
 use term_model::{Head, Made, Sym, Term};
 
@@ -132,5 +136,16 @@ pub fn is_list(t: &Term) -> bool
     match t.head() {
         Head::List => true,
         Head::Int(_) | Head::App(_) => false,
+    }
+}
+
+/// Returns how a build ends.
+pub fn built(made: Option<Made<Term>>) -> Outcome<Term>
+    ensures { (e : Bindings) → verdict_of result e ≡ ends (made_ending made e) }
+{
+    match made {
+        None => Outcome::Failed,
+        Some(Made::Fits(t)) => Outcome::Rewritten(t),
+        Some(Made::Oversize) => Outcome::Oversize,
     }
 }

@@ -6,7 +6,7 @@ ghost use Rattle.core_lang.specs.Program.{Definitions, call, no_strategies, no_p
 ghost use Rattle.core_lang.specs.Environment.{definitions, outermost};
 ghost use Rattle.core_lang.specs.Resolution.{ResolvesProgram};
 ghost use Rattle.core_lang.specs.Resolved.{here};
-ghost use Rattle.term_model.specs.Flat.{Meaning};
+ghost use Rattle.prim_registry.specs.Entries.{Covers, IsHonest};
 ghost use Rattle.term_model.specs.Limits.{max_budget};
 ghost use Rattle.core_eval.specs.Evaluates.{EvaluatesOn, IsRun};
 
@@ -14,17 +14,27 @@ use crate::evaluation::evaluate;
 use crate::frame::Frame;
 use crate::state::State;
 use core_lang::{Coordinate, Core, CoreStrategy, Outcome, Run};
+use prim_registry::{PrimMeaning, Registry};
 use std::alloc::{AllocError, Global};
 use term_model::{Fault, Term};
 
-/// Runs the core on the term: main is called without arguments and without bindings.
+/// Runs the core on the term: main is called without arguments and without bindings, and primitives return what those of the
+/// registry do.
 ///
 /// `rules` is the number of nodes of the derivation, and the budget where the budget is spent before the derivation
-/// is complete; `steps` is 0. The only fault is `Memory`.
-pub fn eval(alloc: Global, core: &Core, term: &Term, budget: u32) -> Result<Run<Term>, Fault>
-    requires { budget ≤ max_budget }
-    ensures run { IfOk result (λ run. (M : Meaning) (P : Definitions Name (List Name)) (main : Name) →
-        ResolvesProgram P main (program_of core.now) core.now.main → IsRun M P main term.now budget run) }
+/// is complete; `steps` is 0. The only fault is `Memory`: a growth was refused, here or in a primitive.
+pub fn eval<M: PrimMeaning>(
+    alloc: Global,
+    core: &Core,
+    term: &Term,
+    budget: u32,
+    registry: &Registry<M>,
+) -> Result<Run<Term>, Fault>
+    requires budget { budget ≤ max_budget }
+    requires honest { IsHonest M.answer registry.now }
+    requires covers { Covers registry.now core.now.prims }
+    ensures run { IfOk result (λ run. (P : Definitions Name (List Name)) (main : Name) →
+        ResolvesProgram P main (program_of core.now) core.now.main → IsRun M.answer P main term.now budget run) }
     ensures fault { IfErr result (λ fault. fault ≡ Fault.Memory) }
 {
     let mut state = State {
@@ -32,7 +42,7 @@ pub fn eval(alloc: Global, core: &Core, term: &Term, budget: u32) -> Result<Run<
         places: Vec::new(alloc),
         budget,
     };
-    let outcome = call_main(core, term, &mut state)?;
+    let outcome = call_main(core, term, &mut state, registry)?;
     let rules = match &outcome {
         Outcome::Spent => budget,
         _ => budget - state.budget,
@@ -45,9 +55,16 @@ pub fn eval(alloc: Global, core: &Core, term: &Term, budget: u32) -> Result<Run<
 }
 
 // Evaluates the call of main, in a state without bindings.
-fn call_main(core: &Core, term: &Term, state: &mut State) -> Result<Outcome<Term>, AllocError>
-    requires { state.old.places.items ≡ [] }
-    ensures outcome { IfOk result (λ r. (M : Meaning) → EvaluatesOn M (definitions (program_of core.now) outermost) (call (here core.now.main) no_strategies no_patterns) term.now state.old.budget r state.new.budget) }
+fn call_main<M: PrimMeaning>(
+    core: &Core,
+    term: &Term,
+    state: &mut State,
+    registry: &Registry<M>,
+) -> Result<Outcome<Term>, AllocError>
+    requires places { state.old.places.items ≡ [] }
+    requires honest { IsHonest M.answer registry.now }
+    requires covers { Covers registry.now core.now.prims }
+    ensures outcome { IfOk result (λ r. EvaluatesOn M.answer (definitions (program_of core.now) outermost) (call (here core.now.main) no_strategies no_patterns) term.now state.old.budget r state.new.budget) }
     ensures left { OnOk result (state.new.budget ≤ state.old.budget) }
 {
     let main = Coordinate {
@@ -60,6 +77,6 @@ fn call_main(core: &Core, term: &Term, state: &mut State) -> Result<Outcome<Term
         defs: core.defs(),
         outer: &outermost,
     };
-    let outcome = evaluate(&call, &program, term, state)?;
+    let outcome = evaluate(registry, &call, &program, term, state)?;
     Ok(outcome)
 }

@@ -37,6 +37,8 @@ pub enum Word {
     Definition(usize, usize),
     // This number of definitions, and the strategy that sees them.
     Let(usize),
+    // A call of the primitive of this name with this number of patterns.
+    Primitive(&'static [u8], usize),
 }
 
 // A step of building a term.
@@ -105,6 +107,7 @@ impl Workbench {
             }
             Word::Definition(strats, terms) => self.define(strats, terms),
             Word::Let(count) => self.let_in(count),
+            Word::Primitive(name, terms) => self.call_primitive(name, terms),
         }
     }
 
@@ -210,6 +213,13 @@ impl Workbench {
         let terms = last_of(&mut self.patterns, terms)?;
         self.strategies
             .push(CoreStrategy::Call(x, strategies, terms))?;
+        Ok(())
+    }
+
+    fn call_primitive(&mut self, name: &[u8], terms: usize) -> Result<(), Fail> {
+        let name = Vec::from_slice(self.alloc, name)?;
+        let terms = last_of(&mut self.patterns, terms)?;
+        self.strategies.push(CoreStrategy::Primitive(name, terms))?;
         Ok(())
     }
 

@@ -1,14 +1,19 @@
 // Small programs, each with the ending and the number of nodes that the derivation rules give.
 ghost use Rattle.std.specs.Prelude.{◌≤◌};
+ghost use Rattle.prim_registry.specs.Entries.{IsHonest};
 
 use crate::call_rows::CALLS;
 use crate::eval;
+use crate::library_rows::LIBRARY;
 use crate::pattern_rows::PATTERNS;
-use crate::rows::{ENDLESS, EVERY_FORM, Ends, FIRST_PART, OTHER_FORMS, RANGES};
+use crate::primitive_rows::PRIMITIVES;
+use crate::rows::{ENDLESS, EVERY_FORM, Ends, FIRST_PART, OTHER_FORMS, RANGES, Row};
 use crate::samples::{pattern, program, term};
 use crate::traversal_rows::TRAVERSALS;
 use core_lang::{Core, CoreDef, Outcome, Run};
-use std::alloc::Global;
+use prim_registry::standard::{add, concat, explode, implode, length, sub};
+use prim_registry::{Action, Flat, Prim, PrimMeaning, Registry, Standard};
+use std::alloc::{AllocError, Global};
 use std::test::Fail;
 use term_model::Term;
 
@@ -16,7 +21,24 @@ fn core(alloc: Global, definitions: Vec<CoreDef>) -> Result<Core, Fail> {
     if !Core::in_range(&definitions, 0) {
         return Err(Fail::new("out of range"));
     }
-    Ok(Core::new(definitions, 0))
+    Ok(Core::new(alloc, definitions, 0)?)
+}
+
+// The run of the core, each primitive of which is in the registry.
+fn run(
+    alloc: Global,
+    core: &Core,
+    term: &Term,
+    budget: u32,
+    registry: &Registry<Standard>,
+) -> Result<Run<Term>, Fail>
+    requires budget { budget ≤ 2_000 }
+    requires honest { IsHonest ⟦<Standard as PrimMeaning>⟧.answer registry.now }
+{
+    if !registry.covers(core.prims()) {
+        return Err(Fail::new("a primitive is not there"));
+    }
+    Ok(eval(alloc, core, term, budget, registry)?)
 }
 
 // Whether the run ended so.
@@ -30,35 +52,80 @@ fn ended(alloc: Global, run: &Run<Term>, ending: Ends) -> Result<bool, Fail> {
 }
 
 // Each ends as it should with the whole budget and with that of its rules, and is spent with one less.
-#[test]
-fn rows(rt: HostRuntime) -> Result<(), Fail> {
-    let alloc = rt.alloc();
-    for (name, words, pieces, ending, rules) in [FIRST_PART, TRAVERSALS, CALLS, PATTERNS]
-        .into_iter()
-        .flatten()
-    {
+fn check_rows(alloc: Global, rows: &[Row], registry: &Registry<Standard>) -> Result<(), Fail>
+    requires { IsHonest ⟦<Standard as PrimMeaning>⟧.answer registry.now }
+{
+    for (name, words, pieces, ending, rules) in rows {
         let core = core(alloc, program(alloc, words)?)?;
         let term = term(alloc, pieces)?;
         let rules = (*rules).min(2000);
         for budget in [2000, rules] {
-            let run = eval(alloc, &core, &term, budget)?;
-            assert!(rt; ended(alloc, &run, *ending)?, "{name}");
-            assert_eq!(rt; (run.rules, run.steps), (rules, 0), "{name}");
+            let run = run(alloc, &core, &term, budget, registry)?;
+            if !ended(alloc, &run, *ending)? || run.rules != rules || run.steps != 0 {
+                return Err(Fail::new(name));
+            }
         }
         let less = rules.saturating_sub(1);
-        let run = eval(alloc, &core, &term, less)?;
-        assert!(rt; matches!(run.outcome, Outcome::Spent), "{name}");
-        assert_eq!(rt; (run.rules, run.steps), (less, 0), "{name}");
+        let run = run(alloc, &core, &term, less, registry)?;
+        if !matches!(run.outcome, Outcome::Spent) || run.rules != less {
+            return Err(Fail::new(name));
+        }
     }
+    Ok(())
+}
+
+#[test]
+fn rows(rt: HostRuntime) -> Result<(), Fail> {
+    let alloc = rt.alloc();
+    let registry = Registry::<Standard>::new(alloc);
+    for rows in [FIRST_PART, TRAVERSALS, CALLS, PATTERNS, LIBRARY] {
+        check_rows(alloc, rows, &registry)?;
+    }
+    Ok(())
+}
+
+#[test]
+fn primitives(rt: HostRuntime) -> Result<(), Fail> {
+    let alloc = rt.alloc();
+    let mut registry = Registry::<Standard>::new(alloc);
+    let action: Action = Box::new(alloc, |args: &[Flat]| -> Result<Option<Flat>, AllocError> {
+        Ok(add(args))
+    })?;
+    registry.register(Prim::new(b"add".to_vec(alloc)?, 2, action))?;
+    let action: Action = Box::new(alloc, |args: &[Flat]| -> Result<Option<Flat>, AllocError> {
+        Ok(sub(args))
+    })?;
+    registry.register(Prim::new(b"sub".to_vec(alloc)?, 2, action))?;
+    let action: Action = Box::new(alloc, |args: &[Flat]| -> Result<Option<Flat>, AllocError> {
+        Ok(length(args))
+    })?;
+    registry.register(Prim::new(b"length".to_vec(alloc)?, 1, action))?;
+    let action: Action = Box::new(
+        alloc,
+        move |args: &[Flat]| -> Result<Option<Flat>, AllocError> { explode(alloc, args) },
+    )?;
+    registry.register(Prim::new(b"explode".to_vec(alloc)?, 1, action))?;
+    let action: Action = Box::new(
+        alloc,
+        move |args: &[Flat]| -> Result<Option<Flat>, AllocError> { implode(alloc, args) },
+    )?;
+    registry.register(Prim::new(b"implode".to_vec(alloc)?, 1, action))?;
+    let action: Action = Box::new(
+        alloc,
+        move |args: &[Flat]| -> Result<Option<Flat>, AllocError> { concat(alloc, args) },
+    )?;
+    registry.register(Prim::new(b"concat".to_vec(alloc)?, 2, action))?;
+    check_rows(alloc, PRIMITIVES, &registry)?;
     Ok(())
 }
 
 // Whether the programs without an end use up this budget.
 fn use_up(alloc: Global, budget: u32) -> Result<bool, Fail> {
     let budget = budget.min(2000);
+    let registry = Registry::<Standard>::new(alloc);
     for (_, words) in ENDLESS {
         let core = core(alloc, program(alloc, words)?)?;
-        let run = eval(alloc, &core, &Term::int(alloc, 1)?, budget)?;
+        let run = run(alloc, &core, &Term::int(alloc, 1)?, budget, &registry)?;
         if !matches!(run.outcome, Outcome::Spent) || run.rules != budget {
             return Ok(false);
         }

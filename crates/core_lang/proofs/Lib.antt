@@ -15,7 +15,9 @@ pub mod Naming
 pub mod NamingLaws
 pub mod InRangeLaws
 pub mod PrimitiveLaws
+pub mod MeaningLaws
 pub mod ReadLaws
 pub mod RangeLaws
+pub mod PrimitivesOfCodeLaws
 pub mod PutLaws
 pub mod ElementLaws

@@ -14,7 +14,7 @@ use Rattle.core_lang.specs.declared.program.CoreStrategy.TheVariants as strategi
 use Rattle.core_lang.specs.declared.program.CoreStrategy.TheOpen as forms
 use Rattle.core_lang.specs.declared.program.CoreStrategy.TheFolds.{fold-roll-CoreStrategy, fold_out-CoreArm, fold_out-CoreDef, map-CoreStrategy}
 use Rattle.core_lang.specs.declared.program.CoreStrategy.TheViews.{roll-CoreStrategy, out-CoreArm, out-CoreDef}
-use Rattle.core_lang.specs.Program.{Pattern, anything, variable, alias, integer, applied, list, like, Strategy, id, fail, seq, choice, match, build, scope, all, one, some, with_definitions, call}
+use Rattle.core_lang.specs.Program.{Pattern, anything, variable, alias, integer, applied, list, like, Strategy, id, fail, seq, choice, match, build, scope, all, one, some, with_definitions, call, primitive}
 use Rattle.core_lang.specs.Views.{pattern_of, pattern_step, patterns_of, elements_in, rest_of, chain, Arm, first_of, strategy_of, strategies_of, strategy_step, arm_of, arm_step, Def, def_of, def_step, definitions_of}
 
 pattern_roll : (x : pattern_forms.CorePattern-F CorePattern) → pattern_of (roll-CorePattern x) ≡ pattern_step (map-CorePattern CorePattern (Pattern Coordinate) pattern_of x)
@@ -84,6 +84,9 @@ reads_let ds s = ap strategy_of (sym (strategies.rolls-LetIn ds s)) ∙ strategy
 pub reads_call : (x : Coordinate) (ss : Vec CoreStrategy Global) (ps : Vec CorePattern Global) →
     strategy_of (strategies.Call x ss ps) ≡ call x (strategies_of ss.items) (patterns_of ps.items)
 reads_call x ss ps = ap strategy_of (sym (strategies.rolls-Call x ss ps)) ∙ strategy_roll (forms.Call x ss ps)
+
+pub reads_primitive : (f : Vec ℕ Global) (ps : Vec CorePattern Global) → strategy_of (strategies.Primitive f ps) ≡ primitive f.items (patterns_of ps.items)
+reads_primitive f ps = ap strategy_of (sym (strategies.rolls-Primitive f ps)) ∙ strategy_roll (forms.Primitive f ps)
 
 pub reads_arm : (a : CoreArm) → arm_of a ≡ record { guard = strategy_of (out-CoreArm a).guard; then = strategy_of (out-CoreArm a).then }
 reads_arm a = fold_out-CoreArm (Strategy Coordinate ℕ) Arm Def strategy_step arm_step def_step a

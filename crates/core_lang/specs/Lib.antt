@@ -18,3 +18,4 @@ pub mod Views
 pub mod Core
 pub mod Run
 pub mod RangeOfCode
+pub mod PrimitivesOfCode

@@ -1,5 +1,8 @@
 -- The primitives that occur in a program.
-use Rattle.std.specs.Prelude.{◌≡◌, ℕ, ◌⊎◌, List}
+use Rattle.std.specs.Prelude.{◌≡◌, ◌↔◌, ℕ, ◌⊎◌, List, Contains, length}
+use Rattle.term_model.specs.Flat.{FlatValue, Meaning}
+use Rattle.term_model.specs.PrimNames.{NameKey}
+use Rattle.core_lang.specs.Environment.{Environment, outermost, layer, definitions, Closures, no_closures, more_closures}
 use Rattle.core_lang.specs.Program.{Strategy, id, fail, seq, choice, match, build, scope, all, one, some, with_definitions, call, primitive, Strategies, no_strategies, more_strategies, Definitions, no_definitions, more_definitions, patterns_count}
 
 -- the primitive of this name, with k arguments
@@ -29,3 +32,22 @@ module _ {X B : Type 0} (f : List ℕ) (k : ℕ) where
     pub OccursInDefinitions : Definitions X B → Type 0
     OccursInDefinitions no_definitions = ⊥
     OccursInDefinitions (more_definitions g fs xs s ds) = OccursIn s ⊎ OccursInDefinitions ds
+
+  abbrev mutual
+    -- in a definition that is seen there, or in a closure
+    pub OccursInEnvironment : Environment X B → Type 0
+    OccursInEnvironment outermost = ⊥
+    OccursInEnvironment (layer base fs xs cs V) = OccursInClosures cs ⊎ OccursInEnvironment V
+    OccursInEnvironment (definitions ds V) = OccursInDefinitions ds ⊎ OccursInEnvironment V
+
+    pub OccursInClosures : Closures X B → Type 0
+    OccursInClosures no_closures = ⊥
+    OccursInClosures (more_closures s V cs) = OccursIn s ⊎ OccursInEnvironment V ⊎ OccursInClosures cs
+
+-- the names are those of the primitives that occur, with their numbers of arguments
+abbrev pub AreOccurring : {X B : Type 0} → List NameKey → Definitions X B → Type 0
+AreOccurring names ds = (f : List ℕ) (k : ℕ) → Contains names (f, k) ↔ OccursInDefinitions f k ds
+
+-- at this name, both meanings answer the same to each k arguments
+abbrev pub AnswerSame : Meaning → Meaning → List ℕ → ℕ → Type 0
+AnswerSame M N f k = (vs : List FlatValue) → length vs ≡ k → M f vs ≡ N f vs

@@ -12,7 +12,7 @@ use Rattle.core_lang.specs.declared.program.CoreStrategy.TheOpen.{CoreStrategy-F
 use Rattle.core_lang.specs.declared.program.CoreStrategy.TheFolds.{fold-CoreStrategy, fold-CoreArm, fold-CoreDef}
 use Rattle.core_lang.specs.declared.program.CoreArm.{CoreArm}
 use Rattle.core_lang.specs.declared.program.CoreDef.{CoreDef}
-use Rattle.core_lang.specs.Program.{Pattern, anything, variable, alias, integer, applied, list, like, Patterns, no_patterns, more_patterns, Elements, no_elements, the_rest, more_elements, Strategy, id, fail, seq, choice, match, build, scope, all, one, some, with_definitions, call, Strategies, no_strategies, more_strategies, Definitions, no_definitions, more_definitions}
+use Rattle.core_lang.specs.Program.{Pattern, anything, variable, alias, integer, applied, list, like, Patterns, no_patterns, more_patterns, Elements, no_elements, the_rest, more_elements, Strategy, id, fail, seq, choice, match, build, scope, all, one, some, with_definitions, call, primitive, Strategies, no_strategies, more_strategies, Definitions, no_definitions, more_definitions}
 use Rattle.core_lang.specs.Resolved.{here}
 
 abbrev pub patterns_in : List (Pattern Coordinate) → Patterns Coordinate
@@ -91,6 +91,7 @@ strategy_step (forms.One s) = one s.value
 strategy_step (forms.Some s) = some s.value
 strategy_step (forms.LetIn ds s) = with_definitions (definitions_in ds.items) s.value
 strategy_step (forms.Call x ss ps) = call x (strategies_in ss.items) (patterns_of ps.items)
+strategy_step (forms.Primitive f ps) = primitive f.items (patterns_of ps.items)
 
 abbrev pub arm_step : CoreArm-F (Strategy Coordinate ℕ) Arm Def → Arm
 arm_step a = record { guard = a.guard; then = a.then }

@@ -1,24 +1,28 @@
 // Cores: programs over coordinates that are in range.
-ghost use Rattle.std.specs.Prelude.{◌≡◌, ◌↔◌, IsTrue};
+ghost use Rattle.std.specs.Prelude.{◌≡◌, ◌↔◌, IfOk, IsTrue};
 ghost use Rattle.core_lang.specs.Views.{definitions_of};
 ghost use Rattle.core_lang.specs.Core.{program_of};
 ghost use Rattle.core_lang.specs.InRange.{InRange};
+ghost use Rattle.core_lang.specs.Primitives.{AreOccurring};
 
+use crate::primitives::primitives_of;
 use crate::program::CoreDef;
 use crate::range;
+use std::alloc::{AllocError, Global};
 use std::marker::Model;
+use term_model::PrimNames;
 
 /// A core program: definitions, one of which is main. Each coordinate in it leads to what is wanted of it.
 #[derive(Drop)]
 pub struct Core {
     defs: Vec<CoreDef>,
     main: usize,
+    prims: PrimNames,
 }
 
 impl Model for Core {
-    ghost use Rattle.core_lang.specs.Core.{CoreParts};
+    ghost use Rattle.core_lang.specs.Core.{CoreParts, IsCore};
     ghost use Rattle.core_lang.specs.Views.{definitions_of};
-    ghost use Rattle.core_lang.specs.InRange.{InRange};
 
     ghost Value = { CoreParts };
 
@@ -28,9 +32,9 @@ impl Model for Core {
 
     ghost coded = { Prim.hlevel (codes, strategies.the_row.coded, patterns.the_row.coded) };
 
-    ghost view = { λ c. record { defs = c.defs.items; main = c.main } };
+    ghost view = { λ c. record { defs = c.defs.items; main = c.main; prims = c.prims } };
 
-    ghost invariant = { λ c. InRange (definitions_of c.defs.items) c.main };
+    ghost invariant = { λ c. IsCore (definitions_of c.defs.items) c.main c.prims };
 }
 
 impl Core {
@@ -43,19 +47,22 @@ impl Core {
         range::has_definition(defs, main, 0, 0) && range::program_in_range(defs)
     }
 
-    /// The core of these definitions, with the one at `main` as main.
-    pub fn new(defs: Vec<CoreDef>, main: usize) -> Core
+    /// Returns the core of these definitions, with the one at `main` as main; `AllocError` where the memory for the names of its
+    /// primitives is refused.
+    pub fn new(alloc: Global, defs: Vec<CoreDef>, main: usize) -> Result<Core, AllocError>
         requires { InRange (definitions_of defs.items) main }
-        ensures definitions { result.defs ≡ defs.items }
-        ensures main { result.main ≡ main }
+        ensures definitions { IfOk result (λ core. core.defs ≡ defs.items) }
+        ensures main { IfOk result (λ core. core.main ≡ main) }
     {
-        Core { defs, main }
+        let prims = primitives_of(alloc, defs.as_slice())?;
+        Ok(Core { defs, main, prims })
     }
 
     /// The definitions.
     pub fn defs(&self) -> &[CoreDef]
         ensures same { result.now ≡ self.now.defs }
         ensures in_range { InRange (program_of self.now) self.now.main }
+        ensures occurring { AreOccurring self.now.prims (program_of self.now) }
     {
         self.defs.as_slice()
     }
@@ -65,5 +72,13 @@ impl Core {
         ensures { result ≡ self.now.main }
     {
         self.main
+    }
+
+    /// The primitives that occur in the core: their names, each with the number of arguments with which it is called.
+    pub fn prims(&self) -> &PrimNames
+        ensures same { result.now ≡ self.now.prims }
+        ensures occurring { AreOccurring self.now.prims (program_of self.now) }
+    {
+        &self.prims
     }
 }

@@ -15,7 +15,7 @@ ghost use Rattle.core_lang.specs.Extension.{Extends};
 ghost use Rattle.core_lang.specs.declared.coordinate.Coordinate.{Coordinate};
 ghost use Rattle.core_lang.specs.Resolution.{Resolves, ResolvesProgram};
 ghost use Rattle.core_lang.specs.InRange.{InRange};
-ghost use Rattle.core_lang.specs.Primitives.{OccursInDefinitions};
+ghost use Rattle.core_lang.specs.Primitives.{AnswerSame, OccursInDefinitions};
 ghost use Rattle.core_lang.specs.Agreement.{scopes_of, Agree};
 
 /// `id` keeps a term and has one node.
@@ -92,4 +92,15 @@ pub fn coordinates_keep_primitives()
     ensures same { (P : NamedDefinitions) (main : Name) (C : ResolvedDefinitions) (i : ℕ) →
         ResolvesProgram P main C i →
         (f : List ℕ) (k : ℕ) → OccursInDefinitions f k P ↔ OccursInDefinitions f k C }
+{}
+
+/// Only the primitives that occur in a program matter to it: where two meanings return the same at each of these, to as many
+/// arguments, the program rewrites the same terms in the same way, with as many nodes.
+pub fn primitives_that_occur_decide()
+    ensures named { (M N : Meaning) (P : NamedDefinitions) (main : Name) →
+        ((f : List ℕ) (k : ℕ) → OccursInDefinitions f k P → AnswerSame M N f k) →
+        (t : Tree) (o : Ending Tree) (n : ℕ) → Rewrites M P main t o n ↔ Rewrites N P main t o n }
+    ensures placed { (M N : Meaning) (C : ResolvedDefinitions) (i : ℕ) →
+        ((f : List ℕ) (k : ℕ) → OccursInDefinitions f k C → AnswerSame M N f k) →
+        (t : Tree) (o : Ending Tree) (n : ℕ) → RewritesByCoordinates M C i t o n ↔ RewritesByCoordinates N C i t o n }
 {}

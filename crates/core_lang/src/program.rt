@@ -44,6 +44,8 @@ pub enum CoreStrategy {
     /// A call with strategy and term arguments. Where the coordinate is in a layer of variables it is of a strategy
     /// parameter, where it is in a layer of definitions it is of a definition.
     Call(Coordinate, Vec<CoreStrategy>, Vec<CorePattern>),
+    /// A call of the primitive of this name, with term arguments.
+    Primitive(Vec<u8>, Vec<CorePattern>),
 }
 
 /// A guard, and what follows where it succeeds.

@@ -116,6 +116,7 @@ fn strategy_in_range(s: &CoreStrategy, layers: &Layers) -> bool
         CoreStrategy::Call(x, strategies, terms) => {
             call_in_range(*x, strategies.as_slice(), terms.as_slice(), layers)
         }
+        CoreStrategy::Primitive(_, terms) => patterns_in_range(terms.as_slice(), layers),
     }
 }
 

@@ -6,8 +6,9 @@ use std::test::Fail;
 use str_desugar::to_core;
 use str_syntax::{
     Arguments, Definition, DefinitionForm, File, Origin, Parameters, Primary, Section, Strategy,
-    build,
+    Text, build,
 };
+use term_model::PrimNames;
 
 // The body of a definition.
 #[derive(Clone, Copy)]
@@ -18,6 +19,8 @@ enum Body<'a> {
     Call(&'a str),
     // `?x; !x`
     Keep(&'a str),
+    // `prim("f")`
+    Primitive(&'a str),
 }
 
 // What becomes of a body.
@@ -29,6 +32,8 @@ enum Made {
     Call(usize),
     // `?x; !x` in a scope of the one variable.
     Keep,
+    // A call of the primitive of this name without arguments.
+    Primitive(&'static str),
 }
 
 fn keep(alloc: Global, word: &str) -> Result<Strategy, Fail> {
@@ -48,10 +53,15 @@ fn strategy(alloc: Global, body: &Body) -> Result<Strategy, Fail> {
             Ok(build::strategy(alloc, primary)?)
         }
         Body::Keep(x) => keep(alloc, x),
+        Body::Primitive(f) => {
+            let name = Text::new(alloc, f.as_bytes())?;
+            let primary = Primary::Primitive(name, Vec::new(alloc));
+            Ok(build::strategy(alloc, primary)?)
+        }
     }
 }
 
-// The checked file of these definitions.
+// The checked file of these definitions, where `p` without arguments is a primitive.
 fn checked(alloc: Global, definitions: &[(&str, Body)]) -> Result<Checked, Fail> {
     let mut all = Vec::new(alloc);
     for (word, body) in definitions {
@@ -63,7 +73,9 @@ fn checked(alloc: Global, definitions: &[(&str, Body)]) -> Result<Checked, Fail>
     }
     let mut sections = Vec::new(alloc);
     sections.push(Section::Strategies(all))?;
-    Ok(check(alloc, File { sections }, b"main")?)
+    let mut primitives = PrimNames::new(alloc);
+    primitives.insert(b"p", 0)?;
+    Ok(check(alloc, File { sections }, &primitives, b"main")?)
 }
 
 fn at(layers_up: usize, slot: usize) -> Coordinate {
@@ -80,6 +92,10 @@ fn expected(alloc: Global, made: &Made) -> Result<CoreStrategy, Fail> {
             let last = Box::new(alloc, CoreStrategy::Build(CorePattern::Variable(at(0, 0))))?;
             let body = CoreStrategy::Sequence(first, last, Vec::new(alloc));
             Ok(CoreStrategy::Scope(1, Box::new(alloc, body)?))
+        }
+        Made::Primitive(name) => {
+            let name = Vec::from_slice(alloc, name.as_bytes())?;
+            Ok(CoreStrategy::Primitive(name, Vec::new(alloc)))
         }
     }
 }
@@ -143,6 +159,11 @@ const CORES: &[(&[(&str, Body<'static>)], &[(Made, Option<Made>)], usize)] = &[
     (
         &[("main", Body::Keep("x")), ("main", Body::Keep("y"))],
         &[(Made::Keep, Some(Made::Keep))],
+        0,
+    ),
+    (
+        &[("main", Body::Primitive("p"))],
+        &[(Made::Primitive("p"), None)],
         0,
     ),
 ];

@@ -1,9 +1,11 @@
 -- The heads of a file, section after section.
-use Rattle.std.proofs.Common.{◌≡◌, ◌∙◌, ℕ, ◌+◌, ◌<◌, ◌≤◌, List, [], ◌∷◌, ◌++◌, map, drop, length, get_or, sym, refl, ap, append-nil}
+use Rattle.std.proofs.Common.{◌≡◌, ◌∙◌, ℕ, Bool, true, false, ◌+◌, ◌<◌, ◌≤◌, List, [], ◌∷◌, ◌++◌, map, drop, length, get_or, sym, refl, ap, append-nil}
 use Rattle.std.proofs.lemmas.List.{append_assoc}
+use Rattle.std.specs.Prelude.{if◌then◌else◌}
+use Rattle.str_syntax.specs.declared.definition.Origin.{Origin}
 use Rattle.str_syntax.specs.Trees.{HeadTree, TopTree, SectionTree, signature, rules, strategies}
 use Rattle.scope_check.specs.Found.{tops_of}
-use Rattle.scope_check.specs.Seen.{head_of_top, tops_in}
+use Rattle.scope_check.specs.Seen.{head_of_top, heads_from, is_from, tops_in}
 use Rattle.scope_check.proofs.NameLaws.{drop_more, drop_past}
 
 map-append : (ts us : List TopTree) → map head_of_top (ts ++ us) ≡ map head_of_top ts ++ map head_of_top us
@@ -14,6 +16,20 @@ pub more_heads : (s : SectionTree) (ss : List SectionTree) → map head_of_top (
 more_heads (signature _) ss = refl
 more_heads (rules tops) ss = map-append tops (tops_in ss)
 more_heads (strategies tops) ss = map-append tops (tops_in ss)
+
+one_more : (b : Bool) (h : HeadTree) (before after whole : List HeadTree) → whole ≡ before ++ after → (if b then h ∷ whole else whole) ≡ (if b then h ∷ before else before) ++ after
+one_more true h before after whole is = ap (λ hs. h ∷ hs) is
+one_more false h before after whole is = is
+
+from-append : (o : Origin) (ts us : List TopTree) → heads_from o (ts ++ us) ≡ heads_from o ts ++ heads_from o us
+from-append o [] us = refl
+from-append o (t ∷ ts) us = one_more (is_from o t.origin) (head_of_top t) (heads_from o ts) (heads_from o us) (heads_from o (ts ++ us)) (from-append o ts us)
+
+-- those that come from there
+pub more_heads_from : (o : Origin) (s : SectionTree) (ss : List SectionTree) → heads_from o (tops_in (s ∷ ss)) ≡ heads_from o (tops_of s) ++ heads_from o (tops_in ss)
+more_heads_from o (signature _) ss = refl
+more_heads_from o (rules tops) ss = from-append o tops (tops_in ss)
+more_heads_from o (strategies tops) ss = from-append o tops (tops_in ss)
 
 -- lists that are made one after another
 module _ {X : Type 0} (one : X → List HeadTree) (every : List X → List HeadTree) where

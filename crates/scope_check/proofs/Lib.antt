@@ -6,6 +6,7 @@ pub mod TopLaws
 pub mod LayerLaws
 pub mod HeadLaws
 pub mod KeyLaws
+pub mod PrimitiveLaws
 pub mod DeclarationLaws
 pub mod FileLaws
 pub mod LeastLaws

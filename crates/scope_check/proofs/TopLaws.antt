@@ -1,17 +1,16 @@
 -- What is found at top level, section after section.
 use Rattle.std.proofs.Common.{◌≡◌, List, ◌∷◌, ◌++◌, refl}
 use Rattle.std.proofs.lemmas.List.Folds.{list_any-append}
-use Rattle.signature_core.specs.Signature.{Declared}
 use Rattle.str_syntax.specs.Trees.{TopTree, SectionTree, signature, rules, strategies}
-use Rattle.scope_check.specs.Complaint.{is_bad}
+use Rattle.scope_check.specs.Complaint.{Known, is_bad}
 use Rattle.scope_check.specs.Found.{joined, noted, found_in_tops, tops_of}
 use Rattle.scope_check.specs.Seen.{Seen, tops_in}
 use Rattle.scope_check.specs.Somewhere.{in_top}
 
-more_tops : (ds : List Declared) (L : Seen) (ts us : List TopTree) → found_in_tops ds L (ts ++ us) ≡ joined (found_in_tops ds L ts) (found_in_tops ds L us)
-more_tops ds L ts us = λ i. noted (λ k. list_any-append (in_top (is_bad ds k) L) ts us i)
+more_tops : (known : Known) (L : Seen) (ts us : List TopTree) → found_in_tops known L (ts ++ us) ≡ joined (found_in_tops known L ts) (found_in_tops known L us)
+more_tops known L ts us = λ i. noted (λ k. list_any-append (in_top (is_bad known k) L) ts us i)
 
-pub more_sections : (ds : List Declared) (L : Seen) (s : SectionTree) (ss : List SectionTree) → found_in_tops ds L (tops_in (s ∷ ss)) ≡ joined (found_in_tops ds L (tops_of s)) (found_in_tops ds L (tops_in ss))
-more_sections ds L (signature _) ss = refl
-more_sections ds L (rules tops) ss = more_tops ds L tops (tops_in ss)
-more_sections ds L (strategies tops) ss = more_tops ds L tops (tops_in ss)
+pub more_sections : (known : Known) (L : Seen) (s : SectionTree) (ss : List SectionTree) → found_in_tops known L (tops_in (s ∷ ss)) ≡ joined (found_in_tops known L (tops_of s)) (found_in_tops known L (tops_in ss))
+more_sections known L (signature _) ss = refl
+more_sections known L (rules tops) ss = more_tops known L tops (tops_in ss)
+more_sections known L (strategies tops) ss = more_tops known L tops (tops_in ss)

@@ -1,6 +1,5 @@
 -- What is found in lists of trees, one after another.
 use Rattle.std.proofs.Common.{◌≡◌, ◌∙◌, ℕ, ◌+◌, ◌<◌, ◌≤◌, Bool, ◌||◌, not, List, [], ◌∷◌, ◌++◌, map, drop, length, get_or, sym, refl, ap, append-nil, Option, Some, None, Box, Global}
-use Rattle.signature_core.specs.Signature.{Declared}
 use Rattle.str_syntax.specs.declared.strategy.Arguments.{Arguments}
 use Rattle.str_syntax.specs.declared.strategy.Pattern.{Pattern}
 use Rattle.str_syntax.specs.declared.strategy.Primary.{Primary}
@@ -12,11 +11,12 @@ use Rattle.str_syntax.specs.declared.strategy.StrategyDefinition.{StrategyDefini
 use Rattle.str_syntax.specs.declared.strategy.Arguments.TheOpen as forms
 use Rattle.str_syntax.specs.declared.strategy.Arguments.TheFolds.{fold_out-Rule, map-Rule}
 use Rattle.str_syntax.specs.declared.strategy.Arguments.TheViews.{out-Rule}
+use Rattle.str_syntax.specs.declared.definition.Origin.{Origin}
 use Rattle.str_syntax.specs.Trees.{Bytes, ArgumentTree, PatternTree, PrimaryTree, SequenceTree, StepTree, StrategyTree, RuleTree, DefinitionTree, DefinitionTrees, OptionalStrategy, ParameterTree, definition, head, rewrites, scope, call, conditional, let_in}
 use Rattle.str_syntax.specs.Views.{argument_step, pattern_step, primary_step, rule_step, sequence_step, step_step, strategy_step, definition_step, arguments_of, pattern_of, primary_of, rule_of, sequence_of, step_of, strategy_of, definition_of, optional_strategy_of}
 use Rattle.scope_check.specs.declared.findings.Findings.{Findings}
 use Rattle.scope_check.specs.declared.side.Side.TheVariants.{Match, Build}
-use Rattle.scope_check.specs.Complaint.{repeats, is_congruence, called}
+use Rattle.scope_check.specs.Complaint.{Known, repeats, is_congruence, called}
 use Rattle.scope_check.specs.Found.{joined, none, found_at, found_group, found_in_arguments, found_in_definition, found_in_definitions, found_in_optional_strategy, found_in_pattern, found_in_primary, found_in_rule, found_in_strategy}
 use Rattle.scope_check.specs.Seen.{Key, Seen, among, inner, in_let, in_body, heads_in, key_of, parameter_keys}
 use Rattle.scope_check.specs.Somewhere.{heading}
@@ -71,42 +71,42 @@ reads_rule r =
     fold_out-Rule ArgumentTree PatternTree PrimaryTree SequenceTree StepTree StrategyTree RuleTree DefinitionTree argument_step pattern_step primary_step sequence_step step_step strategy_step rule_step definition_step r ∙
     rule_parts (out-Rule r) r.condition
 
-module _ (ds : List Declared) (L : Seen) where
-  pub scope_found : (xs : List Bytes) (s : StrategyTree) (n : Findings) (b : Bool) (f : Findings) → n ≡ none → b ≡ repeats (xs ++ []) → f ≡ found_in_strategy ds L s
-      → joined (record n { bad_parameters = b }) f ≡ found_in_primary ds L (scope xs s)
+module _ (known : Known) (L : Seen) where
+  pub scope_found : (xs : List Bytes) (s : StrategyTree) (n : Findings) (b : Bool) (f : Findings) → n ≡ none → b ≡ repeats (xs ++ []) → f ≡ found_in_strategy known L s
+      → joined (record n { bad_parameters = b }) f ≡ found_in_primary known L (scope xs s)
   scope_found xs s n b f is_none is_b is_f = let e = is_b ∙ ap repeats (append-nil xs) in λ i. joined (record (is_none i) { bad_parameters = e i }) (is_f i)
 
-  pub call_found : (g : Bytes) (a : ArgumentTree) (n : Findings) (b : Bool) (f : Findings) → n ≡ none → b ≡ (is_congruence ds g a || L (called g a)) → f ≡ found_in_arguments ds L a
-      → joined (record n { unknown_strategy = not b }) f ≡ found_in_primary ds L (call g a)
+  pub call_found : (g : Bytes) (a : ArgumentTree) (n : Findings) (b : Bool) (f : Findings) → n ≡ none → b ≡ (is_congruence known.declarations g a || L (called g a)) → f ≡ found_in_arguments known L a
+      → joined (record n { unknown_strategy = not b }) f ≡ found_in_primary known L (call g a)
   call_found g a n b f is_none is_b is_f = λ i. joined (record (is_none i) { unknown_strategy = not (is_b i) }) (is_f i)
 
-  pub conditional_found : (s t : StrategyTree) (u : OptionalStrategy) (f g h : Findings) → f ≡ found_in_strategy ds L s → g ≡ found_in_strategy ds L t → h ≡ found_in_optional_strategy ds L u
-      → joined f (joined g h) ≡ found_in_primary ds L (conditional s t u)
+  pub conditional_found : (s t : StrategyTree) (u : OptionalStrategy) (f g h : Findings) → f ≡ found_in_strategy known L s → g ≡ found_in_strategy known L t → h ≡ found_in_optional_strategy known L u
+      → joined f (joined g h) ≡ found_in_primary known L (conditional s t u)
   conditional_found s t u f g h is_f is_g is_h = λ i. joined (is_f i) (joined (is_g i) (is_h i))
 
-  pub rule_found : (l r : PatternTree) (u : OptionalStrategy) (f g h : Findings) → f ≡ found_in_pattern ds Match L l → g ≡ found_in_pattern ds Build L r → h ≡ found_in_optional_strategy ds L u
-      → joined f (joined g h) ≡ found_in_rule ds L (rewrites l r u)
+  pub rule_found : (l r : PatternTree) (u : OptionalStrategy) (f g h : Findings) → f ≡ found_in_pattern known Match L l → g ≡ found_in_pattern known Build L r → h ≡ found_in_optional_strategy known L u
+      → joined f (joined g h) ≡ found_in_rule known L (rewrites l r u)
   rule_found l r u f g h is_f is_g is_h = λ i. joined (is_f i) (joined (is_g i) (is_h i))
 
   pub let_definitions_found : (ts : DefinitionTrees) (ks : List Key) (e f : Findings) → e ≡ found_group (heads_in ts)
-      → among ks ≡ among (map key_of (heads_in ts)) → f ≡ found_in_definitions ds (inner (among ks) L) ts
-      → joined e f ≡ joined (found_group (heads_in ts)) (found_in_definitions ds (in_let ts L) ts)
+      → among ks ≡ among (map key_of (heads_in ts)) → f ≡ found_in_definitions known (inner (among ks) L) ts
+      → joined e f ≡ joined (found_group (heads_in ts)) (found_in_definitions known (in_let ts L) ts)
   let_definitions_found ts ks e f is_e is_ks is_f =
-      let ef : f ≡ found_in_definitions ds (in_let ts L) ts = is_f ∙ ap (λ A. found_in_definitions ds (inner A L) ts) is_ks in
+      let ef : f ≡ found_in_definitions known (in_let ts L) ts = is_f ∙ ap (λ A. found_in_definitions known (inner A L) ts) is_ks in
       λ i. joined (is_e i) (ef i)
 
   pub let_body_found : (ts : DefinitionTrees) (s : StrategyTree) (ks : List Key) (g : Findings)
-      → among ks ≡ among (map key_of (heads_in ts)) → g ≡ found_in_strategy ds (inner (among ks) L) s → g ≡ found_in_strategy ds (in_let ts L) s
-  let_body_found ts s ks g is_ks is_g = is_g ∙ ap (λ A. found_in_strategy ds (inner A L) s) is_ks
+      → among ks ≡ among (map key_of (heads_in ts)) → g ≡ found_in_strategy known (inner (among ks) L) s → g ≡ found_in_strategy known (in_let ts L) s
+  let_body_found ts s ks g is_ks is_g = is_g ∙ ap (λ A. found_in_strategy known (inner A L) s) is_ks
 
-  pub let_found : (ts : DefinitionTrees) (s : StrategyTree) (f g : Findings) → f ≡ joined (found_group (heads_in ts)) (found_in_definitions ds (in_let ts L) ts)
-      → g ≡ found_in_strategy ds (in_let ts L) s → joined f g ≡ found_in_primary ds L (let_in ts s)
+  pub let_found : (ts : DefinitionTrees) (s : StrategyTree) (f g : Findings) → f ≡ joined (found_group (heads_in ts)) (found_in_definitions known (in_let ts L) ts)
+      → g ≡ found_in_strategy known (in_let ts L) s → joined f g ≡ found_in_primary known L (let_in ts s)
   let_found ts s f g is_f is_g =
-      let both : joined f g ≡ joined (joined (found_group (heads_in ts)) (found_in_definitions ds (in_let ts L) ts)) (found_in_strategy ds (in_let ts L) s) = λ i. joined (is_f i) (is_g i) in
-      both ∙ joined-assoc (found_group (heads_in ts)) (found_in_definitions ds (in_let ts L) ts) (found_in_strategy ds (in_let ts L) s)
+      let both : joined f g ≡ joined (joined (found_group (heads_in ts)) (found_in_definitions known (in_let ts L) ts)) (found_in_strategy known (in_let ts L) s) = λ i. joined (is_f i) (is_g i) in
+      both ∙ joined-assoc (found_group (heads_in ts)) (found_in_definitions known (in_let ts L) ts) (found_in_strategy known (in_let ts L) s)
 
-  pub definition_found : (f : Bytes) (ps : ParameterTree) (s : StrategyTree) (ks : List Key) (a b : Findings) → a ≡ found_at ds (heading (head f ps)) → among ks ≡ among (parameter_keys (head f ps))
-      → b ≡ found_in_strategy ds (inner (among ks) L) s → joined a b ≡ found_in_definition ds L (definition (head f ps) s)
-  definition_found f ps s ks a b is_a is_ks is_b =
-      let eb : b ≡ found_in_strategy ds (in_body (head f ps) L) s = is_b ∙ ap (λ A. found_in_strategy ds (inner A L) s) is_ks in
+  pub definition_found : (o : Origin) (f : Bytes) (ps : ParameterTree) (s : StrategyTree) (ks : List Key) (a b : Findings) → a ≡ found_at known (heading o (head f ps)) → among ks ≡ among (parameter_keys (head f ps))
+      → b ≡ found_in_strategy known (inner (among ks) L) s → joined a b ≡ found_in_definition known o L (definition (head f ps) s)
+  definition_found o f ps s ks a b is_a is_ks is_b =
+      let eb : b ≡ found_in_strategy known (in_body (head f ps) L) s = is_b ∙ ap (λ A. found_in_strategy known (inner A L) s) is_ks in
       λ i. joined (is_a i) (eb i)

@@ -1,5 +1,5 @@
 -- A file that was judged and has no fault.
-use Rattle.std.specs.Prelude.{◌≡◌, List, None}
+use Rattle.std.specs.Prelude.{◌≡◌, ℕ, Bool, List, None}
 use Rattle.str_syntax.specs.declared.definition.File.{File}
 use Rattle.str_syntax.specs.Trees.{Bytes, FileTree}
 use Rattle.signature_core.specs.Signature.{Declared, declarations_of}
@@ -11,7 +11,8 @@ pub record Checked : Type 0 where
   pub declarations : List Declared
   pub main : Bytes
 
--- the file has no fault, and these are its declarations
+-- the file has no fault where there are some primitives, and these are its declarations
 pub record IsChecked (file : FileTree) (declarations : List Declared) (main : Bytes) : Type 0 where
-  pub faultless : first_fault file main ≡ None
+  pub has_primitive : Bytes → ℕ → Bool
+  pub faultless : first_fault has_primitive file main ≡ None
   pub declared : declarations ≡ declarations_of file

@@ -10,8 +10,13 @@ use Rattle.str_syntax.specs.Trees.{Bytes, HeadTree, head, wildcard, alias, appli
 use Rattle.signature_core.specs.Signature.{Declared, arity_known, is_declared, is_declared_name, declarations_of}
 use Rattle.scope_check.specs.declared.side.Side.{Side}
 use Rattle.scope_check.specs.declared.side.Side.TheVariants.{Match, Build}
-use Rattle.scope_check.specs.Seen.{Key, same_key, plain_key, strategy_names, term_names, key_of, at_top}
+use Rattle.scope_check.specs.Seen.{Key, same_key, among, plain_key, strategy_names, term_names, key_of, is_own, library_keys, own_heads, at_top}
 use Rattle.scope_check.specs.Somewhere.{Test, pattern, strategy, heading, group, in_file}
+
+-- what a file is judged by: the constructors that it declares, and which primitives there are
+pub record Known : Type 0 where
+  pub declarations : List Declared
+  pub has_primitive : Bytes → ℕ → Bool
 
 pub data Complaint : Type 0 where
   duplicate_declaration : Complaint
@@ -61,14 +66,14 @@ abbrev pub too_many : List HeadTree → Bool
 too_many hs = list_any (λ h. nat_lt 1000 (alternatives hs (key_of h))) hs
 
 abbrev pub has_bad_parameters : Test
-has_bad_parameters L (heading (head f ps)) = repeats (strategy_names ps ++ term_names ps)
+has_bad_parameters L (heading o (head f ps)) = repeats (strategy_names ps ++ term_names ps)
 has_bad_parameters L (strategy (scope xs s)) = repeats xs
 has_bad_parameters L (group hs) = some_differ hs || too_many hs
 has_bad_parameters L _ = false
 
--- a definition, a strategy parameter or a rec has the name of a declared constructor
+-- a definition, a strategy parameter or a rec has the name of a declared constructor; the names of the library's parameters do not matter
 abbrev pub clashes : List Declared → Test
-clashes ds L (heading (head f ps)) = is_declared_name ds f || list_any (is_declared_name ds) (strategy_names ps)
+clashes ds L (heading o (head f ps)) = is_declared_name ds f || (is_own o && list_any (is_declared_name ds) (strategy_names ps))
 clashes ds L (strategy (recursive f s)) = is_declared_name ds f
 clashes ds L _ = false
 
@@ -77,6 +82,10 @@ abbrev pub is_congruence : List Declared → Bytes → ArgumentTree → Bool
 is_congruence ds f no_arguments = false
 is_congruence ds f (strategy_arguments ss) = arity_known ds f (number_of_strategies ss)
 is_congruence ds f (all_arguments ss ps) = false
+
+-- a definition of the file has the key of a definition of the library
+abbrev pub redefines_library : FileTree → Bool
+redefines_library file = list_any (λ h. among (library_keys file) (key_of h)) (own_heads file)
 
 -- the key that a call asks for
 abbrev pub called : Bytes → ArgumentTree → Key
@@ -97,27 +106,32 @@ is_not_buildable L (pattern m wildcard) = is_built m
 is_not_buildable L (pattern m (alias x p)) = is_built m
 is_not_buildable L _ = false
 
--- there are no primitives yet
-abbrev pub is_unknown_primitive : Test
-is_unknown_primitive L (strategy (primitive f ps)) = true
-is_unknown_primitive L _ = false
+-- there is no primitive of this name with this number of terms
+abbrev pub is_unknown_primitive : (Bytes → ℕ → Bool) → Test
+is_unknown_primitive has L (strategy (primitive f ps)) = not (has f (number_of_patterns ps))
+is_unknown_primitive has L _ = false
 
 -- the nodes that a complaint is about
-abbrev pub is_bad : List Declared → Complaint → Test
-is_bad ds duplicate_declaration = λ L n. false
-is_bad ds undeclared = is_undeclared ds
-is_bad ds bad_parameters = has_bad_parameters
-is_bad ds clash = clashes ds
-is_bad ds unknown_strategy = is_unknown ds
-is_bad ds not_buildable = is_not_buildable
-is_bad ds unknown_primitive = is_unknown_primitive
-is_bad ds no_main = λ L n. false
+abbrev pub is_bad : Known → Complaint → Test
+is_bad known duplicate_declaration = λ L n. false
+is_bad known undeclared = is_undeclared known.declarations
+is_bad known bad_parameters = has_bad_parameters
+is_bad known clash = clashes known.declarations
+is_bad known unknown_strategy = is_unknown known.declarations
+is_bad known not_buildable = is_not_buildable
+is_bad known unknown_primitive = is_unknown_primitive known.has_primitive
+is_bad known no_main = λ L n. false
 
--- a complaint occurs in a file that is asked for this main
-abbrev pub occurs : FileTree → Bytes → Complaint → Bool
-occurs file main duplicate_declaration = repeats_declaration (declarations_of file)
-occurs file main no_main = not (at_top file (plain_key main))
-occurs file main k = in_file (is_bad (declarations_of file) k) file
+-- what the file is judged by where there are these primitives
+abbrev pub known_in : (Bytes → ℕ → Bool) → FileTree → Known
+known_in has file = record { declarations = declarations_of file; has_primitive = has }
+
+-- a complaint occurs in a file that is asked for this main, where there are these primitives
+abbrev pub occurs : (Bytes → ℕ → Bool) → FileTree → Bytes → Complaint → Bool
+occurs has file main duplicate_declaration = repeats_declaration (declarations_of file)
+occurs has file main no_main = not (at_top file (plain_key main))
+occurs has file main clash = redefines_library file || in_file (is_bad (known_in has file) clash) file
+occurs has file main k = in_file (is_bad (known_in has file) k) file
 
 abbrev pub fault_of : Complaint → Fault
 fault_of duplicate_declaration = DuplicateDeclaration
@@ -138,6 +152,6 @@ abbrev pub first_of : (Complaint → Bool) → List Complaint → Option Fault
 first_of holds [] = None
 first_of holds (k ∷ ks) = if holds k then Some (fault_of k) else first_of holds ks
 
--- the fault of a file, if it has one: that of the least number among those that occur anywhere in it
-abbrev pub first_fault : FileTree → Bytes → Option Fault
-first_fault file main = first_of (occurs file main) complaints
+-- the fault of a file where there are these primitives, if it has one: that of the least number among those that occur anywhere in it
+abbrev pub first_fault : (Bytes → ℕ → Bool) → FileTree → Bytes → Option Fault
+first_fault has file main = first_of (occurs has file main) complaints

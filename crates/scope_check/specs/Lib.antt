@@ -2,6 +2,7 @@ pub mod Seen
 pub mod SameKey
 pub mod Somewhere
 pub mod Complaint
+pub mod Primitives
 pub mod Groups
 pub mod Least
 pub mod Checked

@@ -1,8 +1,10 @@
 -- What a call can be of: keys, and which of them are seen at a place of a file.
-use Rattle.std.specs.Prelude.{ℕ, Bool, false, ◌&&◌, ◌||◌, ◌==◌, List, [], ◌∷◌, ◌++◌, map}
+use Rattle.std.specs.Prelude.{ℕ, Bool, true, false, not, ◌&&◌, ◌||◌, ◌==◌, List, [], ◌∷◌, ◌++◌, map, if◌then◌else◌}
 use Rattle.std.specs.List.{list_any}
 use Rattle.str_syntax.specs.Arity.{strategy_parameters, term_parameters}
 use Rattle.str_syntax.specs.SameName.{same_name}
+use Rattle.str_syntax.specs.declared.definition.Origin.{Origin}
+use Rattle.str_syntax.specs.declared.definition.Origin.TheVariants as origins
 use Rattle.str_syntax.specs.Trees.{Bytes, ParameterTree, absent, strategies_only, with_terms, HeadTree, head, definition, DefinitionTrees, no_definitions, more_definitions, FormTree, rule_form, strategy_form, TopTree, SectionTree, signature, rules, strategies, FileTree}
 
 -- a name with numbers of strategies and of terms
@@ -84,6 +86,31 @@ head_of_top t = head_of_form t.form
 -- their heads
 abbrev pub top_heads : FileTree → List HeadTree
 top_heads file = map head_of_top (tops_in file.sections)
+
+-- whether it stands in the file that was handed in, and not in the library
+abbrev pub is_own : Origin → Bool
+is_own origins.File = true
+is_own origins.Library = false
+
+-- whether something comes from there
+abbrev pub is_from : Origin → Origin → Bool
+is_from origins.File o = is_own o
+is_from origins.Library o = not (is_own o)
+
+-- the heads of the rules and definitions that come from there
+abbrev pub heads_from : Origin → List TopTree → List HeadTree
+heads_from o [] = []
+heads_from o (t ∷ tops) = if is_from o t.origin then head_of_top t ∷ heads_from o tops else heads_from o tops
+
+abbrev pub own_heads : FileTree → List HeadTree
+own_heads file = heads_from origins.File (tops_in file.sections)
+
+abbrev pub library_heads : FileTree → List HeadTree
+library_heads file = heads_from origins.Library (tops_in file.sections)
+
+-- the keys of the library's definitions
+abbrev pub library_keys : FileTree → List Key
+library_keys file = map key_of (library_heads file)
 
 -- what is seen at top level
 abbrev pub at_top : FileTree → Seen

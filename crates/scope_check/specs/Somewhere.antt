@@ -4,6 +4,8 @@ use Rattle.std.specs.List.{list_any}
 use Rattle.scope_check.specs.declared.side.Side.{Side}
 use Rattle.scope_check.specs.declared.side.Side.TheVariants.{Match, Build}
 use Rattle.scope_check.specs.Seen.{Seen, nothing, in_rec, in_let, in_body, heads_in, tops_in, top_heads, at_top}
+use Rattle.str_syntax.specs.declared.definition.Origin.{Origin}
+use Rattle.str_syntax.specs.declared.definition.Origin.TheVariants as origins
 use Rattle.str_syntax.specs.Trees.{HeadTree, PatternTree, variable, wildcard, alias, integer, quoted, application, grouped, tuple, list, applied, applied_to, PatternTrees, no_patterns, more_patterns, OptionalPattern, no_pattern, one_pattern, StrategyTree, plain_sequence, left_choice, guarded_choice, StrategyTrees, no_strategies, more_strategies, OptionalStrategy, no_strategy, one_strategy, SequenceTree, last, then, StepTree, plain_step, matching, PrimaryTree, identity, failure, match, build, apply, parenthesized, scope, operator, conditional, recursive, let_in, primitive, lambda, call, tuple_congruence, list_congruence, ArgumentTree, no_arguments, strategy_arguments, all_arguments, RuleTree, rewrites, DefinitionTree, definition, DefinitionTrees, no_definitions, more_definitions, FormTree, rule_form, strategy_form, TopTree, FileTree}
 
 pub data Node : Type 0 where
@@ -11,8 +13,8 @@ pub data Node : Type 0 where
   pattern : Side → PatternTree → Node
   -- a strategy that no operator splits
   strategy : PrimaryTree → Node
-  -- the name and the parameters of a rule or a definition
-  heading : HeadTree → Node
+  -- the name and the parameters of a rule or a definition, and where that comes from
+  heading : Origin → HeadTree → Node
   -- the heads of all rules and definitions at top level, or of the definitions of one let
   group : List HeadTree → Node
 
@@ -91,19 +93,20 @@ abbrev mutual
   in_rule P L (rewrites l r s) = in_pattern P Match L l || (in_pattern P Build L r || in_optional_strategy P L s)
 
   -- its body sees its strategy parameters
-  pub in_definition : Test → Seen → DefinitionTree → Bool
-  in_definition P L (definition h s) = P L (heading h) || in_strategy P (in_body h L) s
+  pub in_definition : Test → Origin → Seen → DefinitionTree → Bool
+  in_definition P o L (definition h s) = P L (heading o h) || in_strategy P (in_body h L) s
 
+  -- the definitions of a let are the file's own
   pub in_definitions : Test → Seen → DefinitionTrees → Bool
   in_definitions P L no_definitions = false
-  in_definitions P L (more_definitions d ds) = in_definition P L d || in_definitions P L ds
+  in_definitions P L (more_definitions d ds) = in_definition P origins.File L d || in_definitions P L ds
 
-abbrev pub in_form : Test → Seen → FormTree → Bool
-in_form P L (rule_form h r) = P L (heading h) || in_rule P (in_body h L) r
-in_form P L (strategy_form d) = in_definition P L d
+abbrev pub in_form : Test → Origin → Seen → FormTree → Bool
+in_form P o L (rule_form h r) = P L (heading o h) || in_rule P (in_body h L) r
+in_form P o L (strategy_form d) = in_definition P o L d
 
 abbrev pub in_top : Test → Seen → TopTree → Bool
-in_top P L t = in_form P L t.form
+in_top P L t = in_form P t.origin L t.form
 
 -- some node of the file is such
 abbrev pub in_file : Test → FileTree → Bool

@@ -10,7 +10,14 @@ use Rattle.term_model.specs.declared.fault.Fault.TheVariants.{Memory, DuplicateD
 use Rattle.scope_check.specs.declared.layers.Layers.{Layers}
 use Rattle.scope_check.specs.declared.layers.Layers.TheOpen.{Layers-F, Outermost, Inner, Recursive}
 use Rattle.scope_check.specs.declared.layers.Layers.TheFolds.{fold-Layers}
+use Rattle.scope_check.specs.declared.known.Known as declared
+use Rattle.scope_check.specs.Complaint.{Known}
+use Rattle.scope_check.specs.Primitives.{holds}
 use Rattle.scope_check.specs.Seen.{Key, same_key, Seen, nothing, among, inner, plain_key, in_rec}
+
+-- what a file is judged by
+abbrev pub known_of : declared.Known → Known
+known_of known = record { declarations = known.signature.now; has_primitive = holds known.primitives.now }
 
 -- the keys and others
 abbrev pub AreWith : List Key → List Key → List Key → Type 0

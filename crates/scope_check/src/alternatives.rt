@@ -10,7 +10,7 @@ ghost use Rattle.str_syntax.specs.Views.{head_of};
 
 use crate::heads::{key_of, strategy_names, term_names};
 use crate::keys::Key;
-use crate::notes::{Detail, Notes};
+use crate::notes::{Detail, Notes, place_of};
 use indexmap::IndexMap;
 use std::alloc::{AllocError, Global};
 use std::marker::Model;
@@ -70,11 +70,21 @@ impl<'a> Groups<'a> {
         Some(Group { first, number })
     }
 
-    // Why the head may not stand in its group.
-    fn refusal(&self, head: &DefinitionHead) -> Detail {
-        match self.by_key.get(&key_of(head)) {
-            Some(group) if group.number < MOST => Detail::OtherParameters,
-            _ => Detail::ManyAlternatives,
+    // Notes why the head may not stand in its group. A head of the library has no place in the file, but the first of its group may
+    // have one.
+    fn note_refusal(&self, head: &DefinitionHead, notes: &mut Notes) {
+        let Some(group) = self.by_key.get(&key_of(head)) else {
+            return;
+        };
+        let detail = if group.number < MOST {
+            Detail::OtherParameters
+        } else {
+            Detail::ManyAlternatives
+        };
+        if place_of(&head.name).is_some() {
+            notes.at(&head.name, detail);
+        } else {
+            notes.at(&group.first.name, detail);
         }
     }
 
@@ -104,7 +114,7 @@ pub(crate) fn is_bad_group(
     for head in heads {
         let fits = groups.add(head)?;
         if !fits {
-            notes.at(&head.name, groups.refusal(head));
+            groups.note_refusal(head, notes);
             return Ok(true);
         }
     }

@@ -5,17 +5,20 @@ ghost use Rattle.scope_check.specs.Complaint.{clashes};
 ghost use Rattle.scope_check.specs.Found.{found_at};
 ghost use Rattle.scope_check.specs.Seen.{among, key_of, nothing, parameter_keys, strategy_names, term_names};
 ghost use Rattle.scope_check.specs.Somewhere.{heading};
+ghost use Rattle.scope_check.specs.Tables.{known_of};
 ghost use Rattle.signature_core.specs.Signature.{is_declared_name};
 ghost use Rattle.str_syntax.specs.Views.{head_of, parameters_of};
 
 use crate::findings::Findings;
 use crate::keys::{Key, Keys};
+use crate::known::Known;
+use crate::library::is_own;
 use crate::names::{add_names, have_repeats};
 use crate::nodes::is_clash;
 use crate::notes::Notes;
 use signature_core::Signature;
 use std::alloc::{AllocError, Global};
-use str_syntax::{DefinitionHead, Name, Parameters};
+use str_syntax::{DefinitionHead, Name, Origin, Parameters};
 
 /// The names of the strategy parameters.
 pub(crate) fn strategy_names(parameters: &Parameters) -> &[Name]
@@ -66,16 +69,17 @@ pub(crate) fn parameter_keys(alloc: Global, head: &DefinitionHead) -> Result<Key
 /// What is wrong with the head by itself. `AllocError` where a growth is refused.
 pub(crate) fn check_head(
     alloc: Global,
-    signature: &Signature,
+    known: &Known<'_>,
+    origin: Origin,
     head: &DefinitionHead,
     notes: &mut Notes,
 ) -> Result<Findings, AllocError>
-    ensures { IfOk result (λ found. found ≡ found_at signature.now (heading (head_of head.now))) }
+    ensures { IfOk result (λ found. found ≡ found_at (known_of known.now) (heading origin (head_of head.now))) }
 {
     let strategies = strategy_names(&head.parameters);
     let terms = term_names(&head.parameters);
     let bad_parameters = have_repeats(alloc, strategies, terms, notes)?;
-    let clash = clashes(signature, head, notes);
+    let clash = clashes(known.signature, origin, head, notes);
     Ok(Findings {
         bad_parameters,
         clash,
@@ -83,12 +87,12 @@ pub(crate) fn check_head(
     })
 }
 
-// Whether the name or a strategy parameter is the name of a declared constructor.
-fn clashes(signature: &Signature, head: &DefinitionHead, notes: &mut Notes) -> bool
-    ensures { result ≡ clashes signature.now nothing (heading (head_of head.now)) }
+// Whether the name or, unless it is the library's, a strategy parameter is the name of a declared constructor.
+fn clashes(signature: &Signature, origin: Origin, head: &DefinitionHead, notes: &mut Notes) -> bool
+    ensures { result ≡ clashes signature.now nothing (heading origin (head_of head.now)) }
 {
     is_clash(signature, &head.name, notes)
-        || any_declared(signature, strategy_names(&head.parameters), notes)
+        || (is_own(origin) && any_declared(signature, strategy_names(&head.parameters), notes))
 }
 
 // Whether one of the names is the name of a declared constructor.

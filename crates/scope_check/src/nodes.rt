@@ -1,9 +1,11 @@
 // What is wrong with one node, which is noted.
 ghost use Rattle.std.specs.Prelude.{◌≡◌, not};
 ghost use Rattle.scope_check.specs.Found.{found_not_buildable, found_primitive};
+ghost use Rattle.scope_check.specs.Primitives.{holds};
 ghost use Rattle.signature_core.specs.Signature.{arity_known, is_declared_name};
 
 use crate::findings::Findings;
+use crate::known::Known;
 use crate::notes::{Detail, Notes};
 use crate::side::Side;
 use signature_core::Signature;
@@ -68,9 +70,17 @@ fn in_build(side: Side) -> Findings
 }
 
 /// What is found about a primitive that is called with this number of terms.
-pub(crate) fn unknown_primitive(name: &Text, terms: usize, notes: &mut Notes) -> Findings
-    ensures { result ≡ found_primitive }
+pub(crate) fn unknown_primitive(
+    known: &Known<'_>,
+    name: &Text,
+    terms: usize,
+    notes: &mut Notes,
+) -> Findings
+    ensures { result ≡ found_primitive (holds known.now.primitives.now name.now terms) }
 {
+    if known.has_primitive(name.bytes(), terms) {
+        return Findings::none();
+    }
     notes.anywhere(name.bytes(), Detail::UnknownPrimitive { terms });
     Findings {
         unknown_primitive: true,

@@ -27,6 +27,8 @@ pub enum Detail {
     ManyAlternatives,
     /// A declared constructor and a strategy have the name.
     Clash,
+    /// A definition of the file has the key of one of the library's.
+    OfLibrary,
     /// No strategy of this name with these numbers of parameters is seen. The numbers with which one is seen, where there is one.
     UnknownStrategy {
         strategies: usize,
@@ -56,7 +58,7 @@ impl Detail {
             Detail::Repeated | Detail::OtherParameters | Detail::ManyAlternatives => {
                 Fault::Parameters
             }
-            Detail::Clash => Fault::Clash,
+            Detail::Clash | Detail::OfLibrary => Fault::Clash,
             Detail::UnknownStrategy { .. } => Fault::UnknownStrategy,
             Detail::BuiltWildcard | Detail::BuiltAlias => Fault::NotBuildable,
             Detail::UnknownPrimitive { .. } => Fault::UnknownPrimitive,
@@ -69,7 +71,7 @@ impl Detail {
         match self {
             Detail::DeclaredAgain | Detail::Undeclared { .. } => "constructor",
             Detail::Repeated | Detail::Clash => "name",
-            Detail::OtherParameters | Detail::ManyAlternatives => "strategy",
+            Detail::OtherParameters | Detail::ManyAlternatives | Detail::OfLibrary => "strategy",
             Detail::UnknownStrategy { .. } | Detail::NoMain => "strategy",
             Detail::BuiltWildcard | Detail::BuiltAlias => "pattern",
             Detail::UnknownPrimitive { .. } => "primitive",
@@ -91,6 +93,7 @@ impl fmt::Display for Detail {
             Detail::OtherParameters => write!(f, " has alternatives with other parameters"),
             Detail::ManyAlternatives => write!(f, " has over 1000 alternatives"),
             Detail::Clash => write!(f, " is that of a declared constructor and of a strategy"),
+            Detail::OfLibrary => write!(f, " is a definition of the library"),
             Detail::UnknownStrategy {
                 strategies,
                 terms,
@@ -130,6 +133,14 @@ fn write_seen<W: fmt::Write>(
     match seen {
         Some((strategies, terms)) => write!(f, " (it is defined with {strategies} and {terms})"),
         None => Ok(()),
+    }
+}
+
+/// Where the name stands in the file. A name of the library has offset 0, where in a file the word of a section begins.
+pub(crate) fn place_of(name: &Name) -> Option<u64> {
+    match name.offset() {
+        0 => None,
+        offset => Some(offset),
     }
 }
 
@@ -179,7 +190,8 @@ impl Note {
         self.detail
     }
 
-    /// The byte of the file at which the name stands. Of a primitive and of the name that was asked for none is known.
+    /// The byte of the file at which the name stands. Of a primitive, of the name that was asked for and of a name of the library none
+    /// is known.
     pub fn offset(&self) -> Option<u64> {
         self.offset
     }
@@ -189,7 +201,8 @@ impl Note {
         &self.bytes[..self.length]
     }
 
-    // Whether this is of a fault of a lesser number than the other, or of the same and further to the front.
+    // Whether this is of a fault of a lesser number than the other, or of the same and further to the front. What has no place comes
+    // after what has one.
     fn is_before(&self, other: &Note) -> bool {
         let number = self.detail.fault().number();
         let least = other.detail.fault().number();
@@ -198,7 +211,8 @@ impl Note {
         }
         match (self.offset, other.offset) {
             (Some(at), Some(first)) => at < first,
-            _ => false,
+            (Some(_), None) => true,
+            (None, _) => false,
         }
     }
 }
@@ -240,9 +254,9 @@ impl Notes {
         }
     }
 
-    // Notes what is wrong with a name that stands in the file.
+    // Notes what is wrong with a name that stands in the file or in the library.
     pub(crate) fn at(&mut self, name: &Name, detail: Detail) {
-        self.keep(Note::new(detail, Some(name.offset()), name.bytes()));
+        self.keep(Note::new(detail, place_of(name), name.bytes()));
     }
 
     // Notes that a wildcard that stands at the offset is built.

@@ -15,8 +15,8 @@ pub(crate) enum Body<'a> {
     Call(&'a str),
     // `f(id)`
     CallWith(&'a str),
-    // `prim("p")`
-    Primitive(&'a str),
+    // `prim("p", x, x)`, with this number of terms
+    Primitive(&'a str, usize),
     // `?C(x)`
     Match(&'a str),
     // `?_`
@@ -94,6 +94,15 @@ fn alias(alloc: Global, word: &str) -> Result<Box<Strategy>, Fail> {
     boxed(alloc, Primary::Build(Pattern::Alias(outer, inner)))
 }
 
+fn primitive(alloc: Global, word: &str, number: usize) -> Result<Box<Strategy>, Fail> {
+    let text = Text::new(alloc, word.as_bytes())?;
+    let mut terms = Vec::new(alloc);
+    for _ in 0..number {
+        terms.push(build::variable(alloc, b"x")?)?;
+    }
+    boxed(alloc, Primary::Primitive(text, terms))
+}
+
 fn let_in(alloc: Global, word: &str) -> Result<Box<Strategy>, Fail> {
     let mut definitions = Vec::new(alloc);
     definitions.push(named_id(alloc, word)?)?;
@@ -106,10 +115,7 @@ fn strategy(alloc: Global, form: &Body) -> Result<Box<Strategy>, Fail> {
         Body::Id => boxed(alloc, Primary::Id),
         Body::Call(f) => call(alloc, f),
         Body::CallWith(f) => call_with(alloc, f),
-        Body::Primitive(f) => {
-            let text = Text::new(alloc, f.as_bytes())?;
-            boxed(alloc, Primary::Primitive(text, Vec::new(alloc)))
-        }
+        Body::Primitive(f, number) => primitive(alloc, f, *number),
         Body::Match(c) => application(alloc, c),
         Body::MatchAny => boxed(alloc, Primary::Match(Pattern::Wildcard(0))),
         Body::BuildAny => boxed(alloc, Primary::Build(Pattern::Wildcard(0))),
@@ -139,6 +145,21 @@ pub(crate) fn definition(
     let parameters = Parameters::WithTerms(strategies, names(alloc, terms)?);
     let head = build::head(alloc, word.as_bytes(), parameters)?;
     defined(alloc, head, form)
+}
+
+// The definition of the library that has these strategy parameters.
+pub(crate) fn of_library(
+    alloc: Global,
+    word: &str,
+    strategies: &[&str],
+) -> Result<Definition, Fail> {
+    let strategies = Parameters::Strategies(names(alloc, strategies)?);
+    let head = build::head(alloc, word.as_bytes(), strategies)?;
+    let body = boxed(alloc, Primary::Id)?;
+    Ok(Definition {
+        origin: Origin::Library,
+        form: DefinitionForm::Strategy(StrategyDefinition { head, body }),
+    })
 }
 
 // The definition of this head and this body.

@@ -1,15 +1,23 @@
 // The judgement of small files with ample memory; what is expected was worked out by hand.
-use crate::samples::{Body, defined, definition, file};
+use crate::samples::{Body, defined, definition, file, of_library};
 use crate::{Checked, Notes, check, check_with_notes};
 use std::alloc::Global;
 use std::test::Fail;
 use str_syntax::{Definition, DefinitionHead, File, Name, Parameters};
-use term_model::Fault;
+use term_model::{Fault, PrimNames};
+
+// `add` with two terms.
+fn primitives(alloc: Global) -> Result<PrimNames, Fail> {
+    let mut names = PrimNames::new(alloc);
+    names.insert(b"add", 2)?;
+    Ok(names)
+}
 
 // The word of the fault that the file has and what is noted of it, or nothing.
 fn refusal(alloc: Global, file: File) -> Result<String, Fail> {
     let mut notes = Notes::none();
-    let Err(fault) = check_with_notes(alloc, file, b"main", &mut notes) else {
+    let primitives = primitives(alloc)?;
+    let Err(fault) = check_with_notes(alloc, file, &primitives, b"main", &mut notes) else {
         return Ok(String::new(alloc));
     };
     let word = fault.word();
@@ -163,8 +171,17 @@ const FAULTS: &[(
         "f",
         &[],
         &[],
-        Body::Primitive("main"),
+        Body::Primitive("main", 0),
         "UnknownPrimitive: primitive main with 0 terms is unknown",
+    ),
+    (&[], "f", &[], &[], Body::Primitive("add", 2), ""),
+    (
+        &[],
+        "f",
+        &[],
+        &[],
+        Body::Primitive("add", 1),
+        "UnknownPrimitive: primitive add with 1 term is unknown",
     ),
     (&[], "f", &[], &[], Body::Call("main"), ""),
     // The least of three faults.
@@ -173,7 +190,7 @@ const FAULTS: &[(
         "C",
         &["s", "s"],
         &[],
-        Body::Primitive("p"),
+        Body::Primitive("p", 0),
         "Parameters: name s stands twice among parameters or in a scope",
     ),
 ];
@@ -262,6 +279,60 @@ fn definitions_together(rt: HostRuntime) -> Result<(), Fail> {
     Ok(())
 }
 
+// Constructors with their numbers of sorts; a definition and its parameters, in front of the library's `try(s)` and `map(s)`; the
+// fault and what is noted of it.
+const WITH_LIBRARY: &[(&[(&str, usize)], &str, &[&str], &[&str], &str)] = &[
+    (&[], "f", &[], &[], ""),
+    (&[("s", 1)], "f", &[], &[], ""),
+    (
+        &[("s", 1)],
+        "f",
+        &["s"],
+        &[],
+        "Clash: name s is that of a declared constructor and of a strategy",
+    ),
+    (
+        &[("map", 2)],
+        "f",
+        &[],
+        &[],
+        "Clash: name map is that of a declared constructor and of a strategy",
+    ),
+    (
+        &[],
+        "try",
+        &["s"],
+        &[],
+        "Clash: strategy try is a definition of the library",
+    ),
+    (
+        &[],
+        "try",
+        &["x"],
+        &[],
+        "Parameters: strategy try has alternatives with other parameters",
+    ),
+    (&[], "try", &[], &[], ""),
+    (&[], "try", &["s", "t"], &[], ""),
+    (&[], "try", &["s"], &["x"], ""),
+];
+
+#[test]
+fn definitions_before_the_library(rt: HostRuntime) -> Result<(), Fail> {
+    let alloc = rt.alloc();
+    for (constructors, word, strategies, terms, expected) in WITH_LIBRARY {
+        let mut all = Vec::new(alloc);
+        all.push(definition(alloc, word, strategies, terms, &Body::Id)?)?;
+        all.push(definition(alloc, "main", &[], &[], &Body::Id)?)?;
+        all.push(of_library(alloc, "try", &["s"])?)?;
+        all.push(of_library(alloc, "map", &["s"])?)?;
+        let file = file(alloc, constructors, all)?;
+        let refusal = refusal(alloc, file)?;
+        assert!(rt; refusal.as_str() == *expected);
+    }
+    Ok(())
+}
+
 // Whether the parts are those of the file that declares C of one sort.
 fn has_its_parts(checked: &Checked) -> bool {
     checked.main() == b"main".as_slice()
@@ -276,7 +347,8 @@ fn a_file_without_a_fault(rt: HostRuntime) -> Result<(), Fail> {
     let mut all = Vec::new(alloc);
     all.push(definition(alloc, "main", &[], &[], &Body::Match("C"))?)?;
     let file = file(alloc, &[("C", 1)], all)?;
-    let checked = check(alloc, file, b"main")?;
+    let primitives = primitives(alloc)?;
+    let checked = check(alloc, file, &primitives, b"main")?;
     let is_whole = has_its_parts(&checked);
     assert!(rt; is_whole);
     Ok(())
@@ -310,12 +382,41 @@ fn the_first_place_of_the_least_fault(rt: HostRuntime) -> Result<(), Fail> {
     all.push(placed(alloc, "f", ["s", "u"], [30, 32, 34])?)?;
     let file = file(alloc, &[("C", 1)], all)?;
     let mut notes = Notes::none();
-    let is_refused = check_with_notes(alloc, file, b"main", &mut notes).is_err();
+    let primitives = primitives(alloc)?;
+    let is_refused = check_with_notes(alloc, file, &primitives, b"main", &mut notes).is_err();
     assert!(rt; is_refused);
     let note = notes.first().ok_or("nothing is noted")?;
     assert!(rt; note.offset() == Some(14));
     assert!(rt; note.name() == b"a".as_slice());
     assert!(rt; note.detail().fault() == Fault::Parameters);
+    Ok(())
+}
+
+// The name of a definition of the file with the parameters `s` and `t` that stands at 20, where the library defines `f` with these
+// parameters, the fault and the place that is noted of it.
+const PLACES: &[(&str, [&str; 2], Fault, Option<u64>)] = &[
+    ("f", ["s", "t"], Fault::Clash, Some(20)),
+    ("f", ["s", "u"], Fault::Parameters, Some(20)),
+    ("g", ["s", "t"], Fault::Clash, None),
+];
+
+#[test]
+fn a_name_of_the_library_has_no_place(rt: HostRuntime) -> Result<(), Fail> {
+    let alloc = rt.alloc();
+    for (word, parameters, fault, place) in PLACES {
+        let mut all = Vec::new(alloc);
+        all.push(placed(alloc, word, ["s", "t"], [20, 22, 24])?)?;
+        all.push(of_library(alloc, "f", parameters)?)?;
+        all.push(of_library(alloc, "C", &[])?)?;
+        let file = file(alloc, &[("C", 1)], all)?;
+        let mut notes = Notes::none();
+        let primitives = primitives(alloc)?;
+        let is_refused = check_with_notes(alloc, file, &primitives, b"main", &mut notes).is_err();
+        assert!(rt; is_refused);
+        let note = notes.first().ok_or("nothing is noted")?;
+        assert!(rt; note.offset() == *place);
+        assert!(rt; note.detail().fault() == *fault);
+    }
     Ok(())
 }
 
@@ -348,7 +449,8 @@ fn a_large_file(rt: HostRuntime) -> Result<(), Fail> {
     }
     all.push(definition(alloc, "main", &[], &[], &Body::Id)?)?;
     let file = file(alloc, &[], all)?;
-    let is_checked = check(alloc, file, b"main").is_ok();
+    let primitives = primitives(alloc)?;
+    let is_checked = check(alloc, file, &primitives, b"main").is_ok();
     assert!(rt; is_checked);
     Ok(())
 }

@@ -49,8 +49,8 @@ fn add_tops<'t>(
     Ok(())
 }
 
-// The head of a rule or a definition.
-fn head_of(one: &Definition) -> &DefinitionHead
+/// The head of a rule or a definition.
+pub(crate) fn head_of(one: &Definition) -> &DefinitionHead
     ensures { head_of result.now ≡ head_of_top (top_of one.now) }
 {
     match &one.form {

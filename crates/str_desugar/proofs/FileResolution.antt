@@ -11,7 +11,8 @@ use Rattle.core_lang.specs.Resolution.{Scopes, nowhere, names, defined, here, on
 use Rattle.signature_core.specs.Signature.{Declared, arity_known, declarations_of}
 use Rattle.scope_check.specs.Complaint.{Complaint, duplicate_declaration, undeclared, bad_parameters, clash, unknown_strategy, not_buildable, unknown_primitive, no_main, occurs, first_fault, is_unknown, has_bad_parameters, some_differ, too_many}
 use Rattle.scope_check.specs.Seen.{Seen, plain_key, in_body, tops_in, head_of_form, head_of_top, top_heads, at_top}
-use Rattle.scope_check.specs.Somewhere.{Test, heading, in_rule, in_strategy, in_form, in_top}
+use Rattle.scope_check.specs.Somewhere.{heading, in_rule, in_strategy, in_form, in_top}
+use Rattle.str_syntax.specs.declared.definition.Origin.{Origin}
 use Rattle.str_syntax.specs.Trees.{Bytes, ParameterTree, head, RuleTree, StrategyTree, definition, FormTree, rule_form, strategy_form, TopTree, SectionTree, signature, rules, strategies, FileTree}
 use Rattle.str_desugar.specs.FileProgram.{program_of_file}
 use Rattle.str_desugar.specs.Alternatives.{Alternative}
@@ -33,15 +34,16 @@ passed : (b : Bool) (x : Fault) (o : Option Fault) → (if b then Some x else o)
 passed true x o e = absurd (cc)
 passed false x o e = (refl, e)
 
--- the three complaints that resolution rests on do not occur
-record Passes (f : FileTree) (main : Bytes) : Type 0 where
-  parameters : occurs f main bad_parameters ≡ false
-  calls : occurs f main unknown_strategy ≡ false
-  has_main : occurs f main no_main ≡ false
+-- the complaints that resolution and its primitives rest on do not occur
+pub record Passes (has : Bytes → ℕ → Bool) (f : FileTree) (main : Bytes) : Type 0 where
+  pub parameters : occurs has f main bad_parameters ≡ false
+  pub calls : occurs has f main unknown_strategy ≡ false
+  pub primitives : occurs has f main unknown_primitive ≡ false
+  pub has_main : occurs has f main no_main ≡ false
 
-none_holds : (f : FileTree) (main : Bytes) → first_fault f main ≡ None → Passes f main
-none_holds f main e =
-    let holds : Complaint → Bool = occurs f main in
+pub none_holds : (has : Bytes → ℕ → Bool) (f : FileTree) (main : Bytes) → first_fault has f main ≡ None → Passes has f main
+none_holds has f main e =
+    let holds : Complaint → Bool = occurs has f main in
     let p1 = passed (holds duplicate_declaration) _ _ e in
     let p2 = passed (holds undeclared) _ _ p1.1 in
     let p3 = passed (holds bad_parameters) _ _ p2.1 in
@@ -50,7 +52,22 @@ none_holds f main e =
     let p6 = passed (holds not_buildable) _ _ p5.1 in
     let p7 = passed (holds unknown_primitive) _ _ p6.1 in
     let p8 = passed (holds no_main) _ _ p7.1 in
-    record { parameters = p3.0; calls = p5.0; has_main = p8.0 }
+    record { parameters = p3.0; calls = p5.0; primitives = p7.0; has_main = p8.0 }
+
+-- ---- the rules and definitions of a file, as the check and as the equations list them
+
+abbrev pub forms_in : List TopTree → List FormTree
+forms_in tops = map (λ top. top.form) tops
+
+pub same_forms : (sections : List SectionTree) → forms_in (tops_in sections) ≡ forms_among sections
+same_forms [] = refl
+same_forms (signature parts ∷ sections) = same_forms sections
+same_forms (rules tops ∷ sections) = map-append (λ top. top.form) tops (tops_in sections) ∙ ap (λ forms. forms_in tops ++ forms) (same_forms sections)
+same_forms (strategies tops ∷ sections) = map-append (λ top. top.form) tops (tops_in sections) ∙ ap (λ forms. forms_in tops ++ forms) (same_forms sections)
+
+same_heads : (tops : List TopTree) → map head_of_top tops ≡ map head_of_form (forms_in tops)
+same_heads [] = refl
+same_heads (top ∷ tops) = ap (λ hs. head_of_form top.form ∷ hs) (same_heads tops)
 
 -- ---- rules and definitions at top level
 
@@ -65,41 +82,41 @@ module _ (ds : List Declared) where
   abbrev declared : Bytes → ℕ → Bool
   declared = arity_known ds
 
-  abbrev FineForm : Seen → FormTree → Type 0
-  FineForm L form = Neither (in_form (is_unknown ds) L form) (in_form has_bad_parameters L form)
+  abbrev FineForm : Origin → Seen → FormTree → Type 0
+  FineForm o L form = Neither (in_form (is_unknown ds) o L form) (in_form has_bad_parameters o L form)
 
-  abbrev FineForms : Seen → List FormTree → Type 0
-  FineForms L forms = Neither (list_any (in_form (is_unknown ds) L) forms) (list_any (in_form has_bad_parameters L) forms)
+  abbrev FineTops : Seen → List TopTree → Type 0
+  FineTops L tops = Neither (list_any (in_top (is_unknown ds) L) tops) (list_any (in_top has_bad_parameters L) tops)
 
-  fine_rule : (L : Seen) (f : Bytes) (ps : ParameterTree) (r : RuleTree) → FineForm L (rule_form (head f ps) r) → FineRule ds (in_body (head f ps) L) r
-  fine_rule L f ps r fine =
-      (fine.0, (or_parts (has_bad_parameters L (heading (head f ps))) (in_rule has_bad_parameters (in_body (head f ps) L) r) fine.1).1)
+  fine_rule : (o : Origin) (L : Seen) (f : Bytes) (ps : ParameterTree) (r : RuleTree) → FineForm o L (rule_form (head f ps) r) → FineRule ds (in_body (head f ps) L) r
+  fine_rule o L f ps r fine =
+      (fine.0, (or_parts (has_bad_parameters L (heading o (head f ps))) (in_rule has_bad_parameters (in_body (head f ps) L) r) fine.1).1)
 
-  fine_strategy : (L : Seen) (f : Bytes) (ps : ParameterTree) (s : StrategyTree) → FineForm L (strategy_form (definition (head f ps) s)) →
+  fine_strategy : (o : Origin) (L : Seen) (f : Bytes) (ps : ParameterTree) (s : StrategyTree) → FineForm o L (strategy_form (definition (head f ps) s)) →
       FineStrategy ds (in_body (head f ps) L) s
-  fine_strategy L f ps s fine =
-      (fine.0, (or_parts (has_bad_parameters L (heading (head f ps))) (in_strategy has_bad_parameters (in_body (head f ps) L) s) fine.1).1)
+  fine_strategy o L f ps s fine =
+      (fine.0, (or_parts (has_bad_parameters L (heading o (head f ps))) (in_strategy has_bad_parameters (in_body (head f ps) L) s) fine.1).1)
 
-  form_resolved : (S : Scopes) (L : Seen) (form : FormTree) → FineForm L form → Sees S L → AlternativeResolved S (top_core declared form)
-  form_resolved S L (rule_form (head f ps) r) fine sees =
+  form_resolved : (S : Scopes) (o : Origin) (L : Seen) (form : FormTree) → FineForm o L form → Sees S L → AlternativeResolved S (top_core declared form)
+  form_resolved S o L (rule_form (head f ps) r) fine sees =
       let T : Scopes = names (map written (strategy_names ps)) (map written (term_names ps)) S in
       let own : List Bytes = each_once (without (term_names ps) (free_in_rule r)) in
       scoped_resolved T own (rule_core declared r)
-      (rule_resolved ds (within T own) (in_body (head f ps) L) r (fine_rule L f ps r fine)
+      (rule_resolved ds (within T own) (in_body (head f ps) L) r (fine_rule o L f ps r fine)
       (bound_at_top S (map written (strategy_names ps)) (term_names ps) (free_in_rule r))
       (sees_in_scope T own (in_body (head f ps) L) (sees_body S f ps (map written (term_names ps)) L sees)))
-  form_resolved S L (strategy_form (definition (head f ps) s)) fine sees =
+  form_resolved S o L (strategy_form (definition (head f ps) s)) fine sees =
       let T : Scopes = names (map written (strategy_names ps)) (map written (term_names ps)) S in
       let own : List Bytes = each_once (without (term_names ps) (free_in s)) in
       scoped_resolved T own (strategy_core declared s)
-      (strategy_resolved ds (within T own) (in_body (head f ps) L) s (fine_strategy L f ps s fine)
+      (strategy_resolved ds (within T own) (in_body (head f ps) L) s (fine_strategy o L f ps s fine)
       (bound_at_top S (map written (strategy_names ps)) (term_names ps) (free_in s))
       (sees_in_scope T own (in_body (head f ps) L) (sees_body S f ps (map written (term_names ps)) L sees)))
 
-  forms_resolved : (S : Scopes) (L : Seen) (forms : List FormTree) → FineForms L forms → Sees S L → AlternativesResolved S (map (top_core declared) forms)
-  forms_resolved S L [] fine sees = tt
-  forms_resolved S L (form ∷ forms) fine sees =
-      (form_resolved S L form (neither_first _ _ _ _ fine) sees, forms_resolved S L forms (neither_rest _ _ _ _ fine) sees)
+  tops_resolved : (S : Scopes) (L : Seen) (tops : List TopTree) → FineTops L tops → Sees S L → AlternativesResolved S (map (top_core declared) (forms_in tops))
+  tops_resolved S L [] fine sees = tt
+  tops_resolved S L (top ∷ tops) fine sees =
+      (form_resolved S top.origin L top.form (neither_first _ _ _ _ fine) sees, tops_resolved S L tops (neither_rest _ _ _ _ fine) sees)
 
   form_of_head : (form : FormTree) → IsOfHead (top_core declared form) (head_of_form form)
   form_of_head (rule_form (head f ps) r) = record { name = refl; strategies = same_strategy_names ps; terms = same_term_names ps }
@@ -109,30 +126,7 @@ module _ (ds : List Declared) where
   forms_of_heads [] = tt
   forms_of_heads (form ∷ forms) = (form_of_head form, forms_of_heads forms)
 
--- ---- the rules and definitions of a file, as the check and as the equations list them
-
-abbrev forms_in : List TopTree → List FormTree
-forms_in tops = map (λ top. top.form) tops
-
-same_forms : (sections : List SectionTree) → forms_in (tops_in sections) ≡ forms_among sections
-same_forms [] = refl
-same_forms (signature parts ∷ sections) = same_forms sections
-same_forms (rules tops ∷ sections) = map-append (λ top. top.form) tops (tops_in sections) ∙ ap (λ forms. forms_in tops ++ forms) (same_forms sections)
-same_forms (strategies tops ∷ sections) = map-append (λ top. top.form) tops (tops_in sections) ∙ ap (λ forms. forms_in tops ++ forms) (same_forms sections)
-
-same_nodes : (P : Test) (L : Seen) (tops : List TopTree) → list_any (in_top P L) tops ≡ list_any (in_form P L) (forms_in tops)
-same_nodes P L [] = refl
-same_nodes P L (top ∷ tops) = ap (λ b. in_form P L top.form || b) (same_nodes P L tops)
-
-same_heads : (tops : List TopTree) → map head_of_top tops ≡ map head_of_form (forms_in tops)
-same_heads [] = refl
-same_heads (top ∷ tops) = ap (λ hs. head_of_form top.form ∷ hs) (same_heads tops)
-
 -- ---- files
-
-nodes_of : (P : Test) (f : FileTree) → list_any (in_top P (at_top f)) (tops_in f.sections) ≡ false → list_any (in_form P (at_top f)) (forms_among f.sections) ≡ false
-nodes_of P f e =
-    ap (λ forms. list_any (in_form P (at_top f)) forms) (sym (same_forms f.sections)) ∙ sym (same_nodes P (at_top f) (tops_in f.sections)) ∙ e
 
 heads_of : (f : FileTree) → AreOf (map (top_core (arity_known (declarations_of f))) (forms_among f.sections)) (top_heads f)
 heads_of f =
@@ -146,9 +140,9 @@ covers_top f = λ k none.
     ∙ no_definition k (map (top_core (arity_known (declarations_of f))) (forms_among f.sections)) none
 
 -- what a complaint says of the rules and definitions, and of their heads
-parameters_fine : (f : FileTree) (main : Bytes) → occurs f main bad_parameters ≡ false →
+parameters_fine : (has : Bytes → ℕ → Bool) (f : FileTree) (main : Bytes) → occurs has f main bad_parameters ≡ false →
     (some_differ (top_heads f) ≡ false) × (list_any (in_top has_bad_parameters (at_top f)) (tops_in f.sections) ≡ false)
-parameters_fine f main e =
+parameters_fine has f main e =
     let parts = or_parts (some_differ (top_heads f) || too_many (top_heads f)) (list_any (in_top has_bad_parameters (at_top f)) (tops_in f.sections)) e in
     ((or_parts (some_differ (top_heads f)) (too_many (top_heads f)) parts.0).0, parts.1)
 
@@ -157,36 +151,36 @@ main_is_seen true e = refl
 main_is_seen false e = absurd (cc)
 
 -- where no definition has main's name and takes nothing, main is not seen
-main_found : (f : FileTree) (main : Bytes) → occurs f main no_main ≡ false → (o : Option ℕ) → definition_position (program_of_file f) (written main) 0 0 ≡ o → (i : ℕ) × o ≡ Some i
-main_found f main e (Some i) is = (i, refl)
-main_found f main e None is = absurd (true≢false (sym (main_is_seen (at_top f (plain_key main)) e) ∙ covers_top f (plain_key main) is))
+main_found : (has : Bytes → ℕ → Bool) (f : FileTree) (main : Bytes) → occurs has f main no_main ≡ false → (o : Option ℕ) → definition_position (program_of_file f) (written main) 0 0 ≡ o → (i : ℕ) × o ≡ Some i
+main_found has f main e (Some i) is = (i, refl)
+main_found has f main e None is = absurd (true≢false (sym (main_is_seen (at_top f (plain_key main)) e) ∙ covers_top f (plain_key main) is))
 
 -- a file that has no fault has a main
-pub checked_main : (f : FileTree) (main : Bytes) → first_fault f main ≡ None → (i : ℕ) × key_position (keys_of (program_of_file f)) (written main) 0 0 ≡ Some i
-checked_main f main e =
-    let found = main_found f main (none_holds f main e).has_main (definition_position (program_of_file f) (written main) 0 0) refl in
+pub checked_main : (has : Bytes → ℕ → Bool) (f : FileTree) (main : Bytes) → first_fault has f main ≡ None → (i : ℕ) × key_position (keys_of (program_of_file f)) (written main) 0 0 ≡ Some i
+checked_main has f main e =
+    let found = main_found has f main (none_holds has f main e).has_main (definition_position (program_of_file f) (written main) 0 0) refl in
     (found.0, same_position (program_of_file f) (written main) 0 0 ∙ found.1)
 
 -- the program of a file that has no fault is resolved, each identifier by the layers around it
-pub checked_resolved : (f : FileTree) (main : Bytes) (i : ℕ) → first_fault f main ≡ None → key_position (keys_of (program_of_file f)) (written main) 0 0 ≡ Some i →
+pub checked_resolved : (has : Bytes → ℕ → Bool) (f : FileTree) (main : Bytes) (i : ℕ) → first_fault has f main ≡ None → key_position (keys_of (program_of_file f)) (written main) 0 0 ≡ Some i →
     ResolvesProgram (program_of_file f) (written main) (definitions_at (of_definitions (keys_of (program_of_file f)) outermost) (program_of_file f)) i
-checked_resolved f main i e is =
+checked_resolved has f main i e is =
     let ds : List Declared = declarations_of f in
     let all : List Alternative = map (top_core (arity_known ds)) (forms_among f.sections) in
     let S : Scopes = defined (program_of_file f) nowhere in
-    let passes : Passes f main = none_holds f main e in
-    let fine = parameters_fine f main passes.parameters in
+    let passes : Passes has f main = none_holds has f main e in
+    let fine = parameters_fine has f main passes.parameters in
     record {
       each = definitions_resolved S all
-          (forms_resolved ds S (at_top f) (forms_among f.sections)
-          (nodes_of (is_unknown ds) f passes.calls, nodes_of has_bad_parameters f fine.1)
-          (sees_own nowhere (program_of_file f) (at_top f) (covers_top f)))
+          (subst (λ forms. AlternativesResolved S (map (top_core (arity_known ds)) forms)) (same_forms f.sections)
+          (tops_resolved ds S (at_top f) (tops_in f.sections) (passes.calls, fine.1)
+          (sees_own nowhere (program_of_file f) (at_top f) (covers_top f))))
           (agree_from_heads all (top_heads f) (heads_of f) fine.0);
       called = ap (λ o. option_or (option_map here o) (option_map one_layer_up None)) (sym (same_position (program_of_file f) (written main) 0 0) ∙ is);
     }
 
 -- a file that has no fault has a main, and its program is resolved with it
-pub checked_program : (f : FileTree) (main : Bytes) → first_fault f main ≡ None →
+pub checked_program : (has : Bytes → ℕ → Bool) (f : FileTree) (main : Bytes) → first_fault has f main ≡ None →
     (i : ℕ) × (key_position (keys_of (program_of_file f)) (written main) 0 0 ≡ Some i)
     × ResolvesProgram (program_of_file f) (written main) (definitions_at (of_definitions (keys_of (program_of_file f)) outermost) (program_of_file f)) i
-checked_program f main e = let found = checked_main f main e in (found.0, found.1, checked_resolved f main found.0 e found.1)
+checked_program has f main e = let found = checked_main has f main e in (found.0, found.1, checked_resolved has f main found.0 e found.1)

@@ -13,9 +13,11 @@ pub mod HeadLaws
 pub mod JoinLaws
 pub mod LocalLaws
 pub mod NameLists
+pub mod OccurrenceTransport
 pub mod PartLaws
 pub mod PatternLaws
 pub mod PatternResolution
+pub mod PrimitivesInFiles
 pub mod ReadHeadLaws
 pub mod ScopeLaws
 pub mod SearchLaws

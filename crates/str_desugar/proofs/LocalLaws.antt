@@ -12,7 +12,7 @@ use Rattle.str_syntax.specs.declared.strategy.DefinitionHead.{DefinitionHead}
 use Rattle.str_syntax.specs.declared.strategy.StrategyDefinition.{StrategyDefinition}
 use Rattle.str_syntax.specs.declared.strategy.Arguments.TheViews.{out-StrategyDefinition}
 use Rattle.str_syntax.specs.Trees.{Bytes, DefinitionTree, definition, head}
-use Rattle.str_syntax.specs.Views.{definition_of, definitions_of, head_of, parameters_of, strategy_of}
+use Rattle.str_syntax.specs.Views.{definition_of, definitions_of, parameters_of, strategy_of}
 use Rattle.str_desugar.specs.declared.scopes.Scopes.{Scopes}
 use Rattle.str_desugar.specs.declared.scopes.Scopes.TheOpen as forms
 use Rattle.str_desugar.specs.declared.scopes.Scopes.TheFolds.{fold-roll-Scopes}

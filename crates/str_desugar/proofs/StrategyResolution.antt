@@ -12,12 +12,13 @@ use Rattle.scope_check.specs.declared.side.Side.TheVariants.{Match, Build}
 use Rattle.scope_check.specs.Seen.{Seen, among, plain_key, key_of, heads_in, in_rec, in_let, in_body}
 use Rattle.scope_check.specs.Somewhere.{heading, in_pattern, in_patterns, in_optional_pattern, in_strategy, in_strategies, in_optional_strategy, in_sequence, in_step, in_primary, in_arguments, in_rule, in_definition, in_definitions}
 use Rattle.str_syntax.specs.Arity.{number_of_patterns, number_of_strategies}
+use Rattle.str_syntax.specs.declared.definition.Origin.TheVariants as origins
 use Rattle.str_syntax.specs.declared.strategy.Operator.TheVariants as operators
 use Rattle.str_syntax.specs.Trees.{Bytes, ParameterTree, head, PatternTree, variable, wildcard, alias, integer, quoted, application, grouped, tuple, list, applied, applied_to, PatternTrees, no_patterns, more_patterns, OptionalPattern, no_pattern, one_pattern, StrategyTree, plain_sequence, left_choice, guarded_choice, StrategyTrees, no_strategies, more_strategies, OptionalStrategy, no_strategy, one_strategy, SequenceTree, last, then, StepTree, plain_step, matching, PrimaryTree, identity, failure, match, build, apply, parenthesized, scope, operator, conditional, recursive, let_in, primitive, lambda, call, tuple_congruence, list_congruence, ArgumentTree, no_arguments, strategy_arguments, all_arguments, RuleTree, rewrites, DefinitionTree, definition, DefinitionTrees, no_definitions, more_definitions}
 use Rattle.str_desugar.specs.Alternatives.{definitions_of_all}
 use Rattle.str_desugar.specs.Brought.{first_names, kept}
 use Rattle.str_desugar.specs.Equations.{constructor_symbol, applications, applications_among, applications_of_rest, built, built_parts, build_after, symbol_congruence, part_of, strategy_core, sequence_core, step_core, primary_core, strategies_core, otherwise_core, rule_core, parts, results, results_among, results_of_rest, alternatives, alternative_core}
-use Rattle.str_desugar.specs.Variables.{each_once, without, names_of, names_among, names_of_rest, free_in, free_among, free_in_optional, free_in_sequence, free_in_step, free_in_primary, free_in_arguments, free_in_rule, left_names, free_in_definition, free_in_definitions}
+use Rattle.str_desugar.specs.Variables.{each_once, names_of, names_among, names_of_rest, free_in, free_among, free_in_optional, free_in_sequence, free_in_step, free_in_primary, free_in_rule, left_names, free_in_definition, free_in_definitions}
 use Rattle.str_desugar.specs.Variables as variables
 use Rattle.str_desugar.proofs.BoundLaws.{IsBound}
 use Rattle.str_desugar.proofs.BroughtNames.{Brings, BringsResults, brings}
@@ -56,7 +57,7 @@ module _ (ds : List Declared) where
   FineRule L r = Neither (in_rule (is_unknown ds) L r) (in_rule has_bad_parameters L r)
 
   abbrev pub FineDefinition : Seen → DefinitionTree → Type 0
-  FineDefinition L d = Neither (in_definition (is_unknown ds) L d) (in_definition has_bad_parameters L d)
+  FineDefinition L d = Neither (in_definition (is_unknown ds) origins.File L d) (in_definition has_bad_parameters origins.File L d)
 
   abbrev pub FineDefinitions : Seen → DefinitionTrees → Type 0
   FineDefinitions L d = Neither (in_definitions (is_unknown ds) L d) (in_definitions has_bad_parameters L d)
@@ -94,7 +95,7 @@ module _ (ds : List Declared) where
 
   fine_body : (L : Seen) (f : Bytes) (ps : ParameterTree) (s : StrategyTree) → FineDefinition L (definition (head f ps) s) → FineStrategy (in_body (head f ps) L) s
   fine_body L f ps s fine =
-      (fine.0, (or_parts (has_bad_parameters L (heading (head f ps))) (in_strategy has_bad_parameters (in_body (head f ps) L) s) fine.1).1)
+      (fine.0, (or_parts (has_bad_parameters L (heading origins.File (head f ps))) (in_strategy has_bad_parameters (in_body (head f ps) L) s) fine.1).1)
 
   fine_let : (L : Seen) (d : DefinitionTrees) (s : StrategyTree) → FinePrimary L (let_in d s) →
       Neither (in_definitions (is_unknown ds) (in_let d L) d || in_strategy (is_unknown ds) (in_let d L) s)

@@ -1,5 +1,5 @@
 -- A symbol that is found in a table of symbols is the one that was looked up.
-use Rattle.std.proofs.Common.{◌≡◌, ◌∙◌, Bool, true, false, cond, Option, Some, None, List, [], ◌∷◌, refl, sym, ap}
+use Rattle.std.proofs.Common.{◌≡◌, ◌∙◌, Bool, true, false, cond, Some, List, [], ◌∷◌, refl, sym, ap}
 use Rattle.std.specs.List.{find}
 use Rattle.term_model.specs.Same.{same_symbol, same_symbol-true}
 use Rattle.term_model.specs.Symbol.{Symbol}

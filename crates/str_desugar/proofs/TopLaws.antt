@@ -8,7 +8,7 @@ use Rattle.core_lang.specs.Named.{written}
 use Rattle.core_lang.specs.Resolution.{ResolvesProgram}
 use Rattle.core_lang.specs.Resolved.{ResolvedStrategy, ResolvedDefinitions}
 use Rattle.core_lang.proofs.InRangeLaws.{resolved_in_range}
-use Rattle.signature_core.specs.Signature.{Declared, arity_known, declarations_of}
+use Rattle.signature_core.specs.Signature.{Declared, arity_known}
 use Rattle.scope_check.specs.Checked.{IsChecked}
 use Rattle.scope_check.specs.Complaint.{first_fault}
 use Rattle.scope_check.specs.Seen.{head_of_form}
@@ -82,7 +82,8 @@ definitions_made ks up all made is e =
 
 -- the alternatives and their keys are those of a file without a fault, and main is looked up among the keys
 pub record Reduces (f : FileTree) (main : Bytes) (all : List Alternative) (keys : List NamedKey) (found : Option ℕ) : Type 0 where
-  pub faultless : first_fault f main ≡ None
+  pub has_primitive : Bytes → ℕ → Bool
+  pub faultless : first_fault has_primitive f main ≡ None
   pub program : definitions_of_all all ≡ program_of_file f
   pub keyed : keys ≡ keys_of (definitions_of_all all)
   pub looked_up : found ≡ key_position keys (written main) 0 0
@@ -91,6 +92,7 @@ pub reduced : (f : FileTree) (main name : Bytes) (declarations ds : List Declare
     ds ≡ declarations → forms ≡ forms_among f.sections → name ≡ main → keys ≡ keys_of (definitions_of_all (tops_at (arity_known ds) forms)) →
     found ≡ key_position keys (written name) 0 0 → Reduces f main (tops_at (arity_known ds) forms) keys found
 reduced f main name declarations ds forms keys found checked declared all named keyed looked_up = record {
+  has_primitive = checked.has_primitive;
   faultless = checked.faultless;
   program = ap₂ (λ es fs. definitions_of_all (tops_at (arity_known es) fs)) (declared ∙ checked.declared) all;
   keyed = keyed;
@@ -105,14 +107,14 @@ module _ (f : FileTree) (main : Bytes) (all : List Alternative) (keys : List Nam
   same_position = reduces.looked_up ∙ ap (λ ks. key_position ks (written main) 0 0) same_keys
 
   pub main_found : IsSome found
-  main_found = ap is_some (same_position ∙ (checked_main f main reduces.faultless).1)
+  main_found = ap is_some (same_position ∙ (checked_main reduces.has_primitive f main reduces.faultless).1)
 
   module _ (i : ℕ) (made : ResolvedDefinitions) (at : found ≡ Some i) (is : made ≡ definitions_at (of_definitions keys outermost) (definitions_of_all all)) where
     pub program_resolved : ResolvesProgram (program_of_file f) (written main) made i
     program_resolved =
         let P : ResolvedDefinitions → Type 0 = λ ds. ResolvesProgram (program_of_file f) (written main) ds i in
         subst P (sym (is ∙ ap₂ (λ ks ds. definitions_at (of_definitions ks outermost) ds) same_keys reduces.program))
-        (checked_resolved f main i reduces.faultless (sym same_position ∙ at))
+        (checked_resolved reduces.has_primitive f main i reduces.faultless (sym same_position ∙ at))
 
     pub program_in_range : InRange made i
     program_in_range = resolved_in_range program_resolved

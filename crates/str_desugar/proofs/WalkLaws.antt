@@ -1,5 +1,5 @@
 -- Steps of the walk over strategies: what the code puts together is what the equations say, over coordinates.
-use Rattle.std.proofs.Common.{◌≡◌, ℕ, zero, suc, ◌+◌, ◌<◌, Some, None, Bool, true, false, List, [], ◌∷◌, ◌++◌, map, refl, sym, ◌∙◌, ap, ap₂, subst, arith, length, get_or, drop, add-one, Box, Global}
+use Rattle.std.proofs.Common.{◌≡◌, ℕ, zero, suc, ◌+◌, ◌<◌, Some, None, Bool, true, false, List, [], ◌∷◌, ◌++◌, map, refl, sym, ◌∙◌, ap, ap₂, arith, length, get_or, drop, add-one, Box, Global}
 use Rattle.std.specs.Prelude.{cond}
 use Rattle.std.specs.Borrow.{Bor}
 use Rattle.std.proofs.Math.Seq.{drop-cons}

@@ -1,5 +1,5 @@
 -- How the code puts strategies over coordinates together, where what is brought stands in the innermost layer.
-use Rattle.std.specs.Prelude.{ℕ, zero, suc, ◌+◌, List, [], ◌∷◌, ◌++◌}
+use Rattle.std.specs.Prelude.{ℕ, suc, ◌+◌, List, [], ◌∷◌, ◌++◌}
 use Rattle.core_lang.specs.declared.coordinate.Coordinate.{Coordinate}
 use Rattle.core_lang.specs.Program.{Pattern, variable, alias, like, choice, match, build, scope, id}
 use Rattle.core_lang.specs.Resolved.{ResolvedStrategy, here}
@@ -14,11 +14,6 @@ keeping_here k items = scope (suc k) (chain (match (variable (here 0))) items)
 
 abbrev pub where_here : ResolvedStrategy → ResolvedStrategy
 where_here s = keeping_here 0 (s ∷ build (variable (here 0)) ∷ [])
-
--- a scope of k variables, if there are any
-abbrev pub scoped_here : ℕ → ResolvedStrategy → ResolvedStrategy
-scoped_here zero s = s
-scoped_here (suc k) s = scope (suc k) s
 
 -- the first of these to succeed
 abbrev pub first_success_here : ResolvedStrategy → List ResolvedStrategy → ResolvedStrategy

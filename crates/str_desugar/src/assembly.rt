@@ -3,7 +3,7 @@ ghost use Rattle.std.specs.Prelude.{◌≡◌, suc, ◌+◌, IfOk, map};
 ghost use Rattle.core_lang.specs.Views as views;
 ghost use Rattle.core_lang.specs.Program as core;
 ghost use Rattle.core_lang.specs.Resolved as resolved;
-ghost use Rattle.str_desugar.specs.Assembled.{keeping_here, where_here, scoped_here, congruence_here};
+ghost use Rattle.str_desugar.specs.Assembled.{keeping_here, where_here, congruence_here};
 
 use core_lang::{Coordinate, CoreArm, CorePattern, CoreStrategy};
 use std::alloc::{AllocError, Global};
@@ -29,20 +29,6 @@ pub(crate) fn in_turn(
     let first = Box::new(alloc, first)?;
     let second = items.remove(0);
     Ok(CoreStrategy::Sequence(first, Box::new(alloc, second)?, items))
-}
-
-/// A scope of this number of variables, if there are any.
-pub(crate) fn scoped(
-    alloc: Global,
-    count: usize,
-    body: CoreStrategy,
-) -> Result<CoreStrategy, AllocError>
-    ensures { IfOk result (λ made. views.strategy_of made ≡ scoped_here count (views.strategy_of body)) }
-{
-    if count == 0 {
-        return Ok(body);
-    }
-    Ok(CoreStrategy::Scope(count, Box::new(alloc, body)?))
 }
 
 /// A scope that keeps the current term and has place for this number of results, and these items in it.

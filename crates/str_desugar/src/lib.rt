@@ -17,6 +17,7 @@ mod matched;
 mod names;
 mod parameters;
 mod parts;
+mod primitive;
 pub mod program;
 mod rules;
 mod scopes;
@@ -24,5 +25,5 @@ mod strategy;
 mod symbols;
 mod variables;
 
-pub use laws::checked_files_resolve;
+pub use laws::{checked_files_resolve, checked_primitives_are_known};
 pub use program::to_core;

@@ -44,7 +44,8 @@ pub fn to_core(alloc: Global, checked: &Checked) -> Result<Core, AllocError>
     let keys = groups.keys(alloc)?;
     let main = keys.position(&name, 0, 0).unwrap();
     let defs = definitions(&context, forms, &groups, &keys)?;
-    Ok(Core::new(defs, main))
+    let core = Core::new(context.alloc, defs, main)?;
+    Ok(core)
 }
 
 // The definitions of these groups, in the layer that has their keys.

@@ -19,6 +19,7 @@ use crate::congruence::{
 use crate::locals::{groups_of, let_body, let_definitions, let_in, recursive};
 use crate::matched::matched;
 use crate::names::names_in;
+use crate::primitive::primitive;
 use crate::rules::lambda;
 use crate::scopes::Scopes;
 use crate::symbols::Symbols;
@@ -160,8 +161,7 @@ fn primary(
             let body = let_body(context, body, &groups, scopes, symbols)?;
             let_in(context.alloc, made, body)
         }
-        // No primitive occurs in a checked file, and the core has no form for one.
-        Primary::Primitive(_, _) => Err(AllocError),
+        Primary::Primitive(name, terms) => primitive(context, name, terms, scopes, symbols),
     }
 }
 

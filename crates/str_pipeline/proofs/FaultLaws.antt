@@ -3,9 +3,9 @@ use Rattle.std.proofs.Common.{◌≡◌, ◌<◌, ◌≤◌, ℕ, Bool, List, Er
 use Rattle.term_model.specs.declared.fault.Fault.{Fault}
 use Rattle.term_model.specs.declared.fault.Fault.TheVariants as faults
 use Rattle.term_model.specs.Fault.{number_of}
-use Rattle.str_syntax.specs.Trees.{Bytes}
 use Rattle.signature_core.specs.Signature.{Declared}
 use Rattle.str_pipeline.specs.Faults.{IsReadingFault, IsRefusal, IsOfDefinitions, is_read}
+use Rattle.str_pipeline.specs.Setting.{Setting}
 use Rattle.str_pipeline.specs.Steps.{IsStop, IsProgram, IsTermRead}
 use Rattle.str_pipeline.proofs.CheckLaws.{no_check_fault, check_fault_refuses}
 
@@ -54,17 +54,17 @@ pub reading_apart : (fault : Fault) → IsReadingFault fault → IsOfDefinitions
 reading_apart fault reading of_definitions = omega arith
 
 -- those of making a program of definitions
-pub program_stops : (main : Bytes) (defs : List ℕ) (fault : Fault) → IsProgram main defs (Err fault) → IsStop fault
-program_stops main defs faults.Memory made = inl (omega arith, omega arith)
-program_stops main defs (faults.Lexical at) made = inr (omega arith, omega arith)
-program_stops main defs (faults.ReservedWord at) made = inr (omega arith, omega arith)
-program_stops main defs (faults.Syntax at) made = inr (omega arith, omega arith)
-program_stops main defs (faults.Nesting at) made = inr (omega arith, omega arith)
-program_stops main defs fault made = inr (check_fault_refuses fault made)
+pub program_stops : (S : Setting) (defs : List ℕ) (fault : Fault) → IsProgram S defs (Err fault) → IsStop fault
+program_stops S defs faults.Memory made = inl (omega arith, omega arith)
+program_stops S defs (faults.Lexical at) made = inr (omega arith, omega arith)
+program_stops S defs (faults.ReservedWord at) made = inr (omega arith, omega arith)
+program_stops S defs (faults.Syntax at) made = inr (omega arith, omega arith)
+program_stops S defs (faults.Nesting at) made = inr (omega arith, omega arith)
+program_stops S defs fault made = inr (check_fault_refuses fault made)
 
-pub program_no_read : (main : Bytes) (defs : List ℕ) (fault : Fault) → IsProgram main defs (Err fault) → is_read fault ≡ false
-program_no_read main defs faults.Read made = absurd (no_check_fault faults.Read made (λ numbered. omega arith))
-program_no_read main defs _ made = refl
+pub program_no_read : (S : Setting) (defs : List ℕ) (fault : Fault) → IsProgram S defs (Err fault) → is_read fault ≡ false
+program_no_read S defs faults.Read made = absurd (no_check_fault faults.Read made (λ numbered. omega arith))
+program_no_read S defs _ made = refl
 
 -- those of texts that are too long
 pub long_definitions_stop : IsStop faults.DefsTooLong

@@ -2,6 +2,7 @@ pub mod CheckLaws
 pub mod CutLemmas
 pub mod DeviceLemmas
 pub mod FaultLaws
+pub mod KnownLaws
 pub mod MemoryLaws
 pub mod ProgramLaws
 pub mod SplitLaws

@@ -1,4 +1,4 @@
--- Definitions, the text of a term and options have at most one line and one status.
+-- Definitions and the text of a term have at most one line and one status in a setting.
 use Rattle.std.proofs.Common.{◌≡◌, ℕ, ◌<◌, ◌≤◌, Bool, List, length, refl, sym, ◌∙◌, ap, subst, arith, inl, inr, Err, Option, Some, None, IfSome, true, false, ◌++◌, codes}
 use Rattle.term_model.specs.declared.fault.Fault.{Fault}
 use Rattle.term_model.specs.declared.fault.Fault.TheVariants.{DefsTooLong, Lexical, ReservedWord, Syntax, Nesting, TermTooLong, TermOversize, TermSyntax, TermUndeclared}
@@ -8,7 +8,6 @@ use Rattle.term_model.specs.Term.{Tree}
 use Rattle.aterm_text.specs.ReadTerm.{IsReading}
 use Rattle.core_lang.specs.Ending.{Ending}
 use Rattle.core_lang.proofs.Unique.{unique}
-use Rattle.str_pipeline.specs.declared.status.Options.{Options}
 use Rattle.str_pipeline.specs.declared.status.Status.{Status}
 use Rattle.str_pipeline.specs.declared.status.Status.TheVariants.{Rewritten, Failed, Oversize, Spent, Refused}
 use Rattle.str_lexer.specs.declared.token.Token.{Token}
@@ -18,8 +17,10 @@ use Rattle.signature_core.specs.Signature.{declarations_of}
 use Rattle.signature_core.specs.DeclaredTerm.{term_is_declared}
 use Rattle.str_parser.specs.Lexemes.{lexemes}
 use Rattle.str_parser.specs.Phrases.{IsPhrase, TooNested}
+use Rattle.strategy_lib.specs.Library.{with_library}
 use Rattle.scope_check.specs.Complaint.{first_fault}
 use Rattle.str_pipeline.specs.Limits.{max_definitions, max_term}
+use Rattle.str_pipeline.specs.Setting.{Setting}
 use Rattle.str_pipeline.specs.Judged.{HasNoTokens, AreTokens, AreTooNested, HasNoPhrase, IsFile, FailsChecks, PassesChecks, AreRefused, AreAccepted, IsTerm, IsUndeclared, IsRefused, IsAccepted}
 use Rattle.str_pipeline.specs.Written.{Rewrites, IsAnswer, AreAlike, IsFirstFault, IsWritten, line_of, refusal_line}
 
@@ -66,40 +67,44 @@ same_file : {bytes : List ℕ} {f g : FileTree} → IsFile bytes f → IsFile by
 same_file {f = f} file other = other.only_phrase.only_one f (phrase_again f file.are_tokens other.are_tokens file.only_phrase.phrase)
 
 -- which has one first fault
-same_first : {main : Bytes} {bytes : List ℕ} {f g : Fault} → FailsChecks main bytes f → FailsChecks main bytes g → f ≡ g
-same_first {main = main} bad wrong = some_is_one (sym bad.fails ∙ (ap (λ file. first_fault file main) (same_file bad.is_file wrong.is_file) ∙ wrong.fails))
+same_first : {S : Setting} {bytes : List ℕ} {f g : Fault} → FailsChecks S bytes f → FailsChecks S bytes g → f ≡ g
+same_first {S = S} bad wrong =
+    let same = ap (λ file. first_fault S.has_primitive (with_library file) S.options.main.items) (same_file bad.is_file wrong.is_file) in
+    some_is_one (sym bad.fails ∙ (same ∙ wrong.fails))
 
 -- or none
-no_fault : {main : Bytes} {bytes : List ℕ} {f : FileTree} {fault : Fault} → FailsChecks main bytes fault → PassesChecks main bytes f → ⊥
-no_fault {main = main} bad good = some_is_no_none (sym bad.fails ∙ (ap (λ file. first_fault file main) (same_file bad.is_file good.is_file) ∙ good.passes))
+no_fault : {S : Setting} {bytes : List ℕ} {f : FileTree} {fault : Fault} → FailsChecks S bytes fault → PassesChecks S bytes f → ⊥
+no_fault {S = S} bad good =
+    let same = ap with_library (same_file bad.is_file good.is_file) ∙ sym good.extended in
+    some_is_no_none (sym bad.fails ∙ (ap (λ file. first_fault S.has_primitive file S.options.main.items) same ∙ good.passes))
 
 -- ---- causes
 
 -- the causes, without the place
-data Cause (main : Bytes) (defs : List ℕ) : Fault → Type 0 where
-  too_long : max_definitions < length defs → Cause main defs DefsTooLong
-  no_tokens : {at : ℕ} → length defs ≤ max_definitions → HasNoTokens defs → Cause main defs (Lexical at)
-  left_out : {at : ℕ} → length defs ≤ max_definitions → HoldsLeftOut defs → Cause main defs (ReservedWord at)
-  too_nested : {at : ℕ} → length defs ≤ max_definitions → AreTooNested defs → Cause main defs (Nesting at)
-  no_phrase : {at : ℕ} → length defs ≤ max_definitions → HasNoPhrase defs → Cause main defs (Syntax at)
-  fails : {fault : Fault} → length defs ≤ max_definitions → FailsChecks main defs fault → Cause main defs fault
+data Cause (S : Setting) (defs : List ℕ) : Fault → Type 0 where
+  too_long : max_definitions < length defs → Cause S defs DefsTooLong
+  no_tokens : {at : ℕ} → length defs ≤ max_definitions → HasNoTokens defs → Cause S defs (Lexical at)
+  left_out : {at : ℕ} → length defs ≤ max_definitions → HoldsLeftOut defs → Cause S defs (ReservedWord at)
+  too_nested : {at : ℕ} → length defs ≤ max_definitions → AreTooNested defs → Cause S defs (Nesting at)
+  no_phrase : {at : ℕ} → length defs ≤ max_definitions → HasNoPhrase defs → Cause S defs (Syntax at)
+  fails : {fault : Fault} → length defs ≤ max_definitions → FailsChecks S defs fault → Cause S defs fault
 
 -- one fault, but for the place
 abbrev AreOne : Fault → Fault → Type 0
 AreOne f g = (word_of f ≡ word_of g) × (number_of f ≡ number_of g)
 
-cause_of : (main : Bytes) (defs : List ℕ) (fault : Fault) → AreRefused main defs fault → Cause main defs fault
-cause_of main defs DefsTooLong long = too_long long
-cause_of main defs (Lexical at) (short, none) = no_tokens short none
-cause_of main defs (ReservedWord at) (short, held) = left_out short held
-cause_of main defs (Nesting at) (short, deep) = too_nested short deep
-cause_of main defs (Syntax at) (short, none) = no_phrase short none
-cause_of main defs _ (short, bad) = fails short bad
+cause_of : (S : Setting) (defs : List ℕ) (fault : Fault) → AreRefused S defs fault → Cause S defs fault
+cause_of S defs DefsTooLong long = too_long long
+cause_of S defs (Lexical at) (short, none) = no_tokens short none
+cause_of S defs (ReservedWord at) (short, held) = left_out short held
+cause_of S defs (Nesting at) (short, deep) = too_nested short deep
+cause_of S defs (Syntax at) (short, none) = no_phrase short none
+cause_of S defs _ (short, bad) = fails short bad
 
-same_check : {main : Bytes} {defs : List ℕ} {f g : Fault} → FailsChecks main defs f → FailsChecks main defs g → AreOne f g
+same_check : {S : Setting} {defs : List ℕ} {f g : Fault} → FailsChecks S defs f → FailsChecks S defs g → AreOne f g
 same_check bad wrong = (ap word_of (same_first bad wrong), ap number_of (same_first bad wrong))
 
-same_cause : {main : Bytes} {defs : List ℕ} {f g : Fault} → Cause main defs f → Cause main defs g → AreOne f g
+same_cause : {S : Setting} {defs : List ℕ} {f g : Fault} → Cause S defs f → Cause S defs g → AreOne f g
 same_cause (too_long long) (too_long also) = (refl, refl)
 same_cause (no_tokens short none) (no_tokens also nothing) = (refl, refl)
 same_cause (left_out short held) (left_out also holds) = (refl, refl)
@@ -138,7 +143,7 @@ same_cause (too_nested short deep) (no_phrase also some) = absurd (not_nested so
 same_cause (no_phrase also some) (too_nested short deep) = absurd (not_nested some.are_tokens some.not_nested deep)
 
 -- definitions that are refused are not those of a file
-no_file : {main : Bytes} {defs : List ℕ} {fault : Fault} {f : FileTree} → Cause main defs fault → AreAccepted main defs f → ⊥
+no_file : {S : Setting} {defs : List ℕ} {fault : Fault} {f : FileTree} → Cause S defs fault → AreAccepted S defs f → ⊥
 no_file (too_long long) (short, good) = omega arith
 no_file (no_tokens short none) (also, good) = no_tokens_of_file good.is_file none
 no_file (left_out short held) (also, good) = none_held good.is_file.are_tokens held
@@ -147,14 +152,14 @@ no_file (no_phrase short none) (also, good) = a_phrase good.is_file none
 no_file (fails short bad) (also, good) = no_fault bad good
 
 -- nor is what a reader told, where these bytes are all of it
-pub none_refused : (main : Bytes) (told : Option (List ℕ)) (defs : List ℕ) (f : FileTree) (Y : Type 0) → IfSome told (λ d. defs ≡ d) →
-    AreAccepted main defs f → IfSome told (λ d. (fault : Fault) → AreRefused main d fault → Y)
-none_refused main None defs f Y same accepted = tt
-none_refused main (Some d) defs f Y same accepted = λ fault refused. absurd (no_file (cause_of main defs fault (rw same refused)) accepted)
+pub none_refused : (S : Setting) (told : Option (List ℕ)) (defs : List ℕ) (f : FileTree) (Y : Type 0) → IfSome told (λ d. defs ≡ d) →
+    AreAccepted S defs f → IfSome told (λ d. (fault : Fault) → AreRefused S d fault → Y)
+none_refused S None defs f Y same accepted = tt
+none_refused S (Some d) defs f Y same accepted = λ fault refused. absurd (no_file (cause_of S defs fault (rw same refused)) accepted)
 
 -- they are those of one file
-one_file : {main : Bytes} {defs : List ℕ} {f g : FileTree} → AreAccepted main defs f → AreAccepted main defs g → f ≡ g
-one_file (short, good) (also, other) = same_file good.is_file other.is_file
+one_file : {S : Setting} {defs : List ℕ} {f g : FileTree} → AreAccepted S defs f → AreAccepted S defs g → f ≡ g
+one_file (short, good) (also, other) = good.extended ∙ (ap with_library (same_file good.is_file other.is_file) ∙ sym other.extended)
 
 -- ---- refusals of terms
 
@@ -224,25 +229,25 @@ one_term strict f g (is_term, declared) (also, known) = one_tree is_term also
 -- ---- the line
 
 -- what is said of a file holds of another one of the same definitions
-in_file : {main : Bytes} {defs : List ℕ} (f g : FileTree) (X : FileTree → Type 0) → AreAccepted main defs f → AreAccepted main defs g → X f → X g
+in_file : {S : Setting} {defs : List ℕ} (f g : FileTree) (X : FileTree → Type 0) → AreAccepted S defs f → AreAccepted S defs g → X f → X g
 in_file f g X accepted also known = subst X (one_file accepted also) known
 
 -- the first fault
-one_fault : (defs term : List ℕ) (options : Options) (f g : Fault) → IsFirstFault defs term options f → IsFirstFault defs term options g → AreOne f g
-one_fault defs term options f g (inl x) (inl y) = same_cause (cause_of _ _ f x) (cause_of _ _ g y)
-one_fault defs term options f g (inl x) (inr (file, accepted, y)) = absurd (no_file (cause_of _ _ f x) accepted)
-one_fault defs term options f g (inr (file, accepted, x)) (inl y) = absurd (no_file (cause_of _ _ g y) accepted)
-one_fault defs term options f g (inr (file, accepted, x)) (inr (other, also, y)) =
-    let here = in_file other file (λ h. IsRefused options.strict h term g) also accepted y in
-    same_term_cause (term_cause_of options.strict file term f x) (term_cause_of options.strict file term g here)
+one_fault : (defs term : List ℕ) (S : Setting) (f g : Fault) → IsFirstFault defs term S f → IsFirstFault defs term S g → AreOne f g
+one_fault defs term S f g (inl x) (inl y) = same_cause (cause_of _ _ f x) (cause_of _ _ g y)
+one_fault defs term S f g (inl x) (inr (file, accepted, y)) = absurd (no_file (cause_of _ _ f x) accepted)
+one_fault defs term S f g (inr (file, accepted, x)) (inl y) = absurd (no_file (cause_of _ _ g y) accepted)
+one_fault defs term S f g (inr (file, accepted, x)) (inr (other, also, y)) =
+    let here = in_file other file (λ h. IsRefused S.options.strict h term g) also accepted y in
+    same_term_cause (term_cause_of S.options.strict file term f x) (term_cause_of S.options.strict file term g here)
 
 -- a refusal leaves no file and term
-no_run : (defs term : List ℕ) (options : Options) (fault : Fault) {f : FileTree} {t : Tree} → IsFirstFault defs term options fault →
-    AreAccepted options.main.items defs f → IsAccepted options.strict f term t → ⊥
-no_run defs term options fault (inl x) accepted spelled = no_file (cause_of _ _ fault x) accepted
-no_run defs term options fault {f = f} (inr (file, also, x)) accepted spelled =
-    let here = in_file file f (λ h. IsRefused options.strict h term fault) also accepted x in
-    no_accepted_term (term_cause_of options.strict f term fault here) spelled
+no_run : (defs term : List ℕ) (S : Setting) (fault : Fault) {f : FileTree} {t : Tree} → IsFirstFault defs term S fault →
+    AreAccepted S defs f → IsAccepted S.options.strict f term t → ⊥
+no_run defs term S fault (inl x) accepted spelled = no_file (cause_of _ _ fault x) accepted
+no_run defs term S fault {f = f} (inr (file, also, x)) accepted spelled =
+    let here = in_file file f (λ h. IsRefused S.options.strict h term fault) also accepted x in
+    no_accepted_term (term_cause_of S.options.strict f term fault here) spelled
 
 -- a status of a run
 data IsRun : Status → Type 0 where
@@ -278,33 +283,33 @@ one_answer M f main t budget _ _ line other spending too_large (none, is) (m, y,
 one_answer M f main t budget _ _ line other spending spending (none, is) (nothing, be) = (refl, cc)
 
 -- the status and the line of a run, or of a refusal
-data Line (M : Meaning) (defs term : List ℕ) (options : Options) : Status → List ℕ → Type 0 where
-  of_run : {line : List ℕ} (status : Status) → IsRun status → (f : FileTree) (t : Tree) → AreAccepted options.main.items defs f →
-      IsAccepted options.strict f term t → IsAnswer M f options.main.items t options.budget status line → Line M defs term options status line
-  of_fault : {line : List ℕ} (fault : Fault) → IsFirstFault defs term options fault → line ≡ refusal_line fault → Line M defs term options (Refused fault) line
+data Line (defs term : List ℕ) (S : Setting) : Status → List ℕ → Type 0 where
+  of_run : {line : List ℕ} (status : Status) → IsRun status → (f : FileTree) (t : Tree) → AreAccepted S defs f →
+      IsAccepted S.options.strict f term t → IsAnswer S.meaning f S.options.main.items t S.options.budget status line → Line defs term S status line
+  of_fault : {line : List ℕ} (fault : Fault) → IsFirstFault defs term S fault → line ≡ refusal_line fault → Line defs term S (Refused fault) line
 
-line_of_status : (M : Meaning) (defs term : List ℕ) (options : Options) (status : Status) (line : List ℕ) →
-    IsWritten M defs term options status line → Line M defs term options status line
-line_of_status M defs term options (Refused fault) line (first, is) = of_fault fault first is
-line_of_status M defs term options Rewritten line (f, t, file, spelled, answer) = of_run Rewritten rewritten f t file spelled answer
-line_of_status M defs term options Failed line (f, t, file, spelled, answer) = of_run Failed failing f t file spelled answer
-line_of_status M defs term options Oversize line (f, t, file, spelled, answer) = of_run Oversize too_large f t file spelled answer
-line_of_status M defs term options Spent line (f, t, file, spelled, answer) = of_run Spent spending f t file spelled answer
+line_of_status : (defs term : List ℕ) (S : Setting) (status : Status) (line : List ℕ) →
+    IsWritten defs term S status line → Line defs term S status line
+line_of_status defs term S (Refused fault) line (first, is) = of_fault fault first is
+line_of_status defs term S Rewritten line (f, t, file, spelled, answer) = of_run Rewritten rewritten f t file spelled answer
+line_of_status defs term S Failed line (f, t, file, spelled, answer) = of_run Failed failing f t file spelled answer
+line_of_status defs term S Oversize line (f, t, file, spelled, answer) = of_run Oversize too_large f t file spelled answer
+line_of_status defs term S Spent line (f, t, file, spelled, answer) = of_run Spent spending f t file spelled answer
 
-one_of_lines : {M : Meaning} {defs term : List ℕ} {options : Options} {s r : Status} {line other : List ℕ} → Line M defs term options s line →
-    Line M defs term options r other → AreAlike s r × (line ≡ other)
-one_of_lines {M = M} {options = options} {line = line} {other = other} (of_run s x f t file spelled answer) (of_run r y g u also spells reply) =
+one_of_lines : {defs term : List ℕ} {S : Setting} {s r : Status} {line other : List ℕ} → Line defs term S s line →
+    Line defs term S r other → AreAlike s r × (line ≡ other)
+one_of_lines {S = S} {line = line} {other = other} (of_run s x f t file spelled answer) (of_run r y g u also spells reply) =
     let same_file : g ≡ f = one_file also file in
-    let same_term : u ≡ t = one_term options.strict g f spells spelled in
-    let P : FileTree → Tree → Type 0 = λ h v. IsAnswer M h options.main.items v options.budget r other in
-    one_answer M f options.main.items t options.budget s r line other x y answer (subst (λ v. P f v) same_term (subst (λ h. P h u) same_file reply))
-one_of_lines {defs = defs} {term = term} {options = options} (of_run s x f t file spelled answer) (of_fault fault first is) = absurd (no_run defs term options fault first file spelled)
-one_of_lines {defs = defs} {term = term} {options = options} (of_fault fault first is) (of_run s x f t file spelled answer) = absurd (no_run defs term options fault first file spelled)
-one_of_lines {defs = defs} {term = term} {options = options} (of_fault f x is) (of_fault g y be) =
-    let one : AreOne f g = one_fault defs term options f g x y in
+    let same_term : u ≡ t = one_term S.options.strict g f spells spelled in
+    let P : FileTree → Tree → Type 0 = λ h v. IsAnswer S.meaning h S.options.main.items v S.options.budget r other in
+    one_answer S.meaning f S.options.main.items t S.options.budget s r line other x y answer (subst (λ v. P f v) same_term (subst (λ h. P h u) same_file reply))
+one_of_lines {defs = defs} {term = term} {S = S} (of_run s x f t file spelled answer) (of_fault fault first is) = absurd (no_run defs term S fault first file spelled)
+one_of_lines {defs = defs} {term = term} {S = S} (of_fault fault first is) (of_run s x f t file spelled answer) = absurd (no_run defs term S fault first file spelled)
+one_of_lines {defs = defs} {term = term} {S = S} (of_fault f x is) (of_fault g y be) =
+    let one : AreOne f g = one_fault defs term S f g x y in
     (one.1, is ∙ (ap (λ w. line_of (codes "#refused " ++ w)) one.0 ∙ sym be))
 
--- definitions, a term's text and options have one status and one line
-pub one_line : (M : Meaning) (defs term : List ℕ) (options : Options) (s r : Status) (line other : List ℕ) →
-    IsWritten M defs term options s line → IsWritten M defs term options r other → AreAlike s r × (line ≡ other)
-one_line M defs term options s r line other x y = one_of_lines (line_of_status M defs term options s line x) (line_of_status M defs term options r other y)
+-- definitions and a term's text have one status and one line in a setting
+pub one_line : (defs term : List ℕ) (S : Setting) (s r : Status) (line other : List ℕ) →
+    IsWritten defs term S s line → IsWritten defs term S r other → AreAlike s r × (line ≡ other)
+one_line defs term S s r line other x y = one_of_lines (line_of_status defs term S s line x) (line_of_status defs term S r other y)

@@ -8,13 +8,15 @@ use Rattle.core_lang.specs.Resolution.{ResolvesProgram}
 use Rattle.str_lexer.specs.declared.token.Token.{Token}
 use Rattle.str_lexer.specs.Lexes.{IsLexing}
 use Rattle.str_syntax.specs.declared.definition.File.{File}
-use Rattle.str_syntax.specs.Trees.{Bytes}
+use Rattle.str_syntax.specs.Trees.{Bytes, FileTree}
 use Rattle.str_syntax.specs.Views.{file_of}
 use Rattle.str_parser.specs.Lexemes.{lexemes}
 use Rattle.str_parser.specs.Parsing.{IsParsing}
 use Rattle.scope_check.specs.Complaint.{first_fault}
 use Rattle.str_desugar.specs.FileProgram.{program_of_file}
+use Rattle.strategy_lib.specs.Library.{with_library}
 use Rattle.str_pipeline.specs.Judged.{AreTokens, IsFile, FailsChecks, PassesChecks}
+use Rattle.str_pipeline.specs.Setting.{Setting}
 use Rattle.str_pipeline.specs.Steps.{IsProgram}
 use Rattle.str_pipeline.proofs.CheckLaws.{no_check_fault}
 
@@ -32,33 +34,41 @@ read_file text ts file lexed parsed = record {
   only_phrase = parsed.0;
 }
 
--- a file in which something is wrong
-fails : (main : Bytes) (text : List ℕ) (file : File) (fault : Fault) → IsFile text (file_of file) → first_fault (file_of file) main ≡ Some fault →
-    FailsChecks main text fault
-fails main text file fault is found = record { file = file_of file; is_file = is; fails = found }
+-- a file in which something is wrong with the library after it
+fails : (S : Setting) (text : List ℕ) (file whole : File) (fault : Fault) → IsFile text (file_of file) → file_of whole ≡ with_library (file_of file) →
+    first_fault S.has_primitive (file_of whole) S.options.main.items ≡ Some fault → FailsChecks S text fault
+fails S text file whole fault is extended found = record {
+  file = file_of file;
+  is_file = is;
+  fails = subst (λ (f : FileTree). first_fault S.has_primitive f S.options.main.items ≡ Some fault) extended found;
+}
 
 -- there is no program of it
-refused : (main : Bytes) (text : List ℕ) (fault : Fault) → FailsChecks main text fault → IsProgram main text (Err fault)
-refused main text faults.Memory bad = tt
-refused main text (faults.Lexical at) bad = absurd (no_check_fault (faults.Lexical at) bad (λ numbered. omega arith))
-refused main text (faults.ReservedWord at) bad = absurd (no_check_fault (faults.ReservedWord at) bad (λ numbered. omega arith))
-refused main text (faults.Syntax at) bad = absurd (no_check_fault (faults.Syntax at) bad (λ numbered. omega arith))
-refused main text (faults.Nesting at) bad = absurd (no_check_fault (faults.Nesting at) bad (λ numbered. omega arith))
-refused main text _ bad = bad
+refused : (S : Setting) (text : List ℕ) (fault : Fault) → FailsChecks S text fault → IsProgram S text (Err fault)
+refused S text faults.Memory bad = tt
+refused S text (faults.Lexical at) bad = absurd (no_check_fault (faults.Lexical at) bad (λ numbered. omega arith))
+refused S text (faults.ReservedWord at) bad = absurd (no_check_fault (faults.ReservedWord at) bad (λ numbered. omega arith))
+refused S text (faults.Syntax at) bad = absurd (no_check_fault (faults.Syntax at) bad (λ numbered. omega arith))
+refused S text (faults.Nesting at) bad = absurd (no_check_fault (faults.Nesting at) bad (λ numbered. omega arith))
+refused S text _ bad = bad
 
-no_memory : (main : Bytes) (text : List ℕ) (fault : Fault) → fault ≡ faults.Memory → IsProgram main text (Err fault)
-no_memory main text fault is = rw is tt
+no_memory : (S : Setting) (text : List ℕ) (fault : Fault) → fault ≡ faults.Memory → IsProgram S text (Err fault)
+no_memory S text fault is = rw is tt
 
 -- what the checks refuse
-pub not_passed : (main : Bytes) (text : List ℕ) (ts : Vec Token Global) (file : File) (fault : Fault) → IsLexing text (Ok ts) → IsParsing (lexemes text ts.items) (Ok file) →
-    ((fault ≡ faults.Memory) ⊎ (first_fault (file_of file) main ≡ Some fault)) → IsProgram main text (Err fault)
-not_passed main text ts file fault lexed parsed (inl is) = no_memory main text fault is
-not_passed main text ts file fault lexed parsed (inr found) = refused main text fault (fails main text file fault (read_file text ts file lexed parsed) found)
+pub not_passed : (S : Setting) (text : List ℕ) (ts : Vec Token Global) (file whole : File) (fault : Fault) → IsLexing text (Ok ts)
+    → IsParsing (lexemes text ts.items) (Ok file) → file_of whole ≡ with_library (file_of file)
+    → ((fault ≡ faults.Memory) ⊎ (first_fault S.has_primitive (file_of whole) S.options.main.items ≡ Some fault)) → IsProgram S text (Err fault)
+not_passed S text ts file whole fault lexed parsed extended (inl is) = no_memory S text fault is
+not_passed S text ts file whole fault lexed parsed extended (inr found) =
+    refused S text fault (fails S text file whole fault (read_file text ts file lexed parsed) extended found)
 
 -- what they let pass
-pub passed_file : (main : Bytes) (text : List ℕ) (ts : Vec Token Global) (file : File) → IsLexing text (Ok ts) → IsParsing (lexemes text ts.items) (Ok file) →
-    first_fault (file_of file) main ≡ None → PassesChecks main text (file_of file)
-passed_file main text ts file lexed parsed none = record { is_file = read_file text ts file lexed parsed; passes = none }
+pub passed_file : (S : Setting) (text : List ℕ) (ts : Vec Token Global) (file whole : File) → IsLexing text (Ok ts)
+    → IsParsing (lexemes text ts.items) (Ok file) → file_of whole ≡ with_library (file_of file)
+    → first_fault S.has_primitive (file_of whole) S.options.main.items ≡ None → PassesChecks S text (file_of whole)
+passed_file S text ts file whole lexed parsed extended none =
+    record { file = file_of file; is_file = read_file text ts file lexed parsed; extended = extended; passes = none }
 
 -- the program of a file that is this one, with the name of what is run
 pub same_program : (checked file : File) (asked main : Bytes) (core : CoreParts) → checked ≡ file → asked ≡ main →

@@ -1,7 +1,6 @@
 -- What is written follows from the run of a program.
 use Rattle.std.proofs.Common.{◌≡◌, ℕ, List, length, ◌<◌, ◌≤◌, refl, Ok, inl, inr, ap, subst, arith}
 use Rattle.term_model.specs.Term.{Tree}
-use Rattle.term_model.specs.Flat.{Meaning}
 use Rattle.core_lang.specs.declared.run.Outcome.{Outcome}
 use Rattle.core_lang.specs.declared.run.Outcome.TheVariants.{Rewritten, Failed, Oversize, Spent}
 use Rattle.core_lang.specs.Run.{IsOutcome}
@@ -22,11 +21,11 @@ use Rattle.str_pipeline.specs.declared.status.Status.TheVariants.{Refused}
 use Rattle.str_pipeline.specs.Device.{Gains, GainsPrefix}
 use Rattle.str_pipeline.specs.Joined.{IsSplit}
 use Rattle.str_pipeline.specs.Limits.{max_definitions, max_term}
+use Rattle.str_pipeline.specs.Setting.{Setting}
 use Rattle.str_pipeline.specs.Judged.{AreAccepted, IsAccepted}
 use Rattle.str_pipeline.specs.Faults.{IsReadingFault, IsRefusal, is_read_fault}
 use Rattle.str_pipeline.specs.Steps.{IsProgram, IsProgramOf, IsTermRead, IsResult, status_of, outcome_line}
 use Rattle.str_pipeline.specs.declared.program.Program.{Program}
-use Rattle.str_pipeline.specs.declared.status.Options.{Options}
 use Rattle.str_pipeline.specs.declared.status.Status.{Status}
 use Rattle.std.specs.Prelude.{IfOk, OnOk, IsErrOf}
 use Rattle.std.specs.Prelude.{true, false}
@@ -36,62 +35,62 @@ use Rattle.str_pipeline.proofs.CheckLaws.{no_check_fault}
 use Rattle.str_pipeline.proofs.CutLemmas.{one_split}
 
 -- the line and the status of a run
-pub run_written : (M : Meaning) (defs term : List ℕ) (options : Options) (f : FileTree) (t : Tree) (outcome : Outcome Tree) (rules : ℕ)
-    → AreAccepted options.main.items defs f → IsAccepted options.strict f term t
-    → IsOutcome M (program_of_file f) (written options.main.items) t options.budget outcome rules
-    → IsWritten M defs term options (status_of outcome) (outcome_line outcome)
-run_written M defs term options f t (Rewritten u) rules file spelled (e, ending) = (f, t, file, spelled, (u, e, rules, ending.derived, ending.within, refl))
-run_written M defs term options f t Failed rules file spelled ending = (f, t, file, spelled, (rules, ending.derived, ending.within, refl))
-run_written M defs term options f t Oversize rules file spelled ending = (f, t, file, spelled, (rules, ending.derived, ending.within, refl))
-run_written M defs term options f t Spent rules file spelled (none, all) = (f, t, file, spelled, (none, refl))
+pub run_written : (defs term : List ℕ) (S : Setting) (f : FileTree) (t : Tree) (outcome : Outcome Tree) (rules : ℕ)
+    → AreAccepted S defs f → IsAccepted S.options.strict f term t
+    → IsOutcome S.meaning (program_of_file f) (written S.options.main.items) t S.options.budget outcome rules
+    → IsWritten defs term S (status_of outcome) (outcome_line outcome)
+run_written defs term S f t (Rewritten u) rules file spelled (e, ending) = (f, t, file, spelled, (u, e, rules, ending.derived, ending.within, refl))
+run_written defs term S f t Failed rules file spelled ending = (f, t, file, spelled, (rules, ending.derived, ending.within, refl))
+run_written defs term S f t Oversize rules file spelled ending = (f, t, file, spelled, (rules, ending.derived, ending.within, refl))
+run_written defs term S f t Spent rules file spelled (none, all) = (f, t, file, spelled, (none, refl))
 
 -- what a run says of each file that the program is of
-pub run_result : (options : Options) (program : Program) (term : List ℕ) (t : Tree) (run : Run Tree) → length term ≤ max_term
-    → IsTermRead options.strict program.checked.declarations term (Ok t)
-    → ((M : Meaning) (P : Definitions Name (List Name)) (x : Name) → ResolvesProgram P x (program_of program.core) program.core.main → IsRun M P x t options.budget run)
-    → (defs : List ℕ) (f : FileTree) → AreAccepted options.main.items defs f → IsProgramOf options.main.items f program
-    → IsResult defs term options (Ok run.outcome)
-run_result options program term t run short (reading, declared) runs defs f file of_file =
-    let known : options.strict ≡ true → term_is_declared (declarations_of f) t ≡ true =
+pub run_result : (S : Setting) (program : Program) (term : List ℕ) (t : Tree) (run : Run Tree) → length term ≤ max_term
+    → IsTermRead S.options.strict program.checked.declarations term (Ok t)
+    → ((P : Definitions Name (List Name)) (x : Name) → ResolvesProgram P x (program_of program.core) program.core.main → IsRun S.meaning P x t S.options.budget run)
+    → (defs : List ℕ) (f : FileTree) → AreAccepted S defs f → IsProgramOf S f program
+    → IsResult defs term S (Ok run.outcome)
+run_result S program term t run short (reading, declared) runs defs f file of_file =
+    let known : S.options.strict ≡ true → term_is_declared (declarations_of f) t ≡ true =
     λ strict. subst (λ (ds : List Declared). term_is_declared ds t ≡ true) of_file.declared (declared strict) in
-    λ M. run_written M defs term options f t run.outcome run.rules file ((short, reading), known)
-    (runs M (program_of_file f) (written options.main.items) of_file.resolved).outcome
+    run_written defs term S f t run.outcome run.rules file ((short, reading), known)
+    (runs (program_of_file f) (written S.options.main.items) of_file.resolved).outcome
 
 -- what a term that is refused says of each file that the program is of
-pub term_fault : (options : Options) (program : Program) (term : List ℕ) (fault : Fault) → length term ≤ max_term
-    → IsTermRead options.strict program.checked.declarations term (Err fault)
-    → (defs : List ℕ) (f : FileTree) → AreAccepted options.main.items defs f → IsProgramOf options.main.items f program
-    → IsResult defs term options (Err fault)
-term_fault options program term faults.Memory short reading defs f file of_file = tt
-term_fault options program term (faults.TermOversize at) short reading defs f file of_file = inr (f, file, (short, reading))
-term_fault options program term (faults.TermSyntax at) short reading defs f file of_file = inr (f, file, (short, reading))
-term_fault options program term faults.TermUndeclared short (strict, (t, reading, undeclared)) defs f file of_file =
+pub term_fault : (S : Setting) (program : Program) (term : List ℕ) (fault : Fault) → length term ≤ max_term
+    → IsTermRead S.options.strict program.checked.declarations term (Err fault)
+    → (defs : List ℕ) (f : FileTree) → AreAccepted S defs f → IsProgramOf S f program
+    → IsResult defs term S (Err fault)
+term_fault S program term faults.Memory short reading defs f file of_file = tt
+term_fault S program term (faults.TermOversize at) short reading defs f file of_file = inr (f, file, (short, reading))
+term_fault S program term (faults.TermSyntax at) short reading defs f file of_file = inr (f, file, (short, reading))
+term_fault S program term faults.TermUndeclared short (strict, (t, reading, undeclared)) defs f file of_file =
     let missing : term_is_declared (declarations_of f) t ≡ false = subst (λ (ds : List Declared). term_is_declared ds t ≡ false) of_file.declared undeclared in
     inr (f, file, (strict, record { tree = t; is_term = (short, reading); undeclared = missing }))
-term_fault options program term _ short reading defs f file of_file = absurd reading
+term_fault S program term _ short reading defs f file of_file = absurd reading
 
-pub outcome_has_written : (old new : Option (List ℕ)) (o : Outcome Tree) (d t : List ℕ) (n : Options) → Gains old new (outcome_line o) → IsResult d t n (Ok o)
-    → HasWritten d t n (status_of o) old new
-outcome_has_written old new o d t n gained result = record { line = outcome_line o; gained = gained; is_written = result }
+pub outcome_has_written : (old new : Option (List ℕ)) (o : Outcome Tree) (d t : List ℕ) (S : Setting) → Gains old new (outcome_line o) → IsResult d t S (Ok o)
+    → HasWritten d t S (status_of o) old new
+outcome_has_written old new o d t S gained result = record { line = outcome_line o; gained = gained; is_written = result }
 
-pub outcome_has_begun : (old new : Option (List ℕ)) (o : Outcome Tree) (d t : List ℕ) (n : Options) → GainsPrefix old new (outcome_line o) → IsResult d t n (Ok o)
-    → HasBegun d t n old new
-outcome_has_begun old new o d t n gained result = record { status = status_of o; line = outcome_line o; gained = gained; is_written = result }
+pub outcome_has_begun : (old new : Option (List ℕ)) (o : Outcome Tree) (d t : List ℕ) (S : Setting) → GainsPrefix old new (outcome_line o) → IsResult d t S (Ok o)
+    → HasBegun d t S old new
+outcome_has_begun old new o d t S gained result = record { status = status_of o; line = outcome_line o; gained = gained; is_written = result }
 
-first_fault : (d t : List ℕ) (n : Options) (fault : Fault) → IsRefusal fault → IsResult d t n (Err fault) → IsFirstFault d t n fault
-first_fault d t n faults.Memory refusal result = absurd (no_low_refusal faults.Memory refusal (omega arith))
-first_fault d t n faults.Read refusal result = absurd (no_low_refusal faults.Read refusal (omega arith))
-first_fault d t n _ refusal result = result
+first_fault : (d t : List ℕ) (S : Setting) (fault : Fault) → IsRefusal fault → IsResult d t S (Err fault) → IsFirstFault d t S fault
+first_fault d t S faults.Memory refusal result = absurd (no_low_refusal faults.Memory refusal (omega arith))
+first_fault d t S faults.Read refusal result = absurd (no_low_refusal faults.Read refusal (omega arith))
+first_fault d t S _ refusal result = result
 
-pub refusal_has_written : (old new : Option (List ℕ)) (fault : Fault) (d t : List ℕ) (n : Options) → Gains old new (refusal_line fault) → IsRefusal fault
-    → IsResult d t n (Err fault) → HasWritten d t n (Refused fault) old new
-refusal_has_written old new fault d t n gained refusal result =
-    record { line = refusal_line fault; gained = gained; is_written = λ M. (first_fault d t n fault refusal result, refl) }
+pub refusal_has_written : (old new : Option (List ℕ)) (fault : Fault) (d t : List ℕ) (S : Setting) → Gains old new (refusal_line fault) → IsRefusal fault
+    → IsResult d t S (Err fault) → HasWritten d t S (Refused fault) old new
+refusal_has_written old new fault d t S gained refusal result =
+    record { line = refusal_line fault; gained = gained; is_written = (first_fault d t S fault refusal result, refl) }
 
-pub refusal_has_begun : (old new : Option (List ℕ)) (fault : Fault) (d t : List ℕ) (n : Options) → GainsPrefix old new (refusal_line fault) → IsRefusal fault
-    → IsResult d t n (Err fault) → HasBegun d t n old new
-refusal_has_begun old new fault d t n gained refusal result =
-    record { status = Refused fault; line = refusal_line fault; gained = gained; is_written = λ M. (first_fault d t n fault refusal result, refl) }
+pub refusal_has_begun : (old new : Option (List ℕ)) (fault : Fault) (d t : List ℕ) (S : Setting) → GainsPrefix old new (refusal_line fault) → IsRefusal fault
+    → IsResult d t S (Err fault) → HasBegun d t S old new
+refusal_has_begun old new fault d t S gained refusal result =
+    record { status = Refused fault; line = refusal_line fault; gained = gained; is_written = (first_fault d t S fault refusal result, refl) }
 
 -- what is known of the bytes that were read holds of the bytes that the readers told
 pub of_told : (defs term : Option (List ℕ)) (d t : List ℕ) (X : List ℕ → List ℕ → Type 0) → IfSome defs (λ told. d ≡ told) → IfSome term (λ told. t ≡ told)
@@ -132,39 +131,39 @@ told_then None X Y known then = tt
 told_then (Some bytes) X Y known then = then bytes known
 
 -- a fault of the definitions is the first
-pub program_fault : (defs term : List ℕ) (options : Options) (fault : Fault) → length defs ≤ max_definitions → IsProgram options.main.items defs (Err fault)
-    → IsResult defs term options (Err fault)
-program_fault defs term options faults.Memory short made = tt
-program_fault defs term options (faults.Lexical at) short made = inl (short, made)
-program_fault defs term options (faults.ReservedWord at) short made = inl (short, made)
-program_fault defs term options (faults.Syntax at) short made = inl (short, made)
-program_fault defs term options (faults.Nesting at) short made = inl (short, made)
-program_fault defs term options faults.Read short made = tt
-program_fault defs term options faults.DefsTooLong short made = absurd (no_check_fault faults.DefsTooLong made (λ numbered. omega arith))
-program_fault defs term options _ short made = inl (short, made)
+pub program_fault : (defs term : List ℕ) (S : Setting) (fault : Fault) → length defs ≤ max_definitions → IsProgram S defs (Err fault)
+    → IsResult defs term S (Err fault)
+program_fault defs term S faults.Memory short made = tt
+program_fault defs term S (faults.Lexical at) short made = inl (short, made)
+program_fault defs term S (faults.ReservedWord at) short made = inl (short, made)
+program_fault defs term S (faults.Syntax at) short made = inl (short, made)
+program_fault defs term S (faults.Nesting at) short made = inl (short, made)
+program_fault defs term S faults.Read short made = tt
+program_fault defs term S faults.DefsTooLong short made = absurd (no_check_fault faults.DefsTooLong made (λ numbered. omega arith))
+program_fault defs term S _ short made = inl (short, made)
 
 -- a fault of memory or of reading says nothing of definitions and term
-pub reading_result : (d t : List ℕ) (options : Options) (fault : Fault) → IsReadingFault fault → IsResult d t options (Err fault)
-reading_result d t options faults.Memory reading = tt
-reading_result d t options faults.Read reading = tt
-reading_result d t options faults.Write reading = absurd (omega arith)
-reading_result d t options faults.DefsTooLong reading = absurd (omega arith)
-reading_result d t options (faults.Lexical at) reading = absurd (omega arith)
-reading_result d t options (faults.ReservedWord at) reading = absurd (omega arith)
-reading_result d t options (faults.Syntax at) reading = absurd (omega arith)
-reading_result d t options (faults.Nesting at) reading = absurd (omega arith)
-reading_result d t options faults.DuplicateDeclaration reading = absurd (omega arith)
-reading_result d t options faults.Undeclared reading = absurd (omega arith)
-reading_result d t options faults.Parameters reading = absurd (omega arith)
-reading_result d t options faults.Clash reading = absurd (omega arith)
-reading_result d t options faults.UnknownStrategy reading = absurd (omega arith)
-reading_result d t options faults.NotBuildable reading = absurd (omega arith)
-reading_result d t options faults.UnknownPrimitive reading = absurd (omega arith)
-reading_result d t options faults.NoMain reading = absurd (omega arith)
-reading_result d t options faults.TermTooLong reading = absurd (omega arith)
-reading_result d t options (faults.TermSyntax at) reading = absurd (omega arith)
-reading_result d t options (faults.TermOversize at) reading = absurd (omega arith)
-reading_result d t options faults.TermUndeclared reading = absurd (omega arith)
+pub reading_result : (d t : List ℕ) (S : Setting) (fault : Fault) → IsReadingFault fault → IsResult d t S (Err fault)
+reading_result d t S faults.Memory reading = tt
+reading_result d t S faults.Read reading = tt
+reading_result d t S faults.Write reading = absurd (omega arith)
+reading_result d t S faults.DefsTooLong reading = absurd (omega arith)
+reading_result d t S (faults.Lexical at) reading = absurd (omega arith)
+reading_result d t S (faults.ReservedWord at) reading = absurd (omega arith)
+reading_result d t S (faults.Syntax at) reading = absurd (omega arith)
+reading_result d t S (faults.Nesting at) reading = absurd (omega arith)
+reading_result d t S faults.DuplicateDeclaration reading = absurd (omega arith)
+reading_result d t S faults.Undeclared reading = absurd (omega arith)
+reading_result d t S faults.Parameters reading = absurd (omega arith)
+reading_result d t S faults.Clash reading = absurd (omega arith)
+reading_result d t S faults.UnknownStrategy reading = absurd (omega arith)
+reading_result d t S faults.NotBuildable reading = absurd (omega arith)
+reading_result d t S faults.UnknownPrimitive reading = absurd (omega arith)
+reading_result d t S faults.NoMain reading = absurd (omega arith)
+reading_result d t S faults.TermTooLong reading = absurd (omega arith)
+reading_result d t S (faults.TermSyntax at) reading = absurd (omega arith)
+reading_result d t S (faults.TermOversize at) reading = absurd (omega arith)
+reading_result d t S faults.TermUndeclared reading = absurd (omega arith)
 
 -- a result that is this fault
 pub passed : {A : Type 0} (result : Result A Fault) (fault : Fault) → IsErrAnd result (λ e. e ≡ fault) → result ≡ Err fault
@@ -174,8 +173,8 @@ passed (Err e) fault is = ap (λ (f : Fault). Err f) is
 -- what writing the line of a refusal returns
 pub refusal_written : (r : Result Status Fault) (old new : Option (List ℕ)) (fault : Fault) → IfOk r (λ s. s ≡ Refused fault)
     → OnOk r (Gains old new (refusal_line fault)) → IsRefusal fault
-    → IfOk r (λ s. (d t : List ℕ) (n : Options) → IsResult d t n (Err fault) → HasWritten d t n s old new)
-refusal_written (Ok s) old new fault is gained refusal = λ d t n known. rw is (refusal_has_written old new fault d t n gained refusal known)
+    → IfOk r (λ s. (d t : List ℕ) (S : Setting) → IsResult d t S (Err fault) → HasWritten d t S s old new)
+refusal_written (Ok s) old new fault is gained refusal = λ d t S known. rw is (refusal_has_written old new fault d t S gained refusal known)
 refusal_written (Err e) old new fault is gained refusal = tt
 
 pub refusal_status : (r : Result Status Fault) (fault : Fault) → IfOk r (λ s. s ≡ Refused fault) → IsRefusal fault

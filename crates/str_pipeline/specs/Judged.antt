@@ -6,13 +6,15 @@ use Rattle.term_model.specs.Term.{Tree}
 use Rattle.aterm_text.specs.ReadTerm.{IsReading}
 use Rattle.str_lexer.specs.declared.token.Token.{Token}
 use Rattle.str_lexer.specs.Lexes.{Lexes, OnlyTokens, HoldsLeftOut, holds_left_out}
-use Rattle.str_syntax.specs.Trees.{Bytes, FileTree}
+use Rattle.str_syntax.specs.Trees.{FileTree}
 use Rattle.str_parser.specs.Lexemes.{lexemes}
 use Rattle.str_parser.specs.Phrases.{IsPhrase, OnlyPhrase, TooNested}
 use Rattle.signature_core.specs.Signature.{declarations_of}
 use Rattle.signature_core.specs.DeclaredTerm.{term_is_declared}
 use Rattle.scope_check.specs.Complaint.{first_fault}
+use Rattle.strategy_lib.specs.Library.{with_library}
 use Rattle.str_pipeline.specs.Limits.{max_definitions, max_term}
+use Rattle.str_pipeline.specs.Setting.{Setting}
 
 -- the bytes are no tokens
 abbrev pub HasNoTokens : List ℕ → Type 0
@@ -43,30 +45,32 @@ pub record IsFile (bytes : List ℕ) (f : FileTree) : Type 0 where
   pub not_nested : ¬ (TooNested (lexemes bytes tokens))
   pub only_phrase : OnlyPhrase (lexemes bytes tokens) f
 
--- the bytes are those of a file, and this is its first fault where the definition of this name is to be run
-pub record FailsChecks (main : Bytes) (bytes : List ℕ) (fault : Fault) : Type 0 where
+-- the bytes are those of a file, and this is the first fault of the file with the library after it
+pub record FailsChecks (S : Setting) (bytes : List ℕ) (fault : Fault) : Type 0 where
   pub file : FileTree
   pub is_file : IsFile bytes file
-  pub fails : first_fault file main ≡ Some fault
+  pub fails : first_fault S.has_primitive (with_library file) S.options.main.items ≡ Some fault
 
--- the bytes are those of this file, and it has no fault where the definition of this name is to be run
-pub record PassesChecks (main : Bytes) (bytes : List ℕ) (f : FileTree) : Type 0 where
-  pub is_file : IsFile bytes f
-  pub passes : first_fault f main ≡ None
+-- this is the file of the bytes with the library after it, and it has no fault
+pub record PassesChecks (S : Setting) (bytes : List ℕ) (f : FileTree) : Type 0 where
+  pub file : FileTree
+  pub is_file : IsFile bytes file
+  pub extended : f ≡ with_library file
+  pub passes : first_fault S.has_primitive f S.options.main.items ≡ None
 
--- the definitions, of which the one of this name is to be run, are refused with this fault: for their size, their tokens, their nesting, their
--- phrase, or what the checks of a file find
-abbrev pub AreRefused : Bytes → List ℕ → Fault → Type 0
-AreRefused main defs DefsTooLong = max_definitions < length defs
-AreRefused main defs (Lexical at) = (length defs ≤ max_definitions) × HasNoTokens defs
-AreRefused main defs (ReservedWord at) = (length defs ≤ max_definitions) × HoldsLeftOut defs
-AreRefused main defs (Nesting at) = (length defs ≤ max_definitions) × AreTooNested defs
-AreRefused main defs (Syntax at) = (length defs ≤ max_definitions) × HasNoPhrase defs
-AreRefused main defs fault = (length defs ≤ max_definitions) × FailsChecks main defs fault
+-- the definitions are refused with this fault: for their size, their tokens, their nesting, their phrase, or what the checks find in their file
+-- with the library after it
+abbrev pub AreRefused : Setting → List ℕ → Fault → Type 0
+AreRefused S defs DefsTooLong = max_definitions < length defs
+AreRefused S defs (Lexical at) = (length defs ≤ max_definitions) × HasNoTokens defs
+AreRefused S defs (ReservedWord at) = (length defs ≤ max_definitions) × HoldsLeftOut defs
+AreRefused S defs (Nesting at) = (length defs ≤ max_definitions) × AreTooNested defs
+AreRefused S defs (Syntax at) = (length defs ≤ max_definitions) × HasNoPhrase defs
+AreRefused S defs fault = (length defs ≤ max_definitions) × FailsChecks S defs fault
 
--- the definitions are those of this file, in which nothing is wrong where the definition of this name is to be run
-abbrev pub AreAccepted : Bytes → List ℕ → FileTree → Type 0
-AreAccepted main defs f = (length defs ≤ max_definitions) × PassesChecks main defs f
+-- this is the file of the definitions with the library after it, and nothing is wrong in it
+abbrev pub AreAccepted : Setting → List ℕ → FileTree → Type 0
+AreAccepted S defs f = (length defs ≤ max_definitions) × PassesChecks S defs f
 
 -- the text is that of this term
 abbrev pub IsTerm : List ℕ → Tree → Type 0

@@ -5,5 +5,6 @@ pub mod Joined
 pub mod Judged
 pub mod Limits
 pub mod Search
+pub mod Setting
 pub mod Steps
 pub mod Written

@@ -3,7 +3,6 @@ use Rattle.std.specs.Prelude.{◌≡◌, ◌⊎◌, ℕ, Bool, true, false, List
 use Rattle.term_model.specs.declared.fault.Fault.{Fault}
 use Rattle.term_model.specs.declared.fault.Fault.TheVariants.{Memory, Read, Lexical, ReservedWord, Syntax, Nesting, TermUndeclared}
 use Rattle.term_model.specs.Term.{Tree}
-use Rattle.term_model.specs.Flat.{Meaning}
 use Rattle.aterm_text.specs.Text.{text}
 use Rattle.aterm_text.specs.ReadTerm.{IsReading}
 use Rattle.core_lang.specs.Core.{program_of}
@@ -12,15 +11,15 @@ use Rattle.core_lang.specs.Resolution.{ResolvesProgram}
 use Rattle.core_lang.specs.declared.run.Outcome.{Outcome}
 use Rattle.core_lang.specs.declared.run.Outcome.TheVariants as outcomes
 use Rattle.str_lexer.specs.Lexes.{HoldsLeftOut}
-use Rattle.str_syntax.specs.Trees.{Bytes, FileTree}
+use Rattle.str_syntax.specs.Trees.{FileTree}
 use Rattle.signature_core.specs.Signature.{Declared, declarations_of}
 use Rattle.signature_core.specs.DeclaredTerm.{term_is_declared}
 use Rattle.str_desugar.specs.FileProgram.{program_of_file}
 use Rattle.str_pipeline.specs.Judged.{HasNoTokens, AreTooNested, HasNoPhrase, FailsChecks, PassesChecks}
 use Rattle.str_pipeline.specs.Faults.{IsReadingFault, IsRefusal}
+use Rattle.str_pipeline.specs.Setting.{Setting}
 use Rattle.str_pipeline.specs.Written.{line_of, IsFirstFault, IsWritten}
 use Rattle.str_pipeline.specs.declared.program.Program.{Program}
-use Rattle.str_pipeline.specs.declared.status.Options.{Options}
 use Rattle.str_pipeline.specs.declared.status.Status.{Status}
 use Rattle.str_pipeline.specs.declared.status.Status.TheVariants.{Rewritten, Failed, Oversize, Spent}
 
@@ -28,21 +27,21 @@ use Rattle.str_pipeline.specs.declared.status.Status.TheVariants.{Rewritten, Fai
 abbrev pub IsStop : Fault → Type 0
 IsStop fault = IsReadingFault fault ⊎ IsRefusal fault
 
--- the declarations are those of the file, and the core is one that the program of the file is resolved to, with the definition of this name as
--- the one that is run
-pub record IsProgramOf (main : Bytes) (f : FileTree) (program : Program) : Type 0 where
+-- the declarations are those of the file, and the core is one that the program of the file is resolved to, with the definition that the options
+-- name as the one that is run
+pub record IsProgramOf (S : Setting) (f : FileTree) (program : Program) : Type 0 where
   pub declared : program.checked.declarations ≡ declarations_of f
-  pub resolved : ResolvesProgram (program_of_file f) (written main) (program_of program.core) program.core.main
+  pub resolved : ResolvesProgram (program_of_file f) (written S.options.main.items) (program_of program.core) program.core.main
 
 -- what making the program of definitions returns
-abbrev pub IsProgram : Bytes → List ℕ → Result Program Fault → Type 0
-IsProgram main defs (Ok program) = (f : FileTree) × PassesChecks main defs f × IsProgramOf main f program
-IsProgram main defs (Err Memory) = Unit {0}
-IsProgram main defs (Err (Lexical at)) = HasNoTokens defs
-IsProgram main defs (Err (ReservedWord at)) = HoldsLeftOut defs
-IsProgram main defs (Err (Nesting at)) = AreTooNested defs
-IsProgram main defs (Err (Syntax at)) = HasNoPhrase defs
-IsProgram main defs (Err fault) = FailsChecks main defs fault
+abbrev pub IsProgram : Setting → List ℕ → Result Program Fault → Type 0
+IsProgram S defs (Ok program) = (f : FileTree) × PassesChecks S defs f × IsProgramOf S f program
+IsProgram S defs (Err Memory) = Unit {0}
+IsProgram S defs (Err (Lexical at)) = HasNoTokens defs
+IsProgram S defs (Err (ReservedWord at)) = HoldsLeftOut defs
+IsProgram S defs (Err (Nesting at)) = AreTooNested defs
+IsProgram S defs (Err (Syntax at)) = HasNoPhrase defs
+IsProgram S defs (Err fault) = FailsChecks S defs fault
 
 -- what reading a term returns: in strict mode, one whose applications are among these declarations
 abbrev pub IsTermRead : Bool → List Declared → List ℕ → Result Tree Fault → Type 0
@@ -63,8 +62,8 @@ outcome_line outcomes.Oversize = line_of (codes "#oversize")
 outcome_line outcomes.Spent = line_of (codes "#spent")
 
 -- what is known of the definitions and the term by the outcome of a run, or by the fault in place of one
-abbrev pub IsResult : List ℕ → List ℕ → Options → Result (Outcome Tree) Fault → Type 0
-IsResult defs term options (Ok outcome) = (M : Meaning) → IsWritten M defs term options (status_of outcome) (outcome_line outcome)
-IsResult defs term options (Err Memory) = Unit {0}
-IsResult defs term options (Err Read) = Unit {0}
-IsResult defs term options (Err fault) = IsFirstFault defs term options fault
+abbrev pub IsResult : List ℕ → List ℕ → Setting → Result (Outcome Tree) Fault → Type 0
+IsResult defs term S (Ok outcome) = IsWritten defs term S (status_of outcome) (outcome_line outcome)
+IsResult defs term S (Err Memory) = Unit {0}
+IsResult defs term S (Err Read) = Unit {0}
+IsResult defs term S (Err fault) = IsFirstFault defs term S fault

@@ -13,7 +13,7 @@ use Rattle.str_syntax.specs.Trees.{Bytes, FileTree}
 use Rattle.str_desugar.specs.FileProgram.{program_of_file}
 use Rattle.str_pipeline.specs.Judged.{AreRefused, AreAccepted, IsRefused, IsAccepted}
 use Rattle.str_pipeline.specs.Device.{Gains, GainsPrefix}
-use Rattle.str_pipeline.specs.declared.status.Options.{Options}
+use Rattle.str_pipeline.specs.Setting.{Setting}
 use Rattle.str_pipeline.specs.declared.status.Status.{Status}
 use Rattle.str_pipeline.specs.declared.status.Status.TheVariants.{Rewritten, Failed, Oversize, Spent, Refused}
 
@@ -29,9 +29,8 @@ abbrev pub Rewrites : Meaning → FileTree → Bytes → Tree → Ending Tree �
 Rewrites M f main t o n = named.Rewrites M (program_of_file f) (written main) t o n
 
 -- the first fault: of the definitions, and of the term only where the definitions have none
-abbrev pub IsFirstFault : List ℕ → List ℕ → Options → Fault → Type 0
-IsFirstFault defs term options fault =
-    AreRefused options.main.items defs fault ⊎ ((f : FileTree) × AreAccepted options.main.items defs f × IsRefused options.strict f term fault)
+abbrev pub IsFirstFault : List ℕ → List ℕ → Setting → Fault → Type 0
+IsFirstFault defs term S fault = AreRefused S defs fault ⊎ ((f : FileTree) × AreAccepted S defs f × IsRefused S.options.strict f term fault)
 
 -- what a file does with a term within the budget: the line and the status
 abbrev pub IsAnswer : Meaning → FileTree → Bytes → Tree → ℕ → Status → List ℕ → Type 0
@@ -41,26 +40,26 @@ IsAnswer M f main t budget Oversize line = (n : ℕ) × Rewrites M f main t over
 IsAnswer M f main t budget Spent line = ((o : Ending Tree) (n : ℕ) → Rewrites M f main t o n → budget < n) × (line ≡ line_of (codes "#spent"))
 IsAnswer M f main t budget (Refused fault) line = ⊥
 
--- the line and the status for these definitions, this text of a term and these options
-abbrev pub IsWritten : Meaning → List ℕ → List ℕ → Options → Status → List ℕ → Type 0
-IsWritten M defs term options (Refused fault) line = IsFirstFault defs term options fault × (line ≡ refusal_line fault)
-IsWritten M defs term options status line = (f : FileTree) × (t : Tree) × AreAccepted options.main.items defs f
-    × IsAccepted options.strict f term t × IsAnswer M f options.main.items t options.budget status line
+-- the line and the status for these definitions and this text of a term, in this setting
+abbrev pub IsWritten : List ℕ → List ℕ → Setting → Status → List ℕ → Type 0
+IsWritten defs term S (Refused fault) line = IsFirstFault defs term S fault × (line ≡ refusal_line fault)
+IsWritten defs term S status line = (f : FileTree) × (t : Tree) × AreAccepted S defs f
+    × IsAccepted S.options.strict f term t × IsAnswer S.meaning f S.options.main.items t S.options.budget status line
 
 -- these are one status, but for the place of a fault
 abbrev pub AreAlike : Status → Status → Type 0
 AreAlike (Refused fault) (Refused other) = number_of fault ≡ number_of other
 AreAlike status other = status ≡ other
 
--- a writer that tells its bytes has gained the line, whatever primitives mean
-pub record HasWritten (defs term : List ℕ) (options : Options) (status : Status) (old new : Option (List ℕ)) : Type 0 where
+-- a writer that tells its bytes has gained the line
+pub record HasWritten (defs term : List ℕ) (S : Setting) (status : Status) (old new : Option (List ℕ)) : Type 0 where
   pub line : List ℕ
   pub gained : Gains old new line
-  pub is_written : (M : Meaning) → IsWritten M defs term options status line
+  pub is_written : IsWritten defs term S status line
 
 -- it has gained a beginning of the line
-pub record HasBegun (defs term : List ℕ) (options : Options) (old new : Option (List ℕ)) : Type 0 where
+pub record HasBegun (defs term : List ℕ) (S : Setting) (old new : Option (List ℕ)) : Type 0 where
   pub status : Status
   pub line : List ℕ
   pub gained : GainsPrefix old new line
-  pub is_written : (M : Meaning) → IsWritten M defs term options status line
+  pub is_written : IsWritten defs term S status line

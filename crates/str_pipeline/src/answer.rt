@@ -2,8 +2,10 @@
 ghost use Rattle.std.specs.Prelude.{◌≡◌, ◌+◌, ◌≤◌, ◌++◌, ℕ, List, length, false, if◌then◌else◌, IfOk, IfErr, OnOk, IsErrOf};
 ghost use Rattle.str_syntax.specs.Trees.{FileTree};
 ghost use Rattle.str_pipeline.specs.Device.{Gains, GainsPrefix};
+ghost use Rattle.prim_registry.specs.Entries.{Covers, IsHonest};
 ghost use Rattle.str_pipeline.specs.Limits.{max_term};
 ghost use Rattle.term_model.specs.Limits.{max_budget};
+ghost use Rattle.str_pipeline.specs.Setting.{setting_of};
 ghost use Rattle.str_pipeline.specs.Judged.{AreAccepted};
 ghost use Rattle.str_pipeline.specs.Written.{line_of, refusal_line};
 ghost use Rattle.str_pipeline.specs.Steps.{IsStop, IsProgramOf, IsTermRead, IsResult, status_of, outcome_line};
@@ -15,6 +17,7 @@ use crate::status::{Options, Status};
 use aterm_text::{read_term, write_term};
 use core_eval::eval;
 use core_lang::Outcome;
+use prim_registry::{PrimMeaning, Registry};
 use signature_core::Signature;
 use std::alloc::{AllocError, Global};
 use term_model::{Fault, Term};
@@ -44,24 +47,29 @@ fn term_of(
     Ok(term)
 }
 
-/// Returns what the program does with the term of this text. The fault is one of the term's, or `Memory`.
+/// Returns what the program does with the term of this text, with the primitives of the registry. The fault is one of the term's, or
+/// `Memory`.
 #[tactic(auto, using(crate::proofs::WrittenLaws::run_written, crate::proofs::FaultLaws::text_stops, crate::proofs::FaultLaws::text_apart, crate::proofs::FaultLaws::text_no_read))]
-pub(crate) fn outcome_of(
+pub(crate) fn outcome_of<M: PrimMeaning>(
     alloc: Global,
     program: &Program,
     text: &[u8],
     options: &Options,
+    registry: &Registry<M>,
 ) -> Result<Outcome<Term>, Fault>
     requires budget { options.now.budget ≤ max_budget }
     requires fits { length text.now ≤ max_term }
-    ensures result { (defs : List ℕ) (f : FileTree) → AreAccepted options.now.main.items defs f →
-        IsProgramOf options.now.main.items f program.now → IsResult defs text.now options.now result }
+    requires honest { IsHonest M.answer registry.now }
+    requires covers { Covers registry.now program.now.core.prims }
+    ensures result { (defs : List ℕ) (f : FileTree) → AreAccepted (setting_of M.answer registry.now options.now) defs f →
+        IsProgramOf (setting_of M.answer registry.now options.now) f program.now →
+        IsResult defs text.now (setting_of M.answer registry.now options.now) result }
     ensures kinds { IfErr result IsStop }
     ensures apart { IfErr result (λ fault. IsOfDefinitions fault → ⊥) }
     ensures read { is_read_fault result ≡ false }
 {
     let term = term_of(alloc, program.checked.signature(), text, options.strict)?;
-    let run = eval(alloc, &program.core, &term, options.budget)?;
+    let run = eval(alloc, &program.core, &term, options.budget, registry)?;
     Ok(run.outcome)
 }
 

@@ -1,9 +1,8 @@
 //! Laws of the definitions, with nothing to run.
 ghost use Rattle.std.specs.Prelude.{◌≡◌, ℕ, List};
-ghost use Rattle.term_model.specs.Flat.{Meaning};
-ghost use Rattle.str_pipeline.specs.declared.status.Options.{Options};
 ghost use Rattle.str_pipeline.specs.declared.status.Status.{Status};
 ghost use Rattle.str_pipeline.specs.Joined.{IsSplit};
+ghost use Rattle.str_pipeline.specs.Setting.{Setting};
 ghost use Rattle.str_pipeline.specs.Written.{AreAlike, IsWritten};
 
 /// Says that each text of the joined form has a split, and only one.
@@ -13,10 +12,10 @@ pub fn joined_form_law()
     ensures some { (text : List ℕ) → (d : List ℕ) × (t : List ℕ) × IsSplit text d t }
 {}
 
-/// Says that definitions, the text of a term and options have at most one line and one status, whatever primitives mean: two statuses
-/// that differ are refusals of the same fault, at other places.
+/// Says that definitions and the text of a term have at most one line and one status in a setting, whatever its primitives mean: two
+/// statuses that differ are refusals of the same fault, at other places.
 #[tactic(auto, using(crate::proofs::OneLine::one_line))]
 pub fn one_line_law()
-    ensures { (M : Meaning) (defs term : List ℕ) (options : Options) (s r : Status) (line other : List ℕ) →
-        IsWritten M defs term options s line → IsWritten M defs term options r other → AreAlike s r × (line ≡ other) }
+    ensures { (defs term : List ℕ) (S : Setting) (s r : Status) (line other : List ℕ) →
+        IsWritten defs term S s line → IsWritten defs term S r other → AreAlike s r × (line ≡ other) }
 {}

@@ -2,10 +2,11 @@
 ghost use Rattle.std.specs.Prelude.{◌≡◌, ◌↔◌, ◌+◌, ◌≤◌, ℕ, List, Result, Err, IsTrue, if◌then◌else◌, IfOk, IfErr, IfSome, IsErrOf, IsErrAnd};
 ghost use Rattle.term_model.specs.declared.fault.Fault.{Fault};
 ghost use Rattle.term_model.specs.Fault.{number_of};
-ghost use Rattle.str_pipeline.specs.declared.status.Options.{Options};
+ghost use Rattle.prim_registry.specs.Entries.{IsHonest};
 ghost use Rattle.str_pipeline.specs.Joined.{IsSplit};
 ghost use Rattle.str_pipeline.specs.Limits.{max_definitions, max_term};
 ghost use Rattle.term_model.specs.Limits.{max_budget};
+ghost use Rattle.str_pipeline.specs.Setting.{Setting, setting_of};
 ghost use Rattle.str_pipeline.specs.Judged.{AreRefused};
 ghost use Rattle.str_pipeline.specs.Written.{HasWritten, HasBegun};
 ghost use Rattle.str_pipeline.specs.Steps.{IsStop, IsResult};
@@ -18,49 +19,54 @@ use crate::sink::Sink;
 use crate::source::{Source, read_all};
 use crate::status::{Options, Status};
 use core_lang::Outcome;
+use prim_registry::{PrimMeaning, Registry};
 use scope_check::Notes;
 use std::alloc::Global;
 use term_model::{Fault, Term};
 
 /// Returns what the definitions do with the term. The fault is the first refusal, or `Memory` or `Read`.
 #[tactic(auto, using(crate::proofs::FaultLaws::reading_stops, crate::proofs::FaultLaws::reading_apart, crate::proofs::FaultLaws::program_stops, crate::proofs::FaultLaws::program_no_read, crate::proofs::FaultLaws::long_definitions_stop, crate::proofs::FaultLaws::long_term_stops, crate::proofs::FaultLaws::long_term_apart))]
-fn outcome_apart<D: Source, T: Source>(
+fn outcome_apart<D: Source, T: Source, M: PrimMeaning>(
     alloc: Global,
     defs: &mut D,
     term: &mut T,
     options: &Options,
+    registry: &Registry<M>,
     notes: &mut Notes,
 ) -> Result<Outcome<Term>, Fault>
-    requires { options.now.budget ≤ max_budget }
-    ensures result { IfSome (D.coming defs.old) (λ d. IfSome (T.coming term.old) (λ t. IsResult d t options.now result)) }
+    requires budget { options.now.budget ≤ max_budget }
+    requires honest { IsHonest M.answer registry.now }
+    ensures result { IfSome (D.coming defs.old) (λ d. IfSome (T.coming term.old) (λ t. IsResult d t (setting_of M.answer registry.now options.now) result)) }
     ensures kinds { IfErr result IsStop }
     ensures failed { D.failed_reads defs.new + T.failed_reads term.new
         ≡ D.failed_reads defs.old + T.failed_reads term.old + (if is_read_fault result then 1 else 0) }
     ensures unread { IfErr result (λ fault. IsOfDefinitions fault → term.new ≡ term.old) }
-    ensures unread_told { IfSome (D.coming defs.old) (λ d. (fault : Fault) → AreRefused options.now.main.items d fault → term.new ≡ term.old) }
+    ensures unread_told { IfSome (D.coming defs.old) (λ d. (fault : Fault) → AreRefused (setting_of M.answer registry.now options.now) d fault → term.new ≡ term.old) }
     ensures defs_bounded { D.reads defs.new ≤ D.reads defs.old + max_definitions + 1 }
     ensures term_bounded { T.reads term.new ≤ T.reads term.old + max_term + 1 }
 {
     let Some(text) = read_all(alloc, defs, MAX_DEFINITIONS)? else {
         return Err(Fault::DefsTooLong);
     };
-    let program = program_of(alloc, &text, options, notes)?;
+    let program = program_of(alloc, &text, options, registry, notes)?;
     let Some(text) = read_all(alloc, term, MAX_TERM)? else {
         return Err(Fault::TermTooLong);
     };
-    outcome_of(alloc, &program, &text, options)
+    outcome_of(alloc, &program, &text, options, registry)
 }
 
 /// Does the same over one reader of the joined form.
 #[tactic(auto, using(crate::proofs::FaultLaws::reading_stops, crate::proofs::FaultLaws::reading_apart, crate::proofs::FaultLaws::program_stops, crate::proofs::FaultLaws::program_no_read, crate::proofs::FaultLaws::long_definitions_stop, crate::proofs::FaultLaws::long_term_stops, crate::proofs::FaultLaws::long_term_apart))]
-fn outcome_joined<S: Source>(
+fn outcome_joined<S: Source, M: PrimMeaning>(
     alloc: Global,
     input: &mut S,
     options: &Options,
+    registry: &Registry<M>,
     notes: &mut Notes,
 ) -> Result<Outcome<Term>, Fault>
-    requires { options.now.budget ≤ max_budget }
-    ensures result { IfSome (S.coming input.old) (λ told. (d t : List ℕ) → IsSplit told d t → IsResult d t options.now result) }
+    requires budget { options.now.budget ≤ max_budget }
+    requires honest { IsHonest M.answer registry.now }
+    ensures result { IfSome (S.coming input.old) (λ told. (d t : List ℕ) → IsSplit told d t → IsResult d t (setting_of M.answer registry.now options.now) result) }
     ensures kinds { IfErr result IsStop }
     ensures failed { S.failed_reads input.new ≡ S.failed_reads input.old + (if is_read_fault result then 1 else 0) }
     ensures bounded { S.reads input.new ≤ S.reads input.old + max_definitions + 17 + max_term + 1 }
@@ -69,11 +75,11 @@ fn outcome_joined<S: Source>(
     let Some(front) = read_front(alloc, input, MAX_DEFINITIONS)? else {
         return Err(Fault::DefsTooLong);
     };
-    let program = program_of(alloc, front.definitions(), options, notes)?;
+    let program = program_of(alloc, front.definitions(), options, registry, notes)?;
     let Some(text) = front.read_term(alloc, input, MAX_TERM)? else {
         return Err(Fault::TermTooLong);
     };
-    outcome_of(alloc, &program, &text, options)
+    outcome_of(alloc, &program, &text, options, registry)
 }
 
 /// Writes the line of the outcome, or of the refusal that came in place of it, and returns its
@@ -85,8 +91,8 @@ fn finish<W: Sink>(
     out: &mut W,
 ) -> Result<Status, Fault>
     requires { IfErr outcome IsStop }
-    ensures written { IfOk result (λ status. (d t : List ℕ) (o : Options) → IsResult d t o outcome → HasWritten d t o status (W.written out.old) (W.written out.new)) }
-    ensures begun { IsErrOf result Fault.Write → (d t : List ℕ) (o : Options) → IsResult d t o outcome → HasBegun d t o (W.written out.old) (W.written out.new) }
+    ensures written { IfOk result (λ status. (d t : List ℕ) (S : Setting) → IsResult d t S outcome → HasWritten d t S status (W.written out.old) (W.written out.new)) }
+    ensures begun { IsErrOf result Fault.Write → (d t : List ℕ) (S : Setting) → IsResult d t S outcome → HasBegun d t S (W.written out.old) (W.written out.new) }
     ensures status { IfOk result HoldsRefusal }
     ensures definitions { IfOk result (λ status. RefusesDefinitions status → IsErrAnd outcome IsOfDefinitions) }
     ensures read { is_read_fault result ≡ is_read_fault outcome }
@@ -112,8 +118,8 @@ fn has_no_line(fault: &Fault) -> bool
 #[tactic(auto, using(crate::proofs::WrittenLaws::refusal_has_begun, crate::proofs::WrittenLaws::refusal_written, crate::proofs::WrittenLaws::refusal_status, crate::proofs::WrittenLaws::writes_not_read, crate::proofs::FaultLaws::is_refusal, crate::proofs::FaultLaws::is_reading, crate::proofs::FaultLaws::is_no_read))]
 fn write_fault<W: Sink>(alloc: Global, fault: Fault, out: &mut W) -> Result<Status, Fault>
     requires { IsStop fault }
-    ensures written { IfOk result (λ status. (d t : List ℕ) (o : Options) → IsResult d t o (Err fault) → HasWritten d t o status (W.written out.old) (W.written out.new)) }
-    ensures begun { IsErrOf result Fault.Write → (d t : List ℕ) (o : Options) → IsResult d t o (Err fault) → HasBegun d t o (W.written out.old) (W.written out.new) }
+    ensures written { IfOk result (λ status. (d t : List ℕ) (S : Setting) → IsResult d t S (Err fault) → HasWritten d t S status (W.written out.old) (W.written out.new)) }
+    ensures begun { IsErrOf result Fault.Write → (d t : List ℕ) (S : Setting) → IsResult d t S (Err fault) → HasBegun d t S (W.written out.old) (W.written out.new) }
     ensures status { IfOk result (λ status. (status ≡ Status.Refused fault) × IsRefusal fault) }
     ensures read { is_read_fault result ≡ is_read fault }
     ensures untouched_memory { IsErrOf result Fault.Memory → out.new ≡ out.old }
@@ -129,26 +135,31 @@ fn write_fault<W: Sink>(alloc: Global, fault: Fault, out: &mut W) -> Result<Stat
 
 /// Reads definitions and then the text of a term, lets the definitions rewrite the term, and writes
 /// one line with its line feed: the canonical text of the result, `#failed`, `#oversize`, `#spent`,
-/// or `#refused ` and the word of the first fault. Applied is the definition whose name the options
-/// give. The definitions are read and judged first; where they are refused the term is not read.
-/// In strict mode a term with an application that the definitions do not declare is refused. Nothing is written before the whole line is made. At most
-/// 1,048,577 reads of definitions and 16,777,217 of the term are made.
+/// or `#refused ` and the word of the first fault. The definition that is applied is the one whose
+/// name the options give. The library's definitions come after those of the file: `try`, `repeat`,
+/// `topdown`, `bottomup`, `oncetd`, `oncebu`, `alltd`, `innermost`, `map`. The primitives that can be
+/// called are those of the registry. The definitions are read and judged first; where they are refused
+/// the term is not read. In strict mode a term with an application that the definitions do not declare
+/// is refused. Nothing is written before the whole line is made. At most 1,048,577 reads of definitions
+/// and 16,777,217 of the term are made.
 ///
 /// # Errors
-/// `Read` where a read failed, and `Memory` where a growth was refused: nothing was written.
-/// `Write` where a write failed or took no byte: a beginning of the line was written.
-pub fn transform<D: Source, T: Source, W: Sink>(
+/// `Read` where a read failed, and `Memory` where a growth was refused, here or in a primitive: nothing
+/// was written. `Write` where a write failed or took no byte: a beginning of the line was written.
+pub fn transform<D: Source, T: Source, M: PrimMeaning, W: Sink>(
     alloc: Global,
     defs: &mut D,
     term: &mut T,
     options: &Options,
+    registry: &Registry<M>,
     out: &mut W,
 ) -> Result<Status, Fault>
-    requires { options.now.budget ≤ max_budget }
+    requires budget { options.now.budget ≤ max_budget }
+    requires honest { IsHonest M.answer registry.now }
     ensures written { IfOk result (λ status. IfSome (D.coming defs.old) (λ d. IfSome (T.coming term.old) (λ t.
-        HasWritten d t options.now status (W.written out.old) (W.written out.new)))) }
+        HasWritten d t (setting_of M.answer registry.now options.now) status (W.written out.old) (W.written out.new)))) }
     ensures begun { IsErrOf result Fault.Write → IfSome (D.coming defs.old) (λ d. IfSome (T.coming term.old) (λ t.
-        HasBegun d t options.now (W.written out.old) (W.written out.new))) }
+        HasBegun d t (setting_of M.answer registry.now options.now) (W.written out.old) (W.written out.new))) }
     ensures status { IfOk result HoldsRefusal }
     ensures kinds { IfErr result IsTransferFault }
     ensures untouched_memory { IsErrOf result Fault.Memory → out.new ≡ out.old }
@@ -157,12 +168,12 @@ pub fn transform<D: Source, T: Source, W: Sink>(
         ≡ D.failed_reads defs.old + T.failed_reads term.old + (if is_read_fault result then 1 else 0) }
     ensures write_failed { W.failed_writes out.new ≡ W.failed_writes out.old + (if is_write_fault result then 1 else 0) }
     ensures unread { IfOk result (λ status. RefusesDefinitions status → term.new ≡ term.old) }
-    ensures unread_told { IfSome (D.coming defs.old) (λ d. (fault : Fault) → AreRefused options.now.main.items d fault → term.new ≡ term.old) }
+    ensures unread_told { IfSome (D.coming defs.old) (λ d. (fault : Fault) → AreRefused (setting_of M.answer registry.now options.now) d fault → term.new ≡ term.old) }
     ensures defs_bounded { D.reads defs.new ≤ D.reads defs.old + max_definitions + 1 }
     ensures term_bounded { T.reads term.new ≤ T.reads term.old + max_term + 1 }
 {
     let mut notes = Notes::none();
-    transform_with_notes(alloc, defs, term, options, &mut notes, out)
+    transform_with_notes(alloc, defs, term, options, registry, &mut notes, out)
 }
 
 /// Does as `transform` does, and notes what a person wants to know where the checks refuse the definitions: which name is at fault, where
@@ -170,19 +181,21 @@ pub fn transform<D: Source, T: Source, W: Sink>(
 ///
 /// # Errors
 /// As of `transform`.
-pub fn transform_with_notes<D: Source, T: Source, W: Sink>(
+pub fn transform_with_notes<D: Source, T: Source, M: PrimMeaning, W: Sink>(
     alloc: Global,
     defs: &mut D,
     term: &mut T,
     options: &Options,
+    registry: &Registry<M>,
     notes: &mut Notes,
     out: &mut W,
 ) -> Result<Status, Fault>
-    requires { options.now.budget ≤ max_budget }
+    requires budget { options.now.budget ≤ max_budget }
+    requires honest { IsHonest M.answer registry.now }
     ensures written { IfOk result (λ status. IfSome (D.coming defs.old) (λ d. IfSome (T.coming term.old) (λ t.
-        HasWritten d t options.now status (W.written out.old) (W.written out.new)))) }
+        HasWritten d t (setting_of M.answer registry.now options.now) status (W.written out.old) (W.written out.new)))) }
     ensures begun { IsErrOf result Fault.Write → IfSome (D.coming defs.old) (λ d. IfSome (T.coming term.old) (λ t.
-        HasBegun d t options.now (W.written out.old) (W.written out.new))) }
+        HasBegun d t (setting_of M.answer registry.now options.now) (W.written out.old) (W.written out.new))) }
     ensures status { IfOk result HoldsRefusal }
     ensures kinds { IfErr result IsTransferFault }
     ensures untouched_memory { IsErrOf result Fault.Memory → out.new ≡ out.old }
@@ -191,12 +204,12 @@ pub fn transform_with_notes<D: Source, T: Source, W: Sink>(
         ≡ D.failed_reads defs.old + T.failed_reads term.old + (if is_read_fault result then 1 else 0) }
     ensures write_failed { W.failed_writes out.new ≡ W.failed_writes out.old + (if is_write_fault result then 1 else 0) }
     ensures unread { IfOk result (λ status. RefusesDefinitions status → term.new ≡ term.old) }
-    ensures unread_told { IfSome (D.coming defs.old) (λ d. (fault : Fault) → AreRefused options.now.main.items d fault → term.new ≡ term.old) }
+    ensures unread_told { IfSome (D.coming defs.old) (λ d. (fault : Fault) → AreRefused (setting_of M.answer registry.now options.now) d fault → term.new ≡ term.old) }
     ensures defs_bounded { D.reads defs.new ≤ D.reads defs.old + max_definitions + 1 }
     ensures term_bounded { T.reads term.new ≤ T.reads term.old + max_term + 1 }
 {
     *notes = Notes::none();
-    let outcome = outcome_apart(alloc, defs, term, options, notes);
+    let outcome = outcome_apart(alloc, defs, term, options, registry, notes);
     finish(alloc, outcome, out)
 }
 
@@ -207,17 +220,19 @@ pub fn transform_with_notes<D: Source, T: Source, W: Sink>(
 ///
 /// # Errors
 /// As of `transform`.
-pub fn transform_joined<S: Source, W: Sink>(
+pub fn transform_joined<S: Source, M: PrimMeaning, W: Sink>(
     alloc: Global,
     input: &mut S,
     options: &Options,
+    registry: &Registry<M>,
     out: &mut W,
 ) -> Result<Status, Fault>
-    requires { options.now.budget ≤ max_budget }
+    requires budget { options.now.budget ≤ max_budget }
+    requires honest { IsHonest M.answer registry.now }
     ensures written { IfOk result (λ status. IfSome (S.coming input.old) (λ told. (d t : List ℕ) → IsSplit told d t →
-        HasWritten d t options.now status (W.written out.old) (W.written out.new))) }
+        HasWritten d t (setting_of M.answer registry.now options.now) status (W.written out.old) (W.written out.new))) }
     ensures begun { IsErrOf result Fault.Write → IfSome (S.coming input.old) (λ told. (d t : List ℕ) → IsSplit told d t →
-        HasBegun d t options.now (W.written out.old) (W.written out.new)) }
+        HasBegun d t (setting_of M.answer registry.now options.now) (W.written out.old) (W.written out.new)) }
     ensures status { IfOk result HoldsRefusal }
     ensures kinds { IfErr result IsTransferFault }
     ensures untouched_memory { IsErrOf result Fault.Memory → out.new ≡ out.old }
@@ -228,7 +243,7 @@ pub fn transform_joined<S: Source, W: Sink>(
     ensures defs_bounded { IfOk result (λ status. RefusesDefinitions status → S.reads input.new ≤ S.reads input.old + max_definitions + 17) }
 {
     let mut notes = Notes::none();
-    transform_joined_with_notes(alloc, input, options, &mut notes, out)
+    transform_joined_with_notes(alloc, input, options, registry, &mut notes, out)
 }
 
 /// Does as `transform_joined` does, and notes what a person wants to know where the checks refuse the definitions. What was noted before
@@ -236,18 +251,20 @@ pub fn transform_joined<S: Source, W: Sink>(
 ///
 /// # Errors
 /// As of `transform`.
-pub fn transform_joined_with_notes<S: Source, W: Sink>(
+pub fn transform_joined_with_notes<S: Source, M: PrimMeaning, W: Sink>(
     alloc: Global,
     input: &mut S,
     options: &Options,
+    registry: &Registry<M>,
     notes: &mut Notes,
     out: &mut W,
 ) -> Result<Status, Fault>
-    requires { options.now.budget ≤ max_budget }
+    requires budget { options.now.budget ≤ max_budget }
+    requires honest { IsHonest M.answer registry.now }
     ensures written { IfOk result (λ status. IfSome (S.coming input.old) (λ told. (d t : List ℕ) → IsSplit told d t →
-        HasWritten d t options.now status (W.written out.old) (W.written out.new))) }
+        HasWritten d t (setting_of M.answer registry.now options.now) status (W.written out.old) (W.written out.new))) }
     ensures begun { IsErrOf result Fault.Write → IfSome (S.coming input.old) (λ told. (d t : List ℕ) → IsSplit told d t →
-        HasBegun d t options.now (W.written out.old) (W.written out.new)) }
+        HasBegun d t (setting_of M.answer registry.now options.now) (W.written out.old) (W.written out.new)) }
     ensures status { IfOk result HoldsRefusal }
     ensures kinds { IfErr result IsTransferFault }
     ensures untouched_memory { IsErrOf result Fault.Memory → out.new ≡ out.old }
@@ -258,6 +275,6 @@ pub fn transform_joined_with_notes<S: Source, W: Sink>(
     ensures defs_bounded { IfOk result (λ status. RefusesDefinitions status → S.reads input.new ≤ S.reads input.old + max_definitions + 17) }
 {
     *notes = Notes::none();
-    let outcome = outcome_joined(alloc, input, options, notes);
+    let outcome = outcome_joined(alloc, input, options, registry, notes);
     finish(alloc, outcome, out)
 }

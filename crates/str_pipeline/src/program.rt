@@ -1,14 +1,20 @@
 //! From the bytes of definitions to their program.
+ghost use Rattle.std.specs.Prelude.{ℕ, List, Contains, IfOk};
+ghost use Rattle.term_model.specs.Flat.{Meaning};
+ghost use Rattle.prim_registry.specs.Entries.{Covers};
+ghost use Rattle.str_pipeline.specs.Setting.{setting_of, setting_with};
 ghost use Rattle.str_pipeline.specs.Steps.{IsProgram};
 
 use crate::status::Options;
 use core_lang::Core;
+use prim_registry::{PrimMeaning, Registry};
 use scope_check::{Checked, Notes, check_with_notes};
 use std::alloc::Global;
 use str_desugar::to_core;
 use str_lexer::lex;
 use str_parser::parse;
-use term_model::Fault;
+use strategy_lib::with_library;
+use term_model::{Fault, PrimNames};
 
 /// A file in which nothing is wrong, and its core.
 #[derive(Drop)]
@@ -17,20 +23,41 @@ pub(crate) struct Program {
     pub(crate) core: Core,
 }
 
-/// Makes the program of a definition file, of which the definition that the options name is run. The fault is `Memory`, or the first of
-/// these: `Lexical` or `ReservedWord`, as `lex` says; `Syntax` or `Nesting`, as `parse` says; and what `check` finds in the file, of which
-/// the notes say more.
-pub(crate) fn program_of(
+/// Makes the program of a definition file with the library after it, where there are the primitives of the registry. As `program_with`.
+pub(crate) fn program_of<M: PrimMeaning>(
     alloc: Global,
     definitions: &[u8],
     options: &Options,
+    registry: &Registry<M>,
     notes: &mut Notes,
 ) -> Result<Program, Fault>
-    ensures { IsProgram options.now.main.items definitions.now result }
+    ensures program { IsProgram (setting_of M.answer registry.now options.now) definitions.now result }
+    ensures covers { IfOk result (λ program. Covers registry.now program.core.prims) }
+{
+    let primitives = registry.names(alloc)?;
+    let program = program_with(alloc, definitions, options, &primitives, notes)?;
+    Ok(program)
+}
+
+/// Makes the program of a definition file with the library after it, of which the definition that the options name is run. The fault is
+/// `Memory`, or the first of these: `Lexical` or `ReservedWord`, as `lex` says; `Syntax` or `Nesting`, as `parse` says; and what `check`
+/// finds in the file with the library, of which the notes say more.
+fn program_with(
+    alloc: Global,
+    definitions: &[u8],
+    options: &Options,
+    primitives: &PrimNames,
+    notes: &mut Notes,
+) -> Result<Program, Fault>
+    ensures program { (M : Meaning) → IsProgram (setting_with M primitives.now options.now) definitions.now result }
+    ensures known { IfOk result (λ program. (name : List ℕ) (k : ℕ) → Contains program.core.prims (name, k) → Contains primitives.now (name, k)) }
 {
     let tokens = lex(alloc, definitions)?;
     let file = parse(alloc, definitions, &tokens)?;
-    let checked = check_with_notes(alloc, file, &options.main, notes)?;
+    let file = with_library(alloc, file)?;
+    let checked = check_with_notes(alloc, file, primitives, &options.main, notes)?;
     let core = to_core(alloc, &checked)?;
+    // For its contract: these are the primitives that occur in the core.
+    let _ = core.prims();
     Ok(Program { checked, core })
 }

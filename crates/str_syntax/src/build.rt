@@ -1,4 +1,4 @@
-//! The parts that definitions of a library are made of. No name that is made here stands in a file: its offset is 0.
+//! Trees made of their parts. Where a call is given the bytes of a name, the name stands in no file: its offset is 0.
 ghost use Rattle.std.specs.Prelude.{◌≡◌, IfOk};
 ghost use Rattle.str_syntax.specs.Trees as trees;
 ghost use Rattle.str_syntax.specs.Views.{arguments_of, definition_of, head_of, parameters_of, pattern_of, primary_of, rule_of, sequence_of, step_of, strategy_of, optional_strategy_of};

@@ -6,8 +6,6 @@ pub mod build;
 mod copy;
 pub mod definition;
 mod same_sort;
-#[cfg(test)]
-mod samples;
 pub mod sort;
 pub mod strategy;
 #[cfg(test)]

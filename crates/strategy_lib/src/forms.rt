@@ -15,15 +15,15 @@ use str_syntax::{
 // The name of the parameter of each definition.
 const PARAMETER: &[u8] = b"s";
 
-// Makes the strategy that this primary alone is.
-pub fn alone(primary: Box<Primary>) -> Strategy
+/// Makes the strategy that this primary alone is.
+pub(crate) fn alone(primary: Box<Primary>) -> Strategy
     ensures { strategy_of result ≡ forms.alone (primary_of primary.value) }
 {
     Strategy::Sequence(Sequence::Last(Step::Plain(primary)))
 }
 
-// Makes the strategy `first; second`.
-pub fn sequence(
+/// Makes the strategy `first; second`.
+pub(crate) fn sequence(
     alloc: Global,
     first: Box<Primary>,
     second: Box<Primary>,
@@ -34,8 +34,8 @@ pub fn sequence(
     Ok(Strategy::Sequence(Sequence::Then(Step::Plain(first), rest)))
 }
 
-// Makes the strategy `first <+ second`.
-pub fn left_choice(
+/// Makes the strategy `first <+ second`.
+pub(crate) fn left_choice(
     alloc: Global,
     first: Box<Primary>,
     second: Box<Primary>,
@@ -46,16 +46,16 @@ pub fn left_choice(
     Ok(Strategy::LeftChoice(Sequence::Last(Step::Plain(first)), other))
 }
 
-// Makes `id`.
-pub fn identity(alloc: Global) -> Result<Box<Primary>, AllocError>
+/// Makes `id`.
+pub(crate) fn identity(alloc: Global) -> Result<Box<Primary>, AllocError>
     ensures { IfOk result (λ made. primary_of made.value ≡ trees.identity) }
 {
     let made = Box::new(alloc, Primary::Id)?;
     Ok(made)
 }
 
-// Makes `all(part)`.
-pub fn all(alloc: Global, part: Box<Primary>) -> Result<Box<Primary>, AllocError>
+/// Makes `all(part)`.
+pub(crate) fn all(alloc: Global, part: Box<Primary>) -> Result<Box<Primary>, AllocError>
     ensures { IfOk result (λ made. primary_of made.value ≡ forms.all (primary_of part.value)) }
 {
     let part = Box::new(alloc, alone(part))?;
@@ -63,8 +63,8 @@ pub fn all(alloc: Global, part: Box<Primary>) -> Result<Box<Primary>, AllocError
     Ok(made)
 }
 
-// Makes `one(part)`.
-pub fn one(alloc: Global, part: Box<Primary>) -> Result<Box<Primary>, AllocError>
+/// Makes `one(part)`.
+pub(crate) fn one(alloc: Global, part: Box<Primary>) -> Result<Box<Primary>, AllocError>
     ensures { IfOk result (λ made. primary_of made.value ≡ forms.one (primary_of part.value)) }
 {
     let part = Box::new(alloc, alone(part))?;
@@ -72,8 +72,8 @@ pub fn one(alloc: Global, part: Box<Primary>) -> Result<Box<Primary>, AllocError
     Ok(made)
 }
 
-// Makes the call of this name with this argument.
-pub fn called(alloc: Global, name: &[u8], argument: Strategy) -> Result<Box<Primary>, AllocError>
+/// Makes the call of this name with this argument.
+pub(crate) fn called(alloc: Global, name: &[u8], argument: Strategy) -> Result<Box<Primary>, AllocError>
     ensures { IfOk result (λ made. primary_of made.value ≡ forms.called name.now (strategy_of argument)) }
 {
     let arguments = Arguments::Strategies(vec![in alloc; argument]?);
@@ -81,31 +81,31 @@ pub fn called(alloc: Global, name: &[u8], argument: Strategy) -> Result<Box<Prim
     Ok(made)
 }
 
-// Makes `s`.
-pub fn parameter(alloc: Global) -> Result<Box<Primary>, AllocError>
+/// Makes `s`.
+pub(crate) fn parameter(alloc: Global) -> Result<Box<Primary>, AllocError>
     ensures { IfOk result (λ made. primary_of made.value ≡ forms.s) }
 {
     let made = Box::new(alloc, build::call(alloc, PARAMETER, Arguments::Absent)?)?;
     Ok(made)
 }
 
-// Makes the call of this name with the argument `s`.
-pub fn with_parameter(alloc: Global, name: &[u8]) -> Result<Box<Primary>, AllocError>
+/// Makes the call of this name with the argument `s`.
+pub(crate) fn with_parameter(alloc: Global, name: &[u8]) -> Result<Box<Primary>, AllocError>
     ensures { IfOk result (λ made. primary_of made.value ≡ forms.with_s name.now) }
 {
     called(alloc, name, alone(parameter(alloc)?))
 }
 
-// Makes `[]`.
-pub fn empty_list(alloc: Global) -> Result<Box<Primary>, AllocError>
+/// Makes `[]`.
+pub(crate) fn empty_list(alloc: Global) -> Result<Box<Primary>, AllocError>
     ensures { IfOk result (λ made. primary_of made.value ≡ forms.empty_list) }
 {
     let made = Box::new(alloc, Primary::ListCongruence(Vec::new(alloc), None))?;
     Ok(made)
 }
 
-// Makes `[first | rest]`.
-pub fn list_of(
+/// Makes `[first | rest]`.
+pub(crate) fn list_of(
     alloc: Global,
     first: Box<Primary>,
     rest: Box<Primary>,
@@ -118,8 +118,8 @@ pub fn list_of(
     Ok(made)
 }
 
-// Makes the definition of the library with this name, the parameter `s` and this body.
-pub fn definition(alloc: Global, name: &[u8], body: Strategy) -> Result<Definition, AllocError>
+/// Makes the definition of the library with this name, the parameter `s` and this body.
+pub(crate) fn definition(alloc: Global, name: &[u8], body: Strategy) -> Result<Definition, AllocError>
     ensures { IfOk result (λ made. top_of made ≡ forms.from origins.Library (forms.◌≔◌ name.now (strategy_of body))) }
 {
     let body = Box::new(alloc, body)?;

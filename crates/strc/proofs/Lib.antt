@@ -1,4 +1,5 @@
 pub mod CauseLaws
 pub mod PrefixLaws
+pub mod PrimitiveLaws
 pub mod RequestLaws
 pub mod RulesLaws

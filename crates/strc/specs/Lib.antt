@@ -1,3 +1,4 @@
 pub mod Report
 pub mod Request
 pub mod Rules
+pub mod Primitives

@@ -3,6 +3,7 @@
 #![tactic(auto)]
 
 mod paths;
+mod primitives;
 mod program;
 mod report;
 mod request;
@@ -11,11 +12,11 @@ mod tests;
 mod words;
 
 use paths::Files;
-use program::run;
+use primitives::run_standard;
 use std::io;
 use std::process::ExitCode;
 use str_pipeline::Counted;
-use words::{refuse, words_of};
+use words::words_of;
 
 fn main(rt: HostRuntime) -> ExitCode {
     let stdout = rt.stdout();
@@ -23,14 +24,10 @@ fn main(rt: HostRuntime) -> ExitCode {
     let mut input = Counted::new(rt.reader());
     let mut out = Counted::new(io::writer(&stdout));
     let mut diagnostics = Counted::new(io::writer(&stderr));
-    let words = match words_of(&rt) {
-        Ok(words) => words,
-        Err(error) => return ExitCode::from(refuse(error.kind(), &mut diagnostics)),
-    };
     let mut files = Files::new(&rt);
-    let status = run(
+    let status = run_standard(
         rt.alloc(),
-        &words,
+        &words_of(&rt),
         &mut files,
         &mut input,
         &mut out,

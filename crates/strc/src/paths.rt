@@ -12,7 +12,7 @@ pub trait Paths {
     /// What an opened file is read through.
     type Reader: Source + Drop;
 
-    /// Opens the file at this path, to be read from its beginning. The fault is `Read`, where it cannot be opened, and `Memory`.
+    /// Opens the file at this path, to be read from its beginning. The fault is `Read` where it cannot be opened, or `Memory`.
     fn open(&mut self, path: &str) -> Result<Self::Reader, Fault>
         ensures { IfErr result IsReadingFault };
 }

@@ -4,7 +4,9 @@ ghost use Rattle.term_model.specs.declared.fault.Fault.{Fault};
 ghost use Rattle.term_model.specs.Limits.{max_budget};
 ghost use Rattle.str_pipeline.specs.declared.status.Options.{Options};
 ghost use Rattle.str_pipeline.specs.declared.status.Status.{Status};
+ghost use Rattle.prim_registry.specs.Entries.{IsHonest};
 ghost use Rattle.str_pipeline.specs.Joined.{IsSplit};
+ghost use Rattle.str_pipeline.specs.Setting.{setting_of};
 ghost use Rattle.str_pipeline.specs.Written.{HasWritten, HasBegun};
 ghost use Rattle.str_pipeline.specs.Faults.{HoldsRefusal, IsTransferFault};
 ghost use Rattle.str_pipeline.specs.Limits.{max_definitions, max_term};
@@ -17,6 +19,7 @@ use crate::report::{report, report_refusal};
 use crate::request::{Texts, options_of, request_of};
 use clap::Error;
 use clap::error::ErrorKind;
+use prim_registry::{PrimMeaning, Registry};
 use scope_check::Notes;
 use std::alloc::Global;
 use str_pipeline::{
@@ -53,17 +56,19 @@ fn conclude<E: Sink>(alloc: Global, status: Status, notes: &Notes, diagnostics: 
 
 /// Does the work where both texts come from `input`, in the joined form.
 #[tactic(auto, using(crate::proofs::CauseLaws::cause))]
-fn run_joined<I: Source, W: Sink, E: Sink>(
+fn run_joined<I: Source, W: Sink, E: Sink, M: PrimMeaning>(
     alloc: Global,
     input: &mut I,
     options: &Options,
+    registry: &Registry<M>,
     out: &mut W,
     diagnostics: &mut E,
 ) -> u8
-    requires { options.now.budget ≤ max_budget }
+    requires budget { options.now.budget ≤ max_budget }
+    requires honest { IsHonest M.answer registry.now }
     ensures status { result ≤ 4 }
     ensures ended { result < 4 → (status : Status) × (exit_of status ≡ result) × HoldsRefusal status
-        × IfSome (I.coming input.old) (λ told. (d t : List ℕ) → IsSplit told d t → HasWritten d t options.now status (W.written out.old) (W.written out.new))
+        × IfSome (I.coming input.old) (λ told. (d t : List ℕ) → IsSplit told d t → HasWritten d t (setting_of M.answer registry.now options.now) status (W.written out.old) (W.written out.new))
         × IsReported status (E.failed_writes diagnostics.old) (E.failed_writes diagnostics.new) (E.written diagnostics.old) (E.written diagnostics.new) }
     ensures stopped { result ≡ 4 → (fault : Fault)
         × IsCause (record { before = I.failed_reads input.old; after = I.failed_reads input.new })
@@ -71,13 +76,13 @@ fn run_joined<I: Source, W: Sink, E: Sink>(
         × Tells fault (E.failed_writes diagnostics.old) (E.failed_writes diagnostics.new) (E.written diagnostics.old) (E.written diagnostics.new) }
     ensures unwritten { result ≡ 4 → W.failed_writes out.new ≡ W.failed_writes out.old → out.new ≡ out.old }
     ensures begun { W.failed_writes out.old < W.failed_writes out.new →
-        IfSome (I.coming input.old) (λ told. (d t : List ℕ) → IsSplit told d t → HasBegun d t options.now (W.written out.old) (W.written out.new)) }
+        IfSome (I.coming input.old) (λ told. (d t : List ℕ) → IsSplit told d t → HasBegun d t (setting_of M.answer registry.now options.now) (W.written out.old) (W.written out.new)) }
     ensures read_failed { I.failed_reads input.old < I.failed_reads input.new → result ≡ 4 }
     ensures write_failed { W.failed_writes out.old < W.failed_writes out.new → result ≡ 4 }
     ensures bounded { I.reads input.new ≤ I.reads input.old + max_definitions + 17 + max_term + 1 }
 {
     let mut notes = Notes::none();
-    match transform_joined_with_notes(alloc, input, options, &mut notes, out) {
+    match transform_joined_with_notes(alloc, input, options, registry, &mut notes, out) {
         Ok(status) => conclude(alloc, status, &notes, diagnostics),
         Err(fault) => stop(&fault, diagnostics),
     }
@@ -85,18 +90,20 @@ fn run_joined<I: Source, W: Sink, E: Sink>(
 
 /// Does the work over one reader for each of the texts.
 #[tactic(auto, using(crate::proofs::CauseLaws::cause))]
-fn run_apart<D: Source, T: Source, W: Sink, E: Sink>(
+fn run_apart<D: Source, T: Source, W: Sink, E: Sink, M: PrimMeaning>(
     alloc: Global,
     definitions: &mut D,
     term: &mut T,
     options: &Options,
+    registry: &Registry<M>,
     out: &mut W,
     diagnostics: &mut E,
 ) -> u8
-    requires { options.now.budget ≤ max_budget }
+    requires budget { options.now.budget ≤ max_budget }
+    requires honest { IsHonest M.answer registry.now }
     ensures status { result ≤ 4 }
     ensures ended { result < 4 → (status : Status) × (exit_of status ≡ result) × HoldsRefusal status
-        × IfSome (D.coming definitions.old) (λ d. IfSome (T.coming term.old) (λ t. HasWritten d t options.now status (W.written out.old) (W.written out.new)))
+        × IfSome (D.coming definitions.old) (λ d. IfSome (T.coming term.old) (λ t. HasWritten d t (setting_of M.answer registry.now options.now) status (W.written out.old) (W.written out.new)))
         × IsReported status (E.failed_writes diagnostics.old) (E.failed_writes diagnostics.new) (E.written diagnostics.old) (E.written diagnostics.new) }
     ensures stopped { result ≡ 4 → (fault : Fault)
         × IsCause (record { before = D.failed_reads definitions.old + T.failed_reads term.old; after = D.failed_reads definitions.new + T.failed_reads term.new })
@@ -104,14 +111,14 @@ fn run_apart<D: Source, T: Source, W: Sink, E: Sink>(
         × Tells fault (E.failed_writes diagnostics.old) (E.failed_writes diagnostics.new) (E.written diagnostics.old) (E.written diagnostics.new) }
     ensures unwritten { result ≡ 4 → W.failed_writes out.new ≡ W.failed_writes out.old → out.new ≡ out.old }
     ensures begun { W.failed_writes out.old < W.failed_writes out.new →
-        IfSome (D.coming definitions.old) (λ d. IfSome (T.coming term.old) (λ t. HasBegun d t options.now (W.written out.old) (W.written out.new))) }
+        IfSome (D.coming definitions.old) (λ d. IfSome (T.coming term.old) (λ t. HasBegun d t (setting_of M.answer registry.now options.now) (W.written out.old) (W.written out.new))) }
     ensures read_failed { D.failed_reads definitions.old + T.failed_reads term.old < D.failed_reads definitions.new + T.failed_reads term.new → result ≡ 4 }
     ensures write_failed { W.failed_writes out.old < W.failed_writes out.new → result ≡ 4 }
     ensures definitions_bounded { D.reads definitions.new ≤ D.reads definitions.old + max_definitions + 1 }
     ensures term_bounded { T.reads term.new ≤ T.reads term.old + max_term + 1 }
 {
     let mut notes = Notes::none();
-    match transform_with_notes(alloc, definitions, term, options, &mut notes, out) {
+    match transform_with_notes(alloc, definitions, term, options, registry, &mut notes, out) {
         Ok(status) => conclude(alloc, status, &notes, diagnostics),
         Err(fault) => stop(&fault, diagnostics),
     }
@@ -119,16 +126,18 @@ fn run_apart<D: Source, T: Source, W: Sink, E: Sink>(
 
 /// Does the work with two files, of which that of the definitions is opened first.
 #[tactic(auto, using(crate::proofs::CauseLaws::of_transfer, crate::proofs::CauseLaws::of_reading))]
-fn run_files<P: Paths, W: Sink, E: Sink>(
+fn run_files<P: Paths, W: Sink, E: Sink, M: PrimMeaning>(
     alloc: Global,
     paths: &mut P,
     definitions: &str,
     term: &str,
     options: &Options,
+    registry: &Registry<M>,
     out: &mut W,
     diagnostics: &mut E,
 ) -> u8
-    requires { options.now.budget ≤ max_budget }
+    requires budget { options.now.budget ≤ max_budget }
+    requires honest { IsHonest M.answer registry.now }
     ensures status { result ≤ 4 }
     ensures ended { result < 4 → (status : Status) × (exit_of status ≡ result) × HoldsRefusal status
         × IsReported status (E.failed_writes diagnostics.old) (E.failed_writes diagnostics.new) (E.written diagnostics.old) (E.written diagnostics.new) }
@@ -150,6 +159,7 @@ fn run_files<P: Paths, W: Sink, E: Sink>(
         &mut definitions,
         &mut term,
         options,
+        registry,
         out,
         diagnostics,
     )
@@ -157,26 +167,28 @@ fn run_files<P: Paths, W: Sink, E: Sink>(
 
 /// Does the work with the texts that come from these places. A file that cannot be opened is a fault before anything is read.
 #[tactic(auto, using(crate::proofs::CauseLaws::of_transfer, crate::proofs::CauseLaws::of_reading))]
-fn run_texts<P: Paths, I: Source, W: Sink, E: Sink>(
+fn run_texts<P: Paths, I: Source, W: Sink, E: Sink, M: PrimMeaning>(
     alloc: Global,
     texts: Texts<'_>,
     paths: &mut P,
     input: &mut I,
     options: &Options,
+    registry: &Registry<M>,
     out: &mut W,
     diagnostics: &mut E,
 ) -> u8
-    requires { options.now.budget ≤ max_budget }
+    requires budget { options.now.budget ≤ max_budget }
+    requires honest { IsHonest M.answer registry.now }
     ensures status { result ≤ 4 }
     ensures joined_ended { texts.entry ≡ Joined → result < 4 → (status : Status) × (exit_of status ≡ result) × HoldsRefusal status
-        × IfSome (I.coming input.old) (λ told. (d t : List ℕ) → IsSplit told d t → HasWritten d t options.now status (W.written out.old) (W.written out.new))
+        × IfSome (I.coming input.old) (λ told. (d t : List ℕ) → IsSplit told d t → HasWritten d t (setting_of M.answer registry.now options.now) status (W.written out.old) (W.written out.new))
         × IsReported status (E.failed_writes diagnostics.old) (E.failed_writes diagnostics.new) (E.written diagnostics.old) (E.written diagnostics.new) }
     ensures joined_stopped { texts.entry ≡ Joined → result ≡ 4 → (fault : Fault)
         × IsCause (record { before = I.failed_reads input.old; after = I.failed_reads input.new })
         (record { before = W.failed_writes out.old; after = W.failed_writes out.new }) fault
         × Tells fault (E.failed_writes diagnostics.old) (E.failed_writes diagnostics.new) (E.written diagnostics.old) (E.written diagnostics.new) }
     ensures joined_begun { texts.entry ≡ Joined → W.failed_writes out.old < W.failed_writes out.new →
-        IfSome (I.coming input.old) (λ told. (d t : List ℕ) → IsSplit told d t → HasBegun d t options.now (W.written out.old) (W.written out.new)) }
+        IfSome (I.coming input.old) (λ told. (d t : List ℕ) → IsSplit told d t → HasBegun d t (setting_of M.answer registry.now options.now) (W.written out.old) (W.written out.new)) }
     ensures ended { result < 4 → (status : Status) × (exit_of status ≡ result) × HoldsRefusal status
         × IsReported status (E.failed_writes diagnostics.old) (E.failed_writes diagnostics.new) (E.written diagnostics.old) (E.written diagnostics.new) }
     ensures stopped { result ≡ 4 → (fault : Fault) × IsTransferFault fault
@@ -187,16 +199,33 @@ fn run_texts<P: Paths, I: Source, W: Sink, E: Sink>(
     ensures bounded { I.reads input.new ≤ I.reads input.old + max_definitions + 17 + max_term + 1 }
 {
     match texts {
-        Texts::Joined => run_joined(alloc, input, options, out, diagnostics),
+        Texts::Joined => run_joined(alloc, input, options, registry, out, diagnostics),
         Texts::Definitions(path) => {
             let mut definitions = match paths.open(path) {
                 Ok(definitions) => definitions,
                 Err(fault) => return stop(&fault, diagnostics),
             };
-            run_apart(alloc, &mut definitions, input, options, out, diagnostics)
+            run_apart(
+                alloc,
+                &mut definitions,
+                input,
+                options,
+                registry,
+                out,
+                diagnostics,
+            )
         }
         Texts::Both(first, second) => {
-            run_files(alloc, paths, first, second, options, out, diagnostics)
+            run_files(
+                alloc,
+                paths,
+                first,
+                second,
+                options,
+                registry,
+                out,
+                diagnostics,
+            )
         }
     }
 }
@@ -229,8 +258,8 @@ fn explain<W: Sink, E: Sink>(alloc: Global, error: &Error, out: &mut W, diagnost
 
 /// Does what the words of the command line ask for, of which the first is the name of the program: `[--rules N] [--main NAME] [--strict]
 /// [DEFS [TERM]]`. It transforms the definitions of the file DEFS and the term of the file TERM; without TERM the term comes from `input`,
-/// and without both paths the joined form does. The line of the answer goes to `out`. Files are opened before anything is read, DEFS
-/// first.
+/// and without both paths the joined form does. Definitions may call the primitives of the registry and the strategies of the library. The
+/// line of the answer goes to `out`. Files are opened before anything is read, DEFS first.
 ///
 /// Returns the exit status: 0 where the term was rewritten, and for the help text and the version, which go to `out`; 1 where the strategy
 /// failed, 2 where the definitions or the term were refused, 3 where the budget was spent or a term was too large, 4 where memory, opening,
@@ -240,14 +269,16 @@ fn explain<W: Sink, E: Sink>(alloc: Global, error: &Error, out: &mut W, diagnost
 /// failed, `Write` exactly where a write to `out` failed, and `Memory` else. Where the checks refuse the definitions, a second line names
 /// what is at fault, with the byte of the definitions at which it stands; it is left out where memory for it is refused. For 5 it tells
 /// what is wrong with the words and how the help text is had. A write to `diagnostics` that fails changes nothing.
-pub fn run<P: Paths, I: Source, W: Sink, E: Sink>(
+pub fn run<P: Paths, I: Source, W: Sink, E: Sink, M: PrimMeaning>(
     alloc: Global,
     words: &[String],
+    registry: &Registry<M>,
     paths: &mut P,
     input: &mut I,
     out: &mut W,
     diagnostics: &mut E,
 ) -> u8
+    requires honest { IsHonest M.answer registry.now }
     ensures status { result ≤ 5 }
     ensures usage { result ≡ 5 → (out.new ≡ out.old) × (input.new ≡ input.old) }
     ensures stopped { result ≡ 4 → (fault : Fault) × IsTransferFault fault
@@ -257,14 +288,14 @@ pub fn run<P: Paths, I: Source, W: Sink, E: Sink>(
     ensures bounded { I.reads input.new ≤ I.reads input.old + max_definitions + 17 + max_term + 1 }
     ensures plain_status { length words.now ≤ 1 → result ≤ 4 }
     ensures plain_ended { length words.now ≤ 1 → result < 4 → (options : Options) × (status : Status) × ArePlain options × (exit_of status ≡ result) × HoldsRefusal status
-        × IfSome (I.coming input.old) (λ told. (d t : List ℕ) → IsSplit told d t → HasWritten d t options status (W.written out.old) (W.written out.new))
+        × IfSome (I.coming input.old) (λ told. (d t : List ℕ) → IsSplit told d t → HasWritten d t (setting_of M.answer registry.now options) status (W.written out.old) (W.written out.new))
         × IsReported status (E.failed_writes diagnostics.old) (E.failed_writes diagnostics.new) (E.written diagnostics.old) (E.written diagnostics.new) }
     ensures plain_stopped { length words.now ≤ 1 → result ≡ 4 → (fault : Fault)
         × IsCause (record { before = I.failed_reads input.old; after = I.failed_reads input.new })
         (record { before = W.failed_writes out.old; after = W.failed_writes out.new }) fault
         × Tells fault (E.failed_writes diagnostics.old) (E.failed_writes diagnostics.new) (E.written diagnostics.old) (E.written diagnostics.new) }
     ensures plain_begun { length words.now ≤ 1 → W.failed_writes out.old < W.failed_writes out.new → (options : Options) × ArePlain options
-        × IfSome (I.coming input.old) (λ told. (d t : List ℕ) → IsSplit told d t → HasBegun d t options (W.written out.old) (W.written out.new)) }
+        × IfSome (I.coming input.old) (λ told. (d t : List ℕ) → IsSplit told d t → HasBegun d t (setting_of M.answer registry.now options) (W.written out.old) (W.written out.new)) }
     ensures plain_read_failed { length words.now ≤ 1 → I.failed_reads input.old < I.failed_reads input.new → result ≡ 4 }
 {
     let request = match request_of(alloc, words) {
@@ -280,6 +311,7 @@ pub fn run<P: Paths, I: Source, W: Sink, E: Sink>(
         paths,
         input,
         &options,
+        registry,
         out,
         diagnostics,
     )

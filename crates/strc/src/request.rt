@@ -40,6 +40,9 @@ const EXAMPLES: &str = "\
 Without TERM the text of the term is standard input. Without both paths standard input has the definitions,
 a line '#term' and the text of the term.
 
+Definitions may call the library (try, repeat, topdown, bottomup, oncetd, oncebu, alltd, innermost, map) and, by
+prim(\"name\", ..), the primitives add, sub, mul, div, mod, less, concat, length, explode, implode, int_text and text_int.
+
 Examples:
   strc rules.str term.trm
   strc rules.str < term.trm

@@ -1,5 +1,7 @@
 //! The words of the command line, as the system gives them.
 ghost use Rattle.std.specs.Prelude.{◌≡◌, ◌⊎◌};
+ghost use Rattle.term_model.specs.declared.fault.Fault.TheVariants.{Memory};
+ghost use Rattle.strc.specs.Report.{Tells};
 
 use crate::program::stop;
 use std::env;
@@ -19,7 +21,8 @@ pub(crate) fn words_of(runtime: &HostRuntime) -> io::Result<Vec<String>> {
 
 /// Tells why there are no words, and returns the exit status: 5 where one is no text, and else 4.
 pub(crate) fn refuse<E: Sink>(kind: ErrorKind, diagnostics: &mut E) -> u8
-    ensures { (result ≡ 4) ⊎ (result ≡ 5) }
+    ensures status { (result ≡ 4) ⊎ (result ≡ 5) }
+    ensures told { result ≡ 4 → Tells Memory (E.failed_writes diagnostics.old) (E.failed_writes diagnostics.new) (E.written diagnostics.old) (E.written diagnostics.new) }
 {
     if kind != ErrorKind::InvalidData {
         return stop(&Fault::Memory, diagnostics);

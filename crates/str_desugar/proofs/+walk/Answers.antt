@@ -2,7 +2,7 @@ use Rattle.std.proofs.Common.{◌∷◌, [], List, map, drop, ◌+◌, ◌≡◌
 use Rattle.std.proofs.lemmas.List.{map-append, take_all}
 use Rattle.std.specs.Result.{IfOk}
 use Rattle.core_lang.specs.Named.{written}
-use Rattle.core_lang.specs.Program.{call, no_patterns, seq, with_definitions}
+use Rattle.core_lang.specs.Program.{call, no_patterns, primitive, seq, with_definitions}
 use Rattle.core_lang.specs.Resolved.{ResolvedStrategy}
 use Rattle.core_lang.specs.Views as views
 use Rattle.core_lang.proofs.ReadLaws as core_reads
@@ -122,6 +122,15 @@ call::call-returns-in_ok-made-in-WithTerms t c =
     call_made c.in_ok-names-in-WithTerms.names c.in_ok-count-in-WithTerms.count _ s (results_among D 0 ps) _ _ _ c.if-count-eq0.false c.in_ok-names-in-WithTerms.ensures (from_none _ _ _ c.new-items.ensures.items items) last c.in_ok-made-in-WithTerms.ensures ∙
     ap (λ n. strategy_at F (call_after n (results_among D 0 ps) s)) count ∙
     sym (ap (λ a. strategy_at F (primary_core D (trees.call c.args.name.now a))) (ap arguments_of c.in-WithTerms.is ∙ reads_all_arguments c.in-WithTerms.sources c.in-WithTerms.terms))
+
+pub primitive::primitive-returns : goal.primitive::primitive-returns
+primitive::primitive-returns t c =
+    let F = layers_of c.args.scopes.now in
+    let D = arity_known c.args.context.now.signature.now in
+    let ps = patterns_of c.args.terms.now in
+    let s = primitive c.args.name.now (built_parts 0 ps) in
+    call_made c.in_ok-names.names c.in_ok-count.count _ s (results_among D 0 ps) _ _ _ c.if-count-eq0.false c.in_ok-names.ensures (from_none _ _ _ c.new-items.ensures.items c.in_ok-results_in.ensures.items) c.in_ok-last.ensures c.in_ok-made.ensures ∙
+    ap (λ n. strategy_at F (call_after n (results_among D 0 ps) s)) c.in_ok-count.ensures
 
 pub call::called_with-returns : goal.call::called_with-returns
 call::called_with-returns t c =

@@ -102,7 +102,7 @@ pub(super) const FORMS: &[TextRow] = &[
     ("main = [!0 | id]", "[1,2,3]", "[0,2,3]", Some(17)),
     ("main = [!0 | id]", "[]", "#failed", Some(4)),
     (
-        "map(s) = [] <+ [s | map(s)] main = map(\\ x -> (x, x) \\)",
+        "each(s) = [] <+ [s | each(s)] main = each(\\ x -> (x, x) \\)",
         "[1,2]",
         "[(1,1),(2,2)]",
         Some(49),

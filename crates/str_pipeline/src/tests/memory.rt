@@ -1,10 +1,12 @@
 //! Whole runs over the readers and writers of std in memory.
 ghost use Rattle.std.specs.Prelude.{◌≤◌, IfOk};
-ghost use Rattle.term_model.specs.Flat.{Meaning};
+ghost use Rattle.prim_registry.specs.Entries.{IsHonest};
 ghost use Rattle.term_model.specs.Limits.{max_budget};
+ghost use Rattle.str_pipeline.specs.Setting.{setting_of};
 ghost use Rattle.str_pipeline.specs.Written.{IsWritten};
 
 use crate::{Counted, MAX_BUDGET, Options, Status, transform};
+use prim_registry::{PrimMeaning, Registry, Standard};
 use std::alloc::Global;
 use std::test::Fail;
 use term_model::Fault;
@@ -16,17 +18,24 @@ struct Answer {
     line: Vec<u8>,
 }
 
-/// Transforms texts in memory: the line and the status are those of the definitions, the term and
-/// the options.
+/// Transforms texts in memory: the line and the status are those of the definitions, the term, the
+/// options and the primitives of the registry.
 #[tactic(auto, using(crate::proofs::MemoryLaws::written_whole))]
-fn transformed(alloc: Global, defs: &[u8], term: &[u8], options: &Options) -> Result<Answer, Fault>
-    requires { options.now.budget ≤ max_budget }
-    ensures { IfOk result (λ answer. (M : Meaning) → IsWritten M defs.now term.now options.now answer.status answer.line.items) }
+fn transformed<M: PrimMeaning>(
+    alloc: Global,
+    defs: &[u8],
+    term: &[u8],
+    options: &Options,
+    registry: &Registry<M>,
+) -> Result<Answer, Fault>
+    requires budget { options.now.budget ≤ max_budget }
+    requires honest { IsHonest M.answer registry.now }
+    ensures { IfOk result (λ answer. IsWritten defs.now term.now (setting_of M.answer registry.now options.now) answer.status answer.line.items) }
 {
     let mut first = Counted::new(defs);
     let mut second = Counted::new(term);
     let mut out = Counted::new(Vec::new(alloc));
-    let status = transform(alloc, &mut first, &mut second, options, &mut out)?;
+    let status = transform(alloc, &mut first, &mut second, options, registry, &mut out)?;
     Ok(Answer {
         status,
         line: out.into_inner(),
@@ -60,13 +69,20 @@ fn texts_in_memory(rt: HostRuntime) -> Result<(), Fail> {
             "#refused UnknownStrategy\n",
         ),
     ];
+    let registry = Registry::<Standard>::new(rt.alloc());
     for (defs, term, budget, line) in rows {
         let options = Options {
             main: b"main".to_vec(rt.alloc())?,
             strict: false,
             budget: budget.min(MAX_BUDGET),
         };
-        let answer = transformed(rt.alloc(), defs.as_bytes(), term.as_bytes(), &options)?;
+        let answer = transformed(
+            rt.alloc(),
+            defs.as_bytes(),
+            term.as_bytes(),
+            &options,
+            &registry,
+        )?;
         assert_eq!(rt; answer.line.as_slice(), line.as_bytes());
         assert_eq!(rt;
             matches!(answer.status, Status::Rewritten),

@@ -1,14 +1,17 @@
 //! Whole runs, from bytes to bytes.
 ghost use Rattle.std.specs.Prelude.{◌≡◌, ◌≤◌, IfOk};
+ghost use Rattle.prim_registry.specs.Entries.{IsHonest};
 ghost use Rattle.term_model.specs.Limits.{max_budget};
 
 use crate::tests::complaints::{PARTS, Part};
 use crate::tests::forms::{FORMS, SIGNATURE};
 use crate::tests::language_rows::{CHECK_ROWS, LANGUAGE_ROWS};
+use crate::tests::library_rows::LIBRARY_ROWS;
 use crate::tests::option_rows::OPTION_ROWS;
-use crate::tests::rows::{JOINED_ROWS, Pieces, ROWS};
+use crate::tests::rows::{JOINED_ROWS, Pieces, ROWS, TextRow};
 use crate::tests::term_rows::TERM_ROWS;
 use crate::{Faulty, MAX_BUDGET, Options, Status, transform, transform_joined};
+use prim_registry::{PrimMeaning, Registry, Standard};
 use std::alloc::{AllocError, Global};
 use std::test::Fail;
 use term_model::Fault;
@@ -49,7 +52,7 @@ fn fits(status: &Status, line: &[u8]) -> bool {
 }
 
 /// Returns the options for a run of `main` within this budget.
-fn plain_options(alloc: Global, budget: u32) -> Result<Options, AllocError>
+pub(super) fn plain_options(alloc: Global, budget: u32) -> Result<Options, AllocError>
     ensures { IfOk result (λ options. options.budget ≡ budget) }
 {
     Ok(Options {
@@ -60,11 +63,19 @@ fn plain_options(alloc: Global, budget: u32) -> Result<Options, AllocError>
 }
 
 /// Whether definitions and a term give this line within the budget, in both forms.
-fn gives(alloc: Global, defs: &[u8], term: &[u8], budget: u32, line: &[u8]) -> Result<bool, Fault>
-    requires { budget ≤ max_budget }
+fn gives(
+    alloc: Global,
+    defs: &[u8],
+    term: &[u8],
+    budget: u32,
+    registry: &Registry<Standard>,
+    line: &[u8],
+) -> Result<bool, Fault>
+    requires budget { budget ≤ max_budget }
+    requires honest { IsHonest ⟦<Standard as PrimMeaning>⟧.answer registry.now }
 {
     let options = plain_options(alloc, budget)?;
-    gives_with(alloc, defs, term, &options, line)
+    gives_with(alloc, defs, term, &options, registry, line)
 }
 
 /// Whether definitions and a term give this line with these options, in both forms.
@@ -73,19 +84,21 @@ fn gives_with(
     defs: &[u8],
     term: &[u8],
     options: &Options,
+    registry: &Registry<Standard>,
     line: &[u8],
 ) -> Result<bool, Fault>
-    requires { options.now.budget ≤ max_budget }
+    requires budget { options.now.budget ≤ max_budget }
+    requires honest { IsHonest ⟦<Standard as PrimMeaning>⟧.answer registry.now }
 {
     let mut out = Faulty::writer(alloc, ROOM, PIECE, None, false)?;
     let mut first = Faulty::reader(defs.to_vec(alloc)?, PIECE, None);
     let mut second = Faulty::reader(term.to_vec(alloc)?, PIECE, None);
-    let status = transform(alloc, &mut first, &mut second, options, &mut out)?;
+    let status = transform(alloc, &mut first, &mut second, options, registry, &mut out)?;
     let is_apart = fits(&status, line) && out.written() == line;
     let mut text = defs.to_vec(alloc)?;
     text.extend_from_slice(b"\n#term\n")?;
     text.extend_from_slice(term)?;
-    Ok(is_apart && gives_joined(alloc, &text, PIECE, options, line)?)
+    Ok(is_apart && gives_joined(alloc, &text, PIECE, options, registry, line)?)
 }
 
 fn gives_joined(
@@ -93,14 +106,16 @@ fn gives_joined(
     text: &[u8],
     piece: usize,
     options: &Options,
+    registry: &Registry<Standard>,
     line: &[u8],
 ) -> Result<bool, Fault>
     requires piece { 1 ≤ piece }
     requires budget { options.now.budget ≤ max_budget }
+    requires honest { IsHonest ⟦<Standard as PrimMeaning>⟧.answer registry.now }
 {
     let mut out = Faulty::writer(alloc, ROOM, PIECE, None, false)?;
     let mut input = Faulty::reader(text.to_vec(alloc)?, piece, None);
-    let status = transform_joined(alloc, &mut input, options, &mut out)?;
+    let status = transform_joined(alloc, &mut input, options, registry, &mut out)?;
     Ok(fits(&status, line) && out.written() == line)
 }
 
@@ -110,28 +125,56 @@ fn takes(
     defs: &[u8],
     term: &[u8],
     rules: Option<u32>,
+    registry: &Registry<Standard>,
     line: &[u8],
-) -> Result<bool, Fault> {
-    let is_line = gives(alloc, defs, term, MAX_BUDGET, line)?;
+) -> Result<bool, Fault>
+    requires { IsHonest ⟦<Standard as PrimMeaning>⟧.answer registry.now }
+{
+    let is_line = gives(alloc, defs, term, MAX_BUDGET, registry, line)?;
     let Some(rules) = rules else {
         return Ok(is_line);
     };
     let rules = rules.min(MAX_BUDGET);
-    let is_enough = gives(alloc, defs, term, rules, line)?;
-    let is_spent = gives(alloc, defs, term, rules.saturating_sub(1), b"#spent\n")?;
-    let is_begun = gives(alloc, defs, term, 0, b"#spent\n")?;
+    let is_enough = gives(alloc, defs, term, rules, registry, line)?;
+    let is_spent = gives(
+        alloc,
+        defs,
+        term,
+        rules.saturating_sub(1),
+        registry,
+        b"#spent\n",
+    )?;
+    let is_begun = gives(alloc, defs, term, 0, registry, b"#spent\n")?;
     Ok(is_line && is_enough && is_spent && is_begun)
+}
+
+/// Whether definitions, of which this is the front, and a term do as a row says.
+pub(super) fn is_met(
+    alloc: Global,
+    front: &str,
+    row: &TextRow,
+    registry: &Registry<Standard>,
+) -> Result<bool, Fault>
+    requires { IsHonest ⟦<Standard as PrimMeaning>⟧.answer registry.now }
+{
+    let (definitions, term, line, rules) = row;
+    let mut defs = front.as_bytes().to_vec(alloc)?;
+    defs.extend_from_slice(definitions.as_bytes())?;
+    let mut text = line.as_bytes().to_vec(alloc)?;
+    text.push(b'\n')?;
+    takes(alloc, &defs, term.as_bytes(), *rules, registry, &text)
 }
 
 #[test]
 fn rows(rt: HostRuntime) -> Result<(), Fail> {
     let alloc = rt.alloc();
+    let registry = Registry::<Standard>::new(alloc);
     for (index, row) in ROWS.iter().chain(TERM_ROWS).enumerate() {
         let defs = text_of(alloc, row.defs)?;
         let term = text_of(alloc, row.term)?;
         let line = line_of(alloc, row.line)?;
         assert!(rt;
-            takes(alloc, &defs, &term, row.rules, &line)?,
+            takes(alloc, &defs, &term, row.rules, &registry, &line)?,
             "row {index}"
         );
     }
@@ -141,15 +184,20 @@ fn rows(rt: HostRuntime) -> Result<(), Fail> {
 #[test]
 fn text_rows(rt: HostRuntime) -> Result<(), Fail> {
     let alloc = rt.alloc();
-    for (front, rows) in [("", LANGUAGE_ROWS), ("", CHECK_ROWS), (SIGNATURE, FORMS)] {
-        for (definitions, term, line, rules) in rows {
-            let mut defs = front.as_bytes().to_vec(alloc)?;
-            defs.extend_from_slice(definitions.as_bytes())?;
-            let mut text = line.as_bytes().to_vec(alloc)?;
-            text.push(b'\n')?;
+    let registry = Registry::<Standard>::new(alloc);
+    let tables = [
+        ("", LANGUAGE_ROWS),
+        ("", CHECK_ROWS),
+        ("", LIBRARY_ROWS),
+        (SIGNATURE, FORMS),
+    ];
+    for (front, rows) in tables {
+        for row in rows {
             assert!(rt;
-                takes(alloc, &defs, term.as_bytes(), *rules, &text)?,
-                "{definitions} on {term}"
+                is_met(alloc, front, row, &registry)?,
+                "{} on {}",
+                row.0,
+                row.1
             );
         }
     }
@@ -173,6 +221,7 @@ fn file_with(alloc: Global, first: &Part, second: &Part) -> Result<Vec<u8>, Allo
 #[test]
 fn the_least_complaint(rt: HostRuntime) -> Result<(), Fail> {
     let alloc = rt.alloc();
+    let registry = Registry::<Standard>::new(alloc);
     for (index, part) in PARTS.iter().enumerate() {
         let mut line = b"#refused ".to_vec(alloc)?;
         line.extend_from_slice(part.word.as_bytes())?;
@@ -181,7 +230,7 @@ fn the_least_complaint(rt: HostRuntime) -> Result<(), Fail> {
             for (first, second) in [(part, other), (other, part)] {
                 let file = file_with(alloc, first, second)?;
                 assert!(rt;
-                    gives(alloc, &file, b"1", MAX_BUDGET, &line)?,
+                    gives(alloc, &file, b"1", MAX_BUDGET, &registry, &line)?,
                     "{} {}",
                     first.word,
                     second.word
@@ -196,20 +245,21 @@ fn the_least_complaint(rt: HostRuntime) -> Result<(), Fail> {
 fn joined_rows(rt: HostRuntime) -> Result<(), Fail> {
     let alloc = rt.alloc();
     let options = plain_options(alloc, MAX_BUDGET)?;
+    let registry = Registry::<Standard>::new(alloc);
     for (index, row) in JOINED_ROWS.iter().enumerate() {
         let text = text_of(alloc, row.text)?;
         let line = line_of(alloc, row.line)?;
         assert!(rt;
-            gives_joined(alloc, &text, PIECE, &options, &line)?,
+            gives_joined(alloc, &text, PIECE, &options, &registry, &line)?,
             "row {index}"
         );
         if text.len() < PIECE {
             assert!(rt;
-                gives_joined(alloc, &text, 1, &options, &line)?,
+                gives_joined(alloc, &text, 1, &options, &registry, &line)?,
                 "row {index} by 1"
             );
             assert!(rt;
-                gives_joined(alloc, &text, 7, &options, &line)?,
+                gives_joined(alloc, &text, 7, &options, &registry, &line)?,
                 "row {index} by 7"
             );
         }
@@ -220,6 +270,7 @@ fn joined_rows(rt: HostRuntime) -> Result<(), Fail> {
 #[test]
 fn option_rows(rt: HostRuntime) -> Result<(), Fail> {
     let alloc = rt.alloc();
+    let registry = Registry::<Standard>::new(alloc);
     for (defs, term, main, strict, budget, line) in OPTION_ROWS {
         let options = Options {
             main: main.as_bytes().to_vec(alloc)?,
@@ -229,7 +280,14 @@ fn option_rows(rt: HostRuntime) -> Result<(), Fail> {
         let mut text = line.as_bytes().to_vec(alloc)?;
         text.push(b'\n')?;
         assert!(rt;
-            gives_with(alloc, defs.as_bytes(), term.as_bytes(), &options, &text)?,
+            gives_with(
+                alloc,
+                defs.as_bytes(),
+                term.as_bytes(),
+                &options,
+                &registry,
+                &text
+            )?,
             "{main} of {defs} on {term}"
         );
     }
@@ -240,6 +298,7 @@ fn option_rows(rt: HostRuntime) -> Result<(), Fail> {
 fn failing_readers(rt: HostRuntime) -> Result<(), Fail> {
     let alloc = rt.alloc();
     let options = plain_options(alloc, MAX_BUDGET)?;
+    let registry = Registry::<Standard>::new(alloc);
     let defs = b"strategies main = ?(x,_); !x";
     let term = b"(7,f(1))";
     let joined = b"strategies main = ?(x,_); !x\n#term\n(7,f(1))";
@@ -247,7 +306,14 @@ fn failing_readers(rt: HostRuntime) -> Result<(), Fail> {
         let mut out = Faulty::writer(alloc, ROOM, PIECE, None, false)?;
         let mut first = Faulty::reader(defs.to_vec(alloc)?, 1, Some(bad));
         let mut second = Faulty::reader(term.to_vec(alloc)?, 1, None);
-        let answer = transform(alloc, &mut first, &mut second, &options, &mut out);
+        let answer = transform(
+            alloc,
+            &mut first,
+            &mut second,
+            &options,
+            &registry,
+            &mut out,
+        );
         assert_eq!(rt;
             matches!(answer, Err(Fault::Read)),
             bad <= defs.len() as u64 + 1
@@ -256,14 +322,21 @@ fn failing_readers(rt: HostRuntime) -> Result<(), Fail> {
         let mut first = Faulty::reader(defs.to_vec(alloc)?, 1, None);
         let mut second = Faulty::reader(term.to_vec(alloc)?, 1, Some(bad));
         let mut out = Faulty::writer(alloc, ROOM, PIECE, None, false)?;
-        let answer = transform(alloc, &mut first, &mut second, &options, &mut out);
+        let answer = transform(
+            alloc,
+            &mut first,
+            &mut second,
+            &options,
+            &registry,
+            &mut out,
+        );
         let is_bad = bad <= term.len() as u64 + 1;
         assert_eq!(rt; matches!(answer, Err(Fault::Read)), is_bad);
         assert_eq!(rt; out.written().is_empty(), is_bad);
 
         let mut input = Faulty::reader(joined.to_vec(alloc)?, 1, Some(bad));
         let mut out = Faulty::writer(alloc, ROOM, PIECE, None, false)?;
-        let answer = transform_joined(alloc, &mut input, &options, &mut out);
+        let answer = transform_joined(alloc, &mut input, &options, &registry, &mut out);
         let is_bad = bad <= joined.len() as u64 + 1;
         assert_eq!(rt; matches!(answer, Err(Fault::Read)), is_bad);
         assert_eq!(rt; out.written().is_empty(), is_bad);
@@ -275,6 +348,7 @@ fn failing_readers(rt: HostRuntime) -> Result<(), Fail> {
 fn refused_definitions_leave_the_term(rt: HostRuntime) -> Result<(), Fail> {
     let alloc = rt.alloc();
     let options = plain_options(alloc, MAX_BUDGET)?;
+    let registry = Registry::<Standard>::new(alloc);
     for (defs, line) in [
         ("strategies main = #", b"#refused Lexical\n".as_slice()),
         ("strategies main = id;", b"#refused Syntax\n".as_slice()),
@@ -288,7 +362,14 @@ fn refused_definitions_leave_the_term(rt: HostRuntime) -> Result<(), Fail> {
         let mut first = Faulty::reader(defs.as_bytes().to_vec(alloc)?, 9, None);
         let mut second = Faulty::reader(b"1".to_vec(alloc)?, 9, Some(1));
         let mut out = Faulty::writer(alloc, ROOM, 1, None, false)?;
-        let answer = transform(alloc, &mut first, &mut second, &options, &mut out);
+        let answer = transform(
+            alloc,
+            &mut first,
+            &mut second,
+            &options,
+            &registry,
+            &mut out,
+        );
         assert!(rt; matches!(answer, Ok(Status::Refused(_))), "{defs}");
         assert_eq!(rt; out.written(), line);
     }
@@ -299,6 +380,7 @@ fn refused_definitions_leave_the_term(rt: HostRuntime) -> Result<(), Fail> {
 fn failing_writers(rt: HostRuntime) -> Result<(), Fail> {
     let alloc = rt.alloc();
     let options = plain_options(alloc, MAX_BUDGET)?;
+    let registry = Registry::<Standard>::new(alloc);
     let line = b"f(1)\n";
     for bad in 1..8u64 {
         let silent = bad % 2 == 0;
@@ -307,14 +389,21 @@ fn failing_writers(rt: HostRuntime) -> Result<(), Fail> {
         let mut first = Faulty::reader(b"strategies main = ?(_,x); !x".to_vec(alloc)?, 9, None);
         let mut second = Faulty::reader(b"(7,f(1))".to_vec(alloc)?, 9, None);
         let mut out = Faulty::writer(alloc, ROOM, 1, Some(bad), silent)?;
-        let answer = transform(alloc, &mut first, &mut second, &options, &mut out);
+        let answer = transform(
+            alloc,
+            &mut first,
+            &mut second,
+            &options,
+            &registry,
+            &mut out,
+        );
         assert_eq!(rt; matches!(answer, Err(Fault::Write)), is_bad);
         assert_eq!(rt; out.written(), &line[..wrote]);
 
         let text = b"strategies main = ?(_,x); !x\n#term\n(7,f(1))";
         let mut input = Faulty::reader(text.to_vec(alloc)?, 9, None);
         let mut out = Faulty::writer(alloc, ROOM, 1, Some(bad), silent)?;
-        let answer = transform_joined(alloc, &mut input, &options, &mut out);
+        let answer = transform_joined(alloc, &mut input, &options, &registry, &mut out);
         assert_eq!(rt; matches!(answer, Err(Fault::Write)), is_bad);
         assert_eq!(rt; out.written(), &line[..wrote]);
     }

@@ -38,6 +38,11 @@ fn runs(rt: HostRuntime) -> Result<(), Fail> {
             "strc: TermSyntax at byte 3\n",
         ),
         ("strc first.str", "8", 1, "#failed\n", ""),
+        ("strc sum.str", "(2,3)", 0, "5\n", ""),
+        ("strc sum.str", "(2147483647,1)", 1, "#failed\n", ""),
+        ("strc lists.str", "[1,-2]", 0, "[2,-1]\n", ""),
+        ("strc lists.str", "[1,a]", 0, "[1,a]\n", ""),
+        ("strc --main up lists.str", "[1,a]", 1, "#failed\n", ""),
         (
             "strc bad.str bad.trm",
             "",
@@ -101,6 +106,8 @@ fn help(rt: HostRuntime) -> Result<(), Fail> {
         "--rules <N> ",
         "--main <NAME> ",
         "--strict ",
+        "\nDefinitions may call the library (try, repeat, ",
+        "\nprim(\"name\", ..), the primitives add, sub, ",
         "\n  strc rules.str term.trm\n",
         "\n  5  the command line is wrong\n",
     ] {

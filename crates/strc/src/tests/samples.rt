@@ -2,18 +2,23 @@
 ghost use Rattle.std.specs.Prelude.{◌≤◌, IfSome};
 
 use crate::paths::Paths;
-use crate::program::run;
+use crate::primitives::run_standard;
 use std::alloc::{AllocError, Global};
 use str_pipeline::Faulty;
 use term_model::Fault;
 
 /// The files: path and text.
-const FILES: [(&str, &str); 6] = [
+const FILES: [(&str, &str); 8] = [
     ("id.str", "strategies main = id"),
     ("first.str", "strategies main = ?(x,_); !x go = id"),
     (
         "signed.str",
         "signature constructors F : T -> T strategies main = ?F(x); !x",
+    ),
+    ("sum.str", "strategies main = ?(x, y); prim(\"add\", x, y)"),
+    (
+        "lists.str",
+        "strategies up = map(\\ x -> <prim(\"add\", x, 1)> \\) main = try(up)",
     ),
     ("bad.str", "strategies main = foo"),
     ("pair.trm", "(7,f(1))"),
@@ -72,12 +77,12 @@ pub(super) fn run_on(
     requires write { IfSome bad_write (λ n. 1 ≤ n) }
     requires diagnostic { IfSome bad_diagnostic (λ n. 1 ≤ n) }
 {
-    let words = words_of(alloc, line)?;
+    let words = Ok(words_of(alloc, line)?);
     let mut input = Faulty::reader(input.to_vec(alloc)?, 5, bad_read);
     let mut out = Faulty::writer(alloc, 4096, 3, bad_write, false)?;
     let mut diagnostics = Faulty::writer(alloc, 4096, 3, bad_diagnostic, false)?;
     let mut paths = Shelf { alloc };
-    let status = run(
+    let status = run_standard(
         alloc,
         &words,
         &mut paths,

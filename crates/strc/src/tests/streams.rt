@@ -111,6 +111,10 @@ fn places_of_refusals(rt: HostRuntime) -> Result<(), Fail> {
             "strc: UnknownPrimitive\nprimitive a?b with 1 term is unknown\n",
         ),
         (
+            "strategies main = prim(\"add\", 1)\n#term\n1",
+            "strc: UnknownPrimitive\nprimitive add with 1 term is unknown\n",
+        ),
+        (
             "strategies f = id\n#term\n1",
             "strc: NoMain\nstrategy main without parameters is not defined\n",
         ),

@@ -1,9 +1,9 @@
 use Rattle.std.proofs.Common.{◌≡◌, drop, map}
 use Rattle.str_syntax.specs.Views.{top_of}
 use Rattle.scope_check.specs.Found.{joined, found_in_tops}
-use Rattle.scope_check.specs.Tables.{layers_of}
+use Rattle.scope_check.specs.Tables.{layers_of, known_of}
 use Rattle.scope_check.proofs.tops.tops.Given as goal
 
 abbrev pub invariant-loop-one : goal.invariant-loop-one
 invariant-loop-one l =
-    joined l.found (found_in_tops l.signature (layers_of l.layers) (map top_of (drop l.one-index l.all))) ≡ found_in_tops l.signature (layers_of l.layers) (map top_of l.all)
+    joined l.found (found_in_tops (known_of l.known) (layers_of l.layers) (map top_of (drop l.one-index l.all))) ≡ found_in_tops (known_of l.known) (layers_of l.layers) (map top_of l.all)

@@ -46,4 +46,4 @@ returns c =
     program_resolved f main all _ _
     (reduced f main _ _ c.signature.result.now (read_forms c.as_slice-forms.result.now) _ _
     c.signature.ensures.checked c.signature.ensures.signature forms (c.in_ok-name.ensures ∙ c.main.ensures.main) keys c.position.ensures)
-    c.new-2.result.main (views.definitions_of c.new-2.result.defs) (c.unwrap-main.ensures ∙ ap (λ i. Some i) (sym c.new-2.ensures.main)) (ap views.definitions_of c.new-2.ensures.definitions ∙ c.in_ok-defs.ensures)
+    c.in_ok-core.core.main (views.definitions_of c.in_ok-core.core.defs) (c.unwrap-main.ensures ∙ ap (λ i. Some i) (sym c.in_ok-core.ensures.main)) (ap views.definitions_of c.in_ok-core.ensures.definitions ∙ c.in_ok-defs.ensures)

@@ -1,4 +1,4 @@
-use Rattle.std.proofs.Common.{◌≡◌, ◌∙◌, ◌+◌, Some, None, map, ap, sym, arith, length}
+use Rattle.std.proofs.Common.{◌∙◌, ◌+◌, Some, None, map, ap, arith}
 use Rattle.core_lang.specs.Named.{position_of, written}
 use Rattle.str_desugar.proofs.SlotLaws.{name_in, name_past, name_within}
 use Rattle.str_desugar.proofs.names.Hashed.position.Goals as goal

@@ -1,0 +1,22 @@
+// What a file is judged by.
+ghost use Rattle.std.specs.Prelude.{◌≡◌};
+ghost use Rattle.scope_check.specs.Primitives.{holds};
+
+use signature_core::Signature;
+use term_model::PrimNames;
+
+/// The constructors that a file declares, and the primitives that there are.
+#[derive(Clone, Copy)]
+pub(crate) struct Known<'a> {
+    pub(crate) signature: &'a Signature,
+    pub(crate) primitives: &'a PrimNames,
+}
+
+impl<'a> Known<'a> {
+    /// Whether there is a primitive of this name with this number of terms.
+    pub(crate) fn has_primitive(&self, name: &[u8], terms: usize) -> bool
+        ensures { result ≡ holds self.now.primitives.now name.now terms }
+    {
+        self.primitives.has(name, terms)
+    }
+}

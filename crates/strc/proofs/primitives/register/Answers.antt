@@ -1,0 +1,8 @@
+use Rattle.std.proofs.Common.{◌∙◌}
+use Rattle.strc.specs.Primitives.{key_of}
+use Rattle.strc.proofs.PrimitiveLaws.{memory_alone}
+use Rattle.strc.proofs.primitives.register.Goals as goal
+
+pub returns-clause-fault : goal.returns-clause-fault
+returns-clause-fault g c = memory_alone c.args.registry.now (key_of c.args.primitive).0 c.new.result.name c.register.result
+    (c.new.ensures.name ∙ c.in_ok-name.ensures.items_if_clones_equal (λ x y h. h) ∙ c.name.ensures) c.requires.fresh c.register.ensures.duplicate c.register.ensures.fault

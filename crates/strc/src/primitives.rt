@@ -1,0 +1,193 @@
+//! The standard primitives, and the program over a registry of them.
+ghost use Rattle.std.specs.Prelude.{◌≡◌, ◌+◌, ◌<◌, ◌≤◌, ◌++◌, ◌∷◌, ℕ, [], List, length, Contains, IfOk, IfErr, IfSome, IsOkAnd, OnOk};
+ghost use Rattle.term_model.specs.declared.fault.Fault.{Fault};
+ghost use Rattle.prim_registry.specs.Answers.{AnswersBy};
+ghost use Rattle.prim_registry.specs.Entries.{IsHonest, entries_of};
+ghost use Rattle.prim_registry.specs.Standard.{standard};
+ghost use Rattle.prim_registry.specs.Values.{answer_of, values_of};
+ghost use Rattle.str_pipeline.specs.declared.status.Options.{Options};
+ghost use Rattle.str_pipeline.specs.declared.status.Status.{Status};
+ghost use Rattle.str_pipeline.specs.Joined.{IsSplit};
+ghost use Rattle.str_pipeline.specs.Written.{HasWritten, HasBegun};
+ghost use Rattle.str_pipeline.specs.Faults.{HoldsRefusal, IsTransferFault};
+ghost use Rattle.str_pipeline.specs.Limits.{max_definitions, max_term};
+ghost use Rattle.strc.specs.Primitives.{key_of, names_of, standard_setting};
+ghost use Rattle.strc.specs.Report.{exit_of, IsCause, Tells, IsReported};
+ghost use Rattle.strc.specs.Request.{ArePlain};
+
+use crate::paths::Paths;
+use crate::program::{run, stop};
+use crate::words::refuse;
+use prim_registry::standard::{
+    add, concat, div, explode, implode, int_text, length, less, modulo, mul, sub, text_int,
+};
+use prim_registry::{Action, Flat, Prim, PrimMeaning, Registry, Standard};
+use std::alloc::{AllocError, Global};
+use std::io;
+use str_pipeline::{Sink, Source};
+use term_model::Fault;
+
+/// A standard primitive.
+#[derive(Clone, Copy)]
+enum StandardPrimitive {
+    Add,
+    Sub,
+    Mul,
+    Div,
+    Mod,
+    Less,
+    Concat,
+    Length,
+    Explode,
+    Implode,
+    IntText,
+    TextInt,
+}
+
+/// All of them, in the order in which they are registered.
+const STANDARD: [StandardPrimitive; 12] = [
+    StandardPrimitive::Add,
+    StandardPrimitive::Sub,
+    StandardPrimitive::Mul,
+    StandardPrimitive::Div,
+    StandardPrimitive::Mod,
+    StandardPrimitive::Less,
+    StandardPrimitive::Concat,
+    StandardPrimitive::Length,
+    StandardPrimitive::Explode,
+    StandardPrimitive::Implode,
+    StandardPrimitive::IntText,
+    StandardPrimitive::TextInt,
+];
+
+impl StandardPrimitive {
+    /// Returns the name.
+    fn name(self) -> &'static [u8]
+        ensures { result.now ≡ (key_of self).0 }
+    {
+        match self {
+            StandardPrimitive::Add => b"add",
+            StandardPrimitive::Sub => b"sub",
+            StandardPrimitive::Mul => b"mul",
+            StandardPrimitive::Div => b"div",
+            StandardPrimitive::Mod => b"mod",
+            StandardPrimitive::Less => b"less",
+            StandardPrimitive::Concat => b"concat",
+            StandardPrimitive::Length => b"length",
+            StandardPrimitive::Explode => b"explode",
+            StandardPrimitive::Implode => b"implode",
+            StandardPrimitive::IntText => b"int_text",
+            StandardPrimitive::TextInt => b"text_int",
+        }
+    }
+
+    /// Returns the number of arguments.
+    fn arity(self) -> usize
+        ensures { result ≡ (key_of self).1 }
+    {
+        match self {
+            StandardPrimitive::Add
+            | StandardPrimitive::Sub
+            | StandardPrimitive::Mul
+            | StandardPrimitive::Div
+            | StandardPrimitive::Mod
+            | StandardPrimitive::Less
+            | StandardPrimitive::Concat => 2,
+            StandardPrimitive::Length
+            | StandardPrimitive::Explode
+            | StandardPrimitive::Implode
+            | StandardPrimitive::IntText
+            | StandardPrimitive::TextInt => 1,
+        }
+    }
+
+    /// Returns what the primitive has for these arguments, and `AllocError` where memory for it is refused.
+    fn answer(self, alloc: Global, args: &[Flat]) -> Result<Option<Flat>, AllocError>
+        ensures { IfOk result (λ answer. answer_of answer ≡ standard (key_of self).0 (values_of args.now)) }
+    {
+        match self {
+            StandardPrimitive::Add => Ok(add(args)),
+            StandardPrimitive::Sub => Ok(sub(args)),
+            StandardPrimitive::Mul => Ok(mul(args)),
+            StandardPrimitive::Div => Ok(div(args)),
+            StandardPrimitive::Mod => Ok(modulo(args)),
+            StandardPrimitive::Less => Ok(less(args)),
+            StandardPrimitive::Concat => concat(alloc, args),
+            StandardPrimitive::Length => Ok(length(args)),
+            StandardPrimitive::Explode => explode(alloc, args),
+            StandardPrimitive::Implode => implode(alloc, args),
+            StandardPrimitive::IntText => int_text(alloc, args),
+            StandardPrimitive::TextInt => Ok(text_int(args)),
+        }
+    }
+}
+
+/// Registers a standard primitive, whose name the registry does not have, with its function. The fault is `Memory`.
+fn register(
+    alloc: Global,
+    registry: &mut Registry<Standard>,
+    primitive: StandardPrimitive,
+    action: Action,
+) -> Result<(), Fault>
+    requires honest { IsHonest ⟦<Standard as PrimMeaning>⟧.answer registry.old }
+    requires fresh { Contains (names_of (entries_of registry.old)) (key_of primitive).0 → ⊥ }
+    requires may_run { (args : _) → length args.now ≡ (key_of primitive).1 → Action.pre action args }
+    requires answers { AnswersBy (Action.post action) (key_of primitive).1 (standard (key_of primitive).0) }
+    ensures honest { IsHonest ⟦<Standard as PrimMeaning>⟧.answer registry.new }
+    ensures registered { OnOk result (entries_of registry.new ≡ entries_of registry.old ++ key_of primitive ∷ []) }
+    ensures fault { IfErr result (λ fault. fault ≡ Fault.Memory) }
+{
+    let name = primitive.name().to_vec(alloc)?;
+    registry.register(Prim::new(name, primitive.arity(), action))
+}
+
+/// Does as `run` does, over the twelve standard primitives. They are registered before the words of the command line are looked at; where
+/// memory for that is refused the fault is `Memory`. Where there are no words, that is reported on `diagnostics`, and the status is 5, or 4
+/// where memory was refused.
+pub fn run_standard<P: Paths, I: Source, W: Sink, E: Sink>(
+    alloc: Global,
+    words: &io::Result<Vec<String>>,
+    paths: &mut P,
+    input: &mut I,
+    out: &mut W,
+    diagnostics: &mut E,
+) -> u8
+    ensures status { result ≤ 5 }
+    ensures usage { result ≡ 5 → (out.new ≡ out.old) × (input.new ≡ input.old) }
+    ensures stopped { result ≡ 4 → (fault : Fault) × IsTransferFault fault
+        × Tells fault (E.failed_writes diagnostics.old) (E.failed_writes diagnostics.new) (E.written diagnostics.old) (E.written diagnostics.new) }
+    ensures unwritten { result ≡ 4 → W.failed_writes out.new ≡ W.failed_writes out.old → out.new ≡ out.old }
+    ensures write_failed { W.failed_writes out.old < W.failed_writes out.new → result ≡ 4 }
+    ensures bounded { I.reads input.new ≤ I.reads input.old + max_definitions + 17 + max_term + 1 }
+    ensures plain_status { IsOkAnd words.now (λ ws. length ws.items ≤ 1) → result ≤ 4 }
+    ensures plain_ended { IsOkAnd words.now (λ ws. length ws.items ≤ 1) → result < 4 → (options : Options) × (status : Status) × ArePlain options × (exit_of status ≡ result) × HoldsRefusal status
+        × IfSome (I.coming input.old) (λ told. (d t : List ℕ) → IsSplit told d t → HasWritten d t (standard_setting options) status (W.written out.old) (W.written out.new))
+        × IsReported status (E.failed_writes diagnostics.old) (E.failed_writes diagnostics.new) (E.written diagnostics.old) (E.written diagnostics.new) }
+    ensures plain_stopped { IsOkAnd words.now (λ ws. length ws.items ≤ 1) → result ≡ 4 → (fault : Fault)
+        × IsCause (record { before = I.failed_reads input.old; after = I.failed_reads input.new })
+        (record { before = W.failed_writes out.old; after = W.failed_writes out.new }) fault
+        × Tells fault (E.failed_writes diagnostics.old) (E.failed_writes diagnostics.new) (E.written diagnostics.old) (E.written diagnostics.new) }
+    ensures plain_begun { IsOkAnd words.now (λ ws. length ws.items ≤ 1) → W.failed_writes out.old < W.failed_writes out.new → (options : Options) × ArePlain options
+        × IfSome (I.coming input.old) (λ told. (d t : List ℕ) → IsSplit told d t → HasBegun d t (standard_setting options) (W.written out.old) (W.written out.new)) }
+    ensures plain_read_failed { IsOkAnd words.now (λ ws. length ws.items ≤ 1) → I.failed_reads input.old < I.failed_reads input.new → result ≡ 4 }
+{
+    let mut registry = Registry::<Standard>::new(alloc);
+    for primitive in STANDARD {
+        let boxed = Box::new(
+            alloc,
+            move |args: &[Flat]| -> Result<Option<Flat>, AllocError> {
+                primitive.answer(alloc, args)
+            },
+        );
+        let Ok(action) = boxed else {
+            return stop(&Fault::Memory, diagnostics);
+        };
+        if let Err(fault) = register(alloc, &mut registry, primitive, action) {
+            return stop(&fault, diagnostics);
+        }
+    }
+    match words {
+        Ok(words) => run(alloc, words, &registry, paths, input, out, diagnostics),
+        Err(error) => refuse(error.kind(), diagnostics),
+    }
+}

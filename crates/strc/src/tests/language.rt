@@ -1,0 +1,169 @@
+//! The examples of the page on the language that call primitives or the library.
+use crate::tests::samples::run_on;
+use std::alloc::Global;
+use std::test::Fail;
+
+/// Definitions of a file in which `down` takes one `Succ` away.
+const SAMPLE: &str = "\
+signature
+  constructors
+    Zero : Exp
+    Succ : Exp -> Exp
+    Plus : Exp * Exp -> Exp
+rules
+  down : Succ(x) -> x
+strategies
+";
+
+/// Whether these strategies of a file print this line for the term, and end with this status.
+fn prints(
+    alloc: Global,
+    strategies: &str,
+    term: &str,
+    line: &str,
+    status: u8,
+) -> Result<bool, Fail> {
+    let text = format!(in alloc; "{SAMPLE}{strategies}\n#term\n{term}")?;
+    let ran = run_on(alloc, "strc", text.as_bytes(), None, None, None)?;
+    let written = format!(in alloc; "{line}\n")?;
+    Ok(ran.status == status && ran.out.written() == written.as_bytes())
+}
+
+#[test]
+fn primitives(rt: HostRuntime) -> Result<(), Fail> {
+    let alloc = rt.alloc();
+    // the primitive with its arguments, a term that has them, what it answers
+    let rows = [
+        ("\"add\", x, y", "(2,3)", "5"),
+        ("\"sub\", x, y", "(2,3)", "-1"),
+        ("\"mul\", x, y", "(2,3)", "6"),
+        ("\"div\", x, y", "(7,-2)", "-3"),
+        ("\"mod\", x, y", "(7,-2)", "1"),
+        ("\"less\", x, y", "(2,3)", "2"),
+        ("\"concat\", x, y", "(\"ab\",\"c\")", "\"abc\""),
+        ("\"length\", x", "(\"abc\",0)", "3"),
+        ("\"explode\", x", "(\"AB\",0)", "[65,66]"),
+        ("\"implode\", x", "([65,66],0)", "\"AB\""),
+        ("\"int_text\", x", "(-7,0)", "\"-7\""),
+        ("\"text_int\", x", "(\"-007\",0)", "-7"),
+    ];
+    for (call, term, line) in rows {
+        let strategies = format!(in alloc; "main = ?(x, y); prim({call})")?;
+        assert!(rt;
+            prints(alloc, strategies.as_str(), term, line, 0)?,
+            "{call}"
+        );
+    }
+    // calls without an answer
+    let rows = [
+        ("\"add\", x, y", "(2147483647,1)"),
+        ("\"add\", x, y", "(1,\"2\")"),
+        ("\"add\", x, z", "(1,2)"),
+        ("\"div\", x, y", "(1,0)"),
+        ("\"mod\", x, y", "(1,0)"),
+        ("\"less\", x, y", "(3,3)"),
+        ("\"implode\", x", "([256],0)"),
+        ("\"text_int\", x", "(\"+7\",0)"),
+    ];
+    for (call, term) in rows {
+        let strategies = format!(in alloc; "main = ?(x, y); prim({call})")?;
+        assert!(rt;
+            prints(alloc, strategies.as_str(), term, "#failed", 1)?,
+            "{call}"
+        );
+    }
+    Ok(())
+}
+
+#[test]
+fn library(rt: HostRuntime) -> Result<(), Fail> {
+    let alloc = rt.alloc();
+    // the strategy, a term, its result
+    let rows = [
+        ("try(down)", "Zero", "Zero"),
+        ("repeat(down)", "Succ(Succ(Zero))", "Zero"),
+        (
+            "topdown(try(down))",
+            "Succ(Plus(Succ(1),Succ(Succ(2))))",
+            "Plus(1,Succ(2))",
+        ),
+        (
+            "bottomup(try(down))",
+            "Succ(Plus(Succ(1),Succ(Succ(2))))",
+            "Plus(1,2)",
+        ),
+        ("oncetd(down)", "Plus(Succ(1),Succ(2))", "Plus(1,Succ(2))"),
+        ("oncebu(down)", "Succ(Succ(Zero))", "Succ(Zero)"),
+        (
+            "alltd(down)",
+            "Plus(Succ(Succ(1)),Succ(2))",
+            "Plus(Succ(1),2)",
+        ),
+        (
+            "innermost(down)",
+            "Plus(Succ(Succ(1)),Succ(2))",
+            "Plus(1,2)",
+        ),
+        ("map(down)", "[Succ(1),Succ(2)]", "[1,2]"),
+        // a definition with other numbers of parameters is another one
+        ("try  try = down", "Succ(1)", "1"),
+        // and a local one may have any name
+        ("let map(s) = s in map(down) end", "Succ(1)", "1"),
+    ];
+    for (strategy, term, line) in rows {
+        let strategies = format!(in alloc; "main = {strategy}")?;
+        assert!(rt;
+            prints(alloc, strategies.as_str(), term, line, 0)?,
+            "{strategy}"
+        );
+    }
+    // strategies without a result
+    let rows = [
+        ("oncetd(down)", "Plus(1,2)"),
+        ("oncebu(down)", "Plus(1,2)"),
+        ("map(down)", "[Succ(1),2]"),
+        ("map(down)", "Plus(Succ(1),Succ(2))"),
+    ];
+    for (strategy, term) in rows {
+        let strategies = format!(in alloc; "main = {strategy}")?;
+        assert!(rt;
+            prints(alloc, strategies.as_str(), term, "#failed", 1)?,
+            "{strategy}"
+        );
+    }
+    Ok(())
+}
+
+#[test]
+fn refusals(rt: HostRuntime) -> Result<(), Fail> {
+    let alloc = rt.alloc();
+    // the file, what is told of it
+    let rows = [
+        (
+            "strategies main = prim(\"neg\", 1)",
+            "strc: UnknownPrimitive\nprimitive neg with 1 term is unknown\n",
+        ),
+        (
+            "strategies main = prim(\"add\", 1)",
+            "strc: UnknownPrimitive\nprimitive add with 1 term is unknown\n",
+        ),
+        (
+            "strategies try(s) = s main = id",
+            "strc: Clash\nstrategy try is a definition of the library at byte 11\n",
+        ),
+        (
+            "strategies try(t) = t main = id",
+            "strc: Parameters\nstrategy try has alternatives with other parameters at byte 11\n",
+        ),
+        (
+            "signature constructors map : T strategies main = id",
+            "strc: Clash\nname map is that of a declared constructor and of a strategy\n",
+        ),
+    ];
+    for (text, told) in rows {
+        let ran = run_on(alloc, "strc", text.as_bytes(), None, None, None)?;
+        assert_eq!(rt; ran.status, 2, "{text}");
+        assert_eq!(rt; ran.diagnostics.written(), told.as_bytes(), "{text}");
+    }
+    Ok(())
+}
