@@ -73,7 +73,11 @@ pub(crate) fn one(alloc: Global, part: Box<Primary>) -> Result<Box<Primary>, All
 }
 
 /// Makes the call of this name with this argument.
-pub(crate) fn called(alloc: Global, name: &[u8], argument: Strategy) -> Result<Box<Primary>, AllocError>
+pub(crate) fn called(
+    alloc: Global,
+    name: &[u8],
+    argument: Strategy,
+) -> Result<Box<Primary>, AllocError>
     ensures { IfOk result (λ made. primary_of made.value ≡ forms.called name.now (strategy_of argument)) }
 {
     let arguments = Arguments::Strategies(vec![in alloc; argument]?);
@@ -119,7 +123,11 @@ pub(crate) fn list_of(
 }
 
 /// Makes the definition of the library with this name, the parameter `s` and this body.
-pub(crate) fn definition(alloc: Global, name: &[u8], body: Strategy) -> Result<Definition, AllocError>
+pub(crate) fn definition(
+    alloc: Global,
+    name: &[u8],
+    body: Strategy,
+) -> Result<Definition, AllocError>
     ensures { IfOk result (λ made. top_of made ≡ forms.from origins.Library (forms.◌≔◌ name.now (strategy_of body))) }
 {
     let body = Box::new(alloc, body)?;
