@@ -9,7 +9,7 @@ pub mod LookupLaws
 pub mod Transport
 pub mod SettledTransport
 pub mod TriedLaws
-pub mod Settles
+pub mod GoingLaws
 pub mod RootLaws
 pub mod Naming
 pub mod NamingLaws

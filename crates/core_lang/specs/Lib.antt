@@ -3,9 +3,11 @@ pub mod Environment
 pub mod Matching
 pub mod Building
 pub mod Tried
+pub mod Roots
 pub mod Ending
 pub mod Derivation
 pub mod Settled
+pub mod Going
 pub mod Extension
 pub mod Named
 pub mod Resolved

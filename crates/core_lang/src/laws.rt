@@ -1,5 +1,5 @@
 //! Laws of the meaning: each function has no body, and its contract is the law.
-ghost use Rattle.std.specs.Prelude.{◌≡◌, ◌↔◌, ℕ, Option, Some, List, []};
+ghost use Rattle.std.specs.Prelude.{◌≡◌, ◌↔◌, ℕ, false, Option, Some, List, []};
 ghost use Rattle.core_lang.specs.Named.{NamedStrategy, NamedDefinitions, NamedEnvironment, Name, written, by_names, Rewrites};
 ghost use Rattle.core_lang.specs.Resolved.{ResolvedStrategy, ResolvedDefinitions, ResolvedEnvironment, by_coordinates, RewritesByCoordinates};
 ghost use Rattle.term_model.specs.Term.{Tree};
@@ -8,7 +8,8 @@ ghost use Rattle.core_lang.specs.Program.{Pattern, Strategy, Definitions, id};
 ghost use Rattle.core_lang.specs.Environment.{Environment, Bindings, Reading, outermost};
 ghost use Rattle.core_lang.specs.Matching.{Matches};
 ghost use Rattle.core_lang.specs.Tried.{tried};
-ghost use Rattle.core_lang.specs.Ending.{Ending, ok};
+ghost use Rattle.core_lang.specs.Roots.{Root, has_root, root_of, Begins};
+ghost use Rattle.core_lang.specs.Ending.{Ending, ok, failed};
 ghost use Rattle.core_lang.specs.Derivation.{Derives};
 ghost use Rattle.core_lang.specs.Settled.{Verdict, Settled};
 ghost use Rattle.core_lang.specs.Extension.{Extends};
@@ -56,6 +57,17 @@ pub fn budgets_settle<X, B>()
         (v : Verdict Tree) × (left : ℕ) × Settled R M V s t e budget v left }
     ensures named { (M : Meaning) (V : NamedEnvironment) (s : NamedStrategy) (t : Tree) (e : Bindings) (budget : ℕ) →
         (v : Verdict Tree) × (left : ℕ) × Settled by_names M V s t e budget v left }
+{}
+
+/// A pattern that asks for another root than a term has, be it another head or another number of parts, does not match
+/// it. A strategy that begins with such a pattern fails, by a number of nodes that depends on the strategy alone.
+pub fn other_roots_fail<X, B>()
+    ensures each_place { (place : X → Option ℕ) (p : Pattern X) (e e1 : Bindings) (t : Tree) →
+        has_root (root_of p) t ≡ false → Matches place p e t e1 → ⊥ }
+    ensures each_reading { (R : Reading X B) (M : Meaning) (V : Environment X B) (s : Strategy X B) (r : Root) (n : ℕ) (t : Tree) (e : Bindings) →
+        Begins s r n → has_root r t ≡ false → Derives R M V s t e failed n }
+    ensures named { (M : Meaning) (V : NamedEnvironment) (s : NamedStrategy) (r : Root) (n : ℕ) (t : Tree) (e : Bindings) →
+        Begins s r n → has_root r t ≡ false → Derives by_names M V s t e failed n }
 {}
 
 /// A derivation that is ok has the places that it began with, and each term that these held.

@@ -18,8 +18,9 @@ pub use examples::{
 };
 pub use laws::{
     budgets_settle, coordinates_keep_primitives, coordinates_stand_for_names,
-    derivations_keep_bindings, identity_keeps, matching_goes_left_to_right, outcomes_are_unique,
-    patterns_match_one_way, primitives_that_occur_decide, programs_in_range_have_names,
+    derivations_keep_bindings, identity_keeps, matching_goes_left_to_right, other_roots_fail,
+    outcomes_are_unique, patterns_match_one_way, primitives_that_occur_decide,
+    programs_in_range_have_names,
 };
 pub use program::{CoreArm, CoreDef, CorePattern, CoreStrategy};
 pub use run::{Outcome, Run};

@@ -1,4 +1,4 @@
-use Rattle.core_lang.proofs.Settles.{settles}
+use Rattle.core_lang.proofs.GoingLaws.{settles}
 use Rattle.core_lang.proofs.laws.budgets_settle.Goals as goal
 
 pub returns : goal.returns
