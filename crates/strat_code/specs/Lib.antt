@@ -1,0 +1,6 @@
+pub mod Code
+pub mod Context
+pub mod Renamed
+pub mod Ranges
+pub mod StandsFor
+pub mod Worked
