@@ -1,0 +1,9 @@
+pub mod TrailLaws
+pub mod BindingLaws
+pub mod Representation
+pub mod Landing
+pub mod Simulation
+pub mod RunLaws
+pub mod ReferenceLaws
+pub mod ReferenceSteps
+pub mod ReferencesLast
