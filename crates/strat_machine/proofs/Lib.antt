@@ -2,6 +2,13 @@ pub mod TrailLaws
 pub mod BindingLaws
 pub mod Representation
 pub mod Landing
+pub mod Simulates
+pub mod PlainRows
+pub mod ChoiceRows
+pub mod SelectRows
+pub mod ScopeRows
+pub mod CallRows
+pub mod TraversalRows
 pub mod Simulation
 pub mod RunLaws
 pub mod ReferenceLaws

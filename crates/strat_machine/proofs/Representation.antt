@@ -1,15 +1,15 @@
 -- How frames represent an environment.
 use Rattle.std.proofs.Common.{◌≡◌, ℕ, zero, suc, ◌+◌, ◌≤◌, ◌<◌, Option, Some, None, List, [], ◌∷◌, length, ◌++◌, refl, sym, ◌∙◌, ap, arith, subst}
-use Rattle.std.specs.Prelude.{Bool, true, false, slice_get}
+use Rattle.std.specs.Prelude.{true, false, slice_get}
 use Rattle.core_lang.specs.declared.coordinate.Coordinate.{Coordinate}
 use Rattle.core_lang.specs.Program.{id, fail, seq, choice, match, build, scope, all, one, some, with_definitions, call, primitive, no_definitions, more_definitions, strategies_count}
 use Rattle.core_lang.specs.Environment.{outermost, layer, definitions, no_closures, more_closures, closure, definition, closure_at, definition_at, handed_on, with_closure, closures_of}
 use Rattle.core_lang.specs.Resolved.{ResolvedStrategy, ResolvedStrategies, ResolvedDefinitions, ResolvedEnvironment, ResolvedClosures, ResolvedCallee, layers_up, place_in, callee_in, by_coordinates}
 use Rattle.core_lang.specs.InRange.{outside, IsVariable, IsDefinition, VariableInRange}
-use Rattle.strat_code.specs.Code.{Argument, Entry, entry_at, Instr, nodes_of, end_definition, end_argument, Code, At}
+use Rattle.strat_code.specs.Code.{Argument, Entry, entry_at, end_definition, end_argument, Code, At}
 use Rattle.strat_code.specs.Context.{Context, top, framed, within, defining, layers_of, outer, frames_in, slot_in, by_frames, HasParameter, HasDefinitions, HasOwnCode}
 use Rattle.strat_code.proofs.GrowthLaws.{got_in_front}
-use Rattle.strat_code.specs.Ranges.{Ranges, id_range, fail_range, seq_range, choice_range, else_range, select_range, match_range, build_range, scope_range, inner_range, all_range, one_range, some_range, let_range, let_jump_range, call_range, parameter_range, primitive_range, Bodies, no_bodies, more_bodies, roomy_bodies, Arguments, no_arguments, code_argument, parameter_argument}
+use Rattle.strat_code.specs.Ranges.{Ranges, Bodies, no_bodies, more_bodies, roomy_bodies, Arguments, no_arguments, code_argument, parameter_argument}
 use Rattle.strat_machine.specs.State.{Frame, frame, around, frames_up, place_of_frame, place_at, closure_or, closure_of_frame, closure_in, closed}
 use Rattle.strat_machine.proofs.TrailLaws.{if_less}
 
