@@ -6,7 +6,7 @@ use Rattle.core_lang.specs.Environment.{Bindings}
 use Rattle.core_lang.specs.Ending.{ok, failure, excess, stop}
 use Rattle.core_lang.specs.Settled.{Verdict, ends, spent}
 use Rattle.strat_code.specs.Code.{Instr, nodes_of, Code, At}
-use Rattle.strat_machine.specs.State.{Frame, Record, too_large, exhausted, State, running, failing, ended}
+use Rattle.strat_machine.specs.State.{Frame, Record, run_oversize, run_spent, State, running, failing, ended}
 use Rattle.strat_machine.specs.Step.{performed, effect, next, IsGoing, Steps, no_step, more_steps}
 use Rattle.core_lang.specs.Going.{IsEnd, IsHalt}
 use Rattle.strat_machine.specs.Trail.{Restores}
@@ -23,8 +23,8 @@ pub data Lands (code : Code) (M : Meaning) (to p : ℕ) (e : Bindings) (F : List
       k + 1 + 10 * c ≤ room → Lands code M to p e F T b K start room (ends (ok u f)) c
   lands_failed : {k c : ℕ} {f : Bindings} {G : List Frame} {U : List ℕ} (new : List ℕ) → Steps code M k start (failing f G U b K c) → U ≡ new ++ T → Restores b e new f → take (length F) G ≡ F →
       k + 1 + 10 * c ≤ room → Lands code M to p e F T b K start room (ends (stop failure)) c
-  lands_oversize : {k c : ℕ} → Steps code M k start (ended too_large c) → k + 1 + 10 * c ≤ room → Lands code M to p e F T b K start room (ends (stop excess)) c
-  lands_spent : {k l c : ℕ} → Steps code M k start (ended exhausted l) → k ≤ room + 1 → Lands code M to p e F T b K start room spent c
+  lands_oversize : {k c : ℕ} → Steps code M k start (ended run_oversize c) → k + 1 + 10 * c ≤ room → Lands code M to p e F T b K start room (ends (stop excess)) c
+  lands_spent : {k l c : ℕ} → Steps code M k start (ended run_spent l) → k ≤ room + 1 → Lands code M to p e F T b K start room spent c
 
 module _ {code : Code} {M : Meaning} where
   pub steps_then : {k n : ℕ} {m m1 m2 : State} → Steps code M k m m1 → Steps code M n m1 m2 → Steps code M (k + n) m m2
@@ -38,14 +38,14 @@ module _ {code : Code} {M : Meaning} where
   pub paid_step : {i p l : ℕ} (rest : ℕ) {v : Instr} {t : Tree} {e : Bindings} {F : List Frame} {T : List ℕ} {b : ℕ} {K : List Record} → At code i v → l ≡ nodes_of v + rest →
       Steps code M 1 (running i p t e F T b K l) (effect M v i p t e F T b K rest)
   paid_step {i} {p} {l} rest {v} {t} {e} {F} {T} {b} {K} at h = one_step (running i p t e F T b K l) (effect M v i p t e F T b K rest) tt
-      (ap (λ o. performed M o i p t e F T b K l) at ∙ if_more (ended exhausted l) (effect M v i p t e F T b K (l - nodes_of v)) l (nodes_of v) (omega arith)
+      (ap (λ o. performed M o i p t e F T b K l) at ∙ if_more (ended run_spent l) (effect M v i p t e F T b K (l - nodes_of v)) l (nodes_of v) (omega arith)
       ∙ ap (λ r. effect M v i p t e F T b K r) (let q : l - nodes_of v ≡ rest = omega arith in q))
 
   -- or the budget is spent
   pub spent_step : {i p l : ℕ} {v : Instr} {t : Tree} {e : Bindings} {F : List Frame} {T : List ℕ} {b : ℕ} {K : List Record} → At code i v → l < nodes_of v →
-      Steps code M 1 (running i p t e F T b K l) (ended exhausted l)
-  spent_step {i} {p} {l} {v} {t} {e} {F} {T} {b} {K} at h = one_step (running i p t e F T b K l) (ended exhausted l) tt
-      (ap (λ o. performed M o i p t e F T b K l) at ∙ if_less (ended exhausted l) (effect M v i p t e F T b K (l - nodes_of v)) l (nodes_of v) h)
+      Steps code M 1 (running i p t e F T b K l) (ended run_spent l)
+  spent_step {i} {p} {l} {v} {t} {e} {F} {T} {b} {K} at h = one_step (running i p t e F T b K l) (ended run_spent l) tt
+      (ap (λ o. performed M o i p t e F T b K l) at ∙ if_less (ended run_spent l) (effect M v i p t e F T b K (l - nodes_of v)) l (nodes_of v) h)
 
   -- with more room
   pub wider : {to p : ℕ} {e : Bindings} {F : List Frame} {T : List ℕ} {b : ℕ} {K : List Record} {start : State} {r : ℕ} {q : Verdict Tree} {c : ℕ} (room : ℕ) → r ≤ room →

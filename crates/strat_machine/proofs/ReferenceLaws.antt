@@ -2,7 +2,9 @@
 use Rattle.std.proofs.Common.{◌≡◌, ℕ, zero, suc, ◌≤◌, ◌<◌, Option, Some, None, List, [], ◌∷◌, length, take, ◌++◌, refl, sym, ◌∙◌, ap, arith, subst, length-append}
 use Rattle.std.specs.Prelude.{nat_lt, if◌then◌else◌, slice_get}
 use Rattle.strat_machine.specs.Binding.{cleared, undone, above, down_to, with_term}
-use Rattle.strat_machine.specs.References.{Space, Places, RefRecord, AllPlaces, Binds, binds_none, binds_one, Kept, Covered, nothing_covered, call_covered, all_covered, choice_covered, one_covered, some_covered}
+use Rattle.strat_machine.specs.Space.{Space}
+use Rattle.strat_machine.specs.References.{Places, RefRecord, AllPlaces, Binds, binds_none, binds_one}
+use Rattle.strat_machine.specs.Marks.{Kept, Covered, nothing_covered, call_covered, all_covered, choice_covered, one_covered, some_covered}
 use Rattle.strat_machine.proofs.TrailLaws.{take_cleared, take_undone, undone_append, take_less, if_less, if_more}
 use Rattle.strat_machine.proofs.Landing.{append_assoc}
 

@@ -7,9 +7,12 @@ use Rattle.term_model.specs.Flat.{Meaning}
 use Rattle.core_lang.specs.Environment.{Bindings, empty_places, filled_places}
 use Rattle.strat_code.specs.Code.{Case, Instr, Code, nodes_of}
 use Rattle.strat_machine.specs.Binding.{cleared, undone, above, down_to, trimmed}
-use Rattle.strat_machine.specs.State.{Frame, frame, saved, Record, call_record, choice_record, exhausted, stuck, running, failing, ended, frames_up, closed}
+use Rattle.strat_machine.specs.State.{Frame, frame, saved, Record, call_record, choice_record, run_spent, stuck, running, failing, ended, frames_up, closed}
 use Rattle.strat_machine.specs.Step.{on_all, on_one, on_some, called_with, selected, cut_to, goes_on, matched, left, returned, effect, performed, next, IsGoing, Steps, no_step, more_steps}
-use Rattle.strat_machine.specs.References.{Space, Places, RefRecord, ref_call, ref_choice, ref_all, ref_one, ref_some, RefState, ref_running, ref_failing, trees, record_tree, state_tree, AllPlaces, AllRefs, OfRecord, OfRecords, Grows, IsMark, GoesBack, Binds, Does, counts, gives_up_so, jumps, matches, matches_not, builds, builds_none, builds_too_large, answers, answers_none, answers_too_large, enters, leaves, leaves_low, extends, shrinks, shrinks_low, calls_closure, ends_argument, ends_definition, ends_definition_low, tries, commits, finishes, calls, calls_none, calls_too_large, selects, begins_all, begins_one, begins_some, part_of_all, part_of_some, part_of_one, part_of_one_too_large, OnAll, all_goes_on, all_whole, all_too_large, OnOne, one_goes_on, one_none, OnSome, some_goes_on, some_whole, some_too_large, some_none, Selecting, selects_none, selects_this, selects_later, selects_spent, StepsRef, no_step_ref, more_steps_ref, StepRef, performs, cannot_pay, fails_whole, fails_call, fails_all, fails_choice, fails_one_last, fails_one_next, fails_some_none, fails_some_last, fails_some_next, Kept, Covered, call_covered, all_covered, choice_covered, one_covered, some_covered, Safe, Holds}
+use Rattle.strat_machine.specs.Space.{Space, Grows, IsMark, GoesBack}
+use Rattle.strat_machine.specs.References.{Places, RefRecord, ref_call, ref_choice, ref_all, ref_one, ref_some, RefState, ref_running, ref_failing, trees, record_tree, state_tree, AllPlaces, AllRefs, OfRecord, OfRecords, Binds}
+use Rattle.strat_machine.specs.ReferenceSteps.{Does, counts, gives_up_so, jumps, matches, matches_not, builds, builds_none, builds_oversize, answers, answers_none, answers_oversize, enters, leaves, leaves_low, extends, shrinks, shrinks_low, calls_closure, ends_argument, ends_definition, ends_definition_low, tries, commits, finishes, calls, calls_none, calls_oversize, selects, begins_all, begins_one, begins_some, part_of_all, part_of_some, part_of_one, part_of_one_oversize, OnAll, all_goes_on, all_whole, all_oversize, OnOne, one_goes_on, one_none, OnSome, some_goes_on, some_whole, some_oversize, some_none, Selecting, selects_none, selects_this, selects_later, selects_spent, StepsRef, no_step_ref, more_steps_ref, StepRef, performs, cannot_pay, fails_whole, fails_call, fails_all, fails_choice, fails_one_last, fails_one_next, fails_some_none, fails_some_last, fails_some_next}
+use Rattle.strat_machine.specs.Marks.{Kept, Covered, call_covered, all_covered, choice_covered, one_covered, some_covered, Safe, Holds}
 use Rattle.strat_machine.proofs.TrailLaws.{take_undone, take_less, take_grown, if_less, if_more, down_self, above_new, down_new, trimmed_new}
 use Rattle.strat_machine.proofs.ReferenceLaws.{Less, less_trans, less_taken, undone_less, all_less, all_changed, length_undone, parted, covered_moves, bound_so}
 
@@ -242,7 +245,7 @@ module _ {W R Y : Type 0} {S : Space W R Y} where
   on_all_so all_goes_on st sd sr safe = (refl, (sr.0, record { places = safe.places; records = ((st, sd, sr.1), safe.records); covered = all_covered safe.covered; low = safe.low }))
   on_all_so {w} {after = after} {p} {b} {l} {t} {e} {F} {T} {K} (all_whole g su h) st sd sr safe =
       (ap (goes_on F T b (map (record_tree (S.term_of w)) K) l after p (map (option_map (S.term_of w)) e)) h ∙ run_same refl (grown_places g e safe.places) (grown_records g K safe.records), (su, grown_safe g safe))
-  on_all_so {w} {after = after} {p} {b} {l} {t} {e} {F} {T} {K} (all_too_large g h) st sd sr safe = (ap (goes_on F T b (map (record_tree (S.term_of w)) K) l after p (map (option_map (S.term_of w)) e)) h, tt)
+  on_all_so {w} {after = after} {p} {b} {l} {t} {e} {F} {T} {K} (all_oversize g h) st sd sr safe = (ap (goes_on F T b (map (record_tree (S.term_of w)) K) l after p (map (option_map (S.term_of w)) e)) h, tt)
 
   on_one_so : {w : W} {body after p b l : ℕ} {t : R} {e : Places R} {F : List Frame} {T : List ℕ} {K : List (RefRecord R Y)} {done rest : List R} {m1 : RefState R Y} → OnOne S w body after p t e F T b K l done rest m1 →
       S.Stands w t → AllRefs (S.Stands w) done → AllRefs (S.Stands w) rest → Safe S w e T b K →
@@ -280,7 +283,7 @@ module _ {W R Y : Type 0} {S : Space W R Y} where
       )
   on_some_so {w} {after = after} {p} {b} {l} {t} {e} {F} {T} {K} (some_whole g su h) st sd sr safe =
       (ap (goes_on F T b (map (record_tree (S.term_of w)) K) l after p (map (option_map (S.term_of w)) e)) h ∙ run_same refl (grown_places g e safe.places) (grown_records g K safe.records), (su, grown_safe g safe))
-  on_some_so {w} {after = after} {p} {b} {l} {t} {e} {F} {T} {K} (some_too_large g h) st sd sr safe = (ap (goes_on F T b (map (record_tree (S.term_of w)) K) l after p (map (option_map (S.term_of w)) e)) h, tt)
+  on_some_so {w} {after = after} {p} {b} {l} {t} {e} {F} {T} {K} (some_oversize g h) st sd sr safe = (ap (goes_on F T b (map (record_tree (S.term_of w)) K) l after p (map (option_map (S.term_of w)) e)) h, tt)
   on_some_so some_none st sd sr safe = (refl, safe)
 
   selecting_so : {w : W} {last p b : ℕ} {t : R} {e : Places R} {F : List Frame} {T : List ℕ} {K : List (RefRecord R Y)} {cs : List Case} {l : ℕ} {m1 : RefState R Y} → Selecting S w last p t e F T b K cs l m1 → S.Stands w t → Safe S w e T b K →
@@ -291,10 +294,10 @@ module _ {W R Y : Type 0} {S : Space W R Y} where
       (cc, (st, record { places = safe.places; records = ((st, mark.valid), safe.records); covered = choice_covered (new_kept mark safe) (mark.covers _ st) (new_covered safe); low = omega arith }))
   selecting_so {w} {last} {p} {b} {t} {e} {F} {T} {K} {l = l} (selects_later {n = n} {cs = cs} can pays x) st safe =
       let y = selecting_so x st safe in
-      let paid = if_more (ended exhausted l) (selected cs last p (S.term_of w t) (map (option_map (S.term_of w)) e) F T b (map (record_tree (S.term_of w)) K) (l - n)) l n pays in
+      let paid = if_more (ended run_spent l) (selected cs last p (S.term_of w t) (map (option_map (S.term_of w)) e) F T b (map (record_tree (S.term_of w)) K) (l - n)) l n pays in
       let h = y.0 in (cc, y.1)
   selecting_so {w} {last} {p} {b} {t} {e} {F} {T} {K} {l = l} (selects_spent {n = n} {cs = cs} can at_once) st safe =
-      let paid = if_less (ended exhausted l) (selected cs last p (S.term_of w t) (map (option_map (S.term_of w)) e) F T b (map (record_tree (S.term_of w)) K) (l - n)) l n at_once in (cc, tt)
+      let paid = if_less (ended run_spent l) (selected cs last p (S.term_of w t) (map (option_map (S.term_of w)) e) F T b (map (record_tree (S.term_of w)) K) (l - n)) l n at_once in (cc, tt)
 
   -- what an instruction does is its effect
   pub does_so : {M : Meaning} {w w1 : W} {v : Instr} {i p b l : ℕ} {t : R} {e : Places R} {F : List Frame} {T : List ℕ} {K : List (RefRecord R Y)} {m1 : RefState R Y} → Does S M w v i p t e F T b K l w1 m1 →
@@ -311,13 +314,13 @@ module _ {W R Y : Type 0} {S : Space W R Y} where
       (ap (goes_on F T b (map (record_tree (S.term_of w)) K) l (suc i) p (map (option_map (S.term_of w)) e)) h ∙ run_same refl (grown_places g e safe.places) (grown_records g K safe.records), (u, grown_safe g safe))
   does_so {w = w} {i = i} {p} {b} {l} {t} {e} {F} {T} {K} (builds_none g h) st safe =
       (ap (goes_on F T b (map (record_tree (S.term_of w)) K) l (suc i) p (map (option_map (S.term_of w)) e)) h ∙ fail_same (grown_places g e safe.places) (grown_records g K safe.records), grown_safe g safe)
-  does_so {w = w} {i = i} {p} {b} {l} {t} {e} {F} {T} {K} (builds_too_large g h) st safe =
+  does_so {w = w} {i = i} {p} {b} {l} {t} {e} {F} {T} {K} (builds_oversize g h) st safe =
       (ap (goes_on F T b (map (record_tree (S.term_of w)) K) l (suc i) p (map (option_map (S.term_of w)) e)) h, tt)
   does_so {w = w} {i = i} {p} {b} {l} {t} {e} {F} {T} {K} (answers g u h) st safe =
       (ap (goes_on F T b (map (record_tree (S.term_of w)) K) l (suc i) p (map (option_map (S.term_of w)) e)) h ∙ run_same refl (grown_places g e safe.places) (grown_records g K safe.records), (u, grown_safe g safe))
   does_so {w = w} {i = i} {p} {b} {l} {t} {e} {F} {T} {K} (answers_none g h) st safe =
       (ap (goes_on F T b (map (record_tree (S.term_of w)) K) l (suc i) p (map (option_map (S.term_of w)) e)) h ∙ fail_same (grown_places g e safe.places) (grown_records g K safe.records), grown_safe g safe)
-  does_so {w = w} {i = i} {p} {b} {l} {t} {e} {F} {T} {K} (answers_too_large g h) st safe =
+  does_so {w = w} {i = i} {p} {b} {l} {t} {e} {F} {T} {K} (answers_oversize g h) st safe =
       (ap (goes_on F T b (map (record_tree (S.term_of w)) K) l (suc i) p (map (option_map (S.term_of w)) e)) h, tt)
   does_so {w = w} {i = i} {p} {b} {l} {t} {e} {F} {T} {K} (leaves {base = base} is low) st safe =
       (ap (left F T b (map (record_tree (S.term_of w)) K) l (suc i) p (S.term_of w t) (map (option_map (S.term_of w)) e)) is ∙ if_more _ _ base b low ∙ run_same refl (sym (map_taken (option_map (S.term_of w)) base e)) refl, (st, taken_safe base low safe))
@@ -367,7 +370,7 @@ module _ {W R Y : Type 0} {S : Space W R Y} where
       )
   does_so {w = w} {i = i} {p} {b} {l} {t} {e} {F} {T} {K} (calls_none {h = h} {a} {k} {to} {us = us} g is) st safe =
       (ap (called_with F T b (map (record_tree (S.term_of w)) K) l to p (S.term_of w t) (map (option_map (S.term_of w)) e) h a k us) is ∙ fail_same (grown_places g e safe.places) (grown_records g K safe.records), grown_safe g safe)
-  does_so {w = w} {i = i} {p} {b} {l} {t} {e} {F} {T} {K} (calls_too_large {h = h} {a} {k} {to} {us = us} g is) st safe = (ap (called_with F T b (map (record_tree (S.term_of w)) K) l to p (S.term_of w t) (map (option_map (S.term_of w)) e) h a k us) is, tt)
+  does_so {w = w} {i = i} {p} {b} {l} {t} {e} {F} {T} {K} (calls_oversize {h = h} {a} {k} {to} {us = us} g is) st safe = (ap (called_with F T b (map (record_tree (S.term_of w)) K) l to p (S.term_of w t) (map (option_map (S.term_of w)) e) h a k us) is, tt)
   does_so (selects x) st safe = selecting_so x st safe
   does_so {w = w} {i = i} {p} {b} {l} {t} {e} {F} {T} {K} (begins_all {after = after} is all x) st safe =
       let y = on_all_so x st tt all safe in (ap (on_all F T b (map (record_tree (S.term_of w)) K) l (suc i) after p (S.term_of w t) (map (option_map (S.term_of w)) e) end) (sym is) ∙ y.0, y.1)
@@ -380,7 +383,7 @@ module _ {W R Y : Type 0} {S : Space W R Y} where
   does_so {w = w} {i = i} {p} {b} {l} {t} {e} {F} {T} {K = _ ∷ K} (part_of_one {after = after} {h = h} {d = d} g sx is) st safe =
       let off = taken_off (commit_one safe.covered) safe in
       (ap (goes_on F (trimmed h d T) d (map (record_tree (S.term_of w)) K) l after p (map (option_map (S.term_of w)) e)) is ∙ run_same refl (grown_places g e off.places) (grown_records g K off.records), (sx, grown_safe g off))
-  does_so {w = w} {i = i} {p} {b} {l} {t} {e} {F} {T} {K = _ ∷ K} (part_of_one_too_large {after = after} {h = h} {d = d} g is) st safe = (ap (goes_on F (trimmed h d T) d (map (record_tree (S.term_of w)) K) l after p (map (option_map (S.term_of w)) e)) is, tt)
+  does_so {w = w} {i = i} {p} {b} {l} {t} {e} {F} {T} {K = _ ∷ K} (part_of_one_oversize {after = after} {h = h} {d = d} g is) st safe = (ap (goes_on F (trimmed h d T) d (map (record_tree (S.term_of w)) K) l after p (map (option_map (S.term_of w)) e)) is, tt)
   does_so finishes st safe = (refl, st)
 
   choice_back : (code : Code) (M : Meaning) {a q k h d b l : ℕ} {t : R} {e : Places R} (F : List Frame) {T : List ℕ} {K : List (RefRecord R Y)} {m : Y} {w w1 : W} → GoesBack S w m w1 → Safe S w e T b (ref_choice a t (saved q k h d) m ∷ K) → Covered S e T b (ref_choice a t (saved q k h d) m ∷ K) →
@@ -445,14 +448,14 @@ module _ {W R Y : Type 0} {S : Space W R Y} where
   step_so {code} {M} (performs {v = v} {i} {p} {b} {l} {t} {e} {F} {T} {K} {w} rest at cost x) h =
       let y = does_so x h.0 h.1 in (
         ap (λ o. performed M o i p (S.term_of w t) (map (option_map (S.term_of w)) e) F T b (map (record_tree (S.term_of w)) K) l) at
-            ∙ if_more (ended exhausted l) (effect M v i p (S.term_of w t) (map (option_map (S.term_of w)) e) F T b (map (record_tree (S.term_of w)) K) (l - nodes_of v)) l (nodes_of v) (omega arith)
+            ∙ if_more (ended run_spent l) (effect M v i p (S.term_of w t) (map (option_map (S.term_of w)) e) F T b (map (record_tree (S.term_of w)) K) (l - nodes_of v)) l (nodes_of v) (omega arith)
             ∙ ap (λ r. effect M v i p (S.term_of w t) (map (option_map (S.term_of w)) e) F T b (map (record_tree (S.term_of w)) K) r) (let q : l - nodes_of v ≡ rest = omega arith in q)
             ∙ y.0,
         y.1,
       )
   step_so {code} {M} (cannot_pay {v = v} {i} {p} {b} {l} {t} {e} {F} {T} {K} {w} at cost) h = (
     ap (λ o. performed M o i p (S.term_of w t) (map (option_map (S.term_of w)) e) F T b (map (record_tree (S.term_of w)) K) l) at
-        ∙ if_less (ended exhausted l) (effect M v i p (S.term_of w t) (map (option_map (S.term_of w)) e) F T b (map (record_tree (S.term_of w)) K) (l - nodes_of v)) l (nodes_of v) cost,
+        ∙ if_less (ended run_spent l) (effect M v i p (S.term_of w t) (map (option_map (S.term_of w)) e) F T b (map (record_tree (S.term_of w)) K) (l - nodes_of v)) l (nodes_of v) cost,
     tt,
   )
   step_so fails_whole h = (refl, tt)

@@ -4,7 +4,10 @@ use Rattle.std.specs.Prelude.{Bool}
 use Rattle.term_model.specs.Flat.{Meaning}
 use Rattle.strat_code.specs.Code.{Case, Instr, Code}
 use Rattle.strat_machine.specs.State.{Frame}
-use Rattle.strat_machine.specs.References.{Space, Places, RefRecord, RefState, Lasts, MarksCover, Does, OnAll, OnOne, OnSome, Selecting, StepRef, StepsRef, all_goes_on, all_too_large, all_whole, answers, answers_none, answers_too_large, begins_all, begins_one, begins_some, builds, builds_none, builds_too_large, calls, calls_closure, calls_none, calls_too_large, cannot_pay, commits, counts, ends_argument, ends_definition, ends_definition_low, enters, extends, fails_all, fails_call, fails_choice, fails_one_last, fails_one_next, fails_some_last, fails_some_next, fails_some_none, fails_whole, finishes, gives_up_so, jumps, leaves, leaves_low, matches, matches_not, more_steps_ref, no_step_ref, one_goes_on, one_none, part_of_all, part_of_one, part_of_one_too_large, part_of_some, performs, selects, selects_spent, selects_later, selects_none, selects_this, shrinks, shrinks_low, some_goes_on, some_none, some_too_large, some_whole, tries}
+use Rattle.strat_machine.specs.Space.{Space}
+use Rattle.strat_machine.specs.References.{Places, RefRecord, RefState}
+use Rattle.strat_machine.specs.Marks.{Lasts, MarksCover}
+use Rattle.strat_machine.specs.ReferenceSteps.{Does, OnAll, OnOne, OnSome, Selecting, StepRef, StepsRef, all_goes_on, all_oversize, all_whole, answers, answers_none, answers_oversize, begins_all, begins_one, begins_some, builds, builds_none, builds_oversize, calls, calls_closure, calls_none, calls_oversize, cannot_pay, commits, counts, ends_argument, ends_definition, ends_definition_low, enters, extends, fails_all, fails_call, fails_choice, fails_one_last, fails_one_next, fails_some_last, fails_some_next, fails_some_none, fails_whole, finishes, gives_up_so, jumps, leaves, leaves_low, matches, matches_not, more_steps_ref, no_step_ref, one_goes_on, one_none, part_of_all, part_of_one, part_of_one_oversize, part_of_some, performs, selects, selects_spent, selects_later, selects_none, selects_this, shrinks, shrinks_low, some_goes_on, some_none, some_oversize, some_whole, tries}
 
 module _ {W R Y : Type 0} {S : Space W R Y} (r : R) where
   selecting_lasts : {w : W} {last p b : ℕ} {t : R} {e : Places R} {F : List Frame} {T : List ℕ} {K : List (RefRecord R Y)} {cs : List Case} {l : ℕ} {m1 : RefState R Y} → Selecting S w last p t e F T b K cs l m1 → S.Stands w r → MarksCover S r K → Lasts S r w m1
@@ -17,7 +20,7 @@ module _ {W R Y : Type 0} {S : Space W R Y} (r : R) where
       (S.term_of w1 r ≡ S.term_of w r) × Lasts S r w1 m1
   all_lasts all_goes_on st c = (refl, (st, c))
   all_lasts (all_whole g su h) st c = (g.terms r st, (g.stands r st, c))
-  all_lasts (all_too_large g h) st c = (g.terms r st, g.stands r st)
+  all_lasts (all_oversize g h) st c = (g.terms r st, g.stands r st)
 
   one_lasts : {w : W} {body after p b l : ℕ} {t : R} {e : Places R} {F : List Frame} {T : List ℕ} {K : List (RefRecord R Y)} {done rest : List R} {m1 : RefState R Y} → OnOne S w body after p t e F T b K l done rest m1 → S.Stands w r → MarksCover S r K → Lasts S r w m1
   one_lasts (one_goes_on mark) st c = (st, (mark.covers r st, c))
@@ -27,7 +30,7 @@ module _ {W R Y : Type 0} {S : Space W R Y} (r : R) where
       (S.term_of w1 r ≡ S.term_of w r) × Lasts S r w1 m1
   some_lasts (some_goes_on mark) st c = (refl, (st, (mark.covers r st, c)))
   some_lasts (some_whole g su h) st c = (g.terms r st, (g.stands r st, c))
-  some_lasts (some_too_large g h) st c = (g.terms r st, g.stands r st)
+  some_lasts (some_oversize g h) st c = (g.terms r st, g.stands r st)
   some_lasts some_none st c = (refl, (st, c))
 
   does_lasts : {M : Meaning} {w w1 : W} {v : Instr} {i p b l : ℕ} {t : R} {e : Places R} {F : List Frame} {T : List ℕ} {K : List (RefRecord R Y)} {m1 : RefState R Y} → Does S M w v i p t e F T b K l w1 m1 → S.Stands w r → MarksCover S r K →
@@ -54,9 +57,9 @@ module _ {W R Y : Type 0} {S : Space W R Y} (r : R) where
   does_lasts (answers_none g h) st c = (g.terms r st, (g.stands r st, c))
   does_lasts (calls rs g all is) st c = (g.terms r st, (g.stands r st, c))
   does_lasts (calls_none g is) st c = (g.terms r st, (g.stands r st, c))
-  does_lasts (builds_too_large g h) st c = (g.terms r st, g.stands r st)
-  does_lasts (answers_too_large g h) st c = (g.terms r st, g.stands r st)
-  does_lasts (calls_too_large g is) st c = (g.terms r st, g.stands r st)
+  does_lasts (builds_oversize g h) st c = (g.terms r st, g.stands r st)
+  does_lasts (answers_oversize g h) st c = (g.terms r st, g.stands r st)
+  does_lasts (calls_oversize g is) st c = (g.terms r st, g.stands r st)
   does_lasts (tries mark) st c = (refl, (st, (mark.covers r st, c)))
   does_lasts commits st c = (refl, (st, c.1))
   does_lasts (selects x) st c = (refl, selecting_lasts x st c)
@@ -66,7 +69,7 @@ module _ {W R Y : Type 0} {S : Space W R Y} (r : R) where
   does_lasts (part_of_all x) st c = all_lasts x st c
   does_lasts (part_of_some x) st c = some_lasts x st c.1
   does_lasts (part_of_one g sx is) st c = (g.terms r st, (g.stands r st, c.1))
-  does_lasts (part_of_one_too_large g is) st c = (g.terms r st, g.stands r st)
+  does_lasts (part_of_one_oversize g is) st c = (g.terms r st, g.stands r st)
 
   pub step_lasts : {code : Code} {M : Meaning} {w w1 : W} {m m1 : RefState R Y} → StepRef S code M w m w1 m1 → Lasts S r w m → (S.term_of w1 r ≡ S.term_of w r) × Lasts S r w1 m1
   step_lasts (performs rest at cost x) h = does_lasts x h.0 h.1

@@ -10,7 +10,7 @@ use Rattle.core_lang.specs.Resolved.{ResolvedDefinitions, here, by_coordinates, 
 use Rattle.core_lang.specs.Settled.{Verdict, ends, spent, Settled, settled, unsettled}
 use Rattle.strat_code.specs.Code.{Code}
 use Rattle.strat_code.specs.Context.{top, defining}
-use Rattle.strat_machine.specs.State.{Result, rewritten, none_found, too_large, exhausted, State, failing, ended}
+use Rattle.strat_machine.specs.State.{Result, rewritten, run_failed, run_oversize, run_spent, State, failing, ended}
 use Rattle.strat_machine.specs.Step.{Steps, no_step, more_steps}
 use Rattle.strat_code.specs.StandsFor.{StandsFor}
 use Rattle.strat_machine.specs.Run.{start, EndsSo, Says}
@@ -42,9 +42,9 @@ module _ {code : Code} {M : Meaning} {P : ResolvedDefinitions} {i : ℕ} {t : Tr
   of_landing stands (lands_ok {k = k} {c = c} {u = u} {f = f} new x is back same bound) known =
       record { result = rewritten u; left = c; steps = k + 1; run = steps_then x (paid_step c stands.ends (omega arith)); says = (f, ends_so (k + 1) known (omega arith)) }
   of_landing stands (lands_failed {k = k} {c = c} {f = f} {G = G} {U = U} new x is back same bound) known =
-      record { result = none_found; left = c; steps = k + 1; run = steps_then x (one_step (failing f G U 0 [] c) (ended none_found c) tt refl); says = ends_so (k + 1) known (omega arith) }
-  of_landing stands (lands_oversize {k = k} {c = c} x bound) known = record { result = too_large; left = c; steps = k; run = x; says = ends_so k known (omega arith) }
-  of_landing stands (lands_spent {k = k} {l = l} x bound) known = record { result = exhausted; left = l; steps = k; run = x; says = none_so k known (omega arith) }
+      record { result = run_failed; left = c; steps = k + 1; run = steps_then x (one_step (failing f G U 0 [] c) (ended run_failed c) tt refl); says = ends_so (k + 1) known (omega arith) }
+  of_landing stands (lands_oversize {k = k} {c = c} x bound) known = record { result = run_oversize; left = c; steps = k; run = x; says = ends_so k known (omega arith) }
+  of_landing stands (lands_spent {k = k} {l = l} x bound) known = record { result = run_spent; left = l; steps = k; run = x; says = none_so k known (omega arith) }
 
 -- each run ends, and says what the program does
 pub runs : (code : Code) (M : Meaning) (P : ResolvedDefinitions) (i : ℕ) → StandsFor code P i → (t : Tree) (budget : ℕ) → Runs code M P i t budget

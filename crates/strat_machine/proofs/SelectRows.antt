@@ -14,7 +14,7 @@ use Rattle.strat_code.specs.Code.{Case, case, Code}
 use Rattle.core_lang.specs.Roots.{Root}
 use Rattle.strat_code.specs.Context.{Context}
 use Rattle.strat_code.specs.Ranges.{Selects, select_last, select_more}
-use Rattle.strat_machine.specs.State.{Frame, saved, Record, choice_record, exhausted, State, running, ended}
+use Rattle.strat_machine.specs.State.{Frame, saved, Record, choice_record, run_spent, State, running, ended}
 use Rattle.strat_machine.specs.Step.{selected, no_step}
 use Rattle.core_lang.specs.Going.{IsHalt, Goes}
 use Rattle.core_lang.specs.Roots.{has_root}
@@ -41,26 +41,26 @@ module _ (code : Code) (M : Meaning) where
   pub taken : (r : Root) (t : Tree) → has_root r t ≡ true → (n body other last p : ℕ) (cs : List Case) (e : Bindings) (F : List Frame) (T : List ℕ) (bar : ℕ) (K : List Record) (l : ℕ) →
       selected (case r n body other ∷ cs) last p t e F T bar K l ≡ running body p t e F T (length e) (choice_record other t (saved p (length F) (length T) bar) ∷ K) l
   taken r t h n body other last p cs e F T bar K l =
-      ap (λ v. if v then running body p t e F T (length e) (choice_record other t (saved p (length F) (length T) bar) ∷ K) l else (if nat_lt l n then ended exhausted l else selected cs last p t e F T bar K (l - n))) h
+      ap (λ v. if v then running body p t e F T (length e) (choice_record other t (saved p (length F) (length T) bar) ∷ K) l else (if nat_lt l n then ended run_spent l else selected cs last p t e F T bar K (l - n))) h
 
   -- it is passed by
   pub passed : (r : Root) (t : Tree) → has_root r t ≡ false → (n body other last p : ℕ) (cs : List Case) (e : Bindings) (F : List Frame) (T : List ℕ) (bar : ℕ) (K : List Record) (l rest : ℕ) → l ≡ n + rest →
       selected (case r n body other ∷ cs) last p t e F T bar K l ≡ selected cs last p t e F T bar K rest
   passed r t h n body other last p cs e F T bar K l rest is =
-      ap (λ v. if v then running body p t e F T (length e) (choice_record other t (saved p (length F) (length T) bar) ∷ K) l else (if nat_lt l n then ended exhausted l else selected cs last p t e F T bar K (l - n))) h
-      ∙ if_more (ended exhausted l) (selected cs last p t e F T bar K (l - n)) l n (omega arith) ∙ ap (selected cs last p t e F T bar K) (let d : l - n ≡ rest = omega arith in d)
+      ap (λ v. if v then running body p t e F T (length e) (choice_record other t (saved p (length F) (length T) bar) ∷ K) l else (if nat_lt l n then ended run_spent l else selected cs last p t e F T bar K (l - n))) h
+      ∙ if_more (ended run_spent l) (selected cs last p t e F T bar K (l - n)) l n (omega arith) ∙ ap (selected cs last p t e F T bar K) (let d : l - n ≡ rest = omega arith in d)
 
   -- or the budget is spent
   pub passed_spent : (r : Root) (t : Tree) → has_root r t ≡ false → (n body other last p : ℕ) (cs : List Case) (e : Bindings) (F : List Frame) (T : List ℕ) (bar : ℕ) (K : List Record) (l : ℕ) → l < n →
-      selected (case r n body other ∷ cs) last p t e F T bar K l ≡ ended exhausted l
+      selected (case r n body other ∷ cs) last p t e F T bar K l ≡ ended run_spent l
   passed_spent r t h n body other last p cs e F T bar K l is =
-      ap (λ v. if v then running body p t e F T (length e) (choice_record other t (saved p (length F) (length T) bar) ∷ K) l else (if nat_lt l n then ended exhausted l else selected cs last p t e F T bar K (l - n))) h
-      ∙ if_less (ended exhausted l) (selected cs last p t e F T bar K (l - n)) l n is
+      ap (λ v. if v then running body p t e F T (length e) (choice_record other t (saved p (length F) (length T) bar) ∷ K) l else (if nat_lt l n then ended run_spent l else selected cs last p t e F T bar K (l - n))) h
+      ∙ if_less (ended run_spent l) (selected cs last p t e F T bar K (l - n)) l n is
 
   pub from_state : {to p : ℕ} {e : Bindings} {F : List Frame} {T : List ℕ} {bar : ℕ} {K : List Record} {m m1 : State} {room c : ℕ} {q : Verdict Tree} → m ≡ m1 → Lands code M to p e F T bar K m1 room q c → Lands code M to p e F T bar K m room q c
   from_state {to} {p} {e} {F} {T} {bar} {K} {room = room} {c} {q} h x = subst (λ m. Lands code M to p e F T bar K m room q c) (sym h) x
 
-  pub spent_lands : (to p : ℕ) (e : Bindings) (F : List Frame) (T : List ℕ) (bar : ℕ) (K : List Record) (l room c : ℕ) → Lands code M to p e F T bar K (ended exhausted l) room spent c
+  pub spent_lands : (to p : ℕ) (e : Bindings) (F : List Frame) (T : List ℕ) (bar : ℕ) (K : List Record) (l room c : ℕ) → Lands code M to p e F T bar K (ended run_spent l) room spent c
   spent_lands to p e F T bar K l room c = lands_spent no_step (omega arith)
 
   -- a budget of nothing

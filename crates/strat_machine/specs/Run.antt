@@ -5,7 +5,7 @@ use Rattle.term_model.specs.Flat.{Meaning}
 use Rattle.core_lang.specs.Environment.{Bindings}
 use Rattle.core_lang.specs.Ending.{Ending, ok, failed, oversize}
 use Rattle.core_lang.specs.Resolved.{ResolvedDefinitions, RewritesByCoordinates}
-use Rattle.strat_machine.specs.State.{Result, rewritten, none_found, too_large, exhausted, stuck, State, running}
+use Rattle.strat_machine.specs.State.{Result, rewritten, run_failed, run_oversize, run_spent, stuck, State, running}
 
 -- where a run begins
 abbrev pub start : Tree → ℕ → State
@@ -21,7 +21,7 @@ pub record EndsSo (M : Meaning) (P : ResolvedDefinitions) (i : ℕ) (t : Tree) (
 -- what the result of a run says
 abbrev pub Says : Meaning → ResolvedDefinitions → ℕ → Tree → ℕ → Result → (left steps : ℕ) → Type 0
 Says M P i t budget (rewritten u) left steps = (e : Bindings) × EndsSo M P i t budget (ok u e) left steps
-Says M P i t budget none_found left steps = EndsSo M P i t budget failed left steps
-Says M P i t budget too_large left steps = EndsSo M P i t budget oversize left steps
-Says M P i t budget exhausted left steps = ((o : Ending Tree) (n : ℕ) → RewritesByCoordinates M P i t o n → budget < n) × (steps ≤ 10 * budget + 10)
+Says M P i t budget run_failed left steps = EndsSo M P i t budget failed left steps
+Says M P i t budget run_oversize left steps = EndsSo M P i t budget oversize left steps
+Says M P i t budget run_spent left steps = ((o : Ending Tree) (n : ℕ) → RewritesByCoordinates M P i t o n → budget < n) × (steps ≤ 10 * budget + 10)
 Says M P i t budget stuck left steps = ⊥

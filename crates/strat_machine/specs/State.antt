@@ -5,41 +5,46 @@ use Rattle.core_lang.specs.declared.coordinate.Coordinate.{Coordinate}
 use Rattle.core_lang.specs.Environment.{Bindings}
 use Rattle.strat_code.specs.Code.{Argument, code_at, parameter_at}
 
--- a frame: its first place, the frame around it, and its closures: each an address and a frame
+-- A frame of a call or of a scope: its first place, the position of the frame around it, and the closures of its strategy
+-- parameters. A closure is an address and the position of the frame that its code runs in
 pub data Frame : Type 0 where
-  frame : (base up : ℕ) → List (ℕ × ℕ) → Frame
+  frame : (base up : ℕ) → (closures : List (ℕ × ℕ)) → Frame
 
--- what a failure goes back to: the frame, how many frames and trail entries there were, and the barrier of before; how many
--- places there were is the barrier while the record stands
+-- What a failure restores: the current frame, how many frames there were, how many entries the trail had, and the barrier
+-- that held before. The places need no number, for the barrier that holds while the record is there is theirs
 pub data Saved : Type 0 where
-  saved : (here frames height barrier : ℕ) → Saved
+  saved : (current frames height barrier : ℕ) → Saved
 
--- control records
+-- Control records. In a traversal record stand the address of the code for a part, the next address after the traversal, the
+-- whole term, what the parts before have become (the last first), and the parts that are left
 pub data Record : Type 0 where
-  -- of a call: the machine goes on there, in that frame
-  call_record : (to here : ℕ) → Record
-  -- of a choice: after a failure the machine goes on there, with that term
+  -- of a call: the next address and the frame that is current again
+  call_record : (next_address current : ℕ) → Record
+  -- of a choice: the address where a failure goes on, with this term
   choice_record : (otherwise : ℕ) → Tree → Saved → Record
-  -- of a traversal: where its code begins and where the machine goes on, the whole term, what the parts before became (last
-  -- first), the part itself, those after it
-  -- going_all is also put on by some(s) whose last part has failed, and of which only the whole is still to be made
-  all_record : (body after : ℕ) → Tree → (done : Trees) → Trees → Record
-  one_record : (body after : ℕ) → Tree → (done : Trees) → Tree → Trees → Saved → Record
-  -- and whether a part before was ok
-  some_record : (body after : ℕ) → Tree → (done : Trees) → Tree → Trees → (found : Bool) → Saved → Record
+  -- of all(s). A traversal by some(s) whose last part has failed goes on as this one, with no part left
+  all_record : (body next_address : ℕ) → Tree → (done : Trees) → (left : Trees) → Record
+  -- of one(s), with the part that s is tried on
+  one_record : (body next_address : ℕ) → Tree → (done : Trees) → Tree → (left : Trees) → Saved → Record
+  -- of some(s), with that part, and whether s was ok on a part before
+  some_record : (body next_address : ℕ) → Tree → (done : Trees) → Tree → (left : Trees) → (found : Bool) → Saved → Record
 
 pub data Result : Type 0 where
   rewritten : Tree → Result
-  none_found : Result
-  too_large : Result
-  exhausted : Result
-  -- where code is no code of a program
+  run_failed : Result
+  run_oversize : Result
+  run_spent : Result
+  -- what code of no program may come to
   stuck : Result
 
+-- The barrier is the number of places that there were when the last record that a failure goes back to was put on, and 0
+-- where there is none: places below it are put on the trail when they are given a term
 pub data State : Type 0 where
-  -- the counter, the frame, the term; the places, the frames, the trail (last first), the barrier; the records (last first) and the budget left
-  running : (at here : ℕ) → Tree → Bindings → List Frame → List ℕ → (barrier : ℕ) → List Record → (left : ℕ) → State
-  failing : Bindings → List Frame → List ℕ → (barrier : ℕ) → List Record → (left : ℕ) → State
+  -- at an address, in a frame, with the current term; the places, the frames, the trail and the records (the last first both),
+  -- and the budget that is left
+  running : (address current : ℕ) → Tree → Bindings → List Frame → (trail : List ℕ) → (barrier : ℕ) → List Record → (left : ℕ) → State
+  -- a failure is being dealt with
+  failing : Bindings → List Frame → (trail : List ℕ) → (barrier : ℕ) → List Record → (left : ℕ) → State
   ended : Result → (left : ℕ) → State
 
 -- the frame so many frames up

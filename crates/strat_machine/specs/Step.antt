@@ -7,7 +7,7 @@ use Rattle.core_lang.specs.Building.{instance, instances}
 use Rattle.core_lang.specs.Ending.{Ending, ok, failure, excess, stop, built, rebuilt, arguments, answered}
 use Rattle.core_lang.specs.Derivation.{parts}
 use Rattle.strat_code.specs.Code.{Argument, Case, case, Traversal, all_parts, one_part, some_parts, Instr, count, give_up, match_term, build_term, enter, leave, extend, shrink, try, commit, select, jump, traverse, part_done, call_definition, call_closure, end_definition, end_argument, apply_primitive, finish, Code, nodes_of}
-use Rattle.strat_machine.specs.State.{Frame, frame, saved, Record, call_record, choice_record, all_record, one_record, some_record, rewritten, none_found, too_large, exhausted, stuck, State, running, failing, ended, frames_up, place_at, closure_in, closed}
+use Rattle.strat_machine.specs.State.{Frame, frame, saved, Record, call_record, choice_record, all_record, one_record, some_record, rewritten, run_failed, run_oversize, run_spent, stuck, State, running, failing, ended, frames_up, place_at, closure_in, closed}
 use Rattle.core_lang.specs.Roots.{has_root}
 use Rattle.strat_machine.specs.Binding.{undone, above, down_to, trimmed, Attempt, attempt, attempted}
 
@@ -25,7 +25,7 @@ module _ (F : List Frame) (T : List ℕ) (b : ℕ) (K : List Record) (l : ℕ) w
   abbrev pub goes_on : (i p : ℕ) → Bindings → Ending Tree → State
   goes_on i p e (ok u f) = running i p u f F T b K l
   goes_on i p e (stop failure) = failing e F T b K l
-  goes_on i p e (stop excess) = ended too_large l
+  goes_on i p e (stop excess) = ended run_oversize l
 
   -- a match has been tried
   abbrev pub matched : (i p : ℕ) → Tree → Attempt → State
@@ -62,7 +62,7 @@ module _ (F : List Frame) (T : List ℕ) (b : ℕ) (K : List Record) (l : ℕ) w
   called_with i p t e h a k us (ok ts f) =
       running a (length F) t (e ++ (filled_places ts ++ empty_places k)) (F ++ frame (length e) (frames_up F p h) (closed F p us) ∷ []) T b (call_record i p ∷ K) l
   called_with i p t e h a k us (stop failure) = failing e F T b K l
-  called_with i p t e h a k us (stop excess) = ended too_large l
+  called_with i p t e h a k us (stop excess) = ended run_oversize l
 
   -- in a closure
   abbrev pub in_closure : (i p : ℕ) → Tree → Bindings → ℕ × ℕ → State
@@ -92,7 +92,7 @@ abbrev pub selected : List Case → (last p : ℕ) → Tree → Bindings → Lis
 selected [] last p t e F T b K l = running last p t e F T b K l
 selected (case r n body otherwise ∷ cs) last p t e F T b K l =
     if has_root r t then running body p t e F T (length e) (choice_record otherwise t (saved p (length F) (length T) b) ∷ K) l
-    else (if nat_lt l n then ended exhausted l else selected cs last p t e F T b K (l - n))
+    else (if nat_lt l n then ended run_spent l else selected cs last p t e F T b K (l - n))
 
 -- a part is done
 abbrev pub part_ended : (p : ℕ) → Tree → Bindings → List Frame → List ℕ → ℕ → List Record → ℕ → State
@@ -134,7 +134,7 @@ module _ (M : Meaning) where
 
   -- the nodes are paid for from the budget, or it is spent
   abbrev pub paid : Instr → (i p : ℕ) → Tree → Bindings → List Frame → List ℕ → ℕ → List Record → ℕ → State
-  paid v i p t e F T b K l = if nat_lt l (nodes_of v) then ended exhausted l else effect v i p t e F T b K (l - nodes_of v)
+  paid v i p t e F T b K l = if nat_lt l (nodes_of v) then ended run_spent l else effect v i p t e F T b K (l - nodes_of v)
 
   abbrev pub performed : Option Instr → (i p : ℕ) → Tree → Bindings → List Frame → List ℕ → ℕ → List Record → ℕ → State
   performed None i p t e F T b K l = ended stuck l
@@ -142,7 +142,7 @@ module _ (M : Meaning) where
 
 -- after a failure the last record is taken off. No such step makes a term, and no other step goes back
 abbrev pub backtracked : Bindings → List Frame → List ℕ → ℕ → List Record → ℕ → State
-backtracked e F T b [] l = ended none_found l
+backtracked e F T b [] l = ended run_failed l
 backtracked e F T b (call_record a h ∷ K) l = failing e F T b K l
 backtracked e F T b (choice_record a t (saved q n h d) ∷ K) l = running a q t (take b (undone (above h T) e)) (take n F) (down_to h T) d K l
 backtracked e F T b (all_record body after t done us ∷ K) l = failing e F T b K l

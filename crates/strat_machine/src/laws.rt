@@ -10,7 +10,10 @@ ghost use Rattle.strat_code.specs.Code.{Code};
 ghost use Rattle.strat_code.specs.StandsFor.{StandsFor};
 ghost use Rattle.strat_machine.specs.Run.{start, Says};
 ghost use Rattle.strat_machine.specs.State.{Result, State, ended};
-ghost use Rattle.strat_machine.specs.References.{store, RefState, StepRef, StepsRef, Holds, Lasts, state_tree};
+ghost use Rattle.strat_machine.specs.Space.{store};
+ghost use Rattle.strat_machine.specs.References.{RefState, state_tree};
+ghost use Rattle.strat_machine.specs.ReferenceSteps.{StepRef, StepsRef};
+ghost use Rattle.strat_machine.specs.Marks.{Holds, Lasts};
 ghost use Rattle.strat_machine.specs.Step.{Steps, next};
 
 /// Undoing the trail down to the height of a record gives the places as they were when the record was put on.
