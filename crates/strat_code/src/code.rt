@@ -1,0 +1,72 @@
+// Code: instructions that stand for a core.
+ghost use Rattle.std.specs.Prelude.{◌≡◌, ◌<◌, length, slice_get, Some};
+ghost use Rattle.strat_code.specs.CodeOf.{code_of, IsCode};
+
+use crate::instr::Instr;
+use std::marker::Model;
+use term_model::PrimNames;
+
+/// Instructions, and the primitives that they apply. There is a core with the same primitives that they stand for, and each
+/// address in them is one of an instruction. A run begins at address 0.
+#[derive(Drop)]
+pub struct Code {
+    instrs: Vec<Instr>,
+    prims: PrimNames,
+}
+
+impl Model for Code {
+    ghost use Rattle.strat_code.specs.CodeOf.{CodeParts, code_of, IsCode};
+
+    ghost Value = { CodeParts };
+
+    ghost use Rattle.std.specs.Coded.{codes};
+    ghost use Rattle.strat_code.specs.contracts.instr.Instr as instructions;
+
+    ghost coded = { Prim.hlevel (codes, instructions.the_row.coded) };
+
+    ghost view = { λ c. record { instrs = c.instrs.items; prims = c.prims } };
+
+    ghost invariant = { λ c. IsCode (code_of c.instrs.items) c.prims };
+}
+
+impl Code {
+    /// The code of these instructions with these primitives. They stand for some core with the same primitives, and each
+    /// address in them is one of an instruction.
+    pub fn new(instrs: Vec<Instr>, prims: PrimNames) -> Code
+        requires { IsCode (code_of instrs.items) prims }
+        ensures instrs { result.instrs ≡ instrs.items }
+        ensures prims { result.prims ≡ prims }
+    {
+        Code { instrs, prims }
+    }
+
+    /// The number of instructions.
+    pub fn len(&self) -> usize
+        ensures { result ≡ length self.now.instrs }
+    {
+        self.instrs.len()
+    }
+
+    /// The instruction at an address.
+    pub fn at(&self, address: usize) -> &Instr
+        requires { address < length self.now.instrs }
+        ensures { slice_get self.now.instrs address ≡ Some result.now }
+    {
+        &self.instrs[address]
+    }
+
+    /// The primitives that occur in the core: their names, each with the number of arguments with which it is called.
+    pub fn prims(&self) -> &PrimNames
+        ensures { result.now ≡ self.now.prims }
+    {
+        &self.prims
+    }
+
+    /// All instructions: those of some core with the same primitives.
+    pub fn instrs(&self) -> &[Instr]
+        ensures same { result.now ≡ self.now.instrs }
+        ensures stands { IsCode (code_of self.now.instrs) self.now.prims }
+    {
+        self.instrs.as_slice()
+    }
+}
