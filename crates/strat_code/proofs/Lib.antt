@@ -1,2 +1,3 @@
 pub mod GrowthLaws
 pub mod FirstLaws
+pub mod WorkedLaws

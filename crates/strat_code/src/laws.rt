@@ -1,13 +1,15 @@
 //! Laws of code: each function has no body, and its contract is the law.
-ghost use Rattle.std.specs.Prelude.{ℕ, List, ◌++◌};
+ghost use Rattle.std.specs.Prelude.{ℕ, List, [], ◌++◌};
 ghost use Rattle.core_lang.specs.Resolved.{ResolvedDefinitions};
 ghost use Rattle.strat_code.specs.Code.{Instr, Code};
+ghost use Rattle.strat_code.specs.CodeOf.{IsCode};
 ghost use Rattle.strat_code.specs.StandsFor.{StandsFor};
 ghost use Rattle.strat_code.specs.Worked.{small_code, small_program};
 
 /// A small program, whose main calls a definition with a strategy argument, has code.
 pub fn small_code_stands()
     ensures stands { StandsFor small_code small_program 1 }
+    ensures is_code { IsCode small_code [] }
 {}
 
 /// Code that stands for a program does so with further instructions at its end.
