@@ -75,7 +75,7 @@ module _ (code : Code) (M : Meaning) where
   keeping_twice i k (ends (stop excess)) h = refl
   keeping_twice i k spent h = refl
 
-  -- and of a closure
+  -- what is called is a closure, or a definition, and not nothing
   pub found : {F : List Frame} {c : ℕ × ℕ} {s : ResolvedStrategy} {W : ResolvedEnvironment} → ClosureFound code F c (Some (closure s W)) → ClosureIs code F s W c
   found (closure_found x) = x
 

@@ -21,7 +21,7 @@ use Rattle.strat_machine.proofs.TrailLaws.{take_less, take_whole, take_front, ab
 use Rattle.strat_machine.proofs.Representation.{Represents, got_last}
 use Rattle.strat_machine.proofs.Landing.{Lands, lands_ok, lands_failed, lands_oversize, lands_spent, steps_then, paid_step, wider, onward}
 
--- all is as it was at a record
+-- going back to a record restores the places, the frames and the trail that it was put on with
 pub restored : (go : Bindings → List Frame → List ℕ → State) (e f : Bindings) (F G : List Frame) (T U new : List ℕ) → U ≡ new ++ T → Restores (length e) e new f → take (length F) G ≡ F →
     go (take (length e) (undone (above (length T) U) f)) (take (length F) G) (down_to (length T) U) ≡ go e F T
 restored go e f F G T U new is back same =
@@ -73,17 +73,18 @@ pub built_leaves : (v : Option Tree) (e : Bindings) → Leaves e (built v e)
 built_leaves None e = tt
 built_leaves (Some u) e = fits_leaves (fits u) u e
 
--- a range goes as the strategy does
+-- From the first address of each range for the strategy, in frames that represent the environment and with a budget of b over the x
+-- nodes around, the machine lands at the range's end as the strategy goes from b, in at most 10 steps for each node
 abbrev pub Simulates : Code → Meaning → ResolvedEnvironment → ResolvedStrategy → Tree → Bindings → ℕ → Verdict Tree → ℕ → Type 0
 Simulates code M V s t e b q c = (w : Bool) (C : Context) (i x to p : ℕ) (F : List Frame) (T : List ℕ) (bar : ℕ) (K : List Record) (l : ℕ) →
     Ranges code w C i x s to → Represents code F C V p → OnTop w C F p (length e) → bar ≤ length e → l ≡ x + b → Lands code M to p e F T bar K (running i p t e F T bar K l) (10 * b) q c
 
--- a chain of alternatives goes as the choice does, where the choice's own node is paid for
+-- so it does from the cases of a chain of alternatives, where the node of the choice is paid for
 abbrev pub SimulatesChain : Code → Meaning → ResolvedEnvironment → ResolvedStrategy → Tree → Bindings → ℕ → Verdict Tree → ℕ → Type 0
 SimulatesChain code M V s t e b q c = (w : Bool) (C : Context) (cs : List Case) (last to p : ℕ) (F : List Frame) (T : List ℕ) (bar : ℕ) (K : List Record) (l : ℕ) →
     Selects code w C s cs last to → Represents code F C V p → OnTop w C F p (length e) → bar ≤ length e → b ≡ suc l → Lands code M to p e F T bar K (selected cs last p t e F T bar K l) (10 * l) q c
 
--- where a scope's places are there already: the code of what is inside it
+-- so it does from a range for what is inside a scope, where the places of the scope are there and its node is not paid for yet
 abbrev pub SimulatesBody : Code → Meaning → ResolvedEnvironment → ResolvedStrategy → Tree → Bindings → ℕ → Verdict Tree → ℕ → Type 0
 SimulatesBody code M V s t e b q c = (C : Context) (n i x to p : ℕ) (F : List Frame) (T : List ℕ) (bar : ℕ) (K : List Record) (l : ℕ) (offset : ℕ) (r : ResolvedStrategy) → s ≡ scope n r →
     Ranges code true (within n offset C) i (suc x) r to → Represents code F C V p → Last F p offset (length e) → bar ≤ length e → l ≡ x + b →
@@ -115,6 +116,7 @@ module _ {code : Code} {M : Meaning} where
   pub same_state : {m m1 : State} → m ≡ m1 → Steps code M 0 m m1
   same_state {m} h = subst (λ m1. Steps code M 0 m m1) h no_step
 
+  -- goes on as an ending says that leaves the places
   pub goes_on_lands : (i p : ℕ) (e : Bindings) (F : List Frame) (T : List ℕ) (bar : ℕ) (K : List Record) (c : ℕ) (o : Ending Tree) → Leaves e o → Lands code M i p e F T bar K (goes_on F T bar K c i p e o) (1 + 10 * c) (ends o) c
   goes_on_lands i p e F T bar K c (ok u f) h =
       subst (λ f. Lands code M i p e F T bar K (running i p u f F T bar K c) (1 + 10 * c) (ends (ok u f)) c) (sym h) (here_lands i p u e F T bar K c)

@@ -66,7 +66,7 @@ module _ (code : Code) (M : Meaning) where
   SimulatesOne V s ts e b q c = (C : Context) (body after p : ℕ) (F : List Frame) (T : List ℕ) (bar : ℕ) (K : List Record) (t : Tree) (done : Trees) → Body C V s body after p F (length e) → bar ≤ length e →
       Lands code M after p e F T bar K (on_one F T bar K b body after p t e done ts) (1 + 10 * b) (whole t done q) c
 
-  -- the last part may fail, and the whole is made in a step of its own then
+  -- the last part may fail, and then the whole is made in a further step
   abbrev pub some_room : Trees → ℕ
   some_room end = 1
   some_room (more v ts) = 2
