@@ -6,3 +6,5 @@ pub mod IntegerLaws
 pub mod Joins
 pub mod Items
 pub mod PrimNameLaws
+pub mod SpaceLemmas
+pub mod BlockLaws

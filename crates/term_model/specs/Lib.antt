@@ -14,3 +14,6 @@ pub mod Flat
 pub mod Hashing
 pub mod PrimNames
 pub mod PrimKey
+pub mod Space
+pub mod Blocks
+pub mod RcSpace

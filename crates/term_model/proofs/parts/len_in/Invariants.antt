@@ -1,0 +1,12 @@
+use Rattle.std.proofs.Common.{◌≡◌, ◌+◌, ◌*◌, ◌≤◌, [], length, get_or}
+use Rattle.term_model.specs.Blocks.{list_in, lists_of}
+use Rattle.term_model.proofs.parts.len_in.Given as goal
+
+abbrev pub decreases-loop-next : goal.decreases-loop-next
+decreases-loop-next g l = l.rest
+
+abbrev pub invariant-loop-next : goal.invariant-loop-next
+invariant-loop-next g l = record {
+  long : l.count + length (get_or (lists_of l.blocks) l.rest []) ≡ length (list_in (lists_of l.blocks) l.block);
+  small : l.count + 3 * l.rest ≤ 3 * l.block.rest + 3;
+}

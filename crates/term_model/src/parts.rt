@@ -1,0 +1,189 @@
+//! A term as it is lent: its head, its parts and its annotations.
+ghost use Rattle.std.specs.Prelude.{◌≡◌, ◌≤◌, length};
+ghost use Rattle.term_model.specs.Blocks.{front_list, list_in, lists_of, AreLinked, IsAt, IsNumbered};
+
+use crate::symbol::Sym;
+use std::marker::Model;
+
+/// A head, lent: an integer, a symbol, or the head of lists.
+#[derive(Drop)]
+pub enum Top<'a> {
+    /// An integer, which has no parts.
+    Int(i32),
+    /// A symbol that is applied to the parts.
+    App(&'a Sym),
+    /// A list, whose elements are the parts.
+    List,
+}
+
+/// At most three values.
+#[derive(Clone, Copy, PartialEq, Eq)]
+pub enum Front<R> {
+    /// None.
+    Zero,
+    /// One.
+    One(R),
+    /// Two, in order.
+    Two(R, R),
+    /// Three, in order.
+    Three(R, R, R),
+}
+
+/// Values before the list of a number: the empty list has the number 0, and the list of the block
+/// at index k has the number k + 1.
+#[derive(Clone, Copy, PartialEq, Eq)]
+pub struct Block<R> {
+    /// The first values.
+    pub front: Front<R>,
+    /// The number of the list of the others.
+    pub rest: u32,
+}
+
+impl<R> Front<R> {
+    /// How many values there are.
+    pub fn len(&self) -> usize
+        ensures len { result ≡ length (front_list self.now) }
+        ensures few { result ≤ 3 }
+    {
+        match self {
+            Front::Zero => 0,
+            Front::One(_) => 1,
+            Front::Two(_, _) => 2,
+            Front::Three(_, _, _) => 3,
+        }
+    }
+
+    /// The value at an index.
+    pub fn get(&self, index: usize) -> Option<&R>
+        ensures { IsAt result (front_list self.now) index }
+    {
+        match (self, index) {
+            (Front::One(a) | Front::Two(a, _) | Front::Three(a, _, _), 0) => Some(a),
+            (Front::Two(_, b) | Front::Three(_, b, _), 1) => Some(b),
+            (Front::Three(_, _, c), 2) => Some(c),
+            _ => None,
+        }
+    }
+}
+
+/// References to several terms, lent: those of a slice or those of a block.
+#[derive(Drop)]
+pub struct Parts<'a, R> {
+    slice: &'a [R],
+    block: Option<&'a Block<R>>,
+    blocks: &'a [Block<R>],
+}
+
+impl<'a, R> Model for Parts<'a, R> {
+    ghost use Rattle.std.specs.Prelude.{List};
+    ghost use Rattle.term_model.specs.Blocks.{lent, AreLinked};
+
+    ghost Value = { List R };
+
+    ghost view = { λ p. lent p.slice.now p.block p.blocks.now };
+
+    ghost invariant = { λ p. AreLinked p.blocks.now };
+}
+
+impl<'a, R> Parts<'a, R> {
+    /// The references of a slice.
+    pub fn of_slice(slice: &'a [R]) -> Parts<'a, R>
+        ensures { result ≡ slice.now }
+    {
+        Parts {
+            slice,
+            block: None,
+            blocks: &[],
+        }
+    }
+
+    /// The references of a block, whose rest is a list of these blocks.
+    pub fn of_block(block: &'a Block<R>, blocks: &'a [Block<R>]) -> Parts<'a, R>
+        requires { AreLinked blocks.now }
+        ensures { result ≡ list_in (lists_of blocks.now) block.now }
+    {
+        Parts {
+            slice: &[],
+            block: Some(block),
+            blocks,
+        }
+    }
+
+    /// How many references there are.
+    pub fn len(&self) -> usize
+        ensures { result ≡ length self.now }
+    {
+        match self.block {
+            None => self.slice.len(),
+            Some(block) => len_in(block, self.blocks),
+        }
+    }
+
+    /// The reference at an index: at once in a slice, and along the blocks before it otherwise.
+    pub fn get(&self, index: usize) -> Option<&'a R>
+        ensures { IsAt result self.now index }
+    {
+        match self.block {
+            None => self.slice.get(index),
+            Some(block) => get_in(block, self.blocks, index),
+        }
+    }
+}
+
+// The block whose list has this number.
+#[tactic(auto, using(crate::proofs::BlockLaws::numbering))]
+fn numbered<R>(blocks: &[Block<R>], number: u32) -> Option<&Block<R>>
+    requires { AreLinked blocks.now }
+    ensures { IsNumbered result blocks.now number }
+{
+    let number = number as usize;
+    if number == 0 || blocks.len() < number {
+        return None;
+    }
+    Some(&blocks[number - 1])
+}
+
+// How many values a block has.
+fn len_in<R>(block: &Block<R>, blocks: &[Block<R>]) -> usize
+    requires { AreLinked blocks.now }
+    ensures { result ≡ length (list_in (lists_of blocks.now) block.now) }
+{
+    let mut count = block.front.len();
+    let mut rest = block.rest;
+    while let Some(next) = numbered(blocks, rest) {
+        count += next.front.len();
+        rest = next.rest;
+    }
+    count
+}
+
+// The value of a block at an index.
+fn get_in<'a, R>(block: &'a Block<R>, blocks: &'a [Block<R>], index: usize) -> Option<&'a R>
+    requires { AreLinked blocks.now }
+    ensures { IsAt result (list_in (lists_of blocks.now) block.now) index }
+{
+    if index < block.front.len() {
+        return block.front.get(index);
+    }
+    let mut left = index - block.front.len();
+    let mut rest = block.rest;
+    while let Some(next) = numbered(blocks, rest) {
+        if left < next.front.len() {
+            return next.front.get(left);
+        }
+        left -= next.front.len();
+        rest = next.rest;
+    }
+    None
+}
+
+/// A term as it is lent.
+#[derive(Drop)]
+pub struct Shape<'a, R> {
+    /// What the term is, but for its parts and annotations.
+    pub head: Top<'a>,
+    /// The parts, in order.
+    pub parts: Parts<'a, R>,
+    /// The annotations, in order.
+    pub annos: Parts<'a, R>,
+}

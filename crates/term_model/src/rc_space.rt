@@ -1,0 +1,261 @@
+//! The space of terms themselves: they are shared, so that a reference is a term.
+ghost use Rattle.std.specs.Prelude.{◌≡◌, ◌↔◌, ◌<◌, ◌≤◌, ◌++◌, All, map, drop, true, IfOk, IsTrue, OnOk, OnErr, [], length};
+ghost use Rattle.term_model.specs.Term.{term, head_of, parts_of, annos_of};
+ghost use Rattle.term_model.specs.declared.term.Head.TheVariants as heads;
+ghost use Rattle.term_model.specs.Space.{Keeps, Makes, MayHave};
+ghost use Rattle.term_model.specs.RcSpace.{kind_number};
+
+use crate::made::Made;
+use crate::parts::{Parts, Shape, Top};
+use crate::space::TermSpace;
+use crate::symbol::{Kind, Sym};
+use crate::term::{Head, Term};
+use std::alloc::{AllocError, Global};
+use std::cmp::Ordering;
+
+/// The space in which a reference is a term: every reference stands, and going back changes nothing.
+#[derive(Drop)]
+pub struct RcSpace;
+
+impl TermSpace for RcSpace {
+    type Ref = Term;
+
+    type Mark = ();
+
+    type Name = Sym;
+
+    ghost stands = { λ _ _. true };
+
+    ghost term_of = { λ _ t. t };
+
+    ghost is_valid = { λ _ _. true };
+
+    ghost covers = { λ _ _. true };
+
+    ghost covers_mark = { λ _ _. true };
+
+    ghost knows = { λ _ _. true };
+
+    ghost symbol_of = { λ _ s. s };
+
+    fn fits(&self, at: &Term) {
+        at.fits();
+    }
+
+    fn shape<'a>(&'a self, at: &'a Term) -> Shape<'a, Term> {
+        Shape {
+            head: self.head(at),
+            parts: Parts::of_slice(at.children()),
+            annos: Parts::of_slice(at.annos()),
+        }
+    }
+
+    fn head<'a>(&'a self, at: &'a Term) -> Top<'a> {
+        match at.head() {
+            Head::Int(value) => Top::Int(*value),
+            Head::App(symbol) => Top::App(symbol),
+            Head::List => Top::List,
+        }
+    }
+
+    fn same(&self, one: &Term, other: &Term) -> bool {
+        *one == *other
+    }
+
+    fn dup(&self, at: &Term) -> Result<Term, AllocError> {
+        at.clone()
+    }
+
+    fn int_of(&self, at: &Term) -> Option<i32> {
+        match at.head() {
+            Head::Int(value) => Some(*value),
+            Head::App(_) | Head::List => None,
+        }
+    }
+
+    fn list_len(&self, at: &Term) -> Option<usize> {
+        match at.head() {
+            Head::List => Some(at.children().len()),
+            Head::Int(_) | Head::App(_) => None,
+        }
+    }
+
+    fn is_app(&self, at: &Term, name: &Sym, count: usize) -> bool {
+        match at.head() {
+            Head::App(symbol) => *symbol == *name && at.children().len() == count,
+            Head::Int(_) | Head::List => false,
+        }
+    }
+
+    fn order(&self, at: &Term, name: &Sym, count: usize) -> Ordering {
+        match at.head() {
+            Head::Int(_) => Ordering::Less,
+            Head::App(symbol) => order_of_roots(symbol, at.children().len(), name, count),
+            Head::List => Ordering::Greater,
+        }
+    }
+
+    fn count(&self, at: &Term) -> usize {
+        at.children().len()
+    }
+
+    fn part(&self, at: &Term, index: usize) -> Result<Term, AllocError> {
+        at.children()[index].clone()
+    }
+
+    #[tactic(auto, using(crate::proofs::SpaceLemmas::pushed))]
+    fn push_parts(&self, at: &Term, stack: &mut Vec<Term>) -> Result<(), AllocError> {
+        push_all(stack, at.children())
+    }
+
+    #[tactic(auto, using(crate::proofs::SpaceLemmas::pushed))]
+    fn push_annos(&self, at: &Term, stack: &mut Vec<Term>) -> Result<(), AllocError> {
+        push_all(stack, at.annos())
+    }
+
+    fn name(&mut self, alloc: Global, symbol: &Sym) -> Result<Sym, AllocError> {
+        let _ = alloc;
+        symbol.clone()
+    }
+
+    fn int(&mut self, alloc: Global, value: i32) -> Result<Term, AllocError> {
+        Term::int(alloc, value)
+    }
+
+    fn app(&mut self, alloc: Global, name: &Sym, parts: &[Term]) -> Result<Made<Term>, AllocError> {
+        let symbol = name.clone()?;
+        let parts = Vec::from_clones(alloc, parts)?;
+        let made = Term::app(alloc, symbol, parts)?;
+        Ok(made)
+    }
+
+    fn list(&mut self, alloc: Global, elements: &[Term]) -> Result<Made<Term>, AllocError> {
+        let elements = Vec::from_clones(alloc, elements)?;
+        let made = Term::list(alloc, elements)?;
+        Ok(made)
+    }
+
+    fn prepend(
+        &mut self,
+        alloc: Global,
+        elements: &[Term],
+        tail: &Term,
+    ) -> Result<Made<Term>, AllocError> {
+        let others = tail.children();
+        let mut all = Vec::with_capacity(alloc, elements.len() + others.len())?;
+        push_all(&mut all, elements)?;
+        push_all(&mut all, others)?;
+        let made = Term::list(alloc, all)?;
+        Ok(made)
+    }
+
+    #[tactic(auto, using(crate::proofs::SpaceLemmas::rest_is_made))]
+    fn rest(&mut self, alloc: Global, at: &Term, count: usize) -> Result<Term, AllocError> {
+        let elements = Vec::from_clones(alloc, &at.children()[count..])?;
+        at.fits();
+        let made = Term::list(alloc, elements)?;
+        match made {
+            Made::Fits(list) => Ok(list),
+            Made::Oversize => unreachable!(),
+        }
+    }
+
+    #[tactic(auto, using(crate::proofs::SpaceLemmas::made_again))]
+    fn rebuild(
+        &mut self,
+        alloc: Global,
+        at: &Term,
+        parts: &[Term],
+    ) -> Result<Made<Term>, AllocError> {
+        let parts = Vec::from_clones(alloc, parts)?;
+        at.fits();
+        let made = at.rebuild(alloc, parts)?;
+        Ok(made)
+    }
+
+    fn with_annos(
+        &mut self,
+        alloc: Global,
+        at: &Term,
+        annos: &[Term],
+    ) -> Result<Made<Term>, AllocError> {
+        let annos = Vec::from_clones(alloc, annos)?;
+        let made = at.with_annos(alloc, annos)?;
+        Ok(made)
+    }
+
+    fn make(
+        &mut self,
+        alloc: Global,
+        head: Head,
+        parts: Vec<Term>,
+        annos: Vec<Term>,
+    ) -> Result<Made<Term>, AllocError>
+        requires head { MayHave head parts.items }
+        ensures keeps { Keeps ⟦<RcSpace as TermSpace>⟧.stands ⟦<RcSpace as TermSpace>⟧.term_of ⟦<RcSpace as TermSpace>⟧.is_valid ⟦<RcSpace as TermSpace>⟧.knows ⟦<RcSpace as TermSpace>⟧.symbol_of self.old self.new }
+        ensures made { IfOk result (Makes ⟦<RcSpace as TermSpace>⟧.stands ⟦<RcSpace as TermSpace>⟧.term_of self.new (term head parts.items annos.items)) }
+    {
+        let made = Term::new(alloc, head, parts, annos)?;
+        Ok(made)
+    }
+
+    fn mark(&self) -> () {}
+
+    fn back_to(&mut self, mark: ()) {
+        let () = mark;
+    }
+
+    fn enter(&mut self, alloc: Global, from: &Term) -> Result<Term, AllocError> {
+        let _ = alloc;
+        from.clone()
+    }
+
+    fn leave(&self, alloc: Global, at: &Term) -> Result<Term, AllocError> {
+        let _ = alloc;
+        at.clone()
+    }
+}
+
+// Puts the terms on the stack, which is as it was where that fails.
+#[tactic(auto, using(crate::proofs::SpaceLemmas::appended))]
+fn push_all(stack: &mut Vec<Term>, terms: &[Term]) -> Result<(), AllocError>
+    ensures pushed { OnOk result (stack.new.items ≡ stack.old.items ++ terms.now) }
+    ensures err { OnErr result (stack.new.items ≡ stack.old.items) }
+{
+    stack.extend_with_clones(terms)
+}
+
+// Where a symbol applied to so many parts stands from another: by the symbols, then by how many parts.
+#[tactic(auto, using(crate::proofs::SpaceLemmas::numbers_decide))]
+fn order_of_roots(one: &Sym, parts: usize, other: &Sym, count: usize) -> Ordering
+    ensures { (result ≡ Ordering.Equal) ↔ ((one.now ≡ other.now) × (parts ≡ count)) }
+{
+    let by_symbol = order_of_symbols(one, other);
+    if by_symbol != Ordering::Equal {
+        return by_symbol;
+    }
+    parts.cmp(&count)
+}
+
+// Where a symbol stands from another: by their kinds, then by their bytes.
+#[tactic(auto, using(crate::proofs::SpaceLemmas::symbols))]
+fn order_of_symbols(one: &Sym, other: &Sym) -> Ordering
+    ensures { (result ≡ Ordering.Equal) ↔ (one.now ≡ other.now) }
+{
+    let by_kind = number_of(one.kind()).cmp(&number_of(other.kind()));
+    if by_kind != Ordering::Equal {
+        return by_kind;
+    }
+    one.bytes().cmp(other.bytes())
+}
+
+// Kinds in their order.
+fn number_of(kind: Kind) -> u8
+    ensures { result ≡ kind_number kind }
+{
+    match kind {
+        Kind::Plain => 0,
+        Kind::Quoted => 1,
+        Kind::Tuple => 2,
+    }
+}
