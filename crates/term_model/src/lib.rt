@@ -25,4 +25,6 @@ pub use symbol::{Kind, Sym};
 pub use term::{Head, Term};
 
 #[cfg(test)]
+mod space_tests;
+#[cfg(test)]
 mod tests;
