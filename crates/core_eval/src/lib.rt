@@ -16,19 +16,3 @@ mod state;
 
 pub use run::eval;
 
-#[cfg(test)]
-mod call_rows;
-#[cfg(test)]
-mod library_rows;
-#[cfg(test)]
-mod pattern_rows;
-#[cfg(test)]
-mod primitive_rows;
-#[cfg(test)]
-mod rows;
-#[cfg(test)]
-mod samples;
-#[cfg(test)]
-mod tests;
-#[cfg(test)]
-mod traversal_rows;

@@ -1,12 +1,22 @@
-//! Tests of `lex` and `parse` together, and of `to_core`. They stand in a crate of their own, since a crate with
-//! tests is proved once more for them, and the parser and the reduction are the longest proofs of all.
+//! Tests of the public calls from the text of definitions to its core program: the lexer, the trees, the parser, declarations, the library,
+//! the checks and `to_core`. They stand in a crate of their own, since a crate with tests is proved once more for them.
 #![tactic(auto)]
 
+#[cfg(test)]
+mod checks;
 #[cfg(test)]
 mod copies;
 #[cfg(test)]
 mod cores;
 #[cfg(test)]
+mod declarations;
+#[cfg(test)]
 mod files;
 #[cfg(test)]
+mod library;
+#[cfg(test)]
 mod mutations;
+#[cfg(test)]
+mod tokens;
+#[cfg(test)]
+mod trees;

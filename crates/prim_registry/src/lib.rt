@@ -13,5 +13,3 @@ pub use primitive::{Action, Prim, PrimMeaning, Primitive};
 pub use registry::Registry;
 pub use standard::Standard;
 
-#[cfg(test)]
-mod tests;

@@ -18,11 +18,7 @@ mod names;
 mod nodes;
 pub mod notes;
 mod rules;
-#[cfg(test)]
-mod samples;
 pub mod side;
-#[cfg(test)]
-mod tests;
 mod top_heads;
 mod tops;
 mod walk;

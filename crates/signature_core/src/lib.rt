@@ -4,7 +4,5 @@
 mod arities;
 mod constructor;
 pub mod signature;
-#[cfg(test)]
-mod tests;
 
 pub use signature::Signature;

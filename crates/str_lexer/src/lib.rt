@@ -13,5 +13,3 @@ mod word;
 pub use lexer::lex;
 pub use token::{Keyword, LeftOut, Mark, QuotedText, Token, TokenKind};
 
-#[cfg(test)]
-mod tests;

@@ -12,8 +12,6 @@ mod sink;
 mod source;
 mod status;
 mod tally;
-#[cfg(test)]
-mod tests;
 
 pub use answer::{MAX_BUDGET, MAX_DEFINITIONS, MAX_TERM};
 pub use counted::Counted;

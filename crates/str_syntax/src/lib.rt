@@ -8,8 +8,6 @@ pub mod definition;
 mod same_sort;
 pub mod sort;
 pub mod strategy;
-#[cfg(test)]
-mod tests;
 pub mod text;
 
 pub use definition::{Definition, DefinitionForm, File, Origin, RuleDefinition, Section};

@@ -3,7 +3,5 @@
 
 mod forms;
 mod library;
-#[cfg(test)]
-mod tests;
 
 pub use library::with_library;

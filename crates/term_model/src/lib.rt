@@ -23,8 +23,3 @@ pub use short_text::ShortText;
 pub use space::TermSpace;
 pub use symbol::{Kind, Sym};
 pub use term::{Head, Term};
-
-#[cfg(test)]
-mod space_tests;
-#[cfg(test)]
-mod tests;

@@ -1,0 +1,16 @@
+//! Tests of the public calls from terms to whole runs: terms and their text, primitives, the evaluator and `transform`. They stand in a
+//! crate of their own, since a crate with tests is proved once more for them.
+#![tactic(auto)]
+
+#[cfg(test)]
+mod evaluator;
+#[cfg(test)]
+mod primitives;
+#[cfg(test)]
+mod spaces;
+#[cfg(test)]
+mod term_text;
+#[cfg(test)]
+mod terms;
+#[cfg(test)]
+mod transform;

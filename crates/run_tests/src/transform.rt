@@ -1,0 +1,13 @@
+//! What no clause says: outside vectors and whole runs.
+mod complaints;
+mod devices;
+mod forms;
+mod language_rows;
+mod library_rows;
+mod memory;
+mod option_rows;
+mod pipeline;
+mod primitive_rows;
+mod primitives;
+mod rows;
+mod term_rows;

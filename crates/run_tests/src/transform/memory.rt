@@ -1,0 +1,93 @@
+//! Whole runs over the readers and writers of std in memory.
+ghost use Rattle.std.specs.Prelude.{◌≤◌, IfOk};
+ghost use Rattle.prim_registry.specs.Entries.{IsHonest};
+ghost use Rattle.term_model.specs.Limits.{max_budget};
+ghost use Rattle.str_pipeline.specs.Setting.{setting_of};
+ghost use Rattle.str_pipeline.specs.Written.{IsWritten};
+
+use prim_registry::{PrimMeaning, Registry, Standard};
+use std::alloc::Global;
+use std::test::Fail;
+use str_pipeline::{Counted, MAX_BUDGET, Options, Status, transform};
+use term_model::Fault;
+
+/// The status of a run, and what was written.
+#[derive(Drop)]
+struct Answer {
+    status: Status,
+    line: Vec<u8>,
+}
+
+/// Transforms texts in memory: the line and the status are those of the definitions, the term, the
+/// options and the primitives of the registry.
+#[tactic(auto, using(str_pipeline::proofs::MemoryLaws::written_whole))]
+fn transformed<M: PrimMeaning>(
+    alloc: Global,
+    defs: &[u8],
+    term: &[u8],
+    options: &Options,
+    registry: &Registry<M>,
+) -> Result<Answer, Fault>
+    requires budget { options.now.budget ≤ max_budget }
+    requires honest { IsHonest M.answer registry.now }
+    ensures { IfOk result (λ answer. IsWritten defs.now term.now (setting_of M.answer registry.now options.now) answer.status answer.line.items) }
+{
+    let mut first = Counted::new(defs);
+    let mut second = Counted::new(term);
+    let mut out = Counted::new(Vec::new(alloc));
+    let status = transform(alloc, &mut first, &mut second, options, registry, &mut out)?;
+    Ok(Answer {
+        status,
+        line: out.into_inner(),
+    })
+}
+
+#[test]
+fn texts_in_memory(rt: HostRuntime) -> Result<(), Fail> {
+    // definitions, term, budget; the line
+    let rows = [
+        (
+            "strategies main = ?(x,_); !x",
+            "(7,f(1))",
+            MAX_BUDGET,
+            "7\n",
+        ),
+        ("strategies main = ?(x,_); !x", "7", MAX_BUDGET, "#failed\n"),
+        ("strategies main = ?(x,_); !x", "(7,1)", 4, "#spent\n"),
+        ("strategies main = rec x(x)", "7", 100, "#spent\n"),
+        (
+            "strategies main = id",
+            "(7,",
+            MAX_BUDGET,
+            "#refused TermSyntax\n",
+        ),
+        ("strategies main = #", "7", MAX_BUDGET, "#refused Lexical\n"),
+        (
+            "strategies main = go",
+            "7",
+            MAX_BUDGET,
+            "#refused UnknownStrategy\n",
+        ),
+    ];
+    let registry = Registry::<Standard>::new(rt.alloc());
+    for (defs, term, budget, line) in rows {
+        let options = Options {
+            main: b"main".to_vec(rt.alloc())?,
+            strict: false,
+            budget: budget.min(MAX_BUDGET),
+        };
+        let answer = transformed(
+            rt.alloc(),
+            defs.as_bytes(),
+            term.as_bytes(),
+            &options,
+            &registry,
+        )?;
+        assert_eq!(rt; answer.line.as_slice(), line.as_bytes());
+        assert_eq!(rt;
+            matches!(answer.status, Status::Rewritten),
+            !line.starts_with("#")
+        );
+    }
+    Ok(())
+}

@@ -1,0 +1,53 @@
+//! Files that call primitives, where `add` and `length` are registered.
+use crate::transform::rows::TextRow;
+
+pub(super) const PRIMITIVE_ROWS: &[TextRow] = &[
+    (
+        "strategies main = ?(x,y); prim(\"add\",x,y)",
+        "(2,3)",
+        "5",
+        Some(5),
+    ),
+    (
+        "strategies main = ?(x,y); prim(\"add\",x,y)",
+        "(2147483647,1)",
+        "#failed",
+        None,
+    ),
+    (
+        "strategies main = ?(x,y); prim(\"add\",x,y)",
+        "([1],2)",
+        "#failed",
+        None,
+    ),
+    (
+        "strategies main = ?x; prim(\"length\",x)",
+        "\"abc\"{n}",
+        "3",
+        Some(5),
+    ),
+    (
+        "strategies main = ?x; prim(\"add\",x,y)",
+        "1",
+        "#failed",
+        None,
+    ),
+    (
+        "strategies main = prim(\"add\",1)",
+        "1",
+        "#refused UnknownPrimitive",
+        None,
+    ),
+    (
+        "strategies main = prim(\"nope\")",
+        "1",
+        "#refused UnknownPrimitive",
+        None,
+    ),
+    (
+        "strategies main = map(\\ (x,y) -> <prim(\"add\",x,y)> () \\)",
+        "[(1,2),(3,4)]",
+        "[3,7]",
+        None,
+    ),
+];
