@@ -7,6 +7,8 @@ mod evaluator;
 #[cfg(test)]
 mod primitives;
 #[cfg(test)]
+mod single_calls;
+#[cfg(test)]
 mod spaces;
 #[cfg(test)]
 mod term_text;

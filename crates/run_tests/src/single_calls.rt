@@ -1,0 +1,61 @@
+// A definition file through each call from its bytes to a run; what is expected was worked out by hand.
+ghost use Rattle.std.specs.Prelude.{◌≤◌};
+ghost use Rattle.prim_registry.specs.Entries.{IsHonest};
+
+use aterm_text::{read_term, write_term};
+use core_eval::eval;
+use core_lang::{Core, Outcome};
+use prim_registry::{Registry, Standard};
+use scope_check::check;
+use std::alloc::Global;
+use std::test::Fail;
+use str_desugar::to_core;
+use str_lexer::lex;
+use str_parser::parse;
+use strategy_lib::with_library;
+use term_model::PrimNames;
+
+const DEFINITIONS: &[u8] = b"strategies main = ?(x,_); !x";
+
+// The core of the definitions with the library.
+fn core_of(alloc: Global, definitions: &[u8]) -> Result<Core, Fail> {
+    let tokens = lex(alloc, definitions)?;
+    let file = parse(alloc, definitions, &tokens)?;
+    let file = with_library(alloc, file)?;
+    let checked = check(alloc, file, &PrimNames::new(alloc), b"main")?;
+    Ok(to_core(alloc, &checked)?)
+}
+
+// The text of the term that the core rewrites to within the budget, and the rules; no text where the budget is spent.
+fn run(alloc: Global, core: &Core, text: &[u8], budget: u32) -> Result<(Vec<u8>, u32), Fail>
+    requires { budget ≤ 2_000 }
+{
+    let registry = Registry::<Standard>::new(alloc);
+    if !registry.covers(core.prims()) {
+        return Err(Fail::new("a primitive"));
+    }
+    let term = read_term(alloc, text)?;
+    let run = eval(alloc, core, &term, budget, &registry)?;
+    let mut written = Vec::new(alloc);
+    match &run.outcome {
+        Outcome::Rewritten(found) => write_term(found, &mut written)?,
+        Outcome::Spent => {}
+        _ => return Err(Fail::new("another ending")),
+    }
+    Ok((written, run.rules))
+}
+
+#[test]
+fn from_bytes_to_a_run(rt: HostRuntime) -> Result<(), Fail> {
+    let alloc = rt.alloc();
+    let core = core_of(alloc, DEFINITIONS)?;
+    let (written, rules) = run(alloc, &core, b"(7,f(1))", 5)?;
+    if written[..] != b"7"[..] || rules != 5 {
+        return Err(Fail::new("within its five rules"));
+    }
+    let (written, rules) = run(alloc, &core, b"(7,f(1))", 4)?;
+    if !written.is_empty() || rules != 4 {
+        return Err(Fail::new("spent with one rule less"));
+    }
+    Ok(())
+}
