@@ -15,4 +15,3 @@ mod run;
 mod state;
 
 pub use run::eval;
-

@@ -12,4 +12,3 @@ pub use flat::{Bytes, Flat, Numbers};
 pub use primitive::{Action, Prim, PrimMeaning, Primitive};
 pub use registry::Registry;
 pub use standard::Standard;
-

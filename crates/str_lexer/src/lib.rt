@@ -12,4 +12,3 @@ mod word;
 
 pub use lexer::lex;
 pub use token::{Keyword, LeftOut, Mark, QuotedText, Token, TokenKind};
-
