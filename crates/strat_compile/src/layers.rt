@@ -1,0 +1,119 @@
+// The layers that a strategy stands in, as far as they are known when its code is made.
+ghost use Rattle.std.specs.Prelude.{◌≡◌, ◌+◌, ◌≤◌, suc, IfOk};
+ghost use Rattle.strat_code.specs.Context.{by_frames, frames_in, outer, size, slot_in};
+ghost use Rattle.strat_compile.specs.Layers.{context_of};
+
+use core_lang::{Coordinate, CoreDef};
+use std::alloc::AllocError;
+
+/// A definition's code: its address, and for how many places more than the parameters its frame has room.
+#[derive(Clone, Copy)]
+pub(crate) struct Entry {
+    pub(crate) address: usize,
+    pub(crate) room: usize,
+}
+
+/// The layers that a strategy stands in, innermost first.
+#[derive(Clone, Copy)]
+pub(crate) enum Layers<'a> {
+    /// No layer.
+    Outermost,
+    /// Of a definition, or of a scope that has a frame: its places are those of the frame.
+    Framed {
+        parameters: usize,
+        variables: usize,
+        outer: &'a Layers<'a>,
+    },
+    /// Of a scope without a frame: its places are in the innermost frame, from an offset on.
+    Within {
+        variables: usize,
+        offset: usize,
+        outer: &'a Layers<'a>,
+    },
+    /// Of definitions, each with the entry of its code; it has no frame.
+    Defining {
+        defs: &'a [CoreDef],
+        entries: &'a [Entry],
+        outer: &'a Layers<'a>,
+    },
+}
+
+/// The number after this one. `Err` where that leaves 64 bits, since no memory holds as many instructions or places.
+pub(crate) fn successor(number: usize) -> Result<usize, AllocError>
+    ensures { IfOk result (λ made. made ≡ suc number) }
+{
+    number.checked_add(1).ok_or(AllocError)
+}
+
+/// The sum of the numbers. `Err` where that leaves 64 bits, since no memory holds as many instructions or places.
+pub(crate) fn sum(first: usize, second: usize) -> Result<usize, AllocError>
+    ensures { IfOk result (λ made. made ≡ first + second) }
+{
+    first.checked_add(second).ok_or(AllocError)
+}
+
+/// The layers without this number of the innermost ones.
+pub(crate) fn outside<'a>(layers: &'a Layers<'a>, layers_up: usize) -> &'a Layers<'a>
+    ensures { context_of result.now ≡ outer (context_of layers.now) layers_up }
+{
+    if layers_up == 0 {
+        return layers;
+    }
+    match layers {
+        Layers::Outermost => layers,
+        Layers::Framed { outer, .. } => outside(outer, layers_up - 1),
+        Layers::Within { outer, .. } => outside(outer, layers_up - 1),
+        Layers::Defining { outer, .. } => outside(outer, layers_up - 1),
+    }
+}
+
+/// How many of the innermost layers, so many, have frames.
+pub(crate) fn frames_among(layers: &Layers, layers_up: usize) -> usize
+    ensures frames { result ≡ frames_in (context_of layers.now) layers_up }
+    ensures at_most { result ≤ layers_up }
+{
+    if layers_up == 0 {
+        return 0;
+    }
+    match layers {
+        Layers::Outermost => 0,
+        Layers::Framed { outer, .. } => frames_among(outer, layers_up - 1) + 1,
+        Layers::Within { outer, .. } => frames_among(outer, layers_up - 1),
+        Layers::Defining { outer, .. } => frames_among(outer, layers_up - 1),
+    }
+}
+
+// The position of a variable of the innermost layer in its frame.
+fn position_in(layers: &Layers, slot: usize) -> Result<usize, AllocError>
+    ensures { IfOk result (λ position. position ≡ slot_in (context_of layers.now) slot) }
+{
+    match layers {
+        Layers::Outermost => Ok(slot),
+        Layers::Framed { .. } => Ok(slot),
+        Layers::Within { offset, .. } => sum(*offset, slot),
+        Layers::Defining { .. } => Ok(slot),
+    }
+}
+
+/// The coordinate by frames: how many frames up a variable or a closure is, and its position in that frame.
+pub(crate) fn frame_coordinate(layers: &Layers, at: Coordinate) -> Result<Coordinate, AllocError>
+    ensures { IfOk result (λ made. made ≡ by_frames (context_of layers.now) at) }
+{
+    let layers_up = frames_among(layers, at.layers_up);
+    let slot = position_in(outside(&*layers, at.layers_up), at.slot)?;
+    Ok(Coordinate { layers_up, slot })
+}
+
+/// How many places the innermost frame has.
+pub(crate) fn frame_size(layers: &Layers) -> Result<usize, AllocError>
+    ensures { IfOk result (λ places. places ≡ size (context_of layers.now)) }
+{
+    match layers {
+        Layers::Outermost => Ok(0),
+        Layers::Framed { variables, .. } => Ok(*variables),
+        Layers::Within {
+            variables, offset, ..
+        } => sum(*offset, *variables),
+        Layers::Defining { outer, .. } => frame_size(outer),
+    }
+}

@@ -1,0 +1,6 @@
+//! The compiler from cores to code.
+#![tactic(auto)]
+
+mod layers;
+mod names;
+mod patterns;
