@@ -1,1 +1,4 @@
 pub mod Layers
+pub mod Output
+pub mod Emission
+pub mod Located

@@ -1,15 +1,16 @@
 // The layers that a strategy stands in, as far as they are known when its code is made.
-ghost use Rattle.std.specs.Prelude.{◌≡◌, ◌+◌, ◌≤◌, suc, IfOk};
-ghost use Rattle.strat_code.specs.Context.{by_frames, frames_in, outer, size, slot_in};
-ghost use Rattle.strat_compile.specs.Layers.{context_of};
+ghost use Rattle.std.specs.Prelude.{◌≡◌, ◌+◌, ◌≤◌, suc, IfOk, MatchOption};
+ghost use Rattle.core_lang.specs.Views.{definitions_of, strategy_of};
+ghost use Rattle.strat_code.specs.Context.{HasDefinitions, HasOwnCode, by_frames, frames_in, outer, size, slot_in};
+ghost use Rattle.strat_compile.specs.Layers.{HandsOn, context_of, entries_of, entry_in, entry_of, labelled, room_for};
 
-use core_lang::{Coordinate, CoreDef};
+use core_lang::{Coordinate, CoreDef, CoreStrategy};
 use std::alloc::AllocError;
 
-/// A definition's code: its address, and for how many places more than the parameters its frame has room.
+/// A definition's code: its label, and for how many places more than the parameters its frame has room.
 #[derive(Clone, Copy)]
 pub(crate) struct Entry {
-    pub(crate) address: usize,
+    pub(crate) label: usize,
     pub(crate) room: usize,
 }
 
@@ -30,10 +31,10 @@ pub(crate) enum Layers<'a> {
         offset: usize,
         outer: &'a Layers<'a>,
     },
-    /// Of definitions, each with the entry of its code; it has no frame.
+    /// Of definitions, which have labels from the first one on; it has no frame.
     Defining {
         defs: &'a [CoreDef],
-        entries: &'a [Entry],
+        first_label: usize,
         outer: &'a Layers<'a>,
     },
 }
@@ -115,5 +116,67 @@ pub(crate) fn frame_size(layers: &Layers) -> Result<usize, AllocError>
             variables, offset, ..
         } => sum(*offset, *variables),
         Layers::Defining { outer, .. } => frame_size(outer),
+    }
+}
+
+/// For how many places more than the parameters the frame of a definition with this body has room.
+pub(crate) fn room_of(body: &CoreStrategy) -> usize
+    ensures { result ≡ room_for (strategy_of body.now) }
+{
+    match body {
+        CoreStrategy::Scope(places, _) => *places,
+        _ => 0,
+    }
+}
+
+// The entry of the definition at a position.
+fn entry_at(defs: &[CoreDef], first_label: usize, position: usize) -> Result<Entry, AllocError>
+    ensures { IfOk result (λ entry. entry_of entry ≡ entry_in (labelled first_label (definitions_of defs.now)) position) }
+{
+    match defs.get(position) {
+        Some(def) => {
+            let label = sum(first_label, position)?;
+            let room = room_of(&def.body);
+            Ok(Entry { label, room })
+        }
+        None => Ok(Entry { label: 0, room: 0 }),
+    }
+}
+
+/// The entry of the definition that is called at this coordinate; `None` where a strategy parameter is called.
+pub(crate) fn entry_called(layers: &Layers, at: Coordinate) -> Result<Option<Entry>, AllocError>
+    ensures { IfOk result (λ called. MatchOption called (¬ (HasDefinitions (outer (context_of layers.now) at.layers_up)))
+        (λ entry. HasDefinitions (outer (context_of layers.now) at.layers_up) × (entry_in (entries_of (outer (context_of layers.now) at.layers_up)) at.slot ≡ entry_of entry))) }
+{
+    match outside(&*layers, at.layers_up) {
+        Layers::Defining {
+            defs, first_label, ..
+        } => {
+            let entry = entry_at(defs, *first_label, at.slot)?;
+            Ok(Some(entry))
+        }
+        Layers::Outermost => Ok(None),
+        Layers::Framed { .. } => Ok(None),
+        Layers::Within { .. } => Ok(None),
+    }
+}
+
+/// The strategy parameter by frames, where the argument is a call of one, whose closure is handed on; `None` where the argument
+/// has code of its own.
+pub(crate) fn parameter_handed(
+    layers: &Layers,
+    argument: &CoreStrategy,
+) -> Result<Option<Coordinate>, AllocError>
+    ensures { IfOk result (λ handed. MatchOption handed (HasOwnCode (context_of layers.now) (strategy_of argument.now)) (λ y. HandsOn (context_of layers.now) (strategy_of argument.now) y)) }
+{
+    let CoreStrategy::Call(at, _, _) = argument else {
+        return Ok(None);
+    };
+    match entry_called(layers, *at)? {
+        Some(_) => Ok(None),
+        None => {
+            let parameter = frame_coordinate(layers, *at)?;
+            Ok(Some(parameter))
+        }
     }
 }

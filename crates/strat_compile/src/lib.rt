@@ -1,6 +1,10 @@
 //! The compiler from cores to code.
 #![tactic(auto)]
 
+mod emit;
 mod layers;
+mod leaves;
+mod located;
 mod names;
+mod output;
 mod patterns;

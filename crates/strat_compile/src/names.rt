@@ -1,4 +1,4 @@
-// Copies of sets of names of primitives.
+// Copies of names of primitives.
 ghost use Rattle.std.specs.Prelude.{◌≡◌, IfOk};
 
 use std::alloc::{AllocError, Global};
@@ -13,5 +13,14 @@ pub(crate) fn copied(alloc: Global, source: &PrimNames) -> Result<PrimNames, All
         let (name, arity) = source.at(index);
         made.insert(name, arity)?;
     }
+    Ok(made)
+}
+
+/// A copy of a name.
+pub(crate) fn copied_name(alloc: Global, name: &[u8]) -> Result<Vec<u8>, AllocError>
+    ensures { IfOk result (λ made. made.items ≡ name.now) }
+{
+    let mut made = Vec::with_capacity(alloc, name.len())?;
+    made.extend_from_slice(name)?;
     Ok(made)
 }

@@ -1,0 +1,74 @@
+-- Loops over chains, arms, definitions and arguments, as the rows of what is emitted.
+use Rattle.std.proofs.Common.{◌≡◌, ◌+◌, ◌-◌, ◌<◌, ◌++◌, ℕ, zero, suc, Bool, List, [], ◌∷◌, map, length, get_or, drop, refl, ap, sym, ◌∙◌, subst, arith}
+use Rattle.std.proofs.lemmas.List.{append_assoc, drop_more}
+use Rattle.core_lang.specs.declared.coordinate.Coordinate.{Coordinate}
+use Rattle.core_lang.specs.declared.program.CoreArm.{CoreArm}
+use Rattle.core_lang.specs.declared.program.CoreDef.{CoreDef}
+use Rattle.core_lang.specs.declared.program.CoreStrategy.{CoreStrategy}
+use Rattle.core_lang.specs.Program.{id, fail, seq, choice, match, build, scope, all, one, some, with_definitions, call, primitive, more_strategies}
+use Rattle.core_lang.specs.Resolved.{ResolvedStrategy}
+use Rattle.core_lang.specs.Views.{Arm, chain, first_of, strategy_of, strategies_of, arm_of, def_of, definitions_of}
+use Rattle.strat_code.specs.Code.{Argument, parameter_at}
+use Rattle.strat_code.specs.Context.{Context}
+use Rattle.strat_compile.specs.Emission.{Emits, emits_seq, emits_choice, EmitsArm, EmitsRest, no_rest, some_rest, EmitsBody, EmitsBodies, emits_more_bodies, EmitsArguments, emits_parameter_argument, PutsArgument}
+use Rattle.strat_compile.specs.Layers.{HandsOn}
+use Rattle.strat_compile.specs.Output.{Emitted, place, starting, count_of}
+
+pub rest_more : {w : Bool} {C : Context} {x : ℕ} {s : ResolvedStrategy} {ss : List ResolvedStrategy} {o o1 o2 : Emitted} →
+    EmitsRest w C x ss o o1 → Emits w C x s o1 o2 → Emits w C 0 (chain s ss) o o2
+rest_more no_rest emitted = emitted
+rest_more (some_rest others) emitted = emits_seq others emitted
+
+pub first_in_front : {w : Bool} {C : Context} {x y : ℕ} {s1 s : ResolvedStrategy} {ss : List ResolvedStrategy} {o o1 o2 o3 : Emitted} →
+    EmitsRest w C y ss o o1 → Emits w C y s o1 o2 → Emits w C (suc x) s1 o2 o3 → Emits w C x (seq s1 (chain s ss)) o o3
+first_in_front rest second first = emits_seq (rest_more rest second) first
+
+pub rest_next : {w : Bool} {C : Context} {x : ℕ} {o o1 o2 : Emitted} (ss : List CoreStrategy) (i : ℕ) (d : CoreStrategy) → i < length ss →
+    EmitsRest w C x (map strategy_of (drop (i + 1) ss)) o o1 → Emits w C x (strategy_of (get_or ss i d)) o1 o2 → EmitsRest w C 1 (map strategy_of (drop i ss)) o o2
+rest_next {w} {C} {x} {o} {o1} {o2} ss i d h rest emitted =
+    subst (λ xs. EmitsRest w C 1 (map strategy_of xs) o o2) (sym (drop_more ss i d h)) (some_rest (rest_more rest emitted))
+
+pub arm_next : (s : ResolvedStrategy) {w : Bool} {C : Context} {o o1 o2 : Emitted} (arms : List CoreArm) (i : ℕ) (d : CoreArm) → i < length arms →
+    Emits w C 0 (first_of (map arm_of (drop (i + 1) arms)) s) o o1 → EmitsArm w C 0 (arm_of (get_or arms i d)).guard (arm_of (get_or arms i d)).then (place o) o1 o2 →
+    Emits w C 0 (first_of (map arm_of (drop i arms)) s) o o2
+arm_next s {w} {C} {o} {o1} {o2} arms i d h rest emitted =
+    subst (λ xs. Emits w C 0 (first_of (map arm_of xs) s) o o2) (sym (drop_more arms i d h)) (emits_choice rest emitted)
+
+-- with whatever is emitted for the bodies that are left, it is what is emitted for all
+abbrev pub BodiesLeft : Context → (first label : ℕ) → (whole left : List CoreDef) → Emitted → Emitted → Type 0
+BodiesLeft C first label whole left o o1 = (o2 : Emitted) → EmitsBodies C label (definitions_of left) o1 o2 → EmitsBodies C first (definitions_of whole) o o2
+
+pub body_next : {C : Context} {first label : ℕ} {o o1 o2 : Emitted} (ds : List CoreDef) (i : ℕ) (d : CoreDef) → i < length ds →
+    BodiesLeft C first label ds (drop i ds) o o1 → EmitsBody C (def_of (get_or ds i d)).strats (def_of (get_or ds i d)).terms (def_of (get_or ds i d)).body o1 o2 →
+    BodiesLeft C first (suc label) ds (drop (i + 1) ds) o (starting label o2)
+body_next {C} {first} {label} {o} {o1} ds i d h so_far emitted o3 others =
+    so_far o3 (subst (λ xs. EmitsBodies C label (definitions_of xs) o1 o3) (sym (drop_more ds i d h)) (emits_more_bodies emitted others))
+
+-- with whatever is emitted for the arguments that are left, it is what is emitted for all
+abbrev pub ArgumentsLeft : Context → (whole left : List CoreStrategy) → (made : List Argument) → Emitted → Emitted → Type 0
+ArgumentsLeft C whole left made o o1 = (us : List Argument) (o2 : Emitted) → EmitsArguments C (strategies_of left) o1 o2 us → EmitsArguments C (strategies_of whole) o o2 (made ++ us)
+
+pub argument_next : {C : Context} {o o1 o2 : Emitted} (made : List Argument) (u : Argument) (ss : List CoreStrategy) (i : ℕ) (d : CoreStrategy) → i < length ss →
+    ArgumentsLeft C ss (drop i ss) made o o1 → PutsArgument C (strategy_of (get_or ss i d)) o1 o2 u → ArgumentsLeft C ss (drop (i + 1) ss) (made ++ u ∷ []) o o2
+argument_next {C} {o} {o1} made u ss i d h so_far emitted us o3 others =
+    subst (λ vs. EmitsArguments C (strategies_of ss) o o3 vs) (sym (append_assoc made (u ∷ []) us))
+    (so_far (u ∷ us) o3 (subst (λ xs. EmitsArguments C (strategies_of xs) o1 o3 (u ∷ us)) (sym (drop_more ss i d h)) (emitted _ us o3 others)))
+
+pub handed_on : (C : Context) (s : ResolvedStrategy) (o : Emitted) (y : Coordinate) → HandsOn C s y → PutsArgument C s o o (parameter_at y)
+handed_on C id o y h = elim h [ ]
+handed_on C fail o y h = elim h [ ]
+handed_on C (seq s1 s2) o y h = elim h [ ]
+handed_on C (choice s1 s2 s3) o y h = elim h [ ]
+handed_on C (match p) o y h = elim h [ ]
+handed_on C (build p) o y h = elim h [ ]
+handed_on C (scope k s) o y h = elim h [ ]
+handed_on C (all s) o y h = elim h [ ]
+handed_on C (one s) o y h = elim h [ ]
+handed_on C (some s) o y h = elim h [ ]
+handed_on C (with_definitions ds s) o y h = elim h [ ]
+handed_on C (call z ss ps) o y h = λ vs us o2 others. subst (λ x. EmitsArguments C (more_strategies (call z ss ps) vs) o o2 (parameter_at x ∷ us)) (sym h.1) (emits_parameter_argument h.0 others)
+handed_on C (primitive f ps) o y h = elim h [ ]
+
+pub counted : (ds : List CoreDef) → count_of (definitions_of ds) ≡ length ds
+counted [] = refl
+counted (d ∷ ds) = ap suc (counted ds) ∙ omega arith

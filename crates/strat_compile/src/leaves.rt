@@ -1,0 +1,95 @@
+// What is emitted for a strategy of one instruction.
+ghost use Rattle.std.specs.Prelude.{OnOk};
+ghost use Rattle.core_lang.specs.Program.{build, call, fail, id, match, primitive};
+ghost use Rattle.core_lang.specs.Views.{pattern_of, patterns_of};
+ghost use Rattle.strat_code.specs.Context.{HasDefinitions, outer};
+ghost use Rattle.strat_compile.specs.Emission.{Emits};
+ghost use Rattle.strat_compile.specs.Layers.{context_of};
+ghost use Rattle.strat_compile.specs.Output.{emitted_of};
+
+use crate::layers::{Layers, frame_coordinate, successor};
+use crate::names::copied_name;
+use crate::output::Output;
+use crate::patterns::{by_frames_pattern, by_frames_patterns};
+use core_lang::{Coordinate, CorePattern};
+use std::alloc::{AllocError, Global};
+use strat_code::Instr;
+
+#[tactic(auto, using(crate::proofs::RowLaws::id_row))]
+pub(crate) fn emit_id(out: &mut Output, charged: usize) -> Result<(), AllocError>
+    ensures { OnOk result ((w : _) (C : _) → Emits w C charged id (emitted_of out.old) (emitted_of out.new)) }
+{
+    let nodes = successor(charged)?;
+    out.emit(Instr::Count { nodes })
+}
+
+#[tactic(auto, using(crate::proofs::RowLaws::fail_row))]
+pub(crate) fn emit_fail(out: &mut Output, charged: usize) -> Result<(), AllocError>
+    ensures { OnOk result ((w : _) (C : _) → Emits w C charged fail (emitted_of out.old) (emitted_of out.new)) }
+{
+    let nodes = successor(charged)?;
+    out.emit(Instr::GiveUp { nodes })
+}
+
+#[tactic(auto, using(crate::proofs::RowLaws::match_row))]
+pub(crate) fn emit_match(
+    alloc: Global,
+    out: &mut Output,
+    layers: &Layers,
+    charged: usize,
+    p: &CorePattern,
+) -> Result<(), AllocError>
+    ensures { OnOk result ((w : _) → Emits w (context_of layers.now) charged (match (pattern_of p.now)) (emitted_of out.old) (emitted_of out.new)) }
+{
+    let nodes = successor(charged)?;
+    let pattern = by_frames_pattern(alloc, layers, p)?;
+    out.emit(Instr::Match { nodes, pattern })
+}
+
+#[tactic(auto, using(crate::proofs::RowLaws::build_row))]
+pub(crate) fn emit_build(
+    alloc: Global,
+    out: &mut Output,
+    layers: &Layers,
+    charged: usize,
+    p: &CorePattern,
+) -> Result<(), AllocError>
+    ensures { OnOk result ((w : _) → Emits w (context_of layers.now) charged (build (pattern_of p.now)) (emitted_of out.old) (emitted_of out.new)) }
+{
+    let nodes = successor(charged)?;
+    let pattern = by_frames_pattern(alloc, layers, p)?;
+    out.emit(Instr::Build { nodes, pattern })
+}
+
+#[tactic(auto, using(crate::proofs::RowLaws::primitive_row))]
+pub(crate) fn emit_primitive(
+    alloc: Global,
+    out: &mut Output,
+    layers: &Layers,
+    charged: usize,
+    name: &[u8],
+    terms: &[CorePattern],
+) -> Result<(), AllocError>
+    ensures { OnOk result ((w : _) → Emits w (context_of layers.now) charged (primitive name.now (patterns_of terms.now)) (emitted_of out.old) (emitted_of out.new)) }
+{
+    let nodes = successor(charged)?;
+    let name = copied_name(alloc, name)?;
+    let terms = by_frames_patterns(alloc, layers, terms)?;
+    out.emit(Instr::ApplyPrimitive { nodes, name, terms })
+}
+
+/// A call of a strategy parameter.
+#[tactic(auto, using(crate::proofs::RowLaws::parameter_row))]
+pub(crate) fn emit_closure_call(
+    out: &mut Output,
+    layers: &Layers,
+    charged: usize,
+    at: Coordinate,
+) -> Result<(), AllocError>
+    requires { ¬ (HasDefinitions (outer (context_of layers.now) at.layers_up)) }
+    ensures { OnOk result ((w : _) (ss : _) (ps : _) → Emits w (context_of layers.now) charged (call at ss ps) (emitted_of out.old) (emitted_of out.new)) }
+{
+    let nodes = successor(charged)?;
+    let closure = frame_coordinate(layers, at)?;
+    out.emit(Instr::CallClosure { nodes, closure })
+}
