@@ -10,7 +10,7 @@ use Rattle.core_lang.specs.Resolved.{ResolvedStrategy}
 use Rattle.core_lang.specs.Views.{Arm, chain, first_of, strategy_of, strategies_of, arm_of, def_of, definitions_of}
 use Rattle.strat_code.specs.Code.{Argument, parameter_at}
 use Rattle.strat_code.specs.Context.{Context}
-use Rattle.strat_compile.specs.Emission.{Emits, emits_seq, emits_choice, EmitsArm, EmitsRest, no_rest, some_rest, EmitsBody, EmitsBodies, emits_more_bodies, EmitsArguments, emits_parameter_argument, PutsArgument}
+use Rattle.strat_compile.specs.Emission.{Emits, emits_seq, emits_choice, EmitsArm, EmitsRest, no_rest, some_rest, EmitsBody, EmitsBodies, emits_more_bodies, EmitsArguments, emits_parameter_argument, PutsArgument, PutsArms}
 use Rattle.strat_compile.specs.Layers.{HandsOn}
 use Rattle.strat_compile.specs.Output.{Emitted, place, starting, count_of}
 
@@ -28,11 +28,12 @@ pub rest_next : {w : Bool} {C : Context} {x : ℕ} {o o1 o2 : Emitted} (ss : Lis
 rest_next {w} {C} {x} {o} {o1} {o2} ss i d h rest emitted =
     subst (λ xs. EmitsRest w C 1 (map strategy_of xs) o o2) (sym (drop_more ss i d h)) (some_rest (rest_more rest emitted))
 
-pub arm_next : (s : ResolvedStrategy) {w : Bool} {C : Context} {o o1 o2 : Emitted} (arms : List CoreArm) (i : ℕ) (d : CoreArm) → i < length arms →
-    Emits w C 0 (first_of (map arm_of (drop (i + 1) arms)) s) o o1 → EmitsArm w C 0 (arm_of (get_or arms i d)).guard (arm_of (get_or arms i d)).then (place o) o1 o2 →
-    Emits w C 0 (first_of (map arm_of (drop i arms)) s) o o2
-arm_next s {w} {C} {o} {o1} {o2} arms i d h rest emitted =
-    subst (λ xs. Emits w C 0 (first_of (map arm_of xs) s) o o2) (sym (drop_more arms i d h)) (emits_choice rest emitted)
+pub arm_next : {w : Bool} {C : Context} {to : ℕ} {o1 o2 o3 : Emitted} (arms : List CoreArm) (i : ℕ) (d : CoreArm) → i < length arms →
+    PutsArms w C (map arm_of (drop (i + 1) arms)) to o1 o2 → EmitsArm w C 0 (arm_of (get_or arms i d)).guard (arm_of (get_or arms i d)).then to o2 o3 →
+    PutsArms w C (map arm_of (drop i arms)) to o1 o3
+arm_next {w} {C} {to} {o1} {o2} {o3} arms i d h so_far emitted s o is others =
+    subst (λ xs. Emits w C 0 (first_of (map arm_of xs) s) o o3) (sym (drop_more arms i d h))
+    (emits_choice (so_far s o is others) (subst (λ p. EmitsArm w C 0 (arm_of (get_or arms i d)).guard (arm_of (get_or arms i d)).then p o2 o3) is emitted))
 
 -- with whatever is emitted for the bodies that are left, it is what is emitted for all
 abbrev pub BodiesLeft : Context → (first label : ℕ) → (whole left : List CoreDef) → Emitted → Emitted → Type 0

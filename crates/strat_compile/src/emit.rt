@@ -2,10 +2,11 @@
 ghost use Rattle.std.specs.Prelude.{IfOk, OnOk, map, true};
 ghost use Rattle.core_lang.specs.Program.{call, scope};
 ghost use Rattle.core_lang.specs.Views.{arm_of, def_of, definitions_of, patterns_of, strategies_of, strategy_of};
+ghost use Rattle.strat_code.specs.Code.{end_definition};
 ghost use Rattle.strat_code.specs.CodeOf.{argument_of, traversal_of};
 ghost use Rattle.strat_compile.specs.Emission.{Emits, EmitsArguments, EmitsArm, EmitsBodies, EmitsBody, EmitsDefinitions, EmitsRest, EmitsThen, PutsArgument, PutsArms, traversed};
 ghost use Rattle.strat_compile.specs.Layers.{context_of};
-ghost use Rattle.strat_compile.specs.Output.{emitted_of};
+ghost use Rattle.strat_compile.specs.Output.{emitted_of, onto};
 
 use crate::layers::{
     Entry, Layers, entry_called, frame_size, frames_among, parameter_handed,
@@ -90,6 +91,7 @@ pub(crate) fn emit(
 
 // The rest of a chain, which is emitted first, and the further nodes of what stands in front of it.
 #[cycle(emission)]
+#[tactic(auto, using(crate::proofs::EmissionLaws::rest_next))]
 fn emit_rest(
     alloc: Global,
     out: &mut Output,
@@ -109,6 +111,7 @@ fn emit_rest(
 
 // Arms, in front of what is done where each of their guards fails.
 #[cycle(emission)]
+#[tactic(auto, using(crate::proofs::EmissionLaws::arm_next))]
 fn emit_arms(
     alloc: Global,
     out: &mut Output,
@@ -126,6 +129,7 @@ fn emit_arms(
 }
 
 #[cycle(emission)]
+#[tactic(auto, using(crate::proofs::RowLaws::arm_row))]
 fn emit_arm(
     alloc: Global,
     out: &mut Output,
@@ -146,6 +150,7 @@ fn emit_arm(
 
 // What follows a guard, after the instruction that takes the choice record off.
 #[cycle(emission)]
+#[tactic(auto, using(crate::proofs::RowLaws::id_then, crate::proofs::RowLaws::code_then))]
 fn emit_then(
     alloc: Global,
     out: &mut Output,
@@ -174,6 +179,7 @@ fn emit_then(
 }
 
 #[cycle(emission)]
+#[tactic(auto, using(crate::proofs::RowLaws::scope_row))]
 fn emit_scope(
     alloc: Global,
     out: &mut Output,
@@ -197,6 +203,7 @@ fn emit_scope(
 
 // A scope whose places are in the innermost frame.
 #[cycle(emission)]
+#[tactic(auto, using(crate::proofs::RowLaws::inner_row))]
 fn emit_inner_scope(
     alloc: Global,
     out: &mut Output,
@@ -219,6 +226,7 @@ fn emit_inner_scope(
 }
 
 #[cycle(emission)]
+#[tactic(auto, using(crate::proofs::RowLaws::traversal_row))]
 fn emit_traversal(
     alloc: Global,
     out: &mut Output,
@@ -243,6 +251,7 @@ fn emit_traversal(
 
 // The bodies of the definitions of a let, after a jump past them.
 #[cycle(emission)]
+#[tactic(auto, using(crate::proofs::RowLaws::definitions_row))]
 fn emit_definitions(
     alloc: Global,
     out: &mut Output,
@@ -260,6 +269,7 @@ fn emit_definitions(
 
 /// Emits the bodies of definitions in these layers, whose labels begin with this one.
 #[cycle(emission)]
+#[tactic(auto, using(crate::proofs::FormLaws::bodies_next))]
 pub(crate) fn emit_bodies(
     alloc: Global,
     out: &mut Output,
@@ -279,6 +289,7 @@ pub(crate) fn emit_bodies(
 }
 
 #[cycle(emission)]
+#[tactic(auto, using(crate::proofs::FormLaws::of_def, crate::proofs::RowLaws::plain_body))]
 fn emit_body(
     alloc: Global,
     out: &mut Output,
@@ -292,7 +303,6 @@ fn emit_body(
         variables: def.terms,
         outer: &*layers,
     };
-    out.emit(Instr::EndDefinition)?;
     match &def.body {
         CoreStrategy::Scope(places, body) => {
             let inner = Layers::Within {
@@ -300,13 +310,30 @@ fn emit_body(
                 offset: def.terms,
                 outer: &frame,
             };
-            emit(alloc, out, &inner, true, 1, body)
+            emit_ended(alloc, out, &inner, 1, body)
         }
-        body => emit(alloc, out, &frame, true, 0, body),
+        body => emit_ended(alloc, out, &frame, 0, body),
     }
 }
 
+// Code with the end of a definition after it.
 #[cycle(emission)]
+#[tactic(auto, using(crate::proofs::RowLaws::ended_row))]
+fn emit_ended(
+    alloc: Global,
+    out: &mut Output,
+    layers: &Layers,
+    charged: usize,
+    body: &CoreStrategy,
+) -> Result<(), AllocError>
+    ensures { OnOk result (Emits true (context_of layers.now) charged (strategy_of body.now) (onto end_definition (emitted_of out.old)) (emitted_of out.new)) }
+{
+    out.emit(Instr::EndDefinition)?;
+    emit(alloc, out, layers, true, charged, body)
+}
+
+#[cycle(emission)]
+#[tactic(auto, using(crate::proofs::RowLaws::call_row))]
 fn emit_call(
     alloc: Global,
     out: &mut Output,
@@ -338,6 +365,7 @@ fn emit_call(
 
 // The code of strategy arguments, and the arguments.
 #[cycle(emission)]
+#[tactic(auto, using(crate::proofs::EmissionLaws::argument_next, crate::proofs::RowLaws::arguments_done))]
 fn emit_arguments(
     alloc: Global,
     out: &mut Output,
@@ -355,6 +383,7 @@ fn emit_arguments(
 }
 
 #[cycle(emission)]
+#[tactic(auto, using(crate::proofs::RowLaws::own_code, crate::proofs::EmissionLaws::handed_on))]
 fn emit_argument(
     alloc: Global,
     out: &mut Output,
