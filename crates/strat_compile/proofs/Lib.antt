@@ -5,3 +5,8 @@ pub mod ScopeLaws
 pub mod LayerLaws
 pub mod NameLaws
 pub mod RenamedLaws
+pub mod EndLaws
+pub mod LabelLaws
+pub mod PlacedLaws
+pub mod RangeLaws
+pub mod AddressLaws

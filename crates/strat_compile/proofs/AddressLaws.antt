@@ -1,0 +1,197 @@
+-- Each address in what is emitted is one of its instructions.
+use Rattle.std.proofs.Common.{◌≡◌, ◌+◌, ◌-◌, ◌<◌, ◌≤◌, ◌++◌, ℕ, zero, suc, Bool, Option, Some, None, List, [], ◌∷◌, map, length, set, replicate, refl, subst, sym, arith}
+use Rattle.std.specs.Prelude.{slice_get}
+use Rattle.core_lang.specs.Resolved.{ResolvedStrategy, ResolvedStrategies, ResolvedDefinitions}
+use Rattle.strat_code.specs.Code.{Argument, code_at, parameter_at, Instr, count, give_up, match_term, build_term, enter, leave, extend, shrink, try, commit, select, jump, traverse, part_done, call_definition, call_closure, end_definition, end_argument, apply_primitive, finish, Code}
+use Rattle.strat_code.specs.CodeOf.{ArgumentsInRange, AddressesInRange, AllInRange}
+use Rattle.strat_code.specs.Context.{Context}
+use Rattle.strat_compile.specs.Emission.{Emits, emits_id, emits_fail, emits_seq, emits_choice, emits_match, emits_build, emits_scope, emits_inner, emits_all, emits_one, emits_some, emits_let, emits_call, emits_parameter, emits_primitive, EmitsArm, emits_arm, EmitsThen, then_id, then_code, EmitsDefinitions, emits_definitions, EmitsBodies, emits_no_bodies, emits_more_bodies, EmitsBody, emits_body, emits_scope_body, EmitsArguments, emits_no_arguments, emits_code_argument, emits_parameter_argument}
+use Rattle.strat_compile.specs.Located.{located, address, address_if, argument_located}
+use Rattle.strat_compile.specs.Output.{Emitted, place, count_of}
+
+-- each place has an instruction
+abbrev pub ArgumentsHavePlaces : List Argument → Type 0
+ArgumentsHavePlaces [] = Unit {0}
+ArgumentsHavePlaces (code_at p ∷ us) = (1 ≤ p) × ArgumentsHavePlaces us
+ArgumentsHavePlaces (parameter_at y ∷ us) = ArgumentsHavePlaces us
+
+abbrev pub HasPlaces : Instr → Type 0
+HasPlaces (count k) = Unit {0}
+HasPlaces (give_up k) = Unit {0}
+HasPlaces (match_term k p) = Unit {0}
+HasPlaces (build_term k p) = Unit {0}
+HasPlaces (enter k m) = Unit {0}
+HasPlaces leave = Unit {0}
+HasPlaces (extend k m) = Unit {0}
+HasPlaces (shrink m) = Unit {0}
+HasPlaces (try k a) = 1 ≤ a
+HasPlaces (commit k a) = 1 ≤ a
+HasPlaces (select k cs a) = ⊥
+HasPlaces (jump a) = 1 ≤ a
+HasPlaces (traverse k m a) = 1 ≤ a
+HasPlaces part_done = Unit {0}
+HasPlaces (call_definition k h label room a us ps) = (1 ≤ a) × ArgumentsHavePlaces us
+HasPlaces (call_closure k y) = Unit {0}
+HasPlaces end_definition = Unit {0}
+HasPlaces end_argument = Unit {0}
+HasPlaces (apply_primitive k f ps) = Unit {0}
+HasPlaces finish = Unit {0}
+
+abbrev pub AllHavePlaces : Code → Type 0
+AllHavePlaces [] = Unit {0}
+AllHavePlaces (v ∷ vs) = HasPlaces v × AllHavePlaces vs
+
+abbrev pub AllStart : List ℕ → Type 0
+AllStart [] = Unit {0}
+AllStart (p ∷ A) = (1 ≤ p) × AllStart A
+
+-- the places and the starts of labels have instructions, and there is one at least
+pub record Sound (o : Emitted) : Type 0 where
+  pub code : AllHavePlaces o.code
+  pub starts : AllStart o.starts
+
+more_start : (A B : List ℕ) → AllStart A → AllStart B → AllStart (A ++ B)
+more_start [] B a b = b
+more_start (p ∷ A) B a b = (a.0, more_start A B a.1 b)
+
+ones_start : (k : ℕ) → AllStart (replicate k 1)
+ones_start zero = tt
+ones_start (suc k) = (omega arith, ones_start k)
+
+set_start : (A : List ℕ) (i p : ℕ) → 1 ≤ p → AllStart A → AllStart (set A i p)
+set_start [] i p h a = tt
+set_start (q ∷ A) zero p h a = (h, a.1)
+set_start (q ∷ A) (suc i) p h a = (a.0, set_start A i p h a.1)
+
+-- with an instruction in front
+in_front : {v : Instr} {c : Code} {A : List ℕ} → HasPlaces v → Sound (record { code = c; starts = A }) → Sound (record { code = v ∷ c; starts = A })
+in_front h s = record { code = (h, s.code); starts = s.starts }
+
+mutual
+  pub longer : {w : Bool} {C : Context} {x : ℕ} {s : ResolvedStrategy} {o o1 : Emitted} → Emits w C x s o o1 → length o.code ≤ length o1.code
+  longer emits_id = omega arith
+  longer emits_fail = omega arith
+  longer (emits_seq a b) = let one = longer a in let two = longer b in omega (arith, one, two)
+  longer (emits_choice a b) = let one = longer a in let two = longer_arm b in omega (arith, one, two)
+  longer emits_match = omega arith
+  longer emits_build = omega arith
+  longer (emits_scope a) = let one = longer a in omega (arith, one)
+  longer (emits_inner a) = let one = longer a in omega (arith, one)
+  longer (emits_all a) = let one = longer a in omega (arith, one)
+  longer (emits_one a) = let one = longer a in omega (arith, one)
+  longer (emits_some a) = let one = longer a in omega (arith, one)
+  longer (emits_let a b) = let one = longer_definitions a in let two = longer b in omega (arith, one, two)
+  longer (emits_call has entry a) = let one = longer_arguments a in omega (arith, one)
+  longer (emits_parameter none) = omega arith
+  longer emits_primitive = omega arith
+
+  longer_arm : {w : Bool} {C : Context} {x to : ℕ} {s1 s2 : ResolvedStrategy} {o o1 : Emitted} → EmitsArm w C x s1 s2 to o o1 → length o.code ≤ length o1.code
+  longer_arm (emits_arm a b) = let one = longer_then a in let two = longer b in omega (arith, one, two)
+
+  longer_then : {w : Bool} {C : Context} {to : ℕ} {s : ResolvedStrategy} {o o1 : Emitted} → EmitsThen w C s to o o1 → length o.code ≤ length o1.code
+  longer_then then_id = omega arith
+  longer_then (then_code a) = let one = longer a in omega (arith, one)
+
+  longer_definitions : {C : Context} {label to : ℕ} {ds : ResolvedDefinitions} {o o1 : Emitted} → EmitsDefinitions C label ds to o o1 → length o.code ≤ length o1.code
+  longer_definitions (emits_definitions a) = let one = longer_bodies a in omega (arith, one)
+
+  pub longer_bodies : {C : Context} {label : ℕ} {ds : ResolvedDefinitions} {o o1 : Emitted} → EmitsBodies C label ds o o1 → length o.code ≤ length o1.code
+  longer_bodies emits_no_bodies = omega arith
+  longer_bodies (emits_more_bodies a b) = let one = longer_body a in let two = longer_bodies b in omega (arith, one, two)
+
+  longer_body : {C : Context} {m k : ℕ} {s : ResolvedStrategy} {o o1 : Emitted} → EmitsBody C m k s o o1 → length o.code < length o1.code
+  longer_body (emits_body none a) = let one = longer a in omega (arith, one)
+  longer_body (emits_scope_body a) = let one = longer a in omega (arith, one)
+
+  longer_arguments : {C : Context} {ss : ResolvedStrategies} {us : List Argument} {o o1 : Emitted} → EmitsArguments C ss o o1 us → length o.code ≤ length o1.code
+  longer_arguments emits_no_arguments = omega arith
+  longer_arguments (emits_code_argument own a b) = let one = longer a in let two = longer_arguments b in omega (arith, one, two)
+  longer_arguments (emits_parameter_argument none b) = longer_arguments b
+
+mutual
+  pub sound : {w : Bool} {C : Context} {x : ℕ} {s : ResolvedStrategy} {o o1 : Emitted} → Emits w C x s o o1 → 1 ≤ length o.code → Sound o → Sound o1
+  sound emits_id h s = in_front tt s
+  sound emits_fail h s = in_front tt s
+  sound (emits_seq a b) h s = let more = longer a in sound b (omega (arith, h, more)) (sound a h s)
+  sound (emits_choice a b) h s = let more = longer a in sound_arm b h (omega (arith, h, more)) (sound a h s)
+  sound emits_match h s = in_front tt s
+  sound emits_build h s = in_front tt s
+  sound (emits_scope a) h s = in_front tt (sound a (omega (arith, h)) (in_front tt s))
+  sound (emits_inner a) h s = in_front tt (sound a (omega (arith, h)) (in_front tt s))
+  sound (emits_all a) h s = in_front h (sound a (omega (arith, h)) (in_front tt s))
+  sound (emits_one a) h s = in_front h (sound a (omega (arith, h)) (in_front tt s))
+  sound (emits_some a) h s = in_front h (sound a (omega (arith, h)) (in_front tt s))
+  sound (emits_let a b) h s = let more = longer_definitions a in sound b (omega (arith, h, more)) (sound_definitions a h s)
+  sound (emits_call has entry a) h s = let made = sound_arguments a h s in in_front (h, made.0) made.1
+  sound (emits_parameter none) h s = in_front tt s
+  sound emits_primitive h s = in_front tt s
+
+  sound_arm : {w : Bool} {C : Context} {x to : ℕ} {s1 s2 : ResolvedStrategy} {o o1 : Emitted} → EmitsArm w C x s1 s2 to o o1 → 1 ≤ to → 1 ≤ length o.code → Sound o → Sound o1
+  sound_arm (emits_arm a b) to h s = let more = longer_then a in in_front h (sound b (omega (arith, h, more)) (sound_then a to h s))
+
+  sound_then : {w : Bool} {C : Context} {to : ℕ} {s : ResolvedStrategy} {o o1 : Emitted} → EmitsThen w C s to o o1 → 1 ≤ to → 1 ≤ length o.code → Sound o → Sound o1
+  sound_then then_id to h s = in_front to s
+  sound_then (then_code a) to h s = let more = longer a in in_front (omega (arith, h, more)) (sound a (omega (arith, h)) (in_front to s))
+
+  sound_definitions : {C : Context} {label to : ℕ} {ds : ResolvedDefinitions} {o o1 : Emitted} → EmitsDefinitions C label ds to o o1 → 1 ≤ to → Sound o → Sound o1
+  sound_definitions (emits_definitions {ds = ds} {o = o} a) to s =
+      in_front to (sound_bodies a (record { code = s.code; starts = more_start o.starts (replicate (count_of ds) 1) s.starts (ones_start (count_of ds)) }))
+
+  pub sound_bodies : {C : Context} {label : ℕ} {ds : ResolvedDefinitions} {o o1 : Emitted} → EmitsBodies C label ds o o1 → Sound o → Sound o1
+  sound_bodies emits_no_bodies s = s
+  sound_bodies (emits_more_bodies {label = label} {o1 = o1} a b) s =
+      let more = longer_body a in let made = sound_body a s in
+      sound_bodies b (record { code = made.code; starts = set_start o1.starts label (length o1.code) (omega (arith, more)) made.starts })
+
+  sound_body : {C : Context} {m k : ℕ} {s : ResolvedStrategy} {o o1 : Emitted} → EmitsBody C m k s o o1 → Sound o → Sound o1
+  sound_body (emits_body none a) s = sound a (omega arith) (in_front tt s)
+  sound_body (emits_scope_body a) s = sound a (omega arith) (in_front tt s)
+
+  sound_arguments : {C : Context} {ss : ResolvedStrategies} {us : List Argument} {o o1 : Emitted} → EmitsArguments C ss o o1 us → 1 ≤ length o.code → Sound o → ArgumentsHavePlaces us × Sound o1
+  sound_arguments emits_no_arguments h s = (tt, s)
+  sound_arguments (emits_code_argument own a b) h s =
+      let more = longer a in
+      let rest = sound_arguments b (omega (arith, h, more)) (sound a (omega (arith, h)) (in_front tt s)) in
+      ((omega (arith, h, more), rest.0), rest.1)
+  sound_arguments (emits_parameter_argument none b) h s = sound_arguments b h s
+
+-- in code of n instructions, one at least
+module _ (n : ℕ) (some_code : 1 ≤ n) where
+  below : (p : ℕ) → 1 ≤ p → n - p < n
+  below p h = omega (arith, h, some_code)
+
+  arguments_in_range : (us : List Argument) → ArgumentsHavePlaces us → ArgumentsInRange n (map (argument_located n) us)
+  arguments_in_range [] h = tt
+  arguments_in_range (code_at p ∷ us) h = (below p h.0, arguments_in_range us h.1)
+  arguments_in_range (parameter_at y ∷ us) h = arguments_in_range us h
+
+  label_in_range : (A : List ℕ) (l : ℕ) → AllStart A → address_if n (slice_get A l) < n
+  label_in_range [] l h = omega (arith, some_code)
+  label_in_range (p ∷ A) zero h = below p h.0
+  label_in_range (p ∷ A) (suc l) h = label_in_range A l h.1
+
+  instr_in_range : (A : List ℕ) (v : Instr) → AllStart A → HasPlaces v → AddressesInRange n (located n A v)
+  instr_in_range A (count k) s h = tt
+  instr_in_range A (give_up k) s h = tt
+  instr_in_range A (match_term k p) s h = tt
+  instr_in_range A (build_term k p) s h = tt
+  instr_in_range A (enter k m) s h = tt
+  instr_in_range A leave s h = tt
+  instr_in_range A (extend k m) s h = tt
+  instr_in_range A (shrink m) s h = tt
+  instr_in_range A (try k a) s h = below a h
+  instr_in_range A (commit k a) s h = below a h
+  instr_in_range A (select k cs a) s h = elim h [ ]
+  instr_in_range A (jump a) s h = below a h
+  instr_in_range A (traverse k m a) s h = below a h
+  instr_in_range A part_done s h = tt
+  instr_in_range A (call_definition k h label room a us ps) s has = (label_in_range A label s, (below a has.0, arguments_in_range us has.1))
+  instr_in_range A (call_closure k y) s h = tt
+  instr_in_range A end_definition s h = tt
+  instr_in_range A end_argument s h = tt
+  instr_in_range A (apply_primitive k f ps) s h = tt
+  instr_in_range A finish s h = tt
+
+  pub all_in_range : (A : List ℕ) (vs : Code) → AllStart A → AllHavePlaces vs → AllInRange n (map (located n A) vs)
+  all_in_range A [] s h = tt
+  all_in_range A (v ∷ vs) s h = (instr_in_range A v s h.0, all_in_range A vs s h.1)

@@ -1,0 +1,84 @@
+-- Ends of code, the addresses where they begin, and what is an end of what is emitted.
+use Rattle.std.proofs.Common.{◌≡◌, ◌+◌, ◌-◌, ◌<◌, ◌≤◌, ◌++◌, ℕ, zero, suc, Bool, Some, List, [], ◌∷◌, map, length, refl, ap, sym, ◌∙◌, subst, arith}
+use Rattle.std.specs.Prelude.{slice_get}
+use Rattle.std.specs.Option.{option_map}
+use Rattle.std.proofs.lemmas.List.{append_assoc, length-append}
+use Rattle.std.proofs.lemmas.Option.{slice_get-map}
+use Rattle.core_lang.specs.Resolved.{ResolvedStrategy, ResolvedStrategies, ResolvedDefinitions}
+use Rattle.strat_code.specs.Code.{Argument, Instr, Code, At}
+use Rattle.strat_code.specs.Context.{Context}
+use Rattle.strat_compile.specs.Emission.{Emits, emits_id, emits_fail, emits_seq, emits_choice, emits_match, emits_build, emits_scope, emits_inner, emits_all, emits_one, emits_some, emits_let, emits_call, emits_parameter, emits_primitive, EmitsArm, emits_arm, EmitsThen, then_id, then_code, EmitsDefinitions, emits_definitions, EmitsBodies, emits_no_bodies, emits_more_bodies, EmitsBody, emits_body, emits_scope_body, EmitsArguments, emits_no_arguments, emits_code_argument, emits_parameter_argument}
+use Rattle.strat_compile.specs.Located.{located}
+use Rattle.strat_compile.specs.Output.{Emitted}
+
+-- the second is an end of the first
+pub data IsEnd (c : Code) : Code → Type 0 where
+  whole_end : IsEnd c c
+  later_end : {v : Instr} {d : Code} → IsEnd c (v ∷ d) → IsEnd c d
+
+split_at : {c d : Code} → IsEnd c d → (b : Code) × (c ≡ b ++ d)
+split_at whole_end = ([], refl)
+split_at (later_end {v} {d} h) = let before = split_at h in (before.0 ++ v ∷ [], before.1 ∙ sym (append_assoc before.0 (v ∷ []) d))
+
+pub long_enough : {c d : Code} → IsEnd c d → length d ≤ length c
+long_enough {c} {d} h = let before = split_at h in omega (arith, ap length before.1, length-append before.0 d)
+
+seam : (b : Code) (v : Instr) (d : Code) → slice_get (b ++ v ∷ d) (length b) ≡ Some v
+seam [] v d = refl
+seam (u ∷ b) v d = seam b v d
+
+pub at_end : {c d : Code} {v : Instr} → IsEnd c (v ∷ d) → slice_get c (length c - length (v ∷ d)) ≡ Some v
+at_end {c} {d} {v} h =
+    let before = split_at h in
+    let place : length c - length (v ∷ d) ≡ length before.0 = omega (arith, ap length before.1, length-append before.0 (v ∷ d)) in
+    ap (λ k. slice_get c k) place ∙ ap (λ e. slice_get e (length before.0)) before.1 ∙ seam before.0 v d
+
+-- the address after that of an instruction
+pub next_address : {c d : Code} {v : Instr} → IsEnd c (v ∷ d) → suc (length c - length (v ∷ d)) ≡ length c - length d
+next_address {c} {d} {v} h = let enough = long_enough h in omega (arith, enough)
+
+-- the instruction with its addresses, in all of the code
+pub located_at : (c : Code) (n : ℕ) (A : List ℕ) {d : Code} {v : Instr} → IsEnd c (v ∷ d) → At (map (located n A) c) (length c - length (v ∷ d)) (located n A v)
+located_at c n A {d} {v} h = slice_get-map (located n A) c _ ∙ ap (λ r. option_map (located n A) r) (at_end h)
+
+module _ (c : Code) where
+  mutual
+    pub end_emitted : {w : Bool} {C : Context} {x : ℕ} {s : ResolvedStrategy} {o o1 : Emitted} → Emits w C x s o o1 → IsEnd c o1.code → IsEnd c o.code
+    end_emitted emits_id h = later_end h
+    end_emitted emits_fail h = later_end h
+    end_emitted (emits_seq a b) h = end_emitted a (end_emitted b h)
+    end_emitted (emits_choice a b) h = end_emitted a (end_arm b h)
+    end_emitted emits_match h = later_end h
+    end_emitted emits_build h = later_end h
+    end_emitted (emits_scope a) h = later_end (end_emitted a (later_end h))
+    end_emitted (emits_inner a) h = later_end (end_emitted a (later_end h))
+    end_emitted (emits_all a) h = later_end (end_emitted a (later_end h))
+    end_emitted (emits_one a) h = later_end (end_emitted a (later_end h))
+    end_emitted (emits_some a) h = later_end (end_emitted a (later_end h))
+    end_emitted (emits_let a b) h = end_definitions a (end_emitted b h)
+    end_emitted (emits_call has entry a) h = end_arguments a (later_end h)
+    end_emitted (emits_parameter none) h = later_end h
+    end_emitted emits_primitive h = later_end h
+
+    pub end_arm : {w : Bool} {C : Context} {x to : ℕ} {s1 s2 : ResolvedStrategy} {o o1 : Emitted} → EmitsArm w C x s1 s2 to o o1 → IsEnd c o1.code → IsEnd c o.code
+    end_arm (emits_arm a b) h = end_then a (end_emitted b (later_end h))
+
+    pub end_then : {w : Bool} {C : Context} {to : ℕ} {s : ResolvedStrategy} {o o1 : Emitted} → EmitsThen w C s to o o1 → IsEnd c o1.code → IsEnd c o.code
+    end_then then_id h = later_end h
+    end_then (then_code a) h = later_end (end_emitted a (later_end h))
+
+    pub end_definitions : {C : Context} {label to : ℕ} {ds : ResolvedDefinitions} {o o1 : Emitted} → EmitsDefinitions C label ds to o o1 → IsEnd c o1.code → IsEnd c o.code
+    end_definitions (emits_definitions a) h = end_bodies a (later_end h)
+
+    pub end_bodies : {C : Context} {label : ℕ} {ds : ResolvedDefinitions} {o o1 : Emitted} → EmitsBodies C label ds o o1 → IsEnd c o1.code → IsEnd c o.code
+    end_bodies emits_no_bodies h = h
+    end_bodies (emits_more_bodies a b) h = end_body a (end_bodies b h)
+
+    pub end_body : {C : Context} {m k : ℕ} {s : ResolvedStrategy} {o o1 : Emitted} → EmitsBody C m k s o o1 → IsEnd c o1.code → IsEnd c o.code
+    end_body (emits_body none a) h = later_end (end_emitted a h)
+    end_body (emits_scope_body a) h = later_end (end_emitted a h)
+
+    pub end_arguments : {C : Context} {ss : ResolvedStrategies} {us : List Argument} {o o1 : Emitted} → EmitsArguments C ss o o1 us → IsEnd c o1.code → IsEnd c o.code
+    end_arguments emits_no_arguments h = h
+    end_arguments (emits_code_argument own a b) h = later_end (end_emitted a (end_arguments b h))
+    end_arguments (emits_parameter_argument none b) h = end_arguments b h

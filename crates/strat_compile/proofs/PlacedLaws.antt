@@ -1,0 +1,148 @@
+-- Contexts with addresses in place of labels.
+use Rattle.std.proofs.Common.{◌≡◌, ◌+◌, ◌-◌, ◌<◌, ◌⊎◌, inl, inr, ℕ, zero, suc, Option, Some, None, List, [], ◌∷◌, map, refl, ap, ap₂, sym, ◌∙◌, subst, arith}
+use Rattle.std.specs.Prelude.{slice_get}
+use Rattle.core_lang.specs.declared.coordinate.Coordinate.{Coordinate}
+use Rattle.core_lang.specs.Program.{id, fail, seq, choice, match, build, scope, all, one, some, with_definitions, call, primitive, no_definitions, more_definitions}
+use Rattle.core_lang.specs.Resolved.{ResolvedStrategy, ResolvedDefinitions}
+use Rattle.core_lang.specs.InRange.{Layers, layer_of, layer_of_definitions, outside, IsDefinition, IsCallee}
+use Rattle.strat_code.specs.Code.{Entry, entry_at}
+use Rattle.strat_code.specs.Context.{Context, top, framed, within, defining, layers_of, outer, frames_in, slot_in, by_frames, size, HasParameter, HasDefinitions, HasOwnCode}
+use Rattle.strat_compile.specs.Layers.{labelled, entry_in, entries_of, room_for}
+use Rattle.strat_compile.specs.Located.{address_if}
+
+-- each layer of definitions has labels from some label on
+abbrev pub IsLabelled : Context → Type 0
+IsLabelled top = Unit {0}
+IsLabelled (framed m k C) = IsLabelled C
+IsLabelled (within k offset C) = IsLabelled C
+IsLabelled (defining ds es C) = ((label : ℕ) × (es ≡ labelled label ds)) × IsLabelled C
+
+pub labelled_outer : (C : Context) (i : ℕ) → IsLabelled C → IsLabelled (outer C i)
+labelled_outer C zero h = h
+labelled_outer top (suc i) h = h
+labelled_outer (framed m k C) (suc i) h = labelled_outer C i h
+labelled_outer (within k offset C) (suc i) h = labelled_outer C i h
+labelled_outer (defining ds es C) (suc i) h = labelled_outer C i h.1
+
+pub outer_layers : (C : Context) (i : ℕ) → outside (layers_of C) i ≡ layers_of (outer C i)
+outer_layers C zero = refl
+outer_layers top (suc i) = refl
+outer_layers (framed m k C) (suc i) = outer_layers C i
+outer_layers (within k offset C) (suc i) = outer_layers C i
+outer_layers (defining ds es C) (suc i) = outer_layers C i
+
+-- what is called where there are no definitions is a strategy parameter
+pub is_parameter : (D : Context) (i m k : ℕ) → ¬ (HasDefinitions D) → IsCallee (layers_of D) i m k → HasParameter D i
+is_parameter top i m k none h = h
+is_parameter (framed m' k' D) i m k none h = h.0
+is_parameter (within k' offset D) i m k none h = absurd (omega (arith, h.0))
+is_parameter (defining ds es D) i m k none h = absurd (none tt)
+
+module _ (n : ℕ) (A : List ℕ) where
+  abbrev pub placed_entry : Entry → Entry
+  placed_entry (entry_at label room) = entry_at (address_if n (slice_get A label)) room
+
+  abbrev pub placed : Context → Context
+  placed top = top
+  placed (framed m k C) = framed m k (placed C)
+  placed (within k offset C) = within k offset (placed C)
+  placed (defining ds es C) = defining ds (map placed_entry es) (placed C)
+
+  pub placed_layers : (C : Context) → layers_of (placed C) ≡ layers_of C
+  placed_layers top = refl
+  placed_layers (framed m k C) = ap (λ L. layer_of m k L) (placed_layers C)
+  placed_layers (within k offset C) = ap (λ L. layer_of 0 k L) (placed_layers C)
+  placed_layers (defining ds es C) = ap (λ L. layer_of_definitions ds L) (placed_layers C)
+
+  pub placed_outer : (C : Context) (i : ℕ) → outer (placed C) i ≡ placed (outer C i)
+  placed_outer C zero = refl
+  placed_outer top (suc i) = refl
+  placed_outer (framed m k C) (suc i) = placed_outer C i
+  placed_outer (within k offset C) (suc i) = placed_outer C i
+  placed_outer (defining ds es C) (suc i) = placed_outer C i
+
+  pub placed_frames : (C : Context) (i : ℕ) → frames_in (placed C) i ≡ frames_in C i
+  placed_frames C zero = refl
+  placed_frames top (suc i) = refl
+  placed_frames (framed m k C) (suc i) = ap suc (placed_frames C i)
+  placed_frames (within k offset C) (suc i) = placed_frames C i
+  placed_frames (defining ds es C) (suc i) = placed_frames C i
+
+  placed_slot : (C : Context) (i : ℕ) → slot_in (placed C) i ≡ slot_in C i
+  placed_slot top i = refl
+  placed_slot (framed m k C) i = refl
+  placed_slot (within k offset C) i = refl
+  placed_slot (defining ds es C) i = refl
+
+  placed_coordinate : (C : Context) (y : Coordinate) → by_frames (placed C) y ≡ by_frames C y
+  placed_coordinate C y =
+      ap₂ (λ h i. record { layers_up = h; slot = i }) (placed_frames C y.layers_up) (ap (λ D. slot_in D y.slot) (placed_outer C y.layers_up) ∙ placed_slot (outer C y.layers_up) y.slot)
+
+  pub placed_by_frames : (C : Context) → by_frames (placed C) ≡ by_frames C
+  placed_by_frames C = λ i y. placed_coordinate C y i
+
+  pub placed_size : (C : Context) → size (placed C) ≡ size C
+  placed_size top = refl
+  placed_size (framed m k C) = refl
+  placed_size (within k offset C) = refl
+  placed_size (defining ds es C) = placed_size C
+
+  placed_parameter_here : (D : Context) (i : ℕ) → HasParameter D i → HasParameter (placed D) i
+  placed_parameter_here top i h = h
+  placed_parameter_here (framed m k D) i h = h
+  placed_parameter_here (within k offset D) i h = h
+  placed_parameter_here (defining ds es D) i h = h
+
+  pub placed_parameter : (C : Context) (y : Coordinate) (m k : ℕ) → ¬ (HasDefinitions (outer C y.layers_up)) → IsCallee (outside (layers_of C) y.layers_up) y.slot m k →
+      HasParameter (outer (placed C) y.layers_up) y.slot
+  placed_parameter C y m k none h =
+      subst (λ D. HasParameter D y.slot) (sym (placed_outer C y.layers_up))
+      (placed_parameter_here (outer C y.layers_up) y.slot (is_parameter (outer C y.layers_up) y.slot m k none (subst (λ L. IsCallee L y.slot m k) (outer_layers C y.layers_up) h)))
+
+  placed_definitions : (D : Context) → HasDefinitions D → HasDefinitions (placed D)
+  placed_definitions top h = h
+  placed_definitions (framed m k D) h = h
+  placed_definitions (within k offset D) h = h
+  placed_definitions (defining ds es D) h = h
+
+  pub placed_own_code : (C : Context) (s : ResolvedStrategy) → HasOwnCode C s → HasOwnCode (placed C) s
+  placed_own_code C id h = tt
+  placed_own_code C fail h = tt
+  placed_own_code C (seq s1 s2) h = tt
+  placed_own_code C (choice s1 s2 s3) h = tt
+  placed_own_code C (match p) h = tt
+  placed_own_code C (build p) h = tt
+  placed_own_code C (scope k s) h = tt
+  placed_own_code C (all s) h = tt
+  placed_own_code C (one s) h = tt
+  placed_own_code C (some s) h = tt
+  placed_own_code C (with_definitions ds s) h = tt
+  placed_own_code C (call y ss ps) h = subst HasDefinitions (sym (placed_outer C y.layers_up)) (placed_definitions (outer C y.layers_up) h)
+  placed_own_code C (primitive f ps) h = tt
+
+  got_entry : (ds : ResolvedDefinitions) (label i m k : ℕ) → IsDefinition ds i m k → slice_get (map placed_entry (labelled label ds)) i ≡ Some (placed_entry (entry_in (labelled label ds) i))
+  got_entry no_definitions label i m k h = elim h [ ]
+  got_entry (more_definitions y m' k' s ds) label zero m k h = refl
+  got_entry (more_definitions y m' k' s ds) label (suc i) m k h = got_entry ds (suc label) i m k h
+
+  -- the definition that is called, and its entry
+  pub record Callee (D : Context) (i m k : ℕ) : Type 0 where
+    pub ds : ResolvedDefinitions
+    pub es : List Entry
+    pub around : Context
+    pub is : placed D ≡ defining ds es around
+    pub definition : IsDefinition ds i m k
+    pub entry : slice_get es i ≡ Some (placed_entry (entry_in (entries_of D) i))
+
+  callee_here : (D : Context) (i m k : ℕ) → HasDefinitions D → IsLabelled D → IsCallee (layers_of D) i m k → Callee D i m k
+  callee_here top i m k has h callee = elim has [ ]
+  callee_here (framed m' k' D) i m k has h callee = elim has [ ]
+  callee_here (within k' offset D) i m k has h callee = elim has [ ]
+  callee_here (defining ds es D) i m k has h callee =
+      record { ds = ds; es = map placed_entry es; around = placed D; is = refl; definition = callee;
+        entry = subst (λ xs. slice_get (map placed_entry xs) i ≡ Some (placed_entry (entry_in xs i))) (sym h.0.1) (got_entry ds h.0.0 i m k callee) }
+
+  pub callee : (C : Context) (y : Coordinate) (m k : ℕ) → HasDefinitions (outer C y.layers_up) → IsLabelled C → IsCallee (outside (layers_of C) y.layers_up) y.slot m k →
+      Callee (outer C y.layers_up) y.slot m k
+  callee C y m k has h called =
+      callee_here (outer C y.layers_up) y.slot m k has (labelled_outer C y.layers_up h) (subst (λ L. IsCallee L y.slot m k) (outer_layers C y.layers_up) called)
