@@ -185,7 +185,7 @@ module _ (n : ℕ) (some_code : 1 ≤ n) where
   instr_in_range A (jump a) s h = below a h
   instr_in_range A (traverse k m a) s h = below a h
   instr_in_range A part_done s h = tt
-  instr_in_range A (call_definition k h label room a us ps) s has = (label_in_range A label s, (below a has.0, arguments_in_range us has.1))
+  instr_in_range A (call_definition k h label room a us ps) s has = (label_in_range A label s, below a has.0, arguments_in_range us has.1)
   instr_in_range A (call_closure k y) s h = tt
   instr_in_range A end_definition s h = tt
   instr_in_range A end_argument s h = tt

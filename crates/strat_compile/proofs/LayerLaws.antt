@@ -4,7 +4,7 @@ use Rattle.std.specs.Borrow.{Bor}
 use Rattle.core_lang.specs.declared.program.CoreDef.{CoreDef}
 use Rattle.core_lang.specs.Views.{def_of, definitions_of}
 use Rattle.strat_code.specs.Code.{entry_at}
-use Rattle.strat_code.specs.Context.{Context, framed, within, defining}
+use Rattle.strat_code.specs.Context.{Context, top, framed, within, defining}
 use Rattle.strat_compile.specs.declared.layers.Layers.TheVariants as code
 use Rattle.strat_compile.specs.declared.layers.Layers.TheOpen as forms
 use Rattle.strat_compile.specs.declared.layers.Layers as declared
@@ -31,3 +31,6 @@ reads_within k offset up = ap context_of (sym (code.rolls-Within k offset up)) �
 pub reads_defining : (ds : Bor (List CoreDef)) (label : ℕ) (up : Bor declared.Layers) →
     context_of (code.Defining ds label up) ≡ defining (definitions_of ds.now) (labelled label (definitions_of ds.now)) (context_of up.now)
 reads_defining ds label up = ap context_of (sym (code.rolls-Defining ds label up)) ∙ fold-roll-Layers Context layers_step (forms.Defining ds label up)
+
+pub reads_outermost : context_of code.Outermost ≡ top
+reads_outermost = ap context_of (sym code.rolls-Outermost) ∙ fold-roll-Layers Context layers_step forms.Outermost

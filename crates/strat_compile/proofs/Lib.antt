@@ -10,3 +10,4 @@ pub mod LabelLaws
 pub mod PlacedLaws
 pub mod RangeLaws
 pub mod AddressLaws
+pub mod ProgramLaws

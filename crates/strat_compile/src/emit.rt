@@ -332,9 +332,10 @@ fn emit_ended(
     emit(alloc, out, layers, true, charged, body)
 }
 
+/// Emits a call with strategy and term arguments.
 #[cycle(emission)]
 #[tactic(auto, using(crate::proofs::RowLaws::call_row))]
-fn emit_call(
+pub(crate) fn emit_call(
     alloc: Global,
     out: &mut Output,
     layers: &Layers,

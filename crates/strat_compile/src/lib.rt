@@ -8,3 +8,6 @@ mod located;
 mod names;
 mod output;
 mod patterns;
+mod program;
+
+pub use program::compile;

@@ -1,0 +1,53 @@
+// From cores to code.
+ghost use Rattle.std.specs.Prelude.{◌≡◌, IfOk};
+ghost use Rattle.core_lang.specs.Core.{program_of};
+ghost use Rattle.core_lang.specs.Views.{definitions_of};
+ghost use Rattle.strat_code.specs.CodeOf.{code_of};
+ghost use Rattle.strat_code.specs.StandsFor.{StandsFor};
+ghost use Rattle.strat_compile.specs.Emission.{EmitsProgram};
+ghost use Rattle.strat_compile.specs.Output.{emitted_of};
+
+use crate::emit::{emit_bodies, emit_call};
+use crate::layers::Layers;
+use crate::names::copied;
+use crate::output::Output;
+use core_lang::{Coordinate, Core, CoreDef};
+use std::alloc::{AllocError, Global};
+use strat_code::{Code, Instr};
+
+/// Returns code that stands for the core: it runs as the core's program does, with as many rules. Its primitives are those of
+/// the core.
+///
+/// The code begins with the call of main and the end of the run; then come the bodies of the definitions. Compiling takes
+/// one step for each part of the core, and recurses where parts are nested, not along sequences, alternatives or arguments.
+/// `AllocError` where memory is refused.
+pub fn compile(alloc: Global, core: &Core) -> Result<Code, AllocError>
+    ensures stands { IfOk result (λ code. StandsFor (code_of code.instrs) (program_of core.now) core.now.main) }
+    ensures prims { IfOk result (λ code. code.prims ≡ core.now.prims) }
+{
+    let prims = copied(alloc, core.prims())?;
+    let output = emit_program(alloc, core.defs(), core.main())?;
+    let instrs = output.finish(alloc)?;
+    Ok(Code::new(instrs, prims))
+}
+
+fn emit_program(alloc: Global, defs: &[CoreDef], main: usize) -> Result<Output, AllocError>
+    ensures { IfOk result (λ made. EmitsProgram (definitions_of defs.now) main (emitted_of made)) }
+{
+    let mut out = Output::new(alloc);
+    let outermost = Layers::Outermost;
+    let program = Layers::Defining {
+        defs: &*defs,
+        first_label: 0,
+        outer: &outermost,
+    };
+    let main = Coordinate {
+        layers_up: 0,
+        slot: main,
+    };
+    out.add_labels(defs.len())?;
+    emit_bodies(alloc, &mut out, &program, 0, defs)?;
+    out.emit(Instr::Finish)?;
+    emit_call(alloc, &mut out, &program, 0, main, &[], &[])?;
+    Ok(out)
+}
