@@ -1,13 +1,13 @@
 -- Each address in what is emitted is one of its instructions.
-use Rattle.std.proofs.Common.{◌≡◌, ◌+◌, ◌-◌, ◌<◌, ◌≤◌, ◌++◌, ℕ, zero, suc, Bool, Option, Some, None, List, [], ◌∷◌, map, length, set, replicate, refl, subst, sym, arith}
+use Rattle.std.proofs.Common.{◌-◌, ◌<◌, ◌≤◌, ◌++◌, ℕ, zero, suc, Bool, List, [], ◌∷◌, map, length, set, replicate, arith}
 use Rattle.std.specs.Prelude.{slice_get}
 use Rattle.core_lang.specs.Resolved.{ResolvedStrategy, ResolvedStrategies, ResolvedDefinitions}
 use Rattle.strat_code.specs.Code.{Argument, code_at, parameter_at, Instr, count, give_up, match_term, build_term, enter, leave, extend, shrink, try, commit, select, jump, traverse, part_done, call_definition, call_closure, end_definition, end_argument, apply_primitive, finish, Code}
 use Rattle.strat_code.specs.CodeOf.{ArgumentsInRange, AddressesInRange, AllInRange}
 use Rattle.strat_code.specs.Context.{Context}
 use Rattle.strat_compile.specs.Emission.{Emits, emits_id, emits_fail, emits_seq, emits_choice, emits_match, emits_build, emits_scope, emits_inner, emits_all, emits_one, emits_some, emits_let, emits_call, emits_parameter, emits_primitive, EmitsArm, emits_arm, EmitsThen, then_id, then_code, EmitsDefinitions, emits_definitions, EmitsBodies, emits_no_bodies, emits_more_bodies, EmitsBody, emits_body, emits_scope_body, EmitsArguments, emits_no_arguments, emits_code_argument, emits_parameter_argument}
-use Rattle.strat_compile.specs.Located.{located, address, address_if, argument_located}
-use Rattle.strat_compile.specs.Output.{Emitted, place, count_of}
+use Rattle.strat_compile.specs.Located.{located, address_if, argument_located}
+use Rattle.strat_compile.specs.Output.{Emitted, count_of}
 
 -- each place has an instruction
 abbrev pub ArgumentsHavePlaces : List Argument → Type 0

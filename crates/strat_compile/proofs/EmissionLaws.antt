@@ -1,5 +1,5 @@
 -- Loops over chains, arms, definitions and arguments, as the rows of what is emitted.
-use Rattle.std.proofs.Common.{◌≡◌, ◌+◌, ◌-◌, ◌<◌, ◌++◌, ℕ, zero, suc, Bool, List, [], ◌∷◌, map, length, get_or, drop, refl, ap, sym, ◌∙◌, subst, arith}
+use Rattle.std.proofs.Common.{◌≡◌, ◌+◌, ◌<◌, ◌++◌, ℕ, suc, Bool, List, [], ◌∷◌, map, length, get_or, drop, refl, ap, sym, ◌∙◌, subst, arith}
 use Rattle.std.proofs.lemmas.List.{append_assoc, drop_more}
 use Rattle.core_lang.specs.declared.coordinate.Coordinate.{Coordinate}
 use Rattle.core_lang.specs.declared.program.CoreArm.{CoreArm}
@@ -7,12 +7,12 @@ use Rattle.core_lang.specs.declared.program.CoreDef.{CoreDef}
 use Rattle.core_lang.specs.declared.program.CoreStrategy.{CoreStrategy}
 use Rattle.core_lang.specs.Program.{id, fail, seq, choice, match, build, scope, all, one, some, with_definitions, call, primitive, more_strategies}
 use Rattle.core_lang.specs.Resolved.{ResolvedStrategy}
-use Rattle.core_lang.specs.Views.{Arm, chain, first_of, strategy_of, strategies_of, arm_of, def_of, definitions_of}
+use Rattle.core_lang.specs.Views.{chain, first_of, strategy_of, strategies_of, arm_of, def_of, definitions_of}
 use Rattle.strat_code.specs.Code.{Argument, parameter_at}
 use Rattle.strat_code.specs.Context.{Context}
 use Rattle.strat_compile.specs.Emission.{Emits, emits_seq, emits_choice, EmitsArm, EmitsRest, no_rest, some_rest, EmitsBody, EmitsBodies, emits_more_bodies, EmitsArguments, emits_parameter_argument, PutsArgument, PutsArms}
 use Rattle.strat_compile.specs.Layers.{HandsOn}
-use Rattle.strat_compile.specs.Output.{Emitted, place, starting, count_of}
+use Rattle.strat_compile.specs.Output.{Emitted, starting, count_of}
 
 pub rest_more : {w : Bool} {C : Context} {x : ℕ} {s : ResolvedStrategy} {ss : List ResolvedStrategy} {o o1 o2 : Emitted} →
     EmitsRest w C x ss o o1 → Emits w C x s o1 o2 → Emits w C 0 (chain s ss) o o2

@@ -1,5 +1,5 @@
 -- A set of names that is filled with the names of another.
-use Rattle.std.proofs.Common.{◌≡◌, ◌+◌, ◌<◌, ◌⊎◌, ◌++◌, inl, inr, ℕ, List, [], ◌∷◌, Contains, length, get_or, take, sym, ◌∙◌, ap, ap₂, subst, arith}
+use Rattle.std.proofs.Common.{◌≡◌, ◌+◌, ◌<◌, ◌++◌, inl, inr, ℕ, List, [], ◌∷◌, Contains, length, take, sym, ◌∙◌, ap₂, subst, arith}
 use Rattle.std.proofs.lemmas.List.{get_or_default, get_or-take, length-take-le, take_more}
 use Rattle.term_model.specs.PrimNames.{NameKey, key_at, EachOnce, IsInserted}
 

@@ -1,13 +1,13 @@
 -- Contexts with addresses in place of labels.
-use Rattle.std.proofs.Common.{◌≡◌, ◌+◌, ◌-◌, ◌<◌, ◌⊎◌, inl, inr, ℕ, zero, suc, Option, Some, None, List, [], ◌∷◌, map, refl, ap, ap₂, sym, ◌∙◌, subst, arith}
+use Rattle.std.proofs.Common.{◌≡◌, ℕ, zero, suc, Some, List, map, refl, ap, ap₂, sym, ◌∙◌, subst, arith}
 use Rattle.std.specs.Prelude.{slice_get}
 use Rattle.core_lang.specs.declared.coordinate.Coordinate.{Coordinate}
 use Rattle.core_lang.specs.Program.{id, fail, seq, choice, match, build, scope, all, one, some, with_definitions, call, primitive, no_definitions, more_definitions}
 use Rattle.core_lang.specs.Resolved.{ResolvedStrategy, ResolvedDefinitions}
-use Rattle.core_lang.specs.InRange.{Layers, layer_of, layer_of_definitions, outside, IsDefinition, IsCallee}
+use Rattle.core_lang.specs.InRange.{layer_of, layer_of_definitions, outside, IsDefinition, IsCallee}
 use Rattle.strat_code.specs.Code.{Entry, entry_at}
 use Rattle.strat_code.specs.Context.{Context, top, framed, within, defining, layers_of, outer, frames_in, slot_in, by_frames, size, HasParameter, HasDefinitions, HasOwnCode}
-use Rattle.strat_compile.specs.Layers.{labelled, entry_in, entries_of, room_for}
+use Rattle.strat_compile.specs.Layers.{labelled, entry_in, entries_of}
 use Rattle.strat_compile.specs.Located.{address_if}
 
 -- each layer of definitions has labels from some label on
@@ -139,8 +139,14 @@ module _ (n : ℕ) (A : List ℕ) where
   callee_here (framed m' k' D) i m k has h callee = elim has [ ]
   callee_here (within k' offset D) i m k has h callee = elim has [ ]
   callee_here (defining ds es D) i m k has h callee =
-      record { ds = ds; es = map placed_entry es; around = placed D; is = refl; definition = callee;
-        entry = subst (λ xs. slice_get (map placed_entry xs) i ≡ Some (placed_entry (entry_in xs i))) (sym h.0.1) (got_entry ds h.0.0 i m k callee) }
+      record {
+        ds = ds;
+        es = map placed_entry es;
+        around = placed D;
+        is = refl;
+        definition = callee;
+        entry = subst (λ xs. slice_get (map placed_entry xs) i ≡ Some (placed_entry (entry_in xs i))) (sym h.0.1) (got_entry ds h.0.0 i m k callee);
+      }
 
   pub callee : (C : Context) (y : Coordinate) (m k : ℕ) → HasDefinitions (outer C y.layers_up) → IsLabelled C → IsCallee (outside (layers_of C) y.layers_up) y.slot m k →
       Callee (outer C y.layers_up) y.slot m k

@@ -1,5 +1,5 @@
 -- What is emitted for a program stands for it.
-use Rattle.std.proofs.Common.{◌≡◌, ◌+◌, ◌-◌, ◌≤◌, ◌<◌, ℕ, zero, suc, Bool, false, List, [], ◌∷◌, map, length, replicate, refl, ap, ap₂, sym, ◌∙◌, subst, arith}
+use Rattle.std.proofs.Common.{◌≡◌, ◌-◌, ℕ, zero, suc, Bool, false, List, ◌∷◌, map, length, replicate, refl, ap, ap₂, sym, ◌∙◌, subst, arith}
 use Rattle.std.proofs.lemmas.List.{length-map, length-replicate}
 use Rattle.term_model.specs.PrimNames.{NameKey}
 use Rattle.core_lang.specs.declared.program.CoreDef.{CoreDef}
@@ -13,7 +13,7 @@ use Rattle.strat_code.specs.CodeOf.{AllInRange, IsCode}
 use Rattle.strat_code.specs.Context.{Context, top, defining}
 use Rattle.strat_code.specs.Ranges.{Ranges}
 use Rattle.strat_code.specs.StandsFor.{StandsFor}
-use Rattle.strat_compile.specs.Emission.{Emits, emits_id, emits_fail, emits_seq, emits_choice, emits_match, emits_build, emits_scope, emits_inner, emits_all, emits_one, emits_some, emits_let, emits_call, emits_parameter, emits_primitive, EmitsArguments, emits_no_arguments, emits_code_argument, emits_parameter_argument, EmitsBodies, EmitsProgram}
+use Rattle.strat_compile.specs.Emission.{Emits, emits_id, emits_fail, emits_seq, emits_choice, emits_match, emits_build, emits_scope, emits_inner, emits_all, emits_one, emits_some, emits_let, emits_call, emits_parameter, emits_primitive, emits_no_arguments, emits_code_argument, emits_parameter_argument, EmitsBodies, EmitsProgram}
 use Rattle.strat_compile.specs.Layers.{labelled}
 use Rattle.strat_compile.specs.Located.{code_in}
 use Rattle.strat_compile.specs.Output.{Emitted, nothing, onto, with_labels, count_of}
@@ -75,7 +75,8 @@ program_stands P i o p range =
       begins = subst (λ a. Ranges (code_in o) false (placed n o.starts C) a 0 (call (here i) no_strategies no_patterns) 1) first
           (subst (λ a. Ranges (code_in o) false (placed n o.starts C) (n - n) 0 (call (here i) no_strategies no_patterns) a) second
           (ranged o p.begins whole_end empty ((0, refl), tt) (range.main, tt, tt)));
-      ends = subst (λ a. At (code_in o) a finish) second (located_at o.code n o.starts end) }
+      ends = subst (λ a. At (code_in o) a finish) second (located_at o.code n o.starts end);
+    }
 
 program_addresses : (P : ResolvedDefinitions) (i : ℕ) (o : Emitted) → EmitsProgram P i o → AllInRange (length o.code) (code_in o)
 program_addresses P i o p =
@@ -90,8 +91,13 @@ program_addresses P i o p =
 
 pub program_code : (P : ResolvedDefinitions) (i : ℕ) (o : Emitted) (prims : List NameKey) → EmitsProgram P i o → IsCore P i prims → IsCode (code_in o) prims
 program_code P i o prims p core =
-    record { program = P; main = i; core = core; stands = program_stands P i o p core.in_range;
-      addresses = subst (λ n. AllInRange n (code_in o)) (sym (length-map o.code _)) (program_addresses P i o p) }
+    record {
+      program = P;
+      main = i;
+      core = core;
+      stands = program_stands P i o p core.in_range;
+      addresses = subst (λ n. AllInRange n (code_in o)) (sym (length-map o.code _)) (program_addresses P i o p);
+    }
 
 -- the same, by equations of what is emitted in turn
 pub program_row : (ds : List CoreDef) (i m : ℕ) (D E : Context) (o o1 o2 o3 o4 : Emitted) → D ≡ defining (definitions_of ds) (labelled 0 (definitions_of ds)) E → E ≡ top → m ≡ length ds →
@@ -104,7 +110,8 @@ program_row ds i m D E o o1 o2 o3 o4 layer outermost many none labels bodies las
     record {
       bodies_only = o2;
       bodies = subst (λ a. EmitsBodies C 0 (definitions_of ds) a o2) first (subst (λ F. EmitsBodies F 0 (definitions_of ds) o1 o2) same bodies);
-      begins = subst (λ a. Emits false C 0 (call (here i) no_strategies no_patterns) a o4) last (subst (λ F. Emits false F 0 (call (here i) no_strategies no_patterns) o3 o4) same begins) }
+      begins = subst (λ a. Emits false C 0 (call (here i) no_strategies no_patterns) a o4) last (subst (λ F. Emits false F 0 (call (here i) no_strategies no_patterns) o3 o4) same begins);
+    }
 
 pub of_core : (core : CoreParts) (ds : List CoreDef) (i : ℕ) (o : Emitted) → ds ≡ core.defs → i ≡ core.main → EmitsProgram (definitions_of ds) i o → EmitsProgram (program_of core) core.main o
 of_core core ds i o defs main p =

@@ -1,22 +1,22 @@
 -- What is emitted stands for what it is emitted for, when its places and labels have become addresses.
-use Rattle.std.proofs.Common.{◌≡◌, ◌+◌, ◌-◌, ◌<◌, ◌≤◌, ◌⊎◌, inl, inr, ℕ, zero, suc, Bool, true, false, Some, List, [], ◌∷◌, map, length, replicate, refl, ap, ap₂, sym, ◌∙◌, subst, arith}
+use Rattle.std.proofs.Common.{◌≡◌, ◌+◌, ◌-◌, ◌<◌, ◌≤◌, inl, inr, ℕ, suc, Bool, true, Some, List, ◌∷◌, map, length, replicate, refl, ap, sym, ◌∙◌, subst, arith}
 use Rattle.std.specs.Prelude.{slice_get}
 use Rattle.std.proofs.lemmas.List.{length-append, length-replicate}
 use Rattle.core_lang.specs.declared.coordinate.Coordinate.{Coordinate}
 use Rattle.core_lang.specs.Program.{Pattern, Patterns, id, fail, seq, choice, match, build, scope, all, one, some, with_definitions, call, primitive, more_strategies, more_definitions, strategies_count, patterns_count}
 use Rattle.core_lang.specs.Resolved.{ResolvedStrategy, ResolvedStrategies, ResolvedDefinitions}
 use Rattle.core_lang.specs.InRange.{layer_of, PatternInRange, PatternsInRange, StrategyInRange, StrategiesInRange, DefinitionsInRange}
-use Rattle.strat_code.specs.Code.{Argument, parameter_at, Entry, entry_at, all_parts, one_part, some_parts, Instr, count, give_up, match_term, build_term, enter, leave, extend, shrink, try, commit, jump, traverse, part_done, call_definition, call_closure, end_definition, end_argument, apply_primitive, Code, At}
-use Rattle.strat_code.specs.Context.{Context, framed, within, defining, layers_of, outer, frames_in, by_frames, size}
+use Rattle.strat_code.specs.Code.{Argument, parameter_at, Entry, entry_at, all_parts, one_part, some_parts, Instr, match_term, build_term, extend, shrink, try, commit, jump, traverse, call_definition, call_closure, apply_primitive, Code, At}
+use Rattle.strat_code.specs.Context.{Context, within, layers_of, frames_in, by_frames}
 use Rattle.strat_code.specs.Renamed.{renamed, all_renamed}
 use Rattle.strat_code.specs.Ranges.{Ranges, id_range, fail_range, seq_range, choice_range, else_range, match_range, build_range, scope_range, inner_range, all_range, one_range, some_range, let_jump_range, call_range, parameter_range, primitive_range, Bodies, no_bodies, more_bodies, roomy_bodies, Arguments, no_arguments, code_argument, parameter_argument}
 use Rattle.strat_compile.specs.Emission.{IsNoScope, Emits, emits_id, emits_fail, emits_seq, emits_choice, emits_match, emits_build, emits_scope, emits_inner, emits_all, emits_one, emits_some, emits_let, emits_call, emits_parameter, emits_primitive, EmitsArm, emits_arm, EmitsThen, then_id, then_code, EmitsDefinitions, emits_definitions, EmitsBodies, emits_no_bodies, emits_more_bodies, EmitsBody, emits_body, emits_scope_body, EmitsArguments, emits_no_arguments, emits_code_argument, emits_parameter_argument}
 use Rattle.strat_compile.specs.Layers.{labelled, room_for}
 use Rattle.strat_compile.specs.Located.{located, address, address_if, argument_located}
-use Rattle.strat_compile.specs.Output.{Emitted, place, onto, with_labels, starting, count_of}
-use Rattle.strat_compile.proofs.EndLaws.{IsEnd, later_end, next_address, located_at, end_emitted, end_then, end_bodies, end_body, end_arguments}
+use Rattle.strat_compile.specs.Output.{Emitted, onto, count_of}
+use Rattle.strat_compile.proofs.EndLaws.{IsEnd, later_end, next_address, located_at, end_emitted, end_bodies, end_arguments}
 use Rattle.strat_compile.proofs.LabelLaws.{Keeps, kept, kept_arm, kept_then, kept_definitions, kept_bodies, kept_body, kept_arguments, set_long, set_other, set_here}
-use Rattle.strat_compile.proofs.PlacedLaws.{IsLabelled, placed, placed_entry, placed_layers, placed_outer, placed_frames, placed_by_frames, placed_size, placed_parameter, placed_own_code, Callee, callee}
+use Rattle.strat_compile.proofs.PlacedLaws.{IsLabelled, placed, placed_entry, placed_layers, placed_outer, placed_frames, placed_by_frames, placed_size, placed_parameter, placed_own_code, callee}
 
 no_room : (s : ResolvedStrategy) → IsNoScope s → room_for s ≡ 0
 no_room id h = refl
@@ -166,9 +166,10 @@ module _ (whole : Emitted) where
         IsEnd whole.code o1.code → Agrees whole.starts o.starts o1.starts → IsLabelled C → DefinitionsInRange (layers_of C) ds →
         Bodies final (in_place C) ds (map (placed_entry (length whole.code) whole.starts) (labelled label ds)) × At final (addr o1) (jump (address (length whole.code) to))
     ranged_definitions (emits_definitions {label = label} {ds = ds} {o = o} a) is h agree labels range =
-        let more = length-append o.starts (replicate (count_of ds) 1) ∙ ap (λ n. length o.starts + n) (length-replicate (count_of ds) 1) in
-        (ranged_bodies a (omega (arith, is, more)) (later_end h) (λ l from below. agree.same l (omega (arith, is, from)) below) labels range,
-        located_at whole.code (length whole.code) whole.starts h)
+        let more = length-append o.starts (replicate (count_of ds) 1) ∙ ap (λ n. length o.starts + n) (length-replicate (count_of ds) 1) in (
+          ranged_bodies a (omega (arith, is, more)) (later_end h) (λ l from below. agree.same l (omega (arith, is, from)) below) labels range,
+          located_at whole.code (length whole.code) whole.starts h,
+        )
 
     pub ranged_bodies : {C : Context} {label : ℕ} {ds : ResolvedDefinitions} {o o1 : Emitted} → EmitsBodies C label ds o o1 → label + count_of ds ≤ length o.starts →
         IsEnd whole.code o1.code → ((l : ℕ) → label ≤ l → l < length o1.starts → slice_get whole.starts l ≡ slice_get o1.starts l) → IsLabelled C → DefinitionsInRange (layers_of C) ds →
@@ -179,10 +180,12 @@ module _ (whole : Emitted) where
         let others = kept_bodies b in
         let size = set_long o1.starts label (length o1.code) in
         let start = agree label (omega arith) (omega (arith, room, mine.long, others.long, size)) ∙ others.same label (omega (arith, room, mine.long, size)) (inl (omega arith)) ∙
-            set_here o1.starts label (length o1.code) (omega (arith, room, mine.long)) in
+        set_here o1.starts label (length o1.code) (omega (arith, room, mine.long)) in
         let rest = ranged_bodies b (omega (arith, room, mine.long, size)) h (λ l from below. agree l (omega (arith, from)) below) labels range.1 in
-        let own : Agrees whole.starts o.starts o1.starts = record { same = λ l from below. agree l (omega (arith, from, room)) (omega (arith, below, size, others.long)) ∙
-            others.same l (omega (arith, below, size)) (inr (omega (arith, from, room))) ∙ set_other o1.starts label (length o1.code) l (inr (omega (arith, from, room))) } in
+        let own : Agrees whole.starts o.starts o1.starts = record {
+          same = λ l from below. agree l (omega (arith, from, room)) (omega (arith, below, size, others.long)) ∙
+              others.same l (omega (arith, below, size)) (inr (omega (arith, from, room))) ∙ set_other o1.starts label (length o1.code) l (inr (omega (arith, from, room)));
+        } in
         ranged_body _ (ap (λ p. address_if (length whole.code) p) (sym start)) a (end_bodies whole.code b h) own labels range.0 rest
 
     ranged_body : {C : Context} {m k : ℕ} {s : ResolvedStrategy} {o o1 : Emitted} {y : Coordinate} {ds : ResolvedDefinitions} {es : List Entry} (entry : ℕ) → addr o1 ≡ entry → EmitsBody C m k s o o1 →

@@ -1,7 +1,7 @@
 -- Lists of patterns with other coordinates.
-use Rattle.std.proofs.Common.{◌≡◌, List, [], ◌∷◌, map, Option, Some, None, refl, ap, sym, ◌∙◌}
+use Rattle.std.proofs.Common.{◌≡◌, List, [], ◌∷◌, map, Option, Some, None, refl, ap}
 use Rattle.core_lang.specs.declared.coordinate.Coordinate.{Coordinate}
-use Rattle.core_lang.specs.Program.{Pattern, more_patterns, list, more_elements}
+use Rattle.core_lang.specs.Program.{Pattern, more_patterns, more_elements}
 use Rattle.core_lang.specs.Views.{patterns_in, elements_in}
 use Rattle.strat_code.specs.Context.{Context, by_frames}
 use Rattle.strat_code.specs.Renamed.{renamed, all_renamed, elements_renamed}

@@ -1,20 +1,20 @@
 -- The rows of what is emitted, by equations of what they are about.
-use Rattle.std.proofs.Common.{◌≡◌, ◌≤◌, ◌++◌, ℕ, suc, Bool, true, false, List, [], ◌∷◌, map, length, drop, subst, sym, ap, ap₂, ◌∙◌}
+use Rattle.std.proofs.Common.{◌≡◌, ◌≤◌, ℕ, suc, Bool, true, false, List, [], ◌∷◌, length, drop, subst, sym, ap, ap₂, ◌∙◌}
 use Rattle.std.proofs.Math.ListN.{drop_of_length-le}
 use Rattle.std.proofs.lemmas.List.{append-nil}
 use Rattle.core_lang.specs.declared.coordinate.Coordinate.{Coordinate}
 use Rattle.core_lang.specs.declared.program.CoreDef.{CoreDef}
 use Rattle.core_lang.specs.declared.program.CoreStrategy.{CoreStrategy}
 use Rattle.core_lang.specs.Program.{Pattern, Patterns, id, fail, match, build, scope, call, primitive, more_strategies}
-use Rattle.core_lang.specs.Resolved.{ResolvedStrategy, ResolvedStrategies, ResolvedDefinitions}
+use Rattle.core_lang.specs.Resolved.{ResolvedStrategy, ResolvedStrategies}
 use Rattle.core_lang.specs.Views.{definitions_of, strategies_of}
-use Rattle.strat_code.specs.Code.{Argument, code_at, parameter_at, Entry, entry_at, Traversal, all_parts, one_part, some_parts, count, give_up, match_term, build_term, enter, leave, extend, shrink, try, commit, jump, traverse, part_done, call_definition, call_closure, end_definition, end_argument, apply_primitive}
+use Rattle.strat_code.specs.Code.{Argument, code_at, entry_at, Traversal, all_parts, one_part, some_parts, count, give_up, match_term, build_term, enter, leave, extend, shrink, try, commit, jump, traverse, part_done, call_definition, call_closure, end_definition, end_argument, apply_primitive}
 use Rattle.strat_code.specs.Context.{Context, framed, within, outer, frames_in, by_frames, size, HasDefinitions, HasOwnCode}
 use Rattle.strat_code.specs.Renamed.{renamed, all_renamed}
 use Rattle.strat_compile.specs.Emission.{IsNoScope, Emits, emits_id, emits_fail, emits_match, emits_build, emits_scope, emits_inner, emits_all, emits_one, emits_some, emits_call, emits_parameter, emits_primitive, EmitsArm, emits_arm, EmitsThen, then_id, then_code, EmitsDefinitions, emits_definitions, EmitsBodies, emits_no_bodies, EmitsBody, emits_body, EmitsArguments, emits_no_arguments, emits_code_argument, PutsArgument, traversed}
-use Rattle.strat_compile.specs.Layers.{HandsOn, entries_of, entry_in}
-use Rattle.strat_compile.specs.Output.{Emitted, onto, place, with_labels, count_of}
-use Rattle.strat_compile.proofs.EmissionLaws.{ArgumentsLeft, BodiesLeft, handed_on, counted}
+use Rattle.strat_compile.specs.Layers.{entries_of, entry_in}
+use Rattle.strat_compile.specs.Output.{Emitted, onto, place, with_labels}
+use Rattle.strat_compile.proofs.EmissionLaws.{ArgumentsLeft, BodiesLeft, counted}
 
 pub id_row : (n x : ℕ) (o o1 : Emitted) → n ≡ suc x → o1 ≡ onto (count n) o → (w : Bool) (C : Context) → Emits w C x id o o1
 id_row n x o o1 nodes is w C = subst (λ z. Emits w C x id o z) (sym (is ∙ ap (λ k. onto (count k) o) nodes)) emits_id

@@ -1,5 +1,5 @@
 -- What the layers of the code stand for.
-use Rattle.std.specs.Prelude.{◌≡◌, ℕ, zero, suc, List, [], ◌∷◌, map, Option, Some, None}
+use Rattle.std.specs.Prelude.{◌≡◌, ℕ, zero, suc, List, [], ◌∷◌, Option, Some, None}
 use Rattle.core_lang.specs.declared.coordinate.Coordinate.{Coordinate}
 use Rattle.core_lang.specs.Program.{Pattern, id, fail, seq, choice, match, build, scope, all, one, some, with_definitions, call, primitive, no_definitions, more_definitions}
 use Rattle.core_lang.specs.Resolved.{ResolvedStrategy, ResolvedDefinitions}

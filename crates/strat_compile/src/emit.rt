@@ -9,8 +9,7 @@ ghost use Rattle.strat_compile.specs.Layers.{context_of};
 ghost use Rattle.strat_compile.specs.Output.{emitted_of, onto};
 
 use crate::layers::{
-    Entry, Layers, entry_called, frame_size, frames_among, parameter_handed,
-    successor,
+    Entry, Layers, entry_called, frame_size, frames_among, parameter_handed, successor,
 };
 use crate::leaves::{
     emit_build, emit_closure_call, emit_fail, emit_id, emit_match, emit_primitive,
@@ -81,10 +80,25 @@ pub(crate) fn emit(
         }
         CoreStrategy::Call(at, strategies, terms) => {
             let strategies = strategies.as_slice();
-            emit_call(alloc, out, layers, charged, *at, strategies, terms.as_slice())
+            emit_call(
+                alloc,
+                out,
+                layers,
+                charged,
+                *at,
+                strategies,
+                terms.as_slice(),
+            )
         }
         CoreStrategy::Primitive(name, terms) => {
-            emit_primitive(alloc, out, layers, charged, name.as_slice(), terms.as_slice())
+            emit_primitive(
+                alloc,
+                out,
+                layers,
+                charged,
+                name.as_slice(),
+                terms.as_slice(),
+            )
         }
     }
 }

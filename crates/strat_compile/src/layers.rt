@@ -113,7 +113,9 @@ pub(crate) fn frame_size(layers: &Layers) -> Result<usize, AllocError>
         Layers::Outermost => Ok(0),
         Layers::Framed { variables, .. } => Ok(*variables),
         Layers::Within {
-            variables, offset, ..
+            variables,
+            offset,
+            ..
         } => sum(*offset, *variables),
         Layers::Defining { outer, .. } => frame_size(outer),
     }
@@ -150,7 +152,9 @@ pub(crate) fn entry_called(layers: &Layers, at: Coordinate) -> Result<Option<Ent
 {
     match outside(&*layers, at.layers_up) {
         Layers::Defining {
-            defs, first_label, ..
+            defs,
+            first_label,
+            ..
         } => {
             let entry = entry_at(defs, *first_label, at.slot)?;
             Ok(Some(entry))

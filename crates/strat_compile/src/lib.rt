@@ -11,3 +11,6 @@ mod patterns;
 mod program;
 
 pub use program::compile;
+
+#[cfg(test)]
+mod tests;

@@ -1,4 +1,4 @@
-use Rattle.std.proofs.Common.{map, take, sym, ◌∙◌, ap, ap₂}
+use Rattle.std.proofs.Common.{map, sym, ◌∙◌, ap, ap₂}
 use Rattle.std.proofs.lemmas.List.{take_all}
 use Rattle.core_lang.specs.Program.{list}
 use Rattle.core_lang.specs.Views.{elements_in, pattern_of, patterns_in}

@@ -1,0 +1,120 @@
+// Tests of the compiler: the code of a small program.
+use crate::program::compile;
+use core_lang::{Coordinate, Core, CoreDef, CorePattern, CoreStrategy};
+use std::alloc::{AllocError, Global};
+use std::test::Fail;
+use strat_code::{Argument, Instr};
+use term_model::Sym;
+
+const HERE: Coordinate = Coordinate {
+    layers_up: 0,
+    slot: 0,
+};
+
+const ONE_LAYER_UP: Coordinate = Coordinate {
+    layers_up: 1,
+    slot: 0,
+};
+
+// F(x)
+fn f_of_x(alloc: Global) -> Result<CorePattern, AllocError> {
+    let parts = vec![in alloc; CorePattern::Variable(HERE)]?;
+    Ok(CorePattern::Applied(Sym::named(alloc, b"F")?, parts))
+}
+
+// A call without term arguments.
+fn call(alloc: Global, at: Coordinate, strategies: Vec<CoreStrategy>) -> CoreStrategy {
+    CoreStrategy::Call(at, strategies, Vec::new(alloc))
+}
+
+// {x: ?F(x); !x; s}
+fn body_of_f(alloc: Global) -> Result<CoreStrategy, AllocError> {
+    let matching = Box::new(alloc, CoreStrategy::Match(f_of_x(alloc)?))?;
+    let building = CoreStrategy::Build(CorePattern::Variable(HERE));
+    let building = Box::new(alloc, building)?;
+    let rest = vec![in alloc; call(alloc, ONE_LAYER_UP, Vec::new(alloc))]?;
+    let sequence = CoreStrategy::Sequence(matching, building, rest);
+    let body = Box::new(alloc, sequence)?;
+    Ok(CoreStrategy::Scope(1, body))
+}
+
+// f(s) = {x: ?F(x); !x; s}, main = f(id)
+fn small_core(alloc: Global) -> Result<Core, Fail> {
+    let arguments = vec![in alloc; CoreStrategy::Id]?;
+    let body = call(alloc, ONE_LAYER_UP, arguments);
+    let defs = vec![in alloc;
+        CoreDef {
+            strats: 1,
+            terms: 0,
+            body: body_of_f(alloc)?
+        },
+        CoreDef {
+            strats: 0,
+            terms: 0,
+            body
+        },
+    ]?;
+    if !Core::in_range(defs.as_slice(), 1) {
+        return Err(Fail::new("the program is in range"));
+    }
+    Ok(Core::new(alloc, defs, 1)?)
+}
+
+// A call in code without term arguments.
+fn call_in_code(
+    alloc: Global,
+    frames: usize,
+    entry: usize,
+    room: usize,
+    next_address: usize,
+    arguments: Vec<Argument>,
+) -> Instr {
+    Instr::CallDefinition {
+        nodes: 1,
+        frames,
+        entry,
+        room,
+        next_address,
+        arguments,
+        terms: Vec::new(alloc),
+    }
+}
+
+// Its code: main's call and the end of the run, the body of main with the code of its argument, the body of f.
+fn small_code(alloc: Global) -> Result<Vec<Instr>, AllocError> {
+    let begin = call_in_code(alloc, 0, 2, 0, 1, Vec::new(alloc));
+    let argument = vec![in alloc; Argument::Code(3)]?;
+    let body = call_in_code(alloc, 1, 6, 1, 5, argument);
+    let pattern = f_of_x(alloc)?;
+    let made = vec![in alloc;
+        begin,
+        Instr::Finish,
+        body,
+        Instr::Count { nodes: 1 },
+        Instr::EndArgument,
+        Instr::EndDefinition,
+        Instr::Match { nodes: 3, pattern },
+        Instr::Build {
+            nodes: 2,
+            pattern: CorePattern::Variable(HERE)
+        },
+        Instr::CallClosure {
+            nodes: 1,
+            closure: HERE
+        },
+        Instr::EndDefinition,
+    ]?;
+    Ok(made)
+}
+
+#[test]
+fn code_of_a_small_program(rt: HostRuntime) -> Result<(), Fail> {
+    let alloc = rt.alloc();
+    let core = small_core(alloc)?;
+    let code = compile(alloc, &core)?;
+    let expected = small_code(alloc)?;
+    if code.instrs() != expected.as_slice() || !code.prims().is_empty() {
+        return Err(Fail::new("the code is the one that was worked out"));
+    }
+    Ok(())
+}
