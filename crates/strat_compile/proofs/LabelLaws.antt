@@ -13,7 +13,7 @@ pub record Keeps (old new : List ℕ) : Type 0 where
   pub long : length old ≤ length new
   pub same : (l : ℕ) → l < length old → slice_get new l ≡ slice_get old l
 
--- but for so many labels from one on
+-- but for `count` labels from `label` on
 pub record KeepsBut (label count : ℕ) (old new : List ℕ) : Type 0 where
   pub long : length old ≤ length new
   pub same : (l : ℕ) → l < length old → (l < label) ⊎ (label + count ≤ l) → slice_get new l ≡ slice_get old l

@@ -5,7 +5,7 @@ use Rattle.strat_compile.specs.Output.{Emitted}
 
 -- the code has n instructions
 module _ (n : ℕ) where
-  -- the address of a place that has so many instructions from there to the end
+  -- the address of a place, which is a number of instructions from there to the end
   abbrev pub address : ℕ → ℕ
   address place = n - place
 

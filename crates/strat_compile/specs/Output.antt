@@ -7,8 +7,8 @@ use Rattle.strat_code.specs.Code.{Instr, Code}
 use Rattle.strat_code.specs.CodeOf.{code_of}
 use Rattle.strat_compile.specs.declared.output.Output.{Output}
 
--- The code from here to the end, and for each label where its definition's code starts. Places in code are told by how many
--- instructions there are from there to the end, and definitions by their labels
+-- The code from here to the end, and for each label where its definition's code starts. A place in code is the number
+-- of instructions from there to the end; a definition is known by its label
 pub record Emitted : Type 0 where
   pub code : Code
   pub starts : List ℕ
@@ -29,7 +29,7 @@ place o = length o.code
 abbrev pub onto : Instr → Emitted → Emitted
 onto v o = record { code = v ∷ o.code; starts = o.starts }
 
--- with so many labels more; where they start will be known later
+-- with k more labels; where they start will be known later
 abbrev pub with_labels : ℕ → Emitted → Emitted
 with_labels k o = record { code = o.code; starts = o.starts ++ replicate k 1 }
 

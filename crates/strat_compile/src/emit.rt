@@ -21,7 +21,7 @@ use std::alloc::{AllocError, Global};
 use strat_code::{Argument, Instr, Traversal};
 
 /// Emits the code for a strategy in these layers. `is_last` tells that the places of the innermost frame are the last ones
-/// that there are, so that the frame can be given more; the first instruction is charged so many further nodes.
+/// that there are, so that the frame can be given more; the first instruction is charged `charged` further nodes.
 #[cycle(emission)]
 pub(crate) fn emit(
     alloc: Global,

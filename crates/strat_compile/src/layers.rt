@@ -68,7 +68,7 @@ pub(crate) fn outside<'a>(layers: &'a Layers<'a>, layers_up: usize) -> &'a Layer
     }
 }
 
-/// How many of the innermost layers, so many, have frames.
+/// How many of the innermost `layers_up` layers have frames.
 pub(crate) fn frames_among(layers: &Layers, layers_up: usize) -> usize
     ensures frames { result ≡ frames_in (context_of layers.now) layers_up }
     ensures at_most { result ≤ layers_up }

@@ -7,7 +7,7 @@ ghost use Rattle.strat_compile.specs.Located as spec;
 use std::alloc::{AllocError, Global};
 use strat_code::{Argument, Instr};
 
-// The address of a place, in code of so many instructions.
+// The address of a place, in code of `count` instructions.
 fn address_of(place: usize, count: usize) -> usize
     ensures { result ≡ address count place }
 {
@@ -47,7 +47,7 @@ fn located_arguments(
     Ok(made)
 }
 
-/// The instruction with addresses in place of places and labels, in code of so many instructions.
+/// The instruction with addresses in place of places and labels, in code of `count` instructions.
 pub(crate) fn located(
     alloc: Global,
     instr: Instr,

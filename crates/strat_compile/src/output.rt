@@ -10,7 +10,7 @@ use strat_code::Instr;
 
 /// The code from here to the end. What stands last in the code is emitted first, so that the place that an instruction leads
 /// to is known when it is emitted. A place is how many instructions there are from there to the end; a definition is
-/// told by its label until all is emitted.
+/// known by its label until all is emitted.
 #[derive(Drop)]
 pub(crate) struct Output {
     /// The last one first.
