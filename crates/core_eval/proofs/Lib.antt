@@ -8,4 +8,3 @@ pub mod CallLaws
 pub mod TraversalLaws
 pub mod RunLaws
 pub mod RegisteredLaws
-pub mod FlatLaws

@@ -16,6 +16,10 @@ use Rattle.core_lang.specs.declared.run.Run.{Run}
 use Rattle.core_lang.specs.Run.{IsOutcome}
 use Rattle.core_lang.specs.Settled.{Verdict, ends, spent, Settled}
 
+-- the greatest budget that the evaluator is given: each node of a derivation may be a call in a call
+abbrev pub max_recursive_budget : ℕ
+max_recursive_budget = 2_000
+
 -- how a made term ends a build
 abbrev pub made_ending : Option (Made Tree) → Bindings → Ending Tree
 made_ending None e = failed

@@ -2,7 +2,7 @@
 ghost use Rattle.std.specs.Prelude.{◌≡◌, IfOk};
 ghost use Rattle.prim_registry.specs.Entries.{IsHonest};
 ghost use Rattle.prim_registry.specs.Values.{answer_of, values_of};
-ghost use Rattle.core_eval.specs.Registered.{meaning_of};
+ghost use Rattle.prim_registry.specs.Registered.{meaning_of};
 
 use prim_registry::{Flat, PrimMeaning, Registry};
 use std::alloc::AllocError;

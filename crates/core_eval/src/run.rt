@@ -7,8 +7,7 @@ ghost use Rattle.core_lang.specs.Environment.{definitions, outermost};
 ghost use Rattle.core_lang.specs.Resolution.{ResolvesProgram};
 ghost use Rattle.core_lang.specs.Resolved.{here};
 ghost use Rattle.prim_registry.specs.Entries.{Covers, IsHonest};
-ghost use Rattle.term_model.specs.Limits.{max_budget};
-ghost use Rattle.core_eval.specs.Evaluates.{EvaluatesOn, IsRun};
+ghost use Rattle.core_eval.specs.Evaluates.{EvaluatesOn, IsRun, max_recursive_budget};
 
 use crate::evaluation::evaluate;
 use crate::frame::Frame;
@@ -22,7 +21,7 @@ use term_model::{Fault, Term};
 /// registry do.
 ///
 /// `rules` is the number of nodes of the derivation, and the budget where the budget is spent before the derivation
-/// is complete; `steps` is 0. The only fault is `Memory`: a growth was refused, here or in a primitive.
+/// is complete; `steps` is 0. The budget is at most 2,000, since each rule may be a call in a call. The only fault is `Memory`: a growth was refused, here or in a primitive.
 pub fn eval<M: PrimMeaning>(
     alloc: Global,
     core: &Core,
@@ -30,7 +29,7 @@ pub fn eval<M: PrimMeaning>(
     budget: u32,
     registry: &Registry<M>,
 ) -> Result<Run<Term>, Fault>
-    requires budget { budget ≤ max_budget }
+    requires budget { budget ≤ max_recursive_budget }
     requires honest { IsHonest M.answer registry.now }
     requires covers { Covers registry.now core.now.prims }
     ensures run { IfOk result (λ run. (P : Definitions Name (List Name)) (main : Name) →

@@ -1,3 +1,5 @@
 pub mod DigitLaws
 pub mod NameLaws
 pub mod ValueLaws
+pub mod RegisteredLaws
+pub mod FlatLaws

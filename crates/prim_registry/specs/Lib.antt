@@ -2,3 +2,5 @@ pub mod Values
 pub mod Standard
 pub mod Answers
 pub mod Entries
+pub mod Registered
+pub mod StandardPrimitives

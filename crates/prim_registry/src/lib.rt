@@ -6,9 +6,11 @@ pub mod flat;
 pub mod primitive;
 pub mod registry;
 pub mod standard;
+mod standard_primitive;
 mod texts;
 
 pub use flat::{Bytes, Flat, Numbers};
 pub use primitive::{Action, Prim, PrimMeaning, Primitive};
 pub use registry::Registry;
 pub use standard::Standard;
+pub use standard_primitive::{STANDARD, StandardPrimitive};

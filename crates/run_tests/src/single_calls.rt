@@ -12,8 +12,11 @@ use std::test::Fail;
 use str_desugar::to_core;
 use str_lexer::lex;
 use str_parser::parse;
+use strat_code::Code;
+use strat_compile::compile;
+use strat_machine::Machine;
 use strategy_lib::with_library;
-use term_model::PrimNames;
+use term_model::{PrimNames, RcSpace, Term, TermSpace};
 
 const DEFINITIONS: &[u8] = b"strategies main = ?(x,_); !x";
 
@@ -56,6 +59,39 @@ fn from_bytes_to_a_run(rt: HostRuntime) -> Result<(), Fail> {
     let (written, rules) = run(alloc, &core, b"(7,f(1))", 4)?;
     if !written.is_empty() || rules != 4 {
         return Err(Fail::new("spent with one rule less"));
+    }
+    Ok(())
+}
+
+// Whether the machine takes the term that was entered to 7 within five rules, by five rules.
+fn takes_five(
+    alloc: Global,
+    machine: &mut Machine<RcSpace>,
+    code: &Code,
+    entered: &Term,
+) -> Result<bool, Fail> {
+    let registry = Registry::<Standard>::new(alloc);
+    if !registry.covers(code.prims()) {
+        return Err(Fail::new("a primitive"));
+    }
+    let reference = machine.space().dup(entered)?;
+    let run = machine.run(code, reference, 5, &registry)?;
+    let Outcome::Rewritten(found) = &run.outcome else {
+        return Ok(false);
+    };
+    let mut written = Vec::new(alloc);
+    write_term(&machine.leave(found)?, &mut written)?;
+    Ok(written[..] == b"7"[..] && run.rules == 5 && run.steps <= 60)
+}
+
+#[test]
+fn from_bytes_to_runs_of_the_machine(rt: HostRuntime) -> Result<(), Fail> {
+    let alloc = rt.alloc();
+    let code = compile(alloc, &core_of(alloc, DEFINITIONS)?)?;
+    let mut machine = Machine::new(alloc, RcSpace);
+    let entered = machine.enter(&read_term(alloc, b"(7,f(1))")?)?;
+    for run in ["first", "second"] {
+        assert!(rt; takes_five(alloc, &mut machine, &code, &entered)?, "{run}");
     }
     Ok(())
 }

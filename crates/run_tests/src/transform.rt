@@ -4,6 +4,7 @@ mod devices;
 mod forms;
 mod language_rows;
 mod library_rows;
+mod long_rows;
 mod memory;
 mod option_rows;
 mod pipeline;

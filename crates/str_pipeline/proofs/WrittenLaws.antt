@@ -8,12 +8,7 @@ use Rattle.str_syntax.specs.Trees.{FileTree}
 use Rattle.str_desugar.specs.FileProgram.{program_of_file}
 use Rattle.signature_core.specs.Signature.{Declared, declarations_of}
 use Rattle.signature_core.specs.DeclaredTerm.{term_is_declared}
-use Rattle.core_lang.specs.declared.run.Run.{Run}
-use Rattle.core_lang.specs.Program.{Definitions}
-use Rattle.core_lang.specs.Named.{Name, written}
-use Rattle.core_lang.specs.Resolution.{ResolvesProgram}
-use Rattle.core_lang.specs.Core.{program_of}
-use Rattle.core_eval.specs.Evaluates.{IsRun}
+use Rattle.core_lang.specs.Named.{written}
 use Rattle.std.specs.Prelude.{Option, None, Some, IfSome, IsSomeAnd, IsErrAnd, Result, Err}
 use Rattle.term_model.specs.declared.fault.Fault.{Fault}
 use Rattle.term_model.specs.declared.fault.Fault.TheVariants as faults
@@ -24,7 +19,7 @@ use Rattle.str_pipeline.specs.Limits.{max_definitions, max_term}
 use Rattle.str_pipeline.specs.Setting.{Setting}
 use Rattle.str_pipeline.specs.Judged.{AreAccepted, IsAccepted}
 use Rattle.str_pipeline.specs.Faults.{IsReadingFault, IsRefusal, is_read_fault}
-use Rattle.str_pipeline.specs.Steps.{IsProgram, IsProgramOf, IsTermRead, IsResult, status_of, outcome_line}
+use Rattle.str_pipeline.specs.Steps.{IsProgram, IsProgramOf, IsOutcomeOf, IsTermRead, IsResult, status_of, outcome_line}
 use Rattle.str_pipeline.specs.declared.program.Program.{Program}
 use Rattle.str_pipeline.specs.declared.status.Status.{Status}
 use Rattle.std.specs.Prelude.{IfOk, OnOk, IsErrOf}
@@ -45,16 +40,17 @@ run_written defs term S f t Oversize rules file spelled ending = (f, t, file, sp
 run_written defs term S f t Spent rules file spelled (none, all) = (f, t, file, spelled, (none, refl))
 
 -- what a run says of each file that the program is of
-pub run_result : (S : Setting) (program : Program) (term : List ℕ) (t : Tree) (run : Run Tree) → length term ≤ max_term
+pub run_result : (S : Setting) (program : Program) (term : List ℕ) (t : Tree) (outcome : Outcome Tree) → length term ≤ max_term
     → IsTermRead S.options.strict program.checked.declarations term (Ok t)
-    → ((P : Definitions Name (List Name)) (x : Name) → ResolvesProgram P x (program_of program.core) program.core.main → IsRun S.meaning P x t S.options.budget run)
+    → IsOutcomeOf S.meaning program.code t S.options.budget outcome
     → (defs : List ℕ) (f : FileTree) → AreAccepted S defs f → IsProgramOf S f program
-    → IsResult defs term S (Ok run.outcome)
-run_result S program term t run short (reading, declared) runs defs f file of_file =
+    → IsResult defs term S (Ok outcome)
+run_result S program term t outcome short (reading, declared) run defs f file of_file =
     let known : S.options.strict ≡ true → term_is_declared (declarations_of f) t ≡ true =
     λ strict. subst (λ (ds : List Declared). term_is_declared ds t ≡ true) of_file.declared (declared strict) in
-    run_written defs term S f t run.outcome run.rules file ((short, reading), known)
-    (runs (program_of_file f) (written S.options.main.items) of_file.resolved).outcome
+    let code = of_file.code in
+    let ended = run.each (program_of_file f) (written S.options.main.items) code.core code.main code.stands code.occurring code.resolved in
+    run_written defs term S f t outcome ended.0 file ((short, reading), known) ended.1
 
 -- what a term that is refused says of each file that the program is of
 pub term_fault : (S : Setting) (program : Program) (term : List ℕ) (fault : Fault) → length term ≤ max_term

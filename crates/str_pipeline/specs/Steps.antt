@@ -2,18 +2,24 @@
 use Rattle.std.specs.Prelude.{◌≡◌, ◌⊎◌, ℕ, Bool, true, false, List, codes, Result, Ok, Err}
 use Rattle.term_model.specs.declared.fault.Fault.{Fault}
 use Rattle.term_model.specs.declared.fault.Fault.TheVariants.{Memory, Read, Lexical, ReservedWord, Syntax, Nesting, TermUndeclared}
+use Rattle.term_model.specs.Flat.{Meaning}
 use Rattle.term_model.specs.Term.{Tree}
 use Rattle.aterm_text.specs.Text.{text}
 use Rattle.aterm_text.specs.ReadTerm.{IsReading}
-use Rattle.core_lang.specs.Core.{program_of}
-use Rattle.core_lang.specs.Named.{written}
+use Rattle.core_lang.specs.Named.{Name, written}
+use Rattle.core_lang.specs.Primitives.{AreOccurring}
+use Rattle.core_lang.specs.Program.{Definitions}
 use Rattle.core_lang.specs.Resolution.{ResolvesProgram}
+use Rattle.core_lang.specs.Resolved.{ResolvedDefinitions}
+use Rattle.core_lang.specs.Run.{IsOutcome}
 use Rattle.core_lang.specs.declared.run.Outcome.{Outcome}
 use Rattle.core_lang.specs.declared.run.Outcome.TheVariants as outcomes
 use Rattle.str_lexer.specs.Lexes.{HoldsLeftOut}
 use Rattle.str_syntax.specs.Trees.{FileTree}
 use Rattle.signature_core.specs.Signature.{Declared, declarations_of}
 use Rattle.signature_core.specs.DeclaredTerm.{term_is_declared}
+use Rattle.strat_code.specs.CodeOf.{CodeParts, code_of}
+use Rattle.strat_code.specs.StandsFor.{StandsFor}
 use Rattle.str_desugar.specs.FileProgram.{program_of_file}
 use Rattle.str_pipeline.specs.Judged.{HasNoTokens, AreTooNested, HasNoPhrase, FailsChecks, PassesChecks}
 use Rattle.str_pipeline.specs.Faults.{IsReadingFault, IsRefusal}
@@ -27,11 +33,19 @@ use Rattle.str_pipeline.specs.declared.status.Status.TheVariants.{Rewritten, Fai
 abbrev pub IsStop : Fault → Type 0
 IsStop fault = IsReadingFault fault ⊎ IsRefusal fault
 
--- the declarations are those of the file, and the core is one that the program of the file is resolved to, with the definition that the options
--- name as the one that is run
+-- the code stands for a program over coordinates that the program of the file is resolved to, with the definition that the options name as the
+-- one that is run, and its primitives are those that occur in that program
+pub record IsCodeOf (S : Setting) (f : FileTree) (code : CodeParts) : Type 0 where
+  pub core : ResolvedDefinitions
+  pub main : ℕ
+  pub stands : StandsFor (code_of code.instrs) core main
+  pub occurring : AreOccurring code.prims core
+  pub resolved : ResolvesProgram (program_of_file f) (written S.options.main.items) core main
+
+-- the declarations and the code are those of the file
 pub record IsProgramOf (S : Setting) (f : FileTree) (program : Program) : Type 0 where
   pub declared : program.checked.declarations ≡ declarations_of f
-  pub resolved : ResolvesProgram (program_of_file f) (written S.options.main.items) (program_of program.core) program.core.main
+  pub code : IsCodeOf S f program.code
 
 -- what making the program of definitions returns
 abbrev pub IsProgram : Setting → List ℕ → Result Program Fault → Type 0
@@ -48,6 +62,11 @@ abbrev pub IsTermRead : Bool → List Declared → List ℕ → Result Tree Faul
 IsTermRead strict ds text (Ok t) = IsReading text (Ok t) × (strict ≡ true → term_is_declared ds t ≡ true)
 IsTermRead strict ds text (Err TermUndeclared) = (strict ≡ true) × ((t : Tree) × IsReading text (Ok t) × (term_is_declared ds t ≡ false))
 IsTermRead strict ds text (Err fault) = IsReading text (Err fault)
+
+-- the outcome is that of each program that the code stands for
+pub record IsOutcomeOf (M : Meaning) (code : CodeParts) (t : Tree) (budget : ℕ) (outcome : Outcome Tree) : Type 0 where
+  pub each : (P : Definitions Name (List Name)) (main : Name) (C : ResolvedDefinitions) (i : ℕ) → StandsFor (code_of code.instrs) C i →
+      AreOccurring code.prims C → ResolvesProgram P main C i → (n : ℕ) × IsOutcome M P main t budget outcome n
 
 abbrev pub status_of : Outcome Tree → Status
 status_of (outcomes.Rewritten u) = Rewritten

@@ -1,10 +1,9 @@
 //! What a file does with a term, and the line that says so.
-ghost use Rattle.std.specs.Prelude.{◌≡◌, ◌+◌, ◌≤◌, ◌++◌, ℕ, List, length, false, if◌then◌else◌, IfOk, IfErr, OnOk, IsErrOf};
+ghost use Rattle.std.specs.Prelude.{◌≡◌, ◌+◌, ◌≤◌, ◌++◌, ℕ, List, vec_len, false, if◌then◌else◌, IfOk, IfErr, OnOk, IsErrOf};
 ghost use Rattle.str_syntax.specs.Trees.{FileTree};
 ghost use Rattle.str_pipeline.specs.Device.{Gains, GainsPrefix};
 ghost use Rattle.prim_registry.specs.Entries.{Covers, IsHonest};
 ghost use Rattle.str_pipeline.specs.Limits.{max_term};
-ghost use Rattle.term_model.specs.Limits.{max_budget};
 ghost use Rattle.str_pipeline.specs.Setting.{setting_of};
 ghost use Rattle.str_pipeline.specs.Judged.{AreAccepted};
 ghost use Rattle.str_pipeline.specs.Written.{line_of, refusal_line};
@@ -12,15 +11,16 @@ ghost use Rattle.str_pipeline.specs.Steps.{IsStop, IsProgramOf, IsTermRead, IsRe
 ghost use Rattle.str_pipeline.specs.Faults.{IsOfDefinitions, IsTransferFault, is_read_fault, is_write_fault};
 
 use crate::program::Program;
+use crate::runs::run_code;
 use crate::sink::{Sink, write_all};
 use crate::status::{Options, Status};
 use aterm_text::{read_term, write_term};
-use core_eval::eval;
 use core_lang::Outcome;
 use prim_registry::{PrimMeaning, Registry};
+use scope_check::Checked;
 use signature_core::Signature;
 use std::alloc::{AllocError, Global};
-use term_model::{Fault, Term};
+use term_model::{Fault, RcSpace, Term};
 
 /// The most bytes of definitions.
 pub const MAX_DEFINITIONS: usize = 1_048_576;
@@ -29,7 +29,10 @@ pub const MAX_DEFINITIONS: usize = 1_048_576;
 pub const MAX_TERM: usize = 16_777_216;
 
 /// The greatest budget of a run, in rules.
-pub const MAX_BUDGET: u32 = 2_000;
+pub const MAX_BUDGET: u32 = 1_000_000_000;
+
+/// The budget of a run for which none is asked, in rules.
+pub const DEFAULT_BUDGET: u32 = 1_000_000;
 
 /// Reads a term, and in strict mode asks that the signature declares each application in it.
 fn term_of(
@@ -47,30 +50,43 @@ fn term_of(
     Ok(term)
 }
 
+/// Reads a term by the signature of the file, as `term_of` does, and drops the text and the file.
+fn term_alone(
+    alloc: Global,
+    checked: Checked,
+    text: Vec<u8>,
+    is_strict: bool,
+) -> Result<Term, Fault>
+    ensures { IsTermRead is_strict checked.declarations text.items result }
+{
+    let term = term_of(alloc, checked.signature(), &text, is_strict)?;
+    Ok(term)
+}
+
 /// Returns what the program does with the term of this text, with the primitives of the registry. The fault is one of the term's, or
 /// `Memory`.
 #[tactic(auto, using(crate::proofs::WrittenLaws::run_written, crate::proofs::FaultLaws::text_stops, crate::proofs::FaultLaws::text_apart, crate::proofs::FaultLaws::text_no_read))]
 pub(crate) fn outcome_of<M: PrimMeaning>(
     alloc: Global,
-    program: &Program,
-    text: &[u8],
+    program: Program,
+    text: Vec<u8>,
     options: &Options,
     registry: &Registry<M>,
 ) -> Result<Outcome<Term>, Fault>
-    requires budget { options.now.budget ≤ max_budget }
-    requires fits { length text.now ≤ max_term }
+    requires fits { vec_len text ≤ max_term }
     requires honest { IsHonest M.answer registry.now }
-    requires covers { Covers registry.now program.now.core.prims }
+    requires covers { Covers registry.now program.code.prims }
     ensures result { (defs : List ℕ) (f : FileTree) → AreAccepted (setting_of M.answer registry.now options.now) defs f →
-        IsProgramOf (setting_of M.answer registry.now options.now) f program.now →
-        IsResult defs text.now (setting_of M.answer registry.now options.now) result }
+        IsProgramOf (setting_of M.answer registry.now options.now) f program →
+        IsResult defs text.items (setting_of M.answer registry.now options.now) result }
     ensures kinds { IfErr result IsStop }
     ensures apart { IfErr result (λ fault. IsOfDefinitions fault → ⊥) }
     ensures read { is_read_fault result ≡ false }
 {
-    let term = term_of(alloc, program.checked.signature(), text, options.strict)?;
-    let run = eval(alloc, &program.core, &term, options.budget, registry)?;
-    Ok(run.outcome)
+    let Program { checked, code } = program;
+    let term = term_alone(alloc, checked, text, options.strict)?;
+    let outcome = run_code(alloc, RcSpace, &code, term, options.budget, registry)?;
+    Ok(outcome)
 }
 
 /// Returns the status of an outcome.

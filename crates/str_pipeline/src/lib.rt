@@ -8,12 +8,13 @@ mod joined;
 mod laws;
 mod pipeline;
 mod program;
+mod runs;
 mod sink;
 mod source;
 mod status;
 mod tally;
 
-pub use answer::{MAX_BUDGET, MAX_DEFINITIONS, MAX_TERM};
+pub use answer::{DEFAULT_BUDGET, MAX_BUDGET, MAX_DEFINITIONS, MAX_TERM};
 pub use counted::Counted;
 pub use faulty::Faulty;
 pub use laws::{joined_form_law, one_line_law};

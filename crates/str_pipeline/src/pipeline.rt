@@ -34,7 +34,6 @@ fn outcome_apart<D: Source, T: Source, M: PrimMeaning>(
     registry: &Registry<M>,
     notes: &mut Notes,
 ) -> Result<Outcome<Term>, Fault>
-    requires budget { options.now.budget ≤ max_budget }
     requires honest { IsHonest M.answer registry.now }
     ensures result { IfSome (D.coming defs.old) (λ d. IfSome (T.coming term.old) (λ t. IsResult d t (setting_of M.answer registry.now options.now) result)) }
     ensures kinds { IfErr result IsStop }
@@ -52,7 +51,7 @@ fn outcome_apart<D: Source, T: Source, M: PrimMeaning>(
     let Some(text) = read_all(alloc, term, MAX_TERM)? else {
         return Err(Fault::TermTooLong);
     };
-    outcome_of(alloc, &program, &text, options, registry)
+    outcome_of(alloc, program, text, options, registry)
 }
 
 /// Does the same over one reader of the joined form.
@@ -64,7 +63,6 @@ fn outcome_joined<S: Source, M: PrimMeaning>(
     registry: &Registry<M>,
     notes: &mut Notes,
 ) -> Result<Outcome<Term>, Fault>
-    requires budget { options.now.budget ≤ max_budget }
     requires honest { IsHonest M.answer registry.now }
     ensures result { IfSome (S.coming input.old) (λ told. (d t : List ℕ) → IsSplit told d t → IsResult d t (setting_of M.answer registry.now options.now) result) }
     ensures kinds { IfErr result IsStop }
@@ -79,7 +77,7 @@ fn outcome_joined<S: Source, M: PrimMeaning>(
     let Some(text) = front.read_term(alloc, input, MAX_TERM)? else {
         return Err(Fault::TermTooLong);
     };
-    outcome_of(alloc, &program, &text, options, registry)
+    outcome_of(alloc, program, text, options, registry)
 }
 
 /// Writes the line of the outcome, or of the refusal that came in place of it, and returns its

@@ -6,21 +6,22 @@ ghost use Rattle.str_pipeline.specs.Setting.{setting_of, setting_with};
 ghost use Rattle.str_pipeline.specs.Steps.{IsProgram};
 
 use crate::status::Options;
-use core_lang::Core;
 use prim_registry::{PrimMeaning, Registry};
 use scope_check::{Checked, Notes, check_with_notes};
 use std::alloc::Global;
 use str_desugar::to_core;
 use str_lexer::lex;
 use str_parser::parse;
+use strat_code::Code;
+use strat_compile::compile;
 use strategy_lib::with_library;
 use term_model::{Fault, PrimNames};
 
-/// A file in which nothing is wrong, and its core.
+/// A file in which nothing is wrong, and its code.
 #[derive(Drop)]
 pub(crate) struct Program {
     pub(crate) checked: Checked,
-    pub(crate) core: Core,
+    pub(crate) code: Code,
 }
 
 /// Makes the program of a definition file with the library after it, where there are the primitives of the registry. As `program_with`.
@@ -32,7 +33,7 @@ pub(crate) fn program_of<M: PrimMeaning>(
     notes: &mut Notes,
 ) -> Result<Program, Fault>
     ensures program { IsProgram (setting_of M.answer registry.now options.now) definitions.now result }
-    ensures covers { IfOk result (λ program. Covers registry.now program.core.prims) }
+    ensures covers { IfOk result (λ program. Covers registry.now program.code.prims) }
 {
     let primitives = registry.names(alloc)?;
     let program = program_with(alloc, definitions, options, &primitives, notes)?;
@@ -50,7 +51,7 @@ fn program_with(
     notes: &mut Notes,
 ) -> Result<Program, Fault>
     ensures program { (M : Meaning) → IsProgram (setting_with M primitives.now options.now) definitions.now result }
-    ensures known { IfOk result (λ program. (name : List ℕ) (k : ℕ) → Contains program.core.prims (name, k) → Contains primitives.now (name, k)) }
+    ensures known { IfOk result (λ program. (name : List ℕ) (k : ℕ) → Contains program.code.prims (name, k) → Contains primitives.now (name, k)) }
 {
     let tokens = lex(alloc, definitions)?;
     let file = parse(alloc, definitions, &tokens)?;
@@ -59,5 +60,6 @@ fn program_with(
     let core = to_core(alloc, &checked)?;
     // For its contract: these are the primitives that occur in the core.
     let _ = core.prims();
-    Ok(Program { checked, core })
+    let code = compile(alloc, &core)?;
+    Ok(Program { checked, code })
 }

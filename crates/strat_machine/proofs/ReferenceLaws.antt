@@ -196,7 +196,7 @@ beyond_less (suc b) i r [] h = less_end
 beyond_less (suc b) zero r (v ∷ e) h = absurd (omega arith)
 beyond_less (suc b) (suc i) r (v ∷ e) h = less_same (beyond_less b i r e (omega arith))
 
-all_with : {R : Type 0} (P : R → Type 0) (i : ℕ) (r : R) (e : Places R) → P r → AllPlaces P e → AllPlaces P (with_term i r e)
+pub all_with : {R : Type 0} (P : R → Type 0) (i : ℕ) (r : R) (e : Places R) → P r → AllPlaces P e → AllPlaces P (with_term i r e)
 all_with P i r [] p h = tt
 all_with P zero r (None ∷ e) p h = (p, h)
 all_with P zero r (Some u ∷ e) p h = (p, h.1)

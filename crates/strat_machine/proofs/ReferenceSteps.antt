@@ -11,7 +11,7 @@ use Rattle.strat_machine.specs.State.{Frame, frame, saved, Record, call_record, 
 use Rattle.strat_machine.specs.Step.{on_all, on_one, on_some, called_with, selected, cut_to, goes_on, matched, left, returned, effect, performed, next, IsGoing, Steps, no_step, more_steps}
 use Rattle.strat_machine.specs.Space.{Space, Grows, IsMark, GoesBack}
 use Rattle.strat_machine.specs.References.{Places, RefRecord, ref_call, ref_choice, ref_all, ref_one, ref_some, RefState, ref_running, ref_failing, trees, record_tree, state_tree, AllPlaces, AllRefs, OfRecord, OfRecords, Binds}
-use Rattle.strat_machine.specs.ReferenceSteps.{Does, counts, gives_up_so, jumps, matches, matches_not, builds, builds_none, builds_oversize, answers, answers_none, answers_oversize, enters, leaves, leaves_low, extends, shrinks, shrinks_low, calls_closure, ends_argument, ends_definition, ends_definition_low, tries, commits, finishes, calls, calls_none, calls_oversize, selects, begins_all, begins_one, begins_some, part_of_all, part_of_some, part_of_one, part_of_one_oversize, OnAll, all_goes_on, all_whole, all_oversize, OnOne, one_goes_on, one_none, OnSome, some_goes_on, some_whole, some_oversize, some_none, Selecting, selects_none, selects_this, selects_later, selects_spent, StepsRef, no_step_ref, more_steps_ref, StepRef, performs, cannot_pay, fails_whole, fails_call, fails_all, fails_choice, fails_one_last, fails_one_next, fails_some_none, fails_some_last, fails_some_next}
+use Rattle.strat_machine.specs.ReferenceSteps.{Does, counts, gives_up_so, jumps, matches, matches_not, builds, builds_none, builds_oversize, answers, answers_none, answers_oversize, enters, leaves, leaves_low, extends, shrinks, shrinks_low, calls_closure, ends_argument, ends_definition, ends_definition_low, tries, commits, finishes, sticks, calls, calls_none, calls_oversize, selects, begins_all, begins_one, begins_some, part_of_all, part_of_some, part_of_one, part_of_one_oversize, OnAll, all_goes_on, all_whole, all_oversize, OnOne, one_goes_on, one_none, OnSome, some_goes_on, some_whole, some_oversize, some_none, Selecting, selects_none, selects_this, selects_later, selects_spent, StepsRef, no_step_ref, more_steps_ref, StepRef, performs, cannot_pay, leaves_code, fails_whole, fails_call, fails_all, fails_choice, fails_one_last, fails_one_next, fails_some_none, fails_some_last, fails_some_next}
 use Rattle.strat_machine.specs.Marks.{Kept, Covered, call_covered, all_covered, choice_covered, one_covered, some_covered, Safe, Holds}
 use Rattle.strat_machine.proofs.TrailLaws.{take_undone, take_less, take_grown, if_less, if_more, down_self, above_new, down_new, trimmed_new}
 use Rattle.strat_machine.proofs.ReferenceLaws.{Less, less_trans, less_taken, undone_less, all_less, all_changed, length_undone, parted, covered_moves, bound_so}
@@ -22,7 +22,7 @@ trees_same : {R : Type 0} (P : R → Type 0) (f g : R → Tree) → ((r : R) →
 trees_same P f g h [] x = refl
 trees_same P f g h (r ∷ rs) x = ap (λ u. more u (trees g rs)) (h r x.0) ∙ ap (λ us. more (f r) us) (trees_same P f g h rs x.1)
 
-places_same : {R : Type 0} (P : R → Type 0) (f g : R → Tree) → ((r : R) → P r → g r ≡ f r) → (e : Places R) → AllPlaces P e → map (option_map g) e ≡ map (option_map f) e
+pub places_same : {R : Type 0} (P : R → Type 0) (f g : R → Tree) → ((r : R) → P r → g r ≡ f r) → (e : Places R) → AllPlaces P e → map (option_map g) e ≡ map (option_map f) e
 places_same P f g h [] x = refl
 places_same P f g h (None ∷ e) x = ap (λ A. None ∷ A) (places_same P f g h e x)
 places_same P f g h (Some r ∷ e) x = ap (λ u. Some u ∷ map (option_map g) e) (h r x.0) ∙ ap (λ A. Some (f r) ∷ A) (places_same P f g h e x.1)
@@ -356,6 +356,7 @@ module _ {W R Y : Type 0} {S : Space W R Y} where
     ap (λ n. running (suc i) p (S.term_of w t) (map (option_map (S.term_of w)) e) F T n (choice_record a (S.term_of w t) (saved p (length F) (length T) b) ∷ map (record_tree (S.term_of w)) K) l) (map_length (option_map (S.term_of w)) e),
     (st, record { places = safe.places; records = ((st, mark.valid), safe.records); covered = choice_covered (new_kept mark safe) (mark.covers _ st) (new_covered safe); low = omega arith }),
   )
+  does_so (sticks h) st safe = (h, tt)
   does_so {b = b} {e = e} {K = _ ∷ K} (commits {d = d}) st safe =
       let c = commit_covered safe.covered in let low = safe.low in let lower = c.0 in (refl, (st, record { places = safe.places; records = safe.records.1; covered = c.1; low = omega arith }))
   does_so {w = w} {i = i} {p} {b} {l} {t} {e} {F} {T} {K} (calls {h = h} {a} {k} {to} {us = us} rs g all is) st safe =
@@ -458,6 +459,8 @@ module _ {W R Y : Type 0} {S : Space W R Y} where
         ∙ if_less (ended run_spent l) (effect M v i p (S.term_of w t) (map (option_map (S.term_of w)) e) F T b (map (record_tree (S.term_of w)) K) (l - nodes_of v)) l (nodes_of v) cost,
     tt,
   )
+  step_so {code} {M} (leaves_code {i = i} {p} {b} {l} {t} {e} {F} {T} {K} {w} none) h =
+      (ap (λ o. performed M o i p (S.term_of w t) (map (option_map (S.term_of w)) e) F T b (map (record_tree (S.term_of w)) K) l) none, tt)
   step_so fails_whole h = (refl, tt)
   step_so fails_call h = (refl, passed_call h.covered h)
   step_so fails_all h = (refl, passed_all h.covered h)
@@ -471,6 +474,7 @@ module _ {W R Y : Type 0} {S : Space W R Y} where
   goes_from : {code : Code} {M : Meaning} {w w1 : W} {m m1 : RefState R Y} → StepRef S code M w m w1 m1 → IsGoing (state_tree (S.term_of w) m)
   goes_from (performs rest at cost x) = tt
   goes_from (cannot_pay at cost) = tt
+  goes_from (leaves_code none) = tt
   goes_from fails_whole = tt
   goes_from fails_call = tt
   goes_from fails_all = tt

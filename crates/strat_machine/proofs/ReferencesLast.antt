@@ -7,7 +7,7 @@ use Rattle.strat_machine.specs.State.{Frame}
 use Rattle.strat_machine.specs.Space.{Space}
 use Rattle.strat_machine.specs.References.{Places, RefRecord, RefState}
 use Rattle.strat_machine.specs.Marks.{Lasts, MarksCover}
-use Rattle.strat_machine.specs.ReferenceSteps.{Does, OnAll, OnOne, OnSome, Selecting, StepRef, StepsRef, all_goes_on, all_oversize, all_whole, answers, answers_none, answers_oversize, begins_all, begins_one, begins_some, builds, builds_none, builds_oversize, calls, calls_closure, calls_none, calls_oversize, cannot_pay, commits, counts, ends_argument, ends_definition, ends_definition_low, enters, extends, fails_all, fails_call, fails_choice, fails_one_last, fails_one_next, fails_some_last, fails_some_next, fails_some_none, fails_whole, finishes, gives_up_so, jumps, leaves, leaves_low, matches, matches_not, more_steps_ref, no_step_ref, one_goes_on, one_none, part_of_all, part_of_one, part_of_one_oversize, part_of_some, performs, selects, selects_spent, selects_later, selects_none, selects_this, shrinks, shrinks_low, some_goes_on, some_none, some_oversize, some_whole, tries}
+use Rattle.strat_machine.specs.ReferenceSteps.{Does, sticks, leaves_code, OnAll, OnOne, OnSome, Selecting, StepRef, StepsRef, all_goes_on, all_oversize, all_whole, answers, answers_none, answers_oversize, begins_all, begins_one, begins_some, builds, builds_none, builds_oversize, calls, calls_closure, calls_none, calls_oversize, cannot_pay, commits, counts, ends_argument, ends_definition, ends_definition_low, enters, extends, fails_all, fails_call, fails_choice, fails_one_last, fails_one_next, fails_some_last, fails_some_next, fails_some_none, fails_whole, finishes, gives_up_so, jumps, leaves, leaves_low, matches, matches_not, more_steps_ref, no_step_ref, one_goes_on, one_none, part_of_all, part_of_one, part_of_one_oversize, part_of_some, performs, selects, selects_spent, selects_later, selects_none, selects_this, shrinks, shrinks_low, some_goes_on, some_none, some_oversize, some_whole, tries}
 
 module _ {W R Y : Type 0} {S : Space W R Y} (r : R) where
   selecting_lasts : {w : W} {last p b : ℕ} {t : R} {e : Places R} {F : List Frame} {T : List ℕ} {K : List (RefRecord R Y)} {cs : List Case} {l : ℕ} {m1 : RefState R Y} → Selecting S w last p t e F T b K cs l m1 → S.Stands w r → MarksCover S r K → Lasts S r w m1
@@ -49,6 +49,7 @@ module _ {W R Y : Type 0} {S : Space W R Y} (r : R) where
   does_lasts (shrinks_low low) st c = (refl, st)
   does_lasts (ends_definition_low is low) st c = (refl, st)
   does_lasts finishes st c = (refl, st)
+  does_lasts (sticks h) st c = (refl, st)
   does_lasts (matches g x h) st c = (g.terms r st, (g.stands r st, c))
   does_lasts (matches_not g x h) st c = (g.terms r st, (g.stands r st, c))
   does_lasts (builds g u h) st c = (g.terms r st, (g.stands r st, c))
@@ -74,6 +75,7 @@ module _ {W R Y : Type 0} {S : Space W R Y} (r : R) where
   pub step_lasts : {code : Code} {M : Meaning} {w w1 : W} {m m1 : RefState R Y} → StepRef S code M w m w1 m1 → Lasts S r w m → (S.term_of w1 r ≡ S.term_of w r) × Lasts S r w1 m1
   step_lasts (performs rest at cost x) h = does_lasts x h.0 h.1
   step_lasts (cannot_pay at cost) h = (refl, h.0)
+  step_lasts (leaves_code none) h = (refl, h.0)
   step_lasts fails_whole h = (refl, h.0)
   step_lasts fails_call h = (refl, h)
   step_lasts fails_all h = (refl, h)

@@ -7,13 +7,13 @@ use Rattle.core_lang.specs.Building.{instance, instances}
 use Rattle.core_lang.specs.Ending.{ok, failed, oversize, built, rebuilt, arguments, answered}
 use Rattle.core_lang.specs.Derivation.{parts}
 use Rattle.core_lang.specs.Roots.{has_root}
-use Rattle.strat_machine.specs.Step.{in_order}
+use Rattle.strat_machine.specs.Step.{in_order, effect}
 use Rattle.strat_code.specs.Code.{Argument, Case, case, all_parts, one_part, some_parts, Instr, select, traverse, part_done, call_definition, count, give_up, match_term, build_term, enter, leave, extend, shrink, try, commit, jump, call_closure, end_definition, end_argument, apply_primitive, finish, Code, At, nodes_of}
 use Rattle.core_lang.specs.Roots.{Root}
-use Rattle.strat_machine.specs.State.{Frame, frame, saved, run_failed, run_oversize, run_spent, stuck, place_at, closure_in, frames_up, closed}
+use Rattle.strat_machine.specs.State.{Frame, frame, saved, run_failed, run_oversize, run_spent, stuck, ended, place_at, closure_in, frames_up, closed}
 use Rattle.strat_machine.specs.Binding.{undone, above, down_to, trimmed, attempt, attempted}
 use Rattle.strat_machine.specs.Space.{Space, Grows, IsMark, GoesBack}
-use Rattle.strat_machine.specs.References.{Places, RefRecord, ref_call, ref_choice, ref_all, ref_one, ref_some, RefState, ref_running, ref_failing, ref_rewritten, ref_stopped, trees, AllRefs, Binds}
+use Rattle.strat_machine.specs.References.{Places, RefRecord, ref_call, ref_choice, ref_all, ref_one, ref_some, RefState, ref_running, ref_failing, ref_rewritten, ref_stopped, trees, record_tree, AllRefs, Binds}
 
 module _ {W R Y : Type 0} (S : Space W R Y) where
   -- the next part of a traversal, or its end
@@ -144,6 +144,10 @@ module _ {W R Y : Type 0} (S : Space W R Y) where
           Does part_done i p t e F T b (ref_one body after u done v us (saved q k h d) m ∷ K) l w1 (ref_stopped run_oversize l)
       finishes : {i p b l : ℕ} {t : R} {e : Places R} {F : List Frame} {T : List ℕ} {K : List (RefRecord R Y)} →
           Does finish i p t e F T b K l w (ref_rewritten t l)
+      -- what code of no program comes to
+      sticks : {v : Instr} {i p b l : ℕ} {t : R} {e : Places R} {F : List Frame} {T : List ℕ} {K : List (RefRecord R Y)} →
+          effect M v i p (S.term_of w t) (map (option_map (S.term_of w)) e) F T b (map (record_tree (S.term_of w)) K) l ≡ ended stuck l →
+          Does v i p t e F T b K l w (ref_stopped stuck l)
 
   -- one step, with the states of the space
   pub data StepRef (code : Code) (M : Meaning) : W → RefState R Y → W → RefState R Y → Type 0 where
@@ -151,6 +155,8 @@ module _ {W R Y : Type 0} (S : Space W R Y) where
         At code i v → l ≡ nodes_of v + rest → Does M w v i p t e F T b K rest w1 m1 → StepRef code M w (ref_running i p t e F T b K l) w1 m1
     cannot_pay : {v : Instr} {i p b l : ℕ} {t : R} {e : Places R} {F : List Frame} {T : List ℕ} {K : List (RefRecord R Y)} {w : W} →
         At code i v → l < nodes_of v → StepRef code M w (ref_running i p t e F T b K l) w (ref_stopped run_spent l)
+    leaves_code : {i p b l : ℕ} {t : R} {e : Places R} {F : List Frame} {T : List ℕ} {K : List (RefRecord R Y)} {w : W} →
+        slice_get code i ≡ None → StepRef code M w (ref_running i p t e F T b K l) w (ref_stopped stuck l)
     fails_whole : {b l : ℕ} {e : Places R} {F : List Frame} {T : List ℕ} {w : W} →
         StepRef code M w (ref_failing e F T b [] l) w (ref_stopped run_failed l)
     fails_call : {a h b l : ℕ} {e : Places R} {F : List Frame} {T : List ℕ} {K : List (RefRecord R Y)} {w : W} →

@@ -6,10 +6,15 @@ use Rattle.core_lang.specs.Environment.{Bindings}
 use Rattle.core_lang.specs.Ending.{Ending, ok, failed, oversize}
 use Rattle.core_lang.specs.Resolved.{ResolvedDefinitions, RewritesByCoordinates}
 use Rattle.strat_machine.specs.State.{Result, rewritten, run_failed, run_oversize, run_spent, stuck, State, running}
+use Rattle.strat_machine.specs.References.{RefState, ref_running}
 
 -- where a run begins
 abbrev pub start : Tree → ℕ → State
 start t budget = running 0 0 t [] [] [] 0 [] budget
+
+-- where a run over references begins
+abbrev pub start_ref : {R Y : Type 0} → R → ℕ → RefState R Y
+start_ref t budget = ref_running 0 0 t [] [] [] 0 [] budget
 
 -- the program ends so by the nodes that were paid for, in few steps for them
 pub record EndsSo (M : Meaning) (P : ResolvedDefinitions) (i : ℕ) (t : Tree) (budget : ℕ) (o : Ending Tree) (left steps : ℕ) : Type 0 where

@@ -1,6 +1,30 @@
 //! The machine that runs code: its states, its steps, and what its runs do.
 #![tactic(auto)]
 
+mod building;
+mod calls;
+mod control;
+mod failing;
+mod flat_values;
+mod frames;
+mod instructions;
 mod laws;
+mod loaded;
+mod machine;
+mod matching;
+mod paid;
+mod patterns;
+mod places;
+mod primitives;
+mod program;
+mod records;
+mod running;
+mod select;
+mod stack;
+mod stacks;
+mod steps;
+mod traversals;
+mod tries;
 
 pub use laws::{code_runs, records_restore, references_step, runs_are_unique};
+pub use machine::Machine;

@@ -10,8 +10,9 @@ use Rattle.term_model.specs.PrimNames.{NameKey}
 use Rattle.prim_registry.specs.declared.primitive.Primitive.{Primitive}
 use Rattle.prim_registry.specs.declared.registry.Registry.{Registry}
 use Rattle.prim_registry.specs.Entries.{entry_of, entries_of, name_of, primitives_of, HasName}
-use Rattle.strc.specs.declared.primitives.StandardPrimitive.{StandardPrimitive}
-use Rattle.strc.specs.Primitives.{key_of, names_of, standard_primitives, standard_entries}
+use Rattle.prim_registry.specs.declared.standard_primitive.StandardPrimitive.{StandardPrimitive}
+use Rattle.prim_registry.specs.StandardPrimitives.{key_of, standard_primitives, standard_entries}
+use Rattle.strc.specs.Primitives.{names_of}
 
 neither : (a b : Bool) → (a || b) ≡ false → (a ≡ false) × (b ≡ false)
 neither true b none = absurd (true≢false none)

@@ -1,33 +1,10 @@
 -- The primitives of the program: the standard ones, and no others.
-use Rattle.std.specs.Prelude.{List, [], ◌∷◌, ℕ, codes, map}
+use Rattle.std.specs.Prelude.{List, ℕ, map}
 use Rattle.term_model.specs.PrimNames.{NameKey}
 use Rattle.prim_registry.specs.Standard.{standard}
+use Rattle.prim_registry.specs.StandardPrimitives.{standard_entries}
 use Rattle.str_pipeline.specs.declared.status.Options.{Options}
 use Rattle.str_pipeline.specs.Setting.{Setting, setting_with}
-use Rattle.strc.specs.declared.primitives.StandardPrimitive.{StandardPrimitive}
-use Rattle.strc.specs.declared.primitives.StandardPrimitive.TheVariants.{Add, Sub, Mul, Div, Mod, Less, Concat, Length, Explode, Implode, IntText, TextInt}
-
--- name and number of arguments
-abbrev pub key_of : StandardPrimitive → NameKey
-key_of Add = (codes "add", 2)
-key_of Sub = (codes "sub", 2)
-key_of Mul = (codes "mul", 2)
-key_of Div = (codes "div", 2)
-key_of Mod = (codes "mod", 2)
-key_of Less = (codes "less", 2)
-key_of Concat = (codes "concat", 2)
-key_of Length = (codes "length", 1)
-key_of Explode = (codes "explode", 1)
-key_of Implode = (codes "implode", 1)
-key_of IntText = (codes "int_text", 1)
-key_of TextInt = (codes "text_int", 1)
-
--- in the order in which they are registered
-abbrev pub standard_primitives : List StandardPrimitive
-standard_primitives = Add ∷ Sub ∷ Mul ∷ Div ∷ Mod ∷ Less ∷ Concat ∷ Length ∷ Explode ∷ Implode ∷ IntText ∷ TextInt ∷ []
-
-abbrev pub standard_entries : List NameKey
-standard_entries = map key_of standard_primitives
 
 abbrev pub names_of : List NameKey → List (List ℕ)
 names_of keys = map (λ key. key.0) keys

@@ -1,126 +1,30 @@
 //! The standard primitives, and the program over a registry of them.
-ghost use Rattle.std.specs.Prelude.{◌≡◌, ◌+◌, ◌<◌, ◌≤◌, ◌++◌, ◌∷◌, ℕ, [], List, length, Contains, IfOk, IfErr, IfSome, IsOkAnd, OnOk};
+ghost use Rattle.std.specs.Prelude.{◌≡◌, ◌+◌, ◌<◌, ◌≤◌, ◌++◌, ◌∷◌, ℕ, [], List, length, Contains, IfErr, IfSome, IsOkAnd, OnOk};
 ghost use Rattle.term_model.specs.declared.fault.Fault.{Fault};
 ghost use Rattle.prim_registry.specs.Answers.{AnswersBy};
 ghost use Rattle.prim_registry.specs.Entries.{IsHonest, entries_of};
 ghost use Rattle.prim_registry.specs.Standard.{standard};
-ghost use Rattle.prim_registry.specs.Values.{answer_of, values_of};
 ghost use Rattle.str_pipeline.specs.declared.status.Options.{Options};
 ghost use Rattle.str_pipeline.specs.declared.status.Status.{Status};
 ghost use Rattle.str_pipeline.specs.Joined.{IsSplit};
 ghost use Rattle.str_pipeline.specs.Written.{HasWritten, HasBegun};
 ghost use Rattle.str_pipeline.specs.Faults.{HoldsRefusal, IsTransferFault};
 ghost use Rattle.str_pipeline.specs.Limits.{max_definitions, max_term};
-ghost use Rattle.strc.specs.Primitives.{key_of, names_of, standard_setting};
+ghost use Rattle.prim_registry.specs.StandardPrimitives.{key_of};
+ghost use Rattle.strc.specs.Primitives.{names_of, standard_setting};
 ghost use Rattle.strc.specs.Report.{exit_of, IsCause, Tells, IsReported};
 ghost use Rattle.strc.specs.Request.{ArePlain};
 
 use crate::paths::Paths;
 use crate::program::{run, stop};
 use crate::words::refuse;
-use prim_registry::standard::{
-    add, concat, div, explode, implode, int_text, length, less, modulo, mul, sub, text_int,
+use prim_registry::{
+    Action, Flat, Prim, PrimMeaning, Registry, STANDARD, Standard, StandardPrimitive,
 };
-use prim_registry::{Action, Flat, Prim, PrimMeaning, Registry, Standard};
 use std::alloc::{AllocError, Global};
 use std::io;
 use str_pipeline::{Sink, Source};
 use term_model::Fault;
-
-/// A standard primitive.
-#[derive(Clone, Copy)]
-enum StandardPrimitive {
-    Add,
-    Sub,
-    Mul,
-    Div,
-    Mod,
-    Less,
-    Concat,
-    Length,
-    Explode,
-    Implode,
-    IntText,
-    TextInt,
-}
-
-/// All of them, in the order in which they are registered.
-const STANDARD: [StandardPrimitive; 12] = [
-    StandardPrimitive::Add,
-    StandardPrimitive::Sub,
-    StandardPrimitive::Mul,
-    StandardPrimitive::Div,
-    StandardPrimitive::Mod,
-    StandardPrimitive::Less,
-    StandardPrimitive::Concat,
-    StandardPrimitive::Length,
-    StandardPrimitive::Explode,
-    StandardPrimitive::Implode,
-    StandardPrimitive::IntText,
-    StandardPrimitive::TextInt,
-];
-
-impl StandardPrimitive {
-    /// Returns the name.
-    fn name(self) -> &'static [u8]
-        ensures { result.now ≡ (key_of self).0 }
-    {
-        match self {
-            StandardPrimitive::Add => b"add",
-            StandardPrimitive::Sub => b"sub",
-            StandardPrimitive::Mul => b"mul",
-            StandardPrimitive::Div => b"div",
-            StandardPrimitive::Mod => b"mod",
-            StandardPrimitive::Less => b"less",
-            StandardPrimitive::Concat => b"concat",
-            StandardPrimitive::Length => b"length",
-            StandardPrimitive::Explode => b"explode",
-            StandardPrimitive::Implode => b"implode",
-            StandardPrimitive::IntText => b"int_text",
-            StandardPrimitive::TextInt => b"text_int",
-        }
-    }
-
-    /// Returns the number of arguments.
-    fn arity(self) -> usize
-        ensures { result ≡ (key_of self).1 }
-    {
-        match self {
-            StandardPrimitive::Add
-            | StandardPrimitive::Sub
-            | StandardPrimitive::Mul
-            | StandardPrimitive::Div
-            | StandardPrimitive::Mod
-            | StandardPrimitive::Less
-            | StandardPrimitive::Concat => 2,
-            StandardPrimitive::Length
-            | StandardPrimitive::Explode
-            | StandardPrimitive::Implode
-            | StandardPrimitive::IntText
-            | StandardPrimitive::TextInt => 1,
-        }
-    }
-
-    /// Returns what the primitive has for these arguments, and `AllocError` where memory for it is refused.
-    fn answer(self, alloc: Global, args: &[Flat]) -> Result<Option<Flat>, AllocError>
-        ensures { IfOk result (λ answer. answer_of answer ≡ standard (key_of self).0 (values_of args.now)) }
-    {
-        match self {
-            StandardPrimitive::Add => Ok(add(args)),
-            StandardPrimitive::Sub => Ok(sub(args)),
-            StandardPrimitive::Mul => Ok(mul(args)),
-            StandardPrimitive::Div => Ok(div(args)),
-            StandardPrimitive::Mod => Ok(modulo(args)),
-            StandardPrimitive::Less => Ok(less(args)),
-            StandardPrimitive::Concat => concat(alloc, args),
-            StandardPrimitive::Length => Ok(length(args)),
-            StandardPrimitive::Explode => explode(alloc, args),
-            StandardPrimitive::Implode => implode(alloc, args),
-            StandardPrimitive::IntText => int_text(alloc, args),
-            StandardPrimitive::TextInt => Ok(text_int(args)),
-        }
-    }
-}
 
 /// Registers a standard primitive, whose name the registry does not have, with its function. The fault is `Memory`.
 fn register(

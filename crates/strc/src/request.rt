@@ -6,7 +6,7 @@ ghost use Rattle.strc.specs.Rules.{Fits, TakesRules, HasRules};
 
 use clap::{Arg, ArgAction, ArgMatches, Command, Error, value_parser};
 use std::alloc::{AllocError, Global};
-use str_pipeline::{MAX_BUDGET, Options};
+use str_pipeline::{DEFAULT_BUDGET, Options};
 
 /// Where the two texts come from.
 #[derive(Clone, Copy, Debug, PartialEq, Eq, Drop)]
@@ -65,8 +65,8 @@ fn rules<'a>(alloc: Global) -> Arg<'a>
         .long("rules")
         .value_name("N")
         .allow_negative_numbers(true)
-        .value_parser(value_parser!(u32).range(0..=2_000))
-        .help("The most rules of the run, from 0 to 2000 [default: 2000]")
+        .value_parser(value_parser!(u32).range(0..=1_000_000_000))
+        .help("The most rules of the run, from 0 to 1000000000 [default: 1000000]")
 }
 
 /// Returns the option for the name of the strategy. Any word is taken as the name, one with a hyphen in front too.
@@ -131,15 +131,15 @@ fn command<'a>(alloc: Global) -> Result<Command<'a>, Error>
 }
 
 /// Reads the words of the command line, of which the first is the name of the program. Where it is the only one, the texts come in the
-/// joined form, the strategy is `main`, the term need not be declared, and the budget is the greatest. An error is what the program has to
-/// say: what is wrong with the words, the help text or the version; and want of memory.
+/// joined form, the strategy is `main`, the term need not be declared, and the budget is 1,000,000 rules. An error is what the program
+/// has to say: what is wrong with the words, the help text or the version; or out of memory.
 pub(crate) fn request_of<'a>(alloc: Global, words: &'a [String]) -> Result<Request<'a>, Error>
     ensures bound { IfOk result (λ request. request.rules ≤ max_budget) }
     ensures plain { length words.now ≤ 1 → IsOkAnd result IsPlainRequest }
 {
     if words.len() < 2 {
         return Ok(Request {
-            rules: MAX_BUDGET,
+            rules: DEFAULT_BUDGET,
             main: "main",
             is_strict: false,
             texts: Texts::Joined,
@@ -154,12 +154,12 @@ pub(crate) fn request_of<'a>(alloc: Global, words: &'a [String]) -> Result<Reque
     })
 }
 
-/// Returns the number of rules, which is the greatest where none is asked for.
+/// Returns the number of rules, which is 1,000,000 where none is asked for.
 fn rules_of(matches: &ArgMatches<'_>) -> u32
     requires { HasRules matches.now }
     ensures { result ≤ max_budget }
 {
-    matches.get_one::<u32>("rules").unwrap_or(MAX_BUDGET)
+    matches.get_one::<u32>("rules").unwrap_or(DEFAULT_BUDGET)
 }
 
 /// Returns where the two texts come from.

@@ -78,6 +78,7 @@ pub trait TermSpace {
     /// The reference once more.
     fn dup(&self, at: &Self::Ref) -> Result<Self::Ref, AllocError>
         requires { IsTrue (stands self.now at.now) }
+        ensures same { IfOk result (λ r. r ≡ at.now) }
         ensures stands { IfOk result (λ r. IsTrue (stands self.now r)) }
         ensures term { IfOk result (λ r. term_of self.now r ≡ term_of self.now at.now) };
 

@@ -17,6 +17,7 @@ const LENIENT: bool = false;
 pub(super) const OPTION_ROWS: &[OptionRow] = &[
     ("strategies go = id", "F(1)", "go", LENIENT, 2, "F(1)"),
     ("strategies go = id", "F(1)", "go", LENIENT, 1, "#spent"),
+    ("strategies go = id", "F(1)", "go", LENIENT, 0, "#spent"),
     (
         "strategies go = id",
         "F(1)",

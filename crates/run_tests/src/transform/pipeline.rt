@@ -7,6 +7,7 @@ use crate::transform::complaints::{PARTS, Part};
 use crate::transform::forms::{FORMS, SIGNATURE};
 use crate::transform::language_rows::{CHECK_ROWS, LANGUAGE_ROWS};
 use crate::transform::library_rows::LIBRARY_ROWS;
+use crate::transform::long_rows::{ENDLESS, LONG_ROWS};
 use crate::transform::option_rows::OPTION_ROWS;
 use crate::transform::rows::{JOINED_ROWS, Pieces, ROWS, TextRow};
 use crate::transform::term_rows::TERM_ROWS;
@@ -176,6 +177,36 @@ fn rows(rt: HostRuntime) -> Result<(), Fail> {
         assert!(rt;
             takes(alloc, &defs, &term, row.rules, &registry, &line)?,
             "row {index}"
+        );
+    }
+    Ok(())
+}
+
+// Runs of many rules. Under `rt try`, whose checks make runs slower, they take minutes.
+#[test]
+fn long_runs(rt: HostRuntime) -> Result<(), Fail> {
+    let alloc = rt.alloc();
+    let registry = Registry::<Standard>::new(alloc);
+    for (index, row) in LONG_ROWS.iter().enumerate() {
+        let defs = text_of(alloc, row.defs)?;
+        let term = text_of(alloc, row.term)?;
+        let line = line_of(alloc, row.line)?;
+        assert!(rt;
+            takes(alloc, &defs, &term, row.rules, &registry, &line)?,
+            "row {index}"
+        );
+    }
+    for defs in ENDLESS {
+        assert!(rt;
+            gives(
+                alloc,
+                defs.as_bytes(),
+                b"7",
+                1_000_000,
+                &registry,
+                b"#spent\n"
+            )?,
+            "{defs}"
         );
     }
     Ok(())

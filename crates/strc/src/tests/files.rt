@@ -62,11 +62,11 @@ fn runs(rt: HostRuntime) -> Result<(), Fail> {
             "strc: UnknownStrategy\n",
         ),
         (
-            "strc --rules 2001 id.str",
+            "strc --rules 1000000001 id.str",
             "7",
             5,
             "",
-            "error: invalid value '2001'",
+            "error: invalid value '1000000001'",
         ),
         (
             "strc a b c",

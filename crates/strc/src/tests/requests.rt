@@ -7,10 +7,10 @@ use std::io;
 use std::test::Fail;
 use str_pipeline::Faulty;
 
-/// A request for a strategy, with the greatest budget and without strict mode.
+/// A request for a strategy, with the default budget and without strict mode.
 const fn asks<'a>(main: &'a str, texts: Texts<'a>) -> Request<'a> {
     Request {
-        rules: 2_000,
+        rules: 1_000_000,
         main,
         is_strict: false,
         texts,
@@ -44,7 +44,14 @@ fn requests(rt: HostRuntime) -> Result<(), Fail> {
                 ..asks("main", Texts::Joined)
             },
         ),
-        ("strc --rules=2000", asks("main", Texts::Joined)),
+        ("strc --rules=1000000", asks("main", Texts::Joined)),
+        (
+            "strc --rules 1000000000",
+            Request {
+                rules: 1_000_000_000,
+                ..asks("main", Texts::Joined)
+            },
+        ),
         (
             "strc --rules 0007",
             Request {
@@ -77,14 +84,14 @@ fn faults_of_words(rt: HostRuntime) -> Result<(), Fail> {
     // words, the kind of the error, what its text begins with
     let rows = [
         (
-            "strc --rules 2001",
+            "strc --rules 1000000001",
             ErrorKind::ValueValidation,
-            "error: invalid value '2001' for '--rules <N>': 2001 is not in 0..=2000\n",
+            "error: invalid value '1000000001' for '--rules <N>': 1000000001 is not in 0..=1000000000\n",
         ),
         (
             "strc --rules -1",
             ErrorKind::ValueValidation,
-            "error: invalid value '-1' for '--rules <N>': -1 is not in 0..=2000\n",
+            "error: invalid value '-1' for '--rules <N>': -1 is not in 0..=1000000000\n",
         ),
         (
             "strc --rules many",

@@ -1,5 +1,5 @@
 use Rattle.std.proofs.Common.{◌∙◌, sym}
-use Rattle.core_eval.proofs.FlatLaws.{list_flat, symbol_flat}
+use Rattle.prim_registry.proofs.FlatLaws.{list_flat, symbol_flat}
 use Rattle.core_eval.proofs.flat_values.flat_value.Goals as goal
 
 pub returns-in-Some : goal.returns-in-Some

@@ -1,6 +1,6 @@
 use Rattle.std.proofs.Common.{◌∙◌, ap, sym}
 use Rattle.prim_registry.specs.Values.{answer_of}
-use Rattle.core_eval.proofs.FlatLaws.{flats_start, flats_next, flats_none, flats_all}
+use Rattle.prim_registry.proofs.FlatLaws.{flats_start, flats_next, flats_none, flats_all}
 use Rattle.core_eval.proofs.flat_values.flat_values.Goals as goal
 
 pub loop-t-init : goal.loop-t-init

@@ -2,7 +2,7 @@ use Rattle.std.proofs.Common.{◌≡◌, drop}
 use Rattle.prim_registry.specs.Values.{values_of}
 use Rattle.term_model.specs.Flat.{all_flat}
 use Rattle.term_model.specs.Term.{trees_of}
-use Rattle.core_eval.proofs.FlatLaws.{after}
+use Rattle.prim_registry.proofs.FlatLaws.{after}
 use Rattle.core_eval.proofs.flat_values.flat_values.Given as goal
 
 abbrev pub invariant-loop-t : goal.invariant-loop-t

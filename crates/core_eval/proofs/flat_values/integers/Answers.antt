@@ -1,6 +1,6 @@
 use Rattle.std.proofs.Common.{rules, ◌≡◌, pos, get_or, ◌∙◌, ap, map}
 use Rattle.term_model.specs.Term.{trees_of}
-use Rattle.core_eval.proofs.FlatLaws.{integer_term, integer_terms, one_more_integer, taken}
+use Rattle.prim_registry.proofs.FlatLaws.{integer_term, integer_terms, one_more_integer, taken}
 use Rattle.core_eval.proofs.flat_values.integers.Goals as goal
 
 pub loop-number-preserved : goal.loop-number-preserved

@@ -1,5 +1,5 @@
 use Rattle.std.proofs.Common.{◌≡◌, map, take}
-use Rattle.core_eval.proofs.FlatLaws.{integer_term}
+use Rattle.prim_registry.proofs.FlatLaws.{integer_term}
 use Rattle.core_eval.proofs.flat_values.integers.Given as goal
 
 abbrev pub invariant-loop-number : goal.invariant-loop-number

@@ -1,5 +1,5 @@
 use Rattle.std.proofs.Common.{rules, ◌≡◌, ◌++◌, ◌∷◌, [], ◌∙◌, ap, sym, Some}
-use Rattle.core_eval.proofs.FlatLaws.{integers_start, integers_next, integers_none, integers_all}
+use Rattle.prim_registry.proofs.FlatLaws.{integers_start, integers_next, integers_none, integers_all}
 use Rattle.core_eval.proofs.flat_values.numbers.Goals as goal
 
 pub loop-t-init : goal.loop-t-init

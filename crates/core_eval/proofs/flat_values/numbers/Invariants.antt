@@ -1,7 +1,7 @@
 use Rattle.std.proofs.Common.{◌≡◌, drop}
 use Rattle.term_model.specs.Flat.{integers_of}
 use Rattle.term_model.specs.Term.{trees_of}
-use Rattle.core_eval.proofs.FlatLaws.{after}
+use Rattle.prim_registry.proofs.FlatLaws.{after}
 use Rattle.core_eval.proofs.flat_values.numbers.Given as goal
 
 abbrev pub invariant-loop-t : goal.invariant-loop-t

@@ -1,5 +1,5 @@
 use Rattle.std.proofs.Common.{rules, ◌∙◌}
-use Rattle.core_eval.proofs.FlatLaws.{no_text, text_with_parts}
+use Rattle.prim_registry.proofs.FlatLaws.{no_text, text_with_parts}
 use Rattle.core_eval.proofs.flat_values.text.Goals as goal
 
 pub returns-in_default : goal.returns-in_default

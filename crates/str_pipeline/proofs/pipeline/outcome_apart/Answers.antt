@@ -67,7 +67,7 @@ returns-clause-result g c =
     (λ d t. IsResult d t S c.outcome_of.result)
     (rw c.in-Some.is at c.in_ok-text.ensures.whole)
     (rw c.in-Some-2.is at c.in_ok-text-2.ensures.whole)
-    (rw (← c.deref-2.ensures.value) (c.outcome_of.ensures.result c.in-Some.text.items made.0 (rw (← c.deref.ensures.value, c.deref.ensures.len) (rw c.in-Some.is at c.in_ok-text.ensures.fits), file) made.2))
+    (c.outcome_of.ensures.result c.in-Some.text.items made.0 (rw (← c.deref.ensures.value, c.deref.ensures.len) (rw c.in-Some.is at c.in_ok-text.ensures.fits), file) made.2)
 
 pub returns-in_err-text-2-clause-result : goal.returns-in_err-text-2-clause-result
 returns-in_err-text-2-clause-result g c =

@@ -46,7 +46,7 @@ returns-clause-result g c =
     (λ d t. IsResult d t S c.outcome_of.result)
     (rw c.in-Some.is at c.in_ok-front.ensures.split)
     (told_then _ (λ left. c.in-Some-2.text.items ≡ term_of c.in-Some.front left) _ (rw c.in-Some-2.is at c.in_ok-text.ensures.whole)
-    (λ left same. rw (← same, ← c.deref.ensures.value)
+    (λ left same. rw (← same)
     (c.outcome_of.ensures.result (definitions_of c.in-Some.front) made.0 (short, file) made.2)))
 
 pub returns-in_err-text-clause-result : goal.returns-in_err-text-clause-result

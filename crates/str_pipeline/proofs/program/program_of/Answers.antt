@@ -21,4 +21,4 @@ returns-clause-program g c =
 
 pub returns-clause-covers : goal.returns-clause-covers
 returns-clause-covers g c =
-    covered c.in_ok-program.program.core.prims c.in_ok-primitives.primitives (entries_of c.args.registry.now) c.in_ok-primitives.ensures c.in_ok-program.ensures.known
+    covered c.in_ok-program.program.code.prims c.in_ok-primitives.primitives (entries_of c.args.registry.now) c.in_ok-primitives.ensures c.in_ok-program.ensures.known

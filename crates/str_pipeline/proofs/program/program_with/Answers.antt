@@ -1,3 +1,4 @@
+use Rattle.core_lang.specs.Core.{program_of}
 use Rattle.str_syntax.specs.Views.{file_of}
 use Rattle.str_pipeline.specs.Setting.{setting_with}
 use Rattle.str_pipeline.proofs.KnownLaws.{known}
@@ -21,12 +22,22 @@ returns-clause-program c M =
     c.in_ok-checked.ensures.file (rw c.deref-2.ensures.value at c.in_ok-checked.ensures.main) c.in_ok-core.ensures in (
       file_of c.in_ok-file-2.file,
       good,
-      record { declared = c.in_ok-checked.ensures.checked.declared; resolved = resolved },
+      record {
+        declared = c.in_ok-checked.ensures.checked.declared;
+        code = record {
+          core = program_of c.in_ok-core.core;
+          main = c.in_ok-core.core.main;
+          stands = c.in_ok-code.ensures.stands;
+          occurring = rw c.in_ok-code.ensures.prims c.prims.ensures.occurring;
+          resolved = resolved;
+        };
+      },
     )
 
 pub returns-clause-known : goal.returns-clause-known
 returns-clause-known c =
     let resolved = same_program c.in_ok-checked.checked.file c.in_ok-file-2.file c.in_ok-checked.checked.main c.args.options.now.main.items c.in_ok-core.core
     c.in_ok-checked.ensures.file (rw c.deref-2.ensures.value at c.in_ok-checked.ensures.main) c.in_ok-core.ensures in
-    known c.args.primitives.now (file_of c.in_ok-file-2.file) c.args.options.now.main.items c.in_ok-core.core
-    (rw c.deref-2.ensures.value at c.in_ok-checked.ensures.faultless) resolved c.prims.ensures.occurring
+    rw c.in_ok-code.ensures.prims
+    (known c.args.primitives.now (file_of c.in_ok-file-2.file) c.args.options.now.main.items c.in_ok-core.core
+    (rw c.deref-2.ensures.value at c.in_ok-checked.ensures.faultless) resolved c.prims.ensures.occurring)

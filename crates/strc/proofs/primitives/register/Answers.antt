@@ -1,5 +1,5 @@
 use Rattle.std.proofs.Common.{◌∙◌}
-use Rattle.strc.specs.Primitives.{key_of}
+use Rattle.prim_registry.specs.StandardPrimitives.{key_of}
 use Rattle.strc.proofs.PrimitiveLaws.{memory_alone}
 use Rattle.strc.proofs.primitives.register.Goals as goal
 

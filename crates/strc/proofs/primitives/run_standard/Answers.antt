@@ -6,7 +6,7 @@ use Rattle.str_pipeline.specs.Joined.{IsSplit}
 use Rattle.str_pipeline.specs.Setting.{setting_with}
 use Rattle.str_pipeline.specs.Written.{HasWritten, HasBegun}
 use Rattle.strc.specs.Report.{IsReported}
-use Rattle.strc.specs.Primitives.{standard_entries}
+use Rattle.prim_registry.specs.StandardPrimitives.{standard_entries}
 use Rattle.strc.proofs.PrimitiveLaws.{fresh, one_more, whole}
 use Rattle.strc.proofs.primitives.run_standard.Goals as goal
 

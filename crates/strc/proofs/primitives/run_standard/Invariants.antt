@@ -1,7 +1,7 @@
 use Rattle.std.proofs.Common.{◌≡◌, map, take}
 use Rattle.prim_registry.specs.Entries.{IsHonest, entries_of}
 use Rattle.prim_registry.specs.Standard.{standard}
-use Rattle.strc.specs.Primitives.{key_of, standard_primitives}
+use Rattle.prim_registry.specs.StandardPrimitives.{key_of, standard_primitives}
 use Rattle.strc.proofs.primitives.run_standard.Given as goal
 
 abbrev pub invariant-loop-primitive : goal.invariant-loop-primitive

@@ -1,0 +1,42 @@
+//! Long runs. A call of `repeat` whose strategy is a rule takes 12 rules for each time that the rule rewrites, and 11 where it fails.
+use crate::transform::rows::Row;
+
+pub(super) const LONG_ROWS: &[Row] = &[
+    // 1 for the call of main, 12 for each Succ, 11 for Zero
+    Row {
+        defs: &[(
+            "signature constructors Succ : N -> N rules Down : Succ(x) -> x strategies main = repeat(Down)",
+            1,
+        )],
+        term: &[("Succ(", 900), ("Zero", 1), (")", 900)],
+        line: &[("Zero", 1)],
+        rules: Some(10_812),
+    },
+    // the same for each element
+    Row {
+        defs: &[(
+            "rules Rest : [_|xs] -> xs strategies main = repeat(Rest)",
+            1,
+        )],
+        term: &[("[0", 1), (",0", 3_999), ("]", 1)],
+        line: &[("[]", 1)],
+        rules: Some(48_012),
+    },
+    // ten times s takes a call, 9 sequences, and 10 calls of s; the innermost, of id, takes 30, and each that is around takes
+    // 20 and ten times those inside: 320, 3,220, 32,220 and 322,220. The call of main is one more.
+    Row {
+        defs: &[(
+            "strategies ten(s) = s; s; s; s; s; s; s; s; s; s main = ten(ten(ten(ten(ten(id)))))",
+            1,
+        )],
+        term: &[("F(1)", 1)],
+        line: &[("F(1)", 1)],
+        rules: Some(322_221),
+    },
+];
+
+/// Definitions that have no outcome.
+pub(super) const ENDLESS: &[&str] = &[
+    "strategies main = rec x(x; id)",
+    "strategies f(|x) = f(|x) main = f(|1)",
+];

@@ -1,0 +1,384 @@
+-- What building several patterns makes, one after another.
+use Rattle.std.proofs.Common.{◌≡◌, ℕ, ℤ, zero, suc, ◌+◌, ◌<◌, ◌≤◌, Option, Some, None, List, [], ◌∷◌, ◌++◌, length, map, drop, take, get_or, refl, sym, ◌∙◌, ap, subst, arith, add-one}
+use Rattle.std.specs.Prelude.{Bool, true, false, ◌&&◌, IsTrue, slice_get}
+use Rattle.std.specs.Option.{option_map}
+use Rattle.std.proofs.lemmas.List.{drop_all, length-map, map-append}
+use Rattle.core_lang.specs.declared.coordinate.Coordinate.{Coordinate}
+use Rattle.core_lang.specs.Building.{value_in, with_front, made_like, applied_to, list_term, elements_of, instance, instances, element_instances}
+use Rattle.core_lang.specs.Environment.{Bindings}
+use Rattle.core_lang.specs.Program.{Pattern, anything, variable, alias, integer, applied, list, like}
+use Rattle.core_lang.specs.Views.{patterns_in, elements_in}
+use Rattle.core_lang.proofs.ElementLaws.{elements_of_list, elements_of_application, elements_annotated, annotated_again, annotated_without}
+use Rattle.term_model.specs.Symbol.{Symbol}
+use Rattle.term_model.specs.Term.{Tree, Trees, end, parts_of, list_of, trees_of, fits, all_fit}
+use Rattle.term_model.proofs.FitsLaws.{all_fit-last}
+use Rattle.term_model.proofs.TermLemmas.{trees_of-list_of}
+use Rattle.strat_machine.specs.Builds.{IsBare, IsKept, BuiltStands, in_front, instances_then, joined_elements, Builds, AreBuilt, AreBuiltBefore, AreElements, TailStands, Puts}
+use Rattle.strat_machine.specs.declared.building.Built.{Built}
+use Rattle.strat_machine.specs.declared.building.Built.TheVariants as built
+use Rattle.strat_machine.specs.declared.building.Pushed.{Pushed}
+use Rattle.strat_machine.specs.declared.building.Pushed.TheVariants as pushed
+use Rattle.strat_machine.specs.declared.building.Elements.{Elements}
+use Rattle.strat_machine.specs.declared.building.Elements.TheVariants as elements
+use Rattle.strat_machine.specs.References.{Places, AllPlaces, AllRefs}
+use Rattle.strat_machine.proofs.ReferenceSteps.{places_same}
+
+-- what was put on a stack
+drop_put : {X : Type 0} (xs ys : List X) → drop (length xs) (xs ++ ys) ≡ ys
+drop_put [] ys = refl
+drop_put (x ∷ xs) ys = drop_put xs ys
+
+take_put : {X : Type 0} (xs ys : List X) → take (length xs) (xs ++ ys) ≡ xs
+take_put [] ys = refl
+take_put (x ∷ xs) ys = ap (λ zs. x ∷ zs) (take_put xs ys)
+
+long_put : {X : Type 0} (xs ys : List X) → length xs ≤ length (xs ++ ys)
+long_put [] ys = omega arith
+long_put (x ∷ xs) ys = let h = long_put xs ys in omega arith
+
+append_nothing : {X : Type 0} (xs : List X) → xs ≡ xs ++ []
+append_nothing [] = refl
+append_nothing (x ∷ xs) = ap (λ ys. x ∷ ys) (append_nothing xs)
+
+append_assoc : {X : Type 0} (xs ys zs : List X) → (xs ++ ys) ++ zs ≡ xs ++ (ys ++ zs)
+append_assoc [] ys zs = refl
+append_assoc (x ∷ xs) ys zs = ap (λ us. x ∷ us) (append_assoc xs ys zs)
+
+module _ {W R : Type 0} {stands : W → R → Bool} {w : W} {old new : List R} {Are : List R → Type 0} (p : Puts stands w old new Are) (from : ℕ) (at : from ≡ length old) where
+  put_is : drop from new ≡ p.put
+  put_is = ap (λ k. drop k new) at ∙ (ap (drop (length old)) p.after ∙ drop_put old p.put)
+
+  pub kept_is : take from new ≡ old
+  kept_is = ap (λ k. take k new) at ∙ (ap (take (length old)) p.after ∙ take_put old p.put)
+
+  pub put_within : from ≤ length new
+  put_within = subst (λ xs. from ≤ length xs) (sym p.after) (subst (λ k. k ≤ length (old ++ p.put)) (sym at) (long_put old p.put))
+
+  pub put_stands : AllRefs (λ r. IsTrue (stands w r)) (drop from new)
+  put_stands = subst (λ xs. AllRefs (λ r. IsTrue (stands w r)) xs) (sym put_is) p.standing
+
+  pub put_are : Are (drop from new)
+  put_are = subst Are (sym put_is) p.are
+
+pub puts_nothing : {W R : Type 0} (stands : W → R → Bool) (w : W) (old : List R) (Are : List R → Type 0) → Are [] → Puts stands w old old Are
+puts_nothing stands w old Are h = record { put = []; after = append_nothing old; standing = tt; are = h }
+
+pub puts_nothing_at : {W R : Type 0} (stands : W → R → Bool) (w : W) (old new : List R) → new ≡ old → (Are : List R → Type 0) → Are [] → Puts stands w old new Are
+puts_nothing_at stands w old new is Are h = record { put = []; after = is ∙ append_nothing old; standing = tt; are = h }
+
+pub puts_as : {W R : Type 0} {stands : W → R → Bool} {w : W} {old new : List R} {Are Be : List R → Type 0} → ((rs : List R) → Are rs → Be rs) → Puts stands w old new Are → Puts stands w old new Be
+puts_as g p = record { put = p.put; after = p.after; standing = p.standing; are = g p.put p.are }
+
+refs_later : {R : Type 0} {P Q : R → Type 0} → ((r : R) → P r → Q r) → (rs : List R) → AllRefs P rs → AllRefs Q rs
+refs_later later [] h = tt
+refs_later later (r ∷ rs) h = (later r h.0, refs_later later rs h.1)
+
+refs_append : {R : Type 0} (P : R → Type 0) (rs us : List R) → AllRefs P rs → AllRefs P us → AllRefs P (rs ++ us)
+refs_append P [] us h k = k
+refs_append P (r ∷ rs) us h k = (h.0, refs_append P rs us h.1 k)
+
+refs_same : {R : Type 0} {P : R → Type 0} {f g : R → Tree} → ((r : R) → P r → g r ≡ f r) → (rs : List R) → AllRefs P rs → map g rs ≡ map f rs
+refs_same same [] h = refl
+refs_same {f = f} {g} same (r ∷ rs) h = ap (λ t. t ∷ map g rs) (same r h.0) ∙ ap (λ ts. f r ∷ ts) (refs_same same rs h.1)
+
+-- terms in front of others
+front_none : (ts : List Tree) → in_front ts None ≡ None
+front_none [] = refl
+front_none (t ∷ ts) = ap (λ o. with_front (Some t) o) (front_none ts)
+
+front_all : (ts us : List Tree) → in_front ts (Some (trees_of us)) ≡ Some (trees_of (ts ++ us))
+front_all [] us = refl
+front_all (t ∷ ts) us = ap (λ o. with_front (Some t) o) (front_all ts us)
+
+pub front_end : (ts : List Tree) → in_front ts (Some end) ≡ Some (trees_of ts)
+front_end ts = front_all ts [] ∙ ap (λ xs. Some (trees_of xs)) (sym (append_nothing ts))
+
+front_push : (ts : List Tree) (t : Tree) (o : Option Trees) → in_front ts (with_front (Some t) o) ≡ in_front (ts ++ t ∷ []) o
+front_push [] t o = refl
+front_push (u ∷ ts) t o = ap (λ v. with_front (Some u) v) (front_push ts t o)
+
+false_and : (b : Bool) → (b && false) ≡ false
+false_and true = refl
+false_and false = refl
+
+large_before : (ts us : List Tree) → all_fit (trees_of ts) ≡ false → all_fit (trees_of (ts ++ us)) ≡ false
+large_before [] us h = absurd (cc)
+large_before (t ∷ ts) us h = by_first (fits t) h (large_before ts us)
+  where
+    by_first : (b : Bool) → (b && all_fit (trees_of ts)) ≡ false → (all_fit (trees_of ts) ≡ false → all_fit (trees_of (ts ++ us)) ≡ false) → (b && all_fit (trees_of (ts ++ us))) ≡ false
+    by_first true h go = go h
+    by_first false h go = refl
+
+large_after : (ts us : List Tree) → all_fit (trees_of us) ≡ false → all_fit (trees_of (ts ++ us)) ≡ false
+large_after [] us h = h
+large_after (t ∷ ts) us h = ap (λ b. fits t && b) (large_after ts us h) ∙ false_and (fits t)
+
+-- the first elements of a list, and the others
+module _ {W R : Type 0} (stands : W → R → Bool) (term_of : W → R → Tree) (w : W) (f : Option Trees → Option Trees) where
+  ended : (rs : List R) (p : Pushed) → AreBuilt term_of w f rs p → AreElements stands term_of w (f (Some end)) rs (joined_elements p elements.All)
+  ended rs pushed.All h = h.0 (Some end) ∙ front_end (map (term_of w) rs)
+  ended rs pushed.NoInstance h = h (Some end)
+  ended rs pushed.Oversize h = (trees_of h.0, h.1 (Some end) ∙ front_end h.0, h.2)
+
+  pub ended_puts : (all : Option Trees) (p : Pushed) (v : Elements R) (old new : List R) → all ≡ f (Some end) → v ≡ joined_elements p elements.All → Puts stands w old new (λ rs. AreBuilt term_of w f rs p) →
+      Puts stands w old new (λ rs. AreElements stands term_of w all rs v)
+  ended_puts all p v old new is at x = puts_as (λ rs h. subst (λ e. AreElements stands term_of w all rs e) (sym at) (subst (λ o. AreElements stands term_of w o rs (joined_elements p elements.All)) (sym is) (ended rs p h))) x
+
+  joined_so : (o : Option Trees) (ts : List Tree) (rs us : List R) (others : Elements R) → ts ≡ map (term_of w) rs → ((o : Option Trees) → f o ≡ in_front ts o) → AreElements stands term_of w o us others →
+      AreElements stands term_of w (f o) (rs ++ us) others
+  joined_so o ts rs us elements.All same h k = h o ∙ (ap (in_front ts) k ∙ (front_all ts (map (term_of w) us) ∙ ap (λ xs. Some (trees_of xs)) (ap (λ xs. xs ++ map (term_of w) us) same ∙ sym (map-append (term_of w) rs us))))
+  joined_so o ts rs us (elements.Before r) same h k = (
+    k.0,
+    k.1,
+    h o ∙ (ap (in_front ts) k.2 ∙ (front_all ts (map (term_of w) us ++ parts_of (term_of w r)) ∙
+        ap (λ xs. Some (trees_of xs)) (sym (append_assoc ts (map (term_of w) us) (parts_of (term_of w r))) ∙ ap (λ xs. xs ++ parts_of (term_of w r)) (ap (λ xs. xs ++ map (term_of w) us) same ∙ sym (map-append (term_of w) rs us))))),
+  )
+  joined_so o ts rs us elements.NoInstance same h k = h o ∙ (ap (in_front ts) k ∙ front_none ts)
+  joined_so o ts rs us elements.Oversize same h k = (
+    trees_of (ts ++ list_of k.0),
+    h o ∙ (ap (in_front ts) (k.1 ∙ ap (λ x. Some x) (sym (trees_of-list_of k.0))) ∙ front_all ts (list_of k.0)),
+    large_after ts (list_of k.0) (ap all_fit (trees_of-list_of k.0) ∙ k.2),
+  )
+
+  joined_large : (o : Option Trees) (ts : List Tree) (rs us : List R) (others : Elements R) → ((o : Option Trees) → f o ≡ in_front ts o) → all_fit (trees_of ts) ≡ false → AreElements stands term_of w o us others →
+      AreElements stands term_of w (f o) (rs ++ us) (joined_elements pushed.Oversize others)
+  joined_large o ts rs us elements.All h large k = (trees_of (ts ++ map (term_of w) us), h o ∙ (ap (in_front ts) k ∙ front_all ts (map (term_of w) us)), large_before ts (map (term_of w) us) large)
+  joined_large o ts rs us (elements.Before r) h large k =
+      (trees_of (ts ++ (map (term_of w) us ++ parts_of (term_of w r))), h o ∙ (ap (in_front ts) k.2 ∙ front_all ts (map (term_of w) us ++ parts_of (term_of w r))), large_before ts (map (term_of w) us ++ parts_of (term_of w r)) large)
+  joined_large o ts rs us elements.NoInstance h large k = h o ∙ (ap (in_front ts) k ∙ front_none ts)
+  joined_large o ts rs us elements.Oversize h large k =
+      (trees_of (ts ++ list_of k.0), h o ∙ (ap (in_front ts) (k.1 ∙ ap (λ x. Some x) (sym (trees_of-list_of k.0))) ∙ front_all ts (list_of k.0)), large_before ts (list_of k.0) large)
+
+  joined_are : (w1 : W) (o : Option Trees) (rs us : List R) (p : Pushed) (others : Elements R) → map (term_of w) rs ≡ map (term_of w1) rs → AreBuilt term_of w1 f rs p → AreElements stands term_of w o us others →
+      AreElements stands term_of w (f o) (rs ++ us) (joined_elements p others)
+  joined_are w1 o rs us pushed.All others same h k = joined_so o (map (term_of w1) rs) rs us others (sym same) h.0 k
+  joined_are w1 o rs us pushed.NoInstance others same h k = h o
+  joined_are w1 o rs us pushed.Oversize others same h k = joined_large o h.0 rs us others h.1 h.2 k
+
+  pub joined_puts : (w1 : W) (all o : Option Trees) (p : Pushed) (others v : Elements R) (old middle new : List R) → ((r : R) → IsTrue (stands w1 r) → IsTrue (stands w r)) → ((r : R) → IsTrue (stands w1 r) → term_of w r ≡ term_of w1 r) → all ≡ f o → v ≡ joined_elements p others →
+      Puts stands w1 old middle (λ rs. AreBuilt term_of w1 f rs p) → Puts stands w middle new (λ rs. AreElements stands term_of w o rs others) → Puts stands w old new (λ rs. AreElements stands term_of w all rs v)
+  joined_puts w1 all o p others v old middle new later same is at x y = record {
+    put = x.put ++ y.put;
+    after = y.after ∙ (ap (λ xs. xs ++ y.put) x.after ∙ append_assoc old x.put y.put);
+    standing = refs_append (λ r. IsTrue (stands w r)) x.put y.put (refs_later later x.put x.standing) y.standing;
+    are =
+        subst (λ e. AreElements stands term_of w all (x.put ++ y.put) e) (sym at)
+        (subst (λ q. AreElements stands term_of w q (x.put ++ y.put) (joined_elements p others)) (sym is) (joined_are w1 o x.put y.put p others (refs_same same x.put x.standing) x.are y.are));
+  }
+
+-- several patterns, one after another
+module _ {W R : Type 0} (stands : W → R → Bool) (term_of : W → R → Tree) where
+  pub building_starts : (w : W) (all : Option Trees → Option Trees) (old : List R) → Puts stands w old old (λ rs. AreBuiltBefore term_of w all all rs true)
+  building_starts w all old = puts_nothing stands w old (λ rs. AreBuiltBefore term_of w all all rs true) (λ o. refl, refl)
+
+  all_built : (w : W) (all rest : Option Trees → Option Trees) (rs : List R) (fit : Bool) → ((v : Option Trees) → rest v ≡ v) → fit ≡ true → AreBuiltBefore term_of w all rest rs fit → AreBuilt term_of w all rs pushed.All
+  all_built w all rest rs true is so h = (λ v. h.0 v ∙ ap (in_front (map (term_of w) rs)) (is v), h.1)
+  all_built w all rest rs false is so h = absurd (cc)
+
+  one_too_large : (w : W) (all rest : Option Trees → Option Trees) (rs : List R) (fit : Bool) → ((v : Option Trees) → rest v ≡ v) → fit ≡ false → AreBuiltBefore term_of w all rest rs fit → AreBuilt term_of w all rs pushed.Oversize
+  one_too_large w all rest rs true is so h = absurd (cc)
+  one_too_large w all rest rs false is so h = (h.0, λ v. h.1 v ∙ ap (in_front h.0) (is v), h.2)
+
+  pub building_ends : (w : W) (all rest : Option Trees → Option Trees) (old new : List R) (fit : Bool) → ((v : Option Trees) → rest v ≡ v) → fit ≡ true → Puts stands w old new (λ rs. AreBuiltBefore term_of w all rest rs fit) → Puts stands w old new (λ rs. AreBuilt term_of w all rs pushed.All)
+  building_ends w all rest old new fit is so x = puts_as (λ rs h. all_built w all rest rs fit is so h) x
+
+  pub building_large : (w : W) (all rest : Option Trees → Option Trees) (old new : List R) (fit : Bool) → ((v : Option Trees) → rest v ≡ v) → fit ≡ false → Puts stands w old new (λ rs. AreBuiltBefore term_of w all rest rs fit) → Puts stands w old new (λ rs. AreBuilt term_of w all rs pushed.Oversize)
+  building_large w all rest old new fit is so x = puts_as (λ rs h. one_too_large w all rest rs fit is so h) x
+
+  module _ (w w1 : W) (all rest next : Option Trees → Option Trees) (later : (r : R) → IsTrue (stands w r) → IsTrue (stands w1 r)) (same : (r : R) → IsTrue (stands w r) → term_of w1 r ≡ term_of w r) (o : Option Tree) (is : (v : Option Trees) → rest v ≡ with_front o (next v)) where
+    one_made : (rs : List R) (r : R) (fit : Bool) → map (term_of w1) rs ≡ map (term_of w) rs → o ≡ Some (term_of w1 r) → fits (term_of w1 r) ≡ true → AreBuiltBefore term_of w all rest rs fit → AreBuiltBefore term_of w1 all next (rs ++ r ∷ []) fit
+    one_made rs r true terms at fit h =
+        let them : map (term_of w1) (rs ++ r ∷ []) ≡ map (term_of w) rs ++ term_of w1 r ∷ [] = map-append (term_of w1) rs (r ∷ []) ∙ ap (λ ts. ts ++ term_of w1 r ∷ []) terms in (
+          λ v. h.0 v ∙ (ap (in_front (map (term_of w) rs)) (is v ∙ ap (λ x. with_front x (next v)) at) ∙ (front_push (map (term_of w) rs) (term_of w1 r) (next v) ∙ ap (λ ts. in_front ts (next v)) (sym them))),
+          ap (λ ts. all_fit (trees_of ts)) them ∙ (all_fit-last (map (term_of w) rs) (term_of w1 r) ∙ (ap (λ b. b && fits (term_of w1 r)) h.1 ∙ fit)),
+        )
+    one_made rs r false terms at fit h =
+        (h.0 ++ term_of w1 r ∷ [], λ v. h.1 v ∙ (ap (in_front h.0) (is v ∙ ap (λ x. with_front x (next v)) at) ∙ front_push h.0 (term_of w1 r) (next v)), large_before h.0 (term_of w1 r ∷ []) h.2)
+
+    one_large : (rs : List R) (t : Tree) (fit : Bool) → o ≡ Some t → fits t ≡ false → AreBuiltBefore term_of w all rest rs fit → AreBuiltBefore term_of w1 all next rs false
+    one_large rs t true at large h = (
+      map (term_of w) rs ++ t ∷ [],
+      λ v. h.0 v ∙ (ap (in_front (map (term_of w) rs)) (is v ∙ ap (λ x. with_front x (next v)) at) ∙ front_push (map (term_of w) rs) t (next v)),
+      all_fit-last (map (term_of w) rs) t ∙ (ap (λ b. all_fit (trees_of (map (term_of w) rs)) && b) large ∙ false_and (all_fit (trees_of (map (term_of w) rs)))),
+    )
+    one_large rs t false at large h =
+        (h.0 ++ t ∷ [], λ v. h.1 v ∙ (ap (in_front h.0) (is v ∙ ap (λ x. with_front x (next v)) at) ∙ front_push h.0 t (next v)), large_before h.0 (t ∷ []) h.2)
+
+    one_none : (rs : List R) (fit : Bool) → o ≡ None → AreBuiltBefore term_of w all rest rs fit → AreBuilt term_of w1 all rs pushed.NoInstance
+    one_none rs true at h = λ v. h.0 v ∙ (ap (in_front (map (term_of w) rs)) (is v ∙ ap (λ x. with_front x (next v)) at) ∙ front_none (map (term_of w) rs))
+    one_none rs false at h = λ v. h.1 v ∙ (ap (in_front h.0) (is v ∙ ap (λ x. with_front x (next v)) at) ∙ front_none h.0)
+
+    pub building_next : (old middle new : List R) (b : Built R) (kept : Option Bool) (this fit now_fit : Bool) → Builds stands term_of w1 o b → IsKept b kept middle new → kept ≡ Some this → now_fit ≡ (fit && this) →
+        Puts stands w old middle (λ rs. AreBuiltBefore term_of w all rest rs fit) → Puts stands w1 old new (λ rs. AreBuiltBefore term_of w1 all next rs now_fit)
+    building_next old middle new (built.Made r) kept this fit now_fit made k at test x =
+        let yes_so : this ≡ true = some_same (sym at ∙ k.0) in
+        let as_before : now_fit ≡ fit = test ∙ (ap (λ b. fit && b) yes_so ∙ and_true fit) in
+        record {
+          put = x.put ++ r ∷ [];
+          after = k.1 ∙ (ap (λ xs. xs ++ r ∷ []) x.after ∙ append_assoc old x.put (r ∷ []));
+          standing = refs_append (λ u. IsTrue (stands w1 u)) x.put (r ∷ []) (refs_later later x.put x.standing) (made.0, tt);
+          are = subst (λ b. AreBuiltBefore term_of w1 all next (x.put ++ r ∷ []) b) (sym as_before) (one_made x.put r fit (refs_same same x.put x.standing) made.1 made.2 x.are);
+        }
+      where
+        some_same : {a b : Bool} → Some a ≡ Some b → a ≡ b
+        some_same e = cc
+
+        and_true : (b : Bool) → (b && true) ≡ b
+        and_true true = refl
+        and_true false = refl
+    building_next old middle new built.NoInstance kept this fit now_fit made k at test x = absurd (differ (sym at ∙ k.0))
+      where
+        differ : Some this ≡ None → ⊥
+        differ e = cc
+    building_next old middle new built.Oversize kept this fit now_fit made k at test x =
+        let no_so : this ≡ false = some_same (sym at ∙ k.0) in
+        let not_now : now_fit ≡ false = test ∙ (ap (λ b. fit && b) no_so ∙ false_and fit) in
+        record {
+          put = x.put;
+          after = k.1 ∙ x.after;
+          standing = refs_later later x.put x.standing;
+          are = subst (λ b. AreBuiltBefore term_of w1 all next x.put b) (sym not_now) (one_large x.put made.0 fit made.1 made.2 x.are);
+        }
+      where
+        some_same : {a b : Bool} → Some a ≡ Some b → a ≡ b
+        some_same e = cc
+
+    pub building_stops : (old middle new : List R) (b : Built R) (kept : Option Bool) (fit : Bool) → Builds stands term_of w1 o b → IsKept b kept middle new → kept ≡ None →
+        Puts stands w old middle (λ rs. AreBuiltBefore term_of w all rest rs fit) → Puts stands w1 old new (λ rs. AreBuilt term_of w1 all rs pushed.NoInstance)
+    building_stops old middle new (built.Made r) kept fit made k at x = absurd (differ (sym k.0 ∙ at))
+      where
+        differ : Some true ≡ None → ⊥
+        differ e = cc
+    building_stops old middle new built.NoInstance kept fit made k at x = record { put = x.put; after = k.1 ∙ x.after; standing = refs_later later x.put x.standing; are = one_none x.put fit made x.are }
+    building_stops old middle new built.Oversize kept fit made k at x = absurd (differ (sym k.0 ∙ at))
+      where
+        differ : Some false ≡ None → ⊥
+        differ e = cc
+
+-- what was built, for another name of the instance
+pub builds_as : {W R : Type 0} (stands : W → R → Bool) (term_of : W → R → Tree) (w : W) (o other : Option Tree) (b : Built R) → other ≡ o → Builds stands term_of w o b → Builds stands term_of w other b
+builds_as stands term_of w o other b is h = subst (λ x. Builds stands term_of w x b) (sym is) h
+
+module _ (place : Coordinate → Option ℕ) (e : Bindings) where
+  pub instances_are : (ps : List (Pattern Coordinate)) → instances place (patterns_in ps) e ≡ instances_then place e ps (Some end)
+  instances_are [] = refl
+  instances_are (p ∷ ps) = ap (λ o. with_front (instance place p e) o) (instances_are ps)
+
+  pub elements_are : (ps : List (Pattern Coordinate)) (rest : Option (Pattern Coordinate)) → element_instances place (elements_in ps rest) e ≡ instances_then place e ps (element_instances place (elements_in [] rest) e)
+  elements_are [] rest = refl
+  elements_are (p ∷ ps) rest = ap (λ o. with_front (instance place p e) o) (elements_are ps rest)
+
+  pub instance_applied : (p : Pattern Coordinate) (s t : Symbol) (ps : List (Pattern Coordinate)) → p ≡ applied s (patterns_in ps) → t ≡ s → instance place p e ≡ applied_to (instances_then place e ps (Some end)) t
+  instance_applied p s t ps is same = ap (λ q. instance place q e) is ∙ (ap (λ o. applied_to o s) (instances_are ps) ∙ ap (λ f. applied_to (instances_then place e ps (Some end)) f) (sym same))
+
+  pub instance_list : (p : Pattern Coordinate) (ps : List (Pattern Coordinate)) (rest : Option (Pattern Coordinate)) → p ≡ list (elements_in ps rest) → instance place p e ≡ list_term (element_instances place (elements_in ps rest) e)
+  instance_list p ps rest is = ap (λ q. instance place q e) is
+
+  pub instance_variable : (p : Pattern Coordinate) (x : Coordinate) → p ≡ variable x → instance place p e ≡ value_in (place x) e
+  instance_variable p x is = ap (λ q. instance place q e) is
+
+  pub instance_like : (p q : Pattern Coordinate) (x : Coordinate) (v : Option Tree) → p ≡ like q x → value_in (place x) e ≡ v → instance place p e ≡ made_like (instance place q e) v
+  instance_like p q x v is at = ap (λ r. instance place r e) is ∙ ap (λ u. made_like (instance place q e) u) at
+
+  pub no_like : (p q : Pattern Coordinate) (x : Coordinate) → p ≡ like q x → value_in (place x) e ≡ None → instance place p e ≡ None
+  no_like p q x is at = instance_like p q x None is at ∙ annotated_without (instance place q e)
+
+  pub like_again : (p q : Pattern Coordinate) (x : Coordinate) (u v : Tree) → p ≡ like q x → value_in (place x) e ≡ Some u → made_like (instance place p e) (Some v) ≡ made_like (instance place q e) (Some v)
+  like_again p q x u v is at = ap (λ o. made_like o (Some v)) (instance_like p q x (Some u) is at) ∙ annotated_again (instance place q e) u v
+
+  pub elements_like : (p q : Pattern Coordinate) (x : Coordinate) (u : Tree) → p ≡ like q x → value_in (place x) e ≡ Some u → elements_of (instance place p e) ≡ elements_of (instance place q e)
+  elements_like p q x u is at = ap elements_of (instance_like p q x (Some u) is at) ∙ elements_annotated (instance place q e) u
+
+  pub bare_integer : (p : Pattern Coordinate) (z : ℤ) → p ≡ integer z → IsBare (instance place p e)
+  bare_integer p z is = subst (λ q. IsBare (instance place q e)) (sym is) refl
+
+  pub bare_applied : (p : Pattern Coordinate) (s : Symbol) (ps : List (Pattern Coordinate)) → p ≡ applied s (patterns_in ps) → IsBare (instance place p e)
+  bare_applied p s ps is = subst (λ q. IsBare (instance place q e)) (sym is) (by_parts (instances place (patterns_in ps) e))
+    where
+      by_parts : (o : Option Trees) → IsBare (applied_to o s)
+      by_parts None = tt
+      by_parts (Some ts) = refl
+
+  pub bare_list : (p : Pattern Coordinate) (ps : List (Pattern Coordinate)) (rest : Option (Pattern Coordinate)) → p ≡ list (elements_in ps rest) → IsBare (instance place p e)
+  bare_list p ps rest is = subst (λ q. IsBare (instance place q e)) (sym is) (by_elements (element_instances place (elements_in ps rest) e))
+    where
+      by_elements : (o : Option Trees) → IsBare (list_term o)
+      by_elements None = tt
+      by_elements (Some ts) = refl
+
+  next_of : (ps : List (Pattern Coordinate)) (i : ℕ) (q : Pattern Coordinate) → slice_get ps i ≡ Some q → (v : Option Trees) → instances_then place e (drop i ps) v ≡ with_front (instance place q e) (instances_then place e (drop (suc i) ps) v)
+  next_of [] i q h v = absurd (cc)
+  next_of (p ∷ ps) zero q h v = let same : p ≡ q = cc in ap (λ r. with_front (instance place r e) (instances_then place e ps v)) same
+  next_of (p ∷ ps) (suc i) q h v = next_of ps i q h v
+
+  mapped : {N : Type 0} (f : N → Pattern Coordinate) (ps : List N) (i : ℕ) (p : N) → i < length ps → p ≡ get_or ps i p → slice_get (map f ps) i ≡ Some (f p)
+  mapped f [] i p h is = absurd (omega arith)
+  mapped f (q ∷ ps) zero p h is = ap (λ x. Some (f x)) (sym is)
+  mapped f (q ∷ ps) (suc i) p h is = mapped f ps i p (omega arith) is
+
+  pub next_pattern : {N : Type 0} (f : N → Pattern Coordinate) (ps : List N) (i : ℕ) (p : N) → i < length ps → p ≡ get_or ps i p → (v : Option Trees) →
+      instances_then place e (drop i (map f ps)) v ≡ with_front (instance place (f p) e) (instances_then place e (drop (i + 1) (map f ps)) v)
+  next_pattern f ps i p h is v = rw add-one (next_of (map f ps) i (f p) (mapped f ps i p h is) v)
+
+  pub no_pattern : {N : Type 0} (f : N → Pattern Coordinate) (ps : List N) (i : ℕ) → length ps ≤ i → (v : Option Trees) → instances_then place e (drop i (map f ps)) v ≡ v
+  no_pattern f ps i h v = let long = length-map ps f in ap (λ qs. instances_then place e qs v) (drop_all i (map f ps) (omega arith))
+
+-- an instance in a later state of the space
+pub same_instance : {W R : Type 0} (stands : W → R → Bool) (term_of : W → R → Tree) (w w1 : W) (place : Coordinate → Option ℕ) (p q : Pattern Coordinate) (slots : Places R) → ((r : R) → IsTrue (stands w r) → term_of w1 r ≡ term_of w r) → AllPlaces (λ r. IsTrue (stands w r)) slots → q ≡ p →
+    instance place q (map (option_map (term_of w1)) slots) ≡ instance place p (map (option_map (term_of w)) slots)
+same_instance stands term_of w w1 place p q slots same all is = ap (λ r. instance place r (map (option_map (term_of w1)) slots)) is ∙ ap (λ e. instance place p e) (places_same (λ r. IsTrue (stands w r)) (term_of w) (term_of w1) same slots all)
+
+-- the list at the end of elements stands
+pub tail_stands : {W R : Type 0} (stands : W → R → Bool) (term_of : W → R → Tree) (w : W) (all : Option Trees) (rs : List R) (e : Elements R) → AreElements stands term_of w all rs e → TailStands stands term_of w e
+tail_stands stands term_of w all rs elements.All h = tt
+tail_stands stands term_of w all rs (elements.Before r) h = (h.0, h.1)
+tail_stands stands term_of w all rs elements.NoInstance h = tt
+tail_stands stands term_of w all rs elements.Oversize h = tt
+
+pub built_stands : {W R : Type 0} (stands : W → R → Bool) (term_of : W → R → Tree) (w : W) (o : Option Tree) (b : Built R) → Builds stands term_of w o b → BuiltStands (λ r. IsTrue (stands w r)) b
+built_stands stands term_of w o (built.Made r) h = h.0
+built_stands stands term_of w o built.NoInstance h = tt
+built_stands stands term_of w o built.Oversize h = tt
+
+-- elements, for another name of them
+pub elements_as : {W R : Type 0} (stands : W → R → Bool) (term_of : W → R → Tree) (w : W) (o other : Option Trees) (rs : List R) (e : Elements R) → other ≡ o → AreElements stands term_of w o rs e → AreElements stands term_of w other rs e
+elements_as stands term_of w o other rs e is h = subst (λ x. AreElements stands term_of w x rs e) (sym is) h
+
+module _ (place : Coordinate → Option ℕ) (e : Bindings) where
+  pub elements_of_list_pattern : (p : Pattern Coordinate) (ps : List (Pattern Coordinate)) (rest : Option (Pattern Coordinate)) → p ≡ list (elements_in ps rest) → elements_of (instance place p e) ≡ element_instances place (elements_in ps rest) e
+  elements_of_list_pattern p ps rest is = ap elements_of (instance_list place e p ps rest is) ∙ elements_of_list (element_instances place (elements_in ps rest) e)
+
+  pub elements_of_variable : (p : Pattern Coordinate) (x : Coordinate) (v : Option Tree) → p ≡ variable x → value_in (place x) e ≡ v → elements_of (instance place p e) ≡ elements_of v
+  elements_of_variable p x v is at = ap elements_of (instance_variable place e p x is ∙ at)
+
+  pub elements_no_like : (p q : Pattern Coordinate) (x : Coordinate) → p ≡ like q x → value_in (place x) e ≡ None → elements_of (instance place p e) ≡ None
+  elements_no_like p q x is at = ap elements_of (no_like place e p q x is at)
+
+  pub elements_of_anything : (p : Pattern Coordinate) → p ≡ anything → elements_of (instance place p e) ≡ None
+  elements_of_anything p is = ap (λ q. elements_of (instance place q e)) is
+
+  pub elements_of_alias : (p q : Pattern Coordinate) (x : Coordinate) → p ≡ alias x q → elements_of (instance place p e) ≡ None
+  elements_of_alias p q x is = ap (λ r. elements_of (instance place r e)) is
+
+  pub elements_of_integer : (p : Pattern Coordinate) (z : ℤ) → p ≡ integer z → elements_of (instance place p e) ≡ None
+  elements_of_integer p z is = ap (λ q. elements_of (instance place q e)) is
+
+  pub elements_of_applied : (p : Pattern Coordinate) (s : Symbol) (ps : List (Pattern Coordinate)) → p ≡ applied s (patterns_in ps) → elements_of (instance place p e) ≡ None
+  elements_of_applied p s ps is = ap (λ q. elements_of (instance place q e)) is ∙ elements_of_application (instances place (patterns_in ps) e) s
+
+  pub rest_ends : (rest : Option (Pattern Coordinate)) → rest ≡ None → element_instances place (elements_in [] rest) e ≡ Some end
+  rest_ends rest is = ap (λ r. element_instances place (elements_in [] r) e) is
+
+  pub rest_goes_on : (rest : Option (Pattern Coordinate)) (p : Pattern Coordinate) → rest ≡ Some p → element_instances place (elements_in [] rest) e ≡ elements_of (instance place p e)
+  rest_goes_on rest p is = ap (λ r. element_instances place (elements_in [] r) e) is
+
+-- the elements of a list: the first ones, and those of the rest in a later state of the space
+pub list_puts : {W R : Type 0} (stands : W → R → Bool) (term_of : W → R → Tree) (w w1 w2 : W) (place : Coordinate → Option ℕ) (slots : Places R) (ps : List (Pattern Coordinate)) (r r1 : Option (Pattern Coordinate)) (p : Pushed) (others v : Elements R) (old middle new : List R) →
+    AllPlaces (λ u. IsTrue (stands w u)) slots → ((u : R) → IsTrue (stands w u) → term_of w1 u ≡ term_of w u) → r1 ≡ r → ((u : R) → IsTrue (stands w1 u) → IsTrue (stands w2 u)) → ((u : R) → IsTrue (stands w1 u) → term_of w2 u ≡ term_of w1 u) → v ≡ joined_elements p others →
+    Puts stands w1 old middle (λ rs. AreBuilt term_of w1 (instances_then place (map (option_map (term_of w)) slots) ps) rs p) →
+    Puts stands w2 middle new (λ rs. AreElements stands term_of w2 (element_instances place (elements_in [] r1) (map (option_map (term_of w1)) slots)) rs others) →
+    Puts stands w2 old new (λ rs. AreElements stands term_of w2 (element_instances place (elements_in ps r) (map (option_map (term_of w)) slots)) rs v)
+list_puts stands term_of w w1 w2 place slots ps r r1 p others v old middle new all same same_rest later same_later at x y =
+    joined_puts stands term_of w2 (instances_then place (map (option_map (term_of w)) slots) ps) w1 (element_instances place (elements_in ps r) (map (option_map (term_of w)) slots)) (element_instances place (elements_in [] r1) (map (option_map (term_of w1)) slots)) p others v old middle new later same_later
+    (elements_are place (map (option_map (term_of w)) slots) ps r ∙ ap (instances_then place (map (option_map (term_of w)) slots) ps)
+    (ap (λ q. element_instances place (elements_in [] q) (map (option_map (term_of w)) slots)) (sym same_rest) ∙ ap (λ e. element_instances place (elements_in [] r1) e) (sym (places_same (λ u. IsTrue (stands w u)) (term_of w) (term_of w1) same slots all)))) at x y

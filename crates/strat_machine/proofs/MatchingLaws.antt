@@ -1,0 +1,313 @@
+-- What matching over references comes to, one step after another.
+use Rattle.std.proofs.Common.{◌≡◌, ℕ, ℤ, zero, suc, ◌+◌, ◌<◌, ◌≤◌, Option, Some, None, List, [], ◌∷◌, length, map, drop, get_or, refl, sym, ◌∙◌, ap, subst, arith, add-one}
+use Rattle.std.specs.Prelude.{Bool, true, false, IsTrue, ◌↔◌, nat_lt, nat_eq, if◌then◌else◌, slice_get}
+use Rattle.std.specs.Option.{option_map}
+use Rattle.std.proofs.lemmas.Option.{slice_get-map}
+use Rattle.std.proofs.lemmas.List.{drop_all, length-map}
+use Rattle.std.proofs.lemmas.Bool.{eq-eqb, eqb-true}
+use Rattle.term_model.specs.Symbol.{Symbol}
+use Rattle.term_model.specs.declared.term.Head.TheVariants as heads
+use Rattle.term_model.specs.Term.{Tree, node, term, head_of, parts_of, list_of, trees_of}
+use Rattle.term_model.specs.Same.{same, same_head, same-refl, same-true}
+use Rattle.term_model.specs.Space.{Keeps}
+use Rattle.term_model.proofs.TermLemmas.{trees_of-list_of}
+use Rattle.core_lang.specs.declared.coordinate.Coordinate.{Coordinate}
+use Rattle.core_lang.specs.Environment.{Bindings}
+use Rattle.core_lang.specs.Program.{Pattern, alias, applied, integer, list}
+use Rattle.core_lang.specs.Views.{patterns_in, elements_in}
+use Rattle.strat_machine.specs.Binding.{with_term, Attempt, attempt, bind_value, bind, and_go, only_if, attempted, all_attempted, elements_attempted}
+use Rattle.strat_machine.specs.Loaded.{loaded_of, Known, AllKnown}
+use Rattle.strat_machine.specs.declared.loaded.LoadedPattern.{LoadedPattern}
+use Rattle.strat_machine.specs.Matches.{Goes, first_attempted, rest_attempted}
+use Rattle.strat_machine.specs.PlaceStack.{PlaceStack}
+use Rattle.strat_machine.specs.References.{Places, AllPlaces, Binds, binds_none, binds_one}
+use Rattle.strat_machine.proofs.ReferenceLaws.{all_with}
+use Rattle.strat_machine.proofs.ReferenceSteps.{places_same}
+use Rattle.strat_machine.proofs.LoadedLaws.{loaded_same}
+
+-- places that are bound, and then others
+binds_later : {R : Type 0} {P Q : R → Type 0} {b : ℕ} {e f : Places R} {T U : List ℕ} → ((r : R) → P r → Q r) → Binds P b e T f U → Binds Q b e T f U
+binds_later later binds_none = binds_none
+binds_later later (binds_one i r free p x) = binds_one i r free (later r p) (binds_later later x)
+
+binds_then : {R : Type 0} {P : R → Type 0} {b : ℕ} {e f g : Places R} {T U V : List ℕ} → Binds P b e T f U → Binds P b f U g V → Binds P b e T g V
+binds_then binds_none y = y
+binds_then (binds_one i r free p x) y = binds_one i r free p (binds_then x y)
+
+module _ {W R : Type 0} {stands : W → R → Bool} {term_of : W → R → Tree} {b : ℕ} where
+  pub goes_at_once : {whole rest : Bindings → List ℕ → Attempt} {w : W} {e : Places R} {T : List ℕ} → AllPlaces (λ r. IsTrue (stands w r)) e →
+      whole (map (option_map (term_of w)) e) T ≡ rest (map (option_map (term_of w)) e) T → Goes stands term_of b whole rest w e T w e T
+  goes_at_once all is = record { bound = binds_none; standing = all; comes_to = is }
+
+  pub goes_then : {whole middle rest : Bindings → List ℕ → Attempt} {w w1 w2 : W} {e f g : Places R} {T U V : List ℕ} → Goes stands term_of b whole middle w e T w1 f U → ((r : R) → IsTrue (stands w1 r) → IsTrue (stands w2 r)) →
+      Goes stands term_of b middle rest w1 f U w2 g V → Goes stands term_of b whole rest w e T w2 g V
+  goes_then x later y = record { bound = binds_then (binds_later later x.bound) y.bound; standing = y.standing; comes_to = x.comes_to ∙ y.comes_to }
+
+  pub goes_as : {whole whole1 rest rest1 : Bindings → List ℕ → Attempt} {w w1 : W} {e f : Places R} {T U : List ℕ} → ((g : Bindings) (V : List ℕ) → whole1 g V ≡ whole g V) → ((g : Bindings) (V : List ℕ) → rest g V ≡ rest1 g V) →
+      Goes stands term_of b whole rest w e T w1 f U → Goes stands term_of b whole1 rest1 w e T w1 f U
+  goes_as before after x = record { bound = x.bound; standing = x.standing; comes_to = before _ _ ∙ (x.comes_to ∙ after _ _) }
+
+  pub goes_and : {one : Bindings → List ℕ → Attempt} {w w1 : W} {e f : Places R} {T U : List ℕ} (go : Bindings → List ℕ → Attempt) (test : Bool) → test ≡ true → Goes stands term_of b one (attempt test) w e T w1 f U →
+      Goes stands term_of b (λ g V. and_go (one g V) go) go w e T w1 f U
+  goes_and go true is x = record { bound = x.bound; standing = x.standing; comes_to = ap (λ a. and_go a go) x.comes_to }
+  goes_and go false is x = absurd (cc)
+
+  pub goes_not : {one : Bindings → List ℕ → Attempt} {w w1 : W} {e f : Places R} {T U : List ℕ} (go : Bindings → List ℕ → Attempt) (test : Bool) → test ≡ false → Goes stands term_of b one (attempt test) w e T w1 f U →
+      Goes stands term_of b (λ g V. and_go (one g V) go) (attempt false) w e T w1 f U
+  goes_not go true is x = absurd (cc)
+  goes_not go false is x = record { bound = x.bound; standing = x.standing; comes_to = ap (λ a. and_go a go) x.comes_to }
+
+-- one place
+past : {X : Type 0} (e : List X) (i : ℕ) → length e ≤ i → slice_get e i ≡ None
+past [] i h = refl
+past (v ∷ e) zero h = absurd (omega arith)
+past (v ∷ e) (suc i) h = past e i (omega arith)
+
+map_with : {A B : Type 0} (f : A → B) (i : ℕ) (r : A) (e : List (Option A)) → map (option_map f) (with_term i r e) ≡ with_term i (f r) (map (option_map f) e)
+map_with f i r [] = refl
+map_with f zero r (v ∷ e) = refl
+map_with f (suc i) r (v ∷ e) = ap (λ g. option_map f v ∷ g) (map_with f i r e)
+
+same_by : (u t : Tree) (test : Bool) → IsTrue test ↔ (u ≡ t) → same u t ≡ test
+same_by u t test h = by_test (same u t) test refl h
+  where
+    by_test : (v answer : Bool) → same u t ≡ v → IsTrue answer ↔ (u ≡ t) → v ≡ answer
+    by_test true true at h = refl
+    by_test false false at h = refl
+    by_test true false at h = sym (h.1 (same-true u t at))
+    by_test false true at h = sym at ∙ (ap (λ v. same u v) (sym (h.0 refl)) ∙ same-refl u)
+
+module _ {R : Type 0} (f : R → Tree) (b : ℕ) (o : Option ℕ) (t : Tree) (e : Places R) (T : List ℕ) where
+  bind_by : (i : ℕ) (v : Option (Option R)) → o ≡ Some i → slice_get e i ≡ v → bind b o t (map (option_map f) e) T ≡ bind_value b i t (map (option_map f) e) T (option_map (option_map f) v)
+  bind_by i v is at = ap (λ p. bind b p t (map (option_map f) e) T) is ∙ ap (λ u. bind_value b i t (map (option_map f) e) T u) (slice_get-map (option_map f) e i ∙ ap (option_map (option_map f)) at)
+
+  bind_past : (n : ℕ) → ((i : ℕ) → o ≡ Some i → n ≤ i) → n ≡ length e → (p : Option ℕ) → o ≡ p → bind b o t (map (option_map f) e) T ≡ attempt false (map (option_map f) e) T
+  bind_past n h is None at = ap (λ p. bind b p t (map (option_map f) e) T) at
+  bind_past n h is (Some i) at = let far = h i at in bind_by i None at (past e i (omega arith))
+
+  pub bind_nowhere : (n : ℕ) → ((i : ℕ) → o ≡ Some i → n ≤ i) → n ≡ length e → bind b o t (map (option_map f) e) T ≡ attempt false (map (option_map f) e) T
+  bind_nowhere n h is = bind_past n h is o refl
+
+  pub bind_no_place : (i : ℕ) → o ≡ Some i → slice_get e i ≡ None → bind b o t (map (option_map f) e) T ≡ attempt false (map (option_map f) e) T
+  bind_no_place i is at = bind_by i None is at
+
+  pub bind_held : (i : ℕ) (r : R) (test : Bool) → o ≡ Some i → slice_get e i ≡ Some (Some r) → IsTrue test ↔ (f r ≡ t) → bind b o t (map (option_map f) e) T ≡ attempt test (map (option_map f) e) T
+  bind_held i r test is at h = bind_by i (Some (Some r)) is at ∙ ap (λ v. attempt v (map (option_map f) e) T) (same_by (f r) t test h)
+
+  pub bind_free : (i : ℕ) (r : R) → o ≡ Some i → slice_get e i ≡ Some None → f r ≡ t → bind b o t (map (option_map f) e) T ≡ attempt true (map (option_map f) (with_term i r e)) (if nat_lt i b then i ∷ T else T)
+  bind_free i r is at same = bind_by i (Some None) is at ∙ ap (λ g. attempt true g (if nat_lt i b then i ∷ T else T)) (ap (λ u. with_term i u (map (option_map f) e)) (sym same) ∙ sym (map_with f i r e))
+
+pub held_stands : {R : Type 0} (P : R → Type 0) (e : Places R) (i : ℕ) (r : R) → AllPlaces P e → slice_get e i ≡ Some (Some r) → P r
+held_stands P [] i r h is = absurd (cc)
+held_stands P (None ∷ e) zero r h is = absurd (cc)
+held_stands P (Some u ∷ e) zero r h is = let q : u ≡ r = cc in subst P q h.0
+held_stands P (None ∷ e) (suc i) r h is = held_stands P e i r h is
+held_stands P (Some u ∷ e) (suc i) r h is = held_stands P e i r h.1 is
+
+module _ {W R : Type 0} {stands : W → R → Bool} {term_of : W → R → Tree} {w : W} where
+  pub goes_given : (o : Option ℕ) (t : Tree) (old new : PlaceStack R) (i : ℕ) (r : R) → AllPlaces (λ u. IsTrue (stands w u)) old.slots → o ≡ Some i → slice_get old.slots i ≡ Some None → IsTrue (stands w r) → term_of w r ≡ t →
+      new ≡ record old { slots = with_term i r old.slots; trail = (if nat_lt i old.barrier then i ∷ old.trail else old.trail) } →
+      Goes stands term_of old.barrier (bind old.barrier o t) (attempt true) w old.slots old.trail w new.slots new.trail
+  goes_given o t old new i r all is at stands_too same becomes = subst (λ n. Goes stands term_of old.barrier (bind old.barrier o t) (attempt true) w old.slots old.trail w n.slots n.trail) (sym becomes) (record {
+    bound = binds_one i r at stands_too binds_none;
+    standing = all_with (λ u. IsTrue (stands w u)) i r old.slots stands_too all;
+    comes_to = bind_free (term_of w) old.barrier o t old.slots old.trail i r is at same;
+  })
+
+-- several patterns with the parts of a term
+and_go_then : (a : Attempt) (whole g go : Bindings → List ℕ → Attempt) → ((f : Bindings) (U : List ℕ) → whole f U ≡ and_go (g f U) go) → and_go a whole ≡ and_go (and_go a g) go
+and_go_then (attempt false e T) whole g go h = refl
+and_go_then (attempt true e T) whole g go h = h e T
+
+module _ (place : Coordinate → Option ℕ) (b : ℕ) where
+  all_by : (ps : List (Pattern Coordinate)) (ts : List Tree) (e : Bindings) (T : List ℕ) →
+      all_attempted place b (patterns_in ps) (trees_of ts) e T ≡ and_go (first_attempted place b ps ts e T) (λ f U. rest_attempted place b None (drop (length ps) ts) f U)
+  all_by [] [] e T = refl
+  all_by [] (t ∷ ts) e T = refl
+  all_by (p ∷ ps) [] e T = refl
+  all_by (p ∷ ps) (t ∷ ts) e T =
+      and_go_then (attempted place b p t e T) (λ f U. all_attempted place b (patterns_in ps) (trees_of ts) f U) (λ f U. first_attempted place b ps ts f U) (λ f U. rest_attempted place b None (drop (length ps) ts) f U) (λ f U. all_by ps ts f U)
+
+  elements_by : (ps : List (Pattern Coordinate)) (rest : Option (Pattern Coordinate)) (ts : List Tree) (e : Bindings) (T : List ℕ) →
+      elements_attempted place b (elements_in ps rest) (trees_of ts) e T ≡ and_go (first_attempted place b ps ts e T) (λ f U. rest_attempted place b rest (drop (length ps) ts) f U)
+  elements_by [] None [] e T = refl
+  elements_by [] None (t ∷ ts) e T = refl
+  elements_by [] (Some p) ts e T = refl
+  elements_by (p ∷ ps) rest [] e T = refl
+  elements_by (p ∷ ps) rest (t ∷ ts) e T =
+      and_go_then (attempted place b p t e T) (λ f U. elements_attempted place b (elements_in ps rest) (trees_of ts) f U) (λ f U. first_attempted place b ps ts f U) (λ f U. rest_attempted place b rest (drop (length ps) ts) f U) (λ f U. elements_by ps rest ts f U)
+
+  tested : (v test : Bool) (a : Attempt) (e : Bindings) (T : List ℕ) → test ≡ v → test ≡ true → only_if v e T a ≡ a
+  tested true test a e T is at = refl
+  tested false test a e T is at = absurd (cc)
+
+  not_so : (v test : Bool) (a : Attempt) (e : Bindings) (T : List ℕ) → test ≡ v → test ≡ false → only_if v e T a ≡ attempt false e T
+  not_so true test a e T is at = absurd (cc)
+  not_so false test a e T is at = refl
+
+  pub applied_goes_on : (p : Pattern Coordinate) (s : Symbol) (ps : List (Pattern Coordinate)) (t : Tree) (test : Bool) → p ≡ applied s (patterns_in ps) → test ≡ same_head (head_of t) (heads.App s) → test ≡ true → (e : Bindings) (T : List ℕ) →
+      attempted place b p t e T ≡ and_go (first_attempted place b ps (parts_of t) e T) (λ f U. rest_attempted place b None (drop (length ps) (parts_of t)) f U)
+  applied_goes_on p s ps (node h ts annos) test is at yes_so e T =
+      ap (λ q. attempted place b q (node h ts annos) e T) is ∙
+      (tested (same_head h (heads.App s)) test (all_attempted place b (patterns_in ps) ts e T) e T at yes_so ∙
+      (ap (λ us. all_attempted place b (patterns_in ps) us e T) (sym (trees_of-list_of ts)) ∙ all_by ps (list_of ts) e T))
+
+  pub applied_stops : (p : Pattern Coordinate) (s : Symbol) (ps : List (Pattern Coordinate)) (t : Tree) (test : Bool) → p ≡ applied s (patterns_in ps) → test ≡ same_head (head_of t) (heads.App s) → test ≡ false → (e : Bindings) (T : List ℕ) →
+      attempted place b p t e T ≡ attempt false e T
+  applied_stops p s ps (node h ts annos) test is at no_so e T =
+      ap (λ q. attempted place b q (node h ts annos) e T) is ∙ not_so (same_head h (heads.App s)) test (all_attempted place b (patterns_in ps) ts e T) e T at no_so
+
+  pub list_goes_on : (p : Pattern Coordinate) (ps : List (Pattern Coordinate)) (rest : Option (Pattern Coordinate)) (t : Tree) (test : Bool) → p ≡ list (elements_in ps rest) → test ≡ same_head (head_of t) heads.List → test ≡ true → (e : Bindings) (T : List ℕ) →
+      attempted place b p t e T ≡ and_go (first_attempted place b ps (parts_of t) e T) (λ f U. rest_attempted place b rest (drop (length ps) (parts_of t)) f U)
+  list_goes_on p ps rest (node h ts annos) test is at yes_so e T =
+      ap (λ q. attempted place b q (node h ts annos) e T) is ∙
+      (tested (same_head h heads.List) test (elements_attempted place b (elements_in ps rest) ts e T) e T at yes_so ∙
+      (ap (λ us. elements_attempted place b (elements_in ps rest) us e T) (sym (trees_of-list_of ts)) ∙ elements_by ps rest (list_of ts) e T))
+
+  pub list_stops : (p : Pattern Coordinate) (ps : List (Pattern Coordinate)) (rest : Option (Pattern Coordinate)) (t : Tree) (test : Bool) → p ≡ list (elements_in ps rest) → test ≡ same_head (head_of t) heads.List → test ≡ false → (e : Bindings) (T : List ℕ) →
+      attempted place b p t e T ≡ attempt false e T
+  list_stops p ps rest (node h ts annos) test is at no_so e T =
+      ap (λ q. attempted place b q (node h ts annos) e T) is ∙ not_so (same_head h heads.List) test (elements_attempted place b (elements_in ps rest) ts e T) e T at no_so
+
+  pub integer_tested : (z : ℤ) (t : Tree) (test : Bool) → test ≡ same_head (head_of t) (heads.Int z) → (e : Bindings) (T : List ℕ) → attempted place b (integer z) t e T ≡ attempt test e T
+  integer_tested z (node h ts annos) test is e T = ap (λ v. attempt v e T) (sym is)
+
+  -- whether there are terms left
+  pub none_left : (ts : List Tree) (n : ℕ) (test : Bool) → n ≤ length ts → test ≡ nat_eq n (length ts) → (e : Bindings) (T : List ℕ) → rest_attempted place b None (drop n ts) e T ≡ attempt test e T
+  none_left ts n true h is e T = ap (λ us. rest_attempted place b None us e T) (drop_all n ts (let same = eqb-true n (length ts) (sym is) in omega arith))
+  none_left ts n false h is e T = some_left ts n (less_than n (length ts) h (λ same. differ (is ∙ eq-eqb n (length ts) same))) e T
+    where
+      differ : false ≡ true → ⊥
+      differ d = cc
+
+      less_than : (n m : ℕ) → n ≤ m → (n ≡ m → ⊥) → n < m
+      less_than n m h k = omega (arith, k)
+
+      some_left : (ts : List Tree) (n : ℕ) → n < length ts → (e : Bindings) (T : List ℕ) → rest_attempted place b None (drop n ts) e T ≡ attempt false e T
+      some_left [] n h e T = absurd (omega arith)
+      some_left (t ∷ ts) zero h e T = refl
+      some_left (t ∷ ts) (suc n) h e T = some_left ts n (omega arith) e T
+
+  first_step : (ps : List (Pattern Coordinate)) (ts : List Tree) (i : ℕ) (q : Pattern Coordinate) (t : Tree) (e : Bindings) (T : List ℕ) → slice_get ps i ≡ Some q → slice_get ts i ≡ Some t →
+      first_attempted place b (drop i ps) (drop i ts) e T ≡ and_go (attempted place b q t e T) (λ f U. first_attempted place b (drop (suc i) ps) (drop (suc i) ts) f U)
+  first_step [] ts i q t e T h k = absurd (cc)
+  first_step (p ∷ ps) [] i q t e T h k = absurd (cc)
+  first_step (p ∷ ps) (u ∷ ts) zero q t e T h k = let same_pattern : p ≡ q = cc in let same_term : u ≡ t = cc in
+      ap (λ x. and_go (attempted place b x u e T) (λ f U. first_attempted place b ps ts f U)) same_pattern ∙ ap (λ x. and_go (attempted place b q x e T) (λ f U. first_attempted place b ps ts f U)) same_term
+  first_step (p ∷ ps) (u ∷ ts) (suc i) q t e T h k = first_step ps ts i q t e T h k
+
+  first_empty : (ps : List (Pattern Coordinate)) (i : ℕ) (e : Bindings) (T : List ℕ) → i < length ps → first_attempted place b (drop i ps) [] e T ≡ attempt false e T
+  first_empty [] i e T h = absurd (omega arith)
+  first_empty (p ∷ ps) zero e T h = refl
+  first_empty (p ∷ ps) (suc i) e T h = first_empty ps i e T (omega arith)
+
+  pub first_lacks : (ps : List (Pattern Coordinate)) (ts : List Tree) (i : ℕ) (e : Bindings) (T : List ℕ) → i < length ps → length ts ≤ i → first_attempted place b (drop i ps) (drop i ts) e T ≡ attempt false e T
+  first_lacks ps ts i e T h k = ap (λ us. first_attempted place b (drop i ps) us e T) (drop_all i ts k) ∙ first_empty ps i e T h
+
+  pub first_done : (ps : List (Pattern Coordinate)) (ts : List Tree) (i : ℕ) (e : Bindings) (T : List ℕ) → length ps ≤ i → first_attempted place b (drop i ps) (drop i ts) e T ≡ attempt true e T
+  first_done ps ts i e T h = ap (λ qs. first_attempted place b qs (drop i ts) e T) (drop_all i ps h)
+
+-- the pattern and the part at a position
+pub known_at : {N : Type 0} (knows : N → Bool) (ps : List (LoadedPattern N)) (i : ℕ) (p : LoadedPattern N) → AllKnown knows ps → i < length ps → p ≡ get_or ps i p → Known knows p
+known_at knows [] i p h k is = absurd (omega arith)
+known_at knows (q ∷ ps) zero p h k is = subst (λ x. Known knows x) (sym is) h.0
+known_at knows (q ∷ ps) (suc i) p h k is = known_at knows ps i p h.1 (omega arith) is
+
+mapped_at : {A B : Type 0} (f : A → B) (xs : List A) (i : ℕ) (x : A) → i < length xs → x ≡ get_or xs i x → slice_get (map f xs) i ≡ Some (f x)
+mapped_at f [] i x h is = absurd (omega arith)
+mapped_at f (y ∷ xs) zero x h is = ap (λ z. Some (f z)) (sym is)
+mapped_at f (y ∷ xs) (suc i) x h is = mapped_at f xs i x (omega arith) is
+
+module _ {W R M N : Type 0} {stands : W → R → Bool} {term_of : W → R → Tree} {is_valid : W → M → Bool} {knows : W → N → Bool} {symbol_of : W → N → Symbol} (place : Coordinate → Option ℕ) where
+  -- one pattern of several, and the others after it
+  one_goes : {w w1 : W} {e f : Places R} {T U : List ℕ} {b : ℕ} (ps : List (LoadedPattern N)) (at : R) (i : ℕ) (p : LoadedPattern N) (t : Tree) → AllKnown (knows w) ps → Keeps stands term_of is_valid knows symbol_of w w1 → IsTrue (stands w at) →
+      i < length ps → p ≡ get_or ps i p → slice_get (parts_of (term_of w1 at)) i ≡ Some t →
+      Goes stands term_of b (first_attempted place b (map (loaded_of (symbol_of w)) ps) (parts_of (term_of w at))) (first_attempted place b (drop i (map (loaded_of (symbol_of w)) ps)) (drop i (parts_of (term_of w at)))) w e T w1 f U →
+      Goes stands term_of b (first_attempted place b (map (loaded_of (symbol_of w)) ps) (parts_of (term_of w at)))
+      (λ g V. and_go (attempted place b (loaded_of (symbol_of w1) p) t g V) (λ g1 V1. first_attempted place b (drop (suc i) (map (loaded_of (symbol_of w)) ps)) (drop (suc i) (parts_of (term_of w at))) g1 V1)) w e T w1 f U
+  one_goes {w} {w1} {b = b} ps at i p t known keeps here_at within is part x =
+      let pattern = mapped_at (loaded_of (symbol_of w)) ps i p within is ∙ ap (λ q. Some q) (sym (loaded_same (knows w) (symbol_of w) (symbol_of w1) keeps.symbols p (known_at (knows w) ps i p known within is))) in
+      let own = ap (λ u. slice_get (parts_of u) i) (sym (keeps.terms at here_at)) ∙ part in
+      goes_as (λ g V. refl) (λ g V. first_step place b (map (loaded_of (symbol_of w)) ps) (parts_of (term_of w at)) i (loaded_of (symbol_of w1) p) t g V pattern own) x
+
+  pub match_next : {w w1 w2 : W} {e f g : Places R} {T U V : List ℕ} {b : ℕ} (ps : List (LoadedPattern N)) (at : R) (i : ℕ) (p : LoadedPattern N) (t : Tree) (test : Bool) (d : ℕ) → AllKnown (knows w) ps → Keeps stands term_of is_valid knows symbol_of w w1 → IsTrue (stands w at) →
+      i < length ps → p ≡ get_or ps i p → slice_get (parts_of (term_of w1 at)) i ≡ Some t →
+      Goes stands term_of b (first_attempted place b (map (loaded_of (symbol_of w)) ps) (parts_of (term_of w at))) (first_attempted place b (drop i (map (loaded_of (symbol_of w)) ps)) (drop i (parts_of (term_of w at)))) w e T w1 f U →
+      Keeps stands term_of is_valid knows symbol_of w1 w2 → d ≡ b → test ≡ true → Goes stands term_of d (attempted place d (loaded_of (symbol_of w1) p) t) (attempt test) w1 f U w2 g V →
+      Goes stands term_of b (first_attempted place b (map (loaded_of (symbol_of w)) ps) (parts_of (term_of w at))) (first_attempted place b (drop (i + 1) (map (loaded_of (symbol_of w)) ps)) (drop (i + 1) (parts_of (term_of w at)))) w e T w2 g V
+  match_next {w} {w1} {w2} {f = f} {g = g} {U = U} {V = V} {b = b} ps at i p t test d known keeps here_at within is part x later same_barrier so y =
+      let own = subst (λ d. Goes stands term_of d (attempted place d (loaded_of (symbol_of w1) p) t) (attempt test) w1 f U w2 g V) same_barrier y in
+      rw add-one (goes_then (one_goes ps at i p t known keeps here_at within is part x) later.standing (goes_and (λ g1 V1. first_attempted place b (drop (suc i) (map (loaded_of (symbol_of w)) ps)) (drop (suc i) (parts_of (term_of w at))) g1 V1) test so own))
+
+  pub match_stops : {w w1 w2 : W} {e f g : Places R} {T U V : List ℕ} {b : ℕ} (ps : List (LoadedPattern N)) (at : R) (i : ℕ) (p : LoadedPattern N) (t : Tree) (test : Bool) (d : ℕ) → AllKnown (knows w) ps → Keeps stands term_of is_valid knows symbol_of w w1 → IsTrue (stands w at) →
+      i < length ps → p ≡ get_or ps i p → slice_get (parts_of (term_of w1 at)) i ≡ Some t →
+      Goes stands term_of b (first_attempted place b (map (loaded_of (symbol_of w)) ps) (parts_of (term_of w at))) (first_attempted place b (drop i (map (loaded_of (symbol_of w)) ps)) (drop i (parts_of (term_of w at)))) w e T w1 f U →
+      Keeps stands term_of is_valid knows symbol_of w1 w2 → d ≡ b → test ≡ false → Goes stands term_of d (attempted place d (loaded_of (symbol_of w1) p) t) (attempt test) w1 f U w2 g V →
+      Goes stands term_of b (first_attempted place b (map (loaded_of (symbol_of w)) ps) (parts_of (term_of w at))) (attempt false) w e T w2 g V
+  match_stops {w} {w1} {w2} {f = f} {g = g} {U = U} {V = V} {b = b} ps at i p t test d known keeps here_at within is part x later same_barrier so y =
+      let own = subst (λ d. Goes stands term_of d (attempted place d (loaded_of (symbol_of w1) p) t) (attempt test) w1 f U w2 g V) same_barrier y in
+      goes_then (one_goes ps at i p t known keeps here_at within is part x) later.standing (goes_not (λ g1 V1. first_attempted place b (drop (suc i) (map (loaded_of (symbol_of w)) ps)) (drop (suc i) (parts_of (term_of w at))) g1 V1) test so own)
+
+-- a whole pattern
+module _ {W R : Type 0} {stands : W → R → Bool} {term_of : W → R → Tree} (place : Coordinate → Option ℕ) where
+  pub goes_as_pattern : {w : W} {e : Places R} {T : List ℕ} {b : ℕ} (p q : Pattern Coordinate) (t : Tree) (test : Bool) → p ≡ q → AllPlaces (λ r. IsTrue (stands w r)) e → ((f : Bindings) (U : List ℕ) → attempted place b q t f U ≡ attempt test f U) →
+      Goes stands term_of b (attempted place b p t) (attempt test) w e T w e T
+  goes_as_pattern {w} {e} {T} {b} p q t test is all h = goes_at_once all (ap (λ x. attempted place b x t (map (option_map (term_of w)) e) T) is ∙ h (map (option_map (term_of w)) e) T)
+
+  pub applied_none : {w : W} {e : Places R} {T : List ℕ} {b : ℕ} (p : Pattern Coordinate) (s : Symbol) (ps : List (Pattern Coordinate)) (t : Tree) (test : Bool) → p ≡ applied s (patterns_in ps) → test ≡ same_head (head_of t) (heads.App s) → test ≡ false →
+      AllPlaces (λ r. IsTrue (stands w r)) e → Goes stands term_of b (attempted place b p t) (attempt false) w e T w e T
+  applied_none {w} {e} {T} {b} p s ps t test is at no_so all = goes_at_once all (applied_stops place b p s ps t test is at no_so (map (option_map (term_of w)) e) T)
+
+  pub list_none : {w : W} {e : Places R} {T : List ℕ} {b : ℕ} (p : Pattern Coordinate) (ps : List (Pattern Coordinate)) (rest : Option (Pattern Coordinate)) (t : Tree) (test : Bool) → p ≡ list (elements_in ps rest) → test ≡ same_head (head_of t) heads.List → test ≡ false →
+      AllPlaces (λ r. IsTrue (stands w r)) e → Goes stands term_of b (attempted place b p t) (attempt false) w e T w e T
+  list_none {w} {e} {T} {b} p ps rest t test is at no_so all = goes_at_once all (list_stops place b p ps rest t test is at no_so (map (option_map (term_of w)) e) T)
+
+  pub alias_goes : {w w1 : W} {e f g : Places R} {T U V : List ℕ} {b : ℕ} (p q : Pattern Coordinate) (x : Coordinate) (t : Tree) (held test : Bool) (d : ℕ) → p ≡ alias x q → held ≡ true → Goes stands term_of b (bind b (place x) t) (attempt held) w e T w f U →
+      ((r : R) → IsTrue (stands w r) → IsTrue (stands w1 r)) → d ≡ b → Goes stands term_of d (attempted place d q t) (attempt test) w f U w1 g V → Goes stands term_of b (attempted place b p t) (attempt test) w e T w1 g V
+  alias_goes {w} {w1} {f = f} {g} {U = U} {V} {b} p q x t held test d is so y later same_barrier z =
+      goes_then (goes_as (λ h H. ap (λ r. attempted place b r t h H) is) (λ h H. refl) (goes_and (λ h H. attempted place b q t h H) held so y)) later
+      (subst (λ d. Goes stands term_of d (attempted place d q t) (attempt test) w f U w1 g V) same_barrier z)
+
+  module _ {w w1 : W} {e f : Places R} {T U : List ℕ} {b : ℕ} (p : Pattern Coordinate) (ps : List (Pattern Coordinate)) (t : Tree) (test first : Bool) (x : Goes stands term_of b (first_attempted place b ps (parts_of t)) (attempt first) w e T w1 f U) where
+    pub applied_fails : (s : Symbol) → p ≡ applied s (patterns_in ps) → test ≡ same_head (head_of t) (heads.App s) → test ≡ true → first ≡ false → Goes stands term_of b (attempted place b p t) (attempt false) w e T w1 f U
+    applied_fails s is at so no_so = goes_as (λ g V. applied_goes_on place b p s ps t test is at so g V) (λ g V. refl) (goes_not (λ g V. rest_attempted place b None (drop (length ps) (parts_of t)) g V) first no_so x)
+
+    pub applied_ends : (s : Symbol) (all : Bool) (n m : ℕ) → p ≡ applied s (patterns_in ps) → test ≡ same_head (head_of t) (heads.App s) → test ≡ true → first ≡ true → n ≤ length (parts_of t) → n ≡ length ps → m ≡ length (parts_of t) → all ≡ nat_eq n m →
+        Goes stands term_of b (attempted place b p t) (attempt all) w e T w1 f U
+    applied_ends s all n m is at so so_too enough same_n same_m ends =
+        goes_as (λ g V. applied_goes_on place b p s ps t test is at so g V)
+        (λ g V. ap (λ k. rest_attempted place b None (drop k (parts_of t)) g V) (sym same_n) ∙ none_left place b (parts_of t) n all enough (ends ∙ ap (nat_eq n) same_m) g V)
+        (goes_and (λ g V. rest_attempted place b None (drop (length ps) (parts_of t)) g V) first so_too x)
+
+    pub list_fails : (rest : Option (Pattern Coordinate)) → p ≡ list (elements_in ps rest) → test ≡ same_head (head_of t) heads.List → test ≡ true → first ≡ false → Goes stands term_of b (attempted place b p t) (attempt false) w e T w1 f U
+    list_fails rest is at so no_so = goes_as (λ g V. list_goes_on place b p ps rest t test is at so g V) (λ g V. refl) (goes_not (λ g V. rest_attempted place b rest (drop (length ps) (parts_of t)) g V) first no_so x)
+
+    pub list_goes : {w2 : W} {g : Places R} {V : List ℕ} (rest other : Option (Pattern Coordinate)) (t1 : Tree) (all : Bool) (n d : ℕ) → p ≡ list (elements_in ps rest) → test ≡ same_head (head_of t) heads.List → test ≡ true → first ≡ true →
+        n ≡ length ps → other ≡ rest → t1 ≡ t → d ≡ b → ((r : R) → IsTrue (stands w1 r) → IsTrue (stands w2 r)) → Goes stands term_of d (rest_attempted place d other (drop n (parts_of t1))) (attempt all) w1 f U w2 g V →
+        Goes stands term_of b (attempted place b p t) (attempt all) w e T w2 g V
+    list_goes {w2} {g} {V} rest other t1 all n d is at so so_too same_n same_rest same_t same_barrier later y =
+        let own = subst (λ d. Goes stands term_of d (rest_attempted place d other (drop n (parts_of t1))) (attempt all) w1 f U w2 g V) same_barrier y in
+        goes_then (goes_as (λ h H. list_goes_on place b p ps rest t test is at so h H)
+        (λ h H. ap (λ k. rest_attempted place b rest (drop k (parts_of t)) h H) (sym same_n) ∙ (ap (λ o. rest_attempted place b o (drop n (parts_of t)) h H) (sym same_rest) ∙ ap (λ u. rest_attempted place b other (drop n (parts_of u)) h H) (sym same_t)))
+        (goes_and (λ h H. rest_attempted place b rest (drop (length ps) (parts_of t)) h H) first so_too x)) later own
+
+  pub no_rest : {w : W} {e : Places R} {T : List ℕ} {b : ℕ} (rest : Option (Pattern Coordinate)) (ts : List Tree) (n m : ℕ) (all : Bool) → AllPlaces (λ r. IsTrue (stands w r)) e → rest ≡ None → n ≤ length ts → m ≡ length ts → all ≡ nat_eq n m →
+      Goes stands term_of b (rest_attempted place b rest (drop n ts)) (attempt all) w e T w e T
+  no_rest {w} {e} {T} {b} rest ts n m all standing is h at ends = goes_at_once standing (ap (λ o. rest_attempted place b o (drop n ts) (map (option_map (term_of w)) e) T) is ∙ none_left place b ts n all h (ends ∙ ap (nat_eq n) at) (map (option_map (term_of w)) e) T)
+
+  pub rest_goes : {w w1 w2 : W} {e f : Places R} {T U : List ℕ} {b : ℕ} (rest : Option (Pattern Coordinate)) (p q : Pattern Coordinate) (ts : List Tree) (t : Tree) (all : Bool) → AllPlaces (λ r. IsTrue (stands w r)) e → ((r : R) → IsTrue (stands w r) → term_of w1 r ≡ term_of w r) →
+      rest ≡ Some p → q ≡ p → t ≡ term heads.List ts [] → Goes stands term_of b (attempted place b q t) (attempt all) w1 e T w2 f U → Goes stands term_of b (rest_attempted place b rest ts) (attempt all) w e T w2 f U
+  rest_goes {w} {w1} {e = e} {T = T} {b = b} rest p q ts t all standing same is same_pattern same_term y = record {
+    bound = y.bound;
+    standing = y.standing;
+    comes_to =
+        ap (λ o. rest_attempted place b o ts (map (option_map (term_of w)) e) T) is ∙
+        (ap (λ u. attempted place b p u (map (option_map (term_of w)) e) T) (sym same_term) ∙
+        (ap (λ r. attempted place b r t (map (option_map (term_of w)) e) T) (sym same_pattern) ∙
+        (ap (λ h. attempted place b q t h T) (sym (places_same (λ r. IsTrue (stands w r)) (term_of w) (term_of w1) same e standing)) ∙ y.comes_to)));
+  }
+
+  -- several patterns that are all done, or more than there are parts
+  pub match_lacks : {N : Type 0} {w w1 : W} {e f : Places R} {T U : List ℕ} {b : ℕ} (as_pattern : N → Pattern Coordinate) (ps : List N) (ts : List Tree) (i n : ℕ) → i < length ps → n ≡ length ts → n ≤ i →
+      Goes stands term_of b (first_attempted place b (map as_pattern ps) ts) (first_attempted place b (drop i (map as_pattern ps)) (drop i ts)) w e T w1 f U → Goes stands term_of b (first_attempted place b (map as_pattern ps) ts) (attempt false) w e T w1 f U
+  match_lacks {b = b} as_pattern ps ts i n h is k x = let long = length-map ps as_pattern in goes_as (λ g V. refl) (λ g V. first_lacks place b (map as_pattern ps) ts i g V (omega arith) (omega arith)) x

@@ -1,0 +1,157 @@
+-- The first case that has a term's root, of the Rust machine.
+use Rattle.std.proofs.Common.{◌≡◌, ◌↔◌, ◌+◌, ◌-◌, ◌<◌, ◌≤◌, ℕ, ℤ, zero, suc, List, [], ◌∷◌, length, get_or, drop, map, refl, sym, ◌∙◌, ap, subst, arith, add-one}
+use Rattle.std.specs.Prelude.{Bool, true, false, ◌&&◌, IsTrue}
+use Rattle.std.proofs.Math.Dec.{leb, eqb}
+use Rattle.std.proofs.lemmas.Bool.{leb-true, le-leb}
+use Rattle.std.proofs.lemmas.Bool.Decides.{Decides-eqb}
+use Rattle.std.proofs.lemmas.List.{drop_all}
+use Rattle.std.proofs.Math.Seq.{drop-cons}
+use Rattle.term_model.specs.declared.term.Head.TheVariants as heads
+use Rattle.term_model.specs.Symbol.{Symbol}
+use Rattle.term_model.specs.Flat.{Meaning}
+use Rattle.term_model.specs.Same.{same_head, same_head-Decides}
+use Rattle.term_model.specs.Space.{IsApplied, IsList}
+use Rattle.term_model.specs.Term.{Tree, node, Trees, end, more, head_of, list_of}
+use Rattle.term_model.proofs.FitsLaws.{both}
+use Rattle.core_lang.specs.Roots.{Root, are_many, has_root, integer_root, symbol_root, list_root}
+use Rattle.strat_code.specs.Code.{select}
+use Rattle.strat_machine.specs.Space.{Space}
+use Rattle.strat_machine.specs.State.{run_spent, saved}
+use Rattle.strat_machine.specs.References.{RefState, ref_choice, ref_running, ref_stopped}
+use Rattle.strat_machine.specs.ReferenceSteps.{Selecting, selects_none, selects_this, selects_later, selects_spent, selects}
+use Rattle.strat_machine.specs.RecordStack.{records_of}
+use Rattle.strat_machine.specs.Stacks.{Performs, PutsChoice, state_of}
+use Rattle.strat_machine.specs.Operands.{root_meant, case_meant, RootKnown, CasesKnown}
+use Rattle.strat_machine.proofs.StepLaws.{does_to}
+use Rattle.strat_machine.specs.declared.select.LoadedCase.{LoadedCase}
+use Rattle.strat_machine.specs.declared.stacks.Stacks.{Stacks}
+use Rattle.strat_machine.specs.declared.stacks.Phase.{Phase}
+use Rattle.strat_machine.specs.declared.stacks.Phase.TheVariants as phases
+use Rattle.strat_machine.specs.declared.stacks.Stop.TheVariants as stops
+
+-- roots
+pub integer_is : (t : Tree) (z : ℤ) → has_root (integer_root z) t ≡ same_head (head_of t) (heads.Int z)
+integer_is (node h ts annos) z = refl
+
+both_true : {a b : Bool} → a ≡ true → b ≡ true → (a && b) ≡ true
+both_true {a} {b} h k = ap (λ x. x && b) h ∙ k
+
+many_exact : (n : ℕ) (ts : Trees) → (are_many n false ts ≡ true) ↔ (length (list_of ts) ≡ n)
+many_exact zero end = (λ h. refl, λ h. refl)
+many_exact zero (more t ts) = (λ h. absurd (cc), λ h. absurd (omega arith))
+many_exact (suc n) end = (λ h. absurd (cc), λ h. absurd (omega arith))
+many_exact (suc n) (more t ts) = let q = many_exact n ts in (λ h. ap (λ k. suc k) (q.0 h), λ h. q.1 (omega arith))
+
+many_open : (n : ℕ) (ts : Trees) → (are_many n true ts ≡ true) ↔ (n ≤ length (list_of ts))
+many_open zero ts = (λ h. omega arith, λ h. refl)
+many_open (suc n) end = (λ h. absurd (cc), λ h. absurd (omega arith))
+many_open (suc n) (more t ts) = let q = many_open n ts in (λ h. let k = q.0 h in omega arith, λ h. q.1 (omega arith))
+
+pub symbol_is : (t : Tree) (f : Symbol) (n : ℕ) → (has_root (symbol_root f n) t ≡ true) ↔ IsApplied t f n
+symbol_is (node h ts annos) f n = (
+  λ k. let q = both (same_head h (heads.App f)) (are_many n false ts) k in record { head = (same_head-Decides h (heads.App f)).0 q.0; long = (many_exact n ts).0 q.1 },
+  λ k. both_true ((same_head-Decides h (heads.App f)).1 k.head) ((many_exact n ts).1 k.long),
+)
+
+module _ (t : Tree) (n : ℕ) where
+  pub no_list_root : (o : Bool) → (head_of t ≡ heads.List → ⊥) → has_root (list_root n o) t ≡ true → ⊥
+  no_list_root o none has = by t none has
+    where
+      by : (u : Tree) → (head_of u ≡ heads.List → ⊥) → has_root (list_root n o) u ≡ true → ⊥
+      by (node h ts annos) none has = none ((same_head-Decides h heads.List).0 (both (same_head h heads.List) (are_many n o ts) has).0)
+
+  pub list_is : (k : ℕ) → IsList t k → (has_root (list_root n false) t ≡ true) ↔ (n ≡ k)
+  list_is k is = by t k is
+    where
+      by : (u : Tree) (k : ℕ) → IsList u k → (has_root (list_root n false) u ≡ true) ↔ (n ≡ k)
+      by (node h ts annos) k is = (
+        λ has. sym ((many_exact n ts).0 (both (same_head h heads.List) (are_many n false ts) has).1) ∙ is.long,
+        λ same. both_true ((same_head-Decides h heads.List).1 is.head) ((many_exact n ts).1 (is.long ∙ sym same)),
+      )
+
+  pub open_list_is : (k : ℕ) → IsList t k → (has_root (list_root n true) t ≡ true) ↔ (n ≤ k)
+  open_list_is k is = by t k is
+    where
+      by : (u : Tree) (k : ℕ) → IsList u k → (has_root (list_root n true) u ≡ true) ↔ (n ≤ k)
+      by (node h ts annos) k is = (
+        λ has. subst (λ m. n ≤ m) is.long ((many_open n ts).0 (both (same_head h heads.List) (are_many n true ts) has).1),
+        λ low. both_true ((same_head-Decides h heads.List).1 is.head) ((many_open n ts).1 (subst (λ m. n ≤ m) (sym is.long) low)),
+      )
+
+-- the walk over the cases: those before this one were passed by and paid for
+module _ {W R Y N : Type 0} (S : Space W R Y) (symbol_of : N → Symbol) (w : W) (last p : ℕ) (t : R) (cs : List (LoadedCase N)) (m : Stacks R Y) where
+  pub record Passed (i : ℕ) (m1 : Stacks R Y) : Type 0 where
+    pub kept : m1 ≡ record m { left = m1.left }
+    pub comes : (u : RefState R Y) → Selecting S w last p t m.places.slots m.frames m.places.trail m.places.barrier (records_of m.records) (map (case_meant symbol_of) (drop i cs)) m1.left u →
+        Selecting S w last p t m.places.slots m.frames m.places.trail m.places.barrier (records_of m.records) (map (case_meant symbol_of) cs) m.left u
+
+  pub nothing_passed : Passed 0 m
+  nothing_passed = record { kept = refl; comes = λ u h. h }
+
+  module _ (i : ℕ) (m1 : Stacks R Y) (so_far : Passed i m1) where
+    pub passed_all : (M : Meaning) (n j : ℕ) → length cs ≤ i → Performs S M (select n (map (case_meant symbol_of) cs) last) j p t w m w (phases.Running last p t) m1
+    passed_all M n j past =
+        let u : RefState R Y = ref_running last p t m.places.slots m.frames m.places.trail m.places.barrier (records_of m.records) m1.left in
+        let none : Selecting S w last p t m.places.slots m.frames m.places.trail m.places.barrier (records_of m.records) (map (case_meant symbol_of) (drop i cs)) m1.left u =
+        subst (λ ds. Selecting S w last p t m.places.slots m.frames m.places.trail m.places.barrier (records_of m.records) (map (case_meant symbol_of) ds) m1.left u) (sym (drop_all i cs past)) selects_none in
+        does_to (selects (so_far.comes u none)) (sym (ap (λ x. state_of (phases.Running last p t) x) so_far.kept))
+
+    module _ (c : LoadedCase N) (below : i < length cs) (read : c ≡ get_or cs i c) where
+      cut : drop i cs ≡ c ∷ drop (i + 1) cs
+      cut = rw add-one (drop-cons cs i c below ∙ ap (λ u. u ∷ drop (suc i) cs) (sym read))
+
+      comes_here : (u : RefState R Y) → Selecting S w last p t m.places.slots m.frames m.places.trail m.places.barrier (records_of m.records) (case_meant symbol_of c ∷ map (case_meant symbol_of) (drop (i + 1) cs)) m1.left u →
+          Selecting S w last p t m.places.slots m.frames m.places.trail m.places.barrier (records_of m.records) (map (case_meant symbol_of) cs) m.left u
+      comes_here u h = so_far.comes u (subst (λ ds. Selecting S w last p t m.places.slots m.frames m.places.trail m.places.barrier (records_of m.records) (map (case_meant symbol_of) ds) m1.left u) (sym cut) h)
+
+      pub passes_case : (m2 : Stacks R Y) → has_root (root_meant symbol_of c.root) (S.term_of w t) ≡ false → c.nodes ≤ m1.left → m2 ≡ record m1 { left = m1.left - c.nodes } → Passed (i + 1) m2
+      passes_case m2 other low is =
+          let left : m2.left ≡ m1.left - c.nodes = ap (λ x. x.left) is in
+          let paid : Stacks R Y → Stacks R Y = λ x. record x { left = m1.left - c.nodes } in
+          let with : ℕ → Stacks R Y = λ l. record m { left = l } in
+          record {
+            kept = is ∙ (ap paid so_far.kept ∙ ap with (sym left));
+            comes = λ u h. comes_here u (selects_later other low
+                (subst (λ l. Selecting S w last p t m.places.slots m.frames m.places.trail m.places.barrier (records_of m.records) (map (case_meant symbol_of) (drop (i + 1) cs)) l u) left h));
+          }
+
+      pub spent_at_case : (M : Meaning) (n j : ℕ) → has_root (root_meant symbol_of c.root) (S.term_of w t) ≡ false → m1.left < c.nodes →
+          Performs S M (select n (map (case_meant symbol_of) cs) last) j p t w m w (phases.Stopped stops.Spent) m1
+      spent_at_case M n j other low = selects (comes_here (ref_stopped run_spent m1.left) (selects_spent other low))
+
+      pub selects_case : (M : Meaning) (n j : ℕ) (phase : Phase R) (m2 : Stacks R Y) → has_root (root_meant symbol_of c.root) (S.term_of w t) ≡ true → PutsChoice S w m1 c.otherwise c.body p t phase m2 →
+          Performs S M (select n (map (case_meant symbol_of) cs) last) j p t w m w phase m2
+      selects_case M n j phase m2 has x =
+          let run : Stacks R Y → RefState R Y = λ v. ref_running c.body p t v.places.slots v.frames v.places.trail (length v.places.slots)
+          (ref_choice c.otherwise t (saved p (length v.frames) (length v.places.trail) v.places.barrier) x.mark ∷ records_of v.records) v.left in
+          does_to (selects (comes_here (run (record m { left = m1.left })) (selects_this has x.marks))) (sym (x.leads ∙ ap run so_far.kept))
+
+-- the names of each case are known
+pub case_known : {N : Type 0} (knows : N → Bool) (cs : List (LoadedCase N)) (i : ℕ) (c : LoadedCase N) → CasesKnown knows cs → i < length cs → c ≡ get_or cs i c → RootKnown knows c.root
+case_known knows [] i c h below is = absurd (omega arith)
+case_known knows (d ∷ cs) zero c h below is = subst (λ x. RootKnown knows x.root) (sym is) h.0
+case_known knows (d ∷ cs) (suc i) c h below is = case_known knows cs i c h.1 (omega arith) is
+
+-- a test that is false
+pub not_has : (b v : Bool) → IsTrue b ↔ (v ≡ true) → b ≡ false → v ≡ false
+not_has b true same is = let yes = same.1 refl in absurd (cc)
+not_has b false same is = refl
+
+-- a test that says whether there is this root
+module _ (t : Tree) (b : Bool) where
+  pub is_symbol_root : (r : Root) (f : Symbol) (n : ℕ) → r ≡ symbol_root f n → IsTrue b ↔ IsApplied t f n → IsTrue b ↔ (has_root r t ≡ true)
+  is_symbol_root r f n is test = (λ h. ap (λ q. has_root q t) is ∙ (symbol_is t f n).1 (test.0 h), λ h. test.1 ((symbol_is t f n).0 (ap (λ q. has_root q t) (sym is) ∙ h)))
+
+  pub is_list_root : (n : ℕ) (o : Bool) (k : ℕ) → o ≡ false → IsList t k → b ≡ eqb n k → IsTrue b ↔ (has_root (list_root n o) t ≡ true)
+  is_list_root n o k closed is test =
+      let law = list_is t n k is in let e = Decides-eqb n k in (
+        λ h. ap (λ x. has_root (list_root n x) t) closed ∙ law.1 (e.0 (sym test ∙ h)),
+        λ h. test ∙ e.1 (law.0 (ap (λ x. has_root (list_root n x) t) (sym closed) ∙ h)),
+      )
+
+  pub is_open_list_root : (n : ℕ) (o : Bool) (k : ℕ) → o ≡ true → IsList t k → b ≡ leb n k → IsTrue b ↔ (has_root (list_root n o) t ≡ true)
+  is_open_list_root n o k opened is test =
+      let law = open_list_is t n k is in (
+        λ h. ap (λ x. has_root (list_root n x) t) opened ∙ law.1 (leb-true n k (sym test ∙ h)),
+        λ h. test ∙ le-leb n k (law.0 (ap (λ x. has_root (list_root n x) t) (sym opened) ∙ h)),
+      )

@@ -1,0 +1,166 @@
+use Rattle.strat_machine.specs.declared.loaded.LoadedPattern.TheViews.{the_lemmas}
+use Rattle.std.proofs.Common.{rules, ◌≤◌, ◌∙◌, refl, sym, ap, subst, arith, length, map, drop}
+use Rattle.std.specs.Prelude.{true, false}
+use Rattle.std.proofs.lemmas.List.{length-map}
+use Rattle.term_model.specs.Same.{same_head-true}
+use Rattle.term_model.specs.Term.{head_of, parts_of}
+use Rattle.strat_machine.specs.Loaded.{loaded_of, rest_loaded_of}
+use Rattle.strat_machine.specs.State.{place_at}
+use Rattle.strat_machine.proofs.ReferenceLaws.{all_changed}
+use Rattle.strat_machine.proofs.SpaceLaws.{keeps_same, keeps_then}
+use Rattle.strat_machine.proofs.LoadedLaws.{loaded_as_anything, loaded_as_alias, loaded_as_integer, loaded_as_like, loaded_as_applied, loaded_as_list, loaded_same, rest_loaded_same, known_as_applied, known_as_list, known_later, rest_known_later, rest_known_some, rest_loaded_some}
+use Rattle.strat_machine.proofs.MatchingLaws.{goes_at_once, goes_as_pattern, match_lacks, match_stops, match_next, known_at, alias_goes, integer_tested, applied_none, applied_fails, applied_ends, list_none, list_fails, list_goes, no_rest, rest_goes}
+use Rattle.strat_machine.proofs.matching.+matching.Goals as goal
+
+pub match_first-loop-i-init : goal.match_first-loop-i-init
+match_first-loop-i-init g t c =
+    let s = g.S.TermSpace in
+    (keeps_same s.stands s.term_of s.is_valid s.knows s.symbol_of c.args.space.now, refl, omega arith, goes_at_once c.requires.places refl)
+
+pub match_first-returns-then-i-count-clause-attempt : goal.match_first-returns-then-i-count-clause-attempt
+match_first-returns-then-i-count-clause-attempt g t c =
+    let s = g.S.TermSpace in
+    match_lacks (place_at c.args.frames.now c.args.here) (loaded_of (s.symbol_of c.args.space.now)) c.args.patterns.now (parts_of (s.term_of c.args.space.now c.args.at.now)) c.loop-i.i c.count-count.result c.loop-i-test.true c.count-count.ensures c.if-i-count.true c.loop-i.invariant.3
+
+pub match_first-returns-then-not-branch-clause-keeps : goal.match_first-returns-then-not-branch-clause-keeps
+match_first-returns-then-not-branch-clause-keeps g t c = keeps_then c.loop-i.invariant.0 c.in_ok-match_pattern.ensures.keeps
+
+pub match_first-returns-then-not-branch-clause-attempt : goal.match_first-returns-then-not-branch-clause-attempt
+match_first-returns-then-not-branch-clause-attempt g t c =
+    match_stops (place_at c.args.frames.now c.args.here) c.args.patterns.now c.args.at.now c.loop-i.i c.index-patterns-i.result (g.S.TermSpace.term_of c.loop-i.space c.in_ok-part.part) c.in_ok-match_pattern.field-0 c.loop-i.places.barrier
+    c.requires.known c.loop-i.invariant.0 c.requires.stands c.loop-i-test.true c.index-patterns-i.is c.in_ok-part.ensures.term c.loop-i.invariant.3 c.in_ok-match_pattern.ensures.keeps c.loop-i.invariant.1 c.if-not-branch.true c.in_ok-match_pattern.ensures.attempt
+
+pub match_first-loop-i-preserved : goal.match_first-loop-i-preserved
+match_first-loop-i-preserved g t c = (
+  keeps_then c.loop-i.invariant.0 c.in_ok-match_pattern.ensures.keeps,
+  c.in_ok-match_pattern.ensures.barrier ∙ c.loop-i.invariant.1,
+  (let below = c.if-i-count.false in omega arith),
+  match_next (place_at c.args.frames.now c.args.here) c.args.patterns.now c.args.at.now c.loop-i.i c.index-patterns-i.result (g.S.TermSpace.term_of c.loop-i.space c.in_ok-part.part) c.in_ok-match_pattern.field-0 c.loop-i.places.barrier
+      c.requires.known c.loop-i.invariant.0 c.requires.stands c.loop-i-test.true c.index-patterns-i.is c.in_ok-part.ensures.term c.loop-i.invariant.3 c.in_ok-match_pattern.ensures.keeps c.loop-i.invariant.1 c.if-not-branch.false c.in_ok-match_pattern.ensures.attempt,
+)
+
+pub match_pattern-returns-in-Anything-clause-attempt : goal.match_pattern-returns-in-Anything-clause-attempt
+match_pattern-returns-in-Anything-clause-attempt g t c =
+    goes_as_pattern (place_at c.args.frames.now c.args.here) _ _ (g.S.TermSpace.term_of c.args.space.now c.args.at.now) true (loaded_as_anything (g.S.TermSpace.symbol_of c.args.space.now) c.args.pattern.now c.in-Anything.is) c.requires.places (λ h H. refl)
+
+pub match_pattern-returns-in-Like-clause-attempt : goal.match_pattern-returns-in-Like-clause-attempt
+match_pattern-returns-in-Like-clause-attempt g t c =
+    goes_as_pattern (place_at c.args.frames.now c.args.here) _ _ (g.S.TermSpace.term_of c.args.space.now c.args.at.now) false (loaded_as_like (g.S.TermSpace.symbol_of c.args.space.now) c.args.pattern.now _ _ c.in-Like.is) c.requires.places (λ h H. refl)
+
+pub match_first-match_pattern-requires : goal.match_first-match_pattern-requires
+match_first-match_pattern-requires g t c κs within =
+    let s = g.S.TermSpace in
+    let known = known_at (s.knows c.args.space.now) c.args.patterns.now c.loop-i.i c.index-patterns-i.result c.requires.known c.loop-i-test.true c.index-patterns-i.is in
+    (search (rules, the_lemmas), (within.0, (within.1.0, (within.1.1.0, (within.1.1.1, (known_later c.loop-i.invariant.0.known c.index-patterns-i.result known, (c.in_ok-part.ensures.stands, c.loop-i.invariant.3.standing)))))))
+
+pub match_pattern-match_first-requires : goal.match_pattern-match_first-requires
+match_pattern-match_first-requires g t c κs within =
+    let known = known_as_applied (g.S.TermSpace.knows c.args.space.now) c.args.pattern.now c.in-Applied.name c.in-Applied.parts c.as_slice-parts.result.now c.in-Applied.is c.as_slice-parts.ensures.value c.requires.known in
+    (search (rules, the_lemmas), (within.0, (within.1.0, (within.1.1.0, (within.1.1.1, (known.1, (c.requires.stands, c.requires.places)))))))
+
+pub match_pattern-match_first-requires-in-List : goal.match_pattern-match_first-requires-in-List
+match_pattern-match_first-requires-in-List g t c κs within =
+    let known = known_as_list (g.S.TermSpace.knows c.args.space.now) c.args.pattern.now c.in-List.elements c.in-List.rest c.as_slice-elements.result.now c.in-List.is c.as_slice-elements.ensures.value c.requires.known in
+    (search (rules, the_lemmas), (within.0, (within.1.0, (within.1.1.0, (within.1.1.1, (known.0, (c.requires.stands, c.requires.places)))))))
+
+pub match_pattern-match_rest-requires : goal.match_pattern-match_rest-requires
+match_pattern-match_rest-requires g t c κs within =
+    let s = g.S.TermSpace in
+    let keeps = c.in_ok-match_first-in-List.ensures.keeps in
+    let known = known_as_list (s.knows c.args.space.now) c.args.pattern.now c.in-List.elements c.in-List.rest c.as_slice-elements.result.now c.in-List.is c.as_slice-elements.ensures.value c.requires.known in
+    let same_term = keeps.terms c.args.at.now c.requires.stands in
+    let is_list = ap head_of same_term ∙ same_head-true _ _ (sym c.is_list.ensures ∙ c.if-not-is_list.false) in
+    let enough = subst (λ u. length c.as_slice-elements.result.now ≤ length (parts_of u)) (sym same_term) (c.in_ok-match_first-in-List.ensures.enough c.if-not-branch-3.false) in
+    (search (rules, the_lemmas), (within.0, (within.1.0, (within.1.1.0, (within.1.1.1, (rest_known_later keeps.known c.in-List.rest known.1, (keeps.standing c.args.at.now c.requires.stands, (is_list, (enough, c.in_ok-match_first-in-List.ensures.attempt.standing)))))))))
+
+pub match_rest-match_pattern-requires : goal.match_rest-match_pattern-requires
+match_rest-match_pattern-requires g t c κs within =
+    let s = g.S.TermSpace in
+    let keeps = c.in_ok-others-in-Some.ensures.keeps in
+    let known = rest_known_some (s.knows c.args.space.now) c.args.rest.now c.in-Some.pattern c.deref.result.now c.in-Some.is c.deref.ensures c.requires.known in
+    (search (rules, the_lemmas), (within.0, (within.1.0, (within.1.1.0, (within.1.1.1, (known_later keeps.known c.deref.result.now known, (c.in_ok-others-in-Some.ensures.stands, all_changed keeps.standing c.args.places.now.slots c.requires.places)))))))
+
+pub match_pattern-returns-in_ok-yes-in-Alias-clause-attempt : goal.match_pattern-returns-in_ok-yes-in-Alias-clause-attempt
+match_pattern-returns-in_ok-yes-in-Alias-clause-attempt g t c =
+    let s = g.S.TermSpace in
+    let symbols = s.symbol_of c.args.space.now in
+    alias_goes (place_at c.args.frames.now c.args.here) (loaded_of symbols c.args.pattern.now) (loaded_of symbols c.deref.result.now) c.in-Alias.x (s.term_of c.args.space.now c.args.at.now) c.in_ok-bind_variable-in-Alias.field-0 c.in_ok-yes-in-Alias.yes c.bind_variable-in-Alias.new.places.barrier
+    (loaded_as_alias symbols c.args.pattern.now c.in-Alias.x c.in-Alias.part c.deref.result.now c.in-Alias.is c.deref.ensures) c.if-not-branch.false c.in_ok-bind_variable-in-Alias.ensures.attempt c.in_ok-yes-in-Alias.ensures.keeps.standing
+    c.in_ok-bind_variable-in-Alias.ensures.barrier c.in_ok-yes-in-Alias.ensures.attempt
+
+pub match_pattern-returns-in-Integer-clause-attempt : goal.match_pattern-returns-in-Integer-clause-attempt
+match_pattern-returns-in-Integer-clause-attempt g t c =
+    let s = g.S.TermSpace in
+    let place = place_at c.args.frames.now c.args.here in
+    let term = s.term_of c.args.space.now c.args.at.now in
+    goes_as_pattern place _ _ term c.is_integer.result (loaded_as_integer (s.symbol_of c.args.space.now) c.args.pattern.now c.in-Integer.value c.in-Integer.is) c.requires.places (integer_tested place c.args.places.now.barrier c.in-Integer.value term c.is_integer.result c.is_integer.ensures)
+
+pub match_pattern-returns-then-not-is_application-clause-attempt : goal.match_pattern-returns-then-not-is_application-clause-attempt
+match_pattern-returns-then-not-is_application-clause-attempt g t c =
+    let s = g.S.TermSpace in
+    let symbols = s.symbol_of c.args.space.now in
+    applied_none (place_at c.args.frames.now c.args.here) (loaded_of symbols c.args.pattern.now) (symbols c.in-Applied.name) (map (loaded_of symbols) c.in-Applied.parts.items) (s.term_of c.args.space.now c.args.at.now) c.is_application.result
+    (loaded_as_applied symbols c.args.pattern.now c.in-Applied.name c.in-Applied.parts c.in-Applied.parts.items c.in-Applied.is refl) c.is_application.ensures c.if-not-is_application.true c.requires.places
+
+pub match_pattern-returns-then-not-branch-2-clause-attempt : goal.match_pattern-returns-then-not-branch-2-clause-attempt
+match_pattern-returns-then-not-branch-2-clause-attempt g t c =
+    let s = g.S.TermSpace in
+    let symbols = s.symbol_of c.args.space.now in
+    let parts = c.as_slice-parts.result.now in
+    applied_fails (place_at c.args.frames.now c.args.here) (loaded_of symbols c.args.pattern.now) (map (loaded_of symbols) parts) (s.term_of c.args.space.now c.args.at.now) c.is_application.result c.in_ok-match_first-in-Applied.field-0
+    c.in_ok-match_first-in-Applied.ensures.attempt (symbols c.in-Applied.name) (loaded_as_applied symbols c.args.pattern.now c.in-Applied.name c.in-Applied.parts parts c.in-Applied.is c.as_slice-parts.ensures.value) c.is_application.ensures c.if-not-is_application.false c.if-not-branch-2.true
+
+pub match_pattern-returns-else-not-branch-2-clause-attempt : goal.match_pattern-returns-else-not-branch-2-clause-attempt
+match_pattern-returns-else-not-branch-2-clause-attempt g t c =
+    let s = g.S.TermSpace in
+    let symbols = s.symbol_of c.args.space.now in
+    let parts = c.as_slice-parts.result.now in
+    applied_ends (place_at c.args.frames.now c.args.here) (loaded_of symbols c.args.pattern.now) (map (loaded_of symbols) parts) (s.term_of c.args.space.now c.args.at.now) c.is_application.result c.in_ok-match_first-in-Applied.field-0
+    c.in_ok-match_first-in-Applied.ensures.attempt (symbols c.in-Applied.name) _ (length parts) c.count.result (loaded_as_applied symbols c.args.pattern.now c.in-Applied.name c.in-Applied.parts parts c.in-Applied.is c.as_slice-parts.ensures.value) c.is_application.ensures c.if-not-is_application.false
+    c.if-not-branch-2.false (c.in_ok-match_first-in-Applied.ensures.enough c.if-not-branch-2.false) (sym (length-map parts (loaded_of symbols))) (c.count.ensures ∙ ap (λ u. length (parts_of u)) (c.in_ok-match_first-in-Applied.ensures.keeps.terms c.args.at.now c.requires.stands)) refl
+
+pub match_pattern-returns-then-not-is_list-clause-attempt : goal.match_pattern-returns-then-not-is_list-clause-attempt
+match_pattern-returns-then-not-is_list-clause-attempt g t c =
+    let s = g.S.TermSpace in
+    let symbols = s.symbol_of c.args.space.now in
+    list_none (place_at c.args.frames.now c.args.here) (loaded_of symbols c.args.pattern.now) (map (loaded_of symbols) c.in-List.elements.items) (rest_loaded_of symbols c.in-List.rest) (s.term_of c.args.space.now c.args.at.now) c.is_list.result
+    (loaded_as_list symbols c.args.pattern.now c.in-List.elements c.in-List.rest c.in-List.elements.items c.in-List.is refl) c.is_list.ensures c.if-not-is_list.true c.requires.places
+
+pub match_pattern-returns-then-not-branch-3-clause-attempt : goal.match_pattern-returns-then-not-branch-3-clause-attempt
+match_pattern-returns-then-not-branch-3-clause-attempt g t c =
+    let s = g.S.TermSpace in
+    let symbols = s.symbol_of c.args.space.now in
+    let elements = c.as_slice-elements.result.now in
+    list_fails (place_at c.args.frames.now c.args.here) (loaded_of symbols c.args.pattern.now) (map (loaded_of symbols) elements) (s.term_of c.args.space.now c.args.at.now) c.is_list.result c.in_ok-match_first-in-List.field-0
+    c.in_ok-match_first-in-List.ensures.attempt (rest_loaded_of symbols c.in-List.rest) (loaded_as_list symbols c.args.pattern.now c.in-List.elements c.in-List.rest elements c.in-List.is c.as_slice-elements.ensures.value) c.is_list.ensures c.if-not-is_list.false c.if-not-branch-3.true
+
+pub match_pattern-returns-in_ok-yes-in-List-clause-attempt : goal.match_pattern-returns-in_ok-yes-in-List-clause-attempt
+match_pattern-returns-in_ok-yes-in-List-clause-attempt g t c =
+    let s = g.S.TermSpace in
+    let w = c.args.space.now in
+    let symbols = s.symbol_of w in
+    let keeps = c.in_ok-match_first-in-List.ensures.keeps in
+    let elements = c.as_slice-elements.result.now in
+    let known = known_as_list (s.knows w) c.args.pattern.now c.in-List.elements c.in-List.rest elements c.in-List.is c.as_slice-elements.ensures.value c.requires.known in
+    let w1 = c.match_first-in-List.new.space in
+    list_goes (place_at c.args.frames.now c.args.here) (loaded_of symbols c.args.pattern.now) (map (loaded_of symbols) elements) (s.term_of w c.args.at.now) c.is_list.result c.in_ok-match_first-in-List.field-0 c.in_ok-match_first-in-List.ensures.attempt
+    (rest_loaded_of symbols c.in-List.rest) (rest_loaded_of (s.symbol_of w1) c.in-List.rest) (s.term_of w1 c.args.at.now) c.in_ok-yes-in-List.yes (length elements) c.match_first-in-List.new.places.barrier
+    (loaded_as_list symbols c.args.pattern.now c.in-List.elements c.in-List.rest elements c.in-List.is c.as_slice-elements.ensures.value) c.is_list.ensures c.if-not-is_list.false c.if-not-branch-3.false
+    (sym (length-map elements (loaded_of symbols))) (rest_loaded_same (s.knows w) symbols (s.symbol_of w1) keeps.symbols c.in-List.rest known.1) (keeps.terms c.args.at.now c.requires.stands)
+    c.in_ok-match_first-in-List.ensures.barrier c.in_ok-yes-in-List.ensures.keeps.standing c.in_ok-yes-in-List.ensures.attempt
+
+pub match_rest-returns-in-None-clause-attempt : goal.match_rest-returns-in-None-clause-attempt
+match_rest-returns-in-None-clause-attempt g t c =
+    let s = g.S.TermSpace in
+    no_rest (place_at c.args.frames.now c.args.here) (rest_loaded_of (s.symbol_of c.args.space.now) c.args.rest.now) (parts_of (s.term_of c.args.space.now c.args.at.now)) c.args.from c.count.result _ c.requires.places (ap (rest_loaded_of (s.symbol_of c.args.space.now)) c.in-None.is) c.requires.from c.count.ensures refl
+
+pub match_rest-returns-in_ok-yes-in-Some-clause-attempt : goal.match_rest-returns-in_ok-yes-in-Some-clause-attempt
+match_rest-returns-in_ok-yes-in-Some-clause-attempt g t c =
+    let s = g.S.TermSpace in
+    let w = c.args.space.now in
+    let w1 = c.rest.new.self in
+    let keeps = c.in_ok-others-in-Some.ensures.keeps in
+    let pattern = c.deref.result.now in
+    let known = rest_known_some (s.knows w) c.args.rest.now c.in-Some.pattern pattern c.in-Some.is c.deref.ensures c.requires.known in
+    rest_goes (place_at c.args.frames.now c.args.here) (rest_loaded_of (s.symbol_of w) c.args.rest.now) (loaded_of (s.symbol_of w) pattern) (loaded_of (s.symbol_of w1) pattern) (drop c.args.from (parts_of (s.term_of w c.args.at.now))) (s.term_of w1 c.in_ok-others-in-Some.others) c.in_ok-yes-in-Some.yes
+    c.requires.places keeps.terms (rest_loaded_some (s.knows w) c.args.rest.now c.in-Some.pattern pattern c.in-Some.is c.deref.ensures (s.symbol_of w)) (loaded_same (s.knows w) (s.symbol_of w) (s.symbol_of w1) keeps.symbols pattern known) c.in_ok-others-in-Some.ensures.term c.in_ok-yes-in-Some.ensures.attempt

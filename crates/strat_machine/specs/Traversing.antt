@@ -1,0 +1,80 @@
+-- What the steps of a traversal do to the Rust machine.
+use Rattle.std.specs.Prelude.{◌≡◌, ℕ, suc, ◌+◌, Bool, List, [], ◌∷◌, ◌++◌, length, map, take, drop}
+use Rattle.std.specs.Option.{option_map}
+use Rattle.term_model.specs.Term.{list_of, parts_of}
+use Rattle.core_lang.specs.Ending.{ok, oversize, rebuilt}
+use Rattle.strat_machine.specs.State as state
+use Rattle.strat_machine.specs.Space.{Space, Grows}
+use Rattle.strat_machine.specs.References.{RefRecord, RefState, ref_running, ref_stopped, trees, AllRefs}
+use Rattle.strat_machine.specs.ReferenceSteps.{OnAll, OnOne, OnSome}
+use Rattle.strat_machine.specs.RecordStack.{records_in}
+use Rattle.strat_machine.specs.Stacks.{state_of}
+use Rattle.strat_machine.specs.declared.stacks.Stacks.{Stacks}
+use Rattle.strat_machine.specs.declared.stacks.Phase.{Phase}
+use Rattle.strat_machine.specs.declared.records.Traversed.{Traversed}
+use Rattle.strat_machine.specs.declared.records.Records.{Records}
+
+-- in each traversal the parts that are done, the one that is tried and those that are left are as many as the whole has
+abbrev pub IsCounted : state.Record → Type 0
+IsCounted (state.call_record a h) = Unit {0}
+IsCounted (state.choice_record a t s) = Unit {0}
+IsCounted (state.all_record body next t done left) = length (list_of done) + suc (length (list_of left)) ≡ length (parts_of t)
+IsCounted (state.one_record body next t done u left s) = length (list_of done) + suc (length (list_of left)) ≡ length (parts_of t)
+IsCounted (state.some_record body next t done u left found s) = length (list_of done) + suc (length (list_of left)) ≡ length (parts_of t)
+
+abbrev pub AllCounted : List state.Record → Type 0
+AllCounted [] = Unit {0}
+AllCounted (r ∷ K) = IsCounted r × AllCounted K
+
+abbrev pub StateCounted : state.State → Type 0
+StateCounted (state.running i p t e F T b K l) = AllCounted K
+StateCounted (state.failing e F T b K l) = AllCounted K
+StateCounted (state.ended r l) = Unit {0}
+
+module _ {W R Y : Type 0} (S : Space W R Y) (w : W) where
+  -- the term is rebuilt of these parts, and the machine goes on with it at an address, or ends
+  pub data RebuildsTo (t : R) (parts : List R) (m : Stacks R Y) (K : List (RefRecord R Y)) (next here : ℕ) (w1 : W) : RefState R Y → Type 0 where
+    rebuilds : {u : R} → Grows S w w1 → S.Stands w1 u →
+        rebuilt (S.term_of w t) (ok (trees (S.term_of w) parts) (map (option_map (S.term_of w)) m.places.slots)) ≡ ok (S.term_of w1 u) (map (option_map (S.term_of w)) m.places.slots) →
+        RebuildsTo t parts m K next here w1 (ref_running next here u m.places.slots m.frames m.places.trail m.places.barrier K m.left)
+    rebuilds_none : Grows S w w1 → rebuilt (S.term_of w t) (ok (trees (S.term_of w) parts) (map (option_map (S.term_of w)) m.places.slots)) ≡ oversize →
+        RebuildsTo t parts m K next here w1 (ref_stopped state.run_oversize m.left)
+
+  -- the parts of a term are put where those that are left stand
+  pub record OpensParts (t : R) (n : ℕ) (old new : Records R Y) : Type 0 where
+    pub parts : List R
+    pub after : new ≡ record old { left = parts ++ old.left }
+    pub count : n ≡ length parts
+    pub standing : AllRefs (S.Stands w) parts
+    pub are : map (S.term_of w) parts ≡ parts_of (S.term_of w t)
+
+  -- a traversal whose record is off: its references stand, and what is done and what is left are as many as the whole has
+  pub record HasParts (rs : Records R Y) (v : Traversed R) : Type 0 where
+    pub whole : S.Stands w v.whole
+    pub done : AllRefs (S.Stands w) (take v.done rs.done)
+    pub left : AllRefs (S.Stands w) (take v.left rs.left)
+    pub count : length (take v.done rs.done) + length (take v.left rs.left) ≡ length (parts_of (S.term_of w v.whole))
+
+  -- the same, with a part that was tried, which has become this
+  pub record HasTried (rs : Records R Y) (v : Traversed R) (t : R) : Type 0 where
+    pub part : S.Stands w t
+    pub whole : S.Stands w v.whole
+    pub done : AllRefs (S.Stands w) (take v.done rs.done)
+    pub left : AllRefs (S.Stands w) (take v.left rs.left)
+    pub count : length (take v.done rs.done) + suc (length (take v.left rs.left)) ≡ length (parts_of (S.term_of w v.whole))
+
+  -- such a traversal goes on with its next part, or ends
+  abbrev pub GoesOnAll : Stacks R Y → Traversed R → (done : List R) → (here : ℕ) → W → Phase R → Stacks R Y → Type 0
+  GoesOnAll m v done here w1 phase m1 =
+      OnAll S w v.body v.next_address here v.whole m.places.slots m.frames m.places.trail m.places.barrier (records_in m.records.records (drop v.done m.records.done) (drop v.left m.records.left)) m.left
+      done (take v.left m.records.left) w1 (state_of phase m1)
+
+  abbrev pub GoesOnOne : Stacks R Y → Traversed R → (done : List R) → (here : ℕ) → Phase R → Stacks R Y → Type 0
+  GoesOnOne m v done here phase m1 =
+      OnOne S w v.body v.next_address here v.whole m.places.slots m.frames m.places.trail m.places.barrier (records_in m.records.records (drop v.done m.records.done) (drop v.left m.records.left)) m.left
+      done (take v.left m.records.left) (state_of phase m1)
+
+  abbrev pub GoesOnSome : Stacks R Y → Traversed R → (done : List R) → Bool → (here : ℕ) → W → Phase R → Stacks R Y → Type 0
+  GoesOnSome m v done found here w1 phase m1 =
+      OnSome S w v.body v.next_address here v.whole m.places.slots m.frames m.places.trail m.places.barrier (records_in m.records.records (drop v.done m.records.done) (drop v.left m.records.left)) m.left
+      done found (take v.left m.records.left) w1 (state_of phase m1)

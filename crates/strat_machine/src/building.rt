@@ -1,0 +1,499 @@
+// What a build makes of a pattern, over references.
+ghost use Rattle.std.specs.Prelude.{◌≡◌, IfOk, IsTrue, MatchOption, Option, Some, None, false, [], ◌≤◌, length, map, take, drop};
+ghost use Rattle.std.specs.Option.{option_map};
+ghost use Rattle.core_lang.specs.Building.{applied_to, element_instances, elements_of, instance, instances, list_term, made_like, value_in};
+ghost use Rattle.core_lang.specs.Views.{elements_in};
+ghost use Rattle.term_model.specs.Space.{Keeps};
+ghost use Rattle.term_model.specs.Term.{Tree, Trees, annos_of, end};
+ghost use Rattle.strat_machine.specs.Builds.{held_in, joined_elements, made_built, instances_then, Builds, BuiltStands, IsBare, IsKept, AreBuilt, AreArguments, AreElements, TailStands, Puts};
+ghost use Rattle.strat_machine.specs.Loaded.{Known, AllKnown, RestKnown, all_loaded_of, loaded_of, rest_loaded_of};
+ghost use Rattle.strat_machine.specs.References.{AllPlaces, AllRefs};
+ghost use Rattle.strat_machine.specs.State.{place_at};
+
+use crate::frames::Frames;
+use crate::loaded::LoadedPattern;
+use core_lang::Coordinate;
+use std::alloc::{AllocError, Global};
+use term_model::{Made, TermSpace};
+
+/// What a build makes.
+#[derive(Drop)]
+pub(crate) enum Built<R> {
+    /// The instance of the pattern.
+    Made(R),
+    /// A variable has no term, or the tail of a list is no list.
+    NoInstance,
+    /// The instance does not fit.
+    Oversize,
+}
+
+/// What came of building several patterns, whose instances are put on the stack.
+#[derive(Drop)]
+pub(crate) enum Pushed {
+    /// All of them are on the stack.
+    All,
+    /// One of them has no instance.
+    NoInstance,
+    /// Each has an instance, and one does not fit.
+    Oversize,
+}
+
+/// What came of building the elements of a list.
+#[derive(Drop)]
+pub(crate) enum Elements<R> {
+    /// All of them are on the stack.
+    All,
+    /// The first ones are on the stack, and the others are those of this list.
+    Before(R),
+    /// One of them has no instance, or the tail is no list.
+    NoInstance,
+    /// Each has an instance, and one does not fit.
+    Oversize,
+}
+
+/// What a variable has; the space is that of the references.
+fn value<'a, S: TermSpace>(
+    space: &S,
+    frames: &Frames,
+    here: usize,
+    variable: Coordinate,
+    slots: &'a [Option<S::Ref>],
+) -> Option<&'a S::Ref>
+    requires { AllPlaces (λ r. IsTrue (S.stands space.now r)) slots.now }
+    ensures { MatchOption result (value_in (place_at frames.now here variable) (map (option_map (S.term_of space.now)) slots.now) ≡ None) (λ r. IsTrue (S.stands space.now r.now) × (value_in (place_at frames.now here variable) (map (option_map (S.term_of space.now)) slots.now) ≡ Some (S.term_of space.now r.now))) }
+{
+    let _ = space;
+    held(frames, here, variable, slots)
+}
+
+fn held<'a, R>(
+    frames: &Frames,
+    here: usize,
+    variable: Coordinate,
+    slots: &'a [Option<R>],
+) -> Option<&'a R>
+    ensures { MatchOption result (held_in (place_at frames.now here variable) slots.now ≡ None) (λ r. held_in (place_at frames.now here variable) slots.now ≡ Some r.now) }
+{
+    let place = frames.place_of(here, variable, slots.len())?;
+    match &slots[place] {
+        Some(reference) => Some(reference),
+        None => None,
+    }
+}
+
+/// Makes the term with the annotations of another one.
+fn with_annos_of<S: TermSpace>(
+    space: &mut S,
+    alloc: Global,
+    at: &S::Ref,
+    other: &S::Ref,
+    stack: &mut Vec<S::Ref>,
+) -> Result<Built<S::Ref>, AllocError>
+    requires stands { IsTrue (S.stands space.old at.now) }
+    requires other { IsTrue (S.stands space.old other.now) }
+    ensures keeps { Keeps S.stands S.term_of S.is_valid S.knows S.symbol_of space.old space.new }
+    ensures stack { IfOk result (λ _. stack.new.items ≡ stack.old.items) }
+    ensures built { IfOk result (Builds S.stands S.term_of space.new (made_like (Some (S.term_of space.old at.now)) (Some (S.term_of space.old other.now)))) }
+{
+    let from = stack.len();
+    space.push_annos(other, stack)?;
+    let made = space.with_annos(alloc, at, &stack[from..])?;
+    stack.truncate(from);
+    Ok(outcome(made))
+}
+
+/// What was built where this was made.
+pub(crate) fn outcome<R: Drop>(made: Made<R>) -> Built<R>
+    ensures { result ≡ made_built made }
+{
+    match made {
+        Made::Fits(reference) => Built::Made(reference),
+        Made::Oversize => Built::Oversize,
+    }
+}
+
+/// Whether a term has annotations.
+fn has_annos<S: TermSpace>(space: &S, at: &S::Ref) -> bool
+    requires { IsTrue (S.stands space.now at.now) }
+    ensures { result ≡ false → annos_of (S.term_of space.now at.now) ≡ [] }
+{
+    space.shape(at).annos.len() > 0
+}
+
+/// What was built, which has no annotations, with those of another term.
+fn annotated<S: TermSpace>(
+    space: &mut S,
+    alloc: Global,
+    bare: Built<S::Ref>,
+    like: &S::Ref,
+    stack: &mut Vec<S::Ref>,
+) -> Result<Built<S::Ref>, AllocError>
+    requires stands { BuiltStands (λ r. IsTrue (S.stands space.old r)) bare }
+    requires like { IsTrue (S.stands space.old like.now) }
+    ensures keeps { Keeps S.stands S.term_of S.is_valid S.knows S.symbol_of space.old space.new }
+    ensures stack { IfOk result (λ _. stack.new.items ≡ stack.old.items) }
+    ensures built { IfOk result (λ made. (o : Option Tree) → IsBare o → Builds S.stands S.term_of space.old o bare → Builds S.stands S.term_of space.new (made_like o (Some (S.term_of space.old like.now))) made) }
+{
+    let Built::Made(at) = bare else {
+        return Ok(bare);
+    };
+    if !has_annos(space, like) {
+        return Ok(Built::Made(at));
+    }
+    let built = with_annos_of(space, alloc, &at, like, stack)?;
+    Ok(built)
+}
+
+/// Makes the instance of the pattern.
+#[cycle(building)]
+pub(crate) fn build<S: TermSpace>(
+    space: &mut S,
+    alloc: Global,
+    frames: &Frames,
+    here: usize,
+    slots: &[Option<S::Ref>],
+    pattern: &LoadedPattern<S::Name>,
+    stack: &mut Vec<S::Ref>,
+) -> Result<Built<S::Ref>, AllocError>
+    requires known { Known (S.knows space.old) pattern.now }
+    requires slots { AllPlaces (λ r. IsTrue (S.stands space.old r)) slots.now }
+    ensures keeps { Keeps S.stands S.term_of S.is_valid S.knows S.symbol_of space.old space.new }
+    ensures stack { IfOk result (λ _. stack.new.items ≡ stack.old.items) }
+    ensures built { IfOk result (Builds S.stands S.term_of space.new (instance (place_at frames.now here) (loaded_of (S.symbol_of space.old) pattern.now) (map (option_map (S.term_of space.old)) slots.now))) }
+{
+    match pattern {
+        LoadedPattern::Anything => Ok(Built::NoInstance),
+        LoadedPattern::Alias(_, _) => Ok(Built::NoInstance),
+        LoadedPattern::Variable(x) => {
+            let Some(at) = value(space, frames, here, *x, slots) else {
+                return Ok(Built::NoInstance);
+            };
+            space.fits(at);
+            let reference = space.dup(at)?;
+            Ok(Built::Made(reference))
+        }
+        LoadedPattern::Integer(number) => {
+            let integer = space.int(alloc, *number)?;
+            space.fits(&integer);
+            Ok(Built::Made(integer))
+        }
+        LoadedPattern::Applied(name, parts) => {
+            let from = stack.len();
+            let parts = parts.as_slice();
+            let pushed = push_all(space, alloc, frames, here, slots, parts, stack)?;
+            let built = apply(space, alloc, name, pushed, from, stack)?;
+            Ok(built)
+        }
+        LoadedPattern::List(first, rest) => {
+            let from = stack.len();
+            let first = first.as_slice();
+            let firsts = push_all(space, alloc, frames, here, slots, first, stack)?;
+            let others = push_rest(space, alloc, frames, here, slots, rest, stack)?;
+            let built = list(space, alloc, joined(firsts, others), from, stack)?;
+            Ok(built)
+        }
+        LoadedPattern::Like(part, x) => {
+            let Some(like) = value(space, frames, here, *x, slots) else {
+                return Ok(Built::NoInstance);
+            };
+            let built = make_like(space, alloc, frames, here, slots, part, like, stack)?;
+            Ok(built)
+        }
+    }
+}
+
+/// Makes the instance of the pattern with the annotations of another term. Its own annotations are not made.
+#[cycle(building)]
+fn make_like<S: TermSpace>(
+    space: &mut S,
+    alloc: Global,
+    frames: &Frames,
+    here: usize,
+    slots: &[Option<S::Ref>],
+    pattern: &LoadedPattern<S::Name>,
+    like: &S::Ref,
+    stack: &mut Vec<S::Ref>,
+) -> Result<Built<S::Ref>, AllocError>
+    requires known { Known (S.knows space.old) pattern.now }
+    requires slots { AllPlaces (λ r. IsTrue (S.stands space.old r)) slots.now }
+    requires like { IsTrue (S.stands space.old like.now) }
+    ensures keeps { Keeps S.stands S.term_of S.is_valid S.knows S.symbol_of space.old space.new }
+    ensures stack { IfOk result (λ _. stack.new.items ≡ stack.old.items) }
+    ensures built { IfOk result (Builds S.stands S.term_of space.new (made_like (instance (place_at frames.now here) (loaded_of (S.symbol_of space.old) pattern.now) (map (option_map (S.term_of space.old)) slots.now)) (Some (S.term_of space.old like.now)))) }
+{
+    match pattern {
+        LoadedPattern::Anything => Ok(Built::NoInstance),
+        LoadedPattern::Alias(_, _) => Ok(Built::NoInstance),
+        LoadedPattern::Variable(x) => {
+            let Some(at) = value(space, frames, here, *x, slots) else {
+                return Ok(Built::NoInstance);
+            };
+            let built = with_annos_of(space, alloc, at, like, stack)?;
+            Ok(built)
+        }
+        LoadedPattern::Integer(_) => {
+            let bare = build(space, alloc, frames, here, slots, pattern, stack)?;
+            let built = annotated(space, alloc, bare, like, stack)?;
+            Ok(built)
+        }
+        LoadedPattern::Applied(_, _) => {
+            let bare = build(space, alloc, frames, here, slots, pattern, stack)?;
+            let built = annotated(space, alloc, bare, like, stack)?;
+            Ok(built)
+        }
+        LoadedPattern::List(_, _) => {
+            let bare = build(space, alloc, frames, here, slots, pattern, stack)?;
+            let built = annotated(space, alloc, bare, like, stack)?;
+            Ok(built)
+        }
+        LoadedPattern::Like(part, x) => {
+            if value(space, frames, here, *x, slots).is_none() {
+                return Ok(Built::NoInstance);
+            }
+            let built = make_like(space, alloc, frames, here, slots, part, like, stack)?;
+            Ok(built)
+        }
+    }
+}
+
+/// Makes the symbol of the name applied to what was put on the stack, and takes that off.
+fn apply<S: TermSpace>(
+    space: &mut S,
+    alloc: Global,
+    name: &S::Name,
+    pushed: Pushed,
+    from: usize,
+    stack: &mut Vec<S::Ref>,
+) -> Result<Built<S::Ref>, AllocError>
+    requires name { IsTrue (S.knows space.old name.now) }
+    requires from { from ≤ length stack.old.items }
+    requires standing { AllRefs (λ r. IsTrue (S.stands space.old r)) (drop from stack.old.items) }
+    ensures keeps { Keeps S.stands S.term_of S.is_valid S.knows S.symbol_of space.old space.new }
+    ensures stack { IfOk result (λ _. stack.new.items ≡ take from stack.old.items) }
+    ensures built { IfOk result (λ made. (all : Option Trees → Option Trees) → AreBuilt S.term_of space.old all (drop from stack.old.items) pushed → Builds S.stands S.term_of space.new (applied_to (all (Some end)) (S.symbol_of space.old name.now)) made) }
+{
+    match pushed {
+        Pushed::NoInstance => {
+            stack.truncate(from);
+            Ok(Built::NoInstance)
+        }
+        Pushed::Oversize => {
+            stack.truncate(from);
+            Ok(Built::Oversize)
+        }
+        Pushed::All => {
+            let made = space.app(alloc, name, &stack[from..])?;
+            stack.truncate(from);
+            Ok(outcome(made))
+        }
+    }
+}
+
+/// Makes the list of the elements that were put on the stack, and takes those off.
+fn list<S: TermSpace>(
+    space: &mut S,
+    alloc: Global,
+    elements: Elements<S::Ref>,
+    from: usize,
+    stack: &mut Vec<S::Ref>,
+) -> Result<Built<S::Ref>, AllocError>
+    requires from { from ≤ length stack.old.items }
+    requires standing { AllRefs (λ r. IsTrue (S.stands space.old r)) (drop from stack.old.items) }
+    requires tail { TailStands S.stands S.term_of space.old elements }
+    ensures keeps { Keeps S.stands S.term_of S.is_valid S.knows S.symbol_of space.old space.new }
+    ensures stack { IfOk result (λ _. stack.new.items ≡ take from stack.old.items) }
+    ensures built { IfOk result (λ made. (all : Option Trees) → AreElements S.stands S.term_of space.old all (drop from stack.old.items) elements → Builds S.stands S.term_of space.new (list_term all) made) }
+{
+    match elements {
+        Elements::NoInstance => {
+            stack.truncate(from);
+            Ok(Built::NoInstance)
+        }
+        Elements::Oversize => {
+            stack.truncate(from);
+            Ok(Built::Oversize)
+        }
+        Elements::All => {
+            let made = space.list(alloc, &stack[from..])?;
+            stack.truncate(from);
+            Ok(outcome(made))
+        }
+        Elements::Before(tail) => {
+            let made = space.prepend(alloc, &stack[from..], &tail)?;
+            stack.truncate(from);
+            Ok(outcome(made))
+        }
+    }
+}
+
+/// Puts the elements of the rest of a list on the stack; an absent rest has none.
+#[cycle(building)]
+fn push_rest<S: TermSpace>(
+    space: &mut S,
+    alloc: Global,
+    frames: &Frames,
+    here: usize,
+    slots: &[Option<S::Ref>],
+    rest: &Option<Box<LoadedPattern<S::Name>>>,
+    stack: &mut Vec<S::Ref>,
+) -> Result<Elements<S::Ref>, AllocError>
+    requires known { RestKnown (S.knows space.old) rest.now }
+    requires slots { AllPlaces (λ r. IsTrue (S.stands space.old r)) slots.now }
+    ensures keeps { Keeps S.stands S.term_of S.is_valid S.knows S.symbol_of space.old space.new }
+    ensures elements { IfOk result (λ made. Puts S.stands space.new stack.old.items stack.new.items (λ rs. AreElements S.stands S.term_of space.new (element_instances (place_at frames.now here) (elements_in [] (rest_loaded_of (S.symbol_of space.old) rest.now)) (map (option_map (S.term_of space.old)) slots.now)) rs made)) }
+{
+    match rest {
+        None => Ok(Elements::All),
+        Some(p) => {
+            let others = push_tail(space, alloc, frames, here, slots, p, stack)?;
+            Ok(others)
+        }
+    }
+}
+
+/// Puts the elements of the list that the pattern makes on the stack.
+#[cycle(building)]
+fn push_tail<S: TermSpace>(
+    space: &mut S,
+    alloc: Global,
+    frames: &Frames,
+    here: usize,
+    slots: &[Option<S::Ref>],
+    pattern: &LoadedPattern<S::Name>,
+    stack: &mut Vec<S::Ref>,
+) -> Result<Elements<S::Ref>, AllocError>
+    requires known { Known (S.knows space.old) pattern.now }
+    requires slots { AllPlaces (λ r. IsTrue (S.stands space.old r)) slots.now }
+    ensures keeps { Keeps S.stands S.term_of S.is_valid S.knows S.symbol_of space.old space.new }
+    ensures elements { IfOk result (λ made. Puts S.stands space.new stack.old.items stack.new.items (λ rs. AreElements S.stands S.term_of space.new (elements_of (instance (place_at frames.now here) (loaded_of (S.symbol_of space.old) pattern.now) (map (option_map (S.term_of space.old)) slots.now))) rs made)) }
+{
+    match pattern {
+        LoadedPattern::Variable(x) => {
+            let Some(at) = value(space, frames, here, *x, slots) else {
+                return Ok(Elements::NoInstance);
+            };
+            let tail = list_before(space, at)?;
+            Ok(tail)
+        }
+        LoadedPattern::List(first, rest) => {
+            let first = first.as_slice();
+            let firsts = push_all(space, alloc, frames, here, slots, first, stack)?;
+            let others = push_rest(space, alloc, frames, here, slots, rest, stack)?;
+            Ok(joined(firsts, others))
+        }
+        LoadedPattern::Like(part, x) => {
+            if value(space, frames, here, *x, slots).is_none() {
+                return Ok(Elements::NoInstance);
+            }
+            let elements = push_tail(space, alloc, frames, here, slots, part, stack)?;
+            Ok(elements)
+        }
+        LoadedPattern::Anything => Ok(Elements::NoInstance),
+        LoadedPattern::Alias(_, _) => Ok(Elements::NoInstance),
+        LoadedPattern::Integer(_) => Ok(Elements::NoInstance),
+        LoadedPattern::Applied(_, _) => Ok(Elements::NoInstance),
+    }
+}
+
+/// Builds the instances of the patterns, and puts them on the stack if each of them fits.
+pub(crate) fn build_all<S: TermSpace>(
+    space: &mut S,
+    alloc: Global,
+    frames: &Frames,
+    here: usize,
+    slots: &[Option<S::Ref>],
+    patterns: &[LoadedPattern<S::Name>],
+    stack: &mut Vec<S::Ref>,
+) -> Result<Pushed, AllocError>
+    requires known { AllKnown (S.knows space.old) patterns.now }
+    requires slots { AllPlaces (λ r. IsTrue (S.stands space.old r)) slots.now }
+    ensures keeps { Keeps S.stands S.term_of S.is_valid S.knows S.symbol_of space.old space.new }
+    ensures built { IfOk result (λ made. Puts S.stands space.new stack.old.items stack.new.items (λ rs. AreArguments S.term_of space.new (instances (place_at frames.now here) (all_loaded_of (S.symbol_of space.old) patterns.now) (map (option_map (S.term_of space.old)) slots.now)) rs made)) }
+{
+    let from = stack.len();
+    let made = push_all(space, alloc, frames, here, slots, patterns, stack)?;
+    match made {
+        Pushed::All => Ok(Pushed::All),
+        Pushed::NoInstance => {
+            stack.truncate(from);
+            Ok(Pushed::NoInstance)
+        }
+        Pushed::Oversize => {
+            stack.truncate(from);
+            Ok(Pushed::Oversize)
+        }
+    }
+}
+
+/// Puts the instances of the patterns on the stack; where one does not fit, the others are still built, since one may
+/// have no instance.
+#[cycle(building)]
+fn push_all<S: TermSpace>(
+    space: &mut S,
+    alloc: Global,
+    frames: &Frames,
+    here: usize,
+    slots: &[Option<S::Ref>],
+    patterns: &[LoadedPattern<S::Name>],
+    stack: &mut Vec<S::Ref>,
+) -> Result<Pushed, AllocError>
+    requires known { AllKnown (S.knows space.old) patterns.now }
+    requires slots { AllPlaces (λ r. IsTrue (S.stands space.old r)) slots.now }
+    ensures keeps { Keeps S.stands S.term_of S.is_valid S.knows S.symbol_of space.old space.new }
+    ensures built { IfOk result (λ made. Puts S.stands space.new stack.old.items stack.new.items (λ rs. AreBuilt S.term_of space.new (instances_then (place_at frames.now here) (map (option_map (S.term_of space.old)) slots.now) (map (loaded_of (S.symbol_of space.old)) patterns.now)) rs made)) }
+{
+    let mut fit = true;
+    for p in patterns {
+        let built = build(space, alloc, frames, here, slots, p, stack)?;
+        let Some(kept) = keep(stack, built)? else {
+            return Ok(Pushed::NoInstance);
+        };
+        fit &= kept;
+    }
+    if !fit {
+        return Ok(Pushed::Oversize);
+    }
+    Ok(Pushed::All)
+}
+
+/// Puts what was built on the stack, and tells whether it fits; nothing where it is none.
+fn keep<R: Drop>(stack: &mut Vec<R>, built: Built<R>) -> Result<Option<bool>, AllocError>
+    ensures { IfOk result (λ kept. IsKept built kept stack.old.items stack.new.items) }
+{
+    match built {
+        Built::Made(reference) => {
+            stack.push(reference)?;
+            Ok(Some(true))
+        }
+        Built::NoInstance => Ok(None),
+        Built::Oversize => Ok(Some(false)),
+    }
+}
+
+/// What came of the first elements of a list and of the others.
+fn joined<R: Drop>(firsts: Pushed, others: Elements<R>) -> Elements<R>
+    ensures { result ≡ joined_elements firsts others }
+{
+    match firsts {
+        Pushed::All => others,
+        Pushed::NoInstance => Elements::NoInstance,
+        Pushed::Oversize => match others {
+            Elements::NoInstance => Elements::NoInstance,
+            Elements::All | Elements::Before(_) | Elements::Oversize => Elements::Oversize,
+        },
+    }
+}
+
+/// The list of the reference, if it is one, for further elements in front of its own.
+fn list_before<S: TermSpace>(space: &S, at: &S::Ref) -> Result<Elements<S::Ref>, AllocError>
+    requires { IsTrue (S.stands space.now at.now) }
+    ensures { IfOk result (AreElements S.stands S.term_of space.now (elements_of (Some (S.term_of space.now at.now))) []) }
+{
+    match space.list_len(at) {
+        None => Ok(Elements::NoInstance),
+        Some(_) => {
+            let tail = space.dup(at)?;
+            Ok(Elements::Before(tail))
+        }
+    }
+}

@@ -1,0 +1,153 @@
+// References as flat values, and flat values as references.
+ghost use Rattle.std.specs.Prelude.{◌≡◌, IfOk, IsTrue, List, [], length, map};
+ghost use Rattle.std.specs.Option.{option_map};
+ghost use Rattle.prim_registry.specs.Values.{answer_of, value_of, values_of};
+ghost use Rattle.term_model.specs.declared.term.Head.TheVariants as heads;
+ghost use Rattle.term_model.specs.Flat.{all_flat, flat_of, integers_of};
+ghost use Rattle.term_model.specs.Flat as flat;
+ghost use Rattle.term_model.specs.Space.{Keeps, Makes};
+ghost use Rattle.term_model.specs.Term.{Tree, parts_of, term, trees_of};
+ghost use Rattle.strat_machine.specs.References.{AllRefs};
+
+use prim_registry::{Bytes, Flat, Numbers};
+use std::alloc::{AllocError, Global};
+use term_model::{Head, Kind, Made, Sym, TermSpace, Top};
+
+/// Returns the flat values that the terms are, annotations ignored; `None` where one of them is none.
+pub(crate) fn flat_values<S: TermSpace>(
+    space: &S,
+    alloc: Global,
+    terms: &[S::Ref],
+) -> Result<Option<Vec<Flat>>, AllocError>
+    requires { AllRefs (λ r. IsTrue (S.stands space.now r)) terms.now }
+    ensures { IfOk result (λ values. option_map (λ flats. values_of flats.items) values ≡ all_flat (trees_of (map (S.term_of space.now) terms.now))) }
+{
+    let mut values = Vec::new(alloc);
+    for term in terms {
+        match flat_value(space, alloc, term)? {
+            Some(value) => {
+                values.push(value)?;
+            }
+            None => return Ok(None),
+        }
+    }
+    Ok(Some(values))
+}
+
+// Returns the flat value that the term is.
+fn flat_value<S: TermSpace>(
+    space: &S,
+    alloc: Global,
+    at: &S::Ref,
+) -> Result<Option<Flat>, AllocError>
+    requires { IsTrue (S.stands space.now at.now) }
+    ensures { IfOk result (λ value. answer_of value ≡ flat_of (S.term_of space.now at.now)) }
+{
+    match space.head(at) {
+        Top::Int(value) => Ok(Some(Flat::Int(value))),
+        Top::App(symbol) => {
+            let text = text(alloc, symbol, space.count(at))?;
+            Ok(text)
+        }
+        Top::List => match numbers(space, alloc, at)? {
+            Some(numbers) => Ok(Some(Flat::Ints(numbers))),
+            None => Ok(None),
+        },
+    }
+}
+
+// Returns the string that the symbol with so many parts is.
+fn text(alloc: Global, symbol: &Sym, count: usize) -> Result<Option<Flat>, AllocError>
+    ensures { IfOk result (λ value. (parts : List Tree) → length parts ≡ count → answer_of value ≡ flat_of (term (heads.App symbol.now) parts [])) }
+{
+    let Kind::Quoted = symbol.kind() else {
+        return Ok(None);
+    };
+    if count != 0 {
+        return Ok(None);
+    }
+    let bytes = Vec::from_slice(alloc, symbol.bytes())?;
+    Ok(Some(Flat::Str(Bytes::new(bytes))))
+}
+
+// Returns the integers that the elements of the list are.
+fn numbers<S: TermSpace>(
+    space: &S,
+    alloc: Global,
+    list: &S::Ref,
+) -> Result<Option<Numbers>, AllocError>
+    requires { IsTrue (S.stands space.now list.now) }
+    ensures { IfOk result (λ numbers. numbers ≡ integers_of (trees_of (parts_of (S.term_of space.now list.now)))) }
+{
+    let mut elements = Vec::new(alloc);
+    space.push_parts(list, &mut elements)?;
+    let numbers = numbers_of(space, alloc, &elements)?;
+    Ok(numbers)
+}
+
+// Returns the integers that the terms are.
+fn numbers_of<S: TermSpace>(
+    space: &S,
+    alloc: Global,
+    terms: &[S::Ref],
+) -> Result<Option<Numbers>, AllocError>
+    requires { AllRefs (λ r. IsTrue (S.stands space.now r)) terms.now }
+    ensures { IfOk result (λ numbers. numbers ≡ integers_of (trees_of (map (S.term_of space.now) terms.now))) }
+{
+    let mut values = Vec::new(alloc);
+    for term in terms {
+        match space.int_of(term) {
+            Some(value) => {
+                values.push(value)?;
+            }
+            None => return Ok(None),
+        }
+    }
+    Ok(Some(Numbers::new(values)))
+}
+
+/// Makes the term of a flat value, without annotations.
+pub(crate) fn make_flat<S: TermSpace>(
+    space: &mut S,
+    alloc: Global,
+    value: &Flat,
+) -> Result<Made<S::Ref>, AllocError>
+    ensures keeps { Keeps S.stands S.term_of S.is_valid S.knows S.symbol_of space.old space.new }
+    ensures made { IfOk result (Makes S.stands S.term_of space.new (flat.term_of (value_of value.now))) }
+{
+    match value {
+        Flat::Int(number) => {
+            let integer = space.int(alloc, *number)?;
+            space.fits(&integer);
+            Ok(Made::Fits(integer))
+        }
+        Flat::Str(text) => {
+            let symbol = Sym::quoted(alloc, text.as_slice())?;
+            let none = Vec::new(alloc);
+            let made = space.make(alloc, Head::App(symbol), none, Vec::new(alloc))?;
+            Ok(made)
+        }
+        Flat::Ints(numbers) => {
+            let elements = make_integers(space, alloc, numbers.as_slice())?;
+            let made = space.list(alloc, &elements)?;
+            Ok(made)
+        }
+    }
+}
+
+// Makes the integers.
+fn make_integers<S: TermSpace>(
+    space: &mut S,
+    alloc: Global,
+    numbers: &[i32],
+) -> Result<Vec<S::Ref>, AllocError>
+    ensures keeps { Keeps S.stands S.term_of S.is_valid S.knows S.symbol_of space.old space.new }
+    ensures standing { IfOk result (λ rs. AllRefs (λ r. IsTrue (S.stands space.new r)) rs.items) }
+    ensures integers { IfOk result (λ rs. trees_of (map (S.term_of space.new) rs.items) ≡ flat.integers numbers.now) }
+{
+    let mut made = Vec::new(alloc);
+    for number in numbers {
+        made.push(space.int(alloc, *number)?)?;
+    }
+    Ok(made)
+}

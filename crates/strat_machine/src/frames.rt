@@ -1,0 +1,240 @@
+// The frames of calls and scopes, and the closures of their strategy parameters.
+ghost use Rattle.std.specs.Prelude.{◌≡◌, ◌+◌, ◌<◌, ◌≤◌, ℕ, Some, MatchOption, OnOk, OnErr, [], ◌∷◌, ◌++◌, length, map, take, slice_get};
+ghost use Rattle.strat_code.specs.CodeOf.{argument_of};
+ghost use Rattle.strat_machine.specs.State as state;
+ghost use Rattle.strat_machine.specs.State.{around, frames_up, place_at, closure_in, closed};
+ghost use Rattle.strat_machine.specs.Frames.{closure_of, frame_in, frames_in, IsBaseOf, AreLaid};
+
+use core_lang::Coordinate;
+use std::alloc::{AllocError, Global};
+use std::marker::Model;
+use strat_code::Argument;
+
+/// The closure of a strategy parameter: the address of its code, and the position of the frame that the code runs in.
+#[derive(Clone, Copy)]
+pub(crate) struct Closure {
+    pub(crate) entry: usize,
+    pub(crate) frame: usize,
+}
+
+/// A frame: its first place, the position of the frame around it, and which closures are those of its strategy parameters.
+#[derive(Clone, Copy)]
+pub(crate) struct Frame {
+    base: usize,
+    up: usize,
+    first: usize,
+    count: usize,
+}
+
+/// The frames, the oldest first, with the closures of all of them in one vector.
+#[derive(Drop)]
+pub(crate) struct Frames {
+    frames: Vec<Frame>,
+    closures: Vec<Closure>,
+}
+
+impl Model for Frames {
+    ghost use Rattle.std.specs.Prelude.{List, length};
+    ghost use Rattle.strat_machine.specs.State as model;
+    ghost use Rattle.strat_machine.specs.Frames.{frames_in, AreLaid};
+
+    ghost Value = { List model.Frame };
+
+    ghost view = { λ a. frames_in a.closures.items a.frames.items };
+
+    ghost invariant = { λ a. AreLaid 0 a.frames.items (length a.closures.items) };
+}
+
+impl Frames {
+    /// No frames.
+    pub(crate) fn new(alloc: Global) -> Frames
+        ensures { result ≡ [] }
+    {
+        Frames {
+            frames: Vec::new(alloc),
+            closures: Vec::new(alloc),
+        }
+    }
+
+    /// The number of frames.
+    pub(crate) fn len(&self) -> usize
+        ensures { result ≡ length self.now }
+    {
+        self.frames.len()
+    }
+
+    /// Takes off all frames.
+    pub(crate) fn clear(&mut self)
+        ensures { self.new ≡ [] }
+    {
+        self.frames.clear();
+        self.closures.clear();
+    }
+
+    /// The first place of a frame, and the frame around it.
+    pub(crate) fn base_of(&self, here: usize) -> Option<(usize, usize)>
+        ensures { IsBaseOf result (slice_get self.now here) }
+    {
+        let frame = self.frames.get(here)?;
+        Some((frame.base, frame.up))
+    }
+
+    /// The frame so many frames up.
+    pub(crate) fn frames_up(&self, here: usize, count: usize) -> usize
+        ensures { result ≡ frames_up self.now here count }
+    {
+        up_from(&self.frames[..], &self.closures[..], here, count)
+    }
+
+    /// The place of a variable, if it is one of so many places.
+    pub(crate) fn place_of(&self, here: usize, variable: Coordinate, count: usize) -> Option<usize>
+        ensures { MatchOption result ((i : ℕ) → place_at self.now here variable ≡ Some i → count ≤ i) (λ i. (place_at self.now here variable ≡ Some i) × (i < count)) }
+    {
+        let home = self.frames_up(here, variable.layers_up);
+        let (base, _) = self.base_of(home)?;
+        let place = base.checked_add(variable.slot)?;
+        if place < count { Some(place) } else { None }
+    }
+
+    /// The closure of a strategy parameter.
+    pub(crate) fn closure_of(&self, here: usize, parameter: Coordinate) -> Closure
+        ensures { closure_of result ≡ closure_in self.now here parameter }
+    {
+        closure_from(&self.frames[..], &self.closures[..], here, parameter)
+    }
+
+    /// Adds the frame of a scope.
+    pub(crate) fn push_scope(&mut self, base: usize, up: usize) -> Result<(), AllocError>
+        ensures pushed { OnOk result (self.new ≡ self.old ++ state.frame base up [] ∷ []) }
+        ensures err { OnErr result (self.new ≡ self.old) }
+    {
+        let first = self.closures.len();
+        self.frames.push(Frame {
+            base,
+            up,
+            first,
+            count: 0,
+        })?;
+        Ok(())
+    }
+
+    /// Adds the frame of a call from a frame, with the closures of the arguments.
+    pub(crate) fn push_call(
+        &mut self,
+        base: usize,
+        up: usize,
+        here: usize,
+        arguments: &[Argument],
+    ) -> Result<(), AllocError>
+        ensures pushed { OnOk result (self.new ≡ self.old ++ state.frame base up (closed self.old here (map argument_of arguments.now)) ∷ []) }
+        ensures err { OnErr result (self.new ≡ self.old) }
+    {
+        let first = self.closures.len();
+        push_closures(&self.frames[..], &mut self.closures, here, arguments)?;
+        self.frames.push(Frame {
+            base,
+            up,
+            first,
+            count: arguments.len(),
+        })?;
+        Ok(())
+    }
+
+    /// Takes off all frames but the first so many.
+    pub(crate) fn cut(&mut self, count: usize)
+        ensures { self.new ≡ take count self.old }
+    {
+        if count >= self.frames.len() {
+            return;
+        }
+        let frame = self.frames[count];
+        self.frames.truncate(count);
+        self.closures.truncate(frame.first);
+    }
+}
+
+// The frame around a frame.
+fn around_of(frames: &[Frame], closures: &[Closure], here: usize) -> usize
+    ensures { result ≡ around (slice_get (frames_in closures.now frames.now) here) here }
+{
+    let _ = closures;
+    match frames.get(here) {
+        Some(frame) => frame.up,
+        None => here,
+    }
+}
+
+// The frame so many frames up.
+#[tactic(auto, using(crate::proofs::FrameLaws::up_one))]
+fn up_from(frames: &[Frame], closures: &[Closure], here: usize, count: usize) -> usize
+    ensures { result ≡ frames_up (frames_in closures.now frames.now) here count }
+{
+    let mut position = here;
+    for _ in 0..count {
+        position = around_of(frames, closures, position);
+    }
+    position
+}
+
+// The closure of a strategy parameter.
+fn closure_from(
+    frames: &[Frame],
+    closures: &[Closure],
+    here: usize,
+    parameter: Coordinate,
+) -> Closure
+    ensures { closure_of result ≡ closure_in (frames_in closures.now frames.now) here parameter }
+{
+    let home = up_from(frames, closures, here, parameter.layers_up);
+    let none = Closure { entry: 0, frame: 0 };
+    let Some(frame) = frames.get(home) else {
+        return none;
+    };
+    if parameter.slot >= frame.count {
+        return none;
+    }
+    let Some(position) = frame.first.checked_add(parameter.slot) else {
+        return none;
+    };
+    match closures.get(position) {
+        Some(closure) => *closure,
+        None => none,
+    }
+}
+
+// The closure of an argument.
+fn closure_of_argument(
+    frames: &[Frame],
+    closures: &[Closure],
+    here: usize,
+    argument: &Argument,
+) -> Closure
+    ensures { closed (frames_in closures.now frames.now) here (argument_of argument.now ∷ []) ≡ closure_of result ∷ [] }
+{
+    match argument {
+        Argument::Code(entry) => Closure {
+            entry: *entry,
+            frame: here,
+        },
+        Argument::Parameter(parameter) => closure_from(frames, closures, here, *parameter),
+    }
+}
+
+// Puts the closures of the arguments after those that there are, one for each.
+#[tactic(auto, using(crate::proofs::FrameLaws::pushing))]
+fn push_closures(
+    frames: &[Frame],
+    closures: &mut Vec<Closure>,
+    here: usize,
+    arguments: &[Argument],
+) -> Result<(), AllocError>
+    requires { AreLaid 0 frames.now (length closures.old.items) }
+    ensures closures { OnOk result (map closure_of closures.new.items ≡ map closure_of closures.old.items ++ closed (frames_in closures.old.items frames.now) here (map argument_of arguments.now)) }
+    ensures kept { take (length closures.old.items) closures.new.items ≡ closures.old.items }
+{
+    for argument in arguments {
+        let closure = closure_of_argument(frames, &closures[..], here, argument);
+        closures.push(closure)?;
+    }
+    Ok(())
+}

@@ -1,0 +1,126 @@
+// The machine: it runs code on the terms of a space.
+ghost use Rattle.std.specs.Prelude.{◌≡◌, ◌+◌, ◌*◌, ◌≤◌, ℕ, List, IsTrue, IfOk, IfErr};
+ghost use Rattle.term_model.specs.Space.{Keeps};
+ghost use Rattle.core_lang.specs.Named.{Name};
+ghost use Rattle.core_lang.specs.Primitives.{AreOccurring};
+ghost use Rattle.core_lang.specs.Program.{Definitions};
+ghost use Rattle.core_lang.specs.Resolution.{ResolvesProgram};
+ghost use Rattle.core_lang.specs.Resolved.{ResolvedDefinitions};
+ghost use Rattle.core_lang.specs.Run.{IsOutcome};
+ghost use Rattle.prim_registry.specs.Entries.{Covers, IsHonest};
+ghost use Rattle.strat_code.specs.CodeOf.{code_of};
+ghost use Rattle.strat_code.specs.StandsFor.{StandsFor};
+ghost use Rattle.strat_machine.specs.Outcomes.{OutcomeStands, Ran, outcome_tree};
+ghost use Rattle.prim_registry.specs.Registered.{meaning_of};
+ghost use Rattle.strat_machine.specs.SpaceOf.{space_of};
+ghost use Rattle.strat_machine.specs.Stacks.{KeepsNames};
+
+use crate::program::load_code;
+use crate::running::run_code;
+use crate::stacks::Stacks;
+use core_lang::Run;
+use prim_registry::{PrimMeaning, Registry};
+use std::alloc::{AllocError, Global};
+use std::marker::Model;
+use strat_code::Code;
+use term_model::{Fault, Term, TermSpace};
+
+/// A machine that runs code on terms of a space. Contracts see it as its space.
+#[derive(Drop)]
+pub struct Machine<S: TermSpace + Drop> {
+    alloc: Global,
+    space: S,
+    // Clear between runs. Their memory is kept.
+    stacks: Stacks<S::Ref, S::Mark>,
+}
+
+impl<S: TermSpace + Drop> Model for Machine<S> {
+    ghost use Rattle.strat_machine.specs.Running.{IsClear};
+
+    ghost Value = { S };
+
+    ghost view = { λ m. m.space };
+
+    ghost invariant = { λ m. IsClear m.stacks };
+}
+
+impl<S: TermSpace + Drop> Machine<S> {
+    /// A machine over the space, which stays as it is. Takes no memory.
+    pub fn new(alloc: Global, space: S) -> Machine<S>
+        ensures { result ≡ space }
+    {
+        Machine {
+            alloc,
+            space,
+            stacks: Stacks::new(alloc),
+        }
+    }
+
+    /// The machine's space.
+    pub fn space(&self) -> &S
+        ensures { result.now ≡ self.now }
+    {
+        &self.space
+    }
+
+    /// Brings a term into the space, and returns its reference.
+    pub fn enter(&mut self, term: &Term) -> Result<S::Ref, AllocError>
+        ensures keeps { Keeps S.stands S.term_of S.is_valid S.knows S.symbol_of self.old self.new }
+        ensures stands { IfOk result (λ r. IsTrue (S.stands self.new r)) }
+        ensures term { IfOk result (λ r. S.term_of self.new r ≡ term.now) }
+    {
+        let reference = self.space.enter(self.alloc, term)?;
+        Ok(reference)
+    }
+
+    /// Returns the term of a reference.
+    pub fn leave(&self, reference: &S::Ref) -> Result<Term, AllocError>
+        requires { IsTrue (S.stands self.now reference.now) }
+        ensures { IfOk result (λ t. t ≡ S.term_of self.now reference.now) }
+    {
+        let term = self.space.leave(self.alloc, reference)?;
+        Ok(term)
+    }
+
+    /// Runs the code on the term within a budget of rules. The outcome is that of every program that the code stands for, where
+    /// primitives return what those of the registry do.
+    ///
+    /// `rules` is the number of nodes of the derivation, or the whole budget where it is spent before the derivation is
+    /// complete; `steps` is the number of steps that the machine took. The only fault is `Memory`: a growth was refused, here or
+    /// in a primitive. After a fault the machine can run again.
+    pub fn run<M: PrimMeaning>(
+        &mut self,
+        code: &Code,
+        term: S::Ref,
+        budget: u32,
+        registry: &Registry<M>,
+    ) -> Result<Run<S::Ref>, Fault>
+        requires stands { IsTrue (S.stands self.old term) }
+        requires honest { IsHonest M.answer registry.now }
+        requires covers { Covers registry.now code.now.prims }
+        ensures run { IfOk result (λ run. (P : Definitions Name (List Name)) (main : Name) (C : ResolvedDefinitions) (i : ℕ) →
+            StandsFor (code_of code.now.instrs) C i → AreOccurring code.now.prims C → ResolvesProgram P main C i →
+            IsOutcome M.answer P main (S.term_of self.old term) budget (outcome_tree (S.term_of self.new) run.outcome) run.rules) }
+        ensures steps { IfOk result (λ run. Ran (space_of S.stands S.term_of S.is_valid S.covers S.covers_mark) (code_of code.now.instrs) (meaning_of M.answer registry.now) self.old term budget self.new run) }
+        ensures few { IfOk result (λ run. run.steps ≤ 10 * run.rules + 10) }
+        ensures stands { IfOk result (λ run. OutcomeStands (λ r. IsTrue (S.stands self.new r)) run.outcome) }
+        ensures kept { (r : S.Ref) → IsTrue (S.stands self.old r) → IsTrue (S.stands self.new r) × (S.term_of self.new r ≡ S.term_of self.old r) }
+        ensures names { KeepsNames S.knows S.symbol_of self.old self.new }
+        ensures fault { IfErr result (λ fault. fault ≡ Fault.Memory) }
+    {
+        let space = &mut self.space;
+        let operands = load_code(space, self.alloc, code, registry)?;
+        let run = run_code(
+            space,
+            self.alloc,
+            &mut self.stacks,
+            code,
+            &operands,
+            registry,
+            term,
+            budget,
+        );
+        self.stacks.clear();
+        Ok(run?)
+    }
+}

@@ -1,0 +1,194 @@
+// Matching a pattern with the term of a reference.
+ghost use Rattle.std.specs.Prelude.{◌≡◌, ◌≤◌, IfOk, IsTrue, true, length, map, drop};
+ghost use Rattle.core_lang.specs.Program.{list};
+ghost use Rattle.term_model.specs.declared.term.Head.TheVariants as heads;
+ghost use Rattle.term_model.specs.Term.{head_of, parts_of};
+ghost use Rattle.term_model.specs.Same.{same_head};
+ghost use Rattle.term_model.specs.Space.{Keeps};
+ghost use Rattle.strat_machine.specs.Binding.{attempt, attempted, bind};
+ghost use Rattle.strat_machine.specs.Loaded.{Known, AllKnown, RestKnown, loaded_of, rest_loaded_of};
+ghost use Rattle.strat_machine.specs.Matches.{Goes, first_attempted, rest_attempted};
+ghost use Rattle.strat_machine.specs.References.{AllPlaces};
+ghost use Rattle.strat_machine.specs.State.{place_at};
+
+use crate::frames::Frames;
+use crate::loaded::LoadedPattern;
+use crate::places::Places;
+use core_lang::Coordinate;
+use std::alloc::{AllocError, Global};
+use term_model::TermSpace;
+
+/// Whether the pattern matches the term; each of its variables that had no term is then given one. Where it does not,
+/// some of them may be.
+#[cycle(matching)]
+pub(crate) fn match_pattern<S: TermSpace>(
+    space: &mut S,
+    alloc: Global,
+    frames: &Frames,
+    here: usize,
+    pattern: &LoadedPattern<S::Name>,
+    at: &S::Ref,
+    places: &mut Places<S::Ref>,
+) -> Result<bool, AllocError>
+    requires known { Known (S.knows space.old) pattern.now }
+    requires stands { IsTrue (S.stands space.old at.now) }
+    requires places { AllPlaces (λ r. IsTrue (S.stands space.old r)) places.old.slots }
+    ensures keeps { Keeps S.stands S.term_of S.is_valid S.knows S.symbol_of space.old space.new }
+    ensures barrier { IfOk result (λ _. places.new.barrier ≡ places.old.barrier) }
+    ensures attempt { IfOk result (λ yes. Goes S.stands S.term_of places.old.barrier (attempted (place_at frames.now here) places.old.barrier (loaded_of (S.symbol_of space.old) pattern.now) (S.term_of space.old at.now)) (attempt yes) space.old places.old.slots places.old.trail space.new places.new.slots places.new.trail) }
+{
+    match pattern {
+        LoadedPattern::Anything => Ok(true),
+        LoadedPattern::Variable(x) => {
+            let yes = bind_variable(space, frames, here, *x, at, places)?;
+            Ok(yes)
+        }
+        LoadedPattern::Alias(x, part) => {
+            if !bind_variable(space, frames, here, *x, at, places)? {
+                return Ok(false);
+            }
+            let yes = match_pattern(space, alloc, frames, here, part, at, places)?;
+            Ok(yes)
+        }
+        LoadedPattern::Integer(value) => Ok(is_integer(space, at, value)),
+        LoadedPattern::Applied(name, parts) => {
+            if !is_application(space, at, name) {
+                return Ok(false);
+            }
+            let parts = parts.as_slice();
+            if !match_first(space, alloc, frames, here, parts, at, places)? {
+                return Ok(false);
+            }
+            Ok(parts.len() == space.count(at))
+        }
+        LoadedPattern::List(elements, rest) => {
+            if !is_list(space, at) {
+                return Ok(false);
+            }
+            let elements = elements.as_slice();
+            if !match_first(space, alloc, frames, here, elements, at, places)? {
+                return Ok(false);
+            }
+            let from = elements.len();
+            let yes = match_rest(space, alloc, frames, here, rest, at, from, places)?;
+            Ok(yes)
+        }
+        LoadedPattern::Like(_, _) => Ok(false),
+    }
+}
+
+// Whether the term has at least as many parts, and each pattern matches its own.
+#[cycle(matching)]
+fn match_first<S: TermSpace>(
+    space: &mut S,
+    alloc: Global,
+    frames: &Frames,
+    here: usize,
+    patterns: &[LoadedPattern<S::Name>],
+    at: &S::Ref,
+    places: &mut Places<S::Ref>,
+) -> Result<bool, AllocError>
+    requires known { AllKnown (S.knows space.old) patterns.now }
+    requires stands { IsTrue (S.stands space.old at.now) }
+    requires places { AllPlaces (λ r. IsTrue (S.stands space.old r)) places.old.slots }
+    ensures keeps { Keeps S.stands S.term_of S.is_valid S.knows S.symbol_of space.old space.new }
+    ensures barrier { IfOk result (λ _. places.new.barrier ≡ places.old.barrier) }
+    ensures enough { IfOk result (λ yes. yes ≡ true → length patterns.now ≤ length (parts_of (S.term_of space.old at.now))) }
+    ensures attempt { IfOk result (λ yes. Goes S.stands S.term_of places.old.barrier (first_attempted (place_at frames.now here) places.old.barrier (map (loaded_of (S.symbol_of space.old)) patterns.now) (parts_of (S.term_of space.old at.now))) (attempt yes) space.old places.old.slots places.old.trail space.new places.new.slots places.new.trail) }
+{
+    let count = space.count(at);
+    for (i, pattern) in patterns.iter().enumerate() {
+        if i >= count {
+            return Ok(false);
+        }
+        let part = space.part(at, i)?;
+        if !match_pattern(space, alloc, frames, here, pattern, &part, places)? {
+            return Ok(false);
+        }
+    }
+    Ok(true)
+}
+
+// Whether the pattern matches the rest of the list; with no pattern, whether there is none.
+#[cycle(matching)]
+fn match_rest<S: TermSpace>(
+    space: &mut S,
+    alloc: Global,
+    frames: &Frames,
+    here: usize,
+    rest: &Option<Box<LoadedPattern<S::Name>>>,
+    at: &S::Ref,
+    from: usize,
+    places: &mut Places<S::Ref>,
+) -> Result<bool, AllocError>
+    requires known { RestKnown (S.knows space.old) rest.now }
+    requires stands { IsTrue (S.stands space.old at.now) }
+    requires list { head_of (S.term_of space.old at.now) ≡ heads.List }
+    requires from { from ≤ length (parts_of (S.term_of space.old at.now)) }
+    requires places { AllPlaces (λ r. IsTrue (S.stands space.old r)) places.old.slots }
+    ensures keeps { Keeps S.stands S.term_of S.is_valid S.knows S.symbol_of space.old space.new }
+    ensures barrier { IfOk result (λ _. places.new.barrier ≡ places.old.barrier) }
+    ensures attempt { IfOk result (λ yes. Goes S.stands S.term_of places.old.barrier (rest_attempted (place_at frames.now here) places.old.barrier (rest_loaded_of (S.symbol_of space.old) rest.now) (drop from (parts_of (S.term_of space.old at.now)))) (attempt yes) space.old places.old.slots places.old.trail space.new places.new.slots places.new.trail) }
+{
+    match rest {
+        None => Ok(from == space.count(at)),
+        Some(pattern) => {
+            let others = space.rest(alloc, at, from)?;
+            let yes = match_pattern(space, alloc, frames, here, pattern, &others, places)?;
+            Ok(yes)
+        }
+    }
+}
+
+// Gives the variable the term; where it has one, whether they are the same.
+fn bind_variable<S: TermSpace>(
+    space: &S,
+    frames: &Frames,
+    here: usize,
+    variable: Coordinate,
+    at: &S::Ref,
+    places: &mut Places<S::Ref>,
+) -> Result<bool, AllocError>
+    requires stands { IsTrue (S.stands space.now at.now) }
+    requires places { AllPlaces (λ r. IsTrue (S.stands space.now r)) places.old.slots }
+    ensures barrier { IfOk result (λ _. places.new.barrier ≡ places.old.barrier) }
+    ensures attempt { IfOk result (λ yes. Goes S.stands S.term_of places.old.barrier (bind places.old.barrier (place_at frames.now here variable) (S.term_of space.now at.now)) (attempt yes) space.now places.old.slots places.old.trail space.now places.new.slots places.new.trail) }
+{
+    let Some(place) = frames.place_of(here, variable, places.len()) else {
+        return Ok(false);
+    };
+    match places.slot(place) {
+        None => return Ok(false),
+        Some(Some(held)) => return Ok(space.same(held, at)),
+        Some(None) => {}
+    }
+    let reference = space.dup(at)?;
+    places.give(place, reference)?;
+    Ok(true)
+}
+
+/// Whether the term is the integer, whatever its annotations.
+pub(crate) fn is_integer<S: TermSpace>(space: &S, at: &S::Ref, value: &i32) -> bool
+    requires { IsTrue (S.stands space.now at.now) }
+    ensures { result ≡ same_head (head_of (S.term_of space.now at.now)) (heads.Int value.now) }
+{
+    match space.int_of(at) {
+        Some(other) => other == *value,
+        None => false,
+    }
+}
+
+fn is_application<S: TermSpace>(space: &S, at: &S::Ref, name: &S::Name) -> bool
+    requires stands { IsTrue (S.stands space.now at.now) }
+    requires known { IsTrue (S.knows space.now name.now) }
+    ensures { result ≡ same_head (head_of (S.term_of space.now at.now)) (heads.App (S.symbol_of space.now name.now)) }
+{
+    space.is_app(at, name, space.count(at))
+}
+
+fn is_list<S: TermSpace>(space: &S, at: &S::Ref) -> bool
+    requires { IsTrue (S.stands space.now at.now) }
+    ensures { result ≡ same_head (head_of (S.term_of space.now at.now)) heads.List }
+{
+    space.list_len(at).is_some()
+}

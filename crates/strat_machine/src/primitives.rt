@@ -1,0 +1,126 @@
+// Primitives, applied to the instances of patterns.
+ghost use Rattle.std.specs.Prelude.{◌≡◌, ◌<◌, ℕ, List, IfOk, IfSome, IsTrue, length, map, suc};
+ghost use Rattle.std.specs.Option.{option_and_then, option_map};
+ghost use Rattle.term_model.specs.Flat.{all_flat};
+ghost use Rattle.term_model.specs.Flat as flat;
+ghost use Rattle.term_model.specs.Term.{trees_of};
+ghost use Rattle.term_model.specs.Space.{Keeps};
+ghost use Rattle.prim_registry.specs.Entries.{IsHonest, entries_of, entry_at};
+ghost use Rattle.prim_registry.specs.Registered.{meaning_of};
+ghost use Rattle.prim_registry.specs.Values.{answer_of};
+ghost use Rattle.strat_code.specs.Code.{apply_primitive};
+ghost use Rattle.strat_machine.specs.Builds.{Builds};
+ghost use Rattle.strat_machine.specs.References.{AllRefs};
+ghost use Rattle.strat_machine.specs.Loaded.{AllKnown, all_loaded_of};
+ghost use Rattle.strat_machine.specs.Operands.{IsPosition};
+ghost use Rattle.strat_machine.specs.SpaceOf.{space_of};
+ghost use Rattle.strat_machine.specs.RecordStack.{records_of};
+ghost use Rattle.strat_machine.specs.Stacks.{Performs, IsSafe, phase_with};
+
+use crate::building::{Built, Pushed, build_all, outcome};
+use crate::flat_values::{flat_values, make_flat};
+use crate::loaded::LoadedPattern;
+use crate::stacks::{Phase, Stacks, Stop};
+use prim_registry::{Flat, PrimMeaning, Registry};
+use std::alloc::{AllocError, Global};
+use term_model::TermSpace;
+
+/// Replaces the term with what the primitive at a position of the registry returns to the instances of the patterns; fails
+/// where there is no such primitive.
+pub(crate) fn perform_primitive<S: TermSpace, M: PrimMeaning>(
+    space: &mut S,
+    alloc: Global,
+    stacks: &Stacks<S::Ref, S::Mark>,
+    registry: &Registry<M>,
+    position: Option<usize>,
+    patterns: &[LoadedPattern<S::Name>],
+    next: usize,
+    frame: usize,
+    term: S::Ref,
+    stack: &mut Vec<S::Ref>,
+) -> Result<Phase<S::Ref>, AllocError>
+    requires honest { IsHonest M.answer registry.now }
+    requires position { IfSome position (λ k. (k < length (entries_of registry.now)) × ((entry_at registry.now k).1 ≡ length patterns.now)) }
+    requires known { AllKnown (S.knows space.old) patterns.now }
+    requires safe { IsSafe (space_of S.stands S.term_of S.is_valid S.covers S.covers_mark) space.old stacks.now (records_of stacks.now.records) }
+    ensures keeps { Keeps S.stands S.term_of S.is_valid S.knows S.symbol_of space.old space.new }
+    ensures stack { IfOk result (λ _. stack.new.items ≡ stack.old.items) }
+    ensures step { IfOk result (λ phase. (f : List ℕ) (n i : ℕ) → IsPosition (entries_of registry.now) position (f, length patterns.now) → next ≡ suc i → Performs (space_of S.stands S.term_of S.is_valid S.covers S.covers_mark) (meaning_of M.answer registry.now) (apply_primitive n f (all_loaded_of (S.symbol_of space.old) patterns.now)) i frame term space.old stacks.now space.new phase stacks.now) }
+{
+    drop(term);
+    let from = stack.len();
+    let slots = stacks.places.slots();
+    let made = build_all(space, alloc, &stacks.frames, frame, slots, patterns, stack)?;
+    match made {
+        Pushed::NoInstance => Ok(Phase::Failing),
+        Pushed::Oversize => Ok(Phase::Stopped(Stop::Oversize)),
+        Pushed::All => {
+            let answered = answer(space, alloc, registry, position, &stack[from..])?;
+            stack.truncate(from);
+            Ok(goes_on(answered, next, frame))
+        }
+    }
+}
+
+// How a run goes on with what was built.
+fn goes_on<R: Drop>(built: Built<R>, next: usize, frame: usize) -> Phase<R>
+    ensures { result ≡ phase_with next frame built }
+{
+    match built {
+        Built::Made(made) => Phase::Running {
+            address: next,
+            frame,
+            term: made,
+        },
+        Built::NoInstance => Phase::Failing,
+        Built::Oversize => Phase::Stopped(Stop::Oversize),
+    }
+}
+
+// Makes the term of what the primitive at the position returns to the terms; none where one of them is no flat value, or
+// where it returns nothing.
+fn answer<S: TermSpace, M: PrimMeaning>(
+    space: &mut S,
+    alloc: Global,
+    registry: &Registry<M>,
+    position: Option<usize>,
+    terms: &[S::Ref],
+) -> Result<Built<S::Ref>, AllocError>
+    requires honest { IsHonest M.answer registry.now }
+    requires position { IfSome position (λ k. (k < length (entries_of registry.now)) × ((entry_at registry.now k).1 ≡ length terms.now)) }
+    requires standing { AllRefs (λ r. IsTrue (S.stands space.old r)) terms.now }
+    ensures keeps { Keeps S.stands S.term_of S.is_valid S.knows S.symbol_of space.old space.new }
+    ensures answer { IfOk result (λ made. (f : List ℕ) → IsPosition (entries_of registry.now) position (f, length terms.now) → Builds S.stands S.term_of space.new (option_map flat.term_of (option_and_then (meaning_of M.answer registry.now f) (all_flat (trees_of (map (S.term_of space.old) terms.now))))) made) }
+{
+    let Some(index) = position else {
+        return Ok(Built::NoInstance);
+    };
+    let Some(value) = call(space, alloc, registry, index, terms)? else {
+        return Ok(Built::NoInstance);
+    };
+    let made = make_flat(space, alloc, &value)?;
+    Ok(outcome(made))
+}
+
+// Calls the primitive at a place of the registry with the flat values that the terms are, if each is one.
+fn call<S: TermSpace, M: PrimMeaning>(
+    space: &S,
+    alloc: Global,
+    registry: &Registry<M>,
+    index: usize,
+    terms: &[S::Ref],
+) -> Result<Option<Flat>, AllocError>
+    requires honest { IsHonest M.answer registry.now }
+    requires within { index < length (entries_of registry.now) }
+    requires arity { (entry_at registry.now index).1 ≡ length terms.now }
+    requires standing { AllRefs (λ r. IsTrue (S.stands space.now r)) terms.now }
+    ensures { IfOk result (λ answer. answer_of answer ≡ option_and_then (M.answer (entry_at registry.now index).0) (all_flat (trees_of (map (S.term_of space.now) terms.now)))) }
+{
+    let Some(values) = flat_values(space, alloc, terms)? else {
+        return Ok(None);
+    };
+    match registry.call_at(index, &values) {
+        Ok(answer) => Ok(answer),
+        Err(_) => Err(AllocError),
+    }
+}

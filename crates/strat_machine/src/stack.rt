@@ -1,0 +1,113 @@
+// A stack, whose newest item is the first.
+ghost use Rattle.std.specs.Prelude.{◌≡◌, ℕ, ◌-◌, min, IsTrue, MatchOption, IfOk, OnOk, OnErr, [], ◌∷◌, ◌++◌, length, reverse, take, drop};
+ghost use Rattle.strat_machine.specs.PartsOf.{PutsParts};
+
+use std::alloc::{AllocError, Global};
+use std::marker::Model;
+use term_model::TermSpace;
+
+/// Items, of which the newest is seen first.
+#[derive(Drop)]
+pub(crate) struct Stack<T: Drop> {
+    items: Vec<T>,
+}
+
+impl<T: Drop> Model for Stack<T> {
+    ghost use Rattle.std.specs.Prelude.{List, reverse};
+
+    ghost Value = { List T };
+
+    ghost view = { λ a. reverse a.items.items };
+}
+
+impl<T: Drop> Stack<T> {
+    /// An empty stack.
+    pub(crate) fn new(alloc: Global) -> Stack<T>
+        ensures { result ≡ [] }
+    {
+        Stack {
+            items: Vec::new(alloc),
+        }
+    }
+
+    /// Takes off all items.
+    pub(crate) fn clear(&mut self)
+        ensures { self.new ≡ [] }
+    {
+        self.items.clear();
+    }
+
+    /// The number of items.
+    pub(crate) fn len(&self) -> usize
+        ensures { result ≡ length self.now }
+    {
+        self.items.len()
+    }
+
+    /// Puts an item on.
+    pub(crate) fn push(&mut self, item: T) -> Result<(), AllocError>
+        ensures pushed { OnOk result (self.new ≡ item ∷ self.old) }
+        ensures err { OnErr result (self.new ≡ self.old) }
+    {
+        self.items.push(item)?;
+        Ok(())
+    }
+
+    /// Takes the newest item off.
+    pub(crate) fn pop(&mut self) -> Option<T>
+        ensures { MatchOption result ((self.old ≡ []) × (self.new ≡ [])) (λ item. self.old ≡ item ∷ self.new) }
+    {
+        self.items.pop()
+    }
+
+    /// Takes off so many items.
+    pub(crate) fn cut(&mut self, count: usize)
+        ensures { self.new ≡ drop count self.old }
+    {
+        let kept = self.items.len().saturating_sub(count);
+        self.items.truncate(kept);
+    }
+
+    /// The newest so many items, the oldest of them first.
+    pub(crate) fn newest(&self, count: usize) -> &[T]
+        ensures { result.now ≡ reverse (take count self.now) }
+    {
+        let from = self.items.len().saturating_sub(count);
+        &self.items[from..]
+    }
+
+    /// Puts so many items on another stack, the newest first, and tells how many there were.
+    pub(crate) fn move_to(
+        &mut self,
+        other: &mut Stack<T>,
+        count: usize,
+    ) -> Result<usize, AllocError>
+        ensures moved { OnOk result (other.new ≡ reverse (take count self.old) ++ other.old) }
+        ensures cut { OnOk result (self.new ≡ drop count self.old) }
+        ensures count { IfOk result (λ n. n ≡ min count (length self.old)) }
+    {
+        let moved = count.min(self.len());
+        for _ in 0..moved {
+            let Some(item) = self.pop() else {
+                return Ok(moved);
+            };
+            other.push(item)?;
+        }
+        Ok(moved)
+    }
+}
+
+/// Puts the parts of a term on a stack, the first one first, and tells how many there are.
+pub(crate) fn push_parts_of<S: TermSpace>(
+    space: &S,
+    stack: &mut Stack<S::Ref>,
+    of: &S::Ref,
+) -> Result<usize, AllocError>
+    requires { IsTrue (S.stands space.now of.now) }
+    ensures { IfOk result (λ n. PutsParts S.stands S.term_of space.now of.now n stack.old stack.new) }
+{
+    let before = stack.items.len();
+    space.push_parts(of, &mut stack.items)?;
+    let count = stack.items.len().saturating_sub(before);
+    Ok(count)
+}

@@ -1,0 +1,81 @@
+// The machine's memory while it runs.
+ghost use Rattle.std.specs.Prelude.{◌≡◌, length};
+ghost use Rattle.strat_machine.specs.RecordStack.{saved_of};
+ghost use Rattle.strat_machine.specs.Running.{IsClear};
+ghost use Rattle.strat_machine.specs.State as state;
+
+use crate::frames::Frames;
+use crate::places::Places;
+use crate::records::{Records, Saved};
+use std::alloc::Global;
+
+/// The stacks, and the nodes that are left of the budget.
+#[derive(Drop)]
+pub(crate) struct Stacks<R: Drop, M: Drop> {
+    pub(crate) frames: Frames,
+    pub(crate) places: Places<R>,
+    pub(crate) records: Records<R, M>,
+    pub(crate) left: usize,
+}
+
+/// Why a run ends without a term.
+#[derive(Clone, Copy, Debug, PartialEq, Eq)]
+pub(crate) enum Stop {
+    Failed,
+    Oversize,
+    Spent,
+    /// What code of no program comes to.
+    Stuck,
+}
+
+/// What the machine does next.
+#[derive(Drop)]
+pub(crate) enum Phase<R: Drop> {
+    /// It performs the instruction at the address, in the frame, on the term.
+    Running {
+        address: usize,
+        frame: usize,
+        term: R,
+    },
+    /// It deals with a failure.
+    Failing,
+    /// The run has ended with this term.
+    Rewritten(R),
+    /// The run has ended without a term.
+    Stopped(Stop),
+}
+
+impl<R: Drop, M: Drop> Stacks<R, M> {
+    /// Stacks without anything on them.
+    pub(crate) fn new(alloc: Global) -> Stacks<R, M>
+        ensures { IsClear result }
+    {
+        Stacks {
+            frames: Frames::new(alloc),
+            places: Places::new(alloc),
+            records: Records::new(alloc),
+            left: 0,
+        }
+    }
+
+    /// Takes everything off; the memory is kept.
+    pub(crate) fn clear(&mut self)
+        ensures { IsClear self.new }
+    {
+        self.frames.clear();
+        self.places.clear();
+        self.records.clear();
+    }
+
+    /// What a failure restores, with this frame.
+    pub(crate) fn saved(&self, frame: usize) -> Saved
+        ensures { saved_of result ≡ state.saved frame (length self.now.frames) (length self.now.places.trail) self.now.places.barrier }
+    {
+        Saved {
+            frame,
+            frames: self.frames.len(),
+            height: self.places.height(),
+            barrier: self.places.barrier(),
+        }
+    }
+}
