@@ -1,4 +1,4 @@
--- What the call of main says, and what a run answers.
+-- What the call of main says, and what a run returns.
 use Rattle.std.proofs.Common.{◌≡◌, ℕ, ◌+◌, ◌-◌, List, [], refl, arith, subst}
 use Rattle.term_model.specs.Flat.{Meaning}
 use Rattle.term_model.specs.Term.{Tree}

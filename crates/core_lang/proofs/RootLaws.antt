@@ -52,7 +52,7 @@ module _ {X : Type 0} (place : X → Option ℕ) where
   pub other_root : (p : Pattern X) (t : Tree) (e f : Bindings) → has_root (root_of p) t ≡ false → Matches place p e t f → ⊥
   other_root p t e f h = tried_none place (root_none p t e h) f
 
--- it fails with so many nodes, or the budget is spent
+-- it fails with n nodes, or the budget is spent
 abbrev pub FailsBy : ℕ → ℕ → Verdict Tree → ℕ → Type 0
 FailsBy n b q c = ((q ≡ ends failed) × (b ≡ n + c)) ⊎ ((q ≡ spent) × (b < n))
 

@@ -6,15 +6,15 @@ use Rattle.term_model.specs.Term.{Tree, node, Trees, end, more}
 use Rattle.term_model.specs.Same.{same_head}
 use Rattle.core_lang.specs.Program.{Pattern, anything, variable, alias, integer, applied, list, like, Patterns, no_patterns, more_patterns, Elements, no_elements, the_rest, more_elements, Strategy, match, seq, scope}
 
--- what is asked of a root: nothing, an integer, a symbol with so many parts, a list of so many elements or, where it is
--- open, of at least so many
+-- what is asked of a root: nothing, an integer, a symbol with n parts, a list of n elements or, where it is
+-- open, of at least n
 pub data Root : Type 0 where
   any_root : Root
   integer_root : ℤ → Root
   symbol_root : Symbol → (parts : ℕ) → Root
   list_root : (elements : ℕ) → (open_list : Bool) → Root
 
--- there are so many terms or, where it is open, at least so many
+-- there are n terms or, where it is open, at least n
 abbrev pub are_many : ℕ → (open_list : Bool) → Trees → Bool
 are_many zero false end = true
 are_many zero false (more t ts) = false
@@ -56,7 +56,7 @@ module _ {X : Type 0} where
   root_of (like p x) = any_root
 
 -- the strategy begins with a match whose pattern asks for this root, alone, in scopes, and in sequences however they are
--- nested; where a term has another root, its derivation has so many nodes
+-- nested; where a term has another root, its derivation has n nodes
 pub data Begins {X B : Type 0} : Strategy X B → Root → (nodes : ℕ) → Type 0 where
   begins_match : {p : Pattern X} → Begins (match p) (root_of p) 1
   begins_seq : {s1 s2 : Strategy X B} {r : Root} {n : ℕ} → Begins s1 r n → Begins (seq s1 s2) r (suc n)

@@ -1,4 +1,4 @@
--- What a run of a program within a budget answers.
+-- What a run of a program within a budget returns.
 use Rattle.std.specs.Prelude.{◌≡◌, ℕ, ◌≤◌, ◌<◌, List}
 use Rattle.term_model.specs.Flat.{Meaning}
 use Rattle.term_model.specs.Term.{Tree}

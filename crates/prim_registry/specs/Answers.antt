@@ -7,7 +7,7 @@ use Rattle.term_model.specs.Flat.{FlatValue}
 use Rattle.prim_registry.specs.declared.flat.Flat.{Flat}
 use Rattle.prim_registry.specs.Values.{answer_of, values_of}
 
--- whenever a call on so many values returns `Ok`, that is what is stated of them; `Gives` is what a call may return
+-- whenever a call on this number of values returns `Ok`, that is what is stated of them; `Gives` is what a call may return
 abbrev pub AnswersBy : (Bor (List Flat) → Result (Option Flat) AllocError → Type 0) → ℕ → (List FlatValue → Option FlatValue) → Type 0
 AnswersBy Gives arity answer =
     (args : Bor (List Flat)) (r : Result (Option Flat) AllocError) → length args.now ≡ arity → Gives args r → ForOk r (λ o. answer_of o ≡ answer (values_of args.now))

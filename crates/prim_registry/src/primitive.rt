@@ -17,7 +17,7 @@ pub trait PrimMeaning {
 /// The function of a primitive: it returns a flat value or none, and `AllocError` where a growth of memory is refused.
 pub type Action = Box<dyn Fn(&[Flat]) -> Result<Option<Flat>, AllocError>>;
 
-/// A named function on so many flat values, which returns what the meaning `M` has for the name.
+/// A named function on a number of flat values, which returns what the meaning `M` has for the name.
 #[derive(Drop)]
 pub struct Primitive<M> {
     name: Bytes,
@@ -30,7 +30,7 @@ pub struct Primitive<M> {
 impl<M: PrimMeaning> Primitive<M> {
     ghost use Rattle.prim_registry.specs.Entries.{arity_of, name_of, AnswersAs};
 
-    /// Returns the primitive of this name with so many arguments. The function may be called on any so many flat values, and
+    /// Returns the primitive of this name with `arity` arguments. The function may be called on any flat values of that number, and
     /// whenever it returns `Ok`, that is what the meaning has for the name.
     pub fn new(name: Vec<u8>, arity: usize, action: Action) -> Primitive<M>
         requires may_run { (args : _) → length args.now ≡ arity → Action.pre action args }

@@ -42,7 +42,7 @@ fn built<S: TermSpace>(
     Ok(Some(noted))
 }
 
-// Takes a term apart and makes it again, and a list from this place on; tells whether all is as it was.
+// Takes a term apart and makes it again, and a list from this place on; returns whether all is as it was.
 fn takes_apart<S: TermSpace>(
     alloc: Global,
     space: &mut S,

@@ -1,4 +1,4 @@
--- Declarations are data: the code by which a proof tells them apart.
+-- Declarations are data: the code by which a proof distinguishes them.
 use Rattle.std.specs.Prelude.{◌≡◌, ℕ, List}
 use Rattle.std.specs.Coded.{Coded, code_by, coded×, coded_ℕ, coded_list}
 use Rattle.std.proofs.Common.{refl}

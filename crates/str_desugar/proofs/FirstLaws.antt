@@ -19,7 +19,7 @@ others_than h ks = filter (λ k. not (same_definition h k)) ks
 pub turned : (h k : Head) (b : Bool) → same_definition h k ≡ b → same_definition k h ≡ b
 turned h k b e = laws.symm k h ∙ e
 
--- heads of one definition are told apart from no other
+-- heads of one definition are distinguished from no other
 pub alike : (h k l : Head) → same_definition h k ≡ true → same_definition h l ≡ same_definition k l
 alike h k l e = laws.congr h k l e
 

@@ -67,7 +67,7 @@ pub more_tuple : (done grown : Vec Pattern Global) (part : Pattern) → grown.it
     patterns_in_parentheses (patterns_with done (pattern_of part) no_patterns) ≡ tuple (patterns_of grown.items)
 more_tuple done grown part e h = after_some done.items (pattern_of part) h ∙ ap tuple (sym (pushed_last done grown part e))
 
--- ---- what a test of an empty list tells
+-- ---- what a test of an empty list says
 
 pub zero_told : (n : ℕ) (b : Bool) → b ≡ (n == 0) → b ≡ true → n ≡ 0
 zero_told n b e f = (unsigned_Decides n 0).0 (sym e ∙ f)

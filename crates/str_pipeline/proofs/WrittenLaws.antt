@@ -88,7 +88,7 @@ pub refusal_has_begun : (old new : Option (List ℕ)) (fault : Fault) (d t : Lis
 refusal_has_begun old new fault d t S gained refusal result =
     record { status = Refused fault; line = refusal_line fault; gained = gained; is_written = (first_fault d t S fault refusal result, refl) }
 
--- what is known of the bytes that were read holds of the bytes that the readers told
+-- what is known of the bytes that were read holds of the bytes that the readers show
 pub of_told : (defs term : Option (List ℕ)) (d t : List ℕ) (X : List ℕ → List ℕ → Type 0) → IfSome defs (λ told. d ≡ told) → IfSome term (λ told. t ≡ told)
     → X d t → IfSome defs (λ d. IfSome term (λ t. X d t))
 of_told None term d t X same_defs same_term known = tt

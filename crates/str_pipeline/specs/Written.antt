@@ -51,7 +51,7 @@ abbrev pub AreAlike : Status → Status → Type 0
 AreAlike (Refused fault) (Refused other) = number_of fault ≡ number_of other
 AreAlike status other = status ≡ other
 
--- a writer that tells its bytes has gained the line
+-- a writer that shows its bytes has gained the line
 pub record HasWritten (defs term : List ℕ) (S : Setting) (status : Status) (old new : Option (List ℕ)) : Type 0 where
   pub line : List ℕ
   pub gained : Gains old new line

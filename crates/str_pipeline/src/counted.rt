@@ -7,7 +7,7 @@ use crate::source::Source;
 use crate::tally::Count;
 use std::io::{Read, Write};
 
-/// A reader or a writer of std. It tells the bytes that the device tells: those of a slice or a vector, and none of a file,
+/// A reader or a writer of std. It shows the bytes that the device shows: those of a slice or a vector, and none of a file,
 /// a terminal or a standard stream. Any error is a failed call.
 #[derive(Drop)]
 pub struct Counted<D> {

@@ -6,7 +6,7 @@ use term_model::Fault;
 
 /// A writer. A call that returns `None` failed.
 pub trait Sink {
-    /// The bytes written so far, where the device tells them.
+    /// The bytes written so far, where the device shows them.
     ghost written: { Self → Option (List ℕ) };
 
     /// How many writes it has had.

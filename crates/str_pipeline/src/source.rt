@@ -8,7 +8,7 @@ use term_model::Fault;
 
 /// A reader. A call that returns `None` failed.
 pub trait Source {
-    /// The bytes still to come, where the device tells them.
+    /// The bytes still to come, where the device shows them.
     ghost coming: { Self → Option (List ℕ) };
 
     /// How many reads it has had.

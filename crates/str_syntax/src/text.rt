@@ -100,7 +100,7 @@ impl Name {
         self.text.bytes()
     }
 
-    /// Returns the byte of the file at which the name stands. No contract speaks of it: it tells where a fault is.
+    /// Returns the byte of the file at which the name stands. No contract speaks of it: it says where a fault is.
     pub fn offset(&self) -> u64 {
         self.offset
     }

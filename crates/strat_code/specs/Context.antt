@@ -22,7 +22,7 @@ layers_of (framed m k C) = layer_of m k (layers_of C)
 layers_of (within k i C) = layer_of 0 k (layers_of C)
 layers_of (defining ds es C) = layer_of_definitions ds (layers_of C)
 
--- the context without its innermost layers, so many
+-- the context without its innermost n layers
 abbrev pub outer : Context → ℕ → Context
 outer C zero = C
 outer top (suc i) = top
@@ -30,7 +30,7 @@ outer (framed m k C) (suc i) = outer C i
 outer (within n k C) (suc i) = outer C i
 outer (defining ds es C) (suc i) = outer C i
 
--- how many of the innermost layers, so many, have frames
+-- how many of the innermost n layers have frames
 abbrev pub frames_in : Context → ℕ → ℕ
 frames_in C zero = 0
 frames_in top (suc i) = 0

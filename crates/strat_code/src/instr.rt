@@ -24,9 +24,9 @@ pub enum Traversal {
 pub enum Root {
     Any,
     Integer(i32),
-    /// A symbol with so many parts.
+    /// A symbol with this number of parts.
     Symbol(Sym, usize),
-    /// A list of so many elements or, where it is open, of at least so many.
+    /// A list of this number of elements or, where it is open, of at least this number.
     List(usize, bool),
 }
 
@@ -67,14 +67,14 @@ pub enum Instr {
         nodes: usize,
         pattern: CorePattern,
     },
-    /// A new frame with so many places.
+    /// A new frame with this number of places.
     Enter {
         nodes: usize,
         places: usize,
     },
     /// The end of that frame.
     Leave,
-    /// So many places more in the innermost frame.
+    /// This number of places more in the innermost frame.
     Extend {
         nodes: usize,
         places: usize,
@@ -110,8 +110,8 @@ pub enum Instr {
     },
     /// The end of the code for a part.
     PartDone,
-    /// Calls the definition whose code is at `entry` and whose layer is that of the frame so many frames up; its frame
-    /// has room for so many further places.
+    /// Calls the definition whose code is at `entry` and whose layer is that of the frame `frames` frames up; its frame
+    /// has `room` further places.
     CallDefinition {
         nodes: usize,
         frames: usize,

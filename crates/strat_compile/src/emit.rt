@@ -20,7 +20,7 @@ use core_lang::{Coordinate, CoreArm, CoreDef, CorePattern, CoreStrategy};
 use std::alloc::{AllocError, Global};
 use strat_code::{Argument, Instr, Traversal};
 
-/// Emits the code for a strategy in these layers. `is_last` tells that the places of the innermost frame are the last ones
+/// Emits the code for a strategy in these layers. `is_last` says that the places of the innermost frame are the last ones
 /// that there are, so that the frame can be given more; the first instruction is charged `charged` further nodes.
 #[cycle(emission)]
 pub(crate) fn emit(

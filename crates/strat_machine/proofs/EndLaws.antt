@@ -38,7 +38,7 @@ going_on going no_step = absurd going
 going_on going (more_steps g h x) = omega arith
 
 module _ {code : Code} {M : Meaning} (P : ResolvedDefinitions) (i : ℕ) (stands : StandsFor code P i) (t : Tree) (budget : ℕ) where
-  -- so many steps that lead to an end say what the program does
+  -- the steps that lead to an end say what the program does
   pub end_says : {k l : ℕ} {r : Result} → Steps code M k (start t budget) (ended r l) → Says M P i t budget r l k
   end_says {k} {l} {r} x =
       let run = runs code M P i stands t budget in
@@ -48,7 +48,7 @@ module _ {code : Code} {M : Meaning} (P : ResolvedDefinitions) (i : ℕ) (stands
       let same : run.steps ≡ k = omega arith in
       subst (λ v. Says M P i t budget v l k) s.result (subst (λ n. Says M P i t budget run.result n k) s.left (subst (λ n. Says M P i t budget run.result run.left n) same run.says))
 
-  -- after so many steps a run has ended
+  -- after that number of steps a run has ended
   pub ends_in_time : {k : ℕ} {m : State} → Steps code M k (start t budget) m → IsGoing m → k < 10 * budget + 10
   ends_in_time x going =
       let run = runs code M P i stands t budget in

@@ -26,7 +26,7 @@ take_none : {A : Type 0} (n : ℕ) → take {A = A} n [] ≡ []
 take_none zero = refl
 take_none (suc n) = refl
 
--- the next of so many parts is taken
+-- the next of n parts is taken
 pub part_taken : {R : Type 0} (n : ℕ) (old new : List R) (v : Option R) → (n ≡ 0 → ⊥) → MatchOption v ((old ≡ []) × (new ≡ [])) (λ r. old ≡ r ∷ new) →
     MatchOption v ((take n old ≡ []) × (new ≡ old)) (λ r. (take n old ≡ r ∷ take (n - 1) new) × (drop n old ≡ drop (n - 1) new))
 part_taken zero old new v some h = absurd (some refl)

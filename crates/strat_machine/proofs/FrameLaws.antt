@@ -65,7 +65,7 @@ closed_append F p [] vs = refl
 closed_append F p (code.code_at a ∷ us) vs = ap (λ l. (a, p) ∷ l) (closed_append F p us vs)
 closed_append F p (code.parameter_at y ∷ us) vs = ap (λ l. closure_in F p y ∷ l) (closed_append F p us vs)
 
--- the closures of the first so many arguments were put after the old ones
+-- the closures of the first n arguments were put after the old ones
 pub record ArePushed (fs : List Frame) (old : List Closure) (p : ℕ) (args : List Argument) (i : ℕ) (now : List Closure) : Type 0 where
   pub kept : take (length old) now ≡ old
   pub are : map closure_of now ≡ map closure_of old ++ closed (frames_in old fs) p (map argument_of (take i args))
@@ -101,7 +101,7 @@ one_pushed fs old p args i now seen after a c laid h pushed is looked made put =
 
 pub ruleset pushing = (none_pushed, all_pushed)
 
--- the first so many frames, with the closures before those of the next
+-- the first n frames, with the closures before those of the next
 pub cut_laid : (fs gs : List Frame) (cs ds : List Closure) (k : ℕ) (f : Frame) → AreLaid 0 fs (length cs) → k < length fs → f ≡ get_or fs k f → gs ≡ take k fs → ds ≡ take f.first cs → AreLaid 0 gs (length ds)
 cut_laid fs gs cs ds k f laid h is fewer less =
     let before = laid_cut 0 fs k (length cs) f laid h is in

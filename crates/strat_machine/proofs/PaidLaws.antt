@@ -119,7 +119,7 @@ module _ {N : Type 0} {knows : N → Bool} {symbol_of : N → Symbol} {keys : Li
     pub loaded_position : {xs : List (LoadedPattern N)} → xs ≡ ps.items → IsPosition keys at (f.items, length xs)
     loaded_position {xs} same = subst (λ n. IsPosition keys at (f.items, n)) (as_many same) (operands_as (forms.ApplyPrimitive n f qs) (operands.Primitive at ps) is form).0
 
--- the position is one of so many arguments
+-- the position is that of a primitive with this number of arguments
 pub takes_as_many : (keys : List NameKey) (at : Option ℕ) (f : List ℕ) (n : ℕ) → IsPosition keys at (f, n) → IfSome at (λ k. (k < length keys) × ((key_at keys k).1 ≡ n))
 takes_as_many keys None f n h = tt
 takes_as_many keys (Some k) f n h = (h.0, ap (λ key. key.1) h.1)

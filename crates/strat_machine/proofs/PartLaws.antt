@@ -9,7 +9,7 @@ use Rattle.term_model.specs.Flat.{Meaning}
 use Rattle.core_lang.specs.Ending.{ok, oversize, rebuilt}
 use Rattle.strat_code.specs.Code.{Traversal, traverse, part_done, all_parts, one_part, some_parts}
 use Rattle.strat_machine.specs.State as state
-use Rattle.strat_machine.specs.State.{Frame, stuck, ended}
+use Rattle.strat_machine.specs.State.{Frame, stuck}
 use Rattle.strat_machine.specs.Binding.{trimmed}
 use Rattle.strat_machine.specs.Step.{in_order}
 use Rattle.strat_machine.specs.Space.{Space}

@@ -48,7 +48,7 @@ mutual
   closed_grown G no_closed = no_closed
   closed_grown G (more_closed s h r cs) = more_closed s h (represents_grown G r) (closed_grown G cs)
 
--- so many layers up
+-- n layers up
 pub outwards : {code : Code} {F : List Frame} {C : Context} {V : ResolvedEnvironment} {p : ℕ} → Represents code F C V p → (n : ℕ) →
     Represents code F (outer C n) (layers_up V n) (frames_up F p (frames_in C n))
 outwards r zero = r

@@ -52,7 +52,7 @@ runs code M P i stands t budget =
     let going = goes budget (definitions P outermost) (call (here i) no_strategies no_patterns) t [] in
     of_landing stands (simulates code M going.fact false (defining P stands.entries top) 0 0 1 0 [] [] 0 [] budget stands.begins (of_definitions stands.bodies of_top) (λ no. absurd (cc)) (omega arith) (omega arith)) (settled_so going.fact)
 
--- where some steps lead from the beginning, so many less lead to the end
+-- where some steps lead from the beginning, as many less lead to the end
 pub record Ahead (code : Code) (M : Meaning) (k j : ℕ) (m : State) (r : Result) (left : ℕ) : Type 0 where
   pub rest : ℕ
   pub are : k ≡ j + rest

@@ -84,7 +84,7 @@ module _ (code : Code) (M : Meaning) where
     | inr h ↦ absurd (not_ok d (fails_at_root begun_so h x))
   ]
 
-  -- a failure by the root pays for so many nodes
+  -- a failure by the root pays for n nodes
   pub pays : {n b : ℕ} (c : ℕ) → FailsBy n b (ends (stop failure)) c → b ≡ n + c
   pays c (inl h) = h.1
   pays c (inr h) = absurd (let k = h.0 in cc)

@@ -15,7 +15,7 @@ pub record Goes {W R : Type 0} (stands : W → R → Bool) (term_of : W → R �
   pub standing : AllPlaces (λ r. IsTrue (stands w1 r)) f
   pub comes_to : whole (map (option_map (term_of w)) e) T ≡ rest (map (option_map (term_of w1)) f) U
 
--- several patterns with the first so many of several terms
+-- several patterns with the first n of several terms
 abbrev pub first_attempted : {X : Type 0} → (X → Option ℕ) → ℕ → List (Pattern X) → List Tree → Bindings → List ℕ → Attempt
 first_attempted place b [] ts e T = attempt true e T
 first_attempted place b (p ∷ ps) [] e T = attempt false e T

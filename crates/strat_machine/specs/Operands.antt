@@ -38,7 +38,7 @@ abbrev pub CasesKnown : {N : Type 0} → (N → Bool) → List (LoadedCase N) �
 CasesKnown knows [] = Unit {0}
 CasesKnown knows (c ∷ cs) = RootKnown knows c.root × CasesKnown knows cs
 
--- the primitive of this name with so many arguments is at this position, or there is none
+-- the primitive of this name with this number of arguments is at this position, or there is none
 abbrev pub IsPosition : List NameKey → Option ℕ → NameKey → Type 0
 IsPosition keys None key = Contains keys key → ⊥
 IsPosition keys (Some i) key = (i < length keys) × (key_at keys i ≡ key)

@@ -182,7 +182,7 @@ module _ {W R Y : Type 0} (S : Space W R Y) where
         StepRef code M w (ref_failing e F T b (ref_some body after t done u (v ∷ rest) found (saved q k h d) m ∷ K) l) w1 (ref_running body q v (take b (undone (above h T) e)) (take k F) (down_to h T)
         (length (take b (undone (above h T) e))) (ref_some body after t (u ∷ done) v rest found (saved q (length (take k F)) (length (down_to h T)) d) n ∷ K) l)
 
-  -- so many steps
+  -- n steps
   pub data StepsRef (code : Code) (M : Meaning) : ℕ → W → RefState R Y → W → RefState R Y → Type 0 where
     no_step_ref : {w : W} {m : RefState R Y} → StepsRef code M 0 w m w m
     more_steps_ref : {k : ℕ} {w w1 w2 : W} {m m1 m2 : RefState R Y} → StepRef code M w m w1 m1 → StepsRef code M k w1 m1 w2 m2 →

@@ -52,7 +52,7 @@ rules_of outcomes.Failed b l = b - l
 rules_of outcomes.Oversize b l = b - l
 rules_of outcomes.Spent b l = b
 
--- so many steps have led from the start of a run to this phase, and names are known as at the start
+-- n steps have led from the start of a run to this phase, and names are known as at the start
 pub record UnderWay {W R Y N : Type 0} (S : Space W R Y) (knows : W → N → Bool) (symbol_of : W → N → Symbol) (code : Code) (M : Meaning) (w : W) (t : R) (budget k : ℕ) (w1 : W) (phase : Phase R) (m1 : Stacks R Y) : Type 0 where
   pub steps : StepsRef S code M k w (start_ref t budget) w1 (state_of phase m1)
   pub names : KeepsNames knows symbol_of w w1

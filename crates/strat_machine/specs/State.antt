@@ -47,7 +47,7 @@ pub data State : Type 0 where
   failing : Bindings → List Frame → (trail : List ℕ) → (barrier : ℕ) → List Record → (left : ℕ) → State
   ended : Result → (left : ℕ) → State
 
--- the frame so many frames up
+-- the frame n frames up
 abbrev pub around : Option Frame → ℕ → ℕ
 around None p = p
 around (Some (frame base up cs)) p = up

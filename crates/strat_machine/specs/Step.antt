@@ -163,7 +163,7 @@ IsGoing (running i p t e F T b K l) = Unit {0}
 IsGoing (failing e F T b K l) = Unit {0}
 IsGoing (ended r l) = ⊥
 
--- so many steps lead from one state to another
+-- n steps lead from one state to another
 pub data Steps (code : Code) (M : Meaning) : ℕ → State → State → Type 0 where
   no_step : {m : State} → Steps code M 0 m m
   more_steps : {k : ℕ} {m m1 m2 : State} → IsGoing m → next code M m ≡ m1 → Steps code M k m1 m2 → Steps code M (suc k) m m2

@@ -456,7 +456,7 @@ fn push_all<S: TermSpace>(
     Ok(Pushed::All)
 }
 
-/// Puts what was built on the stack, and tells whether it fits; nothing where it is none.
+/// Puts what was built on the stack, and returns whether it fits; nothing where it is none.
 fn keep<R: Drop>(stack: &mut Vec<R>, built: Built<R>) -> Result<Option<bool>, AllocError>
     ensures { IfOk result (λ kept. IsKept built kept stack.old.items stack.new.items) }
 {

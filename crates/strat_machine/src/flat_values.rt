@@ -56,7 +56,7 @@ fn flat_value<S: TermSpace>(
     }
 }
 
-// Returns the string that the symbol with so many parts is.
+// Returns the string that a symbol with this number of parts is.
 fn text(alloc: Global, symbol: &Sym, count: usize) -> Result<Option<Flat>, AllocError>
     ensures { IfOk result (λ value. (parts : List Tree) → length parts ≡ count → answer_of value ≡ flat_of (term (heads.App symbol.now) parts [])) }
 {

@@ -3,7 +3,7 @@ ghost use Rattle.std.specs.Prelude.{◌≡◌, ◌+◌, ◌<◌, ◌≤◌, ℕ,
 ghost use Rattle.strat_code.specs.CodeOf.{argument_of};
 ghost use Rattle.strat_machine.specs.State as state;
 ghost use Rattle.strat_machine.specs.State.{around, frames_up, place_at, closure_in, closed};
-ghost use Rattle.strat_machine.specs.Frames.{closure_of, frame_in, frames_in, IsBaseOf, AreLaid};
+ghost use Rattle.strat_machine.specs.Frames.{closure_of, frames_in, IsBaseOf, AreLaid};
 
 use core_lang::Coordinate;
 use std::alloc::{AllocError, Global};
@@ -79,14 +79,14 @@ impl Frames {
         Some((frame.base, frame.up))
     }
 
-    /// The frame so many frames up.
+    /// The frame `count` frames up.
     pub(crate) fn frames_up(&self, here: usize, count: usize) -> usize
         ensures { result ≡ frames_up self.now here count }
     {
         up_from(&self.frames[..], &self.closures[..], here, count)
     }
 
-    /// The place of a variable, if it is one of so many places.
+    /// The place of a variable, if it is below `count`.
     pub(crate) fn place_of(&self, here: usize, variable: Coordinate, count: usize) -> Option<usize>
         ensures { MatchOption result ((i : ℕ) → place_at self.now here variable ≡ Some i → count ≤ i) (λ i. (place_at self.now here variable ≡ Some i) × (i < count)) }
     {
@@ -140,7 +140,7 @@ impl Frames {
         Ok(())
     }
 
-    /// Takes off all frames but the first so many.
+    /// Takes off all frames but the first `count`.
     pub(crate) fn cut(&mut self, count: usize)
         ensures { self.new ≡ take count self.old }
     {
@@ -164,7 +164,7 @@ fn around_of(frames: &[Frame], closures: &[Closure], here: usize) -> usize
     }
 }
 
-// The frame so many frames up.
+// The frame `count` frames up.
 #[tactic(auto, using(crate::proofs::FrameLaws::up_one))]
 fn up_from(frames: &[Frame], closures: &[Closure], here: usize, count: usize) -> usize
     ensures { result ≡ frames_up (frames_in closures.now frames.now) here count }

@@ -1,5 +1,5 @@
 // The places of variables, and the trail of those that a failure empties again.
-ghost use Rattle.std.specs.Prelude.{◌≡◌, ◌<◌, ◌-◌, ℕ, List, Option, drop, nat_lt, if◌then◌else◌, Some, None, MatchOption, OnOk, [], ◌∷◌, ◌++◌, length, map, replicate, reverse, take, slice_get};
+ghost use Rattle.std.specs.Prelude.{◌≡◌, ◌<◌, ◌-◌, List, Option, drop, nat_lt, if◌then◌else◌, Some, None, MatchOption, OnOk, [], ◌∷◌, ◌++◌, length, map, replicate, reverse, take, slice_get};
 ghost use Rattle.strat_machine.specs.Binding.{cleared, undone, above, down_to, trimmed, with_term};
 ghost use Rattle.strat_machine.specs.PlaceStack.{PlaceStack};
 
@@ -84,7 +84,7 @@ impl<R: Drop> Places<R> {
         }
     }
 
-    /// Adds so many places with nothing.
+    /// Adds `count` empty places.
     pub(crate) fn extend(&mut self, count: usize) -> Result<(), AllocError>
         ensures { OnOk result (self.new ≡ record self.old { slots = self.old.slots ++ replicate count None }) }
     {
@@ -92,7 +92,7 @@ impl<R: Drop> Places<R> {
         Ok(())
     }
 
-    /// Takes off all places but the first so many.
+    /// Takes off all places but the first `count`.
     pub(crate) fn cut(&mut self, count: usize)
         ensures { self.new ≡ record self.old { slots = take count self.old.slots } }
     {
@@ -154,7 +154,7 @@ impl<R: Drop> Places<R> {
     }
 }
 
-// Adds so many places with nothing.
+// Adds `count` empty places.
 fn push_empty<R: Drop>(slots: &mut Vec<Option<R>>, count: usize) -> Result<(), AllocError>
     ensures { OnOk result (slots.new.items ≡ slots.old.items ++ replicate count None) }
 {

@@ -57,7 +57,7 @@ impl<R: Drop> Traversed<R> {
         }
     }
 
-    /// The traversal with one part more that is done, and so many that were left.
+    /// The traversal with one part more that is done, and `moved` parts that were left.
     pub(crate) fn ended(self, moved: usize) -> Result<Traversed<R>, AllocError>
         ensures { IfOk result (λ v. v ≡ record self { done = suc self.done + moved; left = 0 }) }
     {
@@ -182,7 +182,7 @@ impl<R: Drop, M: Drop> Records<R, M> {
         }
     }
 
-    /// Takes the next of so many parts that are left.
+    /// Takes the next of the parts that are left.
     pub(crate) fn next_part(&mut self, count: usize) -> Option<R>
         ensures kept { self.new ≡ record self.old { left = self.new.left } }
         ensures part { MatchOption result ((take count self.old.left ≡ []) × (self.new.left ≡ self.old.left)) (λ r. (take count self.old.left ≡ r ∷ take (count - 1) self.new.left) × (drop count self.old.left ≡ drop (count - 1) self.new.left)) }

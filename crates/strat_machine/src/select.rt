@@ -121,7 +121,7 @@ fn has_root<S: TermSpace>(space: &S, root: &LoadedRoot<S::Name>, at: &S::Ref) ->
     }
 }
 
-// Whether the term is a list of so many elements or, where the root is open, of at least so many.
+// Whether the term is a list of `count` elements or, where the root is open, of at least `count`.
 fn is_list_of<S: TermSpace>(space: &S, at: &S::Ref, count: usize, is_open: bool) -> bool
     requires { IsTrue (S.stands space.now at.now) }
     ensures { IsTrue result ↔ (roots.has_root (roots.list_root count is_open) (S.term_of space.now at.now) ≡ true) }

@@ -1,5 +1,5 @@
 // A stack, whose newest item is the first.
-ghost use Rattle.std.specs.Prelude.{◌≡◌, ℕ, ◌-◌, min, IsTrue, MatchOption, IfOk, OnOk, OnErr, [], ◌∷◌, ◌++◌, length, reverse, take, drop};
+ghost use Rattle.std.specs.Prelude.{◌≡◌, ◌-◌, min, IsTrue, MatchOption, IfOk, OnOk, OnErr, [], ◌∷◌, ◌++◌, length, reverse, take, drop};
 ghost use Rattle.strat_machine.specs.PartsOf.{PutsParts};
 
 use std::alloc::{AllocError, Global};
@@ -60,7 +60,7 @@ impl<T: Drop> Stack<T> {
         self.items.pop()
     }
 
-    /// Takes off so many items.
+    /// Takes off `count` items.
     pub(crate) fn cut(&mut self, count: usize)
         ensures { self.new ≡ drop count self.old }
     {
@@ -68,7 +68,7 @@ impl<T: Drop> Stack<T> {
         self.items.truncate(kept);
     }
 
-    /// The newest so many items, the oldest of them first.
+    /// The newest `count` items, the oldest of them first.
     pub(crate) fn newest(&self, count: usize) -> &[T]
         ensures { result.now ≡ reverse (take count self.now) }
     {
@@ -76,7 +76,7 @@ impl<T: Drop> Stack<T> {
         &self.items[from..]
     }
 
-    /// Puts so many items on another stack, the newest first, and tells how many there were.
+    /// Puts `count` items on another stack, the newest first, and returns how many there were.
     pub(crate) fn move_to(
         &mut self,
         other: &mut Stack<T>,
@@ -97,7 +97,7 @@ impl<T: Drop> Stack<T> {
     }
 }
 
-/// Puts the parts of a term on a stack, the first one first, and tells how many there are.
+/// Puts the parts of a term on a stack, the first one first, and returns how many there are.
 pub(crate) fn push_parts_of<S: TermSpace>(
     space: &S,
     stack: &mut Stack<S::Ref>,

@@ -1,5 +1,5 @@
 // Steps that change the stacks alone.
-ghost use Rattle.std.specs.Prelude.{◌≡◌, ℕ, suc, IsTrue, OnOk, IfOk};
+ghost use Rattle.std.specs.Prelude.{◌≡◌, ℕ, suc, IsTrue, IfOk};
 ghost use Rattle.term_model.specs.Flat.{Meaning};
 ghost use Rattle.strat_code.specs.Code.{enter, leave, extend, shrink, try, commit, call_closure, end_definition, end_argument};
 ghost use Rattle.strat_machine.specs.SpaceOf.{space_of};
@@ -11,7 +11,7 @@ use core_lang::Coordinate;
 use std::alloc::AllocError;
 use term_model::TermSpace;
 
-/// A new frame with so many places.
+/// A new frame with `places` places.
 pub(crate) fn enter_scope<S: TermSpace>(
     stacks: &mut Stacks<S::Ref, S::Mark>,
     places: usize,
@@ -73,7 +73,7 @@ pub(crate) fn extend_scope<S: TermSpace>(
     })
 }
 
-/// The end of so many places.
+/// The end of `places` places.
 pub(crate) fn shrink_scope<S: TermSpace>(
     stacks: &mut Stacks<S::Ref, S::Mark>,
     places: usize,

@@ -58,7 +58,7 @@ pub(crate) fn traverse_parts<S: TermSpace>(
     }
 }
 
-// Puts the parts of a term where those that are left stand, and tells how many there are.
+// Puts the parts of a term where those that are left stand, and returns how many there are.
 fn open_parts<S: TermSpace>(
     space: &S,
     records: &mut Records<S::Ref, S::Mark>,

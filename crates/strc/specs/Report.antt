@@ -65,7 +65,7 @@ pub record TellsMore (fault : Fault) (before after : ℕ) (old new : Option (Lis
   pub beginning : GainsPrefix old new (diagnostic fault ++ more)
   pub whole : after ≡ before → Gains old new (diagnostic fault ++ more)
 
--- a refusal is told, and nothing else is
+-- a refusal is reported, and nothing else is
 abbrev pub IsReported : Status → ℕ → ℕ → Option (List ℕ) → Option (List ℕ) → Type 0
 IsReported (Refused fault) before after old new = TellsMore fault before after old new
 IsReported status before after old new = new ≡ old

@@ -43,12 +43,12 @@ pub record Pushes {S R : Type 0} (stands : S → R → Bool) (term_of : S → R 
   pub standing : All (λ r. IsTrue (stands space r)) pushed
   pub are : map (term_of space) pushed ≡ terms
 
--- the symbol applied to so many parts
+-- the symbol applied to n parts
 pub record IsApplied (t : Tree) (s : Symbol) (count : ℕ) : Type 0 where
   pub head : head_of t ≡ heads.App s
   pub long : length (parts_of t) ≡ count
 
--- a list of so many elements
+-- a list of n elements
 pub record IsList (t : Tree) (count : ℕ) : Type 0 where
   pub head : head_of t ≡ heads.List
   pub long : length (parts_of t) ≡ count

@@ -225,7 +225,7 @@ fn push_all(stack: &mut Vec<Term>, terms: &[Term]) -> Result<(), AllocError>
     stack.extend_with_clones(terms)
 }
 
-// Where a symbol applied to so many parts stands from another: by the symbols, then by how many parts.
+// Where a symbol applied to a number of parts stands from another: by the symbols, then by how many parts.
 #[tactic(auto, using(crate::proofs::SpaceLemmas::numbers_decide))]
 fn order_of_roots(one: &Sym, parts: usize, other: &Sym, count: usize) -> Ordering
     ensures { (result ≡ Ordering.Equal) ↔ ((one.now ≡ other.now) × (parts ≡ count)) }

@@ -92,14 +92,14 @@ pub trait TermSpace {
         requires { IsTrue (stands self.now at.now) }
         ensures { MatchOption result (head_of (term_of self.now at.now) ≡ heads.List → ⊥) (λ n. IsList (term_of self.now at.now) n) };
 
-    /// Whether the term is the symbol of the name applied to so many parts, whatever its annotations.
+    /// Whether the term is the symbol of the name applied to `count` parts, whatever its annotations.
     fn is_app(&self, at: &Self::Ref, name: &Self::Name, count: usize) -> bool
         requires stands { IsTrue (stands self.now at.now) }
         requires known { IsTrue (knows self.now name.now) }
         ensures { IsTrue result ↔ IsApplied (term_of self.now at.now) (symbol_of self.now name.now) count };
 
-    /// Where the root of the term stands in the space's order of roots, seen from the symbol of the name applied to so
-    /// many parts: `Equal` exactly where it is that root.
+    /// Where the root of the term stands in the space's order of roots, seen from the symbol of the name applied to
+    /// `count` parts: `Equal` exactly where it is that root.
     fn order(&self, at: &Self::Ref, name: &Self::Name, count: usize) -> Ordering
         requires stands { IsTrue (stands self.now at.now) }
         requires known { IsTrue (knows self.now name.now) }
@@ -173,7 +173,7 @@ pub trait TermSpace {
         ensures keeps { Keeps stands term_of is_valid knows symbol_of self.old self.new }
         ensures made { IfOk result (Makes stands term_of self.new (term heads.List (map (term_of self.old) elements.now ++ parts_of (term_of self.old tail.now)) [])) };
 
-    /// The list without so many of its first elements, with no annotations. It fits, as the list does.
+    /// The list without its first `count` elements, with no annotations. It fits, as the list does.
     fn rest(&mut self, alloc: Global, at: &Self::Ref, count: usize) -> Result<Self::Ref, AllocError>
         requires stands { IsTrue (stands self.old at.now) }
         requires list { head_of (term_of self.old at.now) ≡ heads.List }

@@ -120,7 +120,7 @@ fn gives_joined(
     Ok(fits(&status, line) && out.written() == line)
 }
 
-/// Whether definitions and a term give this line, and where a number of rules is told, by no fewer.
+/// Whether definitions and a term give this line, and where a number of rules is stated, by no fewer.
 fn takes(
     alloc: Global,
     defs: &[u8],

@@ -32,7 +32,7 @@ fn prints(
 #[test]
 fn primitives(rt: HostRuntime) -> Result<(), Fail> {
     let alloc = rt.alloc();
-    // the primitive with its arguments, a term that has them, what it answers
+    // the primitive with its arguments, a term that has them, what it returns
     let rows = [
         ("\"add\", x, y", "(2,3)", "5"),
         ("\"sub\", x, y", "(2,3)", "-1"),
@@ -137,7 +137,7 @@ fn library(rt: HostRuntime) -> Result<(), Fail> {
 #[test]
 fn refusals(rt: HostRuntime) -> Result<(), Fail> {
     let alloc = rt.alloc();
-    // the file, what is told of it
+    // the file, what is reported of it
     let rows = [
         (
             "strategies main = prim(\"neg\", 1)",

@@ -87,7 +87,7 @@ fn a_failing_diagnostic_changes_nothing(rt: HostRuntime) -> Result<(), Fail> {
 #[test]
 fn places_of_refusals(rt: HostRuntime) -> Result<(), Fail> {
     let alloc = rt.alloc();
-    // input, what is told of it
+    // input, what is reported of it
     let rows = [
         ("strategies main = id /* id", "strc: Lexical at byte 21\n"),
         (
