@@ -53,7 +53,7 @@ impl Totals {
     }
 }
 
-// What both runs of each case say, or the number of the first case, from 1 on, whose runs differ.
+// What both runs of each case say, or the number of the first case, from 0 on, whose runs differ.
 fn compare_all(
     alloc: Global,
     text: &[u8],
