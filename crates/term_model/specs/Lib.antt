@@ -16,4 +16,5 @@ pub mod PrimNames
 pub mod PrimKey
 pub mod Space
 pub mod Blocks
+pub mod BlockHashing
 pub mod RcSpace

@@ -1,9 +1,16 @@
 //! A term as it is lent: its head, its parts and its annotations.
 ghost use Rattle.std.specs.Prelude.{◌≡◌, ◌≤◌, length};
+ghost use Rattle.std.specs.Hash as fed;
+ghost use Rattle.std.proofs.Common.{rules};
+ghost use Rattle.std.specs.Cmp.Rules.{comparing, hashing};
 ghost use Rattle.term_model.specs.Blocks.{front_list, list_in, lists_of, AreLinked, IsAt, IsNumbered};
 
 use crate::symbol::Sym;
+use std::hash::{Hash, Hasher};
 use std::marker::Model;
+
+// What the first number of a pair is multiplied by.
+const HIGH: u64 = 4_294_967_296;
 
 /// A head, lent: an integer, a symbol, or the head of lists.
 #[derive(Drop)]
@@ -37,6 +44,36 @@ pub struct Block<R> {
     pub front: Front<R>,
     /// The number of the list of the others.
     pub rest: u32,
+}
+
+// Hashes the numbers in pairs, each as one number of 64 bits: all of them, but for a rest of 0 that is in no pair.
+impl Hash for Block<u32> {
+    ghost use Rattle.term_model.specs.BlockHashing.{block_writes};
+
+    ghost hash_input = { block_writes };
+
+    ghost respects_eq = { Prim.search (hashing, rules) };
+
+    fn hash<H: Hasher>(&self, state: &mut H) {
+        match self.front {
+            Front::Zero => {
+                if self.rest != 0 {
+                    state.write_u32(self.rest);
+                }
+            }
+            Front::One(a) => state.write_u64(a as u64 * HIGH + self.rest as u64),
+            Front::Two(a, b) => {
+                state.write_u64(a as u64 * HIGH + b as u64);
+                if self.rest != 0 {
+                    state.write_u32(self.rest);
+                }
+            }
+            Front::Three(a, b, c) => {
+                state.write_u64(a as u64 * HIGH + b as u64);
+                state.write_u64(c as u64 * HIGH + self.rest as u64);
+            }
+        }
+    }
 }
 
 impl<R> Front<R> {

@@ -1,0 +1,159 @@
+-- What a space's words say of a store.
+use Rattle.std.proofs.Common.{◌≡◌, ℕ, zero, suc, ◌<◌, nat_lt, List, [], ◌∷◌, ◌++◌, length, map, get_or, slice_get, drop, refl, sym, ◌∙◌, ap, subst, arith}
+use Rattle.std.specs.Prelude.{Result, Ok, Err, IfOk, Option, Some, None, IsSome, IsTrue}
+use Rattle.std.specs.declared.alloc.AllocError.{AllocError}
+use Rattle.std.specs.Borrow.{Bor}
+use Rattle.std.proofs.lemmas.Bool.{lt-ltb}
+use Rattle.std.proofs.lemmas.List.{map-append}
+use Rattle.std.proofs.lemmas.Option.{get_or_from_slice_get}
+use Rattle.term_model.specs.Blocks.{list_in, IsAt}
+use Rattle.term_model.specs.Space.{Makes, IsApplied, IsList}
+use Rattle.term_model.specs.Limits.{max_weight}
+use Rattle.term_model.specs.Symbol.{Symbol}
+use Rattle.term_model.specs.Term.{Tree, term, head_of, parts_of, annos_of, trees_of, weights, Fits}
+use Rattle.term_model.specs.declared.term.Head.{Head}
+use Rattle.term_model.specs.declared.term.Head.TheVariants as heads
+use Rattle.term_model.specs.declared.made.Made.{Made}
+use Rattle.term_model.specs.declared.made.Made.TheVariants as made
+use Rattle.term_model.specs.declared.parts.Block.{Block}
+use Rattle.term_model.proofs.TermLemmas.{list_of-trees_of}
+use Rattle.term_store.specs.Chains.{IsBlockIn}
+use Rattle.term_store.specs.Store.{head_in}
+use Rattle.term_store.specs.Space.{count, term_of, chain_at, shape_term, Stand, MayStand, IsShapeAt, IsMade, Keeps, KeepsChains}
+use Rattle.term_store.specs.declared.store.StoreSpace.{StoreSpace}
+use Rattle.term_store.specs.declared.stored.StoredHead.TheVariants as stored
+use Rattle.term_store.specs.declared.stored.StoredShape.{StoredShape}
+use Rattle.term_store.proofs.MakingLemmas.{length-places}
+use Rattle.term_store.proofs.PlainLemmas.{map_same}
+
+-- the head, the parts and the annotations of a term, by its shape
+pub head_at : (s : StoreSpace) (at : ℕ) (x : StoredShape) → IsShapeAt s at x → head_of (term_of s at) ≡ head_in s.symbols.keys x.head
+head_at s at x is = ap head_of is.term
+
+pub parts_at : (s : StoreSpace) (at : ℕ) (x : StoredShape) → IsShapeAt s at x → parts_of (term_of s at) ≡ map (term_of s) (list_in s.chains x.parts)
+parts_at s at x is = ap parts_of is.term ∙ list_of-trees_of _
+
+pub annos_at : (s : StoreSpace) (at : ℕ) (x : StoredShape) → IsShapeAt s at x → annos_of (term_of s at) ≡ map (term_of s) (chain_at s x.annos)
+annos_at s at x is = ap annos_of is.term ∙ list_of-trees_of _
+
+-- how many parts a term has
+pub count_at : (s : StoreSpace) (at : ℕ) (x : StoredShape) → IsShapeAt s at x → length (list_in s.chains x.parts) ≡ length (parts_of (term_of s at))
+count_at s at x is = sym (ap length (parts_at s at x is) ∙ length-places (term_of s) (list_in s.chains x.parts))
+
+pub counted : (s : StoreSpace) (at n : ℕ) (x : StoredShape) → IsShapeAt s at x → n ≡ length (list_in s.chains x.parts) → n ≡ length (parts_of (term_of s at))
+counted s at n x is e = e ∙ count_at s at x is
+
+-- a list, and the symbol over its parts
+pub list_at : (s : StoreSpace) (at n : ℕ) (x : StoredShape) → IsShapeAt s at x → x.head ≡ stored.List → n ≡ length (list_in s.chains x.parts) → IsList (term_of s at) n
+list_at s at n x is h e = record { head = head_at s at x is ∙ ap (head_in s.symbols.keys) h; long = sym (counted s at n x is e) }
+
+pub applied_at : (s : StoreSpace) (at n c : ℕ) (x : StoredShape) (name : Symbol) → IsShapeAt s at x → head_in s.symbols.keys x.head ≡ heads.App name → n ≡ length (list_in s.chains x.parts) → n ≡ c → IsApplied (term_of s at) name c
+applied_at s at n c x name is h e same = record { head = head_at s at x is ∙ h; long = sym (counted s at n x is e) ∙ same }
+
+pub length_applied : (s : StoreSpace) (at n c : ℕ) (x : StoredShape) (name : Symbol) → IsShapeAt s at x → n ≡ length (list_in s.chains x.parts) → IsApplied (term_of s at) name c → n ≡ c
+length_applied s at n c x name is e applied = counted s at n x is e ∙ applied.long
+
+-- the part at an index
+pub there : (o : Option (Bor ℕ)) (xs : List ℕ) (i : ℕ) → IsAt o xs i → i < length xs → IsSome o
+there None xs i at h = absurd (omega (arith, at, h))
+there (Some r) xs i at h = refl
+
+pub item_at : (o : Option (Bor ℕ)) (r : Bor ℕ) (xs : List ℕ) (i : ℕ) → IsAt o xs i → o ≡ Some r → slice_get xs i ≡ Some r.now
+item_at o r xs i at e = subst (λ p. IsAt p xs i) e at
+
+slice_get-map : (f : ℕ → Tree) (xs : List ℕ) (i x : ℕ) → slice_get xs i ≡ Some x → slice_get (map f xs) i ≡ Some (f x)
+slice_get-map f [] i x e = absurd (cc)
+slice_get-map f (y ∷ ys) zero x e = let same : y ≡ x = cc in ap (λ z. Some (f z)) same
+slice_get-map f (y ∷ ys) (suc i) x e = slice_get-map f ys i x e
+
+slice_get-within : (xs : List ℕ) (i x : ℕ) → slice_get xs i ≡ Some x → i < length xs
+slice_get-within [] i x e = absurd (cc)
+slice_get-within (y ∷ ys) zero x e = omega arith
+slice_get-within (y ∷ ys) (suc i) x e = let h = slice_get-within ys i x e in omega (arith, h)
+
+pub part_stands : (s : StoreSpace) (at i p : ℕ) (x : StoredShape) → IsShapeAt s at x → slice_get (list_in s.chains x.parts) i ≡ Some p → IsTrue (nat_lt p (count s))
+part_stands s at i p x is e =
+    let xs : List ℕ = list_in s.chains x.parts in
+    let below : get_or xs i p < count s = is.may.parts i p (slice_get-within xs i p e) in
+    lt-ltb p (count s) (subst (λ k. k < count s) (get_or_from_slice_get xs i p p e) below)
+
+pub part_is : (s : StoreSpace) (at i p : ℕ) (x : StoredShape) → IsShapeAt s at x → slice_get (list_in s.chains x.parts) i ≡ Some p → slice_get (parts_of (term_of s at)) i ≡ Some (term_of s p)
+part_is s at i p x is e = ap (λ ts. slice_get ts i) (parts_at s at x is) ∙ slice_get-map (term_of s) (list_in s.chains x.parts) i p e
+
+-- what was made, as a space says it
+pub makes : (s : StoreSpace) (t u : Tree) (r : Result (Made ℕ) AllocError) → IfOk r (IsMade s t) → t ≡ u → IfOk r (Makes (λ s r. nat_lt r (count s)) (λ s r. term_of s r) s u)
+makes s t u (Err e) is same = tt
+makes s t u (Ok (made.Fits k)) is same = (lt-ltb k (count s) is.0, is.1 ∙ same, subst Fits same is.2)
+makes s t u (Ok made.Oversize) is same = λ fits. is (subst Fits (sym same) fits)
+
+-- the term of a shape after chains came
+pub shape_then : (old mid : StoreSpace) (x : StoredShape) (h : Head) (ps qs : List ℕ) → KeepsChains old mid → head_in mid.symbols.keys x.head ≡ h → list_in mid.chains x.parts ≡ ps → chain_at mid x.annos ≡ qs
+    → shape_term mid x ≡ term h (map (term_of old) ps) (map (term_of old) qs)
+shape_then old mid x h ps qs keeps eh ep eq =
+    let parts : map (term_of mid) (list_in mid.chains x.parts) ≡ map (term_of old) ps = ap (map (term_of mid)) ep ∙ map_same (term_of mid) (term_of old) ps (λ k d within. keeps.terms _) in
+    let annos_ : map (term_of mid) (chain_at mid x.annos) ≡ map (term_of old) qs = ap (map (term_of mid)) eq ∙ map_same (term_of mid) (term_of old) qs (λ k d within. keeps.terms _) in
+    ap (λ g. term g (map (term_of mid) (list_in mid.chains x.parts)) (map (term_of mid) (chain_at mid x.annos))) eh ∙ (ap (λ ts. term h ts (map (term_of mid) (chain_at mid x.annos))) parts ∙ ap (λ ts. term h (map (term_of old) ps) ts) annos_)
+
+pub head_kept : (old mid : StoreSpace) (at : ℕ) (x : StoredShape) → KeepsChains old mid → IsShapeAt old at x → head_in mid.symbols.keys x.head ≡ head_of (term_of old at)
+head_kept old mid at x keeps is = ap (λ symbols. head_in symbols x.head) keeps.symbols ∙ sym (head_at old at x is)
+
+-- the term of a head, parts and annotations after a symbol came
+pub made_then : (old mid : StoreSpace) (g h : Head) (ps qs : List ℕ) → Keeps old mid → g ≡ h → Stand old ps → Stand old qs → term g (map (term_of mid) ps) (map (term_of mid) qs) ≡ term h (map (term_of old) ps) (map (term_of old) qs)
+made_then old mid g h ps qs keeps e hp hq =
+    let parts : map (term_of mid) ps ≡ map (term_of old) ps = map_same (term_of mid) (term_of old) ps (λ k d within. keeps.terms _ (hp k d within)) in
+    let annos_ : map (term_of mid) qs ≡ map (term_of old) qs = map_same (term_of mid) (term_of old) qs (λ k d within. keeps.terms _ (hq k d within)) in
+    ap (λ f. term f (map (term_of mid) ps) (map (term_of mid) qs)) e ∙ (ap (λ ts. term h ts (map (term_of mid) qs)) parts ∙ ap (λ ts. term h (map (term_of old) ps) ts) annos_)
+
+-- a list in front of which elements were put
+pub list_stands : (old mid : StoreSpace) (b : Block ℕ) (ps : List ℕ) → KeepsChains old mid → IsBlockIn mid.chains b ps → Stand old ps → MayStand mid (record { head = stored.List; parts = b; annos = 0 })
+list_stands old mid b ps keeps block stand = record {
+  head = refl;
+  block = record { list = refl; rest = block.rest; whole = block.whole; none = block.none };
+  parts = subst (Stand mid) (sym block.list) (λ k d h. subst (λ n. get_or ps k d < n) (sym (ap length keeps.shapes)) (stand k d h));
+  annos = let spanned = mid.store.spanned in omega (arith, spanned);
+  bare = λ is. absurd (cc);
+}
+
+pub list_term : (old mid : StoreSpace) (b : Block ℕ) (ps : List ℕ) → KeepsChains old mid → IsBlockIn mid.chains b ps → shape_term mid (record { head = stored.List; parts = b; annos = 0 }) ≡ term heads.List (map (term_of old) ps) []
+list_term old mid b ps keeps block = shape_then old mid (record { head = stored.List; parts = b; annos = 0 }) heads.List ps [] keeps refl block.list mid.store.empty
+
+pub both_lists : (s : StoreSpace) (at : ℕ) (x : StoredShape) (xs : List ℕ) → IsShapeAt s at x → map (term_of s) (xs ++ list_in s.chains x.parts) ≡ map (term_of s) xs ++ parts_of (term_of s at)
+both_lists s at x xs is = map-append (term_of s) xs (list_in s.chains x.parts) ∙ ap (λ ts. map (term_of s) xs ++ ts) (sym (parts_at s at x is))
+
+stand-append : (s : StoreSpace) (xs ys : List ℕ) → Stand s xs → Stand s ys → Stand s (xs ++ ys)
+stand-append s [] ys hx hy k d h = hy k d h
+stand-append s (x ∷ xs) ys hx hy zero d h = hx 0 d (omega arith)
+stand-append s (x ∷ xs) ys hx hy (suc k) d h = stand-append s xs ys (λ j e within. hx (suc j) e (omega (arith, within))) hy k d (omega (arith, h))
+
+pub both_stand : (s : StoreSpace) (at : ℕ) (x : StoredShape) (xs : List ℕ) → IsShapeAt s at x → Stand s xs → Stand s (xs ++ list_in s.chains x.parts)
+both_stand s at x xs is stand = stand-append s xs (list_in s.chains x.parts) stand is.may.parts
+
+-- the elements after the first ones
+pub drop_stands : (s : StoreSpace) (n : ℕ) (xs : List ℕ) → Stand s xs → Stand s (drop n xs)
+drop_stands s zero xs hx = hx
+drop_stands s (suc n) [] hx = hx
+drop_stands s (suc n) (x ∷ xs) hx = drop_stands s n xs (λ k d h. hx (suc k) d (omega (arith, h)))
+
+map-drop : (f : ℕ → Tree) (n : ℕ) (xs : List ℕ) → map f (drop n xs) ≡ drop n (map f xs)
+map-drop f zero xs = refl
+map-drop f (suc n) [] = refl
+map-drop f (suc n) (x ∷ xs) = map-drop f n xs
+
+pub dropped : (s : StoreSpace) (at n : ℕ) (x : StoredShape) → IsShapeAt s at x → map (term_of s) (drop n (list_in s.chains x.parts)) ≡ drop n (parts_of (term_of s at))
+dropped s at n x is = map-drop (term_of s) n (list_in s.chains x.parts) ∙ ap (drop n) (sym (parts_at s at x is))
+
+pub keeps_all : (s : StoreSpace) → KeepsChains s s
+keeps_all s = record { symbols = refl; named = refl; shapes = refl; more = omega arith; chains = λ j h. refl; terms = λ k. refl }
+
+-- elements that are too heavy together
+pub heavy_list : (ts us : List Tree) → max_weight < weights (trees_of ts) → ts ≡ us → Fits (term heads.List us []) → ⊥
+heavy_list ts us heavy same fits =
+    let light = fits.weight in
+    let there : max_weight < weights (trees_of us) = subst (λ vs. max_weight < weights (trees_of vs)) same heavy in
+    omega (arith, light, there)
+
+pub ruleset reading = (head_at, parts_at, annos_at, count_at, counted, list_at, there, item_at, part_stands, part_is)
+
+pub ruleset making = (head_at, parts_at, annos_at)
+
+pub ruleset marking = (head_at)

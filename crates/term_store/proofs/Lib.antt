@@ -1,0 +1,13 @@
+pub mod ChainLemmas
+pub mod PlainLemmas
+pub mod StoreLemmas
+pub mod StoreChanges
+pub mod SpaceLemmas
+pub mod ShapeLaws
+pub mod LendingLaws
+pub mod LawsOfSpace
+pub mod MakingLemmas
+pub mod SymbolLaws
+pub mod WalkLaws
+pub mod EnteringLemmas
+pub mod LeavingLemmas

@@ -1,0 +1,114 @@
+-- The steps of the loops along blocks.
+use Rattle.std.proofs.Common.{◌≡◌, ℕ, zero, suc, ◌+◌, ◌-◌, ◌<◌, ◌≤◌, List, [], ◌∷◌, ◌++◌, length, map, get_or, drop, drop-cons, refl, sym, ◌∙◌, ap, subst, All, arith, length-append}
+use Rattle.std.proofs.Math.Seq.{drop-append-add}
+use Rattle.term_model.specs.Term.{Tree, weights, trees_of}
+use Rattle.term_model.specs.Limits.{max_weight}
+use Rattle.term_model.specs.Blocks.{front_list, list_in}
+use Rattle.term_model.specs.declared.parts.Block.{Block}
+use Rattle.term_store.specs.Chains.{IsBlockIn, IsBlockOf}
+use Rattle.term_store.specs.Space.{Stand, KeepsChains, AreHeavy, term_of}
+use Rattle.term_store.specs.Walks.{IsAfter, IsPushing, IsBuilding}
+use Rattle.term_store.specs.declared.store.StoreSpace.{StoreSpace}
+use Rattle.term_store.proofs.PlainLemmas.{map_same}
+
+-- the block of a chain that is not empty
+block_from : (chains : List (List ℕ)) (n : ℕ) (b : Block ℕ) → IsBlockOf chains n b → 0 < n → IsBlockIn chains b (list_in chains b)
+block_from chains n b is some = record {
+  list = refl;
+  rest = is.rest;
+  whole = is.whole;
+  none = λ e. absurd (let long = is.some some in omega (arith, e, long));
+}
+
+-- what is after at least as many values as a list has is in the list after it
+drop_after : (xs ys : List ℕ) (n : ℕ) → length xs ≤ n → drop n (xs ++ ys) ≡ drop (n - length xs) ys
+drop_after xs ys n h =
+    let e : length xs + (n - length xs) ≡ n = omega arith in
+    subst (λ m. drop m (xs ++ ys) ≡ drop (n - length xs) ys) e (drop-append-add xs ys (n - length xs))
+
+-- the next block, where the front is passed
+pub after_next : (chains : List (List ℕ)) (b next : Block ℕ) (left_ n : ℕ) (places : List ℕ) → IsAfter chains b left_ places → 0 < b.rest → length (front_list b.front) ≤ left_ → n ≡ length (front_list b.front) → IsBlockOf chains b.rest next
+    → IsAfter chains next (left_ - n) places
+after_next chains b next left_ n places is some passed many of =
+    let front : List ℕ = front_list b.front in
+    let rest : List ℕ = get_or chains b.rest [] in
+    let list : rest ≡ list_in chains next = of.list in
+    let within : left_ ≤ length (front ++ rest) = is.within in
+    let long : length (front ++ rest) ≡ length front + length rest = length-append front rest in
+    let short : left_ - n ≤ length rest = omega (arith, within, long, passed, many) in
+    let after_front : drop left_ (front ++ rest) ≡ drop (left_ - n) rest = subst (λ k. drop left_ (front ++ rest) ≡ drop (left_ - k) rest) (sym many) (drop_after front rest left_ passed) in
+    record {
+      block = block_from chains b.rest next of some;
+      within = subst (λ xs. left_ - n ≤ length xs) list short;
+      list = subst (λ xs. drop (left_ - n) xs ≡ places) list (sym after_front ∙ is.list);
+    }
+
+-- there is room for the front of the next block
+pub room_for : (chains : List (List ℕ)) (old now places : List ℕ) (room_ rest_ : ℕ) (next : Block ℕ) → IsPushing chains old now places room_ rest_ → IsBlockOf chains rest_ next → length now + length (front_list next.front) ≤ room_
+room_for chains old now places room_ rest_ next is of =
+    let front : List ℕ = front_list next.front in
+    let rest : List ℕ = get_or chains next.rest [] in
+    let list : get_or chains rest_ [] ≡ front ++ rest = of.list in
+    let all : length (now ++ get_or chains rest_ []) ≡ length (old ++ places) = ap length is.list in
+    let before : length (now ++ get_or chains rest_ []) ≡ length now + length (get_or chains rest_ []) = length-append now (get_or chains rest_ []) in
+    let after : length (old ++ places) ≡ length old + length places = length-append old places in
+    let next_ : length (get_or chains rest_ []) ≡ length (front ++ rest) = ap length list in
+    let long : length (front ++ rest) ≡ length front + length rest = length-append front rest in
+    let room = is.room in
+    omega (arith, all, before, after, next_, long, room)
+
+-- the terms after the first of several weigh no more than all
+weights-drop-append : (f : ℕ → Tree) (xs ys : List ℕ) (n : ℕ) → weights (trees_of (map f (drop n xs ++ ys))) ≤ weights (trees_of (map f (xs ++ ys)))
+weights-drop-append f [] ys zero = omega arith
+weights-drop-append f [] ys (suc n) = omega arith
+weights-drop-append f (x ∷ xs) ys zero = omega arith
+weights-drop-append f (x ∷ xs) ys (suc n) = let h = weights-drop-append f xs ys n in omega (arith, h)
+
+-- where the terms of a part are too heavy together, those of all are
+pub heavy_whole : (old new : StoreSpace) (places others : List ℕ) (b : Block ℕ) (n : ℕ) → IsBuilding old new places others b n → AreHeavy new (list_in new.chains b) → AreHeavy old (places ++ others)
+heavy_whole old new places others b n is heavy =
+    let part : List ℕ = drop n places ++ others in
+    let list : list_in new.chains b ≡ part = is.block.list in
+    let there : max_weight < weights (trees_of (map (term_of new) part)) = subst (λ xs. max_weight < weights (trees_of (map (term_of new) xs))) list heavy in
+    let same : map (term_of new) part ≡ map (term_of old) part = map_same (term_of new) (term_of old) part (λ k d h. is.keeps.terms _) in
+    let before : max_weight < weights (trees_of (map (term_of old) part)) = subst (λ ts. max_weight < weights (trees_of ts)) same there in
+    let less = weights-drop-append (term_of old) places others n in
+    omega (arith, before, less)
+
+-- what is kept twice is kept
+keeps_then : (a b c : StoreSpace) → KeepsChains a b → KeepsChains b c → KeepsChains a c
+keeps_then a b c ab bc = record {
+  symbols = bc.symbols ∙ ab.symbols;
+  named = bc.named ∙ ab.named;
+  shapes = bc.shapes ∙ ab.shapes;
+  more = let p = ab.more in let q = bc.more in omega (arith, p, q);
+  chains = λ j h. bc.chains j (let p = ab.more in omega (arith, p, h)) ∙ ab.chains j h;
+  terms = λ k. bc.terms k ∙ ab.terms k;
+}
+
+-- what stands stays
+stand_kept : (old new : StoreSpace) (places : List ℕ) → KeepsChains old new → Stand old places → Stand new places
+stand_kept old new places keeps stand = subst (λ keys. All (λ i. i < length keys) places) (sym keeps.shapes) stand
+
+-- one place more in front
+pub one_before : (old now new : StoreSpace) (places others : List ℕ) (b longer : Block ℕ) (end_ : ℕ) → IsBuilding old now places others b end_ → 0 < end_ → Stand old places → KeepsChains now new
+    → IsBlockIn new.chains longer (get_or places (end_ - 1) 0 ∷ list_in now.chains b) → IsBuilding old new places others longer (end_ - 1)
+one_before old now new places others b longer end_ is some stand keeps made =
+    let within = is.within in
+    let place : ℕ = get_or places (end_ - 1) 0 in
+    let last : suc (end_ - 1) ≡ end_ = omega arith in
+    let first : drop (end_ - 1) places ≡ place ∷ drop (suc (end_ - 1)) places = drop-cons places (end_ - 1) 0 (omega (arith, within, some)) in
+    let more : drop (end_ - 1) places ≡ place ∷ drop end_ places = subst (λ n. drop (end_ - 1) places ≡ place ∷ drop n places) last first in
+    let whole : place ∷ list_in now.chains b ≡ drop (end_ - 1) places ++ others = ap (λ xs. place ∷ xs) is.block.list ∙ ap (λ xs. xs ++ others) (sym more) in
+    let here : place < length now.shapes.keys = stand_kept old now places is.keeps stand (end_ - 1) 0 (omega (arith, within, some)) in
+    let all : Stand now (place ∷ drop end_ places ++ others) = one_stands place (drop end_ places ++ others) here is.stand in
+    record {
+      keeps = keeps_then old now new is.keeps keeps;
+      within = omega (arith, within);
+      block = subst (IsBlockIn new.chains longer) whole made;
+      stand = stand_kept now new (drop (end_ - 1) places ++ others) keeps (subst (λ xs. Stand now (xs ++ others)) (sym more) all);
+    }
+  where
+    one_stands : (x : ℕ) (xs : List ℕ) → x < length now.shapes.keys → Stand now xs → Stand now (x ∷ xs)
+    one_stands x xs h hs zero d within = h
+    one_stands x xs h hs (suc k) d within = hs k d (omega (arith, within))

@@ -1,0 +1,37 @@
+-- The store is cut as `store_back` says, and the symbols that are kept include those of names.
+use Rattle.std.proofs.Common.{◌≡◌, ◌≤◌, ◌∙◌, ap, refl, length, arith}
+use Rattle.std.proofs.lemmas.List.{length-take-le, get_or-take}
+use Rattle.term_model.specs.Symbol.{Tuple}
+use Rattle.term_store.proofs.SymbolLaws.{store_back, held_back}
+use Rattle.term_store.proofs.store.StoreSpace.cut.Goals as goal
+
+pub invariant_of-self : goal.invariant_of-self
+invariant_of-self c =
+    let s = c.args.self.now in
+    let few = c.symbols_at.result in
+    let kept = c.max-symbols.result in
+    let names = c.symbols_at.ensures in
+    let is = c.max-symbols.ensures in
+    let known = names.there in
+    let there : kept ≤ length s.symbols.keys = omega (arith, is, known) in
+    let long : length c.truncate-5.new.self.keys ≡ kept = ap length c.truncate-5.ensures.keys ∙ length-take-le kept s.symbols.keys there in
+    record {
+      store = rw (c.truncate.ensures.keys, c.truncate-2.ensures.items, c.truncate-3.ensures, c.truncate-4.ensures.items, c.truncate-5.ensures.keys) (store_back s c.args.mark c.chains_at-last.result few kept (omega (arith, c.requires)) c.chains_at-last.ensures names (omega (arith, is)) there);
+      within = omega (arith, is, long);
+    }
+
+pub returns : goal.returns
+returns c =
+    let s = c.args.self.now in
+    let few = c.symbols_at.result in
+    let kept = c.max-symbols.result in
+    let names = c.symbols_at.ensures in
+    let is = c.max-symbols.ensures in
+    let known = names.there in
+    let there : kept ≤ length s.symbols.keys = omega (arith, is, known) in
+    record {
+      count = let l = c.truncate.ensures.len in omega (arith, c.requires, l);
+      terms = λ k h. rw (c.truncate.ensures.keys, c.truncate-3.ensures, c.truncate-5.ensures.keys) (held_back s c.args.mark c.chains_at-last.result few kept (omega (arith, c.requires)) c.chains_at-last.ensures names (omega (arith, is)) there k h);
+      named = refl;
+      symbols = λ n h. rw c.truncate-5.ensures.keys (get_or-take kept s.symbols.keys n Tuple (omega (arith, is, h)));
+    }

@@ -1,0 +1,91 @@
+-- What the calls of a store say.
+use Rattle.std.specs.Prelude.{◌≡◌, ◌<◌, ◌≤◌, ℕ, List, [], length, map, slice_index_or, All}
+use Rattle.term_model.specs.Symbol.{Symbol, Tuple}
+use Rattle.term_model.specs.Term.{Tree, Fits, term, weights, trees_of}
+use Rattle.term_model.specs.Limits.{max_weight}
+use Rattle.term_model.specs.Blocks.{list_in}
+use Rattle.term_model.specs.declared.made.Made.{Made}
+use Rattle.term_model.specs.declared.made.Made.TheVariants as made
+use Rattle.term_model.specs.declared.parts.Block.{Block}
+use Rattle.term_store.specs.Chains.{IsBlockIn}
+use Rattle.term_store.specs.Store.{held, head_in, IsAmong, MayHave}
+use Rattle.term_store.specs.declared.stored.StoredShape.{StoredShape}
+use Rattle.term_store.specs.declared.store.StoreSpace.{StoreSpace}
+
+-- how many shapes are held
+abbrev pub count : StoreSpace → ℕ
+count s = length s.shapes.keys
+
+-- the term at a place
+abbrev pub term_of : StoreSpace → ℕ → Tree
+term_of s k = held s.symbols.keys s.chains s.shapes.keys k
+
+-- the symbol of a number
+abbrev pub symbol_at : StoreSpace → ℕ → Symbol
+symbol_at s n = slice_index_or s.symbols.keys n Tuple
+
+-- the places of a chain
+abbrev pub chain_at : StoreSpace → ℕ → List ℕ
+chain_at s n = slice_index_or s.chains n []
+
+-- a shape stands at each of these places
+abbrev pub Stand : StoreSpace → List ℕ → Type 0
+Stand s places = All (λ i. i < count s) places
+
+-- the term of a shape
+abbrev pub shape_term : StoreSpace → StoredShape → Tree
+shape_term s x = term (head_in s.symbols.keys x.head) (map (term_of s) (list_in s.chains x.parts)) (map (term_of s) (chain_at s x.annos))
+
+-- a block of standing places
+pub record IsBlockOver (s : StoreSpace) (b : Block ℕ) : Type 0 where
+  pub block : IsBlockIn s.chains b (list_in s.chains b)
+  pub stand : Stand s (list_in s.chains b)
+
+-- a shape whose parts and annotations stand
+pub record MayStand (s : StoreSpace) (x : StoredShape) : Type 0 where
+  pub head : IsAmong (length s.symbols.keys) x.head
+  pub block : IsBlockIn s.chains x.parts (list_in s.chains x.parts)
+  pub parts : Stand s (list_in s.chains x.parts)
+  pub annos : x.annos < length s.chains
+  pub bare : MayHave x.head (list_in s.chains x.parts)
+
+-- the shape at a place: its parts and annotations are before it
+pub record IsShapeAt (s : StoreSpace) (at : ℕ) (x : StoredShape) : Type 0 where
+  pub may : MayStand s x
+  pub parts : All (λ i. i < at) (list_in s.chains x.parts)
+  pub annos : All (λ i. i < at) (chain_at s x.annos)
+  pub term : term_of s at ≡ shape_term s x
+  pub fits : Fits (term_of s at)
+
+-- each place keeps its term, each symbol its number, and each name stays
+pub record Keeps (old new : StoreSpace) : Type 0 where
+  pub more : count old ≤ count new
+  pub terms : (k : ℕ) → k < count old → term_of new k ≡ term_of old k
+  pub more_symbols : length old.symbols.keys ≤ length new.symbols.keys
+  pub symbols : (n : ℕ) → n < length old.symbols.keys → symbol_at new n ≡ symbol_at old n
+  pub named : old.named ≤ new.named
+
+-- exactly the places below the mark stand, each with its term; names stay
+pub record GoesBack (old new : StoreSpace) (mark : ℕ) : Type 0 where
+  pub count : count new ≡ mark
+  pub terms : (k : ℕ) → k < mark → term_of new k ≡ term_of old k
+  pub named : new.named ≡ old.named
+  pub symbols : (n : ℕ) → n < old.named → symbol_at new n ≡ symbol_at old n
+
+-- the place of the term, which fits, or that the term does not fit
+abbrev pub IsMade : StoreSpace → Tree → Made ℕ → Type 0
+IsMade s t (made.Fits k) = (k < count s) × (term_of s k ≡ t) × Fits t
+IsMade s t made.Oversize = ¬ (Fits t)
+
+-- shapes and symbols stay, and each chain and each term
+pub record KeepsChains (old new : StoreSpace) : Type 0 where
+  pub symbols : new.symbols.keys ≡ old.symbols.keys
+  pub named : new.named ≡ old.named
+  pub shapes : new.shapes.keys ≡ old.shapes.keys
+  pub more : length old.chains ≤ length new.chains
+  pub chains : (j : ℕ) → j < length old.chains → slice_index_or new.chains j [] ≡ slice_index_or old.chains j []
+  pub terms : (k : ℕ) → term_of new k ≡ term_of old k
+
+-- the terms of these places are too heavy together
+abbrev pub AreHeavy : StoreSpace → List ℕ → Type 0
+AreHeavy s places = max_weight < weights (trees_of (map (term_of s) places))

@@ -1,0 +1,300 @@
+//! The store as a space of terms.
+ghost use Rattle.std.specs.Prelude.{◌≡◌, nat_lt, nat_le, map, All, IsTrue, IfOk};
+ghost use Rattle.term_model.specs.Term.{term};
+ghost use Rattle.term_model.specs.Space.{Keeps, Makes, MayHave};
+ghost use Rattle.term_store.specs.Space as stored;
+
+use crate::chains::Chains;
+use crate::making::EMPTY;
+use crate::store::StoreSpace;
+use crate::stored::{StoredHead, StoredShape};
+use indexmap::IndexSet;
+use std::alloc::{AllocError, Global};
+use std::cmp::Ordering;
+use std::hash::{BuildHasherDefault, FoldHasher};
+use term_model::{Head, Made, Shape, Sym, Term, TermSpace, Top};
+
+impl StoreSpace {
+    /// A store that holds nothing, which hashes by this hasher.
+    #[tactic(auto, using(crate::proofs::SpaceLemmas::space))]
+    pub fn new(alloc: Global, hasher: BuildHasherDefault<FoldHasher>) -> StoreSpace
+        ensures { stored.count result ≡ 0 }
+    {
+        StoreSpace {
+            symbols: IndexSet::with_hasher(alloc, hasher),
+            named: 0,
+            chains: Chains::new(alloc, hasher),
+            shapes: IndexSet::with_hasher(alloc, hasher),
+            extents: Vec::new(alloc),
+            spans: Vec::new(alloc),
+        }
+    }
+
+    /// How many shapes are held: each term that was made or entered, and each part and annotation of it, counts once.
+    pub fn len(&self) -> usize
+        ensures { result ≡ stored.count self.now }
+    {
+        self.shapes.len()
+    }
+}
+
+/// A reference is the place of a shape, and so two references are the same number exactly where their terms are equal. A
+/// mark is how many shapes were held. A name is the number of a symbol; it keeps the symbols that came before it, too.
+impl TermSpace for StoreSpace {
+    type Ref = u32;
+
+    type Mark = usize;
+
+    type Name = u32;
+
+    ghost stands = { λ s r. nat_lt r (stored.count s) };
+
+    ghost term_of = { λ s r. stored.term_of s r };
+
+    ghost is_valid = { λ s m. nat_le m (stored.count s) };
+
+    ghost covers = { λ m r. nat_lt r m };
+
+    ghost covers_mark = { λ m n. nat_le n m };
+
+    ghost knows = { λ s n. nat_lt n s.named };
+
+    ghost symbol_of = { λ s n. stored.symbol_at s n };
+
+    #[tactic(auto, using(crate::proofs::LawsOfSpace::reading))]
+    fn fits(&self, at: &u32) {
+        let _ = self.shape_at(*at);
+    }
+
+    #[tactic(auto, using(crate::proofs::LawsOfSpace::reading))]
+    fn shape<'a>(&'a self, at: &'a u32) -> Shape<'a, u32> {
+        let shape = self.shape_ref(*at);
+        Shape {
+            head: self.top(shape.head),
+            parts: self.places(&shape.parts),
+            annos: self.chain_places(shape.annos),
+        }
+    }
+
+    #[tactic(auto, using(crate::proofs::LawsOfSpace::reading))]
+    fn head<'a>(&'a self, at: &'a u32) -> Top<'a> {
+        let shape = self.shape_at(*at);
+        self.top(shape.head)
+    }
+
+    #[tactic(auto, using(crate::proofs::LawsOfSpace::reading))]
+    fn same(&self, one: &u32, other: &u32) -> bool {
+        self.is_same(*one, *other)
+    }
+
+    fn dup(&self, at: &u32) -> Result<u32, AllocError> {
+        Ok(*at)
+    }
+
+    #[tactic(auto, using(crate::proofs::LawsOfSpace::reading))]
+    fn int_of(&self, at: &u32) -> Option<i32> {
+        match self.shape_at(*at).head {
+            StoredHead::Int(value) => Some(value),
+            StoredHead::Symbol(_) | StoredHead::List => None,
+        }
+    }
+
+    #[tactic(auto, using(crate::proofs::LawsOfSpace::reading))]
+    fn list_len(&self, at: &u32) -> Option<usize> {
+        let shape = self.shape_at(*at);
+        match shape.head {
+            StoredHead::List => Some(self.len_in(shape.parts)),
+            StoredHead::Int(_) | StoredHead::Symbol(_) => None,
+        }
+    }
+
+    #[tactic(auto, using(crate::proofs::LawsOfSpace::reading))]
+    fn is_app(&self, at: &u32, name: &u32, count: usize) -> bool {
+        let shape = self.shape_at(*at);
+        self.is_symbol(shape.head, *name) && self.len_in(shape.parts) == count
+    }
+
+    #[tactic(auto, using(crate::proofs::LawsOfSpace::reading))]
+    fn order(&self, at: &u32, name: &u32, count: usize) -> Ordering {
+        let shape = self.shape_at(*at);
+        match shape.head {
+            StoredHead::Int(_) => Ordering::Less,
+            StoredHead::Symbol(number) => {
+                let length = self.len_in(shape.parts);
+                if self.is_symbol(shape.head, *name) {
+                    return length.cmp(&count);
+                }
+                if number < *name {
+                    return Ordering::Less;
+                }
+                Ordering::Greater
+            }
+            StoredHead::List => Ordering::Greater,
+        }
+    }
+
+    #[tactic(auto, using(crate::proofs::LawsOfSpace::reading))]
+    fn count(&self, at: &u32) -> usize {
+        self.len_in(self.shape_at(*at).parts)
+    }
+
+    #[tactic(auto, using(crate::proofs::LawsOfSpace::reading))]
+    fn part(&self, at: &u32, index: usize) -> Result<u32, AllocError> {
+        let shape = self.shape_ref(*at);
+        let parts = self.places(&shape.parts);
+        Ok(*parts.get(index).unwrap())
+    }
+
+    #[tactic(auto, using(crate::proofs::LawsOfSpace::reading))]
+    fn push_parts(&self, at: &u32, stack: &mut Vec<u32>) -> Result<(), AllocError> {
+        let shape = self.shape_at(*at);
+        self.push_block(shape.parts, stack)
+    }
+
+    #[tactic(auto, using(crate::proofs::LawsOfSpace::reading))]
+    fn push_annos(&self, at: &u32, stack: &mut Vec<u32>) -> Result<(), AllocError> {
+        let shape = self.shape_at(*at);
+        let annos = self.chains.block(shape.annos);
+        self.push_block(annos, stack)
+    }
+
+    #[tactic(auto, using(crate::proofs::LawsOfSpace::making))]
+    fn name(&mut self, alloc: Global, symbol: &Sym) -> Result<u32, AllocError> {
+        let _ = alloc;
+        self.name_of(symbol)
+    }
+
+    #[tactic(auto, using(crate::proofs::LawsOfSpace::making))]
+    fn int(&mut self, alloc: Global, value: i32) -> Result<u32, AllocError> {
+        let _ = alloc;
+        let made = self.make_over(StoredHead::Int(value), &[], &[])?;
+        match made {
+            Made::Fits(place) => Ok(place),
+            Made::Oversize => unreachable!(),
+        }
+    }
+
+    #[tactic(auto, using(crate::proofs::LawsOfSpace::making))]
+    fn app(&mut self, alloc: Global, name: &u32, parts: &[u32]) -> Result<Made<u32>, AllocError> {
+        let _ = alloc;
+        self.make_over(StoredHead::Symbol(*name), parts, &[])
+    }
+
+    #[tactic(auto, using(crate::proofs::LawsOfSpace::making))]
+    fn list(&mut self, alloc: Global, elements: &[u32]) -> Result<Made<u32>, AllocError> {
+        let _ = alloc;
+        self.make_over(StoredHead::List, elements, &[])
+    }
+
+    #[tactic(auto, using(crate::proofs::LawsOfSpace::making))]
+    fn prepend(
+        &mut self,
+        alloc: Global,
+        elements: &[u32],
+        tail: &u32,
+    ) -> Result<Made<u32>, AllocError> {
+        let _ = alloc;
+        let shape = self.shape_at(*tail);
+        let Some(parts) = self.before(elements, shape.parts)? else {
+            return Ok(Made::Oversize);
+        };
+        self.intern(StoredShape {
+            head: StoredHead::List,
+            parts,
+            annos: 0,
+        })
+    }
+
+    #[tactic(auto, using(crate::proofs::LawsOfSpace::making))]
+    fn rest(&mut self, alloc: Global, at: &u32, count: usize) -> Result<u32, AllocError> {
+        let _ = alloc;
+        let shape = self.shape_at(*at);
+        let parts = self.after(shape.parts, count);
+        let made = self.intern(StoredShape {
+            head: StoredHead::List,
+            parts,
+            annos: 0,
+        })?;
+        match made {
+            Made::Fits(place) => Ok(place),
+            Made::Oversize => unreachable!(),
+        }
+    }
+
+    #[tactic(auto, using(crate::proofs::LawsOfSpace::making))]
+    fn rebuild(&mut self, alloc: Global, at: &u32, parts: &[u32]) -> Result<Made<u32>, AllocError> {
+        let _ = alloc;
+        let shape = self.shape_at(*at);
+        if self.are_same(shape.parts, parts) {
+            return Ok(Made::Fits(*at));
+        }
+        let Some(parts) = self.block_of(parts)? else {
+            return Ok(Made::Oversize);
+        };
+        self.intern(StoredShape {
+            head: shape.head,
+            parts,
+            annos: shape.annos,
+        })
+    }
+
+    #[tactic(auto, using(crate::proofs::LawsOfSpace::making))]
+    fn with_annos(
+        &mut self,
+        alloc: Global,
+        at: &u32,
+        annos: &[u32],
+    ) -> Result<Made<u32>, AllocError> {
+        let _ = alloc;
+        let shape = self.shape_at(*at);
+        let Some(annos) = self.chain_of(annos)? else {
+            return Ok(Made::Oversize);
+        };
+        self.intern(StoredShape {
+            head: shape.head,
+            parts: shape.parts,
+            annos,
+        })
+    }
+
+    #[tactic(auto, using(crate::proofs::LawsOfSpace::making))]
+    fn make(
+        &mut self,
+        alloc: Global,
+        head: Head,
+        parts: Vec<u32>,
+        annos: Vec<u32>,
+    ) -> Result<Made<u32>, AllocError>
+        requires head { MayHave head parts.items }
+        requires parts { All (λ r. IsTrue (nat_lt r (stored.count self.old))) parts.items }
+        requires annos { All (λ r. IsTrue (nat_lt r (stored.count self.old))) annos.items }
+        ensures keeps { Keeps ⟦<StoreSpace as TermSpace>⟧.stands ⟦<StoreSpace as TermSpace>⟧.term_of ⟦<StoreSpace as TermSpace>⟧.is_valid ⟦<StoreSpace as TermSpace>⟧.knows ⟦<StoreSpace as TermSpace>⟧.symbol_of self.old self.new }
+        ensures made { IfOk result (Makes ⟦<StoreSpace as TermSpace>⟧.stands ⟦<StoreSpace as TermSpace>⟧.term_of self.new (term head (map (stored.term_of self.old) parts.items) (map (stored.term_of self.old) annos.items))) }
+    {
+        let _ = alloc;
+        let head = self.stored_head(&head)?;
+        self.make_over(head, &parts, &annos)
+    }
+
+    #[tactic(auto, using(crate::proofs::LawsOfSpace::marking))]
+    fn mark(&self) -> usize {
+        self.shapes.len()
+    }
+
+    #[tactic(auto, using(crate::proofs::LawsOfSpace::marking))]
+    fn back_to(&mut self, mark: usize) {
+        if mark < self.shapes.len() {
+            self.cut(mark);
+        }
+    }
+
+    #[tactic(auto, using(crate::proofs::LawsOfSpace::making))]
+    fn enter(&mut self, alloc: Global, from: &Term) -> Result<u32, AllocError> {
+        self.entered(alloc, from)
+    }
+
+    #[tactic(auto, using(crate::proofs::LawsOfSpace::reading))]
+    fn leave(&self, alloc: Global, at: &u32) -> Result<Term, AllocError> {
+        self.left(alloc, *at)
+    }
+}

@@ -1,0 +1,25 @@
+//! What a store is made of.
+ghost use Rattle.std.specs.Prelude.{◌≤◌, length};
+ghost use Rattle.term_store.specs.Store.{IsStore};
+
+use crate::chains::Chains;
+use crate::stored::{Extent, Span, StoredShape};
+use indexmap::IndexSet;
+use term_model::Sym;
+
+/// Terms under their places, each held once: a shape is a head, with the places of its parts and annotations, and
+/// comes after them. Numbers have 32 bits: where 4,294,967,295 shapes, chains of parts or symbols are held, a call that
+/// needs one more returns `AllocError`, as where there is no memory.
+#[derive(Drop)]
+pub struct StoreSpace {
+    pub(crate) symbols: IndexSet<Sym>,
+    // How many of the symbols stay for good, since they or later ones were brought in as names.
+    pub(crate) named: u32,
+    pub(crate) chains: Chains,
+    pub(crate) shapes: IndexSet<StoredShape>,
+    pub(crate) extents: Vec<Extent>,
+    // The span of each chain but the empty one.
+    pub(crate) spans: Vec<Span>,
+    ghost store: { IsStore symbols.keys chains shapes.keys extents.items spans.items },
+    ghost within: { named ≤ length symbols.keys },
+}
