@@ -77,7 +77,7 @@ fn fail_choice<S: TermSpace>(
     ensures covered { (r : S.Ref) → MarksCover (space_of S.stands S.term_of S.is_valid S.covers S.covers_mark) r (with_record (Record.Choice otherwise term saved mark) stacks.old.records) → IsTrue (S.stands space.old r) → IsTrue (S.stands space.new r) × (S.term_of space.new r ≡ S.term_of space.old r) }
     ensures step { (code : Code) (M : Meaning) → FailsTo (space_of S.stands S.term_of S.is_valid S.covers S.covers_mark) code M space.old stacks.old (with_record (Record.Choice otherwise term saved mark) stacks.old.records) space.new result stacks.new }
 {
-    space.back_to(mark);
+    space.back_to(mark); // Gives back what the first alternative made.
     stacks.places.go_back(saved.height, saved.barrier);
     stacks.frames.cut(saved.frames);
     Phase::Running {
