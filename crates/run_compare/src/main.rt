@@ -1,4 +1,4 @@
-//! Runs the programs of many cases by the plain evaluator and by the machine, and compares how they end and how many rules they
+//! Runs the programs of many cases by the plain evaluator and by the machine over a store, and compares how they end and how many rules they
 //! take. The cases stand on standard input, as `case` describes them. Prints how many runs were compared, with their rules and the
 //! machine's steps in all; where two runs differ, the number of the case is reported and the status is 1.
 #![tactic(auto)]

@@ -8,13 +8,15 @@ use core_lang::{Core, Outcome, Run};
 use prim_registry::{PrimMeaning, Registry, Standard};
 use scope_check::check;
 use std::alloc::{AllocError, Global};
+use std::hash::BuildHasherDefault;
 use str_desugar::to_core;
 use str_lexer::lex;
 use str_parser::parse;
 use strat_compile::compile;
 use strat_machine::Machine;
 use strategy_lib::with_library;
-use term_model::{Fault, RcSpace, Term};
+use term_model::{Fault, Term};
+use term_store::StoreSpace;
 
 // The greatest budget of the evaluator, whose calls stand in one another.
 const MOST: u32 = 2_000;
@@ -90,7 +92,8 @@ fn run_compiled(
     requires covers { Covers registry.now core.now.prims }
 {
     let code = compile(alloc, core)?;
-    let mut machine = Machine::new(alloc, RcSpace);
+    let space = StoreSpace::new(alloc, BuildHasherDefault::new());
+    let mut machine = Machine::new(alloc, space);
     let entered = machine.enter(term)?;
     let run = machine.run(&code, entered, budget, registry)?;
     let outcome = match &run.outcome {

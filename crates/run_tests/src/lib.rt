@@ -7,10 +7,6 @@ mod evaluator;
 #[cfg(test)]
 mod primitives;
 #[cfg(test)]
-mod single_calls;
-#[cfg(test)]
-mod spaces;
-#[cfg(test)]
 mod term_text;
 #[cfg(test)]
 mod terms;

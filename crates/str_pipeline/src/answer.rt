@@ -20,7 +20,9 @@ use prim_registry::{PrimMeaning, Registry};
 use scope_check::Checked;
 use signature_core::Signature;
 use std::alloc::{AllocError, Global};
-use term_model::{Fault, RcSpace, Term};
+use std::hash::BuildHasherDefault;
+use term_model::{Fault, Term};
+use term_store::StoreSpace;
 
 /// The most bytes of definitions.
 pub const MAX_DEFINITIONS: usize = 1_048_576;
@@ -63,8 +65,8 @@ fn term_alone(
     Ok(term)
 }
 
-/// Returns what the program does with the term of this text, with the primitives of the registry. The fault is one of the term's, or
-/// `Memory`.
+/// Returns what the program does with the term of this text, with the primitives of the registry: the run takes place in a store of its
+/// own, in which equal terms are one. The fault is one of the term's, or `Memory`.
 #[tactic(auto, using(crate::proofs::WrittenLaws::run_written, crate::proofs::FaultLaws::text_stops, crate::proofs::FaultLaws::text_apart, crate::proofs::FaultLaws::text_no_read))]
 pub(crate) fn outcome_of<M: PrimMeaning>(
     alloc: Global,
@@ -85,7 +87,8 @@ pub(crate) fn outcome_of<M: PrimMeaning>(
 {
     let Program { checked, code } = program;
     let term = term_alone(alloc, checked, text, options.strict)?;
-    let outcome = run_code(alloc, RcSpace, &code, term, options.budget, registry)?;
+    let space = StoreSpace::new(alloc, BuildHasherDefault::new());
+    let outcome = run_code(alloc, space, &code, term, options.budget, registry)?;
     Ok(outcome)
 }
 

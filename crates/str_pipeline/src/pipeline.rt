@@ -48,6 +48,7 @@ fn outcome_apart<D: Source, T: Source, M: PrimMeaning>(
         return Err(Fault::DefsTooLong);
     };
     let program = program_of(alloc, &text, options, registry, notes)?;
+    drop(text);
     let Some(text) = read_all(alloc, term, MAX_TERM)? else {
         return Err(Fault::TermTooLong);
     };
@@ -77,6 +78,7 @@ fn outcome_joined<S: Source, M: PrimMeaning>(
     let Some(text) = front.read_term(alloc, input, MAX_TERM)? else {
         return Err(Fault::TermTooLong);
     };
+    drop(front);
     outcome_of(alloc, program, text, options, registry)
 }
 

@@ -1,5 +1,5 @@
 // A definition file through each call from its bytes to a run; what is expected was worked out by hand.
-ghost use Rattle.std.specs.Prelude.{◌≤◌};
+ghost use Rattle.std.specs.Prelude.{◌≤◌, IsTrue};
 ghost use Rattle.prim_registry.specs.Entries.{IsHonest};
 
 use aterm_text::{read_term, write_term};
@@ -8,6 +8,7 @@ use core_lang::{Core, Outcome};
 use prim_registry::{Registry, Standard};
 use scope_check::check;
 use std::alloc::Global;
+use std::hash::BuildHasherDefault;
 use std::test::Fail;
 use str_desugar::to_core;
 use str_lexer::lex;
@@ -16,12 +17,13 @@ use strat_code::Code;
 use strat_compile::compile;
 use strat_machine::Machine;
 use strategy_lib::with_library;
-use term_model::{PrimNames, RcSpace, Term, TermSpace};
+use term_model::{PrimNames, RcSpace, TermSpace};
+use term_store::StoreSpace;
 
 const DEFINITIONS: &[u8] = b"strategies main = ?(x,_); !x";
 
 // The core of the definitions with the library.
-fn core_of(alloc: Global, definitions: &[u8]) -> Result<Core, Fail> {
+pub(crate) fn core_of(alloc: Global, definitions: &[u8]) -> Result<Core, Fail> {
     let tokens = lex(alloc, definitions)?;
     let file = parse(alloc, definitions, &tokens)?;
     let file = with_library(alloc, file)?;
@@ -64,18 +66,20 @@ fn from_bytes_to_a_run(rt: HostRuntime) -> Result<(), Fail> {
 }
 
 // Whether the machine takes the term that was entered to 7 within five rules, by five rules.
-fn takes_five(
+fn takes_five<S: TermSpace + Drop>(
     alloc: Global,
-    machine: &mut Machine<RcSpace>,
+    machine: &mut Machine<S>,
     code: &Code,
-    entered: &Term,
-) -> Result<bool, Fail> {
+    entered: S::Ref,
+) -> Result<bool, Fail>
+    requires { IsTrue (S.stands machine.old entered) }
+    ensures { (r : S.Ref) → IsTrue (S.stands machine.old r) → IsTrue (S.stands machine.new r) }
+{
     let registry = Registry::<Standard>::new(alloc);
     if !registry.covers(code.prims()) {
         return Err(Fail::new("a primitive"));
     }
-    let reference = machine.space().dup(entered)?;
-    let run = machine.run(code, reference, 5, &registry)?;
+    let run = machine.run(code, entered, 5, &registry)?;
     let Outcome::Rewritten(found) = &run.outcome else {
         return Ok(false);
     };
@@ -84,14 +88,22 @@ fn takes_five(
     Ok(written[..] == b"7"[..] && run.rules == 5 && run.steps <= 60)
 }
 
+// Whether a machine over the space does so with the same term twice.
+fn takes_five_twice<S: TermSpace + Drop>(alloc: Global, space: S) -> Result<bool, Fail> {
+    let code = compile(alloc, &core_of(alloc, DEFINITIONS)?)?;
+    let mut machine = Machine::new(alloc, space);
+    let entered = machine.enter(&read_term(alloc, b"(7,f(1))")?)?;
+    let once_more = machine.space().dup(&entered)?;
+    let first = takes_five(alloc, &mut machine, &code, entered)?;
+    let second = takes_five(alloc, &mut machine, &code, once_more)?;
+    Ok(first && second)
+}
+
 #[test]
 fn from_bytes_to_runs_of_the_machine(rt: HostRuntime) -> Result<(), Fail> {
     let alloc = rt.alloc();
-    let code = compile(alloc, &core_of(alloc, DEFINITIONS)?)?;
-    let mut machine = Machine::new(alloc, RcSpace);
-    let entered = machine.enter(&read_term(alloc, b"(7,f(1))")?)?;
-    for run in ["first", "second"] {
-        assert!(rt; takes_five(alloc, &mut machine, &code, &entered)?, "{run}");
-    }
+    assert!(rt; takes_five_twice(alloc, RcSpace)?);
+    let store = StoreSpace::new(alloc, BuildHasherDefault::new());
+    assert!(rt; takes_five_twice(alloc, store)?);
     Ok(())
 }

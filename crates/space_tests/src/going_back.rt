@@ -1,0 +1,246 @@
+// Runs of the machine that go back, over a store that counts it; what is expected was worked out by hand.
+ghost use Rattle.std.specs.Prelude.{◌≡◌, All, map, IsTrue, IfOk};
+ghost use Rattle.term_model.specs.Term.{term};
+ghost use Rattle.term_model.specs.Space.{Keeps, Makes, MayHave};
+
+use crate::single_calls::core_of;
+use aterm_text::{read_term, write_term};
+use core_lang::Outcome;
+use prim_registry::{Registry, Standard};
+use std::alloc::{AllocError, Global};
+use std::cmp::Ordering;
+use std::hash::BuildHasherDefault;
+use std::test::Fail;
+use strat_code::Code;
+use strat_compile::compile;
+use strat_machine::Machine;
+use term_model::{Head, Made, Shape, Sym, Term, TermSpace, Top};
+use term_store::StoreSpace;
+
+// Definitions and a term; what the run writes, which is nothing where it fails, and by how many rules; how many shapes the
+// store holds then, and whether it went back once alone.
+const ROWS: &[(&[u8], &[u8], &[u8], u32, usize, bool)] = &[
+    (
+        b"signature constructors A : T -> T B : T strategies main = (!A(B()); fail) <+ id",
+        b"1",
+        b"1",
+        6,
+        1,
+        true,
+    ),
+    (
+        b"signature constructors A : T -> T B : T strategies main = some(!A(B()); fail)",
+        b"[1,2]",
+        b"",
+        8,
+        3,
+        false,
+    ),
+];
+
+// A space that counts how often it goes back.
+#[derive(Drop)]
+struct Counting<S> {
+    space: S,
+    back: u32,
+}
+
+impl<S: TermSpace + Drop> TermSpace for Counting<S> {
+    type Ref = S::Ref;
+
+    type Mark = S::Mark;
+
+    type Name = S::Name;
+
+    ghost stands = { λ c r. S.stands c.space r };
+
+    ghost term_of = { λ c r. S.term_of c.space r };
+
+    ghost is_valid = { λ c m. S.is_valid c.space m };
+
+    ghost covers = { λ m r. S.covers m r };
+
+    ghost covers_mark = { λ m n. S.covers_mark m n };
+
+    ghost knows = { λ c n. S.knows c.space n };
+
+    ghost symbol_of = { λ c n. S.symbol_of c.space n };
+
+    fn fits(&self, at: &S::Ref) {
+        self.space.fits(at);
+    }
+
+    fn shape<'a>(&'a self, at: &'a S::Ref) -> Shape<'a, S::Ref> {
+        self.space.shape(at)
+    }
+
+    fn head<'a>(&'a self, at: &'a S::Ref) -> Top<'a> {
+        self.space.head(at)
+    }
+
+    fn same(&self, one: &S::Ref, other: &S::Ref) -> bool {
+        self.space.same(one, other)
+    }
+
+    fn dup(&self, at: &S::Ref) -> Result<S::Ref, AllocError> {
+        self.space.dup(at)
+    }
+
+    fn int_of(&self, at: &S::Ref) -> Option<i32> {
+        self.space.int_of(at)
+    }
+
+    fn list_len(&self, at: &S::Ref) -> Option<usize> {
+        self.space.list_len(at)
+    }
+
+    fn is_app(&self, at: &S::Ref, name: &S::Name, count: usize) -> bool {
+        self.space.is_app(at, name, count)
+    }
+
+    fn order(&self, at: &S::Ref, name: &S::Name, count: usize) -> Ordering {
+        self.space.order(at, name, count)
+    }
+
+    fn count(&self, at: &S::Ref) -> usize {
+        self.space.count(at)
+    }
+
+    fn part(&self, at: &S::Ref, index: usize) -> Result<S::Ref, AllocError> {
+        self.space.part(at, index)
+    }
+
+    fn push_parts(&self, at: &S::Ref, stack: &mut Vec<S::Ref>) -> Result<(), AllocError> {
+        self.space.push_parts(at, stack)
+    }
+
+    fn push_annos(&self, at: &S::Ref, stack: &mut Vec<S::Ref>) -> Result<(), AllocError> {
+        self.space.push_annos(at, stack)
+    }
+
+    fn name(&mut self, alloc: Global, symbol: &Sym) -> Result<S::Name, AllocError> {
+        self.space.name(alloc, symbol)
+    }
+
+    fn int(&mut self, alloc: Global, value: i32) -> Result<S::Ref, AllocError> {
+        self.space.int(alloc, value)
+    }
+
+    fn app(
+        &mut self,
+        alloc: Global,
+        name: &S::Name,
+        parts: &[S::Ref],
+    ) -> Result<Made<S::Ref>, AllocError> {
+        self.space.app(alloc, name, parts)
+    }
+
+    fn list(&mut self, alloc: Global, elements: &[S::Ref]) -> Result<Made<S::Ref>, AllocError> {
+        self.space.list(alloc, elements)
+    }
+
+    fn prepend(
+        &mut self,
+        alloc: Global,
+        elements: &[S::Ref],
+        tail: &S::Ref,
+    ) -> Result<Made<S::Ref>, AllocError> {
+        self.space.prepend(alloc, elements, tail)
+    }
+
+    fn rest(&mut self, alloc: Global, at: &S::Ref, count: usize) -> Result<S::Ref, AllocError> {
+        self.space.rest(alloc, at, count)
+    }
+
+    fn rebuild(
+        &mut self,
+        alloc: Global,
+        at: &S::Ref,
+        parts: &[S::Ref],
+    ) -> Result<Made<S::Ref>, AllocError> {
+        self.space.rebuild(alloc, at, parts)
+    }
+
+    fn with_annos(
+        &mut self,
+        alloc: Global,
+        at: &S::Ref,
+        annos: &[S::Ref],
+    ) -> Result<Made<S::Ref>, AllocError> {
+        self.space.with_annos(alloc, at, annos)
+    }
+
+    fn make(
+        &mut self,
+        alloc: Global,
+        head: Head,
+        parts: Vec<S::Ref>,
+        annos: Vec<S::Ref>,
+    ) -> Result<Made<S::Ref>, AllocError>
+        requires head { MayHave head parts.items }
+        requires parts { All (λ r. IsTrue (S.stands self.old.space r)) parts.items }
+        requires annos { All (λ r. IsTrue (S.stands self.old.space r)) annos.items }
+        ensures keeps { Keeps ⟦<Counting<S> as TermSpace>⟧.stands ⟦<Counting<S> as TermSpace>⟧.term_of ⟦<Counting<S> as TermSpace>⟧.is_valid ⟦<Counting<S> as TermSpace>⟧.knows ⟦<Counting<S> as TermSpace>⟧.symbol_of self.old self.new }
+        ensures made { IfOk result (Makes ⟦<Counting<S> as TermSpace>⟧.stands ⟦<Counting<S> as TermSpace>⟧.term_of self.new (term head (map (S.term_of self.old.space) parts.items) (map (S.term_of self.old.space) annos.items))) }
+    {
+        self.space.make(alloc, head, parts, annos)
+    }
+
+    fn mark(&self) -> S::Mark {
+        self.space.mark()
+    }
+
+    fn back_to(&mut self, mark: S::Mark) {
+        self.back = self.back.saturating_add(1);
+        self.space.back_to(mark);
+    }
+
+    fn enter(&mut self, alloc: Global, from: &Term) -> Result<S::Ref, AllocError> {
+        self.space.enter(alloc, from)
+    }
+
+    fn leave(&self, alloc: Global, at: &S::Ref) -> Result<Term, AllocError> {
+        self.space.leave(alloc, at)
+    }
+}
+
+// Runs the code on the term, and writes what it is rewritten to; nothing where it fails.
+fn run<S: TermSpace + Drop>(
+    alloc: Global,
+    machine: &mut Machine<S>,
+    code: &Code,
+    term: &Term,
+) -> Result<(Vec<u8>, u32), Fail> {
+    let registry = Registry::<Standard>::new(alloc);
+    if !registry.covers(code.prims()) {
+        return Err(Fail::new("a primitive"));
+    }
+    let entered = machine.enter(term)?;
+    let run = machine.run(code, entered, 100, &registry)?;
+    let mut written = Vec::new(alloc);
+    match &run.outcome {
+        Outcome::Rewritten(found) => write_term(&machine.leave(found)?, &mut written)?,
+        Outcome::Failed => {}
+        _ => return Err(Fail::new("another ending")),
+    }
+    Ok((written, run.rules))
+}
+
+#[test]
+fn gives_back(rt: HostRuntime) -> Result<(), Fail> {
+    let alloc = rt.alloc();
+    for (definitions, text, wanted, rules, held, once) in ROWS {
+        let space = StoreSpace::new(alloc, BuildHasherDefault::new());
+        let mut machine = Machine::new(alloc, Counting { space, back: 0 });
+        let code = compile(alloc, &core_of(alloc, definitions)?)?;
+        let term = read_term(alloc, text)?;
+        let (written, count) = run(alloc, &mut machine, &code, &term)?;
+        let as_wanted = &written[..] == *wanted;
+        assert!(rt; as_wanted && count == *rules, "{count} rules");
+        let counting = machine.space();
+        assert_eq!(rt; counting.space.len(), *held);
+        assert_eq!(rt; counting.back == 1, *once, "{} times", counting.back);
+        assert!(rt; counting.back > 0);
+    }
+    Ok(())
+}

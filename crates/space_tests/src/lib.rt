@@ -1,0 +1,10 @@
+//! Tests of spaces of terms and of the machine that runs over them: each row over the space of terms themselves and over the store, and of a
+//! definition file through each public call. They stand in a crate of their own, since a crate with tests is proved once more for them.
+#![tactic(auto)]
+
+#[cfg(test)]
+mod going_back;
+#[cfg(test)]
+mod single_calls;
+#[cfg(test)]
+mod spaces;

@@ -1,0 +1,348 @@
+// Clients of any space, run over the space of terms themselves and over the store; what is expected was worked out by hand.
+ghost use Rattle.std.specs.Prelude.{◌≡◌, IfOk, IfSome, IsTrue, [], ◌∷◌};
+ghost use Rattle.term_model.specs.Term.{Tree, term};
+ghost use Rattle.term_model.specs.declared.term.Head.TheVariants as heads;
+
+use aterm_text::{read_term, write_term};
+use std::alloc::{AllocError, Global};
+use std::cmp::Ordering;
+use std::hash::BuildHasherDefault;
+use std::test::Fail;
+use term_model::{Block, Front, Head, Made, Parts, RcSpace, Sym, Term, TermSpace, Top};
+use term_store::StoreSpace;
+
+// Texts of terms with two parts, and what `changed` makes of each.
+const CHANGED: &[(&[u8], &[u8])] = &[
+    (b"[1,2]{7}", b"[2,1]{7} [1,2]{2,1} [2] "),
+    (b"[F,F]{F}", b"[F,F]{F} [F,F]{F,F} [F] "),
+    (b"F(1,2){7}", b"F(2,1){7} F(1,2){2,1} "),
+    (b"(1,[3]){7,8}", b"([3],1){7,8} (1,[3]){[3],1} "),
+];
+
+// The list of the second integer and of the symbol over both, with the first integer as its annotation, after something
+// else was made and given back.
+fn built<S: TermSpace>(
+    alloc: Global,
+    space: &mut S,
+    symbol: &Sym,
+    left: i32,
+    right: i32,
+) -> Result<Option<S::Ref>, AllocError>
+    ensures stands { IfOk result (λ made. IfSome made (λ r. IsTrue (S.stands space.new r))) }
+    ensures term { IfOk result (λ made. IfSome made (λ r. S.term_of space.new r ≡ term heads.List (term (heads.Int right) [] [] ∷ term (heads.App symbol.now) (term (heads.Int left) [] [] ∷ term (heads.Int right) [] [] ∷ []) [] ∷ []) (term (heads.Int left) [] [] ∷ []))) }
+{
+    let name = space.name(alloc, symbol)?;
+    let mut stack = Vec::new(alloc);
+    let first = space.int(alloc, left)?;
+    stack.push(first)?;
+    let second = space.int(alloc, right)?;
+    stack.push(second)?;
+    let Made::Fits(pair) = space.app(alloc, &name, &stack[..])? else {
+        return Ok(None);
+    };
+    let mark = space.mark();
+    let _extra = space.list(alloc, &stack[..])?;
+    space.back_to(mark);
+    stack.push(pair)?;
+    let Made::Fits(list) = space.list(alloc, &stack[1..])? else {
+        return Ok(None);
+    };
+    let Made::Fits(noted) = space.with_annos(alloc, &list, &stack[..1])? else {
+        return Ok(None);
+    };
+    Ok(Some(noted))
+}
+
+// Takes a term apart and makes it again, and a list from this place on; returns what was made last, where all is as it was.
+fn takes_apart<S: TermSpace>(
+    alloc: Global,
+    space: &mut S,
+    from: &Term,
+    place: usize,
+) -> Result<Option<S::Ref>, AllocError> {
+    let at = space.enter(alloc, from)?;
+    let mut stack = Vec::new(alloc);
+    space.push_parts(&at, &mut stack)?;
+    let Made::Fits(again) = space.rebuild(alloc, &at, &stack[..])? else {
+        return Ok(None);
+    };
+    if !space.same(&at, &again) || stack.len() < place {
+        return Ok(None);
+    }
+    let Some(count) = space.list_len(&at) else {
+        let whole = stack.len() == space.count(&at);
+        return Ok(if whole { Some(again) } else { None });
+    };
+    if count < place {
+        return Ok(None);
+    }
+    let Made::Fits(list) = space.list(alloc, &stack[..])? else {
+        return Ok(None);
+    };
+    let others = space.rest(alloc, &at, place)?;
+    let Made::Fits(whole) = space.prepend(alloc, &stack[..place], &others)? else {
+        return Ok(None);
+    };
+    let as_it_was = space.same(&whole, &list);
+    Ok(if as_it_was { Some(whole) } else { None })
+}
+
+// Writes a term with its two parts the other way round, with these as its annotations, and the list after its first
+// element.
+fn changed<S: TermSpace>(alloc: Global, space: &mut S, from: &Term) -> Result<Vec<u8>, AllocError> {
+    let mut written = Vec::new(alloc);
+    let at = space.enter(alloc, from)?;
+    if space.count(&at) != 2 {
+        return Ok(written);
+    }
+    let mut turned = Vec::new(alloc);
+    turned.push(space.part(&at, 1)?)?;
+    turned.push(space.part(&at, 0)?)?;
+    if let Made::Fits(made) = space.rebuild(alloc, &at, &turned[..])? {
+        write_term(&space.leave(alloc, &made)?, &mut written)?;
+        written.push(b' ')?;
+    }
+    if let Made::Fits(made) = space.with_annos(alloc, &at, &turned[..])? {
+        write_term(&space.leave(alloc, &made)?, &mut written)?;
+        written.push(b' ')?;
+    }
+    if space.list_len(&at).is_some() {
+        let rest = space.rest(alloc, &at, 1)?;
+        write_term(&space.leave(alloc, &rest)?, &mut written)?;
+        written.push(b' ')?;
+    }
+    Ok(written)
+}
+
+// The second part of an application: as an integer, and as it is lent.
+fn second<S: TermSpace>(
+    alloc: Global,
+    space: &mut S,
+    from: &Term,
+) -> Result<Option<(Option<i32>, Term)>, AllocError> {
+    let at = space.enter(alloc, from)?;
+    if space.count(&at) < 2 || !matches!(space.head(&at), Top::App(_)) {
+        return Ok(None);
+    }
+    let part = space.part(&at, 1)?;
+    let Some(lent) = space.shape(&at).parts.get(1) else {
+        return Ok(None);
+    };
+    let term = space.leave(alloc, lent)?;
+    Ok(Some((space.int_of(&part), term)))
+}
+
+// Where the symbol over two parts stands, seen from the other one over one, two and three, and whether it is the other
+// one over two.
+fn orders<S: TermSpace>(
+    alloc: Global,
+    space: &mut S,
+    symbol: &Sym,
+    other: &Sym,
+) -> Result<Option<([Ordering; 3], bool)>, AllocError> {
+    let mut parts = Vec::new(alloc);
+    parts.push(space.int(alloc, 1)?)?;
+    parts.push(space.int(alloc, 2)?)?;
+    let head = Head::App(symbol.clone()?);
+    let Made::Fits(at) = space.make(alloc, head, parts, Vec::new(alloc))? else {
+        return Ok(None);
+    };
+    let name = space.name(alloc, other)?;
+    let from_one = space.order(&at, &name, 1);
+    let from_two = space.order(&at, &name, 2);
+    let from_three = space.order(&at, &name, 3);
+    let is_it = space.is_app(&at, &name, 2);
+    Ok(Some(([from_one, from_two, from_three], is_it)))
+}
+
+// The term that `built` makes, by the makers of terms.
+fn expected(alloc: Global, symbol: &Sym, left: i32, right: i32) -> Result<Term, Fail> {
+    let parts = vec![in alloc; Term::int(alloc, left)?, Term::int(alloc, right)?]?;
+    let Made::Fits(pair) = Term::app(alloc, symbol.clone()?, parts)? else {
+        return Err(Fail::new("oversize"));
+    };
+    let elements = vec![in alloc; Term::int(alloc, right)?, pair]?;
+    let annos = vec![in alloc; Term::int(alloc, left)?]?;
+    let Made::Fits(list) = Term::new(alloc, Head::List, elements, annos)? else {
+        return Err(Fail::new("oversize"));
+    };
+    Ok(list)
+}
+
+// The list of the first integers from 0 on.
+fn numbers(alloc: Global, count: i32) -> Result<Term, Fail> {
+    let mut elements = Vec::new(alloc);
+    for value in 0..count {
+        elements.push(Term::int(alloc, value)?)?;
+    }
+    let Made::Fits(list) = Term::list(alloc, elements)? else {
+        return Err(Fail::new("oversize"));
+    };
+    Ok(list)
+}
+
+fn store(alloc: Global) -> StoreSpace {
+    StoreSpace::new(alloc, BuildHasherDefault::new())
+}
+
+// Runs the clients that make terms over a space.
+fn run_makers<S: TermSpace>(alloc: Global, space: &mut S) -> Result<(), Fail> {
+    let table: [(&[u8], i32, i32); 3] = [
+        (b"F", 1, 2),
+        (b"Plus", -7, -7),
+        (b"of_15_letters__", 0, 2147483647),
+    ];
+    for (name, left, right) in table {
+        let symbol = Sym::plain(alloc, name)?.ok_or("no name")?;
+        let made = built(alloc, space, &symbol, left, right)?.ok_or("oversize")?;
+        let list = expected(alloc, &symbol, left, right)?;
+        if space.leave(alloc, &made)? != list {
+            return Err(Fail::new("another term was built"));
+        }
+    }
+    Ok(())
+}
+
+// Changes terms over a space.
+fn run_changes<S: TermSpace>(alloc: Global, space: &mut S) -> Result<(), Fail> {
+    for (text, wanted) in CHANGED {
+        let written = changed(alloc, space, &read_term(alloc, text)?)?;
+        if &written[..] != *wanted {
+            return Err(Fail::new("changed into other terms"));
+        }
+    }
+    Ok(())
+}
+
+// Takes terms apart over a space, and looks at their parts.
+fn run_takers<S: TermSpace>(alloc: Global, space: &mut S) -> Result<(), Fail> {
+    let texts: [&[u8]; 4] = [b"[2,F(1,2)]{1}", b"F(1,F(1)){[]}", b"7{1}", b"[1,1,1,1,1]"];
+    for text in texts {
+        let term = read_term(alloc, text)?;
+        for place in 0..term.children().len() {
+            if takes_apart(alloc, space, &term, place)?.is_none() {
+                return Err(Fail::new("not as it was"));
+            }
+        }
+    }
+    let pair = read_term(alloc, b"(1,2){3}")?;
+    if second(alloc, space, &pair)? != Some((Some(2), Term::int(alloc, 2)?)) {
+        return Err(Fail::new("another second part"));
+    }
+    Ok(())
+}
+
+// Compares the order of the roots of symbols, which come into the space in their order.
+fn run_orders<S: TermSpace>(alloc: Global, space: &mut S) -> Result<(), Fail> {
+    let symbols = [
+        Sym::named(alloc, b"F")?,
+        Sym::named(alloc, b"FG")?,
+        Sym::quoted(alloc, b"")?,
+        Sym::tuple(),
+    ];
+    for (i, symbol) in symbols.iter().enumerate() {
+        for (k, other) in symbols.iter().enumerate() {
+            let wanted = if i == k {
+                [Ordering::Greater, Ordering::Equal, Ordering::Less]
+            } else {
+                [i.cmp(&k); 3]
+            };
+            if orders(alloc, space, symbol, other)? != Some((wanted, i == k)) {
+                return Err(Fail::new("another order"));
+            }
+        }
+    }
+    Ok(())
+}
+
+#[test]
+fn terms_themselves(rt: HostRuntime) -> Result<(), Fail> {
+    let alloc = rt.alloc();
+    let mut space = RcSpace;
+    run_orders(alloc, &mut space)?;
+    run_makers(alloc, &mut space)?;
+    run_changes(alloc, &mut space)?;
+    run_takers(alloc, &mut space)
+}
+
+#[test]
+fn stored_terms(rt: HostRuntime) -> Result<(), Fail> {
+    let alloc = rt.alloc();
+    let mut space = store(alloc);
+    run_orders(alloc, &mut space)?;
+    run_makers(alloc, &mut space)?;
+    run_changes(alloc, &mut space)?;
+    run_takers(alloc, &mut space)
+}
+
+// Enters a term, and says whether its two parts are one.
+fn enter_pair(alloc: Global, space: &mut StoreSpace, pair: &Term) -> Result<(u32, bool), Fail>
+    ensures { IfOk result (λ r. IsTrue (⟦<StoreSpace as TermSpace>⟧.stands space.new r.0)) }
+{
+    let at = space.enter(alloc, pair)?;
+    let mut stack = Vec::new(alloc);
+    space.push_parts(&at, &mut stack)?;
+    let is_one = stack.len() == 2 && stack[0] == stack[1];
+    Ok((at, is_one))
+}
+
+// Equal parts are one, and what came after a mark is given back.
+#[test]
+fn shared(rt: HostRuntime) -> Result<(), Fail> {
+    let alloc = rt.alloc();
+    let mut space = store(alloc);
+    let pair = read_term(alloc, b"F(1,1)")?;
+    let (at, is_one) = enter_pair(alloc, &mut space, &pair)?;
+    assert!(rt; is_one && space.len() == 2);
+    let name = space.name(alloc, &Sym::named(alloc, b"G")?)?;
+    let mark = space.mark();
+    let made = space.app(alloc, &name, &[])?;
+    assert!(rt; matches!(made, Made::Fits(_)));
+    assert_eq!(rt; space.len(), 3);
+    space.back_to(mark);
+    assert_eq!(rt; space.len(), 2);
+    assert_eq!(rt; space.leave(alloc, &at)?, pair);
+    Ok(())
+}
+
+// A list is taken apart at each place and put together again: it has the number that it had, and each rest is new.
+#[test]
+fn numbers_of_lists(rt: HostRuntime) -> Result<(), Fail> {
+    let alloc = rt.alloc();
+    for (count, held) in [(7, 15), (100, 201)] {
+        let list = numbers(alloc, count)?;
+        let mut space = store(alloc);
+        let at = space.enter(alloc, &list)?;
+        for place in 0..=list.children().len() {
+            let again = takes_apart(alloc, &mut space, &list, place)?;
+            assert_eq!(rt; again, Some(at), "at {place}");
+        }
+        assert_eq!(rt; space.len(), held);
+    }
+    Ok(())
+}
+
+#[test]
+fn blocks(rt: HostRuntime) -> Result<(), Fail> {
+    let blocks = [
+        Block {
+            front: Front::Three(5, 6, 7),
+            rest: 0,
+        },
+        Block {
+            front: Front::Three(2, 3, 4),
+            rest: 1,
+        },
+    ];
+    let first = Block {
+        front: Front::One(1),
+        rest: 2,
+    };
+    let parts = Parts::of_block(&first, &blocks);
+    assert_eq!(rt; parts.len(), 7);
+    for i in 0..7 {
+        assert_eq!(rt; parts.get(i), Some(&(i + 1)));
+    }
+    assert_eq!(rt; parts.get(7), None);
+    Ok(())
+}
