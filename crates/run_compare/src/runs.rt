@@ -15,7 +15,7 @@ use str_parser::parse;
 use strat_compile::compile;
 use strat_machine::Machine;
 use strategy_lib::with_library;
-use term_model::{Fault, Term};
+use term_model::{Fault, Term, TermSpace};
 use term_store::StoreSpace;
 
 // The greatest budget of the evaluator, whose calls stand in one another.
@@ -50,7 +50,8 @@ pub(crate) fn compare(
     }
     let budget = case.budget.min(MOST);
     let plain = eval(alloc, &core, &term, budget, registry)?;
-    let compiled = run_compiled(alloc, &core, &term, budget, registry)?;
+    let store = StoreSpace::new(alloc, BuildHasherDefault::new());
+    let compiled = run_compiled(alloc, store, &core, &term, budget, registry)?;
     if plain.outcome != compiled.outcome || plain.rules != compiled.rules {
         return Ok(Compared::Different);
     }
@@ -80,9 +81,10 @@ fn read_case(
     Ok((core, term))
 }
 
-// The run of the core's code on the machine.
-fn run_compiled(
+// The run of the core's code on the machine over the space.
+fn run_compiled<S: TermSpace + Drop>(
     alloc: Global,
+    space: S,
     core: &Core,
     term: &Term,
     budget: u32,
@@ -92,7 +94,6 @@ fn run_compiled(
     requires covers { Covers registry.now core.now.prims }
 {
     let code = compile(alloc, core)?;
-    let space = StoreSpace::new(alloc, BuildHasherDefault::new());
     let mut machine = Machine::new(alloc, space);
     let entered = machine.enter(term)?;
     let run = machine.run(&code, entered, budget, registry)?;

@@ -3,7 +3,8 @@ ghost use Rattle.std.specs.Prelude.{◌≡◌, All, map, IsTrue, IfOk};
 ghost use Rattle.term_model.specs.Term.{term};
 ghost use Rattle.term_model.specs.Space.{Keeps, Makes, MayHave};
 
-use crate::single_calls::core_of;
+use crate::single_calls::code_of;
+use crate::spaces::Holds;
 use aterm_text::{read_term, write_term};
 use core_lang::Outcome;
 use prim_registry::{Registry, Standard};
@@ -12,7 +13,6 @@ use std::cmp::Ordering;
 use std::hash::BuildHasherDefault;
 use std::test::Fail;
 use strat_code::Code;
-use strat_compile::compile;
 use strat_machine::Machine;
 use term_model::{Head, Made, Shape, Sym, Term, TermSpace, Top};
 use term_store::StoreSpace;
@@ -204,6 +204,16 @@ impl<S: TermSpace + Drop> TermSpace for Counting<S> {
     }
 }
 
+// What a run comes to: what it writes, which is nothing where it fails; how many rules it takes; how many shapes the space holds then, and
+// how often it went back.
+#[derive(Drop)]
+struct Seen {
+    written: Vec<u8>,
+    rules: u32,
+    held: usize,
+    back: u32,
+}
+
 // Runs the code on the term, and writes what it is rewritten to; nothing where it fails.
 fn run<S: TermSpace + Drop>(
     alloc: Global,
@@ -226,21 +236,42 @@ fn run<S: TermSpace + Drop>(
     Ok((written, run.rules))
 }
 
+// Runs the code on the term over the space, whose times back are counted.
+fn run_over<S: TermSpace + Holds + Drop>(
+    alloc: Global,
+    space: S,
+    code: &Code,
+    term: &Term,
+) -> Result<Seen, Fail> {
+    let mut machine = Machine::new(alloc, Counting { space, back: 0 });
+    let (written, rules) = run(alloc, &mut machine, code, term)?;
+    let counting = machine.space();
+    Ok(Seen {
+        written,
+        rules,
+        held: counting.space.held(),
+        back: counting.back,
+    })
+}
+
+// Runs the definitions on the term over a store.
+fn run_in_store(alloc: Global, definitions: &[u8], text: &[u8]) -> Result<Seen, Fail> {
+    let code = code_of(alloc, definitions)?;
+    let term = read_term(alloc, text)?;
+    let space = StoreSpace::new(alloc, BuildHasherDefault::new());
+    run_over(alloc, space, &code, &term)
+}
+
 #[test]
 fn gives_back(rt: HostRuntime) -> Result<(), Fail> {
-    let alloc = rt.alloc();
     for (definitions, text, wanted, rules, held, once) in ROWS {
-        let space = StoreSpace::new(alloc, BuildHasherDefault::new());
-        let mut machine = Machine::new(alloc, Counting { space, back: 0 });
-        let code = compile(alloc, &core_of(alloc, definitions)?)?;
-        let term = read_term(alloc, text)?;
-        let (written, count) = run(alloc, &mut machine, &code, &term)?;
-        let as_wanted = &written[..] == *wanted;
-        assert!(rt; as_wanted && count == *rules, "{count} rules");
-        let counting = machine.space();
-        assert_eq!(rt; counting.space.len(), *held);
-        assert_eq!(rt; counting.back == 1, *once, "{} times", counting.back);
-        assert!(rt; counting.back > 0);
+        let seen = run_in_store(rt.alloc(), definitions, text)?;
+        if &seen.written[..] != *wanted || seen.rules != *rules {
+            return Err(Fail::new("another outcome"));
+        }
+        if seen.held != *held || seen.back == 0 || (seen.back == 1) != *once {
+            return Err(Fail::new("another number of shapes, or of times back"));
+        }
     }
     Ok(())
 }

@@ -1,7 +1,9 @@
-//! Tests of spaces of terms and of the machine that runs over them: each row over the space of terms themselves and over the store, and of a
-//! definition file through each public call. They stand in a crate of their own, since a crate with tests is proved once more for them.
+//! Tests of spaces of terms, of the compiler, and of the machine that runs over spaces: each row over the space of terms themselves and over the
+//! store, and of a definition file through each public call. They stand in a crate of their own, since a crate with tests is proved once more for them.
 #![tactic(auto)]
 
+#[cfg(test)]
+mod compiled;
 #[cfg(test)]
 mod going_back;
 #[cfg(test)]

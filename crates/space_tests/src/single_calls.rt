@@ -17,18 +17,24 @@ use strat_code::Code;
 use strat_compile::compile;
 use strat_machine::Machine;
 use strategy_lib::with_library;
-use term_model::{PrimNames, RcSpace, TermSpace};
+use term_model::{PrimNames, RcSpace, Term, TermSpace};
 use term_store::StoreSpace;
 
 const DEFINITIONS: &[u8] = b"strategies main = ?(x,_); !x";
 
 // The core of the definitions with the library.
-pub(crate) fn core_of(alloc: Global, definitions: &[u8]) -> Result<Core, Fail> {
+fn core_of(alloc: Global, definitions: &[u8]) -> Result<Core, Fail> {
     let tokens = lex(alloc, definitions)?;
     let file = parse(alloc, definitions, &tokens)?;
     let file = with_library(alloc, file)?;
     let checked = check(alloc, file, &PrimNames::new(alloc), b"main")?;
     Ok(to_core(alloc, &checked)?)
+}
+
+// The code of the definitions with the library.
+pub(crate) fn code_of(alloc: Global, definitions: &[u8]) -> Result<Code, Fail> {
+    let core = core_of(alloc, definitions)?;
+    Ok(compile(alloc, &core)?)
 }
 
 // The text of the term that the core rewrites to within the budget, and the rules; no text where the budget is spent.
@@ -89,21 +95,32 @@ fn takes_five<S: TermSpace + Drop>(
 }
 
 // Whether a machine over the space does so with the same term twice.
-fn takes_five_twice<S: TermSpace + Drop>(alloc: Global, space: S) -> Result<bool, Fail> {
-    let code = compile(alloc, &core_of(alloc, DEFINITIONS)?)?;
+fn takes_five_twice<S: TermSpace + Drop>(
+    alloc: Global,
+    space: S,
+    code: &Code,
+    term: &Term,
+) -> Result<bool, Fail> {
     let mut machine = Machine::new(alloc, space);
-    let entered = machine.enter(&read_term(alloc, b"(7,f(1))")?)?;
+    let entered = machine.enter(term)?;
     let once_more = machine.space().dup(&entered)?;
-    let first = takes_five(alloc, &mut machine, &code, entered)?;
-    let second = takes_five(alloc, &mut machine, &code, once_more)?;
-    Ok(first && second)
+    if !takes_five(alloc, &mut machine, code, entered)? {
+        return Ok(false);
+    }
+    takes_five(alloc, &mut machine, code, once_more)
 }
 
 #[test]
 fn from_bytes_to_runs_of_the_machine(rt: HostRuntime) -> Result<(), Fail> {
     let alloc = rt.alloc();
-    assert!(rt; takes_five_twice(alloc, RcSpace)?);
+    let code = code_of(alloc, DEFINITIONS)?;
+    let term = read_term(alloc, b"(7,f(1))")?;
     let store = StoreSpace::new(alloc, BuildHasherDefault::new());
-    assert!(rt; takes_five_twice(alloc, store)?);
+    if !takes_five_twice(alloc, RcSpace, &code, &term)? {
+        return Err(Fail::new("over terms"));
+    }
+    if !takes_five_twice(alloc, store, &code, &term)? {
+        return Err(Fail::new("over a store"));
+    }
     Ok(())
 }

@@ -275,49 +275,92 @@ fn stored_terms(rt: HostRuntime) -> Result<(), Fail> {
     run_takers(alloc, &mut space)
 }
 
-// Enters a term, and says whether its two parts are one.
-fn enter_pair(alloc: Global, space: &mut StoreSpace, pair: &Term) -> Result<(u32, bool), Fail>
-    ensures { IfOk result (λ r. IsTrue (⟦<StoreSpace as TermSpace>⟧.stands space.new r.0)) }
-{
+// A space that says how many shapes it holds.
+pub(crate) trait Holds {
+    fn held(&self) -> usize;
+}
+
+impl Holds for StoreSpace {
+    fn held(&self) -> usize {
+        self.len()
+    }
+}
+
+// Whether the two parts of a pair are one.
+fn is_one_twice<S: TermSpace>(
+    alloc: Global,
+    space: &mut S,
+    pair: &Term,
+) -> Result<bool, AllocError> {
     let at = space.enter(alloc, pair)?;
     let mut stack = Vec::new(alloc);
     space.push_parts(&at, &mut stack)?;
-    let is_one = stack.len() == 2 && stack[0] == stack[1];
-    Ok((at, is_one))
+    if let [first, second] = &stack[..] {
+        return Ok(space.same(first, second));
+    }
+    Ok(false)
+}
+
+// How many shapes the space holds with a pair, with `G` more, and after it goes back; and the pair again.
+fn goes_back<S: TermSpace + Holds>(
+    alloc: Global,
+    space: &mut S,
+    pair: &Term,
+) -> Result<([usize; 3], Term), AllocError> {
+    let at = space.enter(alloc, pair)?;
+    let entered = space.held();
+    let name = space.name(alloc, &Sym::named(alloc, b"G")?)?;
+    let mark = space.mark();
+    let _made = space.app(alloc, &name, &[])?;
+    let made = space.held();
+    space.back_to(mark);
+    let left = space.leave(alloc, &at)?;
+    Ok(([entered, made, space.held()], left))
 }
 
 // Equal parts are one, and what came after a mark is given back.
+fn run_going_back<S: TermSpace + Holds + Drop>(alloc: Global, space: S) -> Result<bool, Fail> {
+    let mut space = space;
+    let pair = read_term(alloc, b"F(1,1)")?;
+    if !is_one_twice(alloc, &mut space, &pair)? {
+        return Ok(false);
+    }
+    let (held, left) = goes_back(alloc, &mut space, &pair)?;
+    Ok(held == [2, 3, 2] && left == pair)
+}
+
 #[test]
 fn shared(rt: HostRuntime) -> Result<(), Fail> {
-    let alloc = rt.alloc();
-    let mut space = store(alloc);
-    let pair = read_term(alloc, b"F(1,1)")?;
-    let (at, is_one) = enter_pair(alloc, &mut space, &pair)?;
-    assert!(rt; is_one && space.len() == 2);
-    let name = space.name(alloc, &Sym::named(alloc, b"G")?)?;
-    let mark = space.mark();
-    let made = space.app(alloc, &name, &[])?;
-    assert!(rt; matches!(made, Made::Fits(_)));
-    assert_eq!(rt; space.len(), 3);
-    space.back_to(mark);
-    assert_eq!(rt; space.len(), 2);
-    assert_eq!(rt; space.leave(alloc, &at)?, pair);
+    if !run_going_back(rt.alloc(), store(rt.alloc()))? {
+        return Err(Fail::new("another number of shapes"));
+    }
     Ok(())
 }
 
-// A list is taken apart at each place and put together again: it has the number that it had, and each rest is new.
+// A list is taken apart at each place and put together again: it has the number that it had, and each rest is new. Returns how many shapes
+// the space holds then; nothing where a list has another number.
+fn run_lists<S: TermSpace<Ref = u32> + Holds + Drop>(
+    alloc: Global,
+    space: S,
+    count: i32,
+) -> Result<Option<usize>, Fail> {
+    let mut space = space;
+    let list = numbers(alloc, count)?;
+    let at = space.enter(alloc, &list)?;
+    for place in 0..=list.children().len() {
+        if takes_apart(alloc, &mut space, &list, place)? != Some(at) {
+            return Ok(None);
+        }
+    }
+    Ok(Some(space.held()))
+}
+
 #[test]
 fn numbers_of_lists(rt: HostRuntime) -> Result<(), Fail> {
-    let alloc = rt.alloc();
     for (count, held) in [(7, 15), (100, 201)] {
-        let list = numbers(alloc, count)?;
-        let mut space = store(alloc);
-        let at = space.enter(alloc, &list)?;
-        for place in 0..=list.children().len() {
-            let again = takes_apart(alloc, &mut space, &list, place)?;
-            assert_eq!(rt; again, Some(at), "at {place}");
+        if run_lists(rt.alloc(), store(rt.alloc()), count)? != Some(held) {
+            return Err(Fail::new("another number of shapes"));
         }
-        assert_eq!(rt; space.len(), held);
     }
     Ok(())
 }

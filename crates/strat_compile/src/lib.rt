@@ -11,6 +11,3 @@ mod patterns;
 mod program;
 
 pub use program::compile;
-
-#[cfg(test)]
-mod tests;

@@ -1,9 +1,9 @@
-// Tests of the compiler: the code of a small program.
-use crate::program::compile;
+// The code of a small program, which was worked out by hand.
 use core_lang::{Coordinate, Core, CoreDef, CorePattern, CoreStrategy};
 use std::alloc::{AllocError, Global};
 use std::test::Fail;
 use strat_code::{Argument, Instr};
+use strat_compile::compile;
 use term_model::Sym;
 
 const HERE: Coordinate = Coordinate {
