@@ -7,6 +7,8 @@ mod compiled;
 #[cfg(test)]
 mod going_back;
 #[cfg(test)]
+mod growth;
+#[cfg(test)]
 mod single_calls;
 #[cfg(test)]
 mod spaces;

@@ -4,7 +4,7 @@ use Rattle.std.specs.Borrow.{Bor}
 use Rattle.std.specs.Prelude.{is_some, IsSome}
 use Rattle.std.proofs.lemmas.List.{take_all}
 use Rattle.core_lang.specs.InRange.{InRange}
-use Rattle.core_lang.specs.Named.{written}
+use Rattle.core_lang.specs.Named.{NamedStrategy, written}
 use Rattle.core_lang.specs.Resolution.{ResolvesProgram}
 use Rattle.core_lang.specs.Resolved.{ResolvedStrategy, ResolvedDefinitions}
 use Rattle.core_lang.proofs.InRangeLaws.{resolved_in_range}
@@ -60,13 +60,20 @@ module _ (declared : Bytes → ℕ → Bool) where
       e ∙ ap (λ fs. map (λ f. body_among F hs (top_core declared f)) (read_forms fs)) (take_all i forms past) ∙
       same_bodies F hs (read_forms forms) ∙ ap (λ gs. map (λ a. body_among F gs a) (tops_at declared (read_forms forms))) is
 
+-- a body under parameters
+pub under_made : (fs xs : Bor (List Bytes)) (up : Bor Scopes) (strategies terms : List Bytes) (body : NamedStrategy) (made : ResolvedStrategy) →
+    fs.now ≡ strategies → xs.now ≡ terms → made ≡ strategy_at (layers_of (code.Parameters fs xs up)) body →
+    made ≡ strategy_at (of_names (map written strategies) (map written terms) (layers_of up.now)) body
+under_made fs xs up strategies terms body made are also e =
+    e ∙ ap (λ G. strategy_at G body) (reads_parameters fs xs up ∙ ap₂ (λ l r. of_names (map written l) (map written r) (layers_of up.now)) are also)
+
 -- the body of an alternative under the parameters of the first of its group
-pub alternative_made : (fs xs : Bor (List Bytes)) (up : Bor Scopes) (first : DefinitionHead) (hs : List Head) (a : Alternative) (made : ResolvedStrategy) →
-    read_head first ≡ first_for hs (head_in a) → fs.now ≡ strategy_names (parameters_of first.parameters) → xs.now ≡ term_names (parameters_of first.parameters) →
-    made ≡ strategy_at (layers_of (code.Parameters fs xs up)) a.body → made ≡ body_among (layers_of up.now) hs a
-alternative_made fs xs up first hs a made is strategies terms e =
-    e ∙ ap (λ G. strategy_at G a.body) (reads_parameters fs xs up ∙ ap₂ (λ l r. of_names (map written l) (map written r) (layers_of up.now)) strategies terms) ∙
-    ap (λ h. strategy_at (under_head (layers_of up.now) h) a.body) is
+pub alternative_made : (fs xs : List Bytes) (F : Frames) (first : DefinitionHead) (hs : List Head) (a : Alternative) (made : ResolvedStrategy) →
+    read_head first ≡ first_for hs (head_in a) → fs ≡ strategy_names (parameters_of first.parameters) → xs ≡ term_names (parameters_of first.parameters) →
+    made ≡ strategy_at (of_names (map written fs) (map written xs) F) a.body → made ≡ body_among F hs a
+alternative_made fs xs F first hs a made is strategies terms e =
+    e ∙ ap (λ G. strategy_at G a.body) (ap₂ (λ l r. of_names (map written l) (map written r) F) strategies terms) ∙
+    ap (λ h. strategy_at (under_head F h) a.body) is
 
 -- ---- the layer of the definitions
 

@@ -1,9 +1,11 @@
 // Items of sequences: those that give one result of a build, and those of one part of a congruence.
 ghost use Rattle.std.specs.Prelude.{◌≡◌, ◌+◌, ◌++◌, ◌∷◌, [], IfOk, OnOk, map};
+ghost use Rattle.core_lang.specs.Named.{brought};
 ghost use Rattle.core_lang.specs.Program as core;
 ghost use Rattle.core_lang.specs.Views as views;
 ghost use Rattle.str_desugar.specs.Assembled.{keeping_here, part_here, result_here};
 ghost use Rattle.str_desugar.specs.Brought.{kept};
+ghost use Rattle.str_desugar.specs.Equations.{outcome_name, result_name};
 ghost use Rattle.str_desugar.specs.Frames.{variable_at};
 ghost use Rattle.str_desugar.specs.Layers.{layers_of};
 
@@ -12,6 +14,64 @@ use crate::parts::{successor, sum, variable};
 use crate::scopes::Scopes;
 use core_lang::{CorePattern, CoreStrategy};
 use std::alloc::{AllocError, Global};
+
+// Puts the build of the name that is brought at this index after the others.
+fn put_build(scopes: &Scopes, index: usize, items: &mut Vec<CoreStrategy>) -> Result<(), AllocError>
+    ensures { OnOk result (map views.strategy_of items.new.items ≡ map views.strategy_of items.old.items ++ core.build (core.variable (variable_at (layers_of scopes.now) (brought index))) ∷ []) }
+{
+    let part = variable(scopes, index)?;
+    items.push(CoreStrategy::Build(part))?;
+    Ok(())
+}
+
+// Puts the match of the name that is brought at this index after the others.
+fn put_match(scopes: &Scopes, index: usize, items: &mut Vec<CoreStrategy>) -> Result<(), AllocError>
+    ensures { OnOk result (map views.strategy_of items.new.items ≡ map views.strategy_of items.old.items ++ core.match (core.variable (variable_at (layers_of scopes.now) (brought index))) ∷ []) }
+{
+    let part = variable(scopes, index)?;
+    items.push(CoreStrategy::Match(part))?;
+    Ok(())
+}
+
+// Puts the strategy after the others, on the build of the name that is brought at this index.
+fn put_on(
+    scopes: &Scopes,
+    index: usize,
+    only: CoreStrategy,
+    items: &mut Vec<CoreStrategy>,
+) -> Result<(), AllocError>
+    ensures { OnOk result (map views.strategy_of items.new.items ≡ map views.strategy_of items.old.items ++ core.build (core.variable (variable_at (layers_of scopes.now) (brought index))) ∷ views.strategy_of only ∷ []) }
+{
+    put_build(scopes, index, items)?;
+    items.push(only)?;
+    Ok(())
+}
+
+// Puts the match of the next result after the others.
+fn put_next(
+    scopes: &Scopes,
+    next: &mut usize,
+    items: &mut Vec<CoreStrategy>,
+) -> Result<(), AllocError>
+    ensures items { OnOk result (map views.strategy_of items.new.items ≡ map views.strategy_of items.old.items ++ core.match (core.variable (variable_at (layers_of scopes.now) (result_name next.old))) ∷ []) }
+    ensures next { OnOk result (next.new ≡ next.old + 1) }
+{
+    *next = successor(*next)?;
+    put_match(scopes, *next, items)
+}
+
+// Puts the match of what becomes of the part at this index, of this number of parts, after the others.
+fn put_outcome(
+    scopes: &Scopes,
+    count: usize,
+    index: usize,
+    items: &mut Vec<CoreStrategy>,
+) -> Result<(), AllocError>
+    ensures { OnOk result (map views.strategy_of items.new.items ≡ map views.strategy_of items.old.items ++ core.match (core.variable (variable_at (layers_of scopes.now) (outcome_name count index))) ∷ []) }
+{
+    let outcome = successor(sum(count, index)?)?;
+    put_match(scopes, outcome, items)
+}
 
 /// Puts the items of the next result after the others: the strategy on the kept term gives it.
 pub(crate) fn put_result(
@@ -23,11 +83,8 @@ pub(crate) fn put_result(
     ensures items { OnOk result (map views.strategy_of items.new.items ≡ map views.strategy_of items.old.items ++ result_here (layers_of scopes.now) next.old (views.strategy_of only ∷ [])) }
     ensures next { OnOk result (next.new ≡ next.old + 1) }
 {
-    items.push(CoreStrategy::Build(variable(scopes, 0)?))?;
-    items.push(only)?;
-    *next = successor(*next)?;
-    items.push(CoreStrategy::Match(variable(scopes, *next)?))?;
-    Ok(())
+    put_on(scopes, 0, only, items)?;
+    put_next(scopes, next, items)
 }
 
 /// Puts the items of the next result after the others: the first strategy on the kept term, and then the second, give it.
@@ -41,12 +98,9 @@ pub(crate) fn put_result_of(
     ensures items { OnOk result (map views.strategy_of items.new.items ≡ map views.strategy_of items.old.items ++ result_here (layers_of scopes.now) next.old (views.strategy_of first ∷ views.strategy_of second ∷ [])) }
     ensures next { OnOk result (next.new ≡ next.old + 1) }
 {
-    items.push(CoreStrategy::Build(variable(scopes, 0)?))?;
-    items.push(first)?;
+    put_on(scopes, 0, first, items)?;
     items.push(second)?;
-    *next = successor(*next)?;
-    items.push(CoreStrategy::Match(variable(scopes, *next)?))?;
-    Ok(())
+    put_next(scopes, next, items)
 }
 
 /// Puts the items of the part at this index, of this number of parts, after the others: the strategy on the part gives its outcome.
@@ -59,12 +113,9 @@ pub(crate) fn put_part(
 ) -> Result<(), AllocError>
     ensures { OnOk result (map views.strategy_of items.new.items ≡ map views.strategy_of items.old.items ++ part_here (layers_of scopes.now) count index (views.strategy_of only)) }
 {
-    let part = variable(scopes, successor(index)?)?;
-    let outcome = variable(scopes, successor(sum(count, index)?)?)?;
-    items.push(CoreStrategy::Build(part))?;
-    items.push(only)?;
-    items.push(CoreStrategy::Match(outcome))?;
-    Ok(())
+    let part = successor(index)?;
+    put_on(scopes, part, only, items)?;
+    put_outcome(scopes, count, index, items)
 }
 
 /// The build of the pattern after the items for its results.
@@ -90,7 +141,6 @@ pub(crate) fn call_after(
 ) -> Result<CoreStrategy, AllocError>
     ensures { IfOk result (λ made. views.strategy_of made ≡ keeping_here count (map views.strategy_of items.items ++ core.build (core.variable (variable_at (layers_of scopes.now) kept)) ∷ views.strategy_of last ∷ [])) }
 {
-    items.push(CoreStrategy::Build(variable(scopes, 0)?))?;
-    items.push(last)?;
+    put_on(scopes, 0, last, &mut items)?;
     keeping(alloc, count, items)
 }

@@ -7,10 +7,10 @@ ghost use Rattle.core_lang.specs.Views as views;
 ghost use Rattle.signature_core.specs.Signature.{arity_known};
 ghost use Rattle.str_syntax.specs.Views.{file_of, form_of, strategy_of};
 ghost use Rattle.str_desugar.specs.Alternatives.{definitions_of_all};
-ghost use Rattle.str_desugar.specs.Equations.{scoped, strategy_core, top_core};
+ghost use Rattle.str_desugar.specs.Equations.{forms_among, scoped, strategy_core, top_core};
 ghost use Rattle.str_desugar.specs.FileProgram.{program_of_file};
 ghost use Rattle.str_desugar.specs.Forms.{read_forms, tops_at};
-ghost use Rattle.str_desugar.specs.Frames.{definitions_at, keys_of, of_definitions, outermost, strategy_at};
+ghost use Rattle.str_desugar.specs.Frames.{definitions_at, key_position, keys_of, of_definitions, of_names, outermost, strategy_at};
 ghost use Rattle.str_desugar.specs.Groups.{bodies_at, body_among, head_in};
 ghost use Rattle.str_desugar.specs.Layers.{layers_of};
 
@@ -33,19 +33,50 @@ use str_syntax::{DefinitionForm, Name, Strategy};
 pub fn to_core(alloc: Global, checked: &Checked) -> Result<Core, AllocError>
     ensures { IfOk result (λ core. ResolvesProgram (program_of_file (file_of checked.now.file)) (written checked.now.main) (program_of core) core.main) }
 {
+    let forms = forms_in(alloc, checked.file())?;
+    let core = core_of(alloc, checked, &forms)?;
+    Ok(core)
+}
+
+// The core program of a checked file, whose rules and definitions are these.
+fn core_of(alloc: Global, checked: &Checked, forms: &[&DefinitionForm]) -> Result<Core, AllocError>
+    requires { read_forms forms.now ≡ forms_among (file_of checked.now.file).sections }
+    ensures { IfOk result (λ core. ResolvesProgram (program_of_file (file_of checked.now.file)) (written checked.now.main) (program_of core) core.main) }
+{
+    let groups = groups_of(alloc, forms)?;
+    let core = core_among(alloc, checked, forms, &groups)?;
+    Ok(core)
+}
+
+// The core program, whose rules and definitions have these heads.
+fn core_among<'a>(
+    alloc: Global,
+    checked: &Checked,
+    forms: &[&'a DefinitionForm],
+    groups: &Groups<'a>,
+) -> Result<Core, AllocError>
+    requires forms { read_forms forms.now ≡ forms_among (file_of checked.now.file).sections }
+    requires heads { groups.now ≡ map head_in (tops_at (arity_known checked.now.declarations) (read_forms forms.now)) }
+    ensures { IfOk result (λ core. ResolvesProgram (program_of_file (file_of checked.now.file)) (written checked.now.main) (program_of core) core.main) }
+{
     let context = Context {
         alloc,
         signature: checked.signature(),
     };
-    let name = Name::new(alloc, checked.main(), 0)?;
-    let forms = forms_in(alloc, checked.file())?;
-    let forms = forms.as_slice();
-    let groups = groups_of(alloc, forms)?;
     let keys = groups.keys(alloc)?;
-    let main = keys.position(&name, 0, 0).unwrap();
-    let defs = definitions(&context, forms, &groups, &keys)?;
+    let found = plain_position(alloc, &keys, checked.main())?;
+    let main = found.unwrap();
+    let defs = definitions(&context, forms, groups, &keys)?;
     let core = Core::new(context.alloc, defs, main)?;
     Ok(core)
+}
+
+// The position of the definition of this name that has no parameters.
+fn plain_position(alloc: Global, keys: &Keys, name: &[u8]) -> Result<Option<usize>, AllocError>
+    ensures { IfOk result (λ found. found ≡ key_position keys.now (written name.now) 0 0) }
+{
+    let name = Name::new(alloc, name, 0)?;
+    Ok(keys.position(&name, 0, 0))
 }
 
 // The definitions of these groups, in the layer that has their keys.
@@ -101,9 +132,25 @@ fn alternative<'a>(
 {
     let first = groups.first_of(head_of(form));
     let strategies = names_in(context.alloc, strategy_names(&first.parameters))?;
-    let terms = names_in(context.alloc, term_names(&first.parameters))?;
+    let terms = term_names(&first.parameters);
+    let made = under_parameters(context, form, &strategies, terms, scopes, symbols)?;
+    Ok(made)
+}
+
+// The body under these parameters.
+fn under_parameters(
+    context: &Context,
+    form: &DefinitionForm,
+    strategies: &Names,
+    terms: &[Name],
+    scopes: &Scopes,
+    symbols: &mut Symbols,
+) -> Result<CoreStrategy, AllocError>
+    ensures { IfOk result (λ made. views.strategy_of made ≡ strategy_at (of_names (map written strategies.now) (map written terms.now) (layers_of scopes.now)) (top_core (arity_known context.now.signature.now) (form_of form.now)).body) }
+{
+    let terms = names_in(context.alloc, terms)?;
     let inner = Scopes::Parameters {
-        strategies: &strategies,
+        strategies: &*strategies,
         terms: &terms,
         outer: &*scopes,
     };

@@ -1,0 +1,5 @@
+use Rattle.std.proofs.Common.{IsTrue}
+use Rattle.space_tests.proofs.growth.take_steps.Given as goal
+
+abbrev pub invariant-loop-value : goal.invariant-loop-value
+invariant-loop-value g l = IsTrue (g.S.TermSpace.stands l.space l.older)
