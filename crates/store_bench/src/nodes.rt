@@ -17,7 +17,7 @@ fn next(state: &mut u64) -> u32 {
     (*state >> 33) as u32
 }
 
-// A random tree of so many nodes, of one to three parts each.
+// A random tree of this number of nodes, of one to three parts each.
 pub(crate) fn random_nodes(alloc: Global, size: u32) -> Result<Vec<Node>, AllocError> {
     let mut nodes = Vec::new(alloc);
     let mut open: Vec<u32> = Vec::new(alloc);

@@ -115,7 +115,7 @@ store_named s others agree = store_among s.symbols.keys others s.chains s.shapes
 pub held_named : (s : StoreSpace) (others : List Symbol) (k : ℕ) → Agree s.symbols.keys others (length s.symbols.keys) → held others s.chains s.shapes.keys k ≡ term_of s k
 held_named s others k agree = held_among s.symbols.keys others s.chains s.shapes.keys s.extents.items s.spans.items s.store (length s.symbols.keys) (names_known s) agree k
 
--- a store that goes back to its first shapes, with so many symbols that those shapes name no others
+-- a store that goes back to its first shapes, with enough symbols for all that those shapes name
 module _ (s : StoreSpace) (mark last few kept : ℕ) (within : mark ≤ count s) (chains_ : IsLast s.chains s.extents.items mark last) (names : AreNamed s.symbols.keys s.extents.items mark few)
     (enough : few ≤ kept) (there : kept ≤ length s.symbols.keys) where
   back_agrees : Agree s.symbols.keys (take kept s.symbols.keys) few

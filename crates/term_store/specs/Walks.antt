@@ -10,7 +10,7 @@ use Rattle.term_store.specs.declared.store.StoreSpace.{StoreSpace}
 pub record NotBegun (values places : List ℕ) : Type 0 where
   pub apart : (rest : List ℕ) → values ++ rest ≡ places → ⊥
 
--- a block has these places after so many others
+-- a block has these places after this number of others
 pub record IsAfter (chains : List (List ℕ)) (b : Block ℕ) (left_ : ℕ) (places : List ℕ) : Type 0 where
   pub block : IsBlockIn chains b (list_in chains b)
   pub within : left_ ≤ length (list_in chains b)
