@@ -1,336 +1,177 @@
 // The judgement of small files with ample memory; what is expected was worked out by hand.
-mod samples;
-
-use crate::checks::samples::{Body, defined, definition, file, of_library};
-use scope_check::{Checked, Notes, check, check_with_notes};
-use std::alloc::Global;
+use crate::front::{checked, read};
+use scope_check::{Checked, Notes, check_with_notes};
+use std::alloc::{AllocError, Global};
 use std::test::Fail;
-use str_syntax::{Definition, DefinitionHead, File, Name, Parameters};
-use term_model::{Fault, PrimNames};
+use str_syntax::File;
+use strategy_lib::with_library;
+use term_model::PrimNames;
 
-// `add` with two terms.
-fn primitives(alloc: Global) -> Result<PrimNames, Fail> {
-    let mut names = PrimNames::new(alloc);
-    names.insert(b"add", 2)?;
-    Ok(names)
+// The word of the fault that the file has, where `add` with two terms is the one primitive, or nothing.
+fn judged(alloc: Global, file: File, notes: &mut Notes) -> Result<&'static str, AllocError> {
+    let mut primitives = PrimNames::new(alloc);
+    primitives.insert(b"add", 2)?;
+    match check_with_notes(alloc, file, &primitives, b"main", notes) {
+        Ok(_) => Ok(""),
+        Err(fault) => Ok(fault.word()),
+    }
 }
 
 // The word of the fault that the file has and what is noted of it, or nothing.
 fn refusal(alloc: Global, file: File) -> Result<String, Fail> {
     let mut notes = Notes::none();
-    let primitives = primitives(alloc)?;
-    let Err(fault) = check_with_notes(alloc, file, &primitives, b"main", &mut notes) else {
+    let word = judged(alloc, file, &mut notes)?;
+    if word.is_empty() {
         return Ok(String::new(alloc));
-    };
-    let word = fault.word();
+    }
     let note = notes.first().ok_or("nothing is noted")?;
     Ok(format!(in alloc; "{word}: {note}")?)
 }
 
-// Constructors with their numbers of sorts; a definition, its parameters and its body, which stands in front of `main = id`; the fault and
-// what is noted of it.
-const FAULTS: &[(
-    &[(&str, usize)],
-    &str,
-    &[&str],
-    &[&str],
-    Body<'static>,
-    &str,
-)] = &[
-    (
-        &[("C", 1), ("C", 1)],
-        "f",
-        &[],
-        &[],
-        Body::Id,
-        "DuplicateDeclaration: constructor C is declared twice with the same sorts",
-    ),
-    (&[("C", 1), ("C", 2)], "f", &[], &[], Body::Id, ""),
-    (
-        &[("C", 2)],
-        "f",
-        &[],
-        &[],
-        Body::Match("C"),
-        "Undeclared: constructor C with 1 part is not declared (it is declared with 2)",
-    ),
-    (
-        &[],
-        "f",
-        &[],
-        &[],
-        Body::Match("C"),
-        "Undeclared: constructor C with 1 part is not declared",
-    ),
-    (&[("C", 1)], "f", &[], &[], Body::Match("C"), ""),
-    (
-        &[],
-        "f",
-        &["s", "s"],
-        &[],
-        Body::Id,
-        "Parameters: name s stands twice among parameters or in a scope",
-    ),
-    (
-        &[],
-        "f",
-        &["s"],
-        &["s"],
-        Body::Id,
-        "Parameters: name s stands twice among parameters or in a scope",
-    ),
-    (&[], "f", &["s", "t"], &["x"], Body::Id, ""),
-    (
-        &[],
-        "f",
-        &[],
-        &[],
-        Body::Scope(&["x", "y", "x"]),
-        "Parameters: name x stands twice among parameters or in a scope",
-    ),
-    (&[], "f", &[], &[], Body::Scope(&["x", "y"]), ""),
-    (
-        &[("C", 1)],
-        "C",
-        &[],
-        &[],
-        Body::Id,
-        "Clash: name C is that of a declared constructor and of a strategy",
-    ),
-    (
-        &[("C", 1)],
-        "f",
-        &["C"],
-        &[],
-        Body::Id,
-        "Clash: name C is that of a declared constructor and of a strategy",
-    ),
-    (&[("C", 1)], "f", &[], &["C"], Body::Id, ""),
-    (
-        &[("C", 1)],
-        "f",
-        &[],
-        &[],
-        Body::Recursive("C"),
-        "Clash: name C is that of a declared constructor and of a strategy",
-    ),
-    (&[("C", 1)], "f", &[], &[], Body::Recursive("D"), ""),
-    (
-        &[],
-        "f",
-        &["s"],
-        &[],
-        Body::Call("f"),
-        "UnknownStrategy: strategy f with 0 strategy and 0 term parameters is not defined (it is defined with 1 and 0)",
-    ),
-    (&[], "f", &["s"], &[], Body::CallWith("f"), ""),
-    (&[], "f", &["s"], &[], Body::Call("s"), ""),
-    (
-        &[],
-        "f",
-        &["s"],
-        &[],
-        Body::CallWith("s"),
-        "UnknownStrategy: strategy s with 1 strategy and 0 term parameters is not defined (it is defined with 0 and 0)",
-    ),
-    (
-        &[],
-        "f",
-        &[],
-        &["x"],
-        Body::Call("x"),
-        "UnknownStrategy: strategy x with 0 strategy and 0 term parameters is not defined",
-    ),
-    (&[("C", 1)], "f", &[], &[], Body::CallWith("C"), ""),
-    (
-        &[("C", 2)],
-        "f",
-        &[],
-        &[],
-        Body::CallWith("C"),
-        "UnknownStrategy: strategy C with 1 strategy and 0 term parameters is not defined",
-    ),
-    (&[], "f", &[], &[], Body::Let("g"), ""),
-    (
-        &[],
-        "f",
-        &[],
-        &[],
-        Body::BuildAny,
-        "NotBuildable: pattern _ cannot be built",
-    ),
-    (&[], "f", &[], &[], Body::MatchAny, ""),
-    (
-        &[],
-        "f",
-        &[],
-        &[],
-        Body::BuildAlias("x"),
-        "NotBuildable: pattern x@ cannot be built",
-    ),
-    (
-        &[],
-        "f",
-        &[],
-        &[],
-        Body::Primitive("main", 0),
-        "UnknownPrimitive: primitive main with 0 terms is unknown",
-    ),
-    (&[], "f", &[], &[], Body::Primitive("add", 2), ""),
-    (
-        &[],
-        "f",
-        &[],
-        &[],
-        Body::Primitive("add", 1),
-        "UnknownPrimitive: primitive add with 1 term is unknown",
-    ),
-    (&[], "f", &[], &[], Body::Call("main"), ""),
-    // The least of three faults.
-    (
-        &[("C", 1)],
-        "C",
-        &["s", "s"],
-        &[],
-        Body::Primitive("p", 0),
-        "Parameters: name s stands twice among parameters or in a scope",
-    ),
-];
+// Whether this is the refusal of the file.
+pub(crate) fn is_refused_so(alloc: Global, file: File, expected: &str) -> Result<bool, Fail> {
+    let refusal = refusal(alloc, file)?;
+    Ok(refusal.as_str() == expected)
+}
+
+// A line of a table: definitions, and the refusal after a `#`; without it they have no fault.
+fn definitions_and_refusal(line: &str) -> (&str, &str) {
+    line.split_once(" # ").unwrap_or((line, ""))
+}
+
+const FAULTS: &str =
+    "signature constructors C : A -> A C : A -> A strategies f = id main = id # DuplicateDeclaration: constructor C is declared twice with the same sorts
+signature constructors C : A -> A C : A * A -> A strategies f = id main = id
+signature constructors C : A * A -> A strategies f = ?C(x) main = id # Undeclared: constructor C with 1 part is not declared (it is declared with 2)
+strategies f = ?C(x) main = id # Undeclared: constructor C with 1 part is not declared
+signature constructors C : A -> A strategies f = ?C(x) main = id
+strategies f(s, s) = id main = id # Parameters: name s stands twice among parameters or in a scope
+strategies f(s | s) = id main = id # Parameters: name s stands twice among parameters or in a scope
+strategies f(s, t | x) = id main = id
+strategies f = {x, y, x: id} main = id # Parameters: name x stands twice among parameters or in a scope
+strategies f = {x, y: id} main = id
+signature constructors C : A -> A strategies C = id main = id # Clash: name C is that of a declared constructor and of a strategy
+signature constructors C : A -> A strategies f(C) = id main = id # Clash: name C is that of a declared constructor and of a strategy
+signature constructors C : A -> A strategies f(| C) = id main = id
+signature constructors C : A -> A strategies f = rec C(id) main = id # Clash: name C is that of a declared constructor and of a strategy
+signature constructors C : A -> A strategies f = rec D(id) main = id
+strategies f(s) = f main = id # UnknownStrategy: strategy f with 0 strategy and 0 term parameters is not defined (it is defined with 1 and 0)
+strategies f(s) = f(id) main = id
+strategies f(s) = s main = id
+strategies f(s) = s(id) main = id # UnknownStrategy: strategy s with 1 strategy and 0 term parameters is not defined (it is defined with 0 and 0)
+strategies f(| x) = x main = id # UnknownStrategy: strategy x with 0 strategy and 0 term parameters is not defined
+signature constructors C : A -> A strategies f = C(id) main = id
+signature constructors C : A * A -> A strategies f = C(id) main = id # UnknownStrategy: strategy C with 1 strategy and 0 term parameters is not defined
+strategies f = let g = id in g end main = id
+strategies f = !_ main = id # NotBuildable: pattern _ cannot be built
+strategies f = ?_ main = id
+strategies f = !x@x main = id # NotBuildable: pattern x@ cannot be built
+strategies f = prim(\"main\") main = id # UnknownPrimitive: primitive main with 0 terms is unknown
+strategies f = prim(\"add\", x, x) main = id
+strategies f = prim(\"add\", x) main = id # UnknownPrimitive: primitive add with 1 term is unknown
+strategies f = main main = id
+signature constructors C : A -> A strategies C(s, s) = prim(\"p\") main = id # Parameters: name s stands twice among parameters or in a scope
+strategies f(s |) = s main(|) = f(id |)
+strategies main = abcdefghijklmnopqrstuvwxyz0123456789abcdefghijklmnopqrstuvwxyz0123456789 # UnknownStrategy: strategy abcdefghijklmnopqrstuvwxyz0123456789abcdefghijklmnopqrstuvwxyz01.. with 0 strategy and 0 term parameters is not defined";
 
 #[test]
 fn faults(rt: HostRuntime) -> Result<(), Fail> {
-    let alloc = rt.alloc();
-    for (constructors, word, strategies, terms, form, expected) in FAULTS {
-        let mut all = Vec::new(alloc);
-        all.push(definition(alloc, word, strategies, terms, form)?)?;
-        all.push(definition(alloc, "main", &[], &[], &Body::Id)?)?;
-        let file = file(alloc, constructors, all)?;
-        let refusal = refusal(alloc, file)?;
-        assert!(rt; refusal.as_str() == *expected);
+    for line in FAULTS.split('\n') {
+        let (text, expected) = definitions_and_refusal(line);
+        if !is_refused_so(rt.alloc(), read(rt.alloc(), text)?, expected)? {
+            return Err(Fail::new(line));
+        }
     }
     Ok(())
 }
 
-// A definition, its alternatives, their parameter, the parameter of one alternative more, the fault and what is
-// noted of it.
-const TOGETHER: &[(&str, usize, &str, &str, &str)] = &[
+// A definition, how often it stands there, one definition more, the fault and what is noted of it.
+const TOGETHER: &[(&str, usize, &str, &str)] = &[
     (
-        "f",
+        "f(s) = id",
         1,
-        "s",
-        "s",
+        "f(s) = id",
         "NoMain: strategy main without parameters is not defined",
     ),
     (
-        "f",
+        "f(s) = id",
         1,
-        "s",
-        "t",
+        "f(t) = id",
         "Parameters: strategy f has alternatives with other parameters",
     ),
     (
-        "main",
+        "main(s) = id",
         1,
-        "s",
-        "s",
+        "main(s) = id",
         "NoMain: strategy main without parameters is not defined",
     ),
     (
-        "main",
+        "main(s) = id",
         1,
-        "s",
-        "t",
+        "main(t) = id",
         "Parameters: strategy main has alternatives with other parameters",
     ),
     (
-        "f",
+        "f(s) = id",
         2,
-        "s",
-        "t",
+        "f(t) = id",
         "Parameters: strategy f has alternatives with other parameters",
     ),
     (
-        "f",
+        "f(s) = id",
         999,
-        "s",
-        "s",
+        "f(s) = id",
         "NoMain: strategy main without parameters is not defined",
     ),
     (
-        "f",
+        "f(s) = id",
         1000,
-        "s",
-        "s",
+        "f(s) = id",
         "Parameters: strategy f has over 1000 alternatives",
     ),
 ];
 
+// The file of a definition this number of times, and one definition more.
+fn repeated(alloc: Global, first: &str, number: usize, last: &str) -> Result<File, Fail> {
+    let mut text = String::from_str(alloc, "strategies ")?;
+    for _ in 0..number {
+        text.push_str(first)?;
+        text.push_str(" ")?;
+    }
+    text.push_str(last)?;
+    read(alloc, text.as_str())
+}
+
 #[test]
 fn definitions_together(rt: HostRuntime) -> Result<(), Fail> {
-    let alloc = rt.alloc();
-    for (word, number, parameter, other, expected) in TOGETHER {
-        let mut all = Vec::new(alloc);
-        for _ in 0..*number {
-            all.push(definition(alloc, word, &[*parameter], &[], &Body::Id)?)?;
+    for (first, number, last, expected) in TOGETHER {
+        let file = repeated(rt.alloc(), first, *number, last)?;
+        if !is_refused_so(rt.alloc(), file, expected)? {
+            return Err(Fail::new(expected));
         }
-        all.push(definition(alloc, word, &[*other], &[], &Body::Id)?)?;
-        let file = file(alloc, &[], all)?;
-        let refusal = refusal(alloc, file)?;
-        assert!(rt; refusal.as_str() == *expected);
     }
     Ok(())
 }
 
-// Constructors with their numbers of sorts; a definition and its parameters, in front of the library's `try(s)` and `map(s)`; the
-// fault and what is noted of it.
-const WITH_LIBRARY: &[(&[(&str, usize)], &str, &[&str], &[&str], &str)] = &[
-    (&[], "f", &[], &[], ""),
-    (&[("s", 1)], "f", &[], &[], ""),
-    (
-        &[("s", 1)],
-        "f",
-        &["s"],
-        &[],
-        "Clash: name s is that of a declared constructor and of a strategy",
-    ),
-    (
-        &[("map", 2)],
-        "f",
-        &[],
-        &[],
-        "Clash: name map is that of a declared constructor and of a strategy",
-    ),
-    (
-        &[],
-        "try",
-        &["s"],
-        &[],
-        "Clash: strategy try is a definition of the library",
-    ),
-    (
-        &[],
-        "try",
-        &["x"],
-        &[],
-        "Parameters: strategy try has alternatives with other parameters",
-    ),
-    (&[], "try", &[], &[], ""),
-    (&[], "try", &["s", "t"], &[], ""),
-    (&[], "try", &["s"], &["x"], ""),
-];
+// Definitions in front of the library's, as of `try(s)` and `map(s)`.
+const WITH_LIBRARY: &str = "strategies f = id main = id
+signature constructors s : A -> A strategies f = id main = id
+signature constructors s : A -> A strategies f(s) = id main = id # Clash: name s is that of a declared constructor and of a strategy
+signature constructors map : A * A -> A strategies f = id main = id # Clash: name map is that of a declared constructor and of a strategy
+strategies try(s) = id main = id # Clash: strategy try is a definition of the library
+strategies try(x) = id main = id # Parameters: strategy try has alternatives with other parameters
+strategies try = id main = id
+strategies try(s, t) = id main = id
+strategies try(s | x) = id main = id";
 
 #[test]
 fn definitions_before_the_library(rt: HostRuntime) -> Result<(), Fail> {
-    let alloc = rt.alloc();
-    for (constructors, word, strategies, terms, expected) in WITH_LIBRARY {
-        let mut all = Vec::new(alloc);
-        all.push(definition(alloc, word, strategies, terms, &Body::Id)?)?;
-        all.push(definition(alloc, "main", &[], &[], &Body::Id)?)?;
-        all.push(of_library(alloc, "try", &["s"])?)?;
-        all.push(of_library(alloc, "map", &["s"])?)?;
-        let file = file(alloc, constructors, all)?;
-        let refusal = refusal(alloc, file)?;
-        assert!(rt; refusal.as_str() == *expected);
+    for line in WITH_LIBRARY.split('\n') {
+        let (text, expected) = definitions_and_refusal(line);
+        let file = with_library(rt.alloc(), read(rt.alloc(), text)?)?;
+        if !is_refused_so(rt.alloc(), file, expected)? {
+            return Err(Fail::new(line));
+        }
     }
     Ok(())
 }
@@ -345,114 +186,81 @@ fn has_its_parts(checked: &Checked) -> bool {
 
 #[test]
 fn a_file_without_a_fault(rt: HostRuntime) -> Result<(), Fail> {
-    let alloc = rt.alloc();
-    let mut all = Vec::new(alloc);
-    all.push(definition(alloc, "main", &[], &[], &Body::Match("C"))?)?;
-    let file = file(alloc, &[("C", 1)], all)?;
-    let primitives = primitives(alloc)?;
-    let checked = check(alloc, file, &primitives, b"main")?;
-    let is_whole = has_its_parts(&checked);
-    assert!(rt; is_whole);
-    Ok(())
-}
-
-// A definition with two parameters, and where its name and these stand.
-fn placed(
-    alloc: Global,
-    word: &str,
-    parameters: [&str; 2],
-    at: [u64; 3],
-) -> Result<Definition, Fail> {
-    let mut names = Vec::new(alloc);
-    names.push(Name::new(alloc, parameters[0].as_bytes(), at[1])?)?;
-    names.push(Name::new(alloc, parameters[1].as_bytes(), at[2])?)?;
-    let name = Name::new(alloc, word.as_bytes(), at[0])?;
-    let head = DefinitionHead {
-        name,
-        parameters: Parameters::Strategies(names),
-    };
-    defined(alloc, head, &Body::Id)
-}
-
-#[test]
-fn the_first_place_of_the_least_fault(rt: HostRuntime) -> Result<(), Fail> {
-    let alloc = rt.alloc();
-    let mut all = Vec::new(alloc);
-    all.push(placed(alloc, "C", ["s", "t"], [5, 6, 7])?)?;
-    all.push(placed(alloc, "g", ["a", "a"], [10, 12, 14])?)?;
-    all.push(placed(alloc, "f", ["s", "t"], [20, 22, 24])?)?;
-    all.push(placed(alloc, "f", ["s", "u"], [30, 32, 34])?)?;
-    let file = file(alloc, &[("C", 1)], all)?;
-    let mut notes = Notes::none();
-    let primitives = primitives(alloc)?;
-    let is_refused = check_with_notes(alloc, file, &primitives, b"main", &mut notes).is_err();
-    assert!(rt; is_refused);
-    let note = notes.first().ok_or("nothing is noted")?;
-    assert!(rt; note.offset() == Some(14));
-    assert!(rt; note.name() == b"a".as_slice());
-    assert!(rt; note.detail().fault() == Fault::Parameters);
-    Ok(())
-}
-
-// The name of a definition of the file with the parameters `s` and `t` that stands at 20, where the library defines `f` with these
-// parameters, the fault and the place that is noted of it.
-const PLACES: &[(&str, [&str; 2], Fault, Option<u64>)] = &[
-    ("f", ["s", "t"], Fault::Clash, Some(20)),
-    ("f", ["s", "u"], Fault::Parameters, Some(20)),
-    ("g", ["s", "t"], Fault::Clash, None),
-];
-
-#[test]
-fn a_name_of_the_library_has_no_place(rt: HostRuntime) -> Result<(), Fail> {
-    let alloc = rt.alloc();
-    for (word, parameters, fault, place) in PLACES {
-        let mut all = Vec::new(alloc);
-        all.push(placed(alloc, word, ["s", "t"], [20, 22, 24])?)?;
-        all.push(of_library(alloc, "f", parameters)?)?;
-        all.push(of_library(alloc, "C", &[])?)?;
-        let file = file(alloc, &[("C", 1)], all)?;
-        let mut notes = Notes::none();
-        let primitives = primitives(alloc)?;
-        let is_refused = check_with_notes(alloc, file, &primitives, b"main", &mut notes).is_err();
-        assert!(rt; is_refused);
-        let note = notes.first().ok_or("nothing is noted")?;
-        assert!(rt; note.offset() == *place);
-        assert!(rt; note.detail().fault() == *fault);
+    let text = "signature constructors C : A -> A strategies main = ?C(x)";
+    let checked = checked(rt.alloc(), read(rt.alloc(), text)?)?;
+    if !has_its_parts(&checked) {
+        return Err("other parts".into());
     }
     Ok(())
 }
 
+// Definitions in front of the library's, the word of their fault, the name that is noted, and the name as it stands there: where this
+// first stands in the text is the place that is noted, and no place is where it stands in the library alone.
+const PLACES: &[(&str, &str, &str, &str)] = &[
+    // The first place of the least fault.
+    (
+        "signature constructors C : A -> A strategies C(s, t) = id g(a, a) = id f(s, t) = id f(s, u) = id",
+        "Parameters",
+        "a",
+        "a) = id",
+    ),
+    (
+        "signature constructors map : A -> A strategies try(s) = id",
+        "Clash",
+        "try",
+        "try(s)",
+    ),
+    (
+        "signature constructors map : A -> A strategies try(t) = id",
+        "Parameters",
+        "try",
+        "try(t)",
+    ),
+    (
+        "signature constructors map : A -> A strategies g(s, t) = id",
+        "Clash",
+        "map",
+        "map(s)",
+    ),
+];
+
+// Whether this name is noted at this place, with this fault.
+fn is_noted_at(notes: &Notes, word: &str, name: &str, at: Option<usize>) -> bool {
+    let Some(note) = notes.first() else {
+        return false;
+    };
+    note.detail().fault().word() == word
+        && note.name() == name.as_bytes()
+        && note.offset() == at.map(|at| at as u64)
+}
+
 #[test]
-fn a_long_name_is_cut(rt: HostRuntime) -> Result<(), Fail> {
-    let alloc = rt.alloc();
-    let word = "abcdefghijklmnopqrstuvwxyz0123456789abcdefghijklmnopqrstuvwxyz0123456789";
-    let mut all = Vec::new(alloc);
-    all.push(definition(alloc, "main", &[], &[], &Body::Call(word))?)?;
-    let file = file(alloc, &[], all)?;
-    let refusal = refusal(alloc, file)?;
-    let expected =
-        "UnknownStrategy: strategy abcdefghijklmnopqrstuvwxyz0123456789abcdefghijklmnopqrstuvwxyz01.. with 0 strategy and 0 term parameters is not defined";
-    assert!(rt; refusal.as_str() == expected);
+fn places(rt: HostRuntime) -> Result<(), Fail> {
+    for (text, word, name, piece) in PLACES {
+        let file = with_library(rt.alloc(), read(rt.alloc(), text)?)?;
+        let mut notes = Notes::none();
+        let found = judged(rt.alloc(), file, &mut notes)?;
+        if found != *word || !is_noted_at(&notes, word, name, text.find(*piece)) {
+            return Err(Fail::new(text));
+        }
+    }
     Ok(())
 }
 
-// A name for the number.
-fn numbered(alloc: Global, number: usize) -> Result<String, Fail> {
-    Ok(format!(in alloc; "f{number}")?)
+// 10,000 definitions and main.
+fn large_text(alloc: Global) -> Result<String, Fail> {
+    let mut text = String::from_str(alloc, "strategies main = id")?;
+    for number in 0..10000 {
+        write!(text, " f{number}(s) = s")?;
+    }
+    Ok(text)
 }
 
 #[test]
 fn a_large_file(rt: HostRuntime) -> Result<(), Fail> {
-    let alloc = rt.alloc();
-    let mut all = Vec::new(alloc);
-    for number in 0..10000 {
-        let word = numbered(alloc, number)?;
-        all.push(definition(alloc, word.as_str(), &["s"], &[], &Body::Call("s"))?)?;
+    let text = large_text(rt.alloc())?;
+    if !is_refused_so(rt.alloc(), read(rt.alloc(), text.as_str())?, "")? {
+        return Err("a fault".into());
     }
-    all.push(definition(alloc, "main", &[], &[], &Body::Id)?)?;
-    let file = file(alloc, &[], all)?;
-    let primitives = primitives(alloc)?;
-    let is_checked = check(alloc, file, &primitives, b"main").is_ok();
-    assert!(rt; is_checked);
     Ok(())
 }

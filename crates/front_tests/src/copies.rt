@@ -1,13 +1,7 @@
 // Copies of files with every form have the core programs of their sources.
-use core_lang::Core;
-use scope_check::check;
+use crate::front::{core_of, read};
 use std::alloc::Global;
 use std::test::Fail;
-use str_desugar::to_core;
-use str_lexer::lex;
-use str_parser::parse;
-use str_syntax::File;
-use term_model::PrimNames;
 
 const FILES: &[&str] = &[
     "signature
@@ -29,24 +23,20 @@ const FILES: &[&str] = &[
       q = D(); C(f, g(f)); (); (f, f); []; [f, f]; [f, f | f]",
 ];
 
-// The core of the file, where `p` is a primitive without arguments and with two.
-fn core_of(alloc: Global, file: File) -> Result<Core, Fail> {
-    let mut primitives = PrimNames::new(alloc);
-    primitives.insert(b"p", 0)?;
-    primitives.insert(b"p", 2)?;
-    let checked = check(alloc, file, &primitives, b"main")?;
-    Ok(to_core(alloc, &checked)?)
+// Whether the copy of the file of this text has the core of its source.
+fn copy_has_core(alloc: Global, text: &str) -> Result<bool, Fail> {
+    let file = read(alloc, text)?;
+    let copy = core_of(alloc, file.copy(alloc)?)?;
+    let source = core_of(alloc, file)?;
+    Ok(copy.defs() == source.defs())
 }
 
 #[test]
 fn copies(rt: HostRuntime) -> Result<(), Fail> {
-    let alloc = rt.alloc();
     for text in FILES {
-        let tokens = lex(alloc, text.as_bytes())?;
-        let file = parse(alloc, text.as_bytes(), &tokens)?;
-        let copy = core_of(alloc, file.copy(alloc)?)?;
-        let source = core_of(alloc, file)?;
-        assert!(rt; copy.defs() == source.defs(), "{text}");
+        if !copy_has_core(rt.alloc(), text)? {
+            return Err(Fail::new(text));
+        }
     }
     Ok(())
 }

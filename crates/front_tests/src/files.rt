@@ -1,26 +1,13 @@
 // `parse` on files whose faults were placed by hand, on both sides of the greatest level, and the shape of a tree.
+use crate::front::read;
+use crate::mutations::levels::push_times;
+use crate::mutations::readings::{Reading, parsed};
 use std::alloc::Global;
 use std::test::Fail;
-use str_lexer::lex;
-use str_parser::parse;
 use str_syntax::{
     Arguments, DefinitionForm, File, Name, Origin, Pattern, Primary, RuleDefinition, Section,
     Sequence, Step, Strategy, StrategyDefinition,
 };
-use term_model::Fault;
-
-// What the text is read as: a file, or the refusal and where.
-fn shown(alloc: Global, text: &[u8]) -> Result<String, Fail> {
-    let mut shown = String::new(alloc);
-    let tokens = lex(alloc, text)?;
-    match parse(alloc, text, &tokens) {
-        Ok(_) => shown.push_str("file")?,
-        Err(Fault::Syntax { at }) => write!(shown, "Syntax {at}")?,
-        Err(Fault::Nesting { at }) => write!(shown, "Nesting {at}")?,
-        Err(_) => shown.push_str("another fault")?,
-    }
-    Ok(shown)
-}
 
 // Files of sections of all kinds.
 const SECTIONS: &[&str] = &[
@@ -72,12 +59,12 @@ const STRATEGIES: &[&str] = &[
 
 #[test]
 fn files(rt: HostRuntime) -> Result<(), Fail> {
-    for text in SECTIONS.iter().chain(STRATEGIES) {
-        assert_eq!(rt;
-            shown(rt.alloc(), text.as_bytes())?.as_str(),
-            "file",
-            "{text}"
-        );
+    for table in [SECTIONS, STRATEGIES] {
+        for text in table {
+            if parsed(rt.alloc(), text.as_bytes()) != Reading::File {
+                return Err(Fail::new(text));
+            }
+        }
     }
     Ok(())
 }
@@ -155,64 +142,139 @@ const NO_STRATEGIES: &[(&str, &str)] = &[
 ];
 
 // What the text of these pieces is read as.
-fn joined(alloc: Global, front: &str, back: &str) -> Result<String, Fail> {
-    let mut text = front.as_bytes().to_vec(alloc)?;
-    text.extend_from_slice(back.as_bytes())?;
-    shown(alloc, &text)
+fn joined(alloc: Global, front: &str, back: &str) -> Result<Reading, Fail> {
+    let mut text = String::from_str(alloc, front)?;
+    text.push_str(back)?;
+    Ok(parsed(alloc, text.as_bytes()))
 }
 
 #[test]
 fn no_files(rt: HostRuntime) -> Result<(), Fail> {
     for table in [NO_SECTIONS, NO_PATTERNS, NO_STRATEGIES] {
         for (front, back) in table {
-            let expected = format!(in rt.alloc(); "Syntax {}", front.len())?;
-            assert_eq!(rt;
-                joined(rt.alloc(), front, back)?.as_str(),
-                expected.as_str(),
-                "{front}|{back}"
-            );
+            let at = front.len() as u64;
+            if joined(rt.alloc(), front, back)? != Reading::Syntax(at) {
+                return Err(Fail::new(front));
+            }
         }
     }
     Ok(())
 }
 
-// The pieces, each repeated its number of times.
-fn repeated(alloc: Global, pieces: &[(&[u8], usize)]) -> Result<Vec<u8>, Fail> {
-    let mut text = Vec::new(alloc);
-    for (piece, times) in pieces {
-        for _ in 0..*times {
-            text.extend_from_slice(piece)?;
-        }
-    }
-    Ok(text)
+// What stands in front, a piece and its number of times, what stands between, a second piece and its number of times, and what the text of
+// all is read as.
+type Levels = (
+    &'static str,
+    (&'static str, usize),
+    &'static str,
+    (&'static str, usize),
+    Reading,
+);
+
+const MAIN: &str = "strategies main = ";
+
+const LEVELS: &[Levels] = &[
+    (MAIN, ("(", 200), "", (")", 200), Reading::File),
+    (MAIN, ("(", 200), "", ("", 0), Reading::Syntax(218)),
+    (MAIN, ("(", 201), "", ("", 0), Reading::Nesting(218)),
+    (MAIN, ("(", 200), "]", ("", 0), Reading::Syntax(218)),
+    (MAIN, ("id;", 199), "id", ("", 0), Reading::File),
+    (MAIN, ("id;", 200), "id", ("", 0), Reading::Nesting(618)),
+    (MAIN, ("id;", 200), "", ("", 0), Reading::Syntax(618)),
+    (MAIN, ("a<+", 199), "a", ("", 0), Reading::File),
+    (MAIN, ("a<+", 200), "a", ("", 0), Reading::Nesting(618)),
+    (
+        "strategies main = ?",
+        ("[", 199),
+        "",
+        ("]", 199),
+        Reading::File,
+    ),
+    (
+        "strategies main = ?",
+        ("[", 199),
+        "<",
+        ("", 0),
+        Reading::Syntax(218),
+    ),
+    (
+        "strategies main = !",
+        ("[", 199),
+        "<",
+        ("", 0),
+        Reading::Nesting(218),
+    ),
+    (
+        "signature sorts ",
+        ("A(", 199),
+        "A",
+        (")", 199),
+        Reading::File,
+    ),
+    (
+        "signature sorts ",
+        ("A(", 200),
+        "A",
+        (")", 200),
+        Reading::Nesting(416),
+    ),
+    // A hundred thousand levels.
+    (MAIN, ("(", 100_000), "", ("", 0), Reading::Nesting(218)),
+    (MAIN, ("a;", 100_000), "", ("", 0), Reading::Nesting(418)),
+    (MAIN, ("if ", 100_000), "", ("", 0), Reading::Nesting(618)),
+    (
+        "strategies main = ?",
+        ("[", 100_000),
+        "",
+        ("", 0),
+        Reading::Nesting(218),
+    ),
+    (
+        "strategies main = !",
+        ("C(", 100_000),
+        "",
+        ("", 0),
+        Reading::Nesting(417),
+    ),
+    (
+        "rules r : x -> ",
+        ("<!", 100_000),
+        "",
+        ("", 0),
+        Reading::Nesting(215),
+    ),
+    (
+        "signature sorts ",
+        ("A(", 100_000),
+        "",
+        ("", 0),
+        Reading::Nesting(416),
+    ),
+    (
+        "strategies ",
+        ("(", 100_000),
+        "",
+        ("", 0),
+        Reading::Syntax(11),
+    ),
+];
+
+// Whether the row is read as it says.
+fn is_read_so(alloc: Global, row: &Levels) -> Result<bool, Fail> {
+    let (front, (opening, openings), between, (closing, closings), expected) = row;
+    let mut text = String::from_str(alloc, front)?;
+    push_times(&mut text, opening, *openings)?;
+    text.push_str(between)?;
+    push_times(&mut text, closing, *closings)?;
+    Ok(parsed(alloc, text.as_bytes()) == *expected)
 }
 
 #[test]
 fn levels_end_at_200(rt: HostRuntime) -> Result<(), Fail> {
-    let main: (&[u8], usize) = (b"strategies main = ", 1);
-    let sorts: (&[u8], usize) = (b"signature sorts ", 1);
-    let table: [(&[(&[u8], usize)], &str); 14] = [
-        (&[main, (b"(", 200), (b")", 200)], "file"),
-        (&[main, (b"(", 200)], "Syntax 218"),
-        (&[main, (b"(", 201)], "Nesting 218"),
-        (&[main, (b"(", 200), (b"]", 1)], "Syntax 218"),
-        (&[main, (b"id;", 199), (b"id", 1)], "file"),
-        (&[main, (b"id;", 200), (b"id", 1)], "Nesting 618"),
-        (&[main, (b"id;", 200)], "Syntax 618"),
-        (&[main, (b"a<+", 199), (b"a", 1)], "file"),
-        (&[main, (b"a<+", 200), (b"a", 1)], "Nesting 618"),
-        (&[main, (b"?", 1), (b"[", 199), (b"]", 199)], "file"),
-        (&[main, (b"?", 1), (b"[", 199), (b"<", 1)], "Syntax 218"),
-        (&[main, (b"!", 1), (b"[", 199), (b"<", 1)], "Nesting 218"),
-        (&[sorts, (b"A(", 199), (b"A", 1), (b")", 199)], "file"),
-        (
-            &[sorts, (b"A(", 200), (b"A", 1), (b")", 200)],
-            "Nesting 416",
-        ),
-    ];
-    for (pieces, expected) in table {
-        let text = repeated(rt.alloc(), pieces)?;
-        assert_eq!(rt; shown(rt.alloc(), &text)?.as_str(), expected);
+    for row in LEVELS {
+        if !is_read_so(rt.alloc(), row)? {
+            return Err(Fail::new(row.0));
+        }
     }
     Ok(())
 }
@@ -273,18 +335,24 @@ fn is_choice_of_sequences(strategy: &Strategy) -> bool {
         && stands_at(d, b"d", 29)
 }
 
+// Whether a copy of the strategy is this choice too.
+fn copy_is_choice(alloc: Global, strategy: &Strategy) -> Result<bool, Fail> {
+    let copy = strategy.copy(alloc)?;
+    Ok(is_choice_of_sequences(&copy))
+}
+
 #[test]
 fn sequences_bind_stronger_than_choices(rt: HostRuntime) -> Result<(), Fail> {
-    let text = b"strategies main = a; b <+ c; d".as_slice();
-    let tokens = lex(rt.alloc(), text)?;
-    let file = parse(rt.alloc(), text, &tokens)?;
+    let file = read(rt.alloc(), "strategies main = a; b <+ c; d")?;
     let Some(definition) = first_definition(&file) else {
-        assert!(rt; false);
-        return Ok(());
+        return Err("no definition".into());
     };
-    assert!(rt; stands_at(&definition.head.name, b"main", 11));
-    assert!(rt; is_choice_of_sequences(&definition.body));
-    assert!(rt; is_choice_of_sequences(&definition.body.copy(rt.alloc())?));
+    if !stands_at(&definition.head.name, b"main", 11)
+        || !is_choice_of_sequences(&definition.body)
+        || !copy_is_choice(rt.alloc(), &definition.body)?
+    {
+        return Err("another tree".into());
+    }
     Ok(())
 }
 
@@ -316,14 +384,14 @@ fn are_in_place(left: &Pattern, right: &Pattern) -> bool {
 
 #[test]
 fn names_know_their_place(rt: HostRuntime) -> Result<(), Fail> {
-    let text = b"rules r : C(x, _) -> x".as_slice();
-    let tokens = lex(rt.alloc(), text)?;
-    let file = parse(rt.alloc(), text, &tokens)?;
+    let file = read(rt.alloc(), "rules r : C(x, _) -> x")?;
     let Some(definition) = first_rule(&file) else {
-        assert!(rt; false);
-        return Ok(());
+        return Err("no rule".into());
     };
-    assert!(rt; stands_at(&definition.head.name, b"r", 6));
-    assert!(rt; are_in_place(&definition.rule.left, &definition.rule.right));
+    if !stands_at(&definition.head.name, b"r", 6)
+        || !are_in_place(&definition.rule.left, &definition.rule.right)
+    {
+        return Err("another place".into());
+    }
     Ok(())
 }

@@ -13,6 +13,8 @@ mod declarations;
 #[cfg(test)]
 mod files;
 #[cfg(test)]
+mod front;
+#[cfg(test)]
 mod library;
 #[cfg(test)]
 mod mutations;

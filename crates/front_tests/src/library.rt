@@ -1,16 +1,15 @@
 //! The library beside its text.
-use scope_check::check;
+use crate::checks::is_refused_so;
+use crate::front::read;
+use std::alloc::Global;
 use std::test::Fail;
-use str_lexer::lex;
-use str_parser::parse;
 use str_syntax::{
     Arguments, Definition, DefinitionForm, DefinitionHead, File, Origin, Parameters, Primary,
     Section, Sequence, Step, Strategy,
 };
 use strategy_lib::with_library;
-use term_model::{Fault, PrimNames};
 
-const LIBRARY: &[u8] = b"strategies
+const LIBRARY: &str = "strategies
   try(s) = s <+ id
   repeat(s) = try(s; repeat(s))
   topdown(s) = s; all(topdown(s))
@@ -115,41 +114,64 @@ fn definitions(file: &File) -> Option<&[Definition]> {
     }
 }
 
+// Whether the definitions are the same one by one, and 9 in number.
+fn are_read_as(made: &File, read: &File) -> bool {
+    let (Some(left), Some(right)) = (definitions(made), definitions(read)) else {
+        return false;
+    };
+    left.len() == 9
+        && right.len() == 9
+        && left
+            .iter()
+            .zip(right)
+            .all(|(one, other)| is_read_as(one, other))
+}
+
+// The library alone.
+fn library(alloc: Global) -> Result<File, Fail> {
+    let sections = Vec::new(alloc);
+    Ok(with_library(alloc, File { sections })?)
+}
+
 #[test]
 fn the_library_is_its_text(rt: HostRuntime) -> Result<(), Fail> {
-    let alloc = rt.alloc();
-    let tokens = lex(alloc, LIBRARY)?;
-    let read = parse(alloc, LIBRARY, &tokens)?;
-    let sections = Vec::new(alloc);
-    let made = with_library(alloc, File { sections })?;
-    let (Some(left), Some(right)) = (definitions(&made), definitions(&read)) else {
-        return Err(Fail::new("other sections"));
-    };
-    assert_eq!(rt; (left.len(), right.len()), (9, 9));
-    for (one, other) in left.iter().zip(right) {
-        assert!(rt; is_read_as(one, other));
+    let read = read(rt.alloc(), LIBRARY)?;
+    let made = library(rt.alloc())?;
+    if !are_read_as(&made, &read) {
+        return Err("other definitions".into());
     }
-    let answer = check(alloc, made, &PrimNames::new(alloc), b"main");
-    assert!(rt; matches!(answer, Err(Fault::NoMain)));
     Ok(())
 }
 
 #[test]
-fn the_library_comes_after_the_file(rt: HostRuntime) -> Result<(), Fail> {
-    let alloc = rt.alloc();
-    let text = b"strategies try = id signature rules";
-    let tokens = lex(alloc, text)?;
-    let made = with_library(alloc, parse(alloc, text, &tokens)?)?;
+fn the_library_has_no_main(rt: HostRuntime) -> Result<(), Fail> {
+    let expected = "NoMain: strategy main without parameters is not defined";
+    if !is_refused_so(rt.alloc(), library(rt.alloc())?, expected)? {
+        return Err("another refusal".into());
+    }
+    Ok(())
+}
+
+// Whether the sections are strategies of one definition, a signature, rules, and the strategies of the library.
+fn ends_with_library(file: &File) -> bool {
     let [
         Section::Strategies(own),
         Section::Signature(_),
         Section::Rules(_),
         Section::Strategies(library),
-    ] = made.sections.as_slice()
+    ] = file.sections.as_slice()
     else {
-        return Err(Fail::new("other sections"));
+        return false;
     };
-    assert!(rt; own.len() == 1 && own[0].origin == Origin::File);
-    assert!(rt; library.len() == 9);
+    own.len() == 1 && own[0].origin == Origin::File && library.len() == 9
+}
+
+#[test]
+fn the_library_comes_after_the_file(rt: HostRuntime) -> Result<(), Fail> {
+    let file = read(rt.alloc(), "strategies try = id signature rules")?;
+    let made = with_library(rt.alloc(), file)?;
+    if !ends_with_library(&made) {
+        return Err("other sections".into());
+    }
     Ok(())
 }

@@ -3,9 +3,9 @@ mod chart;
 mod edits;
 mod files;
 mod grammar;
-mod levels;
+pub(crate) mod levels;
 mod places;
-mod readings;
+pub(crate) mod readings;
 mod tokens;
 mod words;
 
@@ -25,22 +25,13 @@ const EDITS: [Edit; 5] = [
     Edit::Replaced("module"),
 ];
 
-// Adds a line to the differences where the readings of the words are not the same.
-fn compare(
-    alloc: Global,
-    grammar: &Grammar,
-    words: &[Word<'_>],
-    what: &str,
-    differences: &mut String,
-) -> Result<(), AllocError> {
+// Fails with their text where the readings of the words are not the same.
+fn compare(alloc: Global, grammar: &Grammar, words: &[Word<'_>]) -> Result<(), Fail> {
     let text = text(alloc, words)?;
     let found = parsed(alloc, text.as_bytes());
     let expected = second_reading(alloc, grammar, words)?;
     if found != expected {
-        writeln!(
-            differences,
-            "{what}: {found:?} in place of {expected:?} for {text}"
-        )?;
+        return Err(Fail::new(text));
     }
     Ok(())
 }
@@ -51,117 +42,95 @@ fn compare_edits(
     grammar: &Grammar,
     words: &[Word<'_>],
     at: usize,
-    differences: &mut String,
-) -> Result<(), AllocError> {
+) -> Result<(), Fail> {
     for edit in EDITS {
         let edited = edited(alloc, words, edit, at)?;
-        let what = format!(in alloc; "word {at} {edit:?}")?;
-        compare(alloc, grammar, &edited, &what, differences)?;
+        compare(alloc, grammar, &edited)?;
     }
     Ok(())
 }
 
-// The differences of all edits of the file.
-fn differences(alloc: Global, file: &str) -> Result<String, AllocError> {
-    let grammar = tabled(alloc)?;
-    let words = words(alloc, file)?;
-    let mut differences = String::new(alloc);
+// Compares the readings of all edits of the words.
+fn compare_all(alloc: Global, grammar: &Grammar, words: &[Word<'_>]) -> Result<(), Fail> {
     for at in 0..words.len() {
-        compare_edits(alloc, &grammar, &words, at, &mut differences)?;
+        compare_edits(alloc, grammar, words, at)?;
     }
-    Ok(differences)
-}
-
-#[test]
-fn edits_of_signatures(rt: HostRuntime) -> Result<(), Fail> {
-    let differences = differences(rt.alloc(), files::SIGNATURES)?;
-    assert!(rt; differences.is_empty(), "{differences}");
     Ok(())
 }
 
-#[test]
-fn edits_of_forms(rt: HostRuntime) -> Result<(), Fail> {
-    let differences = differences(rt.alloc(), files::FORMS)?;
-    assert!(rt; differences.is_empty(), "{differences}");
-    Ok(())
+// Compares the readings of all edits of the file.
+fn compare_file(alloc: Global, grammar: &Grammar, file: &str) -> Result<(), Fail> {
+    let words = words(alloc, file)?;
+    compare_all(alloc, grammar, &words)
 }
 
 #[test]
-fn edits_of_operators(rt: HostRuntime) -> Result<(), Fail> {
-    let differences = differences(rt.alloc(), files::OPERATORS)?;
-    assert!(rt; differences.is_empty(), "{differences}");
+fn edits_of_files(rt: HostRuntime) -> Result<(), Fail> {
+    let grammar = tabled(rt.alloc())?;
+    for file in files::ALL {
+        compare_file(rt.alloc(), &grammar, file)?;
+    }
     Ok(())
 }
 
-#[test]
-fn edits_of_primaries(rt: HostRuntime) -> Result<(), Fail> {
-    let differences = differences(rt.alloc(), files::PRIMARIES)?;
-    assert!(rt; differences.is_empty(), "{differences}");
-    Ok(())
-}
-
-#[test]
-fn edits_of_calls(rt: HostRuntime) -> Result<(), Fail> {
-    let differences = differences(rt.alloc(), files::CALLS)?;
-    assert!(rt; differences.is_empty(), "{differences}");
-    Ok(())
-}
-
-#[test]
-fn edits_of_matches(rt: HostRuntime) -> Result<(), Fail> {
-    let differences = differences(rt.alloc(), files::MATCHES)?;
-    assert!(rt; differences.is_empty(), "{differences}");
-    Ok(())
-}
-
-#[test]
-fn edits_of_builds(rt: HostRuntime) -> Result<(), Fail> {
-    let differences = differences(rt.alloc(), files::BUILDS)?;
-    assert!(rt; differences.is_empty(), "{differences}");
-    Ok(())
+// The number of words of the file, which is one by both readings.
+fn words_of_file(alloc: Global, grammar: &Grammar, file: &str) -> Result<usize, Fail> {
+    if parsed(alloc, file.as_bytes()) != Reading::File {
+        return Err(Fail::new(file));
+    }
+    let words = words(alloc, file)?;
+    compare(alloc, grammar, &words)?;
+    Ok(words.len())
 }
 
 #[test]
 fn unedited_files_are_files(rt: HostRuntime) -> Result<(), Fail> {
     let grammar = tabled(rt.alloc())?;
-    let mut differences = String::new(rt.alloc());
     let mut edits = 0usize;
     for file in files::ALL {
-        let words = words(rt.alloc(), file)?;
-        edits = edits.saturating_add(EDITS.len().saturating_mul(words.len()));
-        compare(rt.alloc(), &grammar, &words, "unedited", &mut differences)?;
-        assert!(rt; differences.is_empty(), "{differences}");
-        assert_eq!(rt;
-            parsed(rt.alloc(), file.as_bytes()),
-            Reading::File,
-            "{file}"
-        );
+        let number = words_of_file(rt.alloc(), &grammar, file)?;
+        edits = edits.saturating_add(EDITS.len().saturating_mul(number));
     }
-    assert!(rt; edits >= 500, "{edits} edits");
+    if edits < 500 {
+        return Err("few edits".into());
+    }
     Ok(())
+}
+
+// The unedited file, as a chart.
+fn chart_of<'a>(alloc: Global, grammar: &'a Grammar, file: &str) -> Result<Chart<'a>, AllocError> {
+    let words = words(alloc, file)?;
+    Chart::read(alloc, grammar, &words)
 }
 
 // The unedited files, as charts.
 fn charts<'a>(alloc: Global, grammar: &'a Grammar) -> Result<Vec<Chart<'a>>, AllocError> {
     let mut charts = Vec::new(alloc);
     for file in files::ALL {
-        charts.push(Chart::read(alloc, grammar, &words(alloc, file)?)?)?;
+        charts.push(chart_of(alloc, grammar, file)?)?;
     }
     Ok(charts)
+}
+
+// Whether some chart has each form of the grammar but the empty ones.
+fn have_each_form(grammar: &Grammar, charts: &[Chart<'_>]) -> bool {
+    for (phrase, forms) in grammar.phrases.iter().enumerate() {
+        for (form, symbols) in forms.iter().enumerate() {
+            let has_form = charts.iter().any(|chart| chart.has_form(phrase, form));
+            if !has_form && !symbols.is_empty() {
+                return false;
+            }
+        }
+    }
+    true
 }
 
 #[test]
 fn files_have_each_form(rt: HostRuntime) -> Result<(), Fail> {
     let grammar = tabled(rt.alloc())?;
     let charts = charts(rt.alloc(), &grammar)?;
-    for (phrase, forms) in grammar.phrases.iter().enumerate() {
-        for (form, symbols) in forms.iter().enumerate() {
-            let has_form = charts.iter().any(|chart| chart.has_form(phrase, form));
-            assert!(rt;
-                has_form || symbols.is_empty(),
-                "form {form} of phrase {phrase}"
-            );
-        }
+    if !have_each_form(&grammar, &charts) {
+        return Err("no file has some form".into());
     }
     Ok(())
 }

@@ -3,7 +3,7 @@ use super::words::{Word, word_of};
 use std::alloc::{AllocError, Global};
 
 // What is done to a word.
-#[derive(Clone, Copy, Debug, PartialEq, Eq)]
+#[derive(Clone, Copy, PartialEq, Eq)]
 pub(super) enum Edit {
     Dropped,
     Doubled,

@@ -72,6 +72,6 @@ pub(super) const BUILDS: &str = "
       h = ! [ ] ; ! [ x ] ; ! [ x , < f > ] ; ! [ x | < g > ] ; ! [ x , y | [ z ] ]
       k = ! < id > ; ! < id > 1 ; < f > < g > ( < h > )";
 
-pub(super) const ALL: [&str; 7] = [
+pub(super) const ALL: &[&str] = &[
     SIGNATURES, FORMS, OPERATORS, PRIMARIES, CALLS, MATCHES, BUILDS,
 ];

@@ -196,23 +196,47 @@ fn symbols(
     Ok(symbols)
 }
 
-// The grammar of the tables.
-pub(super) fn tabled(alloc: Global) -> Result<Grammar, AllocError> {
+// The tables one after another.
+const TABLES: [&[(&str, &[&str])]; 3] = [FILES, STRATEGIES, PATTERNS];
+
+// The names of the kinds of phrases, in the order of their numbers.
+fn names(alloc: Global) -> Result<Vec<&'static str>, AllocError> {
     let mut names = Vec::new(alloc);
-    for table in [FILES, STRATEGIES, PATTERNS] {
+    for table in TABLES {
         for (name, _) in table {
             names.push(*name)?;
         }
     }
+    Ok(names)
+}
+
+// The forms of a kind of phrase.
+fn forms_of(
+    alloc: Global,
+    names: &[&'static str],
+    forms: &'static [&'static str],
+) -> Result<Vec<Vec<Symbol>>, AllocError> {
+    let mut made = Vec::new(alloc);
+    for form in forms {
+        made.push(symbols(alloc, names, form)?)?;
+    }
+    Ok(made)
+}
+
+// The forms of all kinds of phrases, by these names.
+fn phrases(alloc: Global, names: &[&'static str]) -> Result<Vec<Vec<Vec<Symbol>>>, AllocError> {
     let mut phrases = Vec::new(alloc);
-    for table in [FILES, STRATEGIES, PATTERNS] {
+    for table in TABLES {
         for (_, forms) in table {
-            let mut phrase = Vec::new(alloc);
-            for form in *forms {
-                phrase.push(symbols(alloc, &names, form)?)?;
-            }
-            phrases.push(phrase)?;
+            phrases.push(forms_of(alloc, names, forms)?)?;
         }
     }
+    Ok(phrases)
+}
+
+// The grammar of the tables.
+pub(super) fn tabled(alloc: Global) -> Result<Grammar, AllocError> {
+    let names = names(alloc)?;
+    let phrases = phrases(alloc, &names)?;
     Ok(Grammar { phrases })
 }

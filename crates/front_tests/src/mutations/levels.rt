@@ -104,7 +104,7 @@ const SORT_SITES: &[Site] = &[
 ];
 
 // Repeats the text this number of times.
-fn push_times(text: &mut String, piece: &str, times: usize) -> Result<(), AllocError> {
+pub(crate) fn push_times(text: &mut String, piece: &str, times: usize) -> Result<(), AllocError> {
     for _ in 0..times {
         text.push_str(piece)?;
     }
@@ -112,7 +112,7 @@ fn push_times(text: &mut String, piece: &str, times: usize) -> Result<(), AllocE
 }
 
 // Files with a part that is this number of forms further in than the site is.
-#[derive(Clone, Copy, Debug)]
+#[derive(Clone, Copy)]
 struct Nesting {
     site: Site,
     form: Form,
@@ -159,20 +159,11 @@ impl Nesting {
         Nesting { times, ..self }
     }
 
-    // Adds a line where the file with this part is not read so.
-    fn expect(
-        self,
-        alloc: Global,
-        part: &str,
-        expected: Reading,
-        differences: &mut String,
-    ) -> Result<(), AllocError> {
-        let found = parsed(alloc, self.file(alloc, part)?.as_bytes());
-        if found != expected {
-            writeln!(
-                differences,
-                "{found:?} in place of {expected:?} for {part}in {self:?}"
-            )?;
+    // Fails with its text where the file with this part is not read so.
+    fn expect(self, alloc: Global, part: &str, expected: Reading) -> Result<(), Fail> {
+        let text = self.file(alloc, part)?;
+        if parsed(alloc, text.as_bytes()) != expected {
+            return Err(Fail::new(text));
         }
         Ok(())
     }
@@ -187,75 +178,46 @@ fn beyond(most: Nesting) -> usize {
 }
 
 // Compares what files are read as in which a part stands at the greatest level, or one form further in.
-fn try_form(
-    alloc: Global,
-    site: Site,
-    form: Form,
-    differences: &mut String,
-) -> Result<(), AllocError> {
+fn try_form(alloc: Global, site: Site, form: Form) -> Result<(), Fail> {
     let most = Nesting::most(site, form);
-    most.expect(alloc, site.3, Reading::File, differences)?;
+    most.expect(alloc, site.3, Reading::File)?;
     let fault = Reading::Syntax(most.bytes_before() as u64);
-    most.expect(alloc, NO_PART, fault, differences)?;
+    most.expect(alloc, NO_PART, fault)?;
 
     let more = most.one_more();
     let at = beyond(most);
-    more.expect(alloc, site.3, Reading::Nesting(at as u64), differences)?;
+    more.expect(alloc, site.3, Reading::Nesting(at as u64))?;
     let fault = if at == more.bytes_before() {
         Reading::Syntax(at as u64)
     } else {
         Reading::Nesting(at as u64)
     };
-    more.expect(alloc, NO_PART, fault, differences)
+    more.expect(alloc, NO_PART, fault)
 }
 
-// The differences of all of these forms at each of these sites.
-fn differences(alloc: Global, sites: &[Site], forms: &[Form]) -> Result<String, AllocError> {
-    let mut differences = String::new(alloc);
+// Tries all of these forms at each of these sites.
+fn try_forms(alloc: Global, sites: &[Site], forms: &[Form]) -> Result<(), Fail> {
     for site in sites {
         for form in forms {
-            try_form(alloc, *site, *form, &mut differences)?;
+            try_form(alloc, *site, *form)?;
         }
-    }
-    Ok(differences)
-}
-
-#[test]
-fn each_form_nests_to_level_200(rt: HostRuntime) -> Result<(), Fail> {
-    let table = [
-        (STRATEGY_SITES, STRATEGIES),
-        (MATCH_SITES, PATTERNS),
-        (BUILD_SITES, PATTERNS),
-        (BUILD_SITES, APPLICATIONS),
-        (SORT_SITES, SORTS),
-    ];
-    for (sites, forms) in table {
-        let differences = differences(rt.alloc(), sites, forms)?;
-        assert!(rt; differences.is_empty(), "{differences}");
     }
     Ok(())
 }
 
+// Sites, and the forms that can stand there.
+const TABLE: &[(&[Site], &[Form])] = &[
+    (STRATEGY_SITES, STRATEGIES),
+    (MATCH_SITES, PATTERNS),
+    (BUILD_SITES, PATTERNS),
+    (BUILD_SITES, APPLICATIONS),
+    (SORT_SITES, SORTS),
+];
+
 #[test]
-fn files_of_a_hundred_thousand_levels(rt: HostRuntime) -> Result<(), Fail> {
-    let table = [
-        ("strategies main = ", "(", Reading::Nesting(218)),
-        ("strategies main = ", "a;", Reading::Nesting(418)),
-        ("strategies main = ", "if ", Reading::Nesting(618)),
-        ("strategies main = ?", "[", Reading::Nesting(218)),
-        ("strategies main = !", "C(", Reading::Nesting(417)),
-        ("rules r : x -> ", "<!", Reading::Nesting(215)),
-        ("signature sorts ", "A(", Reading::Nesting(416)),
-        ("strategies ", "(", Reading::Syntax(11)),
-    ];
-    for (front, piece, expected) in table {
-        let mut text = String::from_str(rt.alloc(), front)?;
-        push_times(&mut text, piece, 100_000)?;
-        assert_eq!(rt;
-            parsed(rt.alloc(), text.as_bytes()),
-            expected,
-            "{front}{piece}"
-        );
+fn each_form_nests_to_level_200(rt: HostRuntime) -> Result<(), Fail> {
+    for (sites, forms) in TABLE {
+        try_forms(rt.alloc(), sites, forms)?;
     }
     Ok(())
 }

@@ -5,8 +5,8 @@ use super::words::{Word, words};
 use std::alloc::{AllocError, Global};
 use std::test::Fail;
 
-// Behind each of these the file is as before.
-const GAPS: [&[u8]; 5] = [
+// After each of these the file is as before.
+const GAPS: &[&[u8]] = &[
     b"\r\n",
     b"\t\r",
     b"/* /* \" # module \n */",
@@ -15,7 +15,7 @@ const GAPS: [&[u8]; 5] = [
 ];
 
 // At each of these there is no token, this many bytes after its beginning.
-const FAULTS: [(&[u8], u64); 9] = [
+const FAULTS: &[(&[u8], u64)] = &[
     (b"/* ", 0),
     (b"/*/ ", 0),
     (b"/* /* */ */", 10),
@@ -28,7 +28,7 @@ const FAULTS: [(&[u8], u64); 9] = [
 ];
 
 // At each of these there is no token, this many bytes after its beginning, if nothing stands after it.
-const ENDS: [(&[u8], u64); 4] = [(b"/* *", 0), (b"\"a", 0), (b"\"a\\\"", 0), (b"x-1 /", 4)];
+const ENDS: &[(&[u8], u64)] = &[(b"/* *", 0), (b"\"a", 0), (b"\"a\\\"", 0), (b"x-1 /", 4)];
 
 // The words of this front, this text, and then the words of this back.
 fn joined(alloc: Global, front: &str, put: &[u8], back: &str) -> Result<Vec<u8>, AllocError> {
@@ -39,58 +39,56 @@ fn joined(alloc: Global, front: &str, put: &[u8], back: &str) -> Result<Vec<u8>,
     Ok(joined)
 }
 
-// Adds a line where the text between is not read so.
+// Fails with the front where the text between is not read so.
 fn expect(
     alloc: Global,
-    (front, put, back): (&str, &[u8], &str),
+    front: &str,
+    put: &[u8],
+    back: &str,
     expected: Reading,
-    differences: &mut String,
-) -> Result<(), AllocError> {
-    let found = parsed(alloc, &joined(alloc, front, put, back)?);
-    if found != expected {
-        writeln!(
-            differences,
-            "{found:?} in place of {expected:?} for {put:?} following {front}"
-        )?;
+) -> Result<(), Fail> {
+    let joined = joined(alloc, front, put, back)?;
+    if parsed(alloc, &joined) != expected {
+        return Err(Fail::new(front));
     }
     Ok(())
 }
 
-// Adds the differences of all texts put between these words.
-fn try_place(
-    alloc: Global,
-    front: &[Word<'_>],
-    back: &[Word<'_>],
-    differences: &mut String,
-) -> Result<(), AllocError> {
-    let front = text(alloc, front)?;
-    let back = text(alloc, back)?;
+// Tries all texts between these.
+fn try_place(alloc: Global, front: &str, back: &str) -> Result<(), Fail> {
     let at = front.len() as u64;
     for put in GAPS {
-        let parts = (front.as_str(), put, back.as_str());
-        expect(alloc, parts, Reading::File, differences)?;
+        expect(alloc, front, put, back, Reading::File)?;
     }
     for (put, place) in FAULTS {
-        let fault = Reading::Lexical(at.saturating_add(place));
-        let parts = (front.as_str(), put, back.as_str());
-        expect(alloc, parts, fault, differences)?;
+        let fault = Reading::Lexical(at.saturating_add(*place));
+        expect(alloc, front, put, back, fault)?;
     }
     for (put, place) in ENDS {
-        let fault = Reading::Lexical(at.saturating_add(place));
-        expect(alloc, (front.as_str(), put, ""), fault, differences)?;
+        let fault = Reading::Lexical(at.saturating_add(*place));
+        expect(alloc, front, put, "", fault)?;
     }
     Ok(())
+}
+
+// Tries all texts between these words.
+fn try_words(alloc: Global, front: &[Word<'_>], back: &[Word<'_>]) -> Result<(), Fail> {
+    let front = text(alloc, front)?;
+    let back = text(alloc, back)?;
+    try_place(alloc, front.as_str(), back.as_str())
+}
+
+// Tries each place between two of the words, and both ends.
+fn try_places(alloc: Global, words: &[Word<'_>]) -> Result<(), Fail> {
+    for number in 0..words.len() {
+        let (front, back) = words.split_at(number);
+        try_words(alloc, front, back)?;
+    }
+    try_words(alloc, words, &[])
 }
 
 #[test]
 fn texts_between_any_two_tokens(rt: HostRuntime) -> Result<(), Fail> {
     let words = words(rt.alloc(), files::FORMS)?;
-    let mut differences = String::new(rt.alloc());
-    for number in 0..words.len() {
-        let (front, back) = words.split_at(number);
-        try_place(rt.alloc(), front, back, &mut differences)?;
-    }
-    try_place(rt.alloc(), &words, &[], &mut differences)?;
-    assert!(rt; differences.is_empty(), "{differences}");
-    Ok(())
+    try_places(rt.alloc(), &words)
 }

@@ -8,8 +8,8 @@ use str_parser::parse;
 use term_model::Fault;
 
 // A file, or the refusal and the byte at which it stands.
-#[derive(Clone, Copy, Debug, PartialEq, Eq)]
-pub(super) enum Reading {
+#[derive(Clone, Copy, PartialEq, Eq)]
+pub(crate) enum Reading {
     File,
     Lexical(u64),
     ReservedWord(u64),
@@ -29,7 +29,7 @@ fn refusal(fault: Fault) -> Reading {
 }
 
 // What `lex` and `parse` read the text as.
-pub(super) fn parsed(alloc: Global, text: &[u8]) -> Reading {
+pub(crate) fn parsed(alloc: Global, text: &[u8]) -> Reading {
     let tokens = match lex(alloc, text) {
         Ok(tokens) => tokens,
         Err(fault) => return refusal(fault),
