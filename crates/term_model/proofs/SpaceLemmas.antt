@@ -4,18 +4,9 @@ use Rattle.term_model.specs.declared.term.Head.TheVariants as heads
 use Rattle.term_model.specs.declared.made.Made.TheVariants as made
 use Rattle.term_model.specs.declared.made.Made.{Made}
 use Rattle.std.specs.List.{AppendsClones, each_same}
-use Rattle.std.specs.Prelude.{◌↔◌}
 use Rattle.std.proofs.lemmas.List.{map-id, length-drop}
 use Rattle.std.proofs.Math.Seq.{take-length}
-use Rattle.std.specs.FinMap.{nat_cmp-IsAntisymmetric, slice_cmp-IsAntisymmetric}
-use Rattle.std.specs.Ordering.{nat_cmp, ordering_reverse}
-use Rattle.std.specs.Cmp.Lexicographic.{slice_cmp}
-use Rattle.std.proofs.lemmas.Cmp.{nat_cmp_total, nat_list_cmp_total}
-use Rattle.std.specs.declared.cmp.Ordering.{Ordering}
-use Rattle.std.specs.declared.cmp.Ordering.TheVariants.{Less, Equal, Greater}
-use Rattle.term_model.specs.Symbol.{Symbol, Plain, Quoted, Tuple, kind_of, bytes_of}
 use Rattle.term_model.specs.Space.{Pushes}
-use Rattle.term_model.specs.RcSpace.{kind_number}
 use Rattle.term_model.specs.Term.{Tree, node, term, head_of, parts_of, annos_of, weights, depths, trees_of, Fits, made_of}
 use Rattle.term_model.proofs.TermLemmas.{trees_of-list_of}
 use Rattle.term_model.proofs.FitsLaws.{fits-complete, made_fits}
@@ -66,41 +57,6 @@ pushed space old new more e = record { pushed = more; after = e; standing = all_
     all_stand : (ts : List Tree) → All (λ _. IsTrue true) ts
     all_stand [] = search rules
     all_stand (t ∷ ts) = search rules
-
--- a symbol is given by its kind and its bytes
-pub symbol_by : (s t : Symbol) → kind_number (kind_of s) ≡ kind_number (kind_of t) → bytes_of s ≡ bytes_of t → s ≡ t
-symbol_by (Plain xs) (Plain ys) k b = ap Plain b
-symbol_by (Quoted xs) (Quoted ys) k b = ap Quoted b
-symbol_by Tuple Tuple k b = refl
-symbol_by (Plain _) (Quoted _) k b = absurd (omega (arith, k))
-symbol_by (Plain _) Tuple k b = absurd (omega (arith, k))
-symbol_by (Quoted _) (Plain _) k b = absurd (omega (arith, k))
-symbol_by (Quoted _) Tuple k b = absurd (omega (arith, k))
-symbol_by Tuple (Plain _) k b = absurd (omega (arith, k))
-symbol_by Tuple (Quoted _) k b = absurd (omega (arith, k))
-
-tied : (r : Ordering) → r ≡ ordering_reverse r → r ≡ Equal
-tied Less e = absurd (cc)
-tied Equal e = refl
-tied Greater e = absurd (cc)
-
--- symbols are tied where their kinds and their bytes are
-pub kinds_differ : (s t : Symbol) (r : Ordering) → r ≡ nat_cmp (kind_number (kind_of s)) (kind_number (kind_of t)) → ¬ (r ≡ Equal) → (r ≡ Equal) ↔ (s ≡ t)
-kinds_differ s t r is apart =
-    let number : Symbol → ℕ = λ u. kind_number (kind_of u) in
-    (λ e. absurd (apart e), λ e. is ∙ ap (λ u. nat_cmp (number s) (number u)) (sym e) ∙ tied _ (nat_cmp_total.antisymm (number s) (number s)))
-
-pub bytes_decide : (s t : Symbol) (k r : Ordering) → k ≡ nat_cmp (kind_number (kind_of s)) (kind_number (kind_of t)) → k ≡ Equal → r ≡ slice_cmp nat_cmp (bytes_of s) (bytes_of t) → (r ≡ Equal) ↔ (s ≡ t)
-bytes_decide s t k r kinds same is = (
-  λ e. symbol_by s t (nat_cmp-IsAntisymmetric _ _ (sym kinds ∙ same)) (slice_cmp-IsAntisymmetric nat_cmp-IsAntisymmetric _ _ (sym is ∙ e)),
-  λ e. is ∙ ap (λ u. slice_cmp nat_cmp (bytes_of s) (bytes_of u)) (sym e) ∙ tied _ (nat_list_cmp_total.antisymm (bytes_of s) (bytes_of s)),
-)
-
-pub ruleset symbols = (kinds_differ, bytes_decide)
-
--- numbers are tied where they are equal
-pub numbers_decide : (m n : ℕ) (r : Ordering) → r ≡ nat_cmp m n → (r ≡ Equal) ↔ (m ≡ n)
-numbers_decide m n r is = (λ e. nat_cmp-IsAntisymmetric m n (sym is ∙ e), λ e. is ∙ ap (nat_cmp m) (sym e) ∙ tied _ (nat_cmp_total.antisymm m m))
 
 -- all that comes after the first elements
 pub to_the_end : (n : ℕ) (ts : List Tree) → take (length ts - n) (drop n ts) ≡ drop n ts

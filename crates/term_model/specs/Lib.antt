@@ -17,4 +17,3 @@ pub mod PrimKey
 pub mod Space
 pub mod Blocks
 pub mod BlockHashing
-pub mod RcSpace

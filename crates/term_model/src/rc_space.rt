@@ -1,17 +1,16 @@
 //! The space of terms themselves: they are shared, so that a reference is a term.
-ghost use Rattle.std.specs.Prelude.{◌≡◌, ◌↔◌, ◌<◌, ◌≤◌, ◌++◌, All, map, drop, true, IfOk, IsTrue, OnOk, OnErr, [], length};
+ghost use Rattle.std.specs.Prelude.{◌≡◌, ◌↔◌, ◌<◌, ◌≤◌, ◌++◌, All, map, drop, true, IfOk, IsTrue, Some, OnOk, OnErr, [], length};
 ghost use Rattle.term_model.specs.Term.{term, head_of, parts_of, annos_of};
 ghost use Rattle.term_model.specs.declared.term.Head.TheVariants as heads;
 ghost use Rattle.term_model.specs.Space.{Keeps, Makes, MayHave};
-ghost use Rattle.term_model.specs.RcSpace.{kind_number};
+ghost use Rattle.term_model.specs.Symbol.{bytes_of};
 
 use crate::made::Made;
 use crate::parts::{Parts, Shape, Top};
 use crate::space::TermSpace;
-use crate::symbol::{Kind, Sym};
+use crate::symbol::Sym;
 use crate::term::{Head, Term};
 use std::alloc::{AllocError, Global};
-use std::cmp::Ordering;
 
 /// The space in which a reference is a term: every reference stands, and going back changes nothing.
 #[derive(Drop)]
@@ -37,6 +36,9 @@ impl TermSpace for RcSpace {
     ghost knows = { λ _ _. true };
 
     ghost symbol_of = { λ _ s. s };
+
+    // How many bytes the symbol has.
+    ghost number_of = { λ s. length (bytes_of s) };
 
     fn fits(&self, at: &Term) {
         at.fits();
@@ -87,11 +89,14 @@ impl TermSpace for RcSpace {
         }
     }
 
-    fn order(&self, at: &Term, name: &Sym, count: usize) -> Ordering {
+    fn number(&self, name: &Sym) -> usize {
+        name.bytes().len()
+    }
+
+    fn root_number(&self, at: &Term) -> Option<usize> {
         match at.head() {
-            Head::Int(_) => Ordering::Less,
-            Head::App(symbol) => order_of_roots(symbol, at.children().len(), name, count),
-            Head::List => Ordering::Greater,
+            Head::App(symbol) => Some(symbol.bytes().len()),
+            Head::Int(_) | Head::List => None,
         }
     }
 
@@ -223,39 +228,4 @@ fn push_all(stack: &mut Vec<Term>, terms: &[Term]) -> Result<(), AllocError>
     ensures err { OnErr result (stack.new.items ≡ stack.old.items) }
 {
     stack.extend_with_clones(terms)
-}
-
-// Where a symbol applied to a number of parts stands from another: by the symbols, then by how many parts.
-#[tactic(auto, using(crate::proofs::SpaceLemmas::numbers_decide))]
-fn order_of_roots(one: &Sym, parts: usize, other: &Sym, count: usize) -> Ordering
-    ensures { (result ≡ Ordering.Equal) ↔ ((one.now ≡ other.now) × (parts ≡ count)) }
-{
-    let by_symbol = order_of_symbols(one, other);
-    if by_symbol != Ordering::Equal {
-        return by_symbol;
-    }
-    parts.cmp(&count)
-}
-
-// Where a symbol stands from another: by their kinds, then by their bytes.
-#[tactic(auto, using(crate::proofs::SpaceLemmas::symbols))]
-fn order_of_symbols(one: &Sym, other: &Sym) -> Ordering
-    ensures { (result ≡ Ordering.Equal) ↔ (one.now ≡ other.now) }
-{
-    let by_kind = number_of(one.kind()).cmp(&number_of(other.kind()));
-    if by_kind != Ordering::Equal {
-        return by_kind;
-    }
-    one.bytes().cmp(other.bytes())
-}
-
-// Kinds in their order.
-fn number_of(kind: Kind) -> u8
-    ensures { result ≡ kind_number kind }
-{
-    match kind {
-        Kind::Plain => 0,
-        Kind::Quoted => 1,
-        Kind::Tuple => 2,
-    }
 }

@@ -11,7 +11,6 @@ use crate::parts::{Shape, Top};
 use crate::symbol::Sym;
 use crate::term::{Head, Term};
 use std::alloc::{AllocError, Global};
-use std::cmp::Ordering;
 
 /// Where terms are kept, each under a reference. A reference stands from when it is made until the space goes back to a
 /// mark that was taken before; a mark is valid so long as what stood when it was taken stands.
@@ -49,6 +48,9 @@ pub trait TermSpace {
 
     // The symbol of a name that was brought in.
     ghost symbol_of: { Self → Self.Name → Symbol };
+
+    // The number of a name, whatever state the space is in.
+    ghost number_of: { Self.Name → ℕ };
 
     /// Tells that the term fits.
     fn fits(&self, at: &Self::Ref)
@@ -98,12 +100,15 @@ pub trait TermSpace {
         requires known { IsTrue (knows self.now name.now) }
         ensures { IsTrue result ↔ IsApplied (term_of self.now at.now) (symbol_of self.now name.now) count };
 
-    /// Where the root of the term stands in the space's order of roots, seen from the symbol of the name applied to
-    /// `count` parts: `Equal` exactly where it is that root.
-    fn order(&self, at: &Self::Ref, name: &Self::Name, count: usize) -> Ordering
-        requires stands { IsTrue (stands self.now at.now) }
-        requires known { IsTrue (knows self.now name.now) }
-        ensures { (result ≡ Ordering.Equal) ↔ IsApplied (term_of self.now at.now) (symbol_of self.now name.now) count };
+    /// The number of the name, by which a table finds what it has for the name. Several names may have one number.
+    fn number(&self, name: &Self::Name) -> usize
+        requires { IsTrue (knows self.now name.now) }
+        ensures { result ≡ number_of name.now };
+
+    /// The number of the term's symbol: that of each name of the symbol. `None` where the term is an integer or a list.
+    fn root_number(&self, at: &Self::Ref) -> Option<usize>
+        requires { IsTrue (stands self.now at.now) }
+        ensures { (n : Self.Name) → IsTrue (knows self.now n) → head_of (term_of self.now at.now) ≡ heads.App (symbol_of self.now n) → result ≡ Some (number_of n) };
 
     /// How many parts the term has.
     fn count(&self, at: &Self::Ref) -> usize

@@ -1,5 +1,5 @@
 // What the store lends: heads, and the places of blocks and chains.
-ghost use Rattle.std.specs.Prelude.{◌≡◌, ◌↔◌, ◌<◌, length, map, IsTrue};
+ghost use Rattle.std.specs.Prelude.{◌≡◌, ◌↔◌, ◌<◌, ℕ, length, map, IsTrue, Some};
 ghost use Rattle.term_model.specs.Blocks.{list_in};
 ghost use Rattle.term_model.specs.Space.{IsTop};
 ghost use Rattle.term_model.specs.declared.term.Head.TheVariants as heads;
@@ -66,6 +66,18 @@ impl StoreSpace {
     {
         self.distinct();
         head == StoredHead::Symbol(number)
+    }
+
+    // The number of the symbol of a head, if it has one.
+    pub(crate) fn symbol_number(&self, head: StoredHead) -> Option<usize>
+        requires { IsAmong (length self.now.symbols.keys) head }
+        ensures { (n : ℕ) → n < length self.now.symbols.keys → head_in self.now.symbols.keys head ≡ heads.App (symbol_at self.now n) → result ≡ Some n }
+    {
+        self.distinct();
+        match head {
+            StoredHead::Symbol(number) => Some(number as usize),
+            StoredHead::Int(_) | StoredHead::List => None,
+        }
     }
 
     /// Whether two places have the same term, which is where they are the same number. Takes no memory.

@@ -1,5 +1,5 @@
 //! The store as a space of terms.
-ghost use Rattle.std.specs.Prelude.{◌≡◌, nat_lt, nat_le, map, All, IsTrue, IfOk};
+ghost use Rattle.std.specs.Prelude.{◌≡◌, nat_lt, nat_le, map, All, IsTrue, IfOk, Some};
 ghost use Rattle.term_model.specs.Term.{term};
 ghost use Rattle.term_model.specs.Space.{Keeps, Makes, MayHave};
 ghost use Rattle.term_store.specs.Space as stored;
@@ -10,7 +10,6 @@ use crate::store::StoreSpace;
 use crate::stored::{StoredHead, StoredShape};
 use indexmap::IndexSet;
 use std::alloc::{AllocError, Global};
-use std::cmp::Ordering;
 use std::hash::{BuildHasherDefault, FoldHasher};
 use term_model::{Head, Made, Shape, Sym, Term, TermSpace, Top};
 
@@ -60,6 +59,9 @@ impl TermSpace for StoreSpace {
     ghost knows = { λ s n. nat_lt n s.named };
 
     ghost symbol_of = { λ s n. stored.symbol_at s n };
+
+    // Each symbol has a number of its own.
+    ghost number_of = { λ n. n };
 
     #[tactic(auto, using(crate::proofs::LawsOfSpace::reading))]
     fn fits(&self, at: &u32) {
@@ -114,23 +116,14 @@ impl TermSpace for StoreSpace {
         self.is_symbol(shape.head, *name) && self.len_in(shape.parts) == count
     }
 
+    fn number(&self, name: &u32) -> usize {
+        *name as usize
+    }
+
     #[tactic(auto, using(crate::proofs::LawsOfSpace::reading))]
-    fn order(&self, at: &u32, name: &u32, count: usize) -> Ordering {
+    fn root_number(&self, at: &u32) -> Option<usize> {
         let shape = self.shape_at(*at);
-        match shape.head {
-            StoredHead::Int(_) => Ordering::Less,
-            StoredHead::Symbol(number) => {
-                let length = self.len_in(shape.parts);
-                if self.is_symbol(shape.head, *name) {
-                    return length.cmp(&count);
-                }
-                if number < *name {
-                    return Ordering::Less;
-                }
-                Ordering::Greater
-            }
-            StoredHead::List => Ordering::Greater,
-        }
+        self.symbol_number(shape.head)
     }
 
     #[tactic(auto, using(crate::proofs::LawsOfSpace::reading))]
