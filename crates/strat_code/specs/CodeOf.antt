@@ -1,5 +1,6 @@
 -- What the instructions of the Rust code are seen as, and what holds of every Code.
-use Rattle.std.specs.Prelude.{ℕ, ◌<◌, List, [], ◌∷◌, map, length}
+use Rattle.std.specs.Prelude.{ℕ, zero, suc, ◌<◌, List, [], ◌∷◌, map, length, drop, Vec}
+use Rattle.std.specs.declared.alloc.Global.{Global}
 use Rattle.term_model.specs.PrimNames.{NameKey}
 use Rattle.core_lang.specs.Core.{IsCore}
 use Rattle.core_lang.specs.Resolved.{ResolvedDefinitions}
@@ -36,34 +37,47 @@ root_of (root_forms.List n o) = roots.list_root n o
 abbrev pub case_of : Case → model.Case
 case_of c = case (root_of c.root) c.nodes c.body c.otherwise
 
-abbrev pub instr_of : Instr → model.Instr
-instr_of (forms.Count n) = count n
-instr_of (forms.GiveUp n) = give_up n
-instr_of (forms.Match n p) = match_term n (pattern_of p)
-instr_of (forms.Build n p) = build_term n (pattern_of p)
-instr_of (forms.Enter n k) = enter n k
-instr_of forms.Leave = leave
-instr_of (forms.Extend n k) = extend n k
-instr_of (forms.Shrink k) = shrink k
-instr_of (forms.Try n a) = try n a
-instr_of (forms.Commit n a) = commit n a
-instr_of (forms.Select n cs a) = select n (map case_of cs.items) a
-instr_of (forms.Jump a) = jump a
-instr_of (forms.Traverse n k a) = traverse n (traversal_of k) a
-instr_of forms.PartDone = part_done
-instr_of (forms.CallDefinition n h a k to us ps) = call_definition n h a k to (map argument_of us.items) (patterns_of ps.items)
-instr_of (forms.CallClosure n y) = call_closure n y
-instr_of forms.EndDefinition = end_definition
-instr_of forms.EndArgument = end_argument
-instr_of (forms.ApplyPrimitive n f ps) = apply_primitive n f.items (patterns_of ps.items)
-instr_of forms.Finish = finish
+-- the cases of a table, if there is one at this position
+abbrev pub table_at : List (Vec Case Global) → ℕ → List Case
+table_at [] j = []
+table_at (t ∷ ts) zero = t.items
+table_at (t ∷ ts) (suc j) = table_at ts j
 
-abbrev pub code_of : List Instr → Code
-code_of vs = map instr_of vs
+-- with these tables
+module _ (tables : List (Vec Case Global)) where
+  -- the cases of a table without its first k ones
+  abbrev pub cases_of : (table k : ℕ) → List model.Case
+  cases_of j k = drop k (map case_of (table_at tables j))
 
--- instructions, and the primitives that they apply
+  abbrev pub instr_of : Instr → model.Instr
+  instr_of (forms.Count n) = count n
+  instr_of (forms.GiveUp n) = give_up n
+  instr_of (forms.Match n p) = match_term n (pattern_of p)
+  instr_of (forms.Build n p) = build_term n (pattern_of p)
+  instr_of (forms.Enter n k) = enter n k
+  instr_of forms.Leave = leave
+  instr_of (forms.Extend n k) = extend n k
+  instr_of (forms.Shrink k) = shrink k
+  instr_of (forms.Try n a) = try n a
+  instr_of (forms.Commit n a) = commit n a
+  instr_of (forms.Select n j k a) = select n (cases_of j k) a
+  instr_of (forms.Jump a) = jump a
+  instr_of (forms.Traverse n k a) = traverse n (traversal_of k) a
+  instr_of forms.PartDone = part_done
+  instr_of (forms.CallDefinition n h a k to us ps) = call_definition n h a k to (map argument_of us.items) (patterns_of ps.items)
+  instr_of (forms.CallClosure n y) = call_closure n y
+  instr_of forms.EndDefinition = end_definition
+  instr_of forms.EndArgument = end_argument
+  instr_of (forms.ApplyPrimitive n f ps) = apply_primitive n f.items (patterns_of ps.items)
+  instr_of forms.Finish = finish
+
+  abbrev pub code_of : List Instr → Code
+  code_of vs = map instr_of vs
+
+-- instructions, the tables that they select from, and the primitives that they apply
 pub record CodeParts : Type 0 where
   pub instrs : List Instr
+  pub tables : List (Vec Case Global)
   pub prims : List NameKey
 
 -- each address in an instruction is less than n

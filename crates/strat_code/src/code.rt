@@ -2,15 +2,17 @@
 ghost use Rattle.std.specs.Prelude.{◌≡◌, ◌<◌, length, slice_get, Some};
 ghost use Rattle.strat_code.specs.CodeOf.{code_of, IsCode};
 
-use crate::instr::Instr;
+use crate::instr::{Case, Instr};
 use std::marker::Model;
 use term_model::PrimNames;
 
-/// Instructions, and the primitives that they apply. There is a core with the same primitives that they stand for, and each
-/// address in them is one of an instruction. A run begins at address 0.
+/// Instructions, the tables of cases that they select from, and the primitives that they apply. There is a core with the same
+/// primitives that they stand for, and each address in them is one of an instruction. A run begins at address 0.
 #[derive(Drop)]
 pub struct Code {
     instrs: Vec<Instr>,
+    // Several instructions may select from one table, each without its first cases.
+    tables: Vec<Vec<Case>>,
     prims: PrimNames,
 }
 
@@ -21,23 +23,29 @@ impl Model for Code {
 
     ghost use Rattle.std.specs.Coded.{codes};
     ghost use Rattle.strat_code.specs.contracts.instr.Instr as instructions;
+    ghost use Rattle.strat_code.specs.contracts.instr.Case as cases;
 
-    ghost coded = { Prim.hlevel (codes, instructions.the_row.coded) };
+    ghost coded = { Prim.hlevel (codes, instructions.the_row.coded, cases.the_row.coded) };
 
-    ghost view = { λ c. record { instrs = c.instrs.items; prims = c.prims } };
+    ghost view = { λ c. record { instrs = c.instrs.items; tables = c.tables.items; prims = c.prims } };
 
-    ghost invariant = { λ c. IsCode (code_of c.instrs.items) c.prims };
+    ghost invariant = { λ c. IsCode (code_of c.tables.items c.instrs.items) c.prims };
 }
 
 impl Code {
-    /// The code of these instructions with these primitives. They stand for some core with the same primitives, and each
-    /// address in them is one of an instruction.
-    pub fn new(instrs: Vec<Instr>, prims: PrimNames) -> Code
-        requires { IsCode (code_of instrs.items) prims }
+    /// The code of these instructions with these tables and primitives. They stand for some core with the same primitives, and
+    /// each address in them is one of an instruction.
+    pub fn new(instrs: Vec<Instr>, tables: Vec<Vec<Case>>, prims: PrimNames) -> Code
+        requires { IsCode (code_of tables.items instrs.items) prims }
         ensures instrs { result.instrs ≡ instrs.items }
+        ensures tables { result.tables ≡ tables.items }
         ensures prims { result.prims ≡ prims }
     {
-        Code { instrs, prims }
+        Code {
+            instrs,
+            tables,
+            prims,
+        }
     }
 
     /// The number of instructions.
@@ -62,11 +70,18 @@ impl Code {
         &self.prims
     }
 
-    /// All instructions: those of some core with the same primitives.
+    /// All instructions: with the tables, those of some core with the same primitives.
     pub fn instrs(&self) -> &[Instr]
         ensures same { result.now ≡ self.now.instrs }
-        ensures stands { IsCode (code_of self.now.instrs) self.now.prims }
+        ensures stands { IsCode (code_of self.now.tables self.now.instrs) self.now.prims }
     {
         self.instrs.as_slice()
+    }
+
+    /// The tables that instructions select from.
+    pub fn tables(&self) -> &[Vec<Case>]
+        ensures { result.now ≡ self.now.tables }
+    {
+        self.tables.as_slice()
     }
 }

@@ -30,7 +30,7 @@ pub enum Root {
     List(usize, bool),
 }
 
-/// An alternative of a [`Instr::Select`].
+/// An alternative in a table of code.
 #[derive(Debug, Drop, PartialEq, Eq)]
 pub struct Case {
     /// What the alternative asks of a term's root.
@@ -93,10 +93,12 @@ pub enum Instr {
         nodes: usize,
         next_address: usize,
     },
-    /// Tries the first case that has the term's root; where none has, goes on at the last address.
+    /// Tries the first case that has the term's root, of those of a table without its first `skipped` ones; where none has,
+    /// goes on at the last address.
     Select {
         nodes: usize,
-        cases: Vec<Case>,
+        table: usize,
+        skipped: usize,
         last: usize,
     },
     Jump {

@@ -1,5 +1,5 @@
 // Tests of code: the instructions of the worked program.
-ghost use Rattle.std.specs.Prelude.{◌≡◌, IfOk, map};
+ghost use Rattle.std.specs.Prelude.{◌≡◌, [], IfOk, map};
 ghost use Rattle.core_lang.specs.Program.{no_patterns};
 ghost use Rattle.strat_code.specs.Code.{call_definition};
 ghost use Rattle.strat_code.specs.CodeOf.{argument_of, code_of, instr_of};
@@ -19,7 +19,7 @@ const HERE: Coordinate = Coordinate {
 
 // The match of F(x).
 fn match_of_f(alloc: Global) -> Result<Instr, AllocError>
-    ensures { IfOk result (λ made. instr_of made ≡ match_of_small) }
+    ensures { IfOk result (λ made. instr_of [] made ≡ match_of_small) }
 {
     let symbol = Sym::named(alloc, b"F")?;
     let parts = vec![in alloc; CorePattern::Variable(HERE)]?;
@@ -36,7 +36,7 @@ fn call(
     next_address: usize,
     arguments: Vec<Argument>,
 ) -> Instr
-    ensures { instr_of result ≡ call_definition 1 frames entry room next_address (map argument_of arguments.items) no_patterns }
+    ensures { instr_of [] result ≡ call_definition 1 frames entry room next_address (map argument_of arguments.items) no_patterns }
 {
     Instr::CallDefinition {
         nodes: 1,
@@ -51,7 +51,7 @@ fn call(
 
 // The instructions of the worked code.
 fn small_instrs(alloc: Global) -> Result<Vec<Instr>, AllocError>
-    ensures { IfOk result (λ made. code_of made.items ≡ small_code) }
+    ensures { IfOk result (λ made. code_of [] made.items ≡ small_code) }
 {
     let begin = call(alloc, 0, 2, 0, 1, Vec::new(alloc));
     let body = call(alloc, 1, 6, 1, 5, vec![in alloc; Argument::Code(3)]?);
@@ -80,7 +80,7 @@ fn small_instrs(alloc: Global) -> Result<Vec<Instr>, AllocError>
 #[test]
 fn worked_code(rt: HostRuntime) -> Result<(), Fail> {
     let alloc = rt.alloc();
-    let code = Code::new(small_instrs(alloc)?, PrimNames::new(alloc));
+    let code = Code::new(small_instrs(alloc)?, Vec::new(alloc), PrimNames::new(alloc));
     if code.len() != 10 || !code.prims().is_empty() {
         return Err(Fail::new("the code of ten instructions has no primitives"));
     }
