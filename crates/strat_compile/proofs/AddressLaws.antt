@@ -2,18 +2,24 @@
 use Rattle.std.proofs.Common.{◌-◌, ◌<◌, ◌≤◌, ◌++◌, ℕ, zero, suc, Bool, List, [], ◌∷◌, map, length, set, replicate, arith}
 use Rattle.std.specs.Prelude.{slice_get}
 use Rattle.core_lang.specs.Resolved.{ResolvedStrategy, ResolvedStrategies, ResolvedDefinitions}
-use Rattle.strat_code.specs.Code.{Argument, code_at, parameter_at, Instr, count, give_up, match_term, build_term, enter, leave, extend, shrink, try, commit, select, jump, traverse, part_done, call_definition, call_closure, end_definition, end_argument, apply_primitive, finish, Code}
-use Rattle.strat_code.specs.CodeOf.{ArgumentsInRange, AddressesInRange, AllInRange}
+use Rattle.strat_code.specs.Code.{Argument, code_at, parameter_at, Case, case, Instr, count, give_up, match_term, build_term, enter, leave, extend, shrink, try, commit, select, jump, traverse, part_done, call_definition, call_closure, end_definition, end_argument, apply_primitive, finish, Code}
+use Rattle.strat_code.specs.CodeOf.{ArgumentsInRange, CasesInRange, AddressesInRange, AllInRange}
 use Rattle.strat_code.specs.Context.{Context}
-use Rattle.strat_compile.specs.Emission.{Emits, emits_id, emits_fail, emits_seq, emits_choice, emits_match, emits_build, emits_scope, emits_inner, emits_all, emits_one, emits_some, emits_let, emits_call, emits_parameter, emits_primitive, EmitsArm, emits_arm, EmitsThen, then_id, then_code, EmitsDefinitions, emits_definitions, EmitsBodies, emits_no_bodies, emits_more_bodies, EmitsBody, emits_body, emits_scope_body, EmitsArguments, emits_no_arguments, emits_code_argument, emits_parameter_argument}
-use Rattle.strat_compile.specs.Located.{located, address_if, argument_located}
-use Rattle.strat_compile.specs.Output.{Emitted, count_of}
+use Rattle.strat_compile.specs.Emission.{Emits, emits_id, emits_fail, emits_seq, emits_choice, emits_select, emits_match, emits_build, emits_scope, emits_inner, emits_all, emits_one, emits_some, emits_let, emits_call, emits_parameter, emits_primitive, EmitsChain, chain_end, chain_more, EmitsArm, emits_arm, EmitsThen, then_id, then_code, EmitsDefinitions, emits_definitions, EmitsBodies, emits_no_bodies, emits_more_bodies, EmitsBody, emits_body, emits_scope_body, EmitsArguments, emits_no_arguments, emits_code_argument, emits_parameter_argument}
+use Rattle.strat_compile.specs.Chains.{Body, cases_between, selects}
+use Rattle.strat_compile.specs.Located.{located, address_if, argument_located, case_located}
+use Rattle.strat_compile.specs.Output.{Emitted, place, count_of}
+use Rattle.strat_compile.proofs.ChainLaws.{selects_long}
 
 -- each place has an instruction
 abbrev pub ArgumentsHavePlaces : List Argument → Type 0
 ArgumentsHavePlaces [] = Unit {0}
 ArgumentsHavePlaces (code_at p ∷ us) = (1 ≤ p) × ArgumentsHavePlaces us
 ArgumentsHavePlaces (parameter_at y ∷ us) = ArgumentsHavePlaces us
+
+abbrev pub CasesHavePlaces : List Case → Type 0
+CasesHavePlaces [] = Unit {0}
+CasesHavePlaces (case r k body otherwise ∷ cs) = (1 ≤ body) × (1 ≤ otherwise) × CasesHavePlaces cs
 
 abbrev pub HasPlaces : Instr → Type 0
 HasPlaces (count k) = Unit {0}
@@ -26,7 +32,7 @@ HasPlaces (extend k m) = Unit {0}
 HasPlaces (shrink m) = Unit {0}
 HasPlaces (try k a) = 1 ≤ a
 HasPlaces (commit k a) = 1 ≤ a
-HasPlaces (select k cs a) = ⊥
+HasPlaces (select k cs a) = CasesHavePlaces cs × (1 ≤ a)
 HasPlaces (jump a) = 1 ≤ a
 HasPlaces (traverse k m a) = 1 ≤ a
 HasPlaces part_done = Unit {0}
@@ -67,12 +73,26 @@ set_start (q ∷ A) (suc i) p h a = (a.0, set_start A i p h a.1)
 in_front : {v : Instr} {c : Code} {A : List ℕ} → HasPlaces v → Sound (record { code = c; starts = A }) → Sound (record { code = v ∷ c; starts = A })
 in_front h s = record { code = (h, s.code); starts = s.starts }
 
+abbrev BodiesHavePlaces : List Body → Type 0
+BodiesHavePlaces [] = Unit {0}
+BodiesHavePlaces (b ∷ bs) = (1 ≤ b.start) × BodiesHavePlaces bs
+
+cases_sound : (bs : List Body) (base last : ℕ) → 1 ≤ base → 1 ≤ last → BodiesHavePlaces bs → CasesHavePlaces (cases_between bs base last)
+cases_sound [] base last h k s = tt
+cases_sound (b ∷ []) base last h k s = (s.0, k, tt)
+cases_sound (b ∷ d ∷ bs) base last h k s = (s.0, omega (arith, h), cases_sound (d ∷ bs) base last h k s.1)
+
+selects_sound : (cs : List Case) (last : ℕ) (c : Code) → 1 ≤ last → CasesHavePlaces cs → AllHavePlaces c → AllHavePlaces (selects cs last c)
+selects_sound [] last c k h s = s
+selects_sound (case r n body otherwise ∷ cs) last c k h s = ((h, k), selects_sound cs last c k h.2 s)
+
 mutual
   pub longer : {w : Bool} {C : Context} {x : ℕ} {s : ResolvedStrategy} {o o1 : Emitted} → Emits w C x s o o1 → length o.code ≤ length o1.code
   longer emits_id = omega arith
   longer emits_fail = omega arith
   longer (emits_seq a b) = let one = longer a in let two = longer b in omega (arith, one, two)
   longer (emits_choice a b) = let one = longer a in let two = longer_arm b in omega (arith, one, two)
+  longer (emits_select {last = last} {bs = bs} {o1 = o1} a) = let one = longer_chain a in let more = selects_long (cases_between bs (place o1) last) last o1.code in omega (arith, one, more)
   longer emits_match = omega arith
   longer emits_build = omega arith
   longer (emits_scope a) = let one = longer a in omega (arith, one)
@@ -84,6 +104,10 @@ mutual
   longer (emits_call has entry a) = let one = longer_arguments a in omega (arith, one)
   longer (emits_parameter none) = omega arith
   longer emits_primitive = omega arith
+
+  longer_chain : {w : Bool} {C : Context} {last : ℕ} {bs : List Body} {s : ResolvedStrategy} {o o1 : Emitted} → EmitsChain w C s bs last o o1 → length o.code ≤ length o1.code
+  longer_chain (chain_end a) = longer a
+  longer_chain (chain_more begins a b) = let one = longer_chain a in let two = longer b in omega (arith, one, two)
 
   longer_arm : {w : Bool} {C : Context} {x to : ℕ} {s1 s2 : ResolvedStrategy} {o o1 : Emitted} → EmitsArm w C x s1 s2 to o o1 → length o.code ≤ length o1.code
   longer_arm (emits_arm a b) = let one = longer_then a in let two = longer b in omega (arith, one, two)
@@ -114,6 +138,12 @@ mutual
   sound emits_fail h s = in_front tt s
   sound (emits_seq a b) h s = let more = longer a in sound b (omega (arith, h, more)) (sound a h s)
   sound (emits_choice a b) h s = let more = longer a in sound_arm b h (omega (arith, h, more)) (sound a h s)
+  sound (emits_select {last = last} {b = b} {bs = bs} {o1 = o1} a) h s =
+      let more = longer_chain a in
+      let made = sound_chain a h s in
+      let base : 1 ≤ place o1 = omega (arith, h, more) in
+      let cases = cases_sound (b ∷ bs) (place o1) last base made.1 made.0 in
+      record { code = ((cases, made.1), selects_sound (cases_between bs (place o1) last) last o1.code made.1 (cases_sound bs (place o1) last base made.1 made.0.1) made.2.code); starts = made.2.starts }
   sound emits_match h s = in_front tt s
   sound emits_build h s = in_front tt s
   sound (emits_scope a) h s = in_front tt (sound a (omega (arith, h)) (in_front tt s))
@@ -125,6 +155,15 @@ mutual
   sound (emits_call has entry a) h s = let made = sound_arguments a h s in in_front (h, made.0) made.1
   sound (emits_parameter none) h s = in_front tt s
   sound emits_primitive h s = in_front tt s
+
+  sound_chain : {w : Bool} {C : Context} {last : ℕ} {bs : List Body} {s : ResolvedStrategy} {o o1 : Emitted} → EmitsChain w C s bs last o o1 → 1 ≤ length o.code → Sound o →
+      BodiesHavePlaces bs × (1 ≤ last) × Sound o1
+  sound_chain (chain_end a) h s = let more = longer a in (tt, omega (arith, h, more), sound a h s)
+  sound_chain (chain_more begins a b) h s =
+      let one = longer_chain a in
+      let two = longer b in
+      let made = sound_chain a h s in
+      ((omega (arith, h, one, two), made.0), made.1, sound b (omega (arith, h, one)) (in_front h made.2))
 
   sound_arm : {w : Bool} {C : Context} {x to : ℕ} {s1 s2 : ResolvedStrategy} {o o1 : Emitted} → EmitsArm w C x s1 s2 to o o1 → 1 ≤ to → 1 ≤ length o.code → Sound o → Sound o1
   sound_arm (emits_arm a b) to h s = let more = longer_then a in in_front h (sound b (omega (arith, h, more)) (sound_then a to h s))
@@ -165,6 +204,10 @@ module _ (n : ℕ) (some_code : 1 ≤ n) where
   arguments_in_range (code_at p ∷ us) h = (below p h.0, arguments_in_range us h.1)
   arguments_in_range (parameter_at y ∷ us) h = arguments_in_range us h
 
+  cases_in_range : (cs : List Case) → CasesHavePlaces cs → CasesInRange n (map (case_located n) cs)
+  cases_in_range [] h = tt
+  cases_in_range (case r k body otherwise ∷ cs) h = (below body h.0, below otherwise h.1, cases_in_range cs h.2)
+
   label_in_range : (A : List ℕ) (l : ℕ) → AllStart A → address_if n (slice_get A l) < n
   label_in_range [] l h = omega (arith, some_code)
   label_in_range (p ∷ A) zero h = below p h.0
@@ -181,7 +224,7 @@ module _ (n : ℕ) (some_code : 1 ≤ n) where
   instr_in_range A (shrink m) s h = tt
   instr_in_range A (try k a) s h = below a h
   instr_in_range A (commit k a) s h = below a h
-  instr_in_range A (select k cs a) s h = elim h [ ]
+  instr_in_range A (select k cs a) s h = (cases_in_range cs h.0, below a h.1)
   instr_in_range A (jump a) s h = below a h
   instr_in_range A (traverse k m a) s h = below a h
   instr_in_range A part_done s h = tt

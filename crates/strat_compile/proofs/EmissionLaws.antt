@@ -1,5 +1,6 @@
 -- Loops over chains, arms, definitions and arguments, as the rows of what is emitted.
 use Rattle.std.proofs.Common.{◌≡◌, ◌+◌, ◌<◌, ◌++◌, ℕ, suc, Bool, List, [], ◌∷◌, map, length, get_or, drop, refl, ap, sym, ◌∙◌, subst, arith}
+use Rattle.std.proofs.Math.Seq.{drop-length}
 use Rattle.std.proofs.lemmas.List.{append_assoc, drop_more}
 use Rattle.core_lang.specs.declared.coordinate.Coordinate.{Coordinate}
 use Rattle.core_lang.specs.declared.program.CoreArm.{CoreArm}
@@ -10,7 +11,8 @@ use Rattle.core_lang.specs.Resolved.{ResolvedStrategy}
 use Rattle.core_lang.specs.Views.{chain, first_of, strategy_of, strategies_of, arm_of, def_of, definitions_of}
 use Rattle.strat_code.specs.Code.{Argument, parameter_at}
 use Rattle.strat_code.specs.Context.{Context}
-use Rattle.strat_compile.specs.Emission.{Emits, emits_seq, emits_choice, EmitsArm, EmitsRest, no_rest, some_rest, EmitsBody, EmitsBodies, emits_more_bodies, EmitsArguments, emits_parameter_argument, PutsArgument, PutsArms}
+use Rattle.strat_compile.specs.Emission.{Emits, emits_seq, EmitsRest, no_rest, some_rest, EmitsBody, EmitsBodies, emits_more_bodies, EmitsArguments, emits_parameter_argument, PutsArgument, PutsArm, PutsArms}
+use Rattle.strat_compile.specs.Chains.{Body}
 use Rattle.strat_compile.specs.Layers.{HandsOn}
 use Rattle.strat_compile.specs.Output.{Emitted, starting, count_of}
 
@@ -28,12 +30,15 @@ pub rest_next : {w : Bool} {C : Context} {x : ℕ} {o o1 o2 : Emitted} (ss : Lis
 rest_next {w} {C} {x} {o} {o1} {o2} ss i d h rest emitted =
     subst (λ xs. EmitsRest w C 1 (map strategy_of xs) o o2) (sym (drop_more ss i d h)) (some_rest (rest_more rest emitted))
 
-pub arm_next : {w : Bool} {C : Context} {to : ℕ} {o1 o2 o3 : Emitted} (arms : List CoreArm) (i : ℕ) (d : CoreArm) → i < length arms →
-    PutsArms w C (map arm_of (drop (i + 1) arms)) to o1 o2 → EmitsArm w C 0 (arm_of (get_or arms i d)).guard (arm_of (get_or arms i d)).then to o2 o3 →
-    PutsArms w C (map arm_of (drop i arms)) to o1 o3
-arm_next {w} {C} {to} {o1} {o2} {o3} arms i d h so_far emitted s o is others =
-    subst (λ xs. Emits w C 0 (first_of (map arm_of xs) s) o o3) (sym (drop_more arms i d h))
-    (emits_choice (so_far s o is others) (subst (λ p. EmitsArm w C 0 (arm_of (get_or arms i d)).guard (arm_of (get_or arms i d)).then p o2 o3) is emitted))
+pub no_arm : (w : Bool) (C : Context) (to last : ℕ) (bs : List Body) (o : Emitted) (arms : List CoreArm) → PutsArms w C (map arm_of (drop (length arms) arms)) to bs last o bs last o
+no_arm w C to last bs o arms = subst (λ xs. PutsArms w C (map arm_of xs) to bs last o bs last o) (sym (drop-length arms)) (record { put = λ s p is chain. chain })
+
+pub arm_next : {w : Bool} {C : Context} {to last last1 last2 : ℕ} {bs bs1 bs2 : List Body} {o1 o2 o3 : Emitted} (arms : List CoreArm) (i : ℕ) (d : CoreArm) → i < length arms →
+    PutsArms w C (map arm_of (drop (i + 1) arms)) to bs last o1 bs1 last1 o2 → PutsArm w C (arm_of (get_or arms i d)) to bs1 last1 o2 bs2 last2 o3 →
+    PutsArms w C (map arm_of (drop i arms)) to bs last o1 bs2 last2 o3
+arm_next {w} {C} {to} {last} {last1} {last2} {bs} {bs1} {bs2} {o1} {o2} {o3} arms i d h so_far puts =
+    subst (λ xs. PutsArms w C (map arm_of xs) to bs last o1 bs2 last2 o3) (sym (drop_more arms i d h))
+    (record { put = λ s o is chain. puts.put (first_of (map arm_of (drop (i + 1) arms)) s) o is (so_far.put s o is chain) })
 
 -- with whatever is emitted for the bodies that are left, it is what is emitted for all
 abbrev pub BodiesLeft : Context → (first label : ℕ) → (whole left : List CoreDef) → Emitted → Emitted → Type 0

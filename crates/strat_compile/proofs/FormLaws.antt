@@ -11,10 +11,10 @@ use Rattle.core_lang.specs.declared.program.CoreStrategy.TheVariants as strategi
 use Rattle.core_lang.specs.declared.program.CoreStrategy.TheViews.{out-CoreArm, out-CoreDef}
 use Rattle.core_lang.specs.Program.{call}
 use Rattle.core_lang.specs.Views.{strategy_of, strategies_of, arm_of, def_of, definitions_of, patterns_of}
-use Rattle.core_lang.proofs.ReadLaws.{reads_sequence, reads_choice, reads_scope, reads_let, reads_call, reads_arm, reads_def}
+use Rattle.core_lang.proofs.ReadLaws.{reads_sequence, reads_scope, reads_let, reads_call, reads_arm, reads_def}
 use Rattle.strat_code.specs.Code.{end_definition}
 use Rattle.strat_code.specs.Context.{Context, framed, within, defining}
-use Rattle.strat_compile.specs.Emission.{Emits, emits_choice, emits_let, EmitsArm, EmitsDefinitions, EmitsBody, emits_scope_body, EmitsRest, no_rest, PutsArms}
+use Rattle.strat_compile.specs.Emission.{Emits, emits_let, EmitsArm, EmitsDefinitions, EmitsBody, emits_scope_body, EmitsRest, no_rest}
 use Rattle.strat_compile.specs.Layers.{labelled}
 use Rattle.strat_compile.specs.Output.{Emitted, onto, place, starting}
 use Rattle.strat_compile.proofs.EmissionLaws.{first_in_front, BodiesLeft, body_next}
@@ -30,14 +30,6 @@ sequence_row s a' b' a b rest ss w C y n x o o1 o2 o3 is items second first node
     subst (λ r. Emits w C x r o o3) (sym (ap strategy_of is ∙ reads_sequence a b rest))
     (first_in_front (subst (λ xs. EmitsRest w C y (map strategy_of xs) o o1) items others) (subst (λ r. Emits w C y (strategy_of r) o1 o2) second two)
     (subst (λ m. Emits w C m (strategy_of a.value) o2 o3) nodes (subst (λ r. Emits w C n (strategy_of r) o2 o3) first one)))
-
-pub choice_row : (s z' : CoreStrategy) (a' : CoreArm) (a : Box CoreArm Global) (more : Vec CoreArm Global) (z : Box CoreStrategy Global) (arms : List CoreArm) (w : Bool) (C : Context) (p x : ℕ) (o o1 o2 o3 : Emitted) →
-    s ≡ strategies.Choice a more z → arms ≡ more.items → z' ≡ z.value → a' ≡ a.value → p ≡ place o →
-    Emits w C 0 (strategy_of z') o o1 → PutsArms w C (map arm_of arms) p o1 o2 → EmitsArm w C x (arm_of a').guard (arm_of a').then p o2 o3 → Emits w C x (strategy_of s) o o3
-choice_row s z' a' a more z arms w C p x o o1 o2 o3 is items last first here others puts arm =
-    subst (λ r. Emits w C x r o o3) (sym (ap strategy_of is ∙ reads_choice a more z))
-    (emits_choice (subst (λ xs. PutsArms w C (map arm_of xs) p o1 o2) items puts (strategy_of z.value) o here (subst (λ r. Emits w C 0 (strategy_of r) o o1) last others))
-    (subst (λ q. EmitsArm w C x (arm_of a.value).guard (arm_of a.value).then q o2 o3) here (subst (λ r. EmitsArm w C x (arm_of r).guard (arm_of r).then p o2 o3) first arm)))
 
 pub let_row : (s b' : CoreStrategy) (ds : Vec CoreDef Global) (b : Box CoreStrategy Global) (defs defs' : List CoreDef) (w : Bool) (C D : Context) (l n p x : ℕ) (o o1 o2 : Emitted) →
     s ≡ strategies.LetIn ds b → defs ≡ ds.items → defs' ≡ ds.items → D ≡ defining (definitions_of defs') (labelled l (definitions_of defs')) C → b' ≡ b.value → l ≡ length o.starts → p ≡ place o → n ≡ suc x →

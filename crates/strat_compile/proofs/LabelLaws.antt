@@ -5,7 +5,8 @@ use Rattle.std.proofs.lemmas.List.{length-append, length-replicate}
 use Rattle.core_lang.specs.Resolved.{ResolvedStrategy, ResolvedStrategies, ResolvedDefinitions}
 use Rattle.strat_code.specs.Code.{Argument}
 use Rattle.strat_code.specs.Context.{Context}
-use Rattle.strat_compile.specs.Emission.{Emits, emits_id, emits_fail, emits_seq, emits_choice, emits_match, emits_build, emits_scope, emits_inner, emits_all, emits_one, emits_some, emits_let, emits_call, emits_parameter, emits_primitive, EmitsArm, emits_arm, EmitsThen, then_id, then_code, EmitsDefinitions, emits_definitions, EmitsBodies, emits_no_bodies, emits_more_bodies, EmitsBody, emits_body, emits_scope_body, EmitsArguments, emits_no_arguments, emits_code_argument, emits_parameter_argument}
+use Rattle.strat_compile.specs.Emission.{Emits, emits_id, emits_fail, emits_seq, emits_choice, emits_select, emits_match, emits_build, emits_scope, emits_inner, emits_all, emits_one, emits_some, emits_let, emits_call, emits_parameter, emits_primitive, EmitsChain, chain_end, chain_more, EmitsArm, emits_arm, EmitsThen, then_id, then_code, EmitsDefinitions, emits_definitions, EmitsBodies, emits_no_bodies, emits_more_bodies, EmitsBody, emits_body, emits_scope_body, EmitsArguments, emits_no_arguments, emits_code_argument, emits_parameter_argument}
+use Rattle.strat_compile.specs.Chains.{Body}
 use Rattle.strat_compile.specs.Output.{Emitted, count_of}
 
 -- each label that there was starts where it did
@@ -73,6 +74,7 @@ mutual
   kept emits_fail = nothing_new
   kept (emits_seq a b) = then_keeps (kept a) (kept b)
   kept (emits_choice a b) = then_keeps (kept a) (kept_arm b)
+  kept (emits_select a) = kept_chain a
   kept emits_match = nothing_new
   kept emits_build = nothing_new
   kept (emits_scope a) = kept a
@@ -84,6 +86,10 @@ mutual
   kept (emits_call has entry a) = kept_arguments a
   kept (emits_parameter none) = nothing_new
   kept emits_primitive = nothing_new
+
+  pub kept_chain : {w : Bool} {C : Context} {last : ℕ} {bs : List Body} {s : ResolvedStrategy} {o o1 : Emitted} → EmitsChain w C s bs last o o1 → Keeps o.starts o1.starts
+  kept_chain (chain_end a) = kept a
+  kept_chain (chain_more begins a b) = then_keeps (kept_chain a) (kept b)
 
   pub kept_arm : {w : Bool} {C : Context} {x to : ℕ} {s1 s2 : ResolvedStrategy} {o o1 : Emitted} → EmitsArm w C x s1 s2 to o o1 → Keeps o.starts o1.starts
   kept_arm (emits_arm a b) = then_keeps (kept_then a) (kept b)

@@ -1,3 +1,4 @@
+pub mod TableLaws
 pub mod EmissionLaws
 pub mod RowLaws
 pub mod FormLaws
@@ -5,6 +6,9 @@ pub mod ScopeLaws
 pub mod LayerLaws
 pub mod NameLaws
 pub mod RenamedLaws
+pub mod ChoiceLaws
+pub mod BeginningLaws
+pub mod ChainLaws
 pub mod EndLaws
 pub mod LabelLaws
 pub mod PlacedLaws

@@ -13,7 +13,7 @@ use Rattle.strat_code.specs.CodeOf.{AllInRange, IsCode}
 use Rattle.strat_code.specs.Context.{Context, top, defining}
 use Rattle.strat_code.specs.Ranges.{Ranges}
 use Rattle.strat_code.specs.StandsFor.{StandsFor}
-use Rattle.strat_compile.specs.Emission.{Emits, emits_id, emits_fail, emits_seq, emits_choice, emits_match, emits_build, emits_scope, emits_inner, emits_all, emits_one, emits_some, emits_let, emits_call, emits_parameter, emits_primitive, emits_no_arguments, emits_code_argument, emits_parameter_argument, EmitsBodies, EmitsProgram}
+use Rattle.strat_compile.specs.Emission.{Emits, emits_id, emits_fail, emits_seq, emits_choice, emits_select, emits_match, emits_build, emits_scope, emits_inner, emits_all, emits_one, emits_some, emits_let, emits_call, emits_parameter, emits_primitive, emits_no_arguments, emits_code_argument, emits_parameter_argument, chain_more, EmitsBodies, EmitsProgram}
 use Rattle.strat_compile.specs.Layers.{labelled}
 use Rattle.strat_compile.specs.Located.{code_in}
 use Rattle.strat_compile.specs.Output.{Emitted, nothing, onto, with_labels, count_of}
@@ -46,6 +46,7 @@ one_call emits_id h = elim h [ ]
 one_call emits_fail h = elim h [ ]
 one_call (emits_seq a b) h = elim h [ ]
 one_call (emits_choice a b) h = elim h [ ]
+one_call (emits_select (chain_more begins a b)) h = elim h [ ]
 one_call emits_match h = elim h [ ]
 one_call emits_build h = elim h [ ]
 one_call (emits_scope a) h = elim h [ ]

@@ -1,4 +1,7 @@
+pub mod Tables
 pub mod Layers
 pub mod Output
+pub mod Chains
+pub mod ChainOf
 pub mod Emission
 pub mod Located

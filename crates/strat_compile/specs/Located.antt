@@ -1,6 +1,9 @@
 -- From places and labels to addresses, when all is emitted.
-use Rattle.std.specs.Prelude.{ℕ, ◌-◌, Option, Some, None, List, map, length, slice_get}
-use Rattle.strat_code.specs.Code.{Argument, code_at, parameter_at, Instr, count, give_up, match_term, build_term, enter, leave, extend, shrink, try, commit, select, jump, traverse, part_done, call_definition, call_closure, end_definition, end_argument, apply_primitive, finish, Code}
+use Rattle.std.specs.Prelude.{◌≡◌, ℕ, ◌-◌, Option, Some, None, List, map, length, slice_get, Vec}
+use Rattle.std.specs.declared.alloc.Global.{Global}
+use Rattle.strat_code.specs.declared.instr.Case as declared
+use Rattle.strat_code.specs.CodeOf.{cases_of}
+use Rattle.strat_code.specs.Code.{Argument, code_at, parameter_at, Case, case, Instr, count, give_up, match_term, build_term, enter, leave, extend, shrink, try, commit, select, jump, traverse, part_done, call_definition, call_closure, end_definition, end_argument, apply_primitive, finish, Code}
 use Rattle.strat_compile.specs.Output.{Emitted}
 
 -- the code has n instructions
@@ -17,7 +20,14 @@ module _ (n : ℕ) where
   argument_located (code_at place) = code_at (address place)
   argument_located (parameter_at y) = parameter_at y
 
-  -- the instruction with addresses in place of places and labels; a select is not emitted
+  abbrev pub case_located : Case → Case
+  case_located (case r k body otherwise) = case r k (address body) (address otherwise)
+
+  -- the second tables are the first ones with addresses in place of places
+  pub record AreLocated (tables made : List (Vec declared.Case Global)) : Type 0 where
+    pub each : (table skipped : ℕ) → cases_of made table skipped ≡ map case_located (cases_of tables table skipped)
+
+  -- the instruction with addresses in place of places and labels
   abbrev pub located : (starts : List ℕ) → Instr → Instr
   located A (count k) = count k
   located A (give_up k) = give_up k
@@ -29,7 +39,7 @@ module _ (n : ℕ) where
   located A (shrink m) = shrink m
   located A (try k a) = try k (address a)
   located A (commit k a) = commit k (address a)
-  located A (select k cs a) = select k cs a
+  located A (select k cs a) = select k (map case_located cs) (address a)
   located A (jump a) = jump (address a)
   located A (traverse k m a) = traverse k m (address a)
   located A part_done = part_done

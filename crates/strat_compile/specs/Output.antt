@@ -18,8 +18,8 @@ abbrev pub nothing : Emitted
 nothing = record { code = []; starts = [] }
 
 -- what the output stands for
-abbrev pub emitted_of : Output → Emitted
-emitted_of o = record { code = reverse (code_of o.instrs.items); starts = o.starts.items }
+unfoldable pub emitted_of : Output → Emitted
+emitted_of o = record { code = reverse (code_of o.tables.items o.instrs.items); starts = o.starts.items }
 
 -- how many instructions there are from here to the end
 abbrev pub place : Emitted → ℕ

@@ -1,13 +1,15 @@
 // What is emitted for a strategy: each row of `specs/Emission`, from the end of the code to its beginning.
 ghost use Rattle.std.specs.Prelude.{IfOk, OnOk, map, true};
 ghost use Rattle.core_lang.specs.Program.{call, scope};
-ghost use Rattle.core_lang.specs.Views.{arm_of, def_of, definitions_of, patterns_of, strategies_of, strategy_of};
+ghost use Rattle.core_lang.specs.Views.{def_of, definitions_of, patterns_of, strategies_of, strategy_of};
 ghost use Rattle.strat_code.specs.Code.{end_definition};
 ghost use Rattle.strat_code.specs.CodeOf.{argument_of, traversal_of};
-ghost use Rattle.strat_compile.specs.Emission.{Emits, EmitsArguments, EmitsArm, EmitsBodies, EmitsBody, EmitsDefinitions, EmitsRest, EmitsThen, PutsArgument, PutsArms, traversed};
+ghost use Rattle.strat_compile.specs.Emission.{Emits, EmitsArguments, EmitsBodies, EmitsBody, EmitsDefinitions, EmitsRest, PutsArgument, traversed};
 ghost use Rattle.strat_compile.specs.Layers.{context_of};
 ghost use Rattle.strat_compile.specs.Output.{emitted_of, onto};
 
+use crate::chain::Chain;
+use crate::choices::{emit_arms, emit_first};
 use crate::layers::{
     Entry, Layers, entry_called, frame_size, frames_among, parameter_handed, successor,
 };
@@ -16,7 +18,7 @@ use crate::leaves::{
 };
 use crate::output::Output;
 use crate::patterns::by_frames_patterns;
-use core_lang::{Coordinate, CoreArm, CoreDef, CorePattern, CoreStrategy};
+use core_lang::{Coordinate, CoreDef, CorePattern, CoreStrategy};
 use std::alloc::{AllocError, Global};
 use strat_code::{Argument, Instr, Traversal};
 
@@ -45,8 +47,11 @@ pub(crate) fn emit(
         CoreStrategy::Choice(arm, more, otherwise) => {
             let end = out.place();
             emit(alloc, out, layers, is_last, 0, otherwise)?;
-            emit_arms(alloc, out, layers, is_last, more.as_slice(), end)?;
-            emit_arm(alloc, out, layers, is_last, charged, arm, end)
+            let last = out.place();
+            let mut chain = Chain::new(alloc, last);
+            let more = more.as_slice();
+            emit_arms(alloc, out, layers, is_last, more, end, &mut chain)?;
+            emit_first(alloc, out, layers, is_last, charged, arm, end, &mut chain)
         }
         CoreStrategy::Match(p) => emit_match(alloc, out, layers, charged, p),
         CoreStrategy::Build(p) => emit_build(alloc, out, layers, charged, p),
@@ -121,75 +126,6 @@ fn emit_rest(
         charged = 1;
     }
     Ok(charged)
-}
-
-// Arms, in front of what is done where each of their guards fails.
-#[cycle(emission)]
-#[tactic(auto, using(crate::proofs::EmissionLaws::arm_next))]
-fn emit_arms(
-    alloc: Global,
-    out: &mut Output,
-    layers: &Layers,
-    is_last: bool,
-    arms: &[CoreArm],
-    end: usize,
-) -> Result<(), AllocError>
-    ensures { OnOk result (PutsArms is_last (context_of layers.now) (map arm_of arms.now) end (emitted_of out.old) (emitted_of out.new)) }
-{
-    for index in (0..arms.len()).rev() {
-        emit_arm(alloc, out, layers, is_last, 0, &arms[index], end)?;
-    }
-    Ok(())
-}
-
-#[cycle(emission)]
-#[tactic(auto, using(crate::proofs::RowLaws::arm_row))]
-fn emit_arm(
-    alloc: Global,
-    out: &mut Output,
-    layers: &Layers,
-    is_last: bool,
-    charged: usize,
-    arm: &CoreArm,
-    end: usize,
-) -> Result<(), AllocError>
-    ensures { OnOk result (EmitsArm is_last (context_of layers.now) charged (arm_of arm.now).guard (arm_of arm.now).then end (emitted_of out.old) (emitted_of out.new)) }
-{
-    let otherwise = out.place();
-    let nodes = successor(charged)?;
-    emit_then(alloc, out, layers, is_last, &arm.then, end)?;
-    emit(alloc, out, layers, is_last, 0, &arm.guard)?;
-    out.emit(Instr::Try { nodes, otherwise })
-}
-
-// What follows a guard, after the instruction that takes the choice record off.
-#[cycle(emission)]
-#[tactic(auto, using(crate::proofs::RowLaws::id_then, crate::proofs::RowLaws::code_then))]
-fn emit_then(
-    alloc: Global,
-    out: &mut Output,
-    layers: &Layers,
-    is_last: bool,
-    then: &CoreStrategy,
-    end: usize,
-) -> Result<(), AllocError>
-    ensures { OnOk result (EmitsThen is_last (context_of layers.now) (strategy_of then.now) end (emitted_of out.old) (emitted_of out.new)) }
-{
-    match then {
-        CoreStrategy::Id => out.emit(Instr::Commit {
-            nodes: 1,
-            next_address: end,
-        }),
-        _ => {
-            out.emit(Instr::Jump { next_address: end })?;
-            emit(alloc, out, layers, is_last, 0, then)?;
-            let next_address = out.place();
-            out.emit(Instr::Commit {
-                nodes: 0,
-                next_address,
-            })
-        }
-    }
 }
 
 #[cycle(emission)]

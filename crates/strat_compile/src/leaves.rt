@@ -1,11 +1,12 @@
 // What is emitted for a strategy of one instruction.
-ghost use Rattle.std.specs.Prelude.{OnOk};
+ghost use Rattle.std.specs.Prelude.{◌≡◌, OnOk};
 ghost use Rattle.core_lang.specs.Program.{build, call, fail, id, match, primitive};
 ghost use Rattle.core_lang.specs.Views.{pattern_of, patterns_of};
+ghost use Rattle.strat_code.specs.Code.{commit};
 ghost use Rattle.strat_code.specs.Context.{HasDefinitions, outer};
 ghost use Rattle.strat_compile.specs.Emission.{Emits};
 ghost use Rattle.strat_compile.specs.Layers.{context_of};
-ghost use Rattle.strat_compile.specs.Output.{emitted_of};
+ghost use Rattle.strat_compile.specs.Output.{emitted_of, onto};
 
 use crate::layers::{Layers, frame_coordinate, successor};
 use crate::names::copied_name;
@@ -29,6 +30,16 @@ pub(crate) fn emit_fail(out: &mut Output, charged: usize) -> Result<(), AllocErr
 {
     let nodes = successor(charged)?;
     out.emit(Instr::GiveUp { nodes })
+}
+
+/// Takes the choice record off where nothing follows a guard, and goes on at the end of the choice.
+pub(crate) fn emit_commit(out: &mut Output, end: usize) -> Result<(), AllocError>
+    ensures { OnOk result (emitted_of out.new ≡ onto (commit 1 end) (emitted_of out.old)) }
+{
+    out.emit(Instr::Commit {
+        nodes: 1,
+        next_address: end,
+    })
 }
 
 #[tactic(auto, using(crate::proofs::RowLaws::match_row))]

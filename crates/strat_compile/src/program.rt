@@ -22,13 +22,13 @@ use strat_code::{Code, Instr};
 /// one step for each part of the core, and recurses where parts are nested, not along sequences, alternatives or arguments.
 /// `AllocError` where memory is refused.
 pub fn compile(alloc: Global, core: &Core) -> Result<Code, AllocError>
-    ensures stands { IfOk result (λ code. StandsFor (code_of code.instrs) (program_of core.now) core.now.main) }
+    ensures stands { IfOk result (λ code. StandsFor (code_of code.tables code.instrs) (program_of core.now) core.now.main) }
     ensures prims { IfOk result (λ code. code.prims ≡ core.now.prims) }
 {
     let prims = copied(alloc, core.prims())?;
     let output = emit_program(alloc, core.defs(), core.main())?;
-    let instrs = output.finish(alloc)?;
-    Ok(Code::new(instrs, prims))
+    let finished = output.finish(alloc)?;
+    Ok(Code::new(finished.instrs, finished.tables, prims))
 }
 
 fn emit_program(alloc: Global, defs: &[CoreDef], main: usize) -> Result<Output, AllocError>

@@ -1,0 +1,78 @@
+use Rattle.std.proofs.Common.{ap, ◌∙◌, refl}
+use Rattle.core_lang.specs.Views.{strategy_of}
+use Rattle.core_lang.proofs.ReadLaws.{reads_id}
+use Rattle.strat_compile.proofs.ChoiceLaws.{choice_row, joined_row, of_guard}
+use Rattle.strat_compile.proofs.FormLaws.{on_ok, sequence_row, let_row, called_row, of_arm, of_def, bodies_next, no_rest_yet, scope_body}
+use Rattle.strat_compile.proofs.LayerLaws.{reads_framed, reads_within, reads_defining}
+use Rattle.strat_compile.proofs.ScopeLaws.{no_scope}
+use Rattle.strat_compile.proofs.RowLaws.{plain_body, arm_row, bodies_done, id_then, inner_row, scope_row}
+use Rattle.strat_compile.proofs.+emission.Goals as goal
+
+pub emit::emit-returns-in_ok-nodes-in-Sequence : goal.emit::emit-returns-in_ok-nodes-in-Sequence
+emit::emit-returns-in_ok-nodes-in-Sequence t c =
+    on_ok c.emit-in-Sequence.result
+    (λ first. sequence_row c.args.s.now _ _ _ _ _ _ _ _ _ _ _ _ _ _ _ c.in-Sequence.is c.as_slice.ensures.value c.deref.ensures c.deref-in-Sequence.ensures c.in_ok-nodes-in-Sequence.ensures
+    c.in_ok-following-in-Sequence.ensures c.in_ok-emit-in-Sequence.ensures first) c.emit-in-Sequence.ensures
+
+pub emit::emit-returns-in_ok-emit_arms-in-Choice : goal.emit::emit-returns-in_ok-emit_arms-in-Choice
+emit::emit-returns-in_ok-emit_arms-in-Choice t c =
+    on_ok c.emit_first.result
+    (λ first. choice_row c.args.s.now _ _ _ _ _ _ _ _ _ _ _ _ _ _ _ _ _ _ _ c.in-Choice.is c.as_slice-more.ensures.value c.deref-in-Choice.ensures c.deref-in-Choice-2.ensures c.place-end.ensures
+    c.place-last.ensures c.new-chain.ensures.bodies c.new-chain.ensures.last c.in_ok-emit-in-Choice.ensures c.in_ok-emit_arms-in-Choice.ensures first) c.emit_first.ensures
+
+pub choices::emit_joined-returns : goal.choices::emit_joined-returns
+choices::emit_joined-returns t c =
+    on_ok c.push.result
+    (λ more. joined_row _ _ _ _ _ _ _ _ _ _ _ _ _ _ _ c.requires c.in_ok-emit_commit.ensures (of_guard c.args.arm.now _ _ _ _ c.in_ok-emit.ensures) c.place-start.ensures refl more c.push.ensures.last)
+    c.push.ensures.bodies
+
+pub emit::emit-returns-in_ok-nodes-in-LetIn : goal.emit::emit-returns-in_ok-nodes-in-LetIn
+emit::emit-returns-in_ok-nodes-in-LetIn t c =
+    on_ok c.emit-in-LetIn.result
+    (λ h. let_row c.args.s.now _ _ _ _ _ _ _ _ _ _ _ _ _ _ _ c.in-LetIn.is c.as_slice-in-LetIn-2.ensures.value c.as_slice-in-LetIn.ensures.value (reads_defining _ _ _) c.deref-in-LetIn.ensures
+    c.labels-first_label.ensures c.place-end-in-LetIn.ensures c.in_ok-nodes-in-LetIn.ensures c.in_ok-emit_definitions-in-LetIn.ensures h) c.emit-in-LetIn.ensures
+
+pub emit::emit-returns-in-Call : goal.emit::emit-returns-in-Call
+emit::emit-returns-in-Call t c =
+    on_ok c.emit_call.result
+    (λ h. called_row c.args.s.now _ _ _ _ _ c.args.is_last _ _ _ _ c.in-Call.is c.as_slice-strategies.ensures.value c.as_slice-in-Call.ensures.value (h c.args.is_last)) c.emit_call.ensures
+
+pub choices::emit_arm-returns : goal.choices::emit_arm-returns
+choices::emit_arm-returns t c =
+    on_ok c.emit-2.result
+    (λ last. of_arm c.args.arm.now _ _ _ _ _ _ (arm_row _ _ _ _ _ _ _ _ _ _ _ _ c.in_ok-nodes.ensures c.place-otherwise.ensures c.in_ok-emit_then.ensures c.in_ok-emit.ensures last)) c.emit-2.ensures
+
+pub emit::emit_bodies-returns : goal.emit::emit_bodies-returns
+emit::emit_bodies-returns t c = bodies_done _ _ _ _ c.loop-def.def-index _ _ c.loop-def-test.false c.loop-def.invariant
+
+pub emit::emit_body-returns-in-Scope : goal.emit::emit_body-returns-in-Scope
+emit::emit_body-returns-in-Scope t c =
+    on_ok c.emit_ended.result
+    (λ h. of_def c.args.def.now _ _ _ (scope_body _ _ _ _ _ _ _ _ _ _ _ c.in-Scope.is c.deref.ensures (reads_within _ _ _) (reads_framed _ _ _) h)) c.emit_ended.ensures
+
+pub emit::emit_inner_scope-returns : goal.emit::emit_inner_scope-returns
+emit::emit_inner_scope-returns t c =
+    on_ok c.emit-3.result
+    (λ last. inner_row _ _ _ _ _ _ _ _ _ _ _ (reads_within _ _ _) c.in_ok-frame_size.ensures c.in_ok-nodes.ensures c.in_ok-emit.ensures c.in_ok-emit-2.ensures last) c.emit-3.ensures
+
+pub emit::emit_rest-loop-index-init : goal.emit::emit_rest-loop-index-init
+emit::emit_rest-loop-index-init t c = no_rest_yet c.args.rest.now _ _ _
+
+pub emit::emit_scope-returns : goal.emit::emit_scope-returns
+emit::emit_scope-returns t c =
+    on_ok c.emit-3.result
+    (λ last. scope_row _ _ _ _ _ _ _ _ _ _ (reads_framed _ _ _) c.in_ok-nodes.ensures c.in_ok-emit.ensures c.in_ok-emit-2.ensures last) c.emit-3.ensures
+
+pub choices::emit_then-returns-in-Id : goal.choices::emit_then-returns-in-Id
+choices::emit_then-returns-in-Id t c = on_ok c.emit_commit.result (λ last. id_then _ _ _ _ _ _ (ap strategy_of c.in-Id.is ∙ reads_id) last) c.emit_commit.ensures
+
+pub emit::emit_bodies-loop-def-preserved : goal.emit::emit_bodies-loop-def-preserved
+emit::emit_bodies-loop-def-preserved t c =
+    bodies_next _ _ _ _ _ _ _ _ c.args.defs.now c.loop-def.def-index c.def-item.result c.loop-def-test.true c.in_ok-label.ensures c.start.ensures c.loop-def.invariant
+    c.def-item.is c.in_ok-emit_body.ensures
+
+pub emit::emit_body-returns-in_default : goal.emit::emit_body-returns-in_default
+emit::emit_body-returns-in_default t c =
+    let none = no_scope c.args.def.now.body c.in_default.not-Scope in
+    on_ok c.emit_ended-in_default.result
+    (λ h. of_def c.args.def.now _ _ _ (plain_body _ _ _ _ _ _ _ (reads_framed _ _ _) none h)) c.emit_ended-in_default.ensures

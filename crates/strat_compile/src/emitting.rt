@@ -1,0 +1,96 @@
+// What is emitted, one instruction or label after another.
+ghost use Rattle.std.specs.Prelude.{◌≡◌, IfOk, OnOk, [], length};
+ghost use Rattle.strat_code.specs.CodeOf.{code_of, instr_of};
+ghost use Rattle.strat_compile.specs.Located.{code_in};
+ghost use Rattle.strat_compile.specs.Output.{emitted_of, nothing, onto, place, starting, with_labels};
+ghost use Rattle.strat_compile.specs.Tables.{SelectsNot};
+
+use crate::located::{located, located_tables};
+use crate::output::{Finished, Output};
+use std::alloc::{AllocError, Global};
+use strat_code::Instr;
+
+impl Output {
+    /// No code.
+    #[tactic(auto, unfolding(crate::specs::Output::emitted_of))]
+    pub(crate) fn new(alloc: Global) -> Output
+        ensures { emitted_of result ≡ nothing }
+    {
+        Output {
+            instrs: Vec::new(alloc),
+            tables: Vec::new(alloc),
+            starts: Vec::new(alloc),
+        }
+    }
+
+    /// How many instructions there are from here to the end.
+    #[tactic(auto, unfolding(crate::specs::Output::emitted_of))]
+    pub(crate) fn place(&self) -> usize
+        ensures { result ≡ place (emitted_of self.now) }
+    {
+        self.instrs.len()
+    }
+
+    /// How many labels there are.
+    #[tactic(auto, unfolding(crate::specs::Output::emitted_of))]
+    pub(crate) fn labels(&self) -> usize
+        ensures { result ≡ length (emitted_of self.now).starts }
+    {
+        self.starts.len()
+    }
+
+    /// Puts an instruction in front, which selects from no table.
+    #[tactic(auto, using(crate::proofs::TableLaws::same_tables), unfolding(crate::specs::Output::emitted_of))]
+    pub(crate) fn emit(&mut self, instr: Instr) -> Result<(), AllocError>
+        requires { SelectsNot instr }
+        ensures { OnOk result (emitted_of self.new ≡ onto (instr_of [] instr) (emitted_of self.old)) }
+    {
+        self.instrs.push(instr)?;
+        Ok(())
+    }
+
+    /// Adds labels. Where they start will be known later.
+    #[tactic(auto, unfolding(crate::specs::Output::emitted_of))]
+    pub(crate) fn add_labels(&mut self, count: usize) -> Result<(), AllocError>
+        ensures { OnOk result (emitted_of self.new ≡ with_labels count (emitted_of self.old)) }
+    {
+        for _ in 0..count {
+            self.starts.push(1)?;
+        }
+        Ok(())
+    }
+
+    /// The label starts here.
+    #[tactic(auto, unfolding(crate::specs::Output::emitted_of))]
+    pub(crate) fn start(&mut self, label: usize)
+        ensures { emitted_of self.new ≡ starting label (emitted_of self.old) }
+    {
+        let here = self.instrs.len();
+        if label < self.starts.len() {
+            self.starts[label] = here;
+        }
+    }
+
+    /// The code with addresses in place of places and labels.
+    #[tactic(auto, unfolding(crate::specs::Output::emitted_of))]
+    pub(crate) fn finish(self, alloc: Global) -> Result<Finished, AllocError>
+        ensures { IfOk result (λ made. code_of made.tables.items made.instrs.items ≡ code_in (emitted_of self)) }
+    {
+        let Output {
+            mut instrs,
+            tables,
+            starts,
+        } = self;
+        let count = instrs.len();
+        let tables = located_tables(alloc, tables, count)?;
+        let mut made = Vec::with_capacity(alloc, count)?;
+        while let Some(instr) = instrs.pop() {
+            let instr = located(alloc, instr, count, starts.as_slice())?;
+            made.push(instr)?;
+        }
+        Ok(Finished {
+            instrs: made,
+            tables,
+        })
+    }
+}
