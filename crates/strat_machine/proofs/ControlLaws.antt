@@ -1,11 +1,12 @@
 -- Instructions of the Rust code.
-use Rattle.std.proofs.Common.{◌≡◌, ℕ, suc, ◌+◌, ◌-◌, ◌≤◌, None, Some, List, length, sym, ◌∙◌, ap, subst, arith}
+use Rattle.std.proofs.Common.{◌≡◌, ℕ, suc, ◌+◌, ◌-◌, ◌≤◌, None, Some, List, length, Vec, Global, sym, ◌∙◌, ap, subst, arith}
 use Rattle.std.specs.Prelude.{slice_get}
 use Rattle.std.specs.Option.{option_map}
 use Rattle.std.proofs.lemmas.Option.{slice_get-map, slice_get_past}
 use Rattle.term_model.specs.Flat.{Meaning}
 use Rattle.strat_code.specs.Code.{nodes_of}
 use Rattle.strat_code.specs.CodeOf.{instr_of, code_of}
+use Rattle.strat_code.specs.declared.instr.Case.{Case}
 use Rattle.strat_code.specs.declared.instr.Instr.{Instr}
 use Rattle.strat_machine.specs.State.{Frame}
 use Rattle.strat_machine.specs.Space.{Space}
@@ -19,8 +20,8 @@ use Rattle.strat_machine.specs.declared.control.Control.TheVariants as controls
 
 module _ {W R Y : Type 0} {S : Space W R Y} {M : Meaning} {w w1 : W} {i p b l : ℕ} {t : R} {e : Places R} {F : List Frame} {T : List ℕ} {K : List (RefRecord R Y)} where
   -- an instruction that is this one
-  pub as_instr : {m : RefState R Y} {u : Instr} (v : Instr) → u ≡ v → Does S M w (instr_of v) i p t e F T b K l w1 m → Does S M w (instr_of u) i p t e F T b K l w1 m
-  as_instr {m} v is x = subst (λ y. Does S M w (instr_of y) i p t e F T b K l w1 m) (sym is) x
+  pub as_instr : {m : RefState R Y} {u : Instr} (ts : List (Vec Case Global)) (v : Instr) → u ≡ v → Does S M w (instr_of ts v) i p t e F T b K l w1 m → Does S M w (instr_of ts u) i p t e F T b K l w1 m
+  as_instr {m} ts v is x = subst (λ y. Does S M w (instr_of ts y) i p t e F T b K l w1 m) (sym is) x
 
 -- the next address
 pub next_run : {R Y : Type 0} (i : ℕ) {p b l : ℕ} {t : R} {e : Places R} {F : List Frame} {T : List ℕ} {K : List (RefRecord R Y)} → ref_running (suc i) p t e F T b K l ≡ ref_running (i + 1) p t e F T b K l
@@ -46,16 +47,16 @@ module _ {W R Y : Type 0} {t t1 : R} {w : W} {m m1 : Stacks R Y} (still : Stays 
 
 -- the instruction at an address
 
-pub none_at : (instrs : List Instr) (i : ℕ) → length instrs ≤ i → slice_get (code_of instrs) i ≡ None
-none_at instrs i h = slice_get-map instr_of instrs i ∙ ap (option_map instr_of) (slice_get_past instrs i h)
+pub none_at : (ts : List (Vec Case Global)) (instrs : List Instr) (i : ℕ) → length instrs ≤ i → slice_get (code_of ts instrs) i ≡ None
+none_at ts instrs i h = slice_get-map (instr_of ts) instrs i ∙ ap (option_map (instr_of ts)) (slice_get_past instrs i h)
 
-pub found_at : (instrs : List Instr) (i : ℕ) (v : Instr) → slice_get instrs i ≡ Some v → slice_get (code_of instrs) i ≡ Some (instr_of v)
-found_at instrs i v h = slice_get-map instr_of instrs i ∙ ap (option_map instr_of) h
+pub found_at : (ts : List (Vec Case Global)) (instrs : List Instr) (i : ℕ) (v : Instr) → slice_get instrs i ≡ Some v → slice_get (code_of ts instrs) i ≡ Some (instr_of ts v)
+found_at ts instrs i v h = slice_get-map (instr_of ts) instrs i ∙ ap (option_map (instr_of ts)) h
 
-pub steps_or : {W R Y : Type 0} (S : Space W R Y) (instrs : List Instr) (v : Instr) (i p : ℕ) (t : R) (w w1 : W) (m m1 : Stacks R Y) (cost : ℕ) (x : Control R) → slice_get instrs i ≡ Some v → cost ≡ nodes_of (instr_of v) → cost ≤ m.left → OfOther HandlesPattern v x →
-    PerformsOr S v i p t w (record m { left = m.left - cost }) w1 x m1 → StepsOr S instrs i p t w m w1 x m1
-steps_or S instrs v i p t w w1 m m1 cost (controls.Done phase) found is low other was = λ M. performs (m.left - cost) (found_at instrs i v found) (omega (arith, is, low)) (was M)
-steps_or S instrs v i p t w w1 m m1 cost (controls.Other t1) found is low other was =
+pub steps_or : {W R Y : Type 0} (S : Space W R Y) (ts : List (Vec Case Global)) (instrs : List Instr) (v : Instr) (i p : ℕ) (t : R) (w w1 : W) (m m1 : Stacks R Y) (cost : ℕ) (x : Control R) → slice_get instrs i ≡ Some v → cost ≡ nodes_of (instr_of ts v) → cost ≤ m.left → OfOther HandlesPattern v x →
+    PerformsOr S v i p t w (record m { left = m.left - cost }) w1 x m1 → StepsOr S ts instrs i p t w m w1 x m1
+steps_or S ts instrs v i p t w w1 m m1 cost (controls.Done phase) found is low other was = λ M. performs (m.left - cost) (found_at ts instrs i v found) (omega (arith, is, low)) (was M ts)
+steps_or S ts instrs v i p t w w1 m m1 cost (controls.Other t1) found is low other was =
     let rest : m1.left ≡ m.left - cost = ap (λ n. n.left) was.stacks in
     record {
       instr = v;

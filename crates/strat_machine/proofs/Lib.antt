@@ -40,3 +40,5 @@ pub mod PaidLaws
 pub mod ReferenceFlats
 pub mod PrimitiveLaws
 pub mod SelectingLaws
+pub mod IndexLaws
+pub mod NumberLaws

@@ -16,12 +16,14 @@ use Rattle.strat_code.specs.declared.instr.Case as coded
 use Rattle.strat_code.specs.declared.instr.Instr.{Instr}
 use Rattle.strat_code.specs.declared.instr.Instr.TheVariants as forms
 use Rattle.strat_machine.specs.declared.loaded.LoadedPattern.{LoadedPattern}
-use Rattle.strat_machine.specs.declared.select.LoadedRoot.{LoadedRoot}
-use Rattle.strat_machine.specs.declared.select.LoadedRoot.TheVariants as roots
-use Rattle.strat_machine.specs.declared.select.LoadedCase.{LoadedCase}
+use Rattle.strat_machine.specs.declared.tables.LoadedRoot.{LoadedRoot}
+use Rattle.strat_machine.specs.declared.tables.LoadedRoot.TheVariants as roots
+use Rattle.strat_machine.specs.declared.tables.LoadedCase.{LoadedCase}
+use Rattle.strat_machine.specs.declared.tables.LoadedTable.{LoadedTable}
+use Rattle.strat_machine.specs.declared.program.LoadedCode.{LoadedCode}
 use Rattle.strat_machine.specs.declared.program.Operands.{Operands}
 use Rattle.strat_machine.specs.declared.program.Operands.TheVariants as operands
-use Rattle.strat_machine.specs.Operands.{root_meant, case_meant, RootKnown, CasesKnown, IsPosition, IsLoadedRoot, AreLoadedCases, IsPattern, ArePatterns, IsPrimitive, AreCases, AreOperandsOf, IsLoadedCode}
+use Rattle.strat_machine.specs.Operands.{root_meant, case_meant, RootKnown, CasesKnown, IsPosition, IsLoadedRoot, AreLoadedCases, IsLoadedTable, AreLoadedTables, IsPattern, ArePatterns, IsPrimitive, AreOperandsOf, AreOperands, IsLoadedCode}
 use Rattle.strat_machine.specs.Loaded.{AreLoaded}
 use Rattle.strat_machine.proofs.LoadedLaws.{is_loaded_later, are_loaded_later}
 
@@ -49,48 +51,53 @@ module _ {N : Type 0} {knows knows1 : N → Bool} {symbol_of symbol_of1 : N → 
   pub cases_later : {cs : List (LoadedCase N)} {ds : List Case} → AreLoadedCases knows symbol_of cs ds → AreLoadedCases knows1 symbol_of1 cs ds
   cases_later {cs} h = record { known = cases_known_later cs h.known; are = cases_same cs h.known ∙ h.are }
 
+  pub tables_kept : (number_of : N → ℕ) (ts : List (LoadedTable N)) (us : List (Vec coded.Case Global)) → AreLoadedTables knows symbol_of number_of ts us → AreLoadedTables knows1 symbol_of1 number_of ts us
+  tables_kept number_of [] [] h = tt
+  tables_kept number_of (t ∷ ts) (u ∷ us) h = (record { cases = cases_later h.0.cases; index = h.0.index }, tables_kept number_of ts us h.1)
+  tables_kept number_of [] (u ∷ us) h = absurd h
+  tables_kept number_of (t ∷ ts) [] h = absurd h
+
   pattern_later : (o : Operands N) (q : Pattern Coordinate) → IsPattern knows symbol_of o q → IsPattern knows1 symbol_of1 o q
   pattern_later (operands.Pattern p) q h = is_loaded_later later same h
   pattern_later operands.Nothing q h = absurd h
   pattern_later (operands.Patterns ps) q h = absurd h
   pattern_later (operands.Primitive at ps) q h = absurd h
-  pattern_later (operands.Cases cs) q h = absurd h
 
   patterns_later : (o : Operands N) (qs : List (Pattern Coordinate)) → ArePatterns knows symbol_of o qs → ArePatterns knows1 symbol_of1 o qs
   patterns_later (operands.Patterns ps) qs h = are_loaded_later later same h
   patterns_later operands.Nothing qs h = absurd h
   patterns_later (operands.Pattern p) qs h = absurd h
   patterns_later (operands.Primitive at ps) qs h = absurd h
-  patterns_later (operands.Cases cs) qs h = absurd h
 
   primitive_later : (keys : List NameKey) (o : Operands N) (key : NameKey) (qs : List (Pattern Coordinate)) → IsPrimitive knows symbol_of keys o key qs → IsPrimitive knows1 symbol_of1 keys o key qs
   primitive_later keys (operands.Primitive at ps) key qs h = (h.0, are_loaded_later later same h.1)
   primitive_later keys operands.Nothing key qs h = absurd h
   primitive_later keys (operands.Pattern p) key qs h = absurd h
   primitive_later keys (operands.Patterns ps) key qs h = absurd h
-  primitive_later keys (operands.Cases cs) key qs h = absurd h
-
-  cases_of_later : (o : Operands N) (ds : List Case) → AreCases knows symbol_of o ds → AreCases knows1 symbol_of1 o ds
-  cases_of_later (operands.Cases cs) ds h = cases_later h
-  cases_of_later operands.Nothing ds h = absurd h
-  cases_of_later (operands.Pattern p) ds h = absurd h
-  cases_of_later (operands.Patterns ps) ds h = absurd h
-  cases_of_later (operands.Primitive at ps) ds h = absurd h
 
   pub operands_later : (keys : List NameKey) (o : Operands N) (v : Instr) → AreOperandsOf knows symbol_of keys o v → AreOperandsOf knows1 symbol_of1 keys o v
   operands_later keys o (forms.Match n p) h = pattern_later o _ h
   operands_later keys o (forms.Build n p) h = pattern_later o _ h
-  operands_later keys o (forms.Select n cs a) h = cases_of_later o _ h
   operands_later keys o (forms.CallDefinition n k a r to us ps) h = patterns_later o _ h
   operands_later keys o (forms.ApplyPrimitive n f ps) h = primitive_later keys o _ _ h
   operands_later keys o _ h = tt
 
   -- names stay known with their symbols, so the code stays loaded
-  pub loaded_code_later : {keys : List NameKey} {os : List (Operands N)} {vs : List Instr} → IsLoadedCode knows symbol_of keys os vs → IsLoadedCode knows1 symbol_of1 keys os vs
-  loaded_code_later {keys} h = record { long = h.long; each = λ i o v x y. operands_later keys o v (h.each i o v x y) }
+  pub are_operands_later : {keys : List NameKey} {os : List (Operands N)} {vs : List Instr} → AreOperands knows symbol_of keys os vs → AreOperands knows1 symbol_of1 keys os vs
+  are_operands_later {keys} h = record { long = h.long; each = λ i o v x y. operands_later keys o v (h.each i o v x y) }
+
+  pub loaded_code_later : {number_of : N → ℕ} {keys : List NameKey} {l : LoadedCode N} {us : List (Vec coded.Case Global)} {vs : List Instr} → IsLoadedCode knows symbol_of number_of keys l us vs → IsLoadedCode knows1 symbol_of1 number_of keys l us vs
+  loaded_code_later {number_of} {l = l} {us} h = record { operands = are_operands_later h.operands; tables = tables_kept number_of l.tables.items us h.tables }
+
+  pub code_loaded : {number_of : N → ℕ} {keys : List NameKey} (l : LoadedCode N) {us us1 : List (Vec coded.Case Global)} {vs vs1 : List Instr} → us1 ≡ us → vs1 ≡ vs → AreLoadedTables knows symbol_of number_of l.tables.items us1 → AreOperands knows1 symbol_of1 keys l.operands.items vs1 →
+      IsLoadedCode knows1 symbol_of1 number_of keys l us vs
+  code_loaded {number_of} {keys} l {us} {us1} are same h k = record {
+    operands = subst (λ xs. AreOperands knows1 symbol_of1 keys l.operands.items xs) same k;
+    tables = subst (λ xs. AreLoadedTables knows1 symbol_of1 number_of l.tables.items xs) are (tables_kept number_of l.tables.items us1 h);
+  }
 
 -- one more
-taken : {A : Type 0} (xs : List A) (i : ℕ) (x : A) → i < length xs → x ≡ get_or xs i x → take (i + 1) xs ≡ take i xs ++ x ∷ []
+pub taken : {A : Type 0} (xs : List A) (i : ℕ) (x : A) → i < length xs → x ≡ get_or xs i x → take (i + 1) xs ≡ take i xs ++ x ∷ []
 taken xs i x within at = take_more xs i x within ∙ ap (λ y. take i xs ++ y ∷ []) (sym at)
 
 cases_known_push : {N : Type 0} (knows : N → Bool) (cs : List (LoadedCase N)) (c : LoadedCase N) → CasesKnown knows cs → RootKnown knows c.root → CasesKnown knows (cs ++ c ∷ [])
@@ -108,6 +115,18 @@ module _ {N : Type 0} {knows : N → Bool} {symbol_of : N → Symbol} where
             sym (ap (map case_of) (taken xs i x within at) ∙ map-append case_of (take i xs) (x ∷ []))));
       })
 
+  tables_push : {number_of : N → ℕ} (ts : List (LoadedTable N)) (us : List (Vec coded.Case Global)) (t : LoadedTable N) (u : Vec coded.Case Global) → AreLoadedTables knows symbol_of number_of ts us → IsLoadedTable knows symbol_of number_of t (map case_of u.items) →
+      AreLoadedTables knows symbol_of number_of (ts ++ t ∷ []) (us ++ u ∷ [])
+  tables_push [] [] t u h k = (k, tt)
+  tables_push (a ∷ ts) (b ∷ us) t u h k = (h.0, tables_push ts us t u h.1 k)
+  tables_push [] (b ∷ us) t u h k = absurd h
+  tables_push (a ∷ ts) [] t u h k = absurd h
+
+  pub one_more_table : {number_of : N → ℕ} (ts new : List (LoadedTable N)) (t : LoadedTable N) (xs : List (Vec coded.Case Global)) (i : ℕ) (x : Vec coded.Case Global) {cs : List coded.Case} → AreLoadedTables knows symbol_of number_of ts (take i xs) → cs ≡ x.items → IsLoadedTable knows symbol_of number_of t (map case_of cs) →
+      i < length xs → x ≡ get_or xs i x → new ≡ ts ++ t ∷ [] → AreLoadedTables knows symbol_of number_of new (take (i + 1) xs)
+  one_more_table {number_of} ts new t xs i x h are k within at is =
+      subst (λ ys. AreLoadedTables knows symbol_of number_of ys (take (i + 1) xs)) (sym is) (subst (λ us. AreLoadedTables knows symbol_of number_of (ts ++ t ∷ []) us) (sym (taken xs i x within at)) (tables_push ts (take i xs) t x h (subst (λ ds. IsLoadedTable knows symbol_of number_of t (map case_of ds)) are k)))
+
   module _ (keys : List NameKey) where
     each_push : (os : List (Operands N)) (vs : List Instr) (o : Operands N) (v : Instr) → length os ≡ length vs → ((i : ℕ) (x : Operands N) (y : Instr) → slice_get os i ≡ Some x → slice_get vs i ≡ Some y → AreOperandsOf knows symbol_of keys x y) →
         AreOperandsOf knows symbol_of keys o v → (i : ℕ) (x : Operands N) (y : Instr) → slice_get (os ++ o ∷ []) i ≡ Some x → slice_get (vs ++ v ∷ []) i ≡ Some y → AreOperandsOf knows symbol_of keys x y
@@ -120,10 +139,10 @@ module _ {N : Type 0} {knows : N → Bool} {symbol_of : N → Symbol} where
     each_push (a ∷ os) (b ∷ vs) o v long each last zero x y at there = each zero x y at there
     each_push (a ∷ os) (b ∷ vs) o v long each last (suc i) x y at there = each_push os vs o v (omega arith) (λ j p q h k. each (suc j) p q h k) last i x y at there
 
-    pub one_more_operand : (os new : List (Operands N)) (o : Operands N) (xs : List Instr) (i : ℕ) (x : Instr) → IsLoadedCode knows symbol_of keys os (take i xs) → AreOperandsOf knows symbol_of keys o x → i < length xs → x ≡ get_or xs i x → new ≡ os ++ o ∷ [] →
-        IsLoadedCode knows symbol_of keys new (take (i + 1) xs)
+    pub one_more_operand : (os new : List (Operands N)) (o : Operands N) (xs : List Instr) (i : ℕ) (x : Instr) → AreOperands knows symbol_of keys os (take i xs) → AreOperandsOf knows symbol_of keys o x → i < length xs → x ≡ get_or xs i x → new ≡ os ++ o ∷ [] →
+        AreOperands knows symbol_of keys new (take (i + 1) xs)
     one_more_operand os new o xs i x h k within at is =
-        subst (λ ys. IsLoadedCode knows symbol_of keys ys (take (i + 1) xs)) (sym is) (subst (λ vs. IsLoadedCode knows symbol_of keys (os ++ o ∷ []) vs) (sym (taken xs i x within at)) (record {
+        subst (λ ys. AreOperands knows symbol_of keys ys (take (i + 1) xs)) (sym is) (subst (λ vs. AreOperands knows symbol_of keys (os ++ o ∷ []) vs) (sym (taken xs i x within at)) (record {
           long = length-append os (o ∷ []) ∙ (ap (λ n. n + 1) h.long ∙ sym (length-append (take i xs) (x ∷ [])));
           each = each_push os (take i xs) o x h.long h.each k;
         }))

@@ -1,5 +1,5 @@
 -- Operands at an address, and the instruction there.
-use Rattle.std.proofs.Common.{◌≡◌, ◌<◌, ℕ, List, Option, Some, None, map, length, get_or, Vec, Global, refl, sym, ◌∙◌, ap, subst, arith}
+use Rattle.std.proofs.Common.{◌≡◌, ◌<◌, ℕ, List, Option, Some, None, map, length, drop, get_or, zero, suc, Vec, Global, refl, sym, ◌∙◌, ap, subst, arith, [], ◌∷◌}
 use Rattle.std.specs.Prelude.{Bool, slice_get}
 use Rattle.std.specs.Option.{IfSome}
 use Rattle.std.proofs.lemmas.List.{length-map}
@@ -13,7 +13,7 @@ use Rattle.core_lang.specs.Program.{Pattern}
 use Rattle.core_lang.specs.Views.{pattern_of, patterns_in}
 use Rattle.strat_code.specs.Code as model
 use Rattle.strat_code.specs.Code.{match_term, build_term, select, call_definition, apply_primitive}
-use Rattle.strat_code.specs.CodeOf.{instr_of, case_of, argument_of}
+use Rattle.strat_code.specs.CodeOf.{instr_of, case_of, cases_of, table_at, argument_of}
 use Rattle.strat_code.specs.declared.instr.Argument.{Argument}
 use Rattle.strat_code.specs.declared.instr.Case.{Case}
 use Rattle.strat_code.specs.declared.instr.Instr.{Instr}
@@ -22,9 +22,10 @@ use Rattle.strat_machine.specs.Space.{Space}
 use Rattle.strat_machine.specs.Stacks.{Performs}
 use Rattle.strat_machine.specs.Control.{HandlesPattern, HasPatternAt}
 use Rattle.strat_machine.specs.Loaded.{IsLoaded, AreLoaded, loaded_of, all_loaded_of}
-use Rattle.strat_machine.specs.Operands.{case_meant, IsPosition, AreLoadedCases, IsPattern, ArePatterns, IsPrimitive, AreCases, AreOperandsOf, IsLoadedCode}
+use Rattle.strat_machine.specs.Operands.{case_meant, IsPosition, AreLoadedTables, IsPattern, ArePatterns, IsPrimitive, AreOperandsOf, IsLoadedCode, TablesKnown, cases_meant, loaded_at}
 use Rattle.strat_machine.specs.declared.loaded.LoadedPattern.{LoadedPattern}
-use Rattle.strat_machine.specs.declared.select.LoadedCase.{LoadedCase}
+use Rattle.strat_machine.specs.declared.tables.LoadedTable.{LoadedTable}
+use Rattle.strat_machine.specs.declared.program.LoadedCode.{LoadedCode}
 use Rattle.strat_machine.specs.declared.program.Operands.{Operands}
 use Rattle.strat_machine.specs.declared.program.Operands.TheVariants as operands
 use Rattle.strat_machine.specs.declared.stacks.Stacks.{Stacks}
@@ -37,40 +38,30 @@ module _ {N : Type 0} (knows : N → Bool) (symbol_of : N → Symbol) (keys : Li
   no_pattern operands.Nothing q h none = h
   no_pattern (operands.Patterns ps) q h none = h
   no_pattern (operands.Primitive at ps) q h none = h
-  no_pattern (operands.Cases cs) q h none = h
 
   no_patterns : (o : Operands N) (qs : List (Pattern Coordinate)) → ArePatterns knows symbol_of o qs → ((ps : Vec (LoadedPattern N) Global) → o ≡ operands.Patterns ps → ⊥) → ⊥
   no_patterns (operands.Patterns ps) qs h none = none ps refl
   no_patterns operands.Nothing qs h none = h
   no_patterns (operands.Pattern p) qs h none = h
   no_patterns (operands.Primitive at ps) qs h none = h
-  no_patterns (operands.Cases cs) qs h none = h
 
   no_primitive : (o : Operands N) (key : NameKey) (qs : List (Pattern Coordinate)) → IsPrimitive knows symbol_of keys o key qs → ((at : Option ℕ) (ps : Vec (LoadedPattern N) Global) → o ≡ operands.Primitive at ps → ⊥) → ⊥
   no_primitive (operands.Primitive at ps) key qs h none = none at ps refl
   no_primitive operands.Nothing key qs h none = h
   no_primitive (operands.Pattern p) key qs h none = h
   no_primitive (operands.Patterns ps) key qs h none = h
-  no_primitive (operands.Cases cs) key qs h none = h
-
-  no_cases : (o : Operands N) (ds : List model.Case) → AreCases knows symbol_of o ds → ((cs : Vec (LoadedCase N) Global) → o ≡ operands.Cases cs → ⊥) → ⊥
-  no_cases (operands.Cases cs) ds h none = none cs refl
-  no_cases operands.Nothing ds h none = h
-  no_cases (operands.Pattern p) ds h none = h
-  no_cases (operands.Patterns ps) ds h none = h
-  no_cases (operands.Primitive at ps) ds h none = h
 
 -- the instruction at the address handles a pattern
 pub handles_there : {vs : List Instr} {i : ℕ} (v : Instr) → HasPatternAt vs i → slice_get vs i ≡ Some v → HandlesPattern v
 handles_there {vs} {i} v h found = let was = h.found in let same : h.instr ≡ v = cc in subst HandlesPattern same h.handles
 
-module _ {N : Type 0} {knows : N → Bool} {symbol_of : N → Symbol} {keys : List NameKey} {os : List (Operands N)} {vs : List Instr} (loaded : IsLoadedCode knows symbol_of keys os vs) (i : ℕ) {o : Operands N} {v : Instr}
-    (found : slice_get vs i ≡ Some v) (read : o ≡ get_or os i o) where
+module _ {N : Type 0} {knows : N → Bool} {symbol_of : N → Symbol} {number_of : N → ℕ} {keys : List NameKey} {l : LoadedCode N} {ts : List (Vec Case Global)} {vs : List Instr} (loaded : IsLoadedCode knows symbol_of number_of keys l ts vs) (i : ℕ) {o : Operands N} {v : Instr}
+    (found : slice_get vs i ≡ Some v) (read : o ≡ get_or l.operands.items i o) where
   operands_at : AreOperandsOf knows symbol_of keys o v
   operands_at =
-      let below = slice_get_within vs i v found in let long = loaded.long in
+      let os = l.operands.items in let below = slice_get_within vs i v found in let long = loaded.operands.long in
       let within : i < length os = omega arith in
-      loaded.each i o v (slice_get_read os (length os) i o refl within read) found
+      loaded.operands.each i o v (slice_get_read os (length os) i o refl within read) found
 
   operands_as : (u : Instr) (p : Operands N) → v ≡ u → o ≡ p → AreOperandsOf knows symbol_of keys p u
   operands_as u p is form = subst (λ x. AreOperandsOf knows symbol_of keys p x) is (subst (λ x. AreOperandsOf knows symbol_of keys x v) form operands_at)
@@ -85,9 +76,6 @@ module _ {N : Type 0} {knows : N → Bool} {symbol_of : N → Symbol} {keys : Li
   pub build_without : {n : ℕ} {q : CorePattern} → v ≡ forms.Build n q → ((p : LoadedPattern N) → o ≡ operands.Pattern p → ⊥) → ⊥
   build_without {n} {q} is none = no_pattern knows symbol_of keys o _ (at_form (forms.Build n q) is) none
 
-  pub select_without : {n a : ℕ} {ds : Vec Case Global} → v ≡ forms.Select n ds a → ((cs : Vec (LoadedCase N) Global) → o ≡ operands.Cases cs → ⊥) → ⊥
-  select_without {n} {a} {ds} is none = no_cases knows symbol_of keys o _ (at_form (forms.Select n ds a) is) none
-
   pub call_without : {n h a k to : ℕ} {us : Vec Argument Global} {qs : Vec CorePattern Global} → v ≡ forms.CallDefinition n h a k to us qs → ((ps : Vec (LoadedPattern N) Global) → o ≡ operands.Patterns ps → ⊥) → ⊥
   call_without {n} {h} {a} {k} {to} {us} {qs} is none = no_patterns knows symbol_of keys o _ (at_form (forms.CallDefinition n h a k to us qs) is) none
 
@@ -100,9 +88,6 @@ module _ {N : Type 0} {knows : N → Bool} {symbol_of : N → Symbol} {keys : Li
 
   pub loaded_build : {n : ℕ} {q : CorePattern} {p : LoadedPattern N} → v ≡ forms.Build n q → o ≡ operands.Pattern p → IsLoaded knows symbol_of p (pattern_of q)
   loaded_build {n} {q} {p} is form = operands_as (forms.Build n q) (operands.Pattern p) is form
-
-  pub loaded_cases : {n a : ℕ} {ds : Vec Case Global} {cs : Vec (LoadedCase N) Global} {xs : List (LoadedCase N)} → v ≡ forms.Select n ds a → o ≡ operands.Cases cs → xs ≡ cs.items → AreLoadedCases knows symbol_of xs (map case_of ds.items)
-  loaded_cases {n} {a} {ds} {cs} is form same = subst (λ x. AreLoadedCases knows symbol_of x (map case_of ds.items)) (sym same) (operands_as (forms.Select n ds a) (operands.Cases cs) is form)
 
   pub loaded_terms : {n h a k to : ℕ} {us : Vec Argument Global} {qs : Vec CorePattern Global} {ps : Vec (LoadedPattern N) Global} {xs : List (LoadedPattern N)} → v ≡ forms.CallDefinition n h a k to us qs → o ≡ operands.Patterns ps → xs ≡ ps.items →
       AreLoaded knows symbol_of xs (map pattern_of qs.items)
@@ -124,29 +109,50 @@ pub takes_as_many : (keys : List NameKey) (at : Option ℕ) (f : List ℕ) (n : 
 takes_as_many keys None f n h = tt
 takes_as_many keys (Some k) f n h = (h.0, ap (λ key. key.1) h.1)
 
+-- loaded tables stand for those of the code
+module _ {N : Type 0} (knows : N → Bool) (symbol_of : N → Symbol) (number_of : N → ℕ) where
+  all_known : (ls : List (LoadedTable N)) (ts : List (Vec Case Global)) → AreLoadedTables knows symbol_of number_of ls ts → TablesKnown knows number_of ls
+  all_known [] [] h = tt
+  all_known (t ∷ ls) (u ∷ ts) h = (record { cases = h.0.cases.known; index = h.0.index }, all_known ls ts h.1)
+  all_known [] (u ∷ ts) h = absurd h
+  all_known (t ∷ ls) [] h = absurd h
+
+  pub tables_known : (ls xs : List (LoadedTable N)) (ts : List (Vec Case Global)) → xs ≡ ls → AreLoadedTables knows symbol_of number_of ls ts → TablesKnown knows number_of xs
+  tables_known ls xs ts same h = subst (TablesKnown knows number_of) (sym same) (all_known ls ts h)
+
+  table_is : (ls : List (LoadedTable N)) (ts : List (Vec Case Global)) (j : ℕ) → AreLoadedTables knows symbol_of number_of ls ts → map (case_meant symbol_of) (loaded_at ls j) ≡ map case_of (table_at ts j)
+  table_is [] [] j h = refl
+  table_is (t ∷ ls) (u ∷ ts) zero h = h.0.cases.are
+  table_is (t ∷ ls) (u ∷ ts) (suc j) h = table_is ls ts j h.1
+  table_is [] (u ∷ ts) j h = absurd h
+  table_is (t ∷ ls) [] j h = absurd h
+
+  cases_are : (ls xs : List (LoadedTable N)) (ts : List (Vec Case Global)) (j k : ℕ) → AreLoadedTables knows symbol_of number_of ls ts → xs ≡ ls → cases_meant symbol_of xs j k ≡ cases_of ts j k
+  cases_are ls xs ts j k h same = ap (λ ys. cases_meant symbol_of ys j k) same ∙ ap (drop k) (table_is ls ts j h)
+
+  pub select_is : (ls xs : List (LoadedTable N)) (ts : List (Vec Case Global)) {n j k a : ℕ} {v : Instr} → v ≡ forms.Select n j k a → AreLoadedTables knows symbol_of number_of ls ts → xs ≡ ls → instr_of ts v ≡ select n (cases_meant symbol_of xs j k) a
+  select_is ls xs ts {n} {j} {k} {a} is h same = ap (instr_of ts) is ∙ ap (λ ds. select n ds a) (sym (cases_are ls xs ts j k h same))
+
 -- what the instruction is
-module _ {N : Type 0} {knows : N → Bool} {symbol_of : N → Symbol} where
-  pub match_is : {n : ℕ} {q : CorePattern} {p : LoadedPattern N} {v : Instr} → v ≡ forms.Match n q → IsLoaded knows symbol_of p (pattern_of q) → instr_of v ≡ match_term n (loaded_of symbol_of p)
-  match_is {n} is h = ap instr_of is ∙ ap (match_term n) (sym h.is)
+module _ {N : Type 0} {knows : N → Bool} {symbol_of : N → Symbol} (ts : List (Vec Case Global)) where
+  pub match_is : {n : ℕ} {q : CorePattern} {p : LoadedPattern N} {v : Instr} → v ≡ forms.Match n q → IsLoaded knows symbol_of p (pattern_of q) → instr_of ts v ≡ match_term n (loaded_of symbol_of p)
+  match_is {n} is h = ap (instr_of ts) is ∙ ap (match_term n) (sym h.is)
 
-  pub build_is : {n : ℕ} {q : CorePattern} {p : LoadedPattern N} {v : Instr} → v ≡ forms.Build n q → IsLoaded knows symbol_of p (pattern_of q) → instr_of v ≡ build_term n (loaded_of symbol_of p)
-  build_is {n} is h = ap instr_of is ∙ ap (build_term n) (sym h.is)
+  pub build_is : {n : ℕ} {q : CorePattern} {p : LoadedPattern N} {v : Instr} → v ≡ forms.Build n q → IsLoaded knows symbol_of p (pattern_of q) → instr_of ts v ≡ build_term n (loaded_of symbol_of p)
+  build_is {n} is h = ap (instr_of ts) is ∙ ap (build_term n) (sym h.is)
 
-  pub select_is : {n a : ℕ} {ds : Vec Case Global} {cs : List (LoadedCase N)} {v : Instr} → v ≡ forms.Select n ds a → AreLoadedCases knows symbol_of cs (map case_of ds.items) → instr_of v ≡ select n (map (case_meant symbol_of) cs) a
-  select_is {n} {a} is h = ap instr_of is ∙ ap (λ ds. select n ds a) (sym h.are)
-
-  pub call_is : {n h a k to : ℕ} {us : Vec Argument Global} {qs : Vec CorePattern Global} {ps : List (LoadedPattern N)} {ts : List Argument} {v : Instr} → v ≡ forms.CallDefinition n h a k to us qs → AreLoaded knows symbol_of ps (map pattern_of qs.items) → ts ≡ us.items →
-      instr_of v ≡ call_definition n h a k to (map argument_of ts) (all_loaded_of symbol_of ps)
-  call_is {n} {h} {a} {k} {to} {us} {qs} {ps} {ts} is x same =
-      ap instr_of is ∙ (ap (λ xs. call_definition n h a k to xs (patterns_in (map pattern_of qs.items))) (ap (map argument_of) (sym same)) ∙ ap (λ ys. call_definition n h a k to (map argument_of ts) (patterns_in ys)) (sym x.are))
+  pub call_is : {n h a k to : ℕ} {us : Vec Argument Global} {qs : Vec CorePattern Global} {ps : List (LoadedPattern N)} {xs : List Argument} {v : Instr} → v ≡ forms.CallDefinition n h a k to us qs → AreLoaded knows symbol_of ps (map pattern_of qs.items) → xs ≡ us.items →
+      instr_of ts v ≡ call_definition n h a k to (map argument_of xs) (all_loaded_of symbol_of ps)
+  call_is {n} {h} {a} {k} {to} {us} {qs} {ps} {xs} is x same =
+      ap (instr_of ts) is ∙ (ap (λ zs. call_definition n h a k to zs (patterns_in (map pattern_of qs.items))) (ap (map argument_of) (sym same)) ∙ ap (λ ys. call_definition n h a k to (map argument_of xs) (patterns_in ys)) (sym x.are))
 
   pub primitive_is : {n : ℕ} {f : Vec ℕ Global} {qs : Vec CorePattern Global} {ps : List (LoadedPattern N)} {v : Instr} → v ≡ forms.ApplyPrimitive n f qs → AreLoaded knows symbol_of ps (map pattern_of qs.items) →
-      instr_of v ≡ apply_primitive n f.items (all_loaded_of symbol_of ps)
-  primitive_is {n} {f} is x = ap instr_of is ∙ ap (λ ys. apply_primitive n f.items (patterns_in ys)) (sym x.are)
+      instr_of ts v ≡ apply_primitive n f.items (all_loaded_of symbol_of ps)
+  primitive_is {n} {f} is x = ap (instr_of ts) is ∙ ap (λ ys. apply_primitive n f.items (patterns_in ys)) (sym x.are)
 
 -- what is at the address is one instruction
-pub performs_there : {W R Y : Type 0} {S : Space W R Y} {M : Meaning} {i p : ℕ} {t : R} {w w1 : W} (m : Stacks R Y) (phase : Phase R) (m1 : Stacks R Y) (vs : List Instr) {u : model.Instr} {v : Instr} → slice_get vs i ≡ Some v → instr_of v ≡ u →
-    Performs S M u i p t w m w1 phase m1 → (x : Instr) → slice_get vs i ≡ Some x → Performs S M (instr_of x) i p t w m w1 phase m1
-performs_there {S = S} {M} {i} {p} {t} {w} {w1} m phase m1 vs {u} {v} found is h x there =
+pub performs_there : {W R Y : Type 0} {S : Space W R Y} {M : Meaning} {i p : ℕ} {t : R} {w w1 : W} (m : Stacks R Y) (phase : Phase R) (m1 : Stacks R Y) (ts : List (Vec Case Global)) (vs : List Instr) {u : model.Instr} {v : Instr} → slice_get vs i ≡ Some v → instr_of ts v ≡ u →
+    Performs S M u i p t w m w1 phase m1 → (x : Instr) → slice_get vs i ≡ Some x → Performs S M (instr_of ts x) i p t w m w1 phase m1
+performs_there {S = S} {M} {i} {p} {t} {w} {w1} m phase m1 ts vs {u} {v} found is h x there =
     let same : v ≡ x = cc in
-    subst (λ y. Performs S M y i p t w m w1 phase m1) (sym is ∙ ap instr_of same) h
+    subst (λ y. Performs S M y i p t w m w1 phase m1) (sym is ∙ ap (instr_of ts) same) h

@@ -1,5 +1,5 @@
 -- A run of the Rust machine, from its start on.
-use Rattle.std.proofs.Common.{◌≡◌, ℕ, suc, ◌+◌, ◌*◌, ◌≤◌, ◌<◌, List, Some, refl, sym, ◌∙◌, subst, arith}
+use Rattle.std.proofs.Common.{◌≡◌, ℕ, suc, ◌+◌, ◌*◌, ◌≤◌, ◌<◌, List, Some, Vec, Global, refl, sym, ◌∙◌, subst, arith}
 use Rattle.std.specs.Prelude.{Bool, slice_get}
 use Rattle.term_model.specs.Flat.{Meaning}
 use Rattle.term_model.specs.PrimNames.{NameKey}
@@ -9,6 +9,7 @@ use Rattle.core_lang.specs.declared.run.Outcome.{Outcome}
 use Rattle.core_lang.specs.declared.run.Outcome.TheVariants as outcomes
 use Rattle.strat_code.specs.Code.{Code}
 use Rattle.strat_code.specs.CodeOf.{IsCode, code_of, instr_of}
+use Rattle.strat_code.specs.declared.instr.Case.{Case}
 use Rattle.strat_code.specs.declared.instr.Instr.{Instr}
 use Rattle.strat_machine.specs.Space.{Space}
 use Rattle.strat_machine.specs.References.{ref_running, state_tree}
@@ -20,7 +21,7 @@ use Rattle.strat_machine.specs.Step.{IsGoing}
 use Rattle.strat_machine.specs.Stacks.{KeepsNames, Performs, state_of}
 use Rattle.strat_machine.specs.Traversing.{StateCounted}
 use Rattle.strat_machine.specs.Control.{IsPaid}
-use Rattle.strat_machine.specs.Stepped.{PaidFrom}
+use Rattle.strat_machine.specs.Stepped.{PaidFrom, TakesFrom}
 use Rattle.strat_machine.specs.declared.stacks.Stacks.{Stacks}
 use Rattle.strat_machine.specs.declared.stacks.Stop.TheVariants as stops
 use Rattle.strat_machine.specs.declared.stacks.Phase.{Phase}
@@ -38,23 +39,31 @@ started S knows symbol_of code M w t budget m h =
     record { steps = subst (λ s. StepsRef S code M 0 w (start_ref t budget) w s) (sym same) no_step_ref; names = record { known = λ n x. x; symbols = λ n x. refl } }
 
 -- an instruction that was paid for is performed
-module _ {W R Y : Type 0} (S : Space W R Y) (M : Meaning) (instrs : List Instr) (w w1 w2 : W) (m m1 m2 : Stacks R Y) (to : Phase R) where
-  paid_does : (i p : ℕ) (t t1 : R) → (h : IsPaid instrs i t w m w1 t1 m1) → Performs S M (instr_of h.instr) i p t1 w1 m1 w2 to m2 → StepRef S (code_of instrs) M w (state_of (phases.Running i p t) m) w2 (state_of to m2)
+module _ {W R Y : Type 0} (S : Space W R Y) (M : Meaning) (ts : List (Vec Case Global)) (instrs : List Instr) (w w1 w2 : W) (m m1 m2 : Stacks R Y) (to : Phase R) where
+  paid_does : (i p : ℕ) (t t1 : R) → (h : IsPaid ts instrs i t w m w1 t1 m1) → Performs S M (instr_of ts h.instr) i p t1 w1 m1 w2 to m2 → StepRef S (code_of ts instrs) M w (state_of (phases.Running i p t) m) w2 (state_of to m2)
   paid_does i p t t1 h x =
-      let on_term = subst (λ r. Performs S M (instr_of h.instr) i p r w1 m1 w2 to m2) h.term x in
-      let in_space = subst (λ v. Performs S M (instr_of h.instr) i p t v m1 w2 to m2) h.space on_term in
-      let on_stacks = subst (λ n. Performs S M (instr_of h.instr) i p t w n w2 to m2) h.stacks in_space in
-      performs m1.left (found_at instrs i h.instr h.found) h.paid on_stacks
+      let on_term = subst (λ r. Performs S M (instr_of ts h.instr) i p r w1 m1 w2 to m2) h.term x in
+      let in_space = subst (λ v. Performs S M (instr_of ts h.instr) i p t v m1 w2 to m2) h.space on_term in
+      let on_stacks = subst (λ n. Performs S M (instr_of ts h.instr) i p t w n w2 to m2) h.stacks in_space in
+      performs m1.left (found_at ts instrs i h.instr h.found) h.paid on_stacks
 
-  pub paid_step : (from : Phase R) (i p : ℕ) (t1 : R) → PaidFrom instrs from w m w1 i p t1 m1 → ((v : Instr) → slice_get instrs i ≡ Some v → Performs S M (instr_of v) i p t1 w1 m1 w2 to m2) →
-      StepRef S (code_of instrs) M w (state_of from m) w2 (state_of to m2)
+  pub paid_step : (from : Phase R) (i p : ℕ) (t1 : R) → PaidFrom ts instrs from w m w1 i p t1 m1 → ((v : Instr) → slice_get instrs i ≡ Some v → Performs S M (instr_of ts v) i p t1 w1 m1 w2 to m2) →
+      StepRef S (code_of ts instrs) M w (state_of from m) w2 (state_of to m2)
   paid_step (phases.Running j q t) i p t1 (at, here, h) x =
       let y = x h.instr (subst (λ k. slice_get instrs k ≡ Some h.instr) (sym at) h.found) in
-      let z = subst (λ k. Performs S M (instr_of h.instr) k p t1 w1 m1 w2 to m2) at y in
-      paid_does j q t t1 h (subst (λ k. Performs S M (instr_of h.instr) j k t1 w1 m1 w2 to m2) here z)
+      let z = subst (λ k. Performs S M (instr_of ts h.instr) k p t1 w1 m1 w2 to m2) at y in
+      paid_does j q t t1 h (subst (λ k. Performs S M (instr_of ts h.instr) j k t1 w1 m1 w2 to m2) here z)
   paid_step phases.Failing i p t1 h x = absurd h
   paid_step (phases.Rewritten t) i p t1 h x = absurd h
   paid_step (phases.Stopped r) i p t1 h x = absurd h
+
+-- a step was taken
+module _ {W R Y : Type 0} (S : Space W R Y) (M : Meaning) (ts : List (Vec Case Global)) (instrs : List Instr) (w w1 : W) (m m1 : Stacks R Y) (to : Phase R) where
+  pub done_step : (from : Phase R) → GoesOn from → TakesFrom S ts instrs from w m w1 to m1 → StepRef S (code_of ts instrs) M w (state_of from m) w1 (state_of to m1)
+  done_step (phases.Running i p t) going x = x M
+  done_step phases.Failing going x = x M
+  done_step (phases.Rewritten t) going x = absurd going
+  done_step (phases.Stopped r) going x = absurd going
 
 pub names_then : {W N : Type 0} {knows : W → N → Bool} {symbol_of : W → N → Symbol} {w w1 w2 : W} → KeepsNames knows symbol_of w w1 → KeepsNames knows symbol_of w1 w2 → KeepsNames knows symbol_of w w2
 names_then h k = record { known = λ n x. k.known n (h.known n x); symbols = λ n x. k.symbols n (h.known n x) ∙ h.symbols n x }

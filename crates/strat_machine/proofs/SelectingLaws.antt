@@ -1,10 +1,11 @@
 -- The first case that has a term's root, of the Rust machine.
 use Rattle.std.proofs.Common.{◌≡◌, ◌↔◌, ◌+◌, ◌-◌, ◌<◌, ◌≤◌, ℕ, ℤ, zero, suc, List, [], ◌∷◌, length, get_or, drop, map, refl, sym, ◌∙◌, ap, subst, arith, add-one}
-use Rattle.std.specs.Prelude.{Bool, true, false, ◌&&◌, IsTrue}
+use Rattle.std.specs.Prelude.{Bool, true, false, ◌&&◌, IsTrue, Some, None, slice_get}
 use Rattle.std.proofs.Math.Dec.{leb, eqb}
 use Rattle.std.proofs.lemmas.Bool.{leb-true, le-leb}
 use Rattle.std.proofs.lemmas.Bool.Decides.{Decides-eqb}
-use Rattle.std.proofs.lemmas.List.{drop_all}
+use Rattle.std.proofs.lemmas.List.{drop_all, drop_more}
+use Rattle.std.proofs.lemmas.Option.{slice_get_within, slice_get_past, get_or_from_slice_get}
 use Rattle.std.proofs.Math.Seq.{drop-cons}
 use Rattle.term_model.specs.declared.term.Head.TheVariants as heads
 use Rattle.term_model.specs.Symbol.{Symbol}
@@ -16,14 +17,16 @@ use Rattle.term_model.proofs.FitsLaws.{both}
 use Rattle.core_lang.specs.Roots.{Root, are_many, has_root, integer_root, symbol_root, list_root}
 use Rattle.strat_code.specs.Code.{select}
 use Rattle.strat_machine.specs.Space.{Space}
-use Rattle.strat_machine.specs.State.{run_spent, saved}
-use Rattle.strat_machine.specs.References.{RefState, ref_choice, ref_running, ref_stopped}
+use Rattle.strat_machine.specs.State.{Frame, run_spent, saved}
+use Rattle.strat_machine.specs.References.{Places, RefRecord, RefState, ref_choice, ref_running, ref_stopped}
 use Rattle.strat_machine.specs.ReferenceSteps.{Selecting, selects_none, selects_this, selects_later, selects_spent, selects}
 use Rattle.strat_machine.specs.RecordStack.{records_of}
 use Rattle.strat_machine.specs.Stacks.{Performs, PutsChoice, state_of}
-use Rattle.strat_machine.specs.Operands.{root_meant, case_meant, RootKnown, CasesKnown}
+use Rattle.strat_machine.specs.Indexing.{nodes_before, IsFirst}
+use Rattle.strat_machine.specs.Operands.{root_meant, case_has, case_meant, cases_meant, loaded_at, RootKnown, CasesKnown, TableKnown, TablesKnown}
 use Rattle.strat_machine.proofs.StepLaws.{does_to}
-use Rattle.strat_machine.specs.declared.select.LoadedCase.{LoadedCase}
+use Rattle.strat_machine.specs.declared.tables.LoadedCase.{LoadedCase}
+use Rattle.strat_machine.specs.declared.tables.LoadedTable.{LoadedTable}
 use Rattle.strat_machine.specs.declared.stacks.Stacks.{Stacks}
 use Rattle.strat_machine.specs.declared.stacks.Phase.{Phase}
 use Rattle.strat_machine.specs.declared.stacks.Phase.TheVariants as phases
@@ -155,3 +158,115 @@ module _ (t : Tree) (b : Bool) where
         λ h. ap (λ x. has_root (list_root n x) t) opened ∙ law.1 (leb-true n k (sym test ∙ h)),
         λ h. test ∙ le-leb n k (law.0 (ap (λ x. has_root (list_root n x) t) (sym opened) ∙ h)),
       )
+
+-- cases that lack the root are passed at once
+module _ {W R Y N : Type 0} (S : Space W R Y) (symbol_of : N → Symbol) (w : W) (last p : ℕ) (t : R) (e : Places R) (F : List Frame) (T : List ℕ) (b : ℕ) (K : List (RefRecord R Y)) where
+  abbrev pub At : List (LoadedCase N) → ℕ → RefState R Y → Type 0
+  At cs l u = Selecting S w last p t e F T b K (map (case_meant symbol_of) cs) l u
+
+  with_left : (cs : List (LoadedCase N)) (l m : ℕ) (u : RefState R Y) → l ≡ m → At cs l u → At cs m u
+  with_left cs l m u same h = subst (λ k. At cs k u) same h
+
+  none_before : (cs : List (LoadedCase N)) → nodes_before cs 0 ≡ 0
+  none_before [] = refl
+  none_before (c ∷ cs) = refl
+
+  passes : (cs : List (LoadedCase N)) (n l : ℕ) (u : RefState R Y) → ((j : ℕ) (c : LoadedCase N) → j < n → slice_get cs j ≡ Some c → case_has symbol_of (S.term_of w t) c ≡ false) → n ≤ length cs → nodes_before cs n ≤ l →
+      At (drop n cs) (l - nodes_before cs n) u → At cs l u
+  passes cs zero l u lacks within pays h = let none = none_before cs in with_left cs (l - nodes_before cs 0) l u (omega arith) h
+  passes [] (suc n) l u lacks within pays h = absurd (omega arith)
+  passes (c ∷ cs) (suc n) l u lacks within pays h =
+      selects_later (lacks 0 c (omega arith) refl) (omega arith)
+      (passes cs n (l - c.nodes) u (λ j d low is. lacks (suc j) d (omega arith) is) (omega arith) (omega arith) (with_left (drop n cs) (l - (c.nodes + nodes_before cs n)) (l - c.nodes - nodes_before cs n) u (omega arith) h))
+
+  pub passes_from : (cs : List (LoadedCase N)) (k i l : ℕ) (u : RefState R Y) → k ≤ i → i ≤ length cs → ((j : ℕ) (c : LoadedCase N) → k ≤ j → j < i → slice_get cs j ≡ Some c → case_has symbol_of (S.term_of w t) c ≡ false) → nodes_before cs i - nodes_before cs k ≤ l →
+      At (drop i cs) (l - (nodes_before cs i - nodes_before cs k)) u → At (drop k cs) l u
+  passes_from cs zero i l u low within lacks pays h =
+      let none = none_before cs in
+      passes cs i l u (λ j c under is. lacks j c (omega arith) under is) within (omega arith) (with_left (drop i cs) (l - (nodes_before cs i - nodes_before cs 0)) (l - nodes_before cs i) u (omega arith) h)
+  passes_from [] (suc k) i l u low within lacks pays h = absurd (omega arith)
+  passes_from (c ∷ cs) (suc k) zero l u low within lacks pays h = absurd (omega arith)
+  passes_from (c ∷ cs) (suc k) (suc i) l u low within lacks pays h =
+      let same : c.nodes + nodes_before cs i - (c.nodes + nodes_before cs k) ≡ nodes_before cs i - nodes_before cs k = omega arith in
+      passes_from cs k i l u (omega arith) (omega arith) (λ j d from under is. lacks (suc j) d (omega arith) (omega arith) is) (omega (arith, same, pays))
+      (with_left (drop i cs) (l - (c.nodes + nodes_before cs i - (c.nodes + nodes_before cs k))) (l - (nodes_before cs i - nodes_before cs k)) u (ap (λ x. l - x) same) h)
+
+map_drop : {A B : Type 0} (f : A → B) (k : ℕ) (xs : List A) → map f (drop k xs) ≡ drop k (map f xs)
+map_drop f zero xs = refl
+map_drop f (suc k) [] = refl
+map_drop f (suc k) (x ∷ xs) = map_drop f k xs
+
+drop_at : {A : Type 0} (xs : List A) (i : ℕ) (x : A) → slice_get xs i ≡ Some x → drop i xs ≡ x ∷ drop (i + 1) xs
+drop_at xs i x is =
+    let below : i < length xs = slice_get_within xs i x is in
+    drop_more xs i x below ∙ ap (λ y. y ∷ drop (i + 1) xs) (get_or_from_slice_get xs i x x is)
+
+module _ {W R Y N : Type 0} (S : Space W R Y) (symbol_of : N → Symbol) (w : W) (last p : ℕ) (t : R) (cs : List (LoadedCase N)) (m : Stacks R Y) where
+  -- a walk over the cases from number k on
+  pub walks_rest : (M : Meaning) (n j k : ℕ) (rest : List (LoadedCase N)) (phase : Phase R) (m1 : Stacks R Y) → rest ≡ drop k cs → Performs S M (select n (map (case_meant symbol_of) rest) last) j p t w m w phase m1 →
+      Performs S M (select n (drop k (map (case_meant symbol_of) cs)) last) j p t w m w phase m1
+  walks_rest M n j k rest phase m1 are h = subst (λ ds. Performs S M (select n ds last) j p t w m w phase m1) (ap (map (case_meant symbol_of)) are ∙ map_drop (case_meant symbol_of) k cs) h
+
+  pub nothing_left : (M : Meaning) (n j k : ℕ) → length cs ≤ k → Performs S M (select n (drop k (map (case_meant symbol_of) cs)) last) j p t w m w (phases.Running last p t) m
+  nothing_left M n j k past =
+      let none : map (case_meant symbol_of) (drop k cs) ≡ [] = ap (map (case_meant symbol_of)) (drop_all k cs past) in
+      subst (λ ds. Performs S M (select n ds last) j p t w m w (phases.Running last p t) m) (sym none ∙ map_drop (case_meant symbol_of) k cs) (selects selects_none)
+
+  module _ (k i cost : ℕ) (first : IsFirst (case_has symbol_of (S.term_of w t)) cs k i) (is : cost + nodes_before cs k ≡ nodes_before cs i) (low : cost ≤ m.left) where
+    comes_to : (M : Meaning) (n j : ℕ) (phase : Phase R) (m1 : Stacks R Y) → Selecting S w last p t m.places.slots m.frames m.places.trail m.places.barrier (records_of m.records) (map (case_meant symbol_of) (drop i cs)) (m.left - cost) (state_of phase m1) →
+        Performs S M (select n (drop k (map (case_meant symbol_of) cs)) last) j p t w m w phase m1
+    comes_to M n j phase m1 h =
+        let paid : cost ≡ nodes_before cs i - nodes_before cs k = omega (arith, is) in
+        let left : Selecting S w last p t m.places.slots m.frames m.places.trail m.places.barrier (records_of m.records) (map (case_meant symbol_of) (drop i cs)) (m.left - (nodes_before cs i - nodes_before cs k)) (state_of phase m1) =
+        subst (λ x. Selecting S w last p t m.places.slots m.frames m.places.trail m.places.barrier (records_of m.records) (map (case_meant symbol_of) (drop i cs)) (m.left - x) (state_of phase m1)) paid h in
+        subst (λ ds. Performs S M (select n ds last) j p t w m w phase m1) (map_drop (case_meant symbol_of) k cs)
+        (selects (passes_from S symbol_of w last p t m.places.slots m.frames m.places.trail m.places.barrier (records_of m.records) cs k i m.left (state_of phase m1) first.from first.within first.passed (omega (arith, paid, low)) left))
+
+    pub passes_all : (M : Meaning) (n j : ℕ) → length cs ≤ i → Performs S M (select n (drop k (map (case_meant symbol_of) cs)) last) j p t w m w (phases.Running last p t) (record m { left = m.left - cost })
+    passes_all M n j past =
+        comes_to M n j (phases.Running last p t) (record m { left = m.left - cost })
+        (subst (λ ds. Selecting S w last p t m.places.slots m.frames m.places.trail m.places.barrier (records_of m.records) (map (case_meant symbol_of) ds) (m.left - cost) (ref_running last p t m.places.slots m.frames m.places.trail m.places.barrier (records_of m.records) (m.left - cost)))
+        (sym (drop_all i cs past)) selects_none)
+
+    pub comes_to_case : (c : LoadedCase N) → slice_get cs i ≡ Some c → (M : Meaning) (n j : ℕ) (phase : Phase R) (m2 : Stacks R Y) → PutsChoice S w (record m { left = m.left - cost }) c.otherwise c.body p t phase m2 →
+        Performs S M (select n (drop k (map (case_meant symbol_of) cs)) last) j p t w m w phase m2
+    comes_to_case c at M n j phase m2 x =
+        let u : RefState R Y = ref_running c.body p t m.places.slots m.frames m.places.trail (length m.places.slots) (ref_choice c.otherwise t (saved p (length m.frames) (length m.places.trail) m.places.barrier) x.mark ∷ records_of m.records) (m.left - cost) in
+        let this : Selecting S w last p t m.places.slots m.frames m.places.trail m.places.barrier (records_of m.records) (map (case_meant symbol_of) (c ∷ drop (i + 1) cs)) (m.left - cost) u = selects_this (first.has_it c at) x.marks in
+        let there : Selecting S w last p t m.places.slots m.frames m.places.trail m.places.barrier (records_of m.records) (map (case_meant symbol_of) (drop i cs)) (m.left - cost) u =
+        subst (λ ds. Selecting S w last p t m.places.slots m.frames m.places.trail m.places.barrier (records_of m.records) (map (case_meant symbol_of) ds) (m.left - cost) u) (sym (drop_at cs i c at)) this in
+        comes_to M n j phase m2 (subst (λ v. Selecting S w last p t m.places.slots m.frames m.places.trail m.places.barrier (records_of m.records) (map (case_meant symbol_of) (drop i cs)) (m.left - cost) v) (sym x.leads) there)
+
+-- the table at a position
+module _ {N : Type 0} where
+  pub known_table : (knows : N → Bool) (number_of : N → ℕ) (ts : List (LoadedTable N)) (j : ℕ) (x : LoadedTable N) → TablesKnown knows number_of ts → slice_get ts j ≡ Some x → TableKnown knows number_of x
+  known_table knows number_of [] j x h is = absurd (cc)
+  known_table knows number_of (y ∷ ts) zero x h is = let same : y ≡ x = cc in subst (λ z. TableKnown knows number_of z) same h.0
+  known_table knows number_of (y ∷ ts) (suc j) x h is = known_table knows number_of ts j x h.1 is
+
+  table_there : (ts : List (LoadedTable N)) (j : ℕ) (x : LoadedTable N) → slice_get ts j ≡ Some x → loaded_at ts j ≡ x.cases.items
+  table_there [] j x is = absurd (cc)
+  table_there (y ∷ ts) zero x is = let same : y ≡ x = cc in ap (λ z. z.cases.items) same
+  table_there (y ∷ ts) (suc j) x is = table_there ts j x is
+
+  no_table : (ts : List (LoadedTable N)) (j : ℕ) → slice_get ts j ≡ None → loaded_at ts j ≡ []
+  no_table [] j is = refl
+  no_table (y ∷ ts) zero is = absurd (cc)
+  no_table (y ∷ ts) (suc j) is = no_table ts j is
+
+module _ {W R Y N : Type 0} (S : Space W R Y) (symbol_of : N → Symbol) (w : W) (last p : ℕ) (t : R) (ts : List (LoadedTable N)) (m : Stacks R Y) (table k : ℕ) where
+  pub selects_in : (x : LoadedTable N) (M : Meaning) (n j : ℕ) (phase : Phase R) (m1 : Stacks R Y) → slice_get ts table ≡ Some x → Performs S M (select n (drop k (map (case_meant symbol_of) x.cases.items)) last) j p t w m w phase m1 →
+      Performs S M (select n (cases_meant symbol_of ts table k) last) j p t w m w phase m1
+  selects_in x M n j phase m1 is h = subst (λ cs. Performs S M (select n (drop k (map (case_meant symbol_of) cs)) last) j p t w m w phase m1) (sym (table_there ts table x is)) h
+
+  pub selects_no_table : (M : Meaning) (n j : ℕ) → length ts ≤ table → Performs S M (select n (cases_meant symbol_of ts table k) last) j p t w m w (phases.Running last p t) m
+  selects_no_table M n j is =
+      subst (λ cs. Performs S M (select n (drop k (map (case_meant symbol_of) cs)) last) j p t w m w (phases.Running last p t) m) (sym (no_table ts table (slice_get_past ts table is))) (nothing_left S symbol_of w last p t [] m M n j k (omega arith))
+
+pub known_rest : {N : Type 0} (knows : N → Bool) (cs rest : List (LoadedCase N)) (k : ℕ) → rest ≡ drop k cs → CasesKnown knows cs → CasesKnown knows rest
+known_rest {N} knows cs rest k are h = subst (CasesKnown knows) (sym are) (later cs k h)
+  where
+    later : (xs : List (LoadedCase N)) (i : ℕ) → CasesKnown knows xs → CasesKnown knows (drop i xs)
+    later xs zero h = h
+    later [] (suc i) h = tt
+    later (x ∷ xs) (suc i) h = later xs i h.1

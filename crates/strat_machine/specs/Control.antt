@@ -1,8 +1,10 @@
 -- What came of an instruction of the Rust code.
-use Rattle.std.specs.Prelude.{◌≡◌, ℕ, ◌+◌, Some, List, slice_get}
+use Rattle.std.specs.Prelude.{◌≡◌, ℕ, ◌+◌, Some, List, slice_get, Vec}
+use Rattle.std.specs.declared.alloc.Global.{Global}
 use Rattle.term_model.specs.Flat.{Meaning}
 use Rattle.strat_code.specs.CodeOf.{instr_of, code_of}
 use Rattle.strat_code.specs.Code.{nodes_of}
+use Rattle.strat_code.specs.declared.instr.Case.{Case}
 use Rattle.strat_code.specs.declared.instr.Instr.{Instr}
 use Rattle.strat_code.specs.declared.instr.Instr.TheVariants as forms
 use Rattle.strat_machine.specs.Space.{Space}
@@ -18,7 +20,7 @@ use Rattle.strat_machine.specs.declared.control.Control.TheVariants as controls
 abbrev pub HandlesPattern : Instr → Type 0
 HandlesPattern (forms.Match n p) = Unit {0}
 HandlesPattern (forms.Build n p) = Unit {0}
-HandlesPattern (forms.Select n cs a) = Unit {0}
+HandlesPattern (forms.Select n j k a) = Unit {0}
 HandlesPattern (forms.CallDefinition n h a k to us ps) = Unit {0}
 HandlesPattern (forms.ApplyPrimitive n f ps) = Unit {0}
 HandlesPattern _ = ⊥
@@ -58,9 +60,9 @@ pub record Stays {W R Y : Type 0} (t : R) (w : W) (m : Stacks R Y) (w1 : W) (t1 
   pub space : w1 ≡ w
   pub stacks : m1 ≡ m
 
--- the instruction was performed, or nothing was done
+-- the instruction was performed, whatever tables there are, or nothing was done
 abbrev pub PerformsOr : {W R Y : Type 0} → Space W R Y → Instr → (address here : ℕ) → R → W → Stacks R Y → W → Control R → Stacks R Y → Type 0
-PerformsOr S v i p t w m w1 (controls.Done phase) m1 = (M : Meaning) → Performs S M (instr_of v) i p t w m w1 phase m1
+PerformsOr S v i p t w m w1 (controls.Done phase) m1 = (M : Meaning) (ts : List (Vec Case Global)) → Performs S M (instr_of ts v) i p t w m w1 phase m1
 PerformsOr S v i p t w m w1 (controls.Other t1) m1 = Stays t w m w1 t1 m1
 
 -- this holds of the instruction, if nothing was done
@@ -69,17 +71,17 @@ OfOther P v (controls.Done phase) = Unit {0}
 OfOther P v (controls.Other t) = P v
 
 -- the instruction at the address is another one, and it is paid for
-pub record IsPaid {W R Y : Type 0} (instrs : List Instr) (i : ℕ) (t : R) (w : W) (m : Stacks R Y) (w1 : W) (t1 : R) (m1 : Stacks R Y) : Type 0 where
+pub record IsPaid {W R Y : Type 0} (ts : List (Vec Case Global)) (instrs : List Instr) (i : ℕ) (t : R) (w : W) (m : Stacks R Y) (w1 : W) (t1 : R) (m1 : Stacks R Y) : Type 0 where
   pub instr : Instr
   pub found : slice_get instrs i ≡ Some instr
   pub handles : HandlesPattern instr
-  pub paid : m.left ≡ nodes_of (instr_of instr) + m1.left
+  pub paid : m.left ≡ nodes_of (instr_of ts instr) + m1.left
   pub term : t1 ≡ t
   pub space : w1 ≡ w
   pub stacks : m1 ≡ record m { left = m1.left }
 
 -- the machine has taken a step, or it has paid for one
-abbrev pub StepsOr : {W R Y : Type 0} → Space W R Y → List Instr → (address here : ℕ) → R → W → Stacks R Y → W → Control R → Stacks R Y → Type 0
-StepsOr S instrs i p t w m w1 (controls.Done phase) m1 =
-    (M : Meaning) → StepRef S (code_of instrs) M w (ref_running i p t m.places.slots m.frames m.places.trail m.places.barrier (records_of m.records) m.left) w1 (state_of phase m1)
-StepsOr S instrs i p t w m w1 (controls.Other t1) m1 = IsPaid instrs i t w m w1 t1 m1
+abbrev pub StepsOr : {W R Y : Type 0} → Space W R Y → List (Vec Case Global) → List Instr → (address here : ℕ) → R → W → Stacks R Y → W → Control R → Stacks R Y → Type 0
+StepsOr S ts instrs i p t w m w1 (controls.Done phase) m1 =
+    (M : Meaning) → StepRef S (code_of ts instrs) M w (ref_running i p t m.places.slots m.frames m.places.trail m.places.barrier (records_of m.records) m.left) w1 (state_of phase m1)
+StepsOr S ts instrs i p t w m w1 (controls.Other t1) m1 = IsPaid ts instrs i t w m w1 t1 m1

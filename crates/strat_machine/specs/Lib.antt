@@ -23,3 +23,4 @@ pub mod Loaded
 pub mod Outcomes
 pub mod Running
 pub mod Operands
+pub mod Indexing

@@ -1,19 +1,25 @@
--- What a run knows of each instruction before its first step.
-use Rattle.std.specs.Prelude.{◌≡◌, ℕ, ◌<◌, Bool, IsTrue, Option, Some, None, List, [], ◌∷◌, length, map, Contains, slice_get}
+-- What a run knows of code before its first step.
+use Rattle.std.specs.Prelude.{◌≡◌, ℕ, ◌<◌, Bool, IsTrue, Option, Some, None, List, [], ◌∷◌, length, drop, map, Contains, slice_get, zero, suc, Vec}
+use Rattle.std.specs.declared.alloc.Global.{Global}
 use Rattle.term_model.specs.Symbol.{Symbol}
 use Rattle.term_model.specs.PrimNames.{NameKey, key_at}
 use Rattle.core_lang.specs.declared.coordinate.Coordinate.{Coordinate}
 use Rattle.core_lang.specs.Program.{Pattern}
-use Rattle.core_lang.specs.Roots.{Root, any_root, integer_root, symbol_root, list_root}
+use Rattle.term_model.specs.Term.{Tree}
+use Rattle.core_lang.specs.Roots.{Root, has_root, any_root, integer_root, symbol_root, list_root}
 use Rattle.core_lang.specs.Views.{pattern_of}
 use Rattle.strat_code.specs.Code.{Case, case}
 use Rattle.strat_code.specs.CodeOf.{case_of}
+use Rattle.strat_code.specs.declared.instr.Case as coded
 use Rattle.strat_code.specs.declared.instr.Instr.{Instr}
 use Rattle.strat_code.specs.declared.instr.Instr.TheVariants as forms
 use Rattle.strat_machine.specs.Loaded.{IsLoaded, AreLoaded}
-use Rattle.strat_machine.specs.declared.select.LoadedRoot.{LoadedRoot}
-use Rattle.strat_machine.specs.declared.select.LoadedRoot.TheVariants as roots
-use Rattle.strat_machine.specs.declared.select.LoadedCase.{LoadedCase}
+use Rattle.strat_machine.specs.Indexing.{IsIndexed}
+use Rattle.strat_machine.specs.declared.tables.LoadedRoot.{LoadedRoot}
+use Rattle.strat_machine.specs.declared.tables.LoadedRoot.TheVariants as roots
+use Rattle.strat_machine.specs.declared.tables.LoadedCase.{LoadedCase}
+use Rattle.strat_machine.specs.declared.tables.LoadedTable.{LoadedTable}
+use Rattle.strat_machine.specs.declared.program.LoadedCode.{LoadedCode}
 use Rattle.strat_machine.specs.declared.program.Operands.{Operands}
 use Rattle.strat_machine.specs.declared.program.Operands.TheVariants as operands
 
@@ -27,6 +33,10 @@ root_meant symbol_of (roots.List n o) = list_root n o
 abbrev pub case_meant : {N : Type 0} → (N → Symbol) → LoadedCase N → Case
 case_meant symbol_of c = case (root_meant symbol_of c.root) c.nodes c.body c.otherwise
 
+-- the term has the root of the case
+abbrev pub case_has : {N : Type 0} → (N → Symbol) → Tree → LoadedCase N → Bool
+case_has symbol_of t c = has_root (root_meant symbol_of c.root) t
+
 -- the name in the root is known, if it has one
 abbrev pub RootKnown : {N : Type 0} → (N → Bool) → LoadedRoot N → Type 0
 RootKnown knows roots.Any = Unit {0}
@@ -37,6 +47,25 @@ RootKnown knows (roots.List n o) = Unit {0}
 abbrev pub CasesKnown : {N : Type 0} → (N → Bool) → List (LoadedCase N) → Type 0
 CasesKnown knows [] = Unit {0}
 CasesKnown knows (c ∷ cs) = RootKnown knows c.root × CasesKnown knows cs
+
+-- the names of the cases are known, and what index there is is theirs
+pub record TableKnown {N : Type 0} (knows : N → Bool) (number_of : N → ℕ) (t : LoadedTable N) : Type 0 where
+  pub cases : CasesKnown knows t.cases.items
+  pub index : IsIndexed number_of t
+
+abbrev pub TablesKnown : {N : Type 0} → (N → Bool) → (N → ℕ) → List (LoadedTable N) → Type 0
+TablesKnown knows number_of [] = Unit {0}
+TablesKnown knows number_of (t ∷ ts) = TableKnown knows number_of t × TablesKnown knows number_of ts
+
+-- the cases of a table, if there is one at this position
+abbrev pub loaded_at : {N : Type 0} → List (LoadedTable N) → ℕ → List (LoadedCase N)
+loaded_at [] j = []
+loaded_at (t ∷ ts) zero = t.cases.items
+loaded_at (t ∷ ts) (suc j) = loaded_at ts j
+
+-- what the cases of a table stand for, without its first k ones
+abbrev pub cases_meant : {N : Type 0} → (N → Symbol) → List (LoadedTable N) → (table k : ℕ) → List Case
+cases_meant symbol_of ts j k = drop k (map (case_meant symbol_of) (loaded_at ts j))
 
 -- the primitive of this name with this number of arguments is at this position, or there is none
 abbrev pub IsPosition : List NameKey → Option ℕ → NameKey → Type 0
@@ -53,7 +82,7 @@ module _ {N : Type 0} (knows : N → Bool) (symbol_of : N → Symbol) where
     pub known : CasesKnown knows cs
     pub are : map (case_meant symbol_of) cs ≡ ds
 
-  -- the operands of an instruction that has one pattern, several patterns, a primitive and its arguments, or cases
+  -- the operands of an instruction that has one pattern, several patterns, or a primitive and its arguments
   abbrev pub IsPattern : Operands N → Pattern Coordinate → Type 0
   IsPattern (operands.Pattern p) q = IsLoaded knows symbol_of p q
   IsPattern _ q = ⊥
@@ -66,20 +95,30 @@ module _ {N : Type 0} (knows : N → Bool) (symbol_of : N → Symbol) where
   IsPrimitive keys (operands.Primitive at ps) key qs = IsPosition keys at key × AreLoaded knows symbol_of ps.items qs
   IsPrimitive keys _ key qs = ⊥
 
-  abbrev pub AreCases : Operands N → List Case → Type 0
-  AreCases (operands.Cases cs) ds = AreLoadedCases cs.items ds
-  AreCases _ ds = ⊥
-
   -- the operands are those of the instruction, with primitives of these names
   abbrev pub AreOperandsOf : List NameKey → Operands N → Instr → Type 0
   AreOperandsOf keys o (forms.Match n p) = IsPattern o (pattern_of p)
   AreOperandsOf keys o (forms.Build n p) = IsPattern o (pattern_of p)
-  AreOperandsOf keys o (forms.Select n cs a) = AreCases o (map case_of cs.items)
   AreOperandsOf keys o (forms.CallDefinition n h a k to us ps) = ArePatterns o (map pattern_of ps.items)
   AreOperandsOf keys o (forms.ApplyPrimitive n f ps) = IsPrimitive keys o (f.items, length ps.items) (map pattern_of ps.items)
   AreOperandsOf keys o _ = Unit {0}
 
   -- the operands of each instruction, address by address
-  pub record IsLoadedCode (keys : List NameKey) (os : List (Operands N)) (vs : List Instr) : Type 0 where
+  pub record AreOperands (keys : List NameKey) (os : List (Operands N)) (vs : List Instr) : Type 0 where
     pub long : length os ≡ length vs
     pub each : (i : ℕ) (o : Operands N) (v : Instr) → slice_get os i ≡ Some o → slice_get vs i ≡ Some v → AreOperandsOf keys o v
+
+  module _ (number_of : N → ℕ) where
+    pub record IsLoadedTable (t : LoadedTable N) (ds : List Case) : Type 0 where
+      pub cases : AreLoadedCases t.cases.items ds
+      pub index : IsIndexed number_of t
+
+    abbrev pub AreLoadedTables : List (LoadedTable N) → List (Vec coded.Case Global) → Type 0
+    AreLoadedTables [] [] = Unit {0}
+    AreLoadedTables (t ∷ ts) (u ∷ us) = IsLoadedTable t (map case_of u.items) × AreLoadedTables ts us
+    AreLoadedTables [] (u ∷ us) = ⊥
+    AreLoadedTables (t ∷ ts) [] = ⊥
+
+    pub record IsLoadedCode (keys : List NameKey) (l : LoadedCode N) (ts : List (Vec coded.Case Global)) (vs : List Instr) : Type 0 where
+      pub operands : AreOperands keys l.operands.items vs
+      pub tables : AreLoadedTables l.tables.items ts

@@ -1,5 +1,7 @@
 // The instruction at an address: it is looked up, paid for and performed.
-ghost use Rattle.std.specs.Prelude.{◌≡◌, IfOk, IsTrue, map};
+ghost use Rattle.std.specs.Prelude.{◌≡◌, IfOk, IsTrue, List, Vec, map};
+ghost use Rattle.std.specs.declared.alloc.Global.{Global};
+ghost use Rattle.strat_code.specs.declared.instr.Case.{Case};
 ghost use Rattle.term_model.specs.Space.{Keeps};
 ghost use Rattle.strat_code.specs.Code.{nodes_of};
 ghost use Rattle.strat_code.specs.CodeOf.{instr_of};
@@ -44,7 +46,7 @@ pub(crate) fn step<S: TermSpace>(
     requires counted { StateCounted (state_tree (S.term_of space.old) (state_of phase stacks.old)) }
     ensures names { KeepsNames S.knows S.symbol_of space.old space.new }
     ensures lasting { (r : S.Ref) → Lasts (space_of S.stands S.term_of S.is_valid S.covers S.covers_mark) r space.old (state_of phase stacks.old) → IsTrue (S.stands space.new r) × (S.term_of space.new r ≡ S.term_of space.old r) }
-    ensures step { IfOk result (λ s. StepsFrom (space_of S.stands S.term_of S.is_valid S.covers S.covers_mark) code.now.instrs phase space.old stacks.old space.new s stacks.new) }
+    ensures step { IfOk result (λ s. StepsFrom (space_of S.stands S.term_of S.is_valid S.covers S.covers_mark) code.now.tables code.now.instrs phase space.old stacks.old space.new s stacks.new) }
 {
     match phase {
         Phase::Running {
@@ -82,7 +84,7 @@ pub(crate) fn step_control<S: TermSpace>(
     requires safe { IsSafe (space_of S.stands S.term_of S.is_valid S.covers S.covers_mark) space.old stacks.old (records_of stacks.old.records) }
     requires counted { AllCounted (map (record_tree (S.term_of space.old)) (records_of stacks.old.records)) }
     ensures keeps { Keeps S.stands S.term_of S.is_valid S.knows S.symbol_of space.old space.new }
-    ensures step { IfOk result (λ c. StepsOr (space_of S.stands S.term_of S.is_valid S.covers S.covers_mark) code.now.instrs address frame term space.old stacks.old space.new c stacks.new) }
+    ensures step { IfOk result (λ c. StepsOr (space_of S.stands S.term_of S.is_valid S.covers S.covers_mark) code.now.tables code.now.instrs address frame term space.old stacks.old space.new c stacks.new) }
 {
     if address >= code.len() {
         return Ok(Control::Done(Phase::Stopped(Stop::Stuck)));
@@ -99,7 +101,7 @@ pub(crate) fn step_control<S: TermSpace>(
 
 // The nodes that an instruction is charged.
 fn nodes(instr: &Instr) -> usize
-    ensures { result ≡ nodes_of (instr_of instr.now) }
+    ensures { (tables : List (Vec Case Global)) → result ≡ nodes_of (instr_of tables instr.now) }
 {
     match instr {
         Instr::Count { nodes } => *nodes,

@@ -99,9 +99,9 @@ impl<S: TermSpace + Drop> Machine<S> {
         requires honest { IsHonest M.answer registry.now }
         requires covers { Covers registry.now code.now.prims }
         ensures run { IfOk result (λ run. (P : Definitions Name (List Name)) (main : Name) (C : ResolvedDefinitions) (i : ℕ) →
-            StandsFor (code_of code.now.instrs) C i → AreOccurring code.now.prims C → ResolvesProgram P main C i →
+            StandsFor (code_of code.now.tables code.now.instrs) C i → AreOccurring code.now.prims C → ResolvesProgram P main C i →
             IsOutcome M.answer P main (S.term_of self.old term) budget (outcome_tree (S.term_of self.new) run.outcome) run.rules) }
-        ensures steps { IfOk result (λ run. Ran (space_of S.stands S.term_of S.is_valid S.covers S.covers_mark) (code_of code.now.instrs) (meaning_of M.answer registry.now) self.old term budget self.new run) }
+        ensures steps { IfOk result (λ run. Ran (space_of S.stands S.term_of S.is_valid S.covers S.covers_mark) (code_of code.now.tables code.now.instrs) (meaning_of M.answer registry.now) self.old term budget self.new run) }
         ensures few { IfOk result (λ run. run.steps ≤ 10 * run.rules + 10) }
         ensures stands { IfOk result (λ run. OutcomeStands (λ r. IsTrue (S.stands self.new r)) run.outcome) }
         ensures kept { (r : S.Ref) → IsTrue (S.stands self.old r) → IsTrue (S.stands self.new r) × (S.term_of self.new r ≡ S.term_of self.old r) }
@@ -109,13 +109,13 @@ impl<S: TermSpace + Drop> Machine<S> {
         ensures fault { IfErr result (λ fault. fault ≡ Fault.Memory) }
     {
         let space = &mut self.space;
-        let operands = load_code(space, self.alloc, code, registry)?;
+        let loaded = load_code(space, self.alloc, code, registry)?;
         let run = run_code(
             space,
             self.alloc,
             &mut self.stacks,
             code,
-            &operands,
+            &loaded,
             registry,
             term,
             budget,

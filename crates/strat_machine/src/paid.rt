@@ -13,7 +13,7 @@ ghost use Rattle.strat_machine.specs.Stacks.{Performs, IsSafe};
 use crate::calls::Callee;
 use crate::patterns::{perform_build, perform_call, perform_match};
 use crate::primitives::perform_primitive;
-use crate::program::Operands;
+use crate::program::{LoadedCode, Operands};
 use crate::select::perform_select;
 use crate::stacks::{Phase, Stacks};
 use prim_registry::{PrimMeaning, Registry};
@@ -28,7 +28,7 @@ pub(crate) fn perform_paid<S: TermSpace, M: PrimMeaning>(
     alloc: Global,
     stacks: &mut Stacks<S::Ref, S::Mark>,
     code: &Code,
-    operands: &[Operands<S::Name>],
+    loaded: &LoadedCode<S::Name>,
     registry: &Registry<M>,
     address: usize,
     frame: usize,
@@ -36,17 +36,17 @@ pub(crate) fn perform_paid<S: TermSpace, M: PrimMeaning>(
     stack: &mut Vec<S::Ref>,
 ) -> Result<Phase<S::Ref>, AllocError>
     requires honest { IsHonest M.answer registry.now }
-    requires loaded { IsLoadedCode (S.knows space.old) (S.symbol_of space.old) (entries_of registry.now) operands.now code.now.instrs }
+    requires loaded { IsLoadedCode (S.knows space.old) (S.symbol_of space.old) S.number_of (entries_of registry.now) loaded.now code.now.tables code.now.instrs }
     requires found { HasPatternAt code.now.instrs address }
     requires stands { IsTrue (S.stands space.old term) }
     requires safe { IsSafe (space_of S.stands S.term_of S.is_valid S.covers S.covers_mark) space.old stacks.old (records_of stacks.old.records) }
     ensures keeps { Keeps S.stands S.term_of S.is_valid S.knows S.symbol_of space.old space.new }
     ensures stack { IfOk result (λ _. stack.new.items ≡ stack.old.items) }
-    ensures step { IfOk result (λ phase. (v : _) → slice_get code.now.instrs address ≡ Some v → Performs (space_of S.stands S.term_of S.is_valid S.covers S.covers_mark) (meaning_of M.answer registry.now) (instr_of v) address frame term space.old stacks.old space.new phase stacks.new) }
+    ensures step { IfOk result (λ phase. (v : _) → slice_get code.now.instrs address ≡ Some v → Performs (space_of S.stands S.term_of S.is_valid S.covers S.covers_mark) (meaning_of M.answer registry.now) (instr_of code.now.tables v) address frame term space.old stacks.old space.new phase stacks.new) }
 {
     let instr = code.at(address);
     let next = address + 1;
-    match (instr, &operands[address]) {
+    match (instr, &loaded.operands[address]) {
         (Instr::Match { .. }, Operands::Pattern(pattern)) => {
             let phase = perform_match(space, alloc, stacks, pattern, next, frame, term)?;
             Ok(phase)
@@ -55,8 +55,19 @@ pub(crate) fn perform_paid<S: TermSpace, M: PrimMeaning>(
             let phase = perform_build(space, alloc, stacks, pattern, next, frame, term, stack)?;
             Ok(phase)
         }
-        (Instr::Select { last, .. }, Operands::Cases(cases)) => {
-            let phase = perform_select(space, stacks, cases, *last, frame, term)?;
+        (
+            Instr::Select {
+                table,
+                skipped,
+                last,
+                ..
+            },
+            _,
+        ) => {
+            let tables = loaded.tables.as_slice();
+            let phase = perform_select(
+                space, stacks, tables, *table, *skipped, *last, frame, term,
+            )?;
             Ok(phase)
         }
         (

@@ -17,7 +17,7 @@ ghost use Rattle.strat_machine.specs.Traversing.{StateCounted};
 
 use crate::instructions::{Stepped, step};
 use crate::paid::perform_paid;
-use crate::program::Operands;
+use crate::program::LoadedCode;
 use crate::stacks::{Phase, Stacks, Stop};
 use core_lang::{Outcome, Run};
 use prim_registry::{PrimMeaning, Registry};
@@ -31,7 +31,7 @@ pub(crate) fn run_code<S: TermSpace, M: PrimMeaning>(
     alloc: Global,
     stacks: &mut Stacks<S::Ref, S::Mark>,
     code: &Code,
-    operands: &[Operands<S::Name>],
+    loaded: &LoadedCode<S::Name>,
     registry: &Registry<M>,
     term: S::Ref,
     budget: u32,
@@ -39,8 +39,8 @@ pub(crate) fn run_code<S: TermSpace, M: PrimMeaning>(
     requires clear { IsClear stacks.old }
     requires stands { IsTrue (S.stands space.old term) }
     requires honest { IsHonest M.answer registry.now }
-    requires loaded { IsLoadedCode (S.knows space.old) (S.symbol_of space.old) (entries_of registry.now) operands.now code.now.instrs }
-    ensures steps { IfOk result (λ run. StepsRef (space_of S.stands S.term_of S.is_valid S.covers S.covers_mark) (code_of code.now.instrs) (meaning_of M.answer registry.now) run.steps space.old (start_ref term budget) space.new (end_ref run.outcome stacks.new.left)) }
+    requires loaded { IsLoadedCode (S.knows space.old) (S.symbol_of space.old) S.number_of (entries_of registry.now) loaded.now code.now.tables code.now.instrs }
+    ensures steps { IfOk result (λ run. StepsRef (space_of S.stands S.term_of S.is_valid S.covers S.covers_mark) (code_of code.now.tables code.now.instrs) (meaning_of M.answer registry.now) run.steps space.old (start_ref term budget) space.new (end_ref run.outcome stacks.new.left)) }
     ensures rules { IfOk result (λ run. run.rules ≡ rules_of run.outcome budget stacks.new.left) }
     ensures few { IfOk result (λ run. run.steps ≤ 10 * run.rules + 10) }
     ensures stands { IfOk result (λ run. OutcomeStands (λ r. IsTrue (S.stands space.new r)) run.outcome) }
@@ -63,7 +63,7 @@ pub(crate) fn run_code<S: TermSpace, M: PrimMeaning>(
             alloc,
             stacks,
             code,
-            operands,
+            loaded,
             registry,
             phase,
             &mut arguments,
@@ -85,7 +85,7 @@ fn take_step<S: TermSpace, M: PrimMeaning>(
     alloc: Global,
     stacks: &mut Stacks<S::Ref, S::Mark>,
     code: &Code,
-    operands: &[Operands<S::Name>],
+    loaded: &LoadedCode<S::Name>,
     registry: &Registry<M>,
     phase: Phase<S::Ref>,
     arguments: &mut Vec<S::Ref>,
@@ -94,10 +94,10 @@ fn take_step<S: TermSpace, M: PrimMeaning>(
     requires holds { Holds (space_of S.stands S.term_of S.is_valid S.covers S.covers_mark) space.old (state_of phase stacks.old) }
     requires counted { StateCounted (state_tree (S.term_of space.old) (state_of phase stacks.old)) }
     requires honest { IsHonest M.answer registry.now }
-    requires loaded { IsLoadedCode (S.knows space.old) (S.symbol_of space.old) (entries_of registry.now) operands.now code.now.instrs }
+    requires loaded { IsLoadedCode (S.knows space.old) (S.symbol_of space.old) S.number_of (entries_of registry.now) loaded.now code.now.tables code.now.instrs }
     ensures names { KeepsNames S.knows S.symbol_of space.old space.new }
     ensures lasting { (r : S.Ref) → Lasts (space_of S.stands S.term_of S.is_valid S.covers S.covers_mark) r space.old (state_of phase stacks.old) → IsTrue (S.stands space.new r) × (S.term_of space.new r ≡ S.term_of space.old r) }
-    ensures step { IfOk result (λ next. StepRef (space_of S.stands S.term_of S.is_valid S.covers S.covers_mark) (code_of code.now.instrs) (meaning_of M.answer registry.now) space.old (state_of phase stacks.old) space.new (state_of next stacks.new)) }
+    ensures step { IfOk result (λ next. StepRef (space_of S.stands S.term_of S.is_valid S.covers S.covers_mark) (code_of code.now.tables code.now.instrs) (meaning_of M.answer registry.now) space.old (state_of phase stacks.old) space.new (state_of next stacks.new)) }
 {
     match step(space, alloc, stacks, code, phase)? {
         Stepped::Done(next) => Ok(next),
@@ -107,7 +107,7 @@ fn take_step<S: TermSpace, M: PrimMeaning>(
             term,
         } => {
             let next = perform_paid(
-                space, alloc, stacks, code, operands, registry, address, frame, term, arguments,
+                space, alloc, stacks, code, loaded, registry, address, frame, term, arguments,
             )?;
             Ok(next)
         }

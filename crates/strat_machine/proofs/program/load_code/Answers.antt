@@ -1,13 +1,7 @@
-use Rattle.prim_registry.specs.Entries.{entries_of}
-use Rattle.strat_machine.proofs.SpaceLaws.{keeps_then}
-use Rattle.strat_machine.proofs.OperandLaws.{loaded_code_later, one_more_operand}
+use Rattle.strat_machine.proofs.OperandLaws.{code_loaded}
 use Rattle.strat_machine.proofs.program.load_code.Goals as goal
 
-pub loop-instr-preserved : goal.loop-instr-preserved
-loop-instr-preserved g c =
-    let keeps = c.in_ok-load_operands.ensures.keeps in
-    let so_far = c.loop-instr.invariant in (
-      keeps_then so_far.0 keeps,
-      one_more_operand (entries_of c.args.registry.now) c.loop-instr.loaded.items c.push.new.self.items c.in_ok-load_operands.field-0 c.instrs-instr-items.result.now c.loop-instr.instr-index c.instr-item.result (loaded_code_later keeps.known keeps.symbols so_far.1)
-          c.in_ok-load_operands.ensures.loaded c.loop-instr-test.true c.instr-item.is c.in_ok-push.ensures.items,
-    )
+pub returns-clause-loaded : goal.returns-clause-loaded
+returns-clause-loaded g c =
+    let keeps = c.in_ok-operands.ensures.keeps in
+    code_loaded keeps.known keeps.symbols (record { operands = c.in_ok-operands.operands; tables = c.in_ok-tables.tables }) c.tables.ensures c.instrs.ensures.same c.in_ok-tables.ensures.loaded c.in_ok-operands.ensures.loaded

@@ -10,7 +10,7 @@ use Rattle.strat_machine.proofs.running.run_code.Goals as goal
 pub loop-alloc-init : goal.loop-alloc-init
 loop-alloc-init g c =
     let s = g.S.TermSpace in
-    started (space_of s.stands s.term_of s.is_valid s.covers s.covers_mark) s.knows s.symbol_of (code_of c.args.code.now.instrs) (meaning_of g.M.PrimMeaning.answer c.args.registry.now) c.args.space.now c.args.term c.args.budget c.args.stacks.now c.requires.clear
+    started (space_of s.stands s.term_of s.is_valid s.covers s.covers_mark) s.knows s.symbol_of (code_of c.args.code.now.tables c.args.code.now.instrs) (meaning_of g.M.PrimMeaning.answer c.args.registry.now) c.args.space.now c.args.term c.args.budget c.args.stacks.now c.requires.clear
 
 pub take_step-requires-clause-holds : goal.take_step-requires-clause-holds
 take_step-requires-clause-holds g c = way_holds c.loop-alloc.invariant c.requires.stands

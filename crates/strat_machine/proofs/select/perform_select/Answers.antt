@@ -1,31 +1,21 @@
-use Rattle.std.proofs.Common.{refl}
+use Rattle.std.proofs.Common.{length, refl}
+use Rattle.std.proofs.lemmas.Option.{slice_get_read}
 use Rattle.strat_machine.specs.SpaceOf.{space_of}
-use Rattle.strat_machine.proofs.SelectingLaws.{case_known, not_has, selects_case, spent_at_case, passes_case, passed_all}
+use Rattle.strat_machine.proofs.SelectingLaws.{known_table, selects_in, selects_no_table}
 use Rattle.strat_machine.proofs.select.perform_select.Goals as goal
 
-pub has_root-requires-clause-known : goal.has_root-requires-clause-known
-has_root-requires-clause-known g c = case_known (g.S.TermSpace.knows c.args.space.now) c.args.cases.now c.loop-case.case-index c.case-item.result c.requires.known c.loop-case-test.true c.case-item.is
-
-pub returns-then-has_root : goal.returns-then-has_root
-returns-then-has_root g c = λ M n i.
+pub returns-in-None : goal.returns-in-None
+returns-in-None g c = λ M n i.
     let s = g.S.TermSpace in
-    selects_case (space_of s.stands s.term_of s.is_valid s.covers s.covers_mark) (s.symbol_of c.args.space.now) c.args.space.now c.args.last c.args.frame c.args.term c.args.cases.now c.args.stacks.now c.loop-case.case-index c.loop-case.stacks
-    c.loop-case.invariant c.case-item.result c.loop-case-test.true c.case-item.is M n i c.in_ok-phase.phase c.put_choice.new.stacks (c.has_root.ensures.0 c.if-has_root.true) c.in_ok-phase.ensures
+    selects_no_table (space_of s.stands s.term_of s.is_valid s.covers s.covers_mark) (s.symbol_of c.args.space.now) c.args.space.now c.args.last c.args.frame c.args.term c.args.tables.now c.args.stacks.now c.args.table c.args.skipped M n i c.in-None.ensures.lookup.3
 
-pub returns-then-stacks-case : goal.returns-then-stacks-case
-returns-then-stacks-case g c = λ M n i.
+pub select_in-requires-clause-known : goal.select_in-requires-clause-known
+select_in-requires-clause-known g c =
     let s = g.S.TermSpace in
-    spent_at_case (space_of s.stands s.term_of s.is_valid s.covers s.covers_mark) (s.symbol_of c.args.space.now) c.args.space.now c.args.last c.args.frame c.args.term c.args.cases.now c.args.stacks.now c.loop-case.case-index c.loop-case.stacks
-    c.loop-case.invariant c.case-item.result c.loop-case-test.true c.case-item.is M n i (not_has _ _ c.has_root.ensures c.if-has_root.false) c.if-stacks-case.true
+    known_table (s.knows c.args.space.now) s.number_of c.args.tables.now c.args.table c.in-Some.found.now c.requires.known (slice_get_read c.args.tables.now (length c.args.tables.now) c.args.table c.in-Some.found.now refl c.in-Some.ensures.lookup.3.0 c.in-Some.ensures.lookup.1)
 
-pub loop-case-preserved : goal.loop-case-preserved
-loop-case-preserved g c =
+pub returns-in_ok-phase-in-Some : goal.returns-in_ok-phase-in-Some
+returns-in_ok-phase-in-Some g c = λ M n i.
     let s = g.S.TermSpace in
-    passes_case (space_of s.stands s.term_of s.is_valid s.covers s.covers_mark) (s.symbol_of c.args.space.now) c.args.space.now c.args.last c.args.frame c.args.term c.args.cases.now c.args.stacks.now c.loop-case.case-index c.loop-case.stacks
-    c.loop-case.invariant c.case-item.result c.loop-case-test.true c.case-item.is _ (not_has _ _ c.has_root.ensures c.if-has_root.false) c.if-stacks-case.false refl
-
-pub returns : goal.returns
-returns g c = λ M n i.
-    let s = g.S.TermSpace in
-    passed_all (space_of s.stands s.term_of s.is_valid s.covers s.covers_mark) (s.symbol_of c.args.space.now) c.args.space.now c.args.last c.args.frame c.args.term c.args.cases.now c.args.stacks.now c.loop-case.case-index c.loop-case.stacks
-    c.loop-case.invariant M n i c.loop-case-test.false
+    selects_in (space_of s.stands s.term_of s.is_valid s.covers s.covers_mark) (s.symbol_of c.args.space.now) c.args.space.now c.args.last c.args.frame c.args.term c.args.tables.now c.args.stacks.now c.args.table c.args.skipped c.in-Some.found.now M n i c.in_ok-phase-in-Some.phase c.select_in.new.stacks
+    (slice_get_read c.args.tables.now (length c.args.tables.now) c.args.table c.in-Some.found.now refl c.in-Some.ensures.lookup.3.0 c.in-Some.ensures.lookup.1) (c.in_ok-phase-in-Some.ensures M n i)

@@ -6,7 +6,7 @@ use Rattle.strat_machine.proofs.machine.Machine.run.Goals as goal
 pub returns-clause-run : goal.returns-clause-run
 returns-clause-run g c = λ P main C i stands occurring resolved.
     let s = g.S.TermSpace in
-    let keeps = keeps_from s.stands s.term_of s.is_valid s.knows s.symbol_of c.self.view_is c.in_ok-operands.ensures.keeps in
+    let keeps = keeps_from s.stands s.term_of s.is_valid s.knows s.symbol_of c.self.view_is c.in_ok-loaded.ensures.keeps in
     let h = c.in_ok-run.ensures in
     same_outcome g.M.PrimMeaning.answer P main c.args.budget _ (keeps.terms c.args.term c.requires.stands) h.rules
     (registered_says (entries_of c.args.registry.now) c.args.code.now.prims g.M.PrimMeaning.answer occurring c.requires.covers resolved stands c.run_code-run.new.stacks.left (keeps.standing c.args.term c.requires.stands) c.in_ok-run.field-0.outcome h.steps)
@@ -14,15 +14,15 @@ returns-clause-run g c = λ P main C i stands occurring resolved.
 pub returns-clause-steps : goal.returns-clause-steps
 returns-clause-steps g c =
     let s = g.S.TermSpace in
-    let keeps = keeps_from s.stands s.term_of s.is_valid s.knows s.symbol_of c.self.view_is c.in_ok-operands.ensures.keeps in
+    let keeps = keeps_from s.stands s.term_of s.is_valid s.knows s.symbol_of c.self.view_is c.in_ok-loaded.ensures.keeps in
     ran keeps s.covers s.covers_mark c.run_code-run.new.stacks.left c.in_ok-run.field-0 c.in_ok-run.ensures.steps
 
 pub returns-clause-kept : goal.returns-clause-kept
 returns-clause-kept g c =
     let s = g.S.TermSpace in
-    kept_then (keeps_from s.stands s.term_of s.is_valid s.knows s.symbol_of c.self.view_is c.in_ok-operands.ensures.keeps) c.in_ok-run.ensures.kept
+    kept_then (keeps_from s.stands s.term_of s.is_valid s.knows s.symbol_of c.self.view_is c.in_ok-loaded.ensures.keeps) c.in_ok-run.ensures.kept
 
 pub returns-clause-names : goal.returns-clause-names
 returns-clause-names g c =
     let s = g.S.TermSpace in
-    names_kept (keeps_from s.stands s.term_of s.is_valid s.knows s.symbol_of c.self.view_is c.in_ok-operands.ensures.keeps) c.in_ok-run.ensures.names
+    names_kept (keeps_from s.stands s.term_of s.is_valid s.knows s.symbol_of c.self.view_is c.in_ok-loaded.ensures.keeps) c.in_ok-run.ensures.names

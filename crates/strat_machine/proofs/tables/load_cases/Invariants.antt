@@ -2,7 +2,7 @@ use Rattle.std.proofs.Common.{map, take}
 use Rattle.term_model.specs.Space.{Keeps}
 use Rattle.strat_code.specs.CodeOf.{case_of}
 use Rattle.strat_machine.specs.Operands.{AreLoadedCases}
-use Rattle.strat_machine.proofs.select.load_cases.Given as goal
+use Rattle.strat_machine.proofs.tables.load_cases.Given as goal
 
 abbrev pub invariant-loop-case : goal.invariant-loop-case
 invariant-loop-case g l =

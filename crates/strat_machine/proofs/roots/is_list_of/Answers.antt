@@ -1,6 +1,6 @@
 use Rattle.std.proofs.Common.{refl}
 use Rattle.strat_machine.proofs.SelectingLaws.{is_list_root, is_open_list_root}
-use Rattle.strat_machine.proofs.select.is_list_of.Goals as goal
+use Rattle.strat_machine.proofs.roots.is_list_of.Goals as goal
 
 pub returns-then-is_open : goal.returns-then-is_open
 returns-then-is_open g c = is_open_list_root (g.S.TermSpace.term_of c.args.space.now c.args.at.now) _ c.args.count c.args.is_open c.in-Some.len c.if-is_open.true c.in-Some.ensures refl

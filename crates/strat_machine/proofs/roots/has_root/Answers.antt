@@ -1,7 +1,7 @@
 use Rattle.std.proofs.Common.{ap}
 use Rattle.strat_machine.specs.Operands.{root_meant}
 use Rattle.strat_machine.proofs.SelectingLaws.{is_symbol_root}
-use Rattle.strat_machine.proofs.select.has_root.Goals as goal
+use Rattle.strat_machine.proofs.roots.has_root.Goals as goal
 
 pub returns-in-Symbol : goal.returns-in-Symbol
 returns-in-Symbol g c =

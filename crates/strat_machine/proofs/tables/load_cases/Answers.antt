@@ -1,6 +1,6 @@
 use Rattle.strat_machine.proofs.SpaceLaws.{keeps_then}
 use Rattle.strat_machine.proofs.OperandLaws.{cases_later, one_more_case}
-use Rattle.strat_machine.proofs.select.load_cases.Goals as goal
+use Rattle.strat_machine.proofs.tables.load_cases.Goals as goal
 
 pub loop-case-preserved : goal.loop-case-preserved
 loop-case-preserved g c =

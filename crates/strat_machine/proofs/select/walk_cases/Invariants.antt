@@ -1,6 +1,6 @@
 use Rattle.strat_machine.specs.SpaceOf.{space_of}
 use Rattle.strat_machine.proofs.SelectingLaws.{Passed}
-use Rattle.strat_machine.proofs.select.perform_select.Given as goal
+use Rattle.strat_machine.proofs.select.walk_cases.Given as goal
 
 abbrev pub invariant-loop-case : goal.invariant-loop-case
 invariant-loop-case g l =
