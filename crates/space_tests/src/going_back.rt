@@ -1,5 +1,5 @@
 // Runs of the machine that go back, over a store that counts it; what is expected was worked out by hand.
-ghost use Rattle.std.specs.Prelude.{◌≡◌, All, map, IsTrue, IfOk};
+ghost use Rattle.std.specs.Prelude.{◌≡◌, All, map, IsTrue, IfOk, Some};
 ghost use Rattle.term_model.specs.Term.{term};
 ghost use Rattle.term_model.specs.Space.{Keeps, Makes, MayHave};
 
@@ -9,7 +9,6 @@ use aterm_text::{read_term, write_term};
 use core_lang::Outcome;
 use prim_registry::{Registry, Standard};
 use std::alloc::{AllocError, Global};
-use std::cmp::Ordering;
 use std::hash::BuildHasherDefault;
 use std::test::Fail;
 use strat_code::Code;
@@ -66,6 +65,8 @@ impl<S: TermSpace + Drop> TermSpace for Counting<S> {
 
     ghost symbol_of = { λ c n. S.symbol_of c.space n };
 
+    ghost number_of = { λ n. S.number_of n };
+
     fn fits(&self, at: &S::Ref) {
         self.space.fits(at);
     }
@@ -98,8 +99,12 @@ impl<S: TermSpace + Drop> TermSpace for Counting<S> {
         self.space.is_app(at, name, count)
     }
 
-    fn order(&self, at: &S::Ref, name: &S::Name, count: usize) -> Ordering {
-        self.space.order(at, name, count)
+    fn number(&self, name: &S::Name) -> usize {
+        self.space.number(name)
+    }
+
+    fn root_number(&self, at: &S::Ref) -> Option<usize> {
+        self.space.root_number(at)
     }
 
     fn count(&self, at: &S::Ref) -> usize {

@@ -9,6 +9,8 @@ mod going_back;
 #[cfg(test)]
 mod growth;
 #[cfg(test)]
+mod selecting;
+#[cfg(test)]
 mod single_calls;
 #[cfg(test)]
 mod spaces;

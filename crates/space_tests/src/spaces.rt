@@ -5,7 +5,6 @@ ghost use Rattle.term_model.specs.declared.term.Head.TheVariants as heads;
 
 use aterm_text::{read_term, write_term};
 use std::alloc::{AllocError, Global};
-use std::cmp::Ordering;
 use std::hash::BuildHasherDefault;
 use std::test::Fail;
 use term_model::{Block, Front, Head, Made, Parts, RcSpace, Sym, Term, TermSpace, Top};
@@ -132,27 +131,28 @@ fn second<S: TermSpace>(
     Ok(Some((space.int_of(&part), term)))
 }
 
-// Where the symbol over two parts stands, seen from the other one over one, two and three, and whether it is the other
-// one over two.
-fn orders<S: TermSpace>(
+// Whether the numbers of the symbol and of a term with it are one, and whether the term is the symbol over two parts alone.
+fn is_numbered<S: TermSpace>(
     alloc: Global,
     space: &mut S,
     symbol: &Sym,
-    other: &Sym,
-) -> Result<Option<([Ordering; 3], bool)>, AllocError> {
+) -> Result<bool, AllocError> {
     let mut parts = Vec::new(alloc);
     parts.push(space.int(alloc, 1)?)?;
     parts.push(space.int(alloc, 2)?)?;
     let head = Head::App(symbol.clone()?);
     let Made::Fits(at) = space.make(alloc, head, parts, Vec::new(alloc))? else {
-        return Ok(None);
+        return Ok(false);
     };
-    let name = space.name(alloc, other)?;
-    let from_one = space.order(&at, &name, 1);
-    let from_two = space.order(&at, &name, 2);
-    let from_three = space.order(&at, &name, 3);
-    let is_it = space.is_app(&at, &name, 2);
-    Ok(Some(([from_one, from_two, from_three], is_it)))
+    let name = space.name(alloc, symbol)?;
+    let is_two = space.is_app(&at, &name, 2) && !space.is_app(&at, &name, 3);
+    Ok(is_two && space.root_number(&at) == Some(space.number(&name)))
+}
+
+// Whether the term has a number.
+fn has_number<S: TermSpace>(alloc: Global, space: &mut S, from: &Term) -> Result<bool, AllocError> {
+    let at = space.enter(alloc, from)?;
+    Ok(space.root_number(&at).is_some())
 }
 
 // The term that `built` makes, by the makers of terms.
@@ -232,24 +232,23 @@ fn run_takers<S: TermSpace>(alloc: Global, space: &mut S) -> Result<(), Fail> {
     Ok(())
 }
 
-// Compares the order of the roots of symbols, which come into the space in their order.
-fn run_orders<S: TermSpace>(alloc: Global, space: &mut S) -> Result<(), Fail> {
+// Looks at the numbers of roots.
+fn run_numbers<S: TermSpace>(alloc: Global, space: &mut S) -> Result<(), Fail> {
     let symbols = [
         Sym::named(alloc, b"F")?,
         Sym::named(alloc, b"FG")?,
         Sym::quoted(alloc, b"")?,
         Sym::tuple(),
     ];
-    for (i, symbol) in symbols.iter().enumerate() {
-        for (k, other) in symbols.iter().enumerate() {
-            let wanted = if i == k {
-                [Ordering::Greater, Ordering::Equal, Ordering::Less]
-            } else {
-                [i.cmp(&k); 3]
-            };
-            if orders(alloc, space, symbol, other)? != Some((wanted, i == k)) {
-                return Err(Fail::new("another order"));
-            }
+    for symbol in symbols.iter() {
+        if !is_numbered(alloc, space, symbol)? {
+            return Err(Fail::new("another number"));
+        }
+    }
+    let texts: [(&[u8], bool); 3] = [(b"7{F}", false), (b"[F,F]", false), (b"F{7}", true)];
+    for (text, is_symbol) in texts {
+        if has_number(alloc, space, &read_term(alloc, text)?)? != is_symbol {
+            return Err(Fail::new("only symbols have numbers"));
         }
     }
     Ok(())
@@ -259,7 +258,7 @@ fn run_orders<S: TermSpace>(alloc: Global, space: &mut S) -> Result<(), Fail> {
 fn terms_themselves(rt: HostRuntime) -> Result<(), Fail> {
     let alloc = rt.alloc();
     let mut space = RcSpace;
-    run_orders(alloc, &mut space)?;
+    run_numbers(alloc, &mut space)?;
     run_makers(alloc, &mut space)?;
     run_changes(alloc, &mut space)?;
     run_takers(alloc, &mut space)
@@ -269,7 +268,7 @@ fn terms_themselves(rt: HostRuntime) -> Result<(), Fail> {
 fn stored_terms(rt: HostRuntime) -> Result<(), Fail> {
     let alloc = rt.alloc();
     let mut space = store(alloc);
-    run_orders(alloc, &mut space)?;
+    run_numbers(alloc, &mut space)?;
     run_makers(alloc, &mut space)?;
     run_changes(alloc, &mut space)?;
     run_takers(alloc, &mut space)

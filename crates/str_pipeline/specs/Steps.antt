@@ -38,7 +38,7 @@ IsStop fault = IsReadingFault fault ⊎ IsRefusal fault
 pub record IsCodeOf (S : Setting) (f : FileTree) (code : CodeParts) : Type 0 where
   pub core : ResolvedDefinitions
   pub main : ℕ
-  pub stands : StandsFor (code_of code.instrs) core main
+  pub stands : StandsFor (code_of code.tables code.instrs) core main
   pub occurring : AreOccurring code.prims core
   pub resolved : ResolvesProgram (program_of_file f) (written S.options.main.items) core main
 
@@ -65,7 +65,7 @@ IsTermRead strict ds text (Err fault) = IsReading text (Err fault)
 
 -- the outcome is that of each program that the code stands for
 pub record IsOutcomeOf (M : Meaning) (code : CodeParts) (t : Tree) (budget : ℕ) (outcome : Outcome Tree) : Type 0 where
-  pub each : (P : Definitions Name (List Name)) (main : Name) (C : ResolvedDefinitions) (i : ℕ) → StandsFor (code_of code.instrs) C i →
+  pub each : (P : Definitions Name (List Name)) (main : Name) (C : ResolvedDefinitions) (i : ℕ) → StandsFor (code_of code.tables code.instrs) C i →
       AreOccurring code.prims C → ResolvesProgram P main C i → (n : ℕ) × IsOutcome M P main t budget outcome n
 
 abbrev pub status_of : Outcome Tree → Status
