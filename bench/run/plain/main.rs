@@ -1,0 +1,77 @@
+//! The programs of bench/run in plain Rust: `plain PROGRAM TERM` prints the canonical text of what becomes of the term in the file TERM, or
+//! `#failed` with status 1.
+
+mod backtrack;
+mod desugar;
+mod dispatch;
+mod map;
+mod normal;
+mod peano;
+mod rename;
+mod simplify;
+mod term;
+mod text;
+
+use std::env;
+use std::fs;
+use std::io::{self, Write};
+use std::process::ExitCode;
+use std::rc::Rc;
+use term::{Symbols, Term};
+
+/// The symbols that a program knows, which get the first numbers.
+fn names_of(program: &str) -> Vec<String> {
+    let names = match program {
+        "simplify" => simplify::NAMES,
+        "rename" => rename::NAMES,
+        "desugar" => desugar::NAMES,
+        "backtrack" => backtrack::NAMES,
+        "normal" => normal::NAMES,
+        "peano" => peano::NAMES,
+        "dispatch" => return dispatch::names(),
+        _ => &[],
+    };
+    names.iter().map(|name| name.to_string()).collect()
+}
+
+fn run(program: &str, term: &Rc<Term>) -> Option<Rc<Term>> {
+    match program {
+        "simplify" => Some(simplify::run(term)),
+        "rename" => Some(rename::run(term)),
+        "desugar" => Some(desugar::run(term)),
+        "dispatch" => dispatch::run(term),
+        "backtrack" => backtrack::run(term),
+        "normal" => Some(normal::run(term)),
+        "map" => map::run(term),
+        "peano" => peano::run(term),
+        _ => None,
+    }
+}
+
+fn main() -> io::Result<ExitCode> {
+    let words: Vec<String> = env::args().collect();
+    let [_, program, path] = &words[..] else {
+        return Ok(ExitCode::from(2));
+    };
+    let mut symbols = Symbols::new();
+    for name in names_of(program) {
+        symbols.number(&name);
+    }
+    let Some(term) = text::read(&fs::read(path)?, &mut symbols) else {
+        return Ok(ExitCode::from(2));
+    };
+    let mut out = Vec::new();
+    let status = match run(program, &term) {
+        Some(made) => {
+            text::write(&made, &symbols, &mut out);
+            ExitCode::SUCCESS
+        }
+        None => {
+            out.extend_from_slice(b"#failed");
+            ExitCode::from(1)
+        }
+    };
+    out.push(b'\n');
+    io::stdout().write_all(&out)?;
+    Ok(status)
+}
