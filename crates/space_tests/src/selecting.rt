@@ -104,8 +104,9 @@ fn alternatives(rt: HostRuntime) -> Result<(), Fail> {
         if &ran.written[..] != *wanted || ran.rules != *rules {
             return Err(Fail::new("another outcome"));
         }
-        let spent = run_in_store(alloc, definitions, text, rules - 1)?;
-        if !spent.written.is_empty() || spent.rules != rules - 1 {
+        let short = rules.saturating_sub(1);
+        let spent = run_in_store(alloc, definitions, text, short)?;
+        if !spent.written.is_empty() || spent.rules != short {
             return Err(Fail::new("spent with one rule less"));
         }
     }
