@@ -10,6 +10,7 @@ ghost use Rattle.str_pipeline.specs.Written.{line_of, refusal_line};
 ghost use Rattle.str_pipeline.specs.Steps.{IsStop, IsProgramOf, IsTermRead, IsResult, status_of, outcome_line};
 ghost use Rattle.str_pipeline.specs.Faults.{IsOfDefinitions, IsTransferFault, is_read_fault, is_write_fault};
 
+use crate::notes::RunNotes;
 use crate::program::Program;
 use crate::runs::run_code;
 use crate::sink::{Sink, write_all};
@@ -52,16 +53,34 @@ fn term_of(
     Ok(term)
 }
 
-/// Reads a term by the signature of the file, as `term_of` does, and drops the text and the file.
+/// Reads a term as `term_of` does, and notes why it is refused where it is.
+fn noted_term(
+    alloc: Global,
+    signature: &Signature,
+    text: &[u8],
+    is_strict: bool,
+    notes: &mut RunNotes,
+) -> Result<Term, Fault>
+    ensures { IsTermRead is_strict signature.now text.now result }
+{
+    let term = term_of(alloc, signature, text, is_strict);
+    if let Err(fault) = &term {
+        notes.of_term(text, fault);
+    }
+    term
+}
+
+/// Reads a term by the signature of the file, as `noted_term` does, and drops the text and the file.
 fn term_alone(
     alloc: Global,
     checked: Checked,
     text: Vec<u8>,
     is_strict: bool,
+    notes: &mut RunNotes,
 ) -> Result<Term, Fault>
     ensures { IsTermRead is_strict checked.declarations text.items result }
 {
-    let term = term_of(alloc, checked.signature(), &text, is_strict)?;
+    let term = noted_term(alloc, checked.signature(), &text, is_strict, notes)?;
     Ok(term)
 }
 
@@ -74,6 +93,7 @@ pub(crate) fn outcome_of<M: PrimMeaning>(
     text: Vec<u8>,
     options: &Options,
     registry: &Registry<M>,
+    notes: &mut RunNotes,
 ) -> Result<Outcome<Term>, Fault>
     requires fits { vec_len text ≤ max_term }
     requires honest { IsHonest M.answer registry.now }
@@ -86,9 +106,9 @@ pub(crate) fn outcome_of<M: PrimMeaning>(
     ensures read { is_read_fault result ≡ false }
 {
     let Program { checked, code } = program;
-    let term = term_alone(alloc, checked, text, options.strict)?;
+    let term = term_alone(alloc, checked, text, options.strict, notes)?;
     let space = StoreSpace::new(alloc, BuildHasherDefault::new());
-    let outcome = run_code(alloc, space, &code, term, options.budget, registry)?;
+    let outcome = run_code(alloc, space, &code, term, options.budget, registry, notes)?;
     Ok(outcome)
 }
 

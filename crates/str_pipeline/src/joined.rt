@@ -7,6 +7,7 @@ ghost use Rattle.str_pipeline.specs.Device.{IsDry};
 
 mod front;
 
+use crate::notes::RunNotes;
 use crate::source::{PIECE, Source, read_onto};
 pub(crate) use front::Front;
 use std::alloc::Global;
@@ -160,6 +161,11 @@ impl Front {
         ensures { result.now ≡ definitions_of self.now }
     {
         &self.bytes[..self.definitions]
+    }
+
+    /// Notes where the term text begins.
+    pub(crate) fn note_end(&self, notes: &mut RunNotes) {
+        notes.begin_term(&self.bytes[..self.term], self.definitions < self.term);
     }
 
     /// Returns the term text, or `None` where it has more than `limit` bytes. Nothing is read where the

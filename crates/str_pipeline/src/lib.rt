@@ -3,12 +3,16 @@
 
 mod answer;
 mod counted;
+mod excerpt;
 mod faulty;
 mod joined;
 mod laws;
+mod notes;
 mod pipeline;
 mod program;
+mod reason;
 mod runs;
+mod shown;
 mod sink;
 mod source;
 mod status;
@@ -16,11 +20,15 @@ mod tally;
 
 pub use answer::{DEFAULT_BUDGET, MAX_BUDGET, MAX_DEFINITIONS, MAX_TERM};
 pub use counted::Counted;
+pub use excerpt::Excerpt;
 pub use faulty::Faulty;
 pub use laws::{joined_form_law, one_line_law};
+pub use notes::{RunNotes, Subject, Used};
 pub use pipeline::{
     transform, transform_joined, transform_joined_with_notes, transform_with_notes,
 };
+pub use reason::Reason;
+pub use shown::Shown;
 pub use sink::{Sink, write_all};
 pub use source::{Source, read_all};
 pub use status::{Options, Status};

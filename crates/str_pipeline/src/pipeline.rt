@@ -14,13 +14,13 @@ ghost use Rattle.str_pipeline.specs.Faults.{HoldsRefusal, IsRefusal, IsTransferF
 
 use crate::answer::{MAX_DEFINITIONS, MAX_TERM, outcome_of, write_outcome, write_refusal};
 use crate::joined::read_front;
-use crate::program::program_of;
+use crate::notes::RunNotes;
+use crate::program::noted_program;
 use crate::sink::Sink;
 use crate::source::{Source, read_all};
 use crate::status::{Options, Status};
 use core_lang::Outcome;
 use prim_registry::{PrimMeaning, Registry};
-use scope_check::Notes;
 use std::alloc::Global;
 use term_model::{Fault, Term};
 
@@ -32,7 +32,7 @@ fn outcome_apart<D: Source, T: Source, M: PrimMeaning>(
     term: &mut T,
     options: &Options,
     registry: &Registry<M>,
-    notes: &mut Notes,
+    notes: &mut RunNotes,
 ) -> Result<Outcome<Term>, Fault>
     requires honest { IsHonest M.answer registry.now }
     ensures result { IfSome (D.coming defs.old) (λ d. IfSome (T.coming term.old) (λ t. IsResult d t (setting_of M.answer registry.now options.now) result)) }
@@ -47,12 +47,12 @@ fn outcome_apart<D: Source, T: Source, M: PrimMeaning>(
     let Some(text) = read_all(alloc, defs, MAX_DEFINITIONS)? else {
         return Err(Fault::DefsTooLong);
     };
-    let program = program_of(alloc, &text, options, registry, notes)?;
+    let program = noted_program(alloc, &text, options, registry, notes)?;
     drop(text);
     let Some(text) = read_all(alloc, term, MAX_TERM)? else {
         return Err(Fault::TermTooLong);
     };
-    outcome_of(alloc, program, text, options, registry)
+    outcome_of(alloc, program, text, options, registry, notes)
 }
 
 /// Does the same over one reader of the joined form.
@@ -62,7 +62,7 @@ fn outcome_joined<S: Source, M: PrimMeaning>(
     input: &mut S,
     options: &Options,
     registry: &Registry<M>,
-    notes: &mut Notes,
+    notes: &mut RunNotes,
 ) -> Result<Outcome<Term>, Fault>
     requires honest { IsHonest M.answer registry.now }
     ensures result { IfSome (S.coming input.old) (λ told. (d t : List ℕ) → IsSplit told d t → IsResult d t (setting_of M.answer registry.now options.now) result) }
@@ -74,12 +74,13 @@ fn outcome_joined<S: Source, M: PrimMeaning>(
     let Some(front) = read_front(alloc, input, MAX_DEFINITIONS)? else {
         return Err(Fault::DefsTooLong);
     };
-    let program = program_of(alloc, front.definitions(), options, registry, notes)?;
+    let program = noted_program(alloc, front.definitions(), options, registry, notes)?;
+    front.note_end(notes);
     let Some(text) = front.read_term(alloc, input, MAX_TERM)? else {
         return Err(Fault::TermTooLong);
     };
     drop(front);
-    outcome_of(alloc, program, text, options, registry)
+    outcome_of(alloc, program, text, options, registry, notes)
 }
 
 /// Writes the line of the outcome, or of the refusal that came in place of it, and returns its
@@ -172,12 +173,12 @@ pub fn transform<D: Source, T: Source, M: PrimMeaning, W: Sink>(
     ensures defs_bounded { D.reads defs.new ≤ D.reads defs.old + max_definitions + 1 }
     ensures term_bounded { T.reads term.new ≤ T.reads term.old + max_term + 1 }
 {
-    let mut notes = Notes::none();
+    let mut notes = RunNotes::none();
     transform_with_notes(alloc, defs, term, options, registry, &mut notes, out)
 }
 
-/// Does as `transform` does, and notes what a person wants to know where the checks refuse the definitions: which name is at fault, where
-/// and why. What was noted before is dropped. Neither what is written nor the result depends on notes.
+/// Does as `transform` does, and notes what a person wants to know where the definitions or the term are refused: which text is, at
+/// which place, and what is wrong there; and else what the run used. What was noted before is dropped. Neither what is written nor the result depends on notes.
 ///
 /// # Errors
 /// As of `transform`.
@@ -187,7 +188,7 @@ pub fn transform_with_notes<D: Source, T: Source, M: PrimMeaning, W: Sink>(
     term: &mut T,
     options: &Options,
     registry: &Registry<M>,
-    notes: &mut Notes,
+    notes: &mut RunNotes,
     out: &mut W,
 ) -> Result<Status, Fault>
     requires budget { options.now.budget ≤ max_budget }
@@ -208,8 +209,9 @@ pub fn transform_with_notes<D: Source, T: Source, M: PrimMeaning, W: Sink>(
     ensures defs_bounded { D.reads defs.new ≤ D.reads defs.old + max_definitions + 1 }
     ensures term_bounded { T.reads term.new ≤ T.reads term.old + max_term + 1 }
 {
-    *notes = Notes::none();
+    *notes = RunNotes::none();
     let outcome = outcome_apart(alloc, defs, term, options, registry, notes);
+    notes.of_outcome(&outcome);
     finish(alloc, outcome, out)
 }
 
@@ -242,12 +244,12 @@ pub fn transform_joined<S: Source, M: PrimMeaning, W: Sink>(
     ensures bounded { S.reads input.new ≤ S.reads input.old + max_definitions + 17 + max_term + 1 }
     ensures defs_bounded { IfOk result (λ status. RefusesDefinitions status → S.reads input.new ≤ S.reads input.old + max_definitions + 17) }
 {
-    let mut notes = Notes::none();
+    let mut notes = RunNotes::none();
     transform_joined_with_notes(alloc, input, options, registry, &mut notes, out)
 }
 
-/// Does as `transform_joined` does, and notes what a person wants to know where the checks refuse the definitions. What was noted before
-/// is dropped. Neither what is written nor the result depends on notes.
+/// Does as `transform_joined` does, and notes what a person wants to know where the definitions or the term are refused, and else what the
+/// run used. What was noted before is dropped. Neither what is written nor the result depends on notes.
 ///
 /// # Errors
 /// As of `transform`.
@@ -256,7 +258,7 @@ pub fn transform_joined_with_notes<S: Source, M: PrimMeaning, W: Sink>(
     input: &mut S,
     options: &Options,
     registry: &Registry<M>,
-    notes: &mut Notes,
+    notes: &mut RunNotes,
     out: &mut W,
 ) -> Result<Status, Fault>
     requires budget { options.now.budget ≤ max_budget }
@@ -274,7 +276,8 @@ pub fn transform_joined_with_notes<S: Source, M: PrimMeaning, W: Sink>(
     ensures bounded { S.reads input.new ≤ S.reads input.old + max_definitions + 17 + max_term + 1 }
     ensures defs_bounded { IfOk result (λ status. RefusesDefinitions status → S.reads input.new ≤ S.reads input.old + max_definitions + 17) }
 {
-    *notes = Notes::none();
+    *notes = RunNotes::none();
     let outcome = outcome_joined(alloc, input, options, registry, notes);
+    notes.of_outcome(&outcome);
     finish(alloc, outcome, out)
 }

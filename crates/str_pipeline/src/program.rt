@@ -5,6 +5,7 @@ ghost use Rattle.prim_registry.specs.Entries.{Covers};
 ghost use Rattle.str_pipeline.specs.Setting.{setting_of, setting_with};
 ghost use Rattle.str_pipeline.specs.Steps.{IsProgram};
 
+use crate::notes::RunNotes;
 use crate::status::Options;
 use prim_registry::{PrimMeaning, Registry};
 use scope_check::{Checked, Notes, check_with_notes};
@@ -24,8 +25,27 @@ pub(crate) struct Program {
     pub(crate) code: Code,
 }
 
+/// Makes the program of a definition file as `program_of` does, and notes why the file is refused where it is.
+pub(crate) fn noted_program<M: PrimMeaning>(
+    alloc: Global,
+    definitions: &[u8],
+    options: &Options,
+    registry: &Registry<M>,
+    notes: &mut RunNotes,
+) -> Result<Program, Fault>
+    ensures program { IsProgram (setting_of M.answer registry.now options.now) definitions.now result }
+    ensures covers { IfOk result (λ program. Covers registry.now program.code.prims) }
+{
+    let mut checks = Notes::none();
+    let program = program_of(alloc, definitions, options, registry, &mut checks);
+    if let Err(fault) = &program {
+        notes.of_definitions(definitions, fault, &checks);
+    }
+    program
+}
+
 /// Makes the program of a definition file with the library after it, where there are the primitives of the registry. As `program_with`.
-pub(crate) fn program_of<M: PrimMeaning>(
+fn program_of<M: PrimMeaning>(
     alloc: Global,
     definitions: &[u8],
     options: &Options,

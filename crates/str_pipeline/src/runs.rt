@@ -4,22 +4,36 @@ ghost use Rattle.prim_registry.specs.Entries.{Covers, IsHonest};
 ghost use Rattle.strat_machine.specs.Outcomes.{OutcomeStands, outcome_tree};
 ghost use Rattle.str_pipeline.specs.Steps.{IsOutcomeOf};
 
+use crate::notes::{RunNotes, Used};
 use core_lang::Outcome;
 use prim_registry::{PrimMeaning, Registry};
 use std::alloc::{AllocError, Global};
 use strat_code::Code;
 use strat_machine::Machine;
 use term_model::{Fault, Term, TermSpace};
+use term_store::StoreSpace;
 
-/// Returns what the code does with the term within a budget of rules. The run takes place in the space, and the term that was passed is
+/// A space that tells how many shapes of terms it holds.
+pub(crate) trait Holds {
+    fn shapes(&self) -> usize;
+}
+
+impl Holds for StoreSpace {
+    fn shapes(&self) -> usize {
+        self.len()
+    }
+}
+
+/// Returns what the code does with the term within a budget of rules, and notes what the run used. The run takes place in the space, and the term that was passed is
 /// dropped before it begins. The only fault is `Memory`.
-pub(crate) fn run_code<S: TermSpace + Drop, M: PrimMeaning>(
+pub(crate) fn run_code<S: TermSpace + Holds + Drop, M: PrimMeaning>(
     alloc: Global,
     space: S,
     code: &Code,
     term: Term,
     budget: u32,
     registry: &Registry<M>,
+    notes: &mut RunNotes,
 ) -> Result<Outcome<Term>, Fault>
     requires honest { IsHonest M.answer registry.now }
     requires covers { Covers registry.now code.now.prims }
@@ -29,6 +43,11 @@ pub(crate) fn run_code<S: TermSpace + Drop, M: PrimMeaning>(
     let mut machine = Machine::new(alloc, space);
     let reference = entered(&mut machine, term)?;
     let run = machine.run(code, reference, budget, registry)?;
+    notes.of_run(Used {
+        rules: run.rules,
+        steps: run.steps,
+        shapes: machine.space().shapes(),
+    });
     let outcome = left(&machine, &run.outcome)?;
     Ok(outcome)
 }

@@ -1,12 +1,11 @@
 -- What a writer has gained after several writes in a row.
-use Rattle.std.proofs.Common.{◌≡◌, ◌+◌, ◌≤◌, ℕ, List, ◌++◌, length, take, Option, None, Some, refl, arith, inl, false, true≢false, length-append}
+use Rattle.std.proofs.Common.{◌≡◌, ◌+◌, ◌≤◌, ℕ, List, ◌++◌, length, take, Option, None, Some, refl, arith, false, true≢false, length-append}
 use Rattle.std.proofs.lemmas.List.{take-append-le, take_at, drop_at}
 use Rattle.std.proofs.Math.Seq.{take-add}
 use Rattle.std.proofs.lemmas.Grind.{common_steps}
 use Rattle.std.specs.Prelude.{Result, Ok, Err, OnOk, is_err, if◌then◌else◌}
 use Rattle.term_model.specs.declared.fault.Fault.{Fault}
 use Rattle.str_pipeline.specs.Device.{Gains, GainsPrefix}
-use Rattle.scope_check.specs.OfChecks.{IsOfChecks}
 use Rattle.strc.specs.Report.{diagnostic, Tells, TellsMore}
 
 pub gains_both : (a b c : Option (List ℕ)) (xs ys : List ℕ) → Gains a b xs → Gains b c ys → Gains a c (xs ++ ys)
@@ -36,19 +35,19 @@ tells (Err e) fault before after old new gained begun failed = record { beginnin
 
 -- a whole report, and a text after it that was written as far as its result says
 pub tells_both : {A : Type 0} (r : Result A Fault) (fault : Fault) (more : List ℕ) (before after : ℕ) (old middle new : Option (List ℕ)) →
-    IsOfChecks fault → Gains old middle (diagnostic fault) → OnOk r (Gains middle new more) → GainsPrefix middle new more →
+    Gains old middle (diagnostic fault) → OnOk r (Gains middle new more) → GainsPrefix middle new more →
     after ≡ before + (if is_err r then 1 else 0) → TellsMore fault before after old new
-tells_both (Ok v) fault more before after old middle new checks first gained begun failed =
-    record { more = more; checks = inl checks; beginning = begins_second old middle new (diagnostic fault) more first begun; whole = λ _. gains_both old middle new (diagnostic fault) more first gained }
-tells_both (Err e) fault more before after old middle new checks first gained begun failed =
-    record { more = more; checks = inl checks; beginning = begins_second old middle new (diagnostic fault) more first begun; whole = λ same. absurd (omega arith) }
+tells_both (Ok v) fault more before after old middle new first gained begun failed =
+    record { more = more; beginning = begins_second old middle new (diagnostic fault) more first begun; whole = λ _. gains_both old middle new (diagnostic fault) more first gained }
+tells_both (Err e) fault more before after old middle new first gained begun failed =
+    record { more = more; beginning = begins_second old middle new (diagnostic fault) more first begun; whole = λ same. absurd (omega arith) }
 
 -- a report that was written, and a text after it that was written as far as its result says
 pub tells_after : {A B : Type 0} (r : Result A Fault) (w : Result B Fault) (fault : Fault) (more : List ℕ) (before between after : ℕ) (old middle new : Option (List ℕ)) →
-    IsOfChecks fault → is_err r ≡ false → OnOk r (Gains old middle (diagnostic fault)) → between ≡ before + (if is_err r then 1 else 0) →
+    is_err r ≡ false → OnOk r (Gains old middle (diagnostic fault)) → between ≡ before + (if is_err r then 1 else 0) →
     OnOk w (Gains middle new more) → GainsPrefix middle new more → after ≡ between + (if is_err w then 1 else 0) → TellsMore fault before after old new
-tells_after {A} {B} (Ok v) (Ok u) fault more before between after old middle new checks good first still gained begun failed =
-    tells_both {A = B} (Ok u) fault more before after old middle new checks first gained begun (omega arith)
-tells_after {A} {B} (Ok v) (Err e) fault more before between after old middle new checks good first still gained begun failed =
-    tells_both {A = B} (Err e) fault more before after old middle new checks first gained begun (omega arith)
-tells_after (Err e) w fault more before between after old middle new checks good first still gained begun failed = absurd (true≢false good)
+tells_after {A} {B} (Ok v) (Ok u) fault more before between after old middle new good first still gained begun failed =
+    tells_both {A = B} (Ok u) fault more before after old middle new first gained begun (omega arith)
+tells_after {A} {B} (Ok v) (Err e) fault more before between after old middle new good first still gained begun failed =
+    tells_both {A = B} (Err e) fault more before after old middle new first gained begun (omega arith)
+tells_after (Err e) w fault more before between after old middle new good first still gained begun failed = absurd (true≢false good)

@@ -1,9 +1,8 @@
 -- The exit status, and the line of a fault on the diagnostic stream.
-use Rattle.std.specs.Prelude.{◌≡◌, ◌<◌, ◌⊎◌, ℕ, List, [], ◌∷◌, ◌++◌, codes, decimal, Option, None, Some}
+use Rattle.std.specs.Prelude.{◌≡◌, ◌<◌, ℕ, Bool, true, false, List, [], ◌∷◌, ◌++◌, codes, decimal, Option, None, Some}
 use Rattle.term_model.specs.declared.fault.Fault.{Fault}
 use Rattle.term_model.specs.declared.fault.Fault.TheVariants.{Memory, Read, Write, Lexical, ReservedWord, Syntax, Nesting, TermSyntax, TermOversize}
 use Rattle.term_model.specs.Fault.{word_of}
-use Rattle.scope_check.specs.OfChecks.{IsOfChecks}
 use Rattle.str_pipeline.specs.declared.status.Status.{Status}
 use Rattle.str_pipeline.specs.declared.status.Status.TheVariants.{Rewritten, Failed, Oversize, Spent, Refused}
 use Rattle.str_pipeline.specs.Device.{Gains, GainsPrefix}
@@ -58,12 +57,21 @@ pub record Tells (fault : Fault) (before after : ℕ) (old new : Option (List �
   pub beginning : GainsPrefix old new (diagnostic fault)
   pub whole : after ≡ before → Gains old new (diagnostic fault)
 
--- the same of a refusal, of which a text may say more after the line where the checks refuse; what it says is for a person
+-- the same of a refusal, of which a text may say more after the line; what it says is for a person
 pub record TellsMore (fault : Fault) (before after : ℕ) (old new : Option (List ℕ)) : Type 0 where
   pub more : List ℕ
-  pub checks : IsOfChecks fault ⊎ (more ≡ [])
   pub beginning : GainsPrefix old new (diagnostic fault ++ more)
   pub whole : after ≡ before → Gains old new (diagnostic fault ++ more)
+
+-- the numbers of a run are on a stream, as far as they could be written, where they are asked for, and else nothing new is
+abbrev pub TellsNumbers : Bool → Option (List ℕ) → Option (List ℕ) → Type 0
+TellsNumbers false old new = new ≡ old
+TellsNumbers true old new = (numbers : List ℕ) × GainsPrefix old new numbers
+
+-- a refusal is reported, and nothing else is, but for the numbers of a run where they are asked for; those are for a person
+abbrev pub IsReportedWith : Bool → Status → ℕ → ℕ → Option (List ℕ) → Option (List ℕ) → Type 0
+IsReportedWith has_stats (Refused fault) before after old new = TellsMore fault before after old new
+IsReportedWith has_stats status before after old new = TellsNumbers has_stats old new
 
 -- a refusal is reported, and nothing else is
 abbrev pub IsReported : Status → ℕ → ℕ → Option (List ℕ) → Option (List ℕ) → Type 0

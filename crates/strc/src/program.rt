@@ -10,20 +10,20 @@ ghost use Rattle.str_pipeline.specs.Setting.{setting_of};
 ghost use Rattle.str_pipeline.specs.Written.{HasWritten, HasBegun};
 ghost use Rattle.str_pipeline.specs.Faults.{HoldsRefusal, IsTransferFault};
 ghost use Rattle.str_pipeline.specs.Limits.{max_definitions, max_term};
-ghost use Rattle.strc.specs.Report.{exit_of, IsCause, Tells, IsReported};
+ghost use Rattle.strc.specs.Report.{exit_of, IsCause, Tells, IsReported, IsReportedWith};
 ghost use Rattle.strc.specs.Request.{ArePlain};
 ghost use Rattle.strc.specs.declared.request.Texts.TheVariants.{Joined};
 
 use crate::paths::Paths;
-use crate::report::{report, report_refusal};
+use crate::report::{INPUT, Reporting, report, report_numbers, report_refusal};
 use crate::request::{Texts, options_of, request_of};
 use clap::Error;
 use clap::error::ErrorKind;
 use prim_registry::{PrimMeaning, Registry};
-use scope_check::Notes;
 use std::alloc::Global;
 use str_pipeline::{
-    Options, Sink, Source, Status, transform_joined_with_notes, transform_with_notes, write_all,
+    Options, RunNotes, Sink, Source, Status, transform_joined_with_notes, transform_with_notes,
+    write_all,
 };
 use term_model::Fault;
 
@@ -38,20 +38,28 @@ pub(crate) fn stop<E: Sink>(fault: &Fault, diagnostics: &mut E) -> u8
 }
 
 /// Reports how a transformation ended, and returns its exit status.
-fn conclude<E: Sink>(alloc: Global, status: Status, notes: &Notes, diagnostics: &mut E) -> u8
+fn conclude<E: Sink>(
+    alloc: Global,
+    status: Status,
+    reporting: Reporting<'_>,
+    notes: &RunNotes,
+    diagnostics: &mut E,
+) -> u8
     requires { HoldsRefusal status }
     ensures status { (exit_of status ≡ result) × (result < 4) }
-    ensures told { IsReported status (E.failed_writes diagnostics.old) (E.failed_writes diagnostics.new) (E.written diagnostics.old) (E.written diagnostics.new) }
+    ensures told { IsReportedWith reporting.has_stats status (E.failed_writes diagnostics.old) (E.failed_writes diagnostics.new) (E.written diagnostics.old) (E.written diagnostics.new) }
 {
-    match status {
+    let code = match status {
         Status::Rewritten => 0,
         Status::Failed => 1,
         Status::Refused(fault) => {
-            report_refusal(alloc, &fault, notes, diagnostics);
-            2
+            report_refusal(alloc, &fault, reporting, notes, diagnostics);
+            return 2;
         }
         Status::Oversize | Status::Spent => 3,
-    }
+    };
+    report_numbers(alloc, reporting.has_stats, notes, diagnostics);
+    code
 }
 
 /// Does the work where both texts come from `input`, in the joined form.
@@ -59,6 +67,7 @@ fn conclude<E: Sink>(alloc: Global, status: Status, notes: &Notes, diagnostics: 
 fn run_joined<I: Source, W: Sink, E: Sink, M: PrimMeaning>(
     alloc: Global,
     input: &mut I,
+    reporting: Reporting<'_>,
     options: &Options,
     registry: &Registry<M>,
     out: &mut W,
@@ -69,7 +78,7 @@ fn run_joined<I: Source, W: Sink, E: Sink, M: PrimMeaning>(
     ensures status { result ≤ 4 }
     ensures ended { result < 4 → (status : Status) × (exit_of status ≡ result) × HoldsRefusal status
         × IfSome (I.coming input.old) (λ told. (d t : List ℕ) → IsSplit told d t → HasWritten d t (setting_of M.answer registry.now options.now) status (W.written out.old) (W.written out.new))
-        × IsReported status (E.failed_writes diagnostics.old) (E.failed_writes diagnostics.new) (E.written diagnostics.old) (E.written diagnostics.new) }
+        × IsReportedWith reporting.has_stats status (E.failed_writes diagnostics.old) (E.failed_writes diagnostics.new) (E.written diagnostics.old) (E.written diagnostics.new) }
     ensures stopped { result ≡ 4 → (fault : Fault)
         × IsCause (record { before = I.failed_reads input.old; after = I.failed_reads input.new })
         (record { before = W.failed_writes out.old; after = W.failed_writes out.new }) fault
@@ -81,9 +90,9 @@ fn run_joined<I: Source, W: Sink, E: Sink, M: PrimMeaning>(
     ensures write_failed { W.failed_writes out.old < W.failed_writes out.new → result ≡ 4 }
     ensures bounded { I.reads input.new ≤ I.reads input.old + max_definitions + 17 + max_term + 1 }
 {
-    let mut notes = Notes::none();
+    let mut notes = RunNotes::none();
     match transform_joined_with_notes(alloc, input, options, registry, &mut notes, out) {
-        Ok(status) => conclude(alloc, status, &notes, diagnostics),
+        Ok(status) => conclude(alloc, status, reporting, &notes, diagnostics),
         Err(fault) => stop(&fault, diagnostics),
     }
 }
@@ -94,6 +103,7 @@ fn run_apart<D: Source, T: Source, W: Sink, E: Sink, M: PrimMeaning>(
     alloc: Global,
     definitions: &mut D,
     term: &mut T,
+    reporting: Reporting<'_>,
     options: &Options,
     registry: &Registry<M>,
     out: &mut W,
@@ -104,7 +114,7 @@ fn run_apart<D: Source, T: Source, W: Sink, E: Sink, M: PrimMeaning>(
     ensures status { result ≤ 4 }
     ensures ended { result < 4 → (status : Status) × (exit_of status ≡ result) × HoldsRefusal status
         × IfSome (D.coming definitions.old) (λ d. IfSome (T.coming term.old) (λ t. HasWritten d t (setting_of M.answer registry.now options.now) status (W.written out.old) (W.written out.new)))
-        × IsReported status (E.failed_writes diagnostics.old) (E.failed_writes diagnostics.new) (E.written diagnostics.old) (E.written diagnostics.new) }
+        × IsReportedWith reporting.has_stats status (E.failed_writes diagnostics.old) (E.failed_writes diagnostics.new) (E.written diagnostics.old) (E.written diagnostics.new) }
     ensures stopped { result ≡ 4 → (fault : Fault)
         × IsCause (record { before = D.failed_reads definitions.old + T.failed_reads term.old; after = D.failed_reads definitions.new + T.failed_reads term.new })
         (record { before = W.failed_writes out.old; after = W.failed_writes out.new }) fault
@@ -117,9 +127,9 @@ fn run_apart<D: Source, T: Source, W: Sink, E: Sink, M: PrimMeaning>(
     ensures definitions_bounded { D.reads definitions.new ≤ D.reads definitions.old + max_definitions + 1 }
     ensures term_bounded { T.reads term.new ≤ T.reads term.old + max_term + 1 }
 {
-    let mut notes = Notes::none();
+    let mut notes = RunNotes::none();
     match transform_with_notes(alloc, definitions, term, options, registry, &mut notes, out) {
-        Ok(status) => conclude(alloc, status, &notes, diagnostics),
+        Ok(status) => conclude(alloc, status, reporting, &notes, diagnostics),
         Err(fault) => stop(&fault, diagnostics),
     }
 }
@@ -129,8 +139,7 @@ fn run_apart<D: Source, T: Source, W: Sink, E: Sink, M: PrimMeaning>(
 fn run_files<P: Paths, W: Sink, E: Sink, M: PrimMeaning>(
     alloc: Global,
     paths: &mut P,
-    definitions: &str,
-    term: &str,
+    reporting: Reporting<'_>,
     options: &Options,
     registry: &Registry<M>,
     out: &mut W,
@@ -140,17 +149,17 @@ fn run_files<P: Paths, W: Sink, E: Sink, M: PrimMeaning>(
     requires honest { IsHonest M.answer registry.now }
     ensures status { result ≤ 4 }
     ensures ended { result < 4 → (status : Status) × (exit_of status ≡ result) × HoldsRefusal status
-        × IsReported status (E.failed_writes diagnostics.old) (E.failed_writes diagnostics.new) (E.written diagnostics.old) (E.written diagnostics.new) }
+        × IsReportedWith reporting.has_stats status (E.failed_writes diagnostics.old) (E.failed_writes diagnostics.new) (E.written diagnostics.old) (E.written diagnostics.new) }
     ensures stopped { result ≡ 4 → (fault : Fault) × IsTransferFault fault
         × Tells fault (E.failed_writes diagnostics.old) (E.failed_writes diagnostics.new) (E.written diagnostics.old) (E.written diagnostics.new) }
     ensures unwritten { result ≡ 4 → W.failed_writes out.new ≡ W.failed_writes out.old → out.new ≡ out.old }
     ensures write_failed { W.failed_writes out.old < W.failed_writes out.new → result ≡ 4 }
 {
-    let mut definitions = match paths.open(definitions) {
+    let mut definitions = match paths.open(reporting.definitions) {
         Ok(reader) => reader,
         Err(fault) => return stop(&fault, diagnostics),
     };
-    let mut term = match paths.open(term) {
+    let mut term = match paths.open(reporting.term) {
         Ok(reader) => reader,
         Err(fault) => return stop(&fault, diagnostics),
     };
@@ -158,6 +167,7 @@ fn run_files<P: Paths, W: Sink, E: Sink, M: PrimMeaning>(
         alloc,
         &mut definitions,
         &mut term,
+        reporting,
         options,
         registry,
         out,
@@ -172,6 +182,7 @@ fn run_texts<P: Paths, I: Source, W: Sink, E: Sink, M: PrimMeaning>(
     texts: Texts<'_>,
     paths: &mut P,
     input: &mut I,
+    has_stats: bool,
     options: &Options,
     registry: &Registry<M>,
     out: &mut W,
@@ -182,7 +193,7 @@ fn run_texts<P: Paths, I: Source, W: Sink, E: Sink, M: PrimMeaning>(
     ensures status { result ≤ 4 }
     ensures joined_ended { texts.entry ≡ Joined → result < 4 → (status : Status) × (exit_of status ≡ result) × HoldsRefusal status
         × IfSome (I.coming input.old) (λ told. (d t : List ℕ) → IsSplit told d t → HasWritten d t (setting_of M.answer registry.now options.now) status (W.written out.old) (W.written out.new))
-        × IsReported status (E.failed_writes diagnostics.old) (E.failed_writes diagnostics.new) (E.written diagnostics.old) (E.written diagnostics.new) }
+        × IsReportedWith has_stats status (E.failed_writes diagnostics.old) (E.failed_writes diagnostics.new) (E.written diagnostics.old) (E.written diagnostics.new) }
     ensures joined_stopped { texts.entry ≡ Joined → result ≡ 4 → (fault : Fault)
         × IsCause (record { before = I.failed_reads input.old; after = I.failed_reads input.new })
         (record { before = W.failed_writes out.old; after = W.failed_writes out.new }) fault
@@ -190,7 +201,7 @@ fn run_texts<P: Paths, I: Source, W: Sink, E: Sink, M: PrimMeaning>(
     ensures joined_begun { texts.entry ≡ Joined → W.failed_writes out.old < W.failed_writes out.new →
         IfSome (I.coming input.old) (λ told. (d t : List ℕ) → IsSplit told d t → HasBegun d t (setting_of M.answer registry.now options.now) (W.written out.old) (W.written out.new)) }
     ensures ended { result < 4 → (status : Status) × (exit_of status ≡ result) × HoldsRefusal status
-        × IsReported status (E.failed_writes diagnostics.old) (E.failed_writes diagnostics.new) (E.written diagnostics.old) (E.written diagnostics.new) }
+        × IsReportedWith has_stats status (E.failed_writes diagnostics.old) (E.failed_writes diagnostics.new) (E.written diagnostics.old) (E.written diagnostics.new) }
     ensures stopped { result ≡ 4 → (fault : Fault) × IsTransferFault fault
         × Tells fault (E.failed_writes diagnostics.old) (E.failed_writes diagnostics.new) (E.written diagnostics.old) (E.written diagnostics.new) }
     ensures unwritten { result ≡ 4 → W.failed_writes out.new ≡ W.failed_writes out.old → out.new ≡ out.old }
@@ -199,16 +210,29 @@ fn run_texts<P: Paths, I: Source, W: Sink, E: Sink, M: PrimMeaning>(
     ensures bounded { I.reads input.new ≤ I.reads input.old + max_definitions + 17 + max_term + 1 }
 {
     match texts {
-        Texts::Joined => run_joined(alloc, input, options, registry, out, diagnostics),
+        Texts::Joined => {
+            let reporting = Reporting {
+                definitions: INPUT,
+                term: INPUT,
+                has_stats,
+            };
+            run_joined(alloc, input, reporting, options, registry, out, diagnostics)
+        }
         Texts::Definitions(path) => {
             let mut definitions = match paths.open(path) {
                 Ok(definitions) => definitions,
                 Err(fault) => return stop(&fault, diagnostics),
             };
+            let reporting = Reporting {
+                definitions: path,
+                term: INPUT,
+                has_stats,
+            };
             run_apart(
                 alloc,
                 &mut definitions,
                 input,
+                reporting,
                 options,
                 registry,
                 out,
@@ -216,16 +240,12 @@ fn run_texts<P: Paths, I: Source, W: Sink, E: Sink, M: PrimMeaning>(
             )
         }
         Texts::Both(first, second) => {
-            run_files(
-                alloc,
-                paths,
-                first,
-                second,
-                options,
-                registry,
-                out,
-                diagnostics,
-            )
+            let reporting = Reporting {
+                definitions: first,
+                term: second,
+                has_stats,
+            };
+            run_files(alloc, paths, reporting, options, registry, out, diagnostics)
         }
     }
 }
@@ -257,7 +277,7 @@ fn explain<W: Sink, E: Sink>(alloc: Global, error: &Error, out: &mut W, diagnost
 }
 
 /// Does what the words of the command line ask for, of which the first is the name of the program: `[--rules N] [--main NAME] [--strict]
-/// [DEFS [TERM]]`. It transforms the definitions of the file DEFS and the term of the file TERM; without TERM the term comes from `input`,
+/// [--stats] [DEFS [TERM]]`. It transforms the definitions of the file DEFS and the term of the file TERM; without TERM the term comes from `input`,
 /// and without both paths the joined form does. Definitions may call the primitives of the registry and the strategies of the library. The
 /// line of the answer goes to `out`. Files are opened before anything is read, DEFS first.
 ///
@@ -266,8 +286,9 @@ fn explain<W: Sink, E: Sink>(alloc: Global, error: &Error, out: &mut W, diagnost
 /// reading or writing failed, and 5 where the words are wrong, and then nothing is read or written to `out`.
 ///
 /// For 2 and 4 a line on `diagnostics` reports the fault. In the joined form and for 4 that is `Read` exactly where a read of `input`
-/// failed, `Write` exactly where a write to `out` failed, and `Memory` else. Where the checks refuse the definitions, a second line names
-/// what is at fault, with the byte of the definitions at which it stands; it is left out where memory for it is refused. For 5 it tells
+/// failed, `Write` exactly where a write to `out` failed, and `Memory` else. For 2 lines for a person come after it: the name of the
+/// text, the line and the column, what is wrong, and the line with a mark under the place; they are left out where memory for them is
+/// refused. Where the words ask for the numbers of the run, a line with them comes for 0, 1 and 3. For 5 it tells
 /// what is wrong with the words and how the help text is had. A write to `diagnostics` that fails changes nothing.
 pub fn run<P: Paths, I: Source, W: Sink, E: Sink, M: PrimMeaning>(
     alloc: Global,
@@ -310,6 +331,7 @@ pub fn run<P: Paths, I: Source, W: Sink, E: Sink, M: PrimMeaning>(
         request.texts,
         paths,
         input,
+        request.has_stats,
         &options,
         registry,
         out,

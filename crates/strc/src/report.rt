@@ -1,13 +1,11 @@
 //! The diagnostic lines of a fault.
-ghost use Rattle.std.specs.Prelude.{◌≡◌, ◌+◌, OnOk, IfErr, IfSome, is_err, if◌then◌else◌};
-ghost use Rattle.scope_check.specs.OfChecks.{IsOfChecks};
+ghost use Rattle.std.specs.Prelude.{◌≡◌, ◌+◌, OnOk, IfErr, is_err, if◌then◌else◌};
 ghost use Rattle.str_pipeline.specs.Device.{Gains, GainsPrefix};
-ghost use Rattle.strc.specs.Report.{place_of, place_text, diagnostic, TellsMore};
+ghost use Rattle.strc.specs.Report.{place_of, place_text, diagnostic, TellsMore, TellsNumbers};
 
 use itoa::Buffer;
-use scope_check::{Note, Notes};
-use std::alloc::Global;
-use str_pipeline::{Sink, write_all};
+use std::alloc::{AllocError, Global};
+use str_pipeline::{Excerpt, Reason, RunNotes, Sink, Subject, Used, write_all};
 use term_model::Fault;
 
 /// Returns the byte at which the text was refused.
@@ -54,36 +52,55 @@ pub(crate) fn report<E: Sink>(fault: &Fault, diagnostics: &mut E) -> Result<(), 
     write_all(diagnostics, b"\n")
 }
 
-/// Returns what was noted of the fault.
-fn noted<'a>(fault: &Fault, notes: &'a Notes) -> Option<&'a Note>
-    ensures { IfSome result (λ _. IsOfChecks fault.now) }
-{
-    let note = notes.first()?;
-    if note.detail().fault() != *fault {
-        return None;
-    }
-    Some(note)
+/// How the end of a transformation is reported: what the two texts are called, and whether the numbers of the run are told.
+#[derive(Clone, Copy, Drop)]
+pub(crate) struct Reporting<'a> {
+    pub(crate) definitions: &'a str,
+    pub(crate) term: &'a str,
+    pub(crate) has_stats: bool,
 }
 
-/// Returns the text of the line that says more of the fault, with its line feed; nothing where nothing was noted of it, or where memory
-/// for the text is refused.
-fn explanation(alloc: Global, fault: &Fault, notes: &Notes) -> Option<String>
-    ensures { IfSome result (λ _. IsOfChecks fault.now) }
-{
-    let note = noted(fault, notes)?;
-    let text = match note.offset() {
-        Some(at) => format!(in alloc; "{note} at byte {at}\n"),
-        None => format!(in alloc; "{note}\n"),
+/// What standard input is called.
+pub(crate) const INPUT: &str = "stdin";
+
+/// Returns what is said of a place: the name of the text, the line and the column, the reason, and the line with a mark under the place.
+fn at_place(
+    alloc: Global,
+    name: &str,
+    reason: &Reason,
+    place: &Excerpt,
+    lines_before: usize,
+) -> Result<String, AllocError> {
+    let (line, column) = (place.line(), place.column());
+    if lines_before == 0 {
+        return format!(in alloc; "{name}:{line}:{column}: {reason}\n{place}\n");
+    }
+    let whole = lines_before.saturating_add(line);
+    format!(in alloc; "{name}:{whole}:{column}: {reason} (line {line} of the term)\n{place}\n")
+}
+
+/// Returns the lines that say more of a refusal, with their line feeds; nothing where nothing was noted of it, or where memory for the text
+/// is refused.
+fn explanation(alloc: Global, reporting: Reporting<'_>, notes: &RunNotes) -> Option<String> {
+    let reason = notes.reason()?;
+    let name = match notes.subject() {
+        Subject::Definitions => reporting.definitions,
+        Subject::Term => reporting.term,
+    };
+    let text = match notes.place() {
+        Some(place) => at_place(alloc, name, reason, place, notes.lines_before()),
+        None => format!(in alloc; "{name}: {reason}\n"),
     };
     text.ok()
 }
 
-/// Writes the diagnostic line of a refusal and, where something was noted of it, a line that says more. Where a write fails, nothing more
-/// is written.
+/// Writes the diagnostic line of a refusal and, where something was noted of it, lines that say more. Where a write fails, nothing more is
+/// written.
 pub(crate) fn report_refusal<E: Sink>(
     alloc: Global,
     fault: &Fault,
-    notes: &Notes,
+    reporting: Reporting<'_>,
+    notes: &RunNotes,
     diagnostics: &mut E,
 )
     ensures { TellsMore fault.now (E.failed_writes diagnostics.old) (E.failed_writes diagnostics.new) (E.written diagnostics.old) (E.written diagnostics.new) }
@@ -91,7 +108,35 @@ pub(crate) fn report_refusal<E: Sink>(
     if report(fault, diagnostics).is_err() {
         return;
     }
-    let Some(text) = explanation(alloc, fault, notes) else {
+    let Some(text) = explanation(alloc, reporting, notes) else {
+        return;
+    };
+    let _ = write_all(diagnostics, text.as_bytes());
+}
+
+/// Returns the line of what the run used, with its line feed; nothing where there was no run, or where memory for it is refused.
+fn numbers(alloc: Global, notes: &RunNotes) -> Option<String> {
+    let Used {
+        rules,
+        steps,
+        shapes,
+    } = *notes.used()?;
+    format!(in alloc; "strc: {rules} rules, {steps} steps, {shapes} shapes\n").ok()
+}
+
+/// Writes the line of what the run used, where it is asked for.
+pub(crate) fn report_numbers<E: Sink>(
+    alloc: Global,
+    has_stats: bool,
+    notes: &RunNotes,
+    diagnostics: &mut E,
+)
+    ensures { TellsNumbers has_stats (E.written diagnostics.old) (E.written diagnostics.new) }
+{
+    if !has_stats {
+        return;
+    }
+    let Some(text) = numbers(alloc, notes) else {
         return;
     };
     let _ = write_all(diagnostics, text.as_bytes());

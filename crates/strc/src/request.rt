@@ -28,12 +28,14 @@ pub(crate) struct Request<'a> {
     pub(crate) main: &'a str,
     /// Whether each application of the term has to be declared.
     pub(crate) is_strict: bool,
+    /// Whether the numbers of the run are asked for.
+    pub(crate) has_stats: bool,
     /// Where the two texts come from.
     pub(crate) texts: Texts<'a>,
 }
 
 /// How the program is called, in the help text and in texts on faults of the command line.
-const USAGE: &str = "strc [--rules N] [--main NAME] [--strict] [DEFS [TERM]]";
+const USAGE: &str = "strc [--rules N] [--main NAME] [--strict] [--stats] [DEFS [TERM]]";
 
 /// The end of the help text.
 const EXAMPLES: &str = "\
@@ -92,6 +94,17 @@ fn strict<'a>(alloc: Global) -> Arg<'a>
         .help("Refuse a term with an application that the definitions do not declare")
 }
 
+/// Returns the flag that asks for the numbers of the run.
+#[tactic(auto, using(crate::proofs::RulesLaws::other_letter))]
+fn stats<'a>(alloc: Global) -> Arg<'a>
+    ensures { Fits result }
+{
+    Arg::new(alloc, "stats")
+        .long("stats")
+        .action(ArgAction::SetTrue)
+        .help("Print on standard error how many rules, steps and shapes of terms the run took")
+}
+
 /// Returns the path of the definitions.
 #[tactic(auto, using(crate::proofs::RulesLaws::other_letter))]
 fn definitions<'a>(alloc: Global) -> Arg<'a>
@@ -126,12 +139,13 @@ fn command<'a>(alloc: Global) -> Result<Command<'a>, Error>
     let command = described(alloc).arg(rules(alloc))?;
     let command = command.arg(main_name(alloc))?;
     let command = command.arg(strict(alloc))?;
+    let command = command.arg(stats(alloc))?;
     let command = command.arg(definitions(alloc))?;
     Ok(command.arg(term(alloc))?)
 }
 
 /// Reads the words of the command line, of which the first is the name of the program. Where it is the only one, the texts come in the
-/// joined form, the strategy is `main`, the term need not be declared, and the budget is 1,000,000 rules. An error is what the program
+/// joined form, the strategy is `main`, the term need not be declared, the budget is 1,000,000 rules, and no numbers are asked for. An error is what the program
 /// has to say: what is wrong with the words, the help text or the version; or out of memory.
 pub(crate) fn request_of<'a>(alloc: Global, words: &'a [String]) -> Result<Request<'a>, Error>
     ensures bound { IfOk result (λ request. request.rules ≤ max_budget) }
@@ -142,6 +156,7 @@ pub(crate) fn request_of<'a>(alloc: Global, words: &'a [String]) -> Result<Reque
             rules: DEFAULT_BUDGET,
             main: "main",
             is_strict: false,
+            has_stats: false,
             texts: Texts::Joined,
         });
     }
@@ -150,6 +165,7 @@ pub(crate) fn request_of<'a>(alloc: Global, words: &'a [String]) -> Result<Reque
         rules: rules_of(&matches),
         main: matches.get_str("main").unwrap_or("main"),
         is_strict: matches.get_flag("strict"),
+        has_stats: matches.get_flag("stats"),
         texts: texts_of(&matches),
     })
 }

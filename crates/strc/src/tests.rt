@@ -1,6 +1,7 @@
 //! The words of the command line, the exit statuses and what is on the streams.
 mod files;
 mod language;
+mod messages;
 mod primitives;
 mod requests;
 mod samples;

@@ -141,23 +141,23 @@ fn refusals(rt: HostRuntime) -> Result<(), Fail> {
     let rows = [
         (
             "strategies main = prim(\"neg\", 1)",
-            "strc: UnknownPrimitive\nprimitive neg with 1 term is unknown\n",
+            "strc: UnknownPrimitive\nstdin: primitive neg with 1 term is unknown\n",
         ),
         (
             "strategies main = prim(\"add\", 1)",
-            "strc: UnknownPrimitive\nprimitive add with 1 term is unknown\n",
+            "strc: UnknownPrimitive\nstdin: primitive add with 1 term is unknown\n",
         ),
         (
             "strategies try(s) = s main = id",
-            "strc: Clash\nstrategy try is a definition of the library at byte 11\n",
+            "strc: Clash\nstdin:1:12: strategy try is a definition of the library\n    strategies try(s) = s main = id\n               ^\n",
         ),
         (
             "strategies try(t) = t main = id",
-            "strc: Parameters\nstrategy try has alternatives with other parameters at byte 11\n",
+            "strc: Parameters\nstdin:1:12: strategy try has alternatives with other parameters\n    strategies try(t) = t main = id\n               ^\n",
         ),
         (
             "signature constructors map : T strategies main = id",
-            "strc: Clash\nname map is that of a declared constructor and of a strategy\n",
+            "strc: Clash\nstdin: name map is that of a declared constructor and of a strategy\n",
         ),
     ];
     for (text, told) in rows {

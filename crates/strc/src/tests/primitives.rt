@@ -17,7 +17,7 @@ fn a_registry_without_primitives(rt: HostRuntime) -> Result<(), Fail> {
             "strc sum.str pair.trm",
             2,
             "#refused UnknownPrimitive\n",
-            "strc: UnknownPrimitive\nprimitive add with 2 terms is unknown\n",
+            "strc: UnknownPrimitive\nsum.str: primitive add with 2 terms is unknown\n",
         ),
         ("strc first.str pair.trm", 0, "7\n", ""),
     ];

@@ -7,12 +7,13 @@ use std::io;
 use std::test::Fail;
 use str_pipeline::Faulty;
 
-/// A request for a strategy, with the default budget and without strict mode.
+/// A request for a strategy, with the default budget, without strict mode and numbers of the run.
 const fn asks<'a>(main: &'a str, texts: Texts<'a>) -> Request<'a> {
     Request {
         rules: 1_000_000,
         main,
         is_strict: false,
+        has_stats: false,
         texts,
     }
 }
@@ -57,6 +58,13 @@ fn requests(rt: HostRuntime) -> Result<(), Fail> {
             Request {
                 rules: 7,
                 ..asks("main", Texts::Joined)
+            },
+        ),
+        (
+            "strc --stats a.str b.trm",
+            Request {
+                has_stats: true,
+                ..asks("main", both)
             },
         ),
         (

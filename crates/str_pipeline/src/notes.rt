@@ -1,0 +1,188 @@
+//! What a person wants to know of a refusal and of a run. No contract of the transformation speaks of it.
+
+use crate::excerpt::{Excerpt, feeds};
+use crate::reason::{Reason, of_left_out, of_no_token, of_syntax, of_term_syntax};
+use core_lang::Outcome;
+use scope_check::Notes;
+use term_model::bytes::is_blank_byte;
+use term_model::{Fault, Term};
+
+/// One of the two texts that a transformation reads.
+#[derive(Clone, Copy, Debug, PartialEq, Eq)]
+pub enum Subject {
+    Definitions,
+    Term,
+}
+
+/// What a run used: how many rules, how many steps of the machine, and how many shapes of terms the store holds at its end.
+#[derive(Clone, Copy, Debug, PartialEq, Eq)]
+pub struct Used {
+    pub rules: u32,
+    pub steps: u64,
+    pub shapes: usize,
+}
+
+/// What a person wants to know of a transformation. Of a refusal: which text is refused, at which place, and what is wrong there. Of a run:
+/// what it used. Has a fixed size, and takes no memory.
+#[derive(Clone, Copy)]
+pub struct RunNotes {
+    subject: Subject,
+    reason: Option<Reason>,
+    place: Option<Excerpt>,
+    lines_before_term: usize,
+    has_term_line: bool,
+    used: Option<Used>,
+}
+
+impl RunNotes {
+    /// Nothing was noted.
+    pub fn none() -> RunNotes {
+        RunNotes {
+            subject: Subject::Definitions,
+            reason: None,
+            place: None,
+            lines_before_term: 0,
+            has_term_line: true,
+            used: None,
+        }
+    }
+
+    /// Which text is refused, where one is.
+    pub fn subject(&self) -> Subject {
+        self.subject
+    }
+
+    /// What is wrong with it, where that is known.
+    pub fn reason(&self) -> Option<&Reason> {
+        self.reason.as_ref()
+    }
+
+    /// The place at which it is refused, where there is one, in lines of the text.
+    pub fn place(&self) -> Option<&Excerpt> {
+        self.place.as_ref()
+    }
+
+    /// How many lines of the input stand in front of the text that is refused: where the joined form was read those before the term, and
+    /// else none.
+    pub fn lines_before(&self) -> usize {
+        match self.subject {
+            Subject::Definitions => 0,
+            Subject::Term => self.lines_before_term,
+        }
+    }
+
+    /// What the run used, where there was one that came to its end.
+    pub fn used(&self) -> Option<&Used> {
+        self.used.as_ref()
+    }
+
+    // Notes what the run used.
+    pub(crate) fn of_run(&mut self, used: Used) {
+        self.used = Some(used);
+    }
+
+    // Notes that the term comes after this part of the joined form, and whether a line `#term` ends it.
+    pub(crate) fn begin_term(&mut self, front: &[u8], has_term_line: bool) {
+        self.lines_before_term = feeds(front);
+        self.has_term_line = has_term_line;
+    }
+
+    // Notes why these definitions are refused.
+    pub(crate) fn of_definitions(&mut self, text: &[u8], fault: &Fault, checks: &Notes) {
+        match fault {
+            Fault::Lexical { at } => {
+                self.keep(text, *at, of_no_token(after(text, *at)));
+            }
+            Fault::ReservedWord { at } => {
+                self.keep(text, *at, of_left_out(after(text, *at)));
+            }
+            Fault::Syntax { at } => {
+                self.keep(text, *at, of_syntax(after(text, *at)));
+            }
+            Fault::Nesting { at } => {
+                self.keep(text, *at, Reason::NestedTooDeeply);
+            }
+            _ => self.of_checks(text, fault, checks),
+        }
+    }
+
+    // Notes what the checks noted of this fault.
+    fn of_checks(&mut self, text: &[u8], fault: &Fault, checks: &Notes) {
+        let Some(note) = checks.first() else {
+            return;
+        };
+        if note.detail().fault() != *fault {
+            return;
+        }
+        match note.offset() {
+            Some(at) => self.keep(text, at, Reason::Checked(*note)),
+            None => self.reason = Some(Reason::Checked(*note)),
+        }
+    }
+
+    // Notes why this text of a term is refused.
+    pub(crate) fn of_term(&mut self, text: &[u8], fault: &Fault) {
+        self.subject = Subject::Term;
+        match fault {
+            Fault::TermSyntax { .. } if is_blank(text) => {
+                let has_line = self.has_term_line;
+                self.reason = Some(if has_line {
+                    Reason::NoTerm
+                } else {
+                    Reason::NoTermLine
+                });
+            }
+            Fault::TermSyntax { at } => {
+                let reason = of_term_syntax(before(text, *at), after(text, *at));
+                self.keep(text, *at, reason);
+            }
+            Fault::TermOversize { at } if after(text, *at).is_empty() => {
+                self.reason = Some(Reason::TermTooLarge);
+            }
+            Fault::TermOversize { at } => self.keep(text, *at, Reason::TermTooDeep),
+            _ => {}
+        }
+    }
+
+    // Notes why a text was refused of which no place is known.
+    pub(crate) fn of_outcome(&mut self, outcome: &Result<Outcome<Term>, Fault>) {
+        match outcome {
+            Err(Fault::DefsTooLong) => self.reason = Some(Reason::DefinitionsTooLong),
+            Err(Fault::TermTooLong) => {
+                self.subject = Subject::Term;
+                self.reason = Some(Reason::TermTooLong);
+            }
+            Err(Fault::TermUndeclared) => {
+                self.subject = Subject::Term;
+                self.reason = Some(Reason::TermUndeclared);
+            }
+            _ => {}
+        }
+    }
+
+    // Notes what is wrong at the offset of the text.
+    fn keep(&mut self, text: &[u8], at: u64, reason: Reason) {
+        self.reason = Some(reason);
+        self.place = Some(Excerpt::new(text, place(at)));
+    }
+}
+
+// Whether the text is blank.
+fn is_blank(text: &[u8]) -> bool {
+    text.iter().all(|byte| is_blank_byte(*byte))
+}
+
+// Returns the offset as a place in memory.
+fn place(at: u64) -> usize {
+    usize::try_from(at).unwrap_or(usize::MAX)
+}
+
+// Returns the text before the offset.
+fn before(text: &[u8], at: u64) -> &[u8] {
+    &text[..place(at).min(text.len())]
+}
+
+// Returns the text from the offset on.
+fn after(text: &[u8], at: u64) -> &[u8] {
+    &text[place(at).min(text.len())..]
+}

@@ -1,0 +1,138 @@
+//! What is said of refusals, and of the numbers of runs.
+use crate::tests::samples::run_on;
+use std::test::Fail;
+
+// The joined form, and what is reported of it.
+const ROWS: &[(&str, &str)] = &[
+    (
+        "strategies\n\tmain = id /* id",
+        "strc: Lexical at byte 22\nstdin:2:12: the comment is not closed\n     main = id /* id\n               ^\n",
+    ),
+    (
+        "strategies main = ?\"ab\n#term\n1",
+        "strc: Lexical at byte 19\nstdin:1:20: the quoted text is not closed on its line\n    strategies main = ?\"ab\n                       ^\n",
+    ),
+    (
+        "strategies main = ?\"a\\qb\"\n#term\n1",
+        "strc: Lexical at byte 19\nstdin:1:20: the quoted text has an unknown escape\n    strategies main = ?\"a\\qb\"\n                       ^\n",
+    ),
+    (
+        "strategies main = ?2147483648\n#term\n1",
+        "strc: Lexical at byte 19\nstdin:1:20: the integer is not in the range from -2147483648 to 2147483647\n    strategies main = ?2147483648\n                       ^\n",
+    ),
+    (
+        "strategies main = id\r\n #term\r\n1",
+        "strc: Lexical at byte 23\nstdin:2:2: '#term' has to be a line of its own, without blanks before or after it\n     #term\n     ^\n",
+    ),
+    (
+        "strategies main = id \x01\n#term\n1",
+        "strc: Lexical at byte 21\nstdin:1:22: '?' begins no token\n    strategies main = id ?\n                         ^\n",
+    ),
+    (
+        "strategies main = id; with\n#term\n1",
+        "strc: ReservedWord at byte 22\nstdin:1:23: the word 'with' belongs to a part of the language that strc leaves out\n    strategies main = id; with\n                          ^\n",
+    ),
+    (
+        "strategies main = id )\n#term\n1",
+        "strc: Syntax at byte 21\nstdin:1:22: ')' cannot stand here\n    strategies main = id )\n                         ^\n",
+    ),
+    (
+        "strategies main = id ->\n#term\n1",
+        "strc: Syntax at byte 21\nstdin:1:22: '->' cannot stand here\n    strategies main = id ->\n                         ^\n",
+    ),
+    (
+        "strategies main = id;\n#term\n1",
+        "strc: Syntax at byte 22\nstdin:2:1: the text ends too early\n    \n    ^\n",
+    ),
+    (
+        "signature sorts E constructors C : E * E -> E strategies\nmain = ?C(1)\n#term\n1",
+        "strc: Undeclared\nstdin:2:9: constructor C with 1 part is not declared (it is declared with 2)\n    main = ?C(1)\n            ^\n",
+    ),
+    (
+        "strategies main = prim(\"a\\nb\", 1)\n#term\n1",
+        "strc: UnknownPrimitive\nstdin: primitive a?b with 1 term is unknown\n",
+    ),
+    (
+        "strategies f = id\n#term\n1",
+        "strc: NoMain\nstdin: strategy main without parameters is not defined\n",
+    ),
+    (
+        "strategies main = id\n",
+        "strc: TermSyntax at byte 0\nstdin: there is no term, since no line of the input is '#term'\n",
+    ),
+    (
+        "strategies main = id\n#term\n \n",
+        "strc: TermSyntax at byte 2\nstdin: there is no term\n",
+    ),
+    (
+        "strategies main = id\n#term\n[1,\n 99999999999]",
+        "strc: TermSyntax at byte 14\nstdin:4:11: the integer is not in the range from -2147483648 to 2147483647 (line 2 of the term)\n     99999999999]\n              ^\n",
+    ),
+    (
+        "strategies main = id\n#term\n(7,)",
+        "strc: TermSyntax at byte 3\nstdin:3:4: ')' cannot stand here (line 1 of the term)\n    (7,)\n       ^\n",
+    ),
+    (
+        "strategies main = id ; id ; id ; id ; id ; id ; id ; id ; id ; id ; id ; id ; id ; id ; id ; id ; id ; id ; id ; id ; id ; ; ; id ; id ; id ; id ; id ; id ; id ; id ; id ; id ; id ; id ; id ; id ; id ; id ; id ; id ; id ; id\n#term\n1",
+        "strc: Syntax at byte 123\nstdin:1:124: ';' cannot stand here\n  .. ; id ; id ; id ; id ; id ; id ; id ; id ; id ; ; ; id ; id ; id ; id ; ..\n                                                    ^\n",
+    ),
+];
+
+// Words of the command line, the term, and what is reported of the run.
+const RUNS: &[(&str, &str, &str)] = &[
+    (
+        "strc --stats id.str",
+        "F(1,1)",
+        "strc: 2 rules, 4 steps, 2 shapes\n",
+    ),
+    (
+        "strc --stats --rules 0 id.str",
+        "7",
+        "strc: 0 rules, 1 steps, 1 shapes\n",
+    ),
+    ("strc id.str", "7", ""),
+];
+
+#[test]
+fn places_of_refusals(rt: HostRuntime) -> Result<(), Fail> {
+    for (text, diagnostics) in ROWS {
+        let ran = run_on(rt.alloc(), "strc", text.as_bytes(), None, None, None)?;
+        assert_eq!(rt; ran.status, 2, "{text}");
+        assert_eq!(rt; ran.diagnostics.written(), diagnostics.as_bytes(), "{text}");
+    }
+    Ok(())
+}
+
+#[test]
+fn bytes_beyond_ascii(rt: HostRuntime) -> Result<(), Fail> {
+    let text = b"\xEF\xBB\xBFstrategies main = id";
+    let told =
+        b"strc: Lexical at byte 0\nstdin:1:1: a byte order mark cannot stand here\n    ???strategies main = id\n    ^\n";
+    let ran = run_on(rt.alloc(), "strc", text, None, None, None)?;
+    assert_eq!(rt; ran.diagnostics.written(), told.as_slice());
+    Ok(())
+}
+
+#[test]
+fn the_place_of_nesting(rt: HostRuntime) -> Result<(), Fail> {
+    let alloc = rt.alloc();
+    let mut text = b"strategies main = ".to_vec(alloc)?;
+    for _ in 0..201 {
+        text.push(b'(')?;
+    }
+    let told = b"strc: Nesting at byte 218\nstdin:1:219: this is nested deeper than 200 levels\n";
+    let ran = run_on(alloc, "strc", &text, None, None, None)?;
+    assert_eq!(rt; ran.status, 2);
+    assert_eq!(rt; ran.out.written(), b"#refused Nesting\n".as_slice());
+    assert!(rt; ran.diagnostics.written().starts_with(told));
+    Ok(())
+}
+
+#[test]
+fn numbers_of_runs(rt: HostRuntime) -> Result<(), Fail> {
+    for (line, term, diagnostics) in RUNS {
+        let ran = run_on(rt.alloc(), line, term.as_bytes(), None, None, None)?;
+        assert_eq!(rt; ran.diagnostics.written(), diagnostics.as_bytes(), "{line}");
+    }
+    Ok(())
+}
