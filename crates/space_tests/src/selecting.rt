@@ -46,10 +46,10 @@ struct Ran {
     steps: u64,
 }
 
-// Runs the code on the term over the space.
-fn run_over<S: TermSpace + Drop>(
+// Runs the code on the term.
+fn run<S: TermSpace + Drop>(
     alloc: Global,
-    space: S,
+    machine: &mut Machine<S>,
     code: &Code,
     term: &Term,
     budget: u32,
@@ -58,7 +58,6 @@ fn run_over<S: TermSpace + Drop>(
     if !registry.covers(code.prims()) {
         return Err(Fail::new("a primitive"));
     }
-    let mut machine = Machine::new(alloc, space);
     let entered = machine.enter(term)?;
     let run = machine.run(code, entered, budget, &registry)?;
     let mut written = Vec::new(alloc);
@@ -70,6 +69,19 @@ fn run_over<S: TermSpace + Drop>(
         rules: run.rules,
         steps: run.steps,
     })
+}
+
+// Runs the code on the term over the space.
+fn run_over<S: TermSpace + Drop>(
+    alloc: Global,
+    space: S,
+    code: &Code,
+    term: &Term,
+    budget: u32,
+) -> Result<Ran, Fail> {
+    let mut machine = Machine::new(alloc, space);
+    let ran = run(alloc, &mut machine, code, term, budget)?;
+    Ok(ran)
 }
 
 // Runs the definitions on the term over a store.
