@@ -1,5 +1,7 @@
 -- The frames of the Rust machine: more closures, and fewer frames.
-use Rattle.std.proofs.Common.{◌≡◌, ℕ, zero, suc, ◌+◌, ◌-◌, ◌≤◌, ◌<◌, List, [], ◌∷◌, ◌++◌, length, take, drop, map, get_or, append_assoc, append-nil, length-take, refl, sym, ◌∙◌, ap, subst, arith}
+use Rattle.std.proofs.Common.{◌≡◌, Some, None, ℕ, zero, suc, ◌+◌, ◌-◌, ◌≤◌, ◌<◌, List, [], ◌∷◌, ◌++◌, length, take, drop, map, get_or, append_assoc, append-nil, length-take, refl, sym, ◌∙◌, ap, subst, arith}
+use Rattle.std.specs.Option.{option_map}
+use Rattle.std.proofs.lemmas.Option.{slice_get-map}
 use Rattle.std.proofs.Math.Seq.{take-length, drop-append_seam}
 use Rattle.std.proofs.lemmas.List.{take-map, map-append, take_more, take-append-le, take_all, length-append, length-map, drop-map}
 use Rattle.strat_machine.specs.State as state
@@ -58,6 +60,17 @@ frames_within from (f ∷ fs) n cs laid =
 -- one frame up
 pub up_one : (F : List state.Frame) (p n k : ℕ) → k < n → frames_up F (around (slice_get F p) p) (n - (k + 1)) ≡ frames_up F p (n - k)
 up_one F p n k h = let e : n - k ≡ suc (n - (k + 1)) = omega arith in rw e refl
+
+-- there is no frame at the position, so there is none around it
+pub up_stays : (cs : List Closure) (fs : List Frame) (p n : ℕ) → slice_get fs p ≡ None → frames_up (frames_in cs fs) p n ≡ p
+up_stays cs fs p zero h = refl
+up_stays cs fs p (suc n) h =
+    let none = slice_get-map (frame_in cs) fs p ∙ ap (option_map (frame_in cs)) h in
+    ap (λ v. frames_up (frames_in cs fs) (around v p) n) none ∙ up_stays cs fs p n h
+
+-- the frame around one that is there
+pub up_next : (cs : List Closure) (fs : List Frame) (p : ℕ) (f : Frame) → slice_get fs p ≡ Some f → around (slice_get (frames_in cs fs) p) p ≡ f.up
+up_next cs fs p f h = ap (λ v. around v p) (slice_get-map (frame_in cs) fs p ∙ ap (option_map (frame_in cs)) h)
 
 -- the closures of arguments, one after another
 closed_append : (F : List state.Frame) (p : ℕ) (us vs : List code.Argument) → closed F p (us ++ vs) ≡ closed F p us ++ closed F p vs

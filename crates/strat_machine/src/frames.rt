@@ -153,25 +153,17 @@ impl Frames {
     }
 }
 
-// The frame around a frame.
-fn around_of(frames: &[Frame], closures: &[Closure], here: usize) -> usize
-    ensures { result ≡ around (slice_get (frames_in closures.now frames.now) here) here }
-{
-    let _ = closures;
-    match frames.get(here) {
-        Some(frame) => frame.up,
-        None => here,
-    }
-}
-
 // The frame `count` frames up.
-#[tactic(auto, using(crate::proofs::FrameLaws::up_one))]
 fn up_from(frames: &[Frame], closures: &[Closure], here: usize, count: usize) -> usize
     ensures { result ≡ frames_up (frames_in closures.now frames.now) here count }
 {
+    let _ = closures;
     let mut position = here;
     for _ in 0..count {
-        position = around_of(frames, closures, position);
+        let Some(frame) = frames.get(position) else {
+            return position;
+        };
+        position = frame.up;
     }
     position
 }
