@@ -122,10 +122,10 @@ impl<R: Drop> Places<R> {
     pub(crate) fn give(&mut self, place: usize, reference: R) -> Result<(), AllocError>
         ensures { OnOk result (self.new ≡ record self.old { slots = with_term place reference self.old.slots; trail = (if nat_lt place self.old.barrier then place ∷ self.old.trail else self.old.trail) }) }
     {
+        fill(&mut self.slots, place, reference);
         if place < self.barrier {
             self.trail.push(place)?;
         }
-        fill(&mut self.slots, place, reference);
         Ok(())
     }
 
