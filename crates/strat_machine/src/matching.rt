@@ -52,21 +52,23 @@ pub(crate) fn match_pattern<S: TermSpace>(
         }
         LoadedPattern::Integer(value) => Ok(is_integer(space, at, value)),
         LoadedPattern::Applied(name, parts) => {
-            if !is_application(space, at, name) {
+            let count = space.count(at);
+            if !is_application(space, at, name, count) {
                 return Ok(false);
             }
             let parts = parts.as_slice();
-            if !match_first(space, alloc, frames, here, parts, at, places)? {
+            if !match_first(space, alloc, frames, here, parts, at, count, places)? {
                 return Ok(false);
             }
-            Ok(parts.len() == space.count(at))
+            Ok(parts.len() == count)
         }
         LoadedPattern::List(elements, rest) => {
             if !is_list(space, at) {
                 return Ok(false);
             }
             let elements = elements.as_slice();
-            if !match_first(space, alloc, frames, here, elements, at, places)? {
+            let count = space.count(at);
+            if !match_first(space, alloc, frames, here, elements, at, count, places)? {
                 return Ok(false);
             }
             let from = elements.len();
@@ -86,9 +88,11 @@ fn match_first<S: TermSpace>(
     here: usize,
     patterns: &[LoadedPattern<S::Name>],
     at: &S::Ref,
+    count: usize,
     places: &mut Places<S::Ref>,
 ) -> Result<bool, AllocError>
     requires known { AllKnown (S.knows space.old) patterns.now }
+    requires count { count ≡ length (parts_of (S.term_of space.old at.now)) }
     requires stands { IsTrue (S.stands space.old at.now) }
     requires places { AllPlaces (λ r. IsTrue (S.stands space.old r)) places.old.slots }
     ensures keeps { Keeps S.stands S.term_of S.is_valid S.knows S.symbol_of space.old space.new }
@@ -96,17 +100,42 @@ fn match_first<S: TermSpace>(
     ensures enough { IfOk result (λ yes. yes ≡ true → length patterns.now ≤ length (parts_of (S.term_of space.old at.now))) }
     ensures attempt { IfOk result (λ yes. Goes S.stands S.term_of places.old.barrier (first_attempted (place_at frames.now here) places.old.barrier (map (loaded_of (S.symbol_of space.old)) patterns.now) (parts_of (S.term_of space.old at.now))) (attempt yes) space.old places.old.slots places.old.trail space.new places.new.slots places.new.trail) }
 {
-    let count = space.count(at);
     for (i, pattern) in patterns.iter().enumerate() {
         if i >= count {
             return Ok(false);
         }
         let part = space.part(at, i)?;
-        if !match_pattern(space, alloc, frames, here, pattern, &part, places)? {
+        if !match_part(space, alloc, frames, here, pattern, &part, places)? {
             return Ok(false);
         }
     }
     Ok(true)
+}
+
+// Whether the pattern matches the part. Most parts of patterns are variables, which need no further call.
+#[cycle(matching)]
+fn match_part<S: TermSpace>(
+    space: &mut S,
+    alloc: Global,
+    frames: &Frames,
+    here: usize,
+    pattern: &LoadedPattern<S::Name>,
+    at: &S::Ref,
+    places: &mut Places<S::Ref>,
+) -> Result<bool, AllocError>
+    requires known { Known (S.knows space.old) pattern.now }
+    requires stands { IsTrue (S.stands space.old at.now) }
+    requires places { AllPlaces (λ r. IsTrue (S.stands space.old r)) places.old.slots }
+    ensures keeps { Keeps S.stands S.term_of S.is_valid S.knows S.symbol_of space.old space.new }
+    ensures barrier { IfOk result (λ _. places.new.barrier ≡ places.old.barrier) }
+    ensures attempt { IfOk result (λ yes. Goes S.stands S.term_of places.old.barrier (attempted (place_at frames.now here) places.old.barrier (loaded_of (S.symbol_of space.old) pattern.now) (S.term_of space.old at.now)) (attempt yes) space.old places.old.slots places.old.trail space.new places.new.slots places.new.trail) }
+{
+    let LoadedPattern::Variable(x) = pattern else {
+        let yes = match_pattern(space, alloc, frames, here, pattern, at, places)?;
+        return Ok(yes);
+    };
+    let yes = bind_variable(space, frames, here, *x, at, places)?;
+    Ok(yes)
 }
 
 // Whether the pattern matches the rest of the list; with no pattern, whether there is none.
@@ -178,12 +207,13 @@ pub(crate) fn is_integer<S: TermSpace>(space: &S, at: &S::Ref, value: &i32) -> b
     }
 }
 
-fn is_application<S: TermSpace>(space: &S, at: &S::Ref, name: &S::Name) -> bool
+fn is_application<S: TermSpace>(space: &S, at: &S::Ref, name: &S::Name, count: usize) -> bool
     requires stands { IsTrue (S.stands space.now at.now) }
     requires known { IsTrue (S.knows space.now name.now) }
+    requires count { count ≡ length (parts_of (S.term_of space.now at.now)) }
     ensures { result ≡ same_head (head_of (S.term_of space.now at.now)) (heads.App (S.symbol_of space.now name.now)) }
 {
-    space.is_app(at, name, space.count(at))
+    space.is_app(at, name, count)
 }
 
 fn is_list<S: TermSpace>(space: &S, at: &S::Ref) -> bool

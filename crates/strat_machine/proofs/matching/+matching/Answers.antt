@@ -20,23 +20,23 @@ match_first-loop-i-init g t c =
 pub match_first-returns-then-i-count-clause-attempt : goal.match_first-returns-then-i-count-clause-attempt
 match_first-returns-then-i-count-clause-attempt g t c =
     let s = g.S.TermSpace in
-    match_lacks (place_at c.args.frames.now c.args.here) (loaded_of (s.symbol_of c.args.space.now)) c.args.patterns.now (parts_of (s.term_of c.args.space.now c.args.at.now)) c.loop-i.i c.count-count.result c.loop-i-test.true c.count-count.ensures c.if-i-count.true c.loop-i.invariant.3
+    match_lacks (place_at c.args.frames.now c.args.here) (loaded_of (s.symbol_of c.args.space.now)) c.args.patterns.now (parts_of (s.term_of c.args.space.now c.args.at.now)) c.loop-i.i c.args.count c.loop-i-test.true c.requires.count c.if-i-count.true c.loop-i.invariant.3
 
 pub match_first-returns-then-not-branch-clause-keeps : goal.match_first-returns-then-not-branch-clause-keeps
-match_first-returns-then-not-branch-clause-keeps g t c = keeps_then c.loop-i.invariant.0 c.in_ok-match_pattern.ensures.keeps
+match_first-returns-then-not-branch-clause-keeps g t c = keeps_then c.loop-i.invariant.0 c.in_ok-match_part.ensures.keeps
 
 pub match_first-returns-then-not-branch-clause-attempt : goal.match_first-returns-then-not-branch-clause-attempt
 match_first-returns-then-not-branch-clause-attempt g t c =
-    match_stops (place_at c.args.frames.now c.args.here) c.args.patterns.now c.args.at.now c.loop-i.i c.index-patterns-i.result (g.S.TermSpace.term_of c.loop-i.space c.in_ok-part.part) c.in_ok-match_pattern.field-0 c.loop-i.places.barrier
-    c.requires.known c.loop-i.invariant.0 c.requires.stands c.loop-i-test.true c.index-patterns-i.is c.in_ok-part.ensures.term c.loop-i.invariant.3 c.in_ok-match_pattern.ensures.keeps c.loop-i.invariant.1 c.if-not-branch.true c.in_ok-match_pattern.ensures.attempt
+    match_stops (place_at c.args.frames.now c.args.here) c.args.patterns.now c.args.at.now c.loop-i.i c.index-patterns-i.result (g.S.TermSpace.term_of c.loop-i.space c.in_ok-part.part) c.in_ok-match_part.field-0 c.loop-i.places.barrier
+    c.requires.known c.loop-i.invariant.0 c.requires.stands c.loop-i-test.true c.index-patterns-i.is c.in_ok-part.ensures.term c.loop-i.invariant.3 c.in_ok-match_part.ensures.keeps c.loop-i.invariant.1 c.if-not-branch.true c.in_ok-match_part.ensures.attempt
 
 pub match_first-loop-i-preserved : goal.match_first-loop-i-preserved
 match_first-loop-i-preserved g t c = (
-  keeps_then c.loop-i.invariant.0 c.in_ok-match_pattern.ensures.keeps,
-  c.in_ok-match_pattern.ensures.barrier ∙ c.loop-i.invariant.1,
+  keeps_then c.loop-i.invariant.0 c.in_ok-match_part.ensures.keeps,
+  c.in_ok-match_part.ensures.barrier ∙ c.loop-i.invariant.1,
   (let below = c.if-i-count.false in omega arith),
-  match_next (place_at c.args.frames.now c.args.here) c.args.patterns.now c.args.at.now c.loop-i.i c.index-patterns-i.result (g.S.TermSpace.term_of c.loop-i.space c.in_ok-part.part) c.in_ok-match_pattern.field-0 c.loop-i.places.barrier
-      c.requires.known c.loop-i.invariant.0 c.requires.stands c.loop-i-test.true c.index-patterns-i.is c.in_ok-part.ensures.term c.loop-i.invariant.3 c.in_ok-match_pattern.ensures.keeps c.loop-i.invariant.1 c.if-not-branch.false c.in_ok-match_pattern.ensures.attempt,
+  match_next (place_at c.args.frames.now c.args.here) c.args.patterns.now c.args.at.now c.loop-i.i c.index-patterns-i.result (g.S.TermSpace.term_of c.loop-i.space c.in_ok-part.part) c.in_ok-match_part.field-0 c.loop-i.places.barrier
+      c.requires.known c.loop-i.invariant.0 c.requires.stands c.loop-i-test.true c.index-patterns-i.is c.in_ok-part.ensures.term c.loop-i.invariant.3 c.in_ok-match_part.ensures.keeps c.loop-i.invariant.1 c.if-not-branch.false c.in_ok-match_part.ensures.attempt,
 )
 
 pub match_pattern-returns-in-Anything-clause-attempt : goal.match_pattern-returns-in-Anything-clause-attempt
@@ -47,8 +47,8 @@ pub match_pattern-returns-in-Like-clause-attempt : goal.match_pattern-returns-in
 match_pattern-returns-in-Like-clause-attempt g t c =
     goes_as_pattern (place_at c.args.frames.now c.args.here) _ _ (g.S.TermSpace.term_of c.args.space.now c.args.at.now) false (loaded_as_like (g.S.TermSpace.symbol_of c.args.space.now) c.args.pattern.now _ _ c.in-Like.is) c.requires.places (λ h H. refl)
 
-pub match_first-match_pattern-requires : goal.match_first-match_pattern-requires
-match_first-match_pattern-requires g t c κs within =
+pub match_first-match_part-requires : goal.match_first-match_part-requires
+match_first-match_part-requires g t c κs within =
     let s = g.S.TermSpace in
     let known = known_at (s.knows c.args.space.now) c.args.patterns.now c.loop-i.i c.index-patterns-i.result c.requires.known c.loop-i-test.true c.index-patterns-i.is in
     (search (rules, the_lemmas), (within.0, (within.1.0, (within.1.1.0, (within.1.1.1, (known_later c.loop-i.invariant.0.known c.index-patterns-i.result known, (c.in_ok-part.ensures.stands, c.loop-i.invariant.3.standing)))))))
@@ -56,12 +56,12 @@ match_first-match_pattern-requires g t c κs within =
 pub match_pattern-match_first-requires : goal.match_pattern-match_first-requires
 match_pattern-match_first-requires g t c κs within =
     let known = known_as_applied (g.S.TermSpace.knows c.args.space.now) c.args.pattern.now c.in-Applied.name c.in-Applied.parts c.as_slice-parts.result.now c.in-Applied.is c.as_slice-parts.ensures.value c.requires.known in
-    (search (rules, the_lemmas), (within.0, (within.1.0, (within.1.1.0, (within.1.1.1, (known.1, (c.requires.stands, c.requires.places)))))))
+    (search (rules, the_lemmas), (within.0, (within.1.0, (within.1.1.0, (within.1.1.1, (known.1, (c.count-count.ensures, (c.requires.stands, c.requires.places))))))))
 
 pub match_pattern-match_first-requires-in-List : goal.match_pattern-match_first-requires-in-List
 match_pattern-match_first-requires-in-List g t c κs within =
     let known = known_as_list (g.S.TermSpace.knows c.args.space.now) c.args.pattern.now c.in-List.elements c.in-List.rest c.as_slice-elements.result.now c.in-List.is c.as_slice-elements.ensures.value c.requires.known in
-    (search (rules, the_lemmas), (within.0, (within.1.0, (within.1.1.0, (within.1.1.1, (known.0, (c.requires.stands, c.requires.places)))))))
+    (search (rules, the_lemmas), (within.0, (within.1.0, (within.1.1.0, (within.1.1.1, (known.0, (c.count-count-in-List.ensures, (c.requires.stands, c.requires.places))))))))
 
 pub match_pattern-match_rest-requires : goal.match_pattern-match_rest-requires
 match_pattern-match_rest-requires g t c κs within =
@@ -116,8 +116,8 @@ match_pattern-returns-else-not-branch-2-clause-attempt g t c =
     let symbols = s.symbol_of c.args.space.now in
     let parts = c.as_slice-parts.result.now in
     applied_ends (place_at c.args.frames.now c.args.here) (loaded_of symbols c.args.pattern.now) (map (loaded_of symbols) parts) (s.term_of c.args.space.now c.args.at.now) c.is_application.result c.in_ok-match_first-in-Applied.field-0
-    c.in_ok-match_first-in-Applied.ensures.attempt (symbols c.in-Applied.name) _ (length parts) c.count.result (loaded_as_applied symbols c.args.pattern.now c.in-Applied.name c.in-Applied.parts parts c.in-Applied.is c.as_slice-parts.ensures.value) c.is_application.ensures c.if-not-is_application.false
-    c.if-not-branch-2.false (c.in_ok-match_first-in-Applied.ensures.enough c.if-not-branch-2.false) (sym (length-map parts (loaded_of symbols))) (c.count.ensures ∙ ap (λ u. length (parts_of u)) (c.in_ok-match_first-in-Applied.ensures.keeps.terms c.args.at.now c.requires.stands)) refl
+    c.in_ok-match_first-in-Applied.ensures.attempt (symbols c.in-Applied.name) _ (length parts) c.count-count.result (loaded_as_applied symbols c.args.pattern.now c.in-Applied.name c.in-Applied.parts parts c.in-Applied.is c.as_slice-parts.ensures.value) c.is_application.ensures c.if-not-is_application.false
+    c.if-not-branch-2.false (c.in_ok-match_first-in-Applied.ensures.enough c.if-not-branch-2.false) (sym (length-map parts (loaded_of symbols))) c.count-count.ensures refl
 
 pub match_pattern-returns-then-not-is_list-clause-attempt : goal.match_pattern-returns-then-not-is_list-clause-attempt
 match_pattern-returns-then-not-is_list-clause-attempt g t c =
