@@ -1,5 +1,5 @@
 -- What a build, a call and a match say, in the words of the steps of the machine.
-use Rattle.std.proofs.Common.{◌≡◌, ℕ, Option, Some, List, [], ◌∷◌, map, refl, sym, ◌∙◌, ap, subst}
+use Rattle.std.proofs.Common.{◌≡◌, ℕ, Option, Some, List, [], ◌∷◌, length, map, refl, sym, ◌∙◌, ap, subst, arith}
 use Rattle.std.specs.Prelude.{Bool}
 use Rattle.core_lang.specs.declared.coordinate.Coordinate.{Coordinate}
 use Rattle.core_lang.specs.Building.{instances}
@@ -13,7 +13,7 @@ use Rattle.strat_machine.specs.declared.building.Built.TheVariants as built_form
 use Rattle.strat_machine.specs.declared.building.Pushed.{Pushed}
 use Rattle.strat_machine.specs.declared.building.Pushed.TheVariants as pushed
 use Rattle.strat_machine.specs.References.{trees}
-use Rattle.strat_machine.proofs.ElementLaws.{instances_are, front_end, puts_as}
+use Rattle.strat_machine.proofs.ElementLaws.{instances_are, front_end, puts_as, puts_nothing}
 
 module _ {W R : Type 0} (stands : W → R → Bool) (term_of : W → R → Tree) (w : W) (o : Option Tree) (e : Bindings) where
   pub build_is_ok : (r : R) → Builds stands term_of w o (built_forms.Made r) → built o e ≡ ok (term_of w r) e
@@ -54,3 +54,9 @@ module _ {W R : Type 0} (stands : W → R → Bool) (term_of : W → R → Tree)
   large_arguments made rs is h =
       let large = subst (λ m. AreBuilt term_of w (instances_then place e ps) rs m) is h in
       (trees_of large.0, instances_are place e ps ∙ (large.1 (Some end) ∙ front_end large.0), large.2, refl)
+
+-- of no patterns nothing is put
+pub nothing_put : {W R N : Type 0} (stands : W → R → Bool) (term_of : W → R → Tree) (w : W) (place : Coordinate → Option ℕ) (e : Bindings) (as_pattern : N → Pattern Coordinate) (ps : List N) (old : List R) → length ps ≡ 0 →
+    Puts stands w old old (λ rs. AreArguments term_of w (instances place (patterns_in (map as_pattern ps)) e) rs pushed.All)
+nothing_put stands term_of w place e as_pattern [] old h = puts_nothing stands w old (λ rs. AreArguments term_of w (Some end) rs pushed.All) (refl, refl)
+nothing_put stands term_of w place e as_pattern (p ∷ ps) old h = absurd (omega arith)

@@ -1,15 +1,16 @@
 // What a build makes of a pattern, over references.
-ghost use Rattle.std.specs.Prelude.{◌≡◌, IfOk, IsTrue, MatchOption, Option, Some, None, false, [], ◌≤◌, length, map, take, drop};
+ghost use Rattle.std.specs.Prelude.{◌≡◌, IfOk, IsTrue, MatchOption, Option, Some, None, [], ◌≤◌, length, map, take, drop};
 ghost use Rattle.std.specs.Option.{option_map};
 ghost use Rattle.core_lang.specs.Building.{applied_to, element_instances, elements_of, instance, instances, list_term, made_like, value_in};
 ghost use Rattle.core_lang.specs.Views.{elements_in};
 ghost use Rattle.term_model.specs.Space.{Keeps};
-ghost use Rattle.term_model.specs.Term.{Tree, Trees, annos_of, end};
-ghost use Rattle.strat_machine.specs.Builds.{held_in, joined_elements, made_built, instances_then, Builds, BuiltStands, IsBare, IsKept, AreBuilt, AreArguments, AreElements, TailStands, Puts};
+ghost use Rattle.term_model.specs.Term.{Trees, end};
+ghost use Rattle.strat_machine.specs.Builds.{held_in, joined_elements, made_built, instances_then, Builds, IsKept, AreBuilt, AreArguments, AreElements, TailStands, Puts};
 ghost use Rattle.strat_machine.specs.Loaded.{Known, AllKnown, RestKnown, all_loaded_of, loaded_of, rest_loaded_of};
 ghost use Rattle.strat_machine.specs.References.{AllPlaces, AllRefs};
 ghost use Rattle.strat_machine.specs.State.{place_at};
 
+use crate::annotations::{annotated, with_annos_of};
 use crate::frames::Frames;
 use crate::loaded::LoadedPattern;
 use core_lang::Coordinate;
@@ -81,27 +82,6 @@ fn held<'a, R>(
     }
 }
 
-/// Makes the term with the annotations of another one.
-fn with_annos_of<S: TermSpace>(
-    space: &mut S,
-    alloc: Global,
-    at: &S::Ref,
-    other: &S::Ref,
-    stack: &mut Vec<S::Ref>,
-) -> Result<Built<S::Ref>, AllocError>
-    requires stands { IsTrue (S.stands space.old at.now) }
-    requires other { IsTrue (S.stands space.old other.now) }
-    ensures keeps { Keeps S.stands S.term_of S.is_valid S.knows S.symbol_of space.old space.new }
-    ensures stack { IfOk result (λ _. stack.new.items ≡ stack.old.items) }
-    ensures built { IfOk result (Builds S.stands S.term_of space.new (made_like (Some (S.term_of space.old at.now)) (Some (S.term_of space.old other.now)))) }
-{
-    let from = stack.len();
-    space.push_annos(other, stack)?;
-    let made = space.with_annos(alloc, at, &stack[from..])?;
-    stack.truncate(from);
-    Ok(outcome(made))
-}
-
 /// What was built where this was made.
 pub(crate) fn outcome<R: Drop>(made: Made<R>) -> Built<R>
     ensures { result ≡ made_built made }
@@ -110,38 +90,6 @@ pub(crate) fn outcome<R: Drop>(made: Made<R>) -> Built<R>
         Made::Fits(reference) => Built::Made(reference),
         Made::Oversize => Built::Oversize,
     }
-}
-
-/// Whether a term has annotations.
-fn has_annos<S: TermSpace>(space: &S, at: &S::Ref) -> bool
-    requires { IsTrue (S.stands space.now at.now) }
-    ensures { result ≡ false → annos_of (S.term_of space.now at.now) ≡ [] }
-{
-    space.shape(at).annos.len() > 0
-}
-
-/// What was built, which has no annotations, with those of another term.
-fn annotated<S: TermSpace>(
-    space: &mut S,
-    alloc: Global,
-    bare: Built<S::Ref>,
-    like: &S::Ref,
-    stack: &mut Vec<S::Ref>,
-) -> Result<Built<S::Ref>, AllocError>
-    requires stands { BuiltStands (λ r. IsTrue (S.stands space.old r)) bare }
-    requires like { IsTrue (S.stands space.old like.now) }
-    ensures keeps { Keeps S.stands S.term_of S.is_valid S.knows S.symbol_of space.old space.new }
-    ensures stack { IfOk result (λ _. stack.new.items ≡ stack.old.items) }
-    ensures built { IfOk result (λ made. (o : Option Tree) → IsBare o → Builds S.stands S.term_of space.old o bare → Builds S.stands S.term_of space.new (made_like o (Some (S.term_of space.old like.now))) made) }
-{
-    let Built::Made(at) = bare else {
-        return Ok(bare);
-    };
-    if !has_annos(space, like) {
-        return Ok(Built::Made(at));
-    }
-    let built = with_annos_of(space, alloc, &at, like, stack)?;
-    Ok(built)
 }
 
 /// Makes the instance of the pattern.
@@ -410,6 +358,9 @@ pub(crate) fn build_all<S: TermSpace>(
     ensures keeps { Keeps S.stands S.term_of S.is_valid S.knows S.symbol_of space.old space.new }
     ensures built { IfOk result (λ made. Puts S.stands space.new stack.old.items stack.new.items (λ rs. AreArguments S.term_of space.new (instances (place_at frames.now here) (all_loaded_of (S.symbol_of space.old) patterns.now) (map (option_map (S.term_of space.old)) slots.now)) rs made)) }
 {
+    if patterns.is_empty() {
+        return Ok(Pushed::All);
+    }
     let from = stack.len();
     let made = push_all(space, alloc, frames, here, slots, patterns, stack)?;
     match made {
@@ -444,7 +395,7 @@ fn push_all<S: TermSpace>(
 {
     let mut fit = true;
     for p in patterns {
-        let built = build(space, alloc, frames, here, slots, p, stack)?;
+        let built = build_part(space, alloc, frames, here, slots, p, stack)?;
         let Some(kept) = keep(stack, built)? else {
             return Ok(Pushed::NoInstance);
         };
@@ -454,6 +405,35 @@ fn push_all<S: TermSpace>(
         return Ok(Pushed::Oversize);
     }
     Ok(Pushed::All)
+}
+
+/// Makes the instance of the pattern. Most parts of patterns are variables, which need no further call.
+#[cycle(building)]
+fn build_part<S: TermSpace>(
+    space: &mut S,
+    alloc: Global,
+    frames: &Frames,
+    here: usize,
+    slots: &[Option<S::Ref>],
+    pattern: &LoadedPattern<S::Name>,
+    stack: &mut Vec<S::Ref>,
+) -> Result<Built<S::Ref>, AllocError>
+    requires known { Known (S.knows space.old) pattern.now }
+    requires slots { AllPlaces (λ r. IsTrue (S.stands space.old r)) slots.now }
+    ensures keeps { Keeps S.stands S.term_of S.is_valid S.knows S.symbol_of space.old space.new }
+    ensures stack { IfOk result (λ _. stack.new.items ≡ stack.old.items) }
+    ensures built { IfOk result (Builds S.stands S.term_of space.new (instance (place_at frames.now here) (loaded_of (S.symbol_of space.old) pattern.now) (map (option_map (S.term_of space.old)) slots.now))) }
+{
+    let LoadedPattern::Variable(x) = pattern else {
+        let built = build(space, alloc, frames, here, slots, pattern, stack)?;
+        return Ok(built);
+    };
+    let Some(at) = value(space, frames, here, *x, slots) else {
+        return Ok(Built::NoInstance);
+    };
+    space.fits(at);
+    let reference = space.dup(at)?;
+    Ok(Built::Made(reference))
 }
 
 /// Puts what was built on the stack, and returns whether it fits; nothing where it is none.

@@ -1,6 +1,7 @@
 //! The machine that runs code: its states, its steps, and what its runs do.
 #![tactic(auto)]
 
+mod annotations;
 mod building;
 mod calls;
 mod control;

@@ -204,20 +204,20 @@ push_all-loop-p-init g t c =
       building_starts s.stands s.term_of w (instances_then (place_at c.args.frames.now c.args.here) (map (option_map (s.term_of w)) c.args.slots.now) (map (loaded_of (s.symbol_of w)) c.args.patterns.now)) c.args.stack.now.items,
     )
 
-pub push_all-build-requires : goal.push_all-build-requires
-push_all-build-requires g t c κs within =
+pub push_all-build_part-requires : goal.push_all-build_part-requires
+push_all-build_part-requires g t c κs within =
     let keeps = c.loop-p.invariant.0 in
     let known = known_at (g.S.TermSpace.knows c.args.space.now) c.args.patterns.now c.loop-p.p-index c.p-item.result c.requires.known c.loop-p-test.true c.p-item.is in
     (search (rules, the_lemmas), (within.0, (within.1.0, (within.1.1.0, (within.1.1.1, (known_later keeps.known c.p-item.result known, all_changed keeps.standing c.args.slots.now c.requires.slots))))))
 
 pub push_all-returns-in_err-built-clause-keeps : goal.push_all-returns-in_err-built-clause-keeps
-push_all-returns-in_err-built-clause-keeps g t c = keeps_then c.loop-p.invariant.0 c.build.ensures.keeps
+push_all-returns-in_err-built-clause-keeps g t c = keeps_then c.loop-p.invariant.0 c.build_part.ensures.keeps
 
 pub push_all-returns-in_err-kept-clause-keeps : goal.push_all-returns-in_err-kept-clause-keeps
-push_all-returns-in_err-kept-clause-keeps g t c = keeps_then c.loop-p.invariant.0 c.build.ensures.keeps
+push_all-returns-in_err-kept-clause-keeps g t c = keeps_then c.loop-p.invariant.0 c.build_part.ensures.keeps
 
 pub push_all-returns-in_default-clause-keeps : goal.push_all-returns-in_default-clause-keeps
-push_all-returns-in_default-clause-keeps g t c = keeps_then c.loop-p.invariant.0 c.build.ensures.keeps
+push_all-returns-in_default-clause-keeps g t c = keeps_then c.loop-p.invariant.0 c.build_part.ensures.keeps
 
 pub push_all-returns-in_default-clause-built : goal.push_all-returns-in_default-clause-built
 push_all-returns-in_default-clause-built g t c =
@@ -232,7 +232,7 @@ push_all-returns-in_default-clause-built g t c =
     let i = c.loop-p.p-index in
     let keeps = c.loop-p.invariant.0 in
     let p = c.p-item.result in
-    let w2 = c.build.new.space in
+    let w2 = c.build_part.new.space in
     let later = c.in_ok-built.ensures.keeps in
     let here_known = known_at (s.knows w) c.args.patterns.now i p c.requires.known c.loop-p-test.true c.p-item.is in
     let same = same_instance s.stands s.term_of w w1 place (loaded_of symbols p) (loaded_of (s.symbol_of w1) p) c.args.slots.now keeps.terms c.requires.slots (loaded_same (s.knows w) symbols (s.symbol_of w1) keeps.symbols p here_known) in
@@ -254,7 +254,7 @@ push_all-loop-p-preserved g t c =
     let i = c.loop-p.p-index in
     let keeps = c.loop-p.invariant.0 in
     let p = c.p-item.result in
-    let w2 = c.build.new.space in
+    let w2 = c.build_part.new.space in
     let later = c.in_ok-built.ensures.keeps in
     let here_known = known_at (s.knows w) c.args.patterns.now i p c.requires.known c.loop-p-test.true c.p-item.is in
     let same = same_instance s.stands s.term_of w w1 place (loaded_of symbols p) (loaded_of (s.symbol_of w1) p) c.args.slots.now keeps.terms c.requires.slots (loaded_same (s.knows w) symbols (s.symbol_of w1) keeps.symbols p here_known) in
@@ -262,7 +262,7 @@ push_all-loop-p-preserved g t c =
     let kept = subst (λ xs. IsKept c.in_ok-built.built c.in_ok-kept.field-0 xs c.keep.new.stack.items) c.in_ok-built.ensures.stack c.in_ok-kept.ensures in
     let next = building_next s.stands s.term_of w1 w2 (all ps) (all (drop i ps)) (all (drop (i + 1) ps)) later.standing later.terms (instance place (loaded_of symbols p) terms) (next_pattern place terms (loaded_of symbols) c.args.patterns.now i p c.loop-p-test.true c.p-item.is)
     c.args.stack.now.items c.loop-p.stack.items c.keep.new.stack.items c.in_ok-built.built c.in_ok-kept.field-0 c.in-Some.kept c.loop-p.fit _ made kept c.in-Some.is refl c.loop-p.invariant.1 in
-    (keeps_then keeps c.build.ensures.keeps, next)
+    (keeps_then keeps c.build_part.ensures.keeps, next)
 
 pub push_all-returns-then-not-fit-clause-built : goal.push_all-returns-then-not-fit-clause-built
 push_all-returns-then-not-fit-clause-built g t c =

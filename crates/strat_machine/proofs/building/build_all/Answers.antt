@@ -1,8 +1,9 @@
-use Rattle.std.proofs.Common.{◌∙◌, map}
+use Rattle.std.proofs.Common.{◌≡◌, ◌∙◌, length, map, sym}
 use Rattle.std.specs.Option.{option_map}
+use Rattle.std.specs.Cmp.{unsigned_Decides}
 use Rattle.strat_machine.specs.Loaded.{loaded_of}
 use Rattle.strat_machine.specs.State.{place_at}
-use Rattle.strat_machine.proofs.BuiltLaws.{arguments_put, no_arguments, large_arguments}
+use Rattle.strat_machine.proofs.BuiltLaws.{arguments_put, no_arguments, large_arguments, nothing_put}
 use Rattle.strat_machine.proofs.ElementLaws.{puts_nothing_at, kept_is}
 use Rattle.strat_machine.proofs.building.build_all.Goals as goal
 
@@ -27,3 +28,10 @@ returns-in-Oversize-clause-built g c =
     let built = c.in_ok-made.ensures.built in
     puts_nothing_at s.stands c.push_all.new.space c.args.stack.now.items _ (c.truncate-in-Oversize.ensures.items ∙ kept_is built c.len-from.result (c.len-from.ensures ∙ c.args.stack.now.ok.0)) _
     (large_arguments s.stands s.term_of c.push_all.new.space (place_at c.args.frames.now c.args.here) (map (option_map (s.term_of w)) c.args.slots.now) (map (loaded_of (s.symbol_of w)) c.args.patterns.now) c.args.stack.now.items c.push_all.new.stack.items c.in_ok-made.made built.put c.in-Oversize.is built.are)
+
+pub returns-then-is_empty-clause-built : goal.returns-then-is_empty-clause-built
+returns-then-is_empty-clause-built g c =
+    let s = g.S.TermSpace in
+    let w = c.args.space.now in
+    let none : length c.args.patterns.now ≡ 0 = (unsigned_Decides (length c.args.patterns.now) 0).0 (sym c.is_empty.ensures ∙ c.if-is_empty.true) in
+    nothing_put s.stands s.term_of w (place_at c.args.frames.now c.args.here) (map (option_map (s.term_of w)) c.args.slots.now) (loaded_of (s.symbol_of w)) c.args.patterns.now c.args.stack.now.items none

@@ -1,6 +1,6 @@
 use Rattle.std.proofs.Common.{rules}
 use Rattle.strat_machine.proofs.BuildingLaws.{bare_stays, bare_alike}
-use Rattle.strat_machine.proofs.building.annotated.Goals as goal
+use Rattle.strat_machine.proofs.annotations.annotated.Goals as goal
 
 pub returns-in_default : goal.returns-in_default
 returns-in_default g c = record {

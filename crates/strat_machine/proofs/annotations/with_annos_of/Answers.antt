@@ -2,7 +2,7 @@ use Rattle.std.proofs.Common.{◌∙◌, Some, map, take, drop, length, ◌-◌}
 use Rattle.term_model.specs.Term.{term, head_of, parts_of, annos_of}
 use Rattle.core_lang.specs.Building.{made_like}
 use Rattle.strat_machine.proofs.BuildingLaws.{outcome_is, like_is, pushed_slice}
-use Rattle.strat_machine.proofs.building.with_annos_of.Goals as goal
+use Rattle.strat_machine.proofs.annotations.with_annos_of.Goals as goal
 
 pub returns-clause-built : goal.returns-clause-built
 returns-clause-built g c =
