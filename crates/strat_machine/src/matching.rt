@@ -71,8 +71,7 @@ pub(crate) fn match_pattern<S: TermSpace>(
             if !match_first(space, alloc, frames, here, elements, at, count, places)? {
                 return Ok(false);
             }
-            let from = elements.len();
-            let yes = match_rest(space, alloc, frames, here, rest, at, from, places)?;
+            let yes = match_rest(space, alloc, frames, here, rest, at, elements.len(), places)?;
             Ok(yes)
         }
         LoadedPattern::Like(_, _) => Ok(false),
