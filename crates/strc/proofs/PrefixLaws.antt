@@ -1,12 +1,12 @@
 -- What a writer has gained after several writes in a row.
-use Rattle.std.proofs.Common.{◌≡◌, ◌+◌, ◌≤◌, ℕ, List, ◌++◌, length, take, Option, None, Some, refl, arith, false, true≢false, length-append}
-use Rattle.std.proofs.lemmas.List.{take-append-le, take_at, drop_at}
+use Rattle.std.proofs.Common.{◌≡◌, ◌+◌, ◌≤◌, ℕ, Bool, List, [], ◌++◌, length, take, Option, None, Some, refl, sym, arith, false, true, true≢false, length-append}
+use Rattle.std.proofs.lemmas.List.{append-nil, take-append-le, take_at, drop_at}
 use Rattle.std.proofs.Math.Seq.{take-add}
 use Rattle.std.proofs.lemmas.Grind.{common_steps}
 use Rattle.std.specs.Prelude.{Result, Ok, Err, OnOk, is_err, if◌then◌else◌}
 use Rattle.term_model.specs.declared.fault.Fault.{Fault}
 use Rattle.str_pipeline.specs.Device.{Gains, GainsPrefix}
-use Rattle.strc.specs.Report.{diagnostic, Tells, TellsMore}
+use Rattle.strc.specs.Report.{diagnostic, Tells, TellsMore, TellsNumbers}
 
 pub gains_both : (a b c : Option (List ℕ)) (xs ys : List ℕ) → Gains a b xs → Gains b c ys → Gains a c (xs ++ ys)
 gains_both None b c xs ys first second = tt
@@ -51,3 +51,22 @@ tells_after {A} {B} (Ok v) (Ok u) fault more before between after old middle new
 tells_after {A} {B} (Ok v) (Err e) fault more before between after old middle new good first still gained begun failed =
     tells_both {A = B} (Err e) fault more before after old middle new first gained begun (omega arith)
 tells_after (Err e) w fault more before between after old middle new good first still gained begun failed = absurd (true≢false good)
+
+gains_nothing : (a : Option (List ℕ)) → GainsPrefix a a []
+gains_nothing None = (0, omega arith, tt)
+gains_nothing (Some xs) = (0, omega arith, rw append-nil refl)
+
+-- no numbers that are not asked for
+pub not_asked : (asked : Bool) (a : Option (List ℕ)) → asked ≡ false → TellsNumbers asked a a
+not_asked true a quiet = absurd (true≢false quiet)
+not_asked false a quiet = refl
+
+-- no numbers for which there is no memory
+pub none_told : (asked : Bool) (a : Option (List ℕ)) → asked ≡ true → TellsNumbers asked a a
+none_told true a is = ([], gains_nothing a)
+none_told false a is = absurd (true≢false (sym is))
+
+-- numbers that were written as far as a result says
+pub numbers_told : (asked : Bool) (more : List ℕ) (a b : Option (List ℕ)) → asked ≡ true → GainsPrefix a b more → TellsNumbers asked a b
+numbers_told true more a b is begun = (more, begun)
+numbers_told false more a b is begun = absurd (true≢false (sym is))

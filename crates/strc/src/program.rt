@@ -47,7 +47,7 @@ fn conclude<E: Sink>(
 ) -> u8
     requires { HoldsRefusal status }
     ensures status { (exit_of status ≡ result) × (result < 4) }
-    ensures told { IsReportedWith reporting.has_stats status (E.failed_writes diagnostics.old) (E.failed_writes diagnostics.new) (E.written diagnostics.old) (E.written diagnostics.new) }
+    ensures told { IsReportedWith reporting.entry.has_stats status (E.failed_writes diagnostics.old) (E.failed_writes diagnostics.new) (E.written diagnostics.old) (E.written diagnostics.new) }
 {
     let code = match status {
         Status::Rewritten => 0,
@@ -78,7 +78,7 @@ fn run_joined<I: Source, W: Sink, E: Sink, M: PrimMeaning>(
     ensures status { result ≤ 4 }
     ensures ended { result < 4 → (status : Status) × (exit_of status ≡ result) × HoldsRefusal status
         × IfSome (I.coming input.old) (λ told. (d t : List ℕ) → IsSplit told d t → HasWritten d t (setting_of M.answer registry.now options.now) status (W.written out.old) (W.written out.new))
-        × IsReportedWith reporting.has_stats status (E.failed_writes diagnostics.old) (E.failed_writes diagnostics.new) (E.written diagnostics.old) (E.written diagnostics.new) }
+        × IsReportedWith reporting.entry.has_stats status (E.failed_writes diagnostics.old) (E.failed_writes diagnostics.new) (E.written diagnostics.old) (E.written diagnostics.new) }
     ensures stopped { result ≡ 4 → (fault : Fault)
         × IsCause (record { before = I.failed_reads input.old; after = I.failed_reads input.new })
         (record { before = W.failed_writes out.old; after = W.failed_writes out.new }) fault
@@ -114,7 +114,7 @@ fn run_apart<D: Source, T: Source, W: Sink, E: Sink, M: PrimMeaning>(
     ensures status { result ≤ 4 }
     ensures ended { result < 4 → (status : Status) × (exit_of status ≡ result) × HoldsRefusal status
         × IfSome (D.coming definitions.old) (λ d. IfSome (T.coming term.old) (λ t. HasWritten d t (setting_of M.answer registry.now options.now) status (W.written out.old) (W.written out.new)))
-        × IsReportedWith reporting.has_stats status (E.failed_writes diagnostics.old) (E.failed_writes diagnostics.new) (E.written diagnostics.old) (E.written diagnostics.new) }
+        × IsReportedWith reporting.entry.has_stats status (E.failed_writes diagnostics.old) (E.failed_writes diagnostics.new) (E.written diagnostics.old) (E.written diagnostics.new) }
     ensures stopped { result ≡ 4 → (fault : Fault)
         × IsCause (record { before = D.failed_reads definitions.old + T.failed_reads term.old; after = D.failed_reads definitions.new + T.failed_reads term.new })
         (record { before = W.failed_writes out.old; after = W.failed_writes out.new }) fault
@@ -149,7 +149,7 @@ fn run_files<P: Paths, W: Sink, E: Sink, M: PrimMeaning>(
     requires honest { IsHonest M.answer registry.now }
     ensures status { result ≤ 4 }
     ensures ended { result < 4 → (status : Status) × (exit_of status ≡ result) × HoldsRefusal status
-        × IsReportedWith reporting.has_stats status (E.failed_writes diagnostics.old) (E.failed_writes diagnostics.new) (E.written diagnostics.old) (E.written diagnostics.new) }
+        × IsReportedWith reporting.entry.has_stats status (E.failed_writes diagnostics.old) (E.failed_writes diagnostics.new) (E.written diagnostics.old) (E.written diagnostics.new) }
     ensures stopped { result ≡ 4 → (fault : Fault) × IsTransferFault fault
         × Tells fault (E.failed_writes diagnostics.old) (E.failed_writes diagnostics.new) (E.written diagnostics.old) (E.written diagnostics.new) }
     ensures unwritten { result ≡ 4 → W.failed_writes out.new ≡ W.failed_writes out.old → out.new ≡ out.old }
