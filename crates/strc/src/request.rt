@@ -46,10 +46,10 @@ Definitions may call the library (try, repeat, topdown, bottomup, oncetd, oncebu
 prim(\"name\", ..), the primitives add, sub, mul, div, mod, less, concat, length, explode, implode, int_text and text_int.
 
 Examples:
-  strc rules.str term.trm
-  strc rules.str < term.trm
+  strc rules.str term.aterm
+  strc rules.str < term.aterm
   strc < joined
-  strc --main simplify --rules 500 --strict rules.str term.trm
+  strc --main simplify --rules 500 --strict rules.str term.aterm
 
 Exit status:
   0  the term was rewritten, and the result is printed; also for --help and --version

@@ -109,7 +109,7 @@ fn help(rt: HostRuntime) -> Result<(), Fail> {
         "--stats ",
         "\nDefinitions may call the library (try, repeat, ",
         "\nprim(\"name\", ..), the primitives add, sub, ",
-        "\n  strc rules.str term.trm\n",
+        "\n  strc rules.str term.aterm\n",
         "\n  5  the command line is wrong\n",
     ] {
         assert!(rt; text.contains(part), "{text}");
