@@ -65,7 +65,7 @@ fn noted_term(
 {
     let term = term_of(alloc, signature, text, is_strict);
     if let Err(fault) = &term {
-        notes.of_term(text, fault);
+        notes.note_term(text, fault);
     }
     term
 }

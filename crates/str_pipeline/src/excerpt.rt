@@ -30,8 +30,8 @@ fn first_line(text: &[u8]) -> &[u8] {
     }
 }
 
-// Returns the number of line feeds.
-pub(crate) fn feeds(text: &[u8]) -> usize {
+// Returns the number of line line_feeds.
+pub(crate) fn line_feeds(text: &[u8]) -> usize {
     let mut count: usize = 0;
     for byte in text {
         if *byte == b'\n' {
@@ -63,7 +63,7 @@ impl Excerpt {
         let line = first_line(&text[at.saturating_sub(in_line)..]);
         let left_out = in_line.saturating_sub(FRONT).min(line.len());
         Excerpt {
-            line: feeds(before).saturating_add(1),
+            line: line_feeds(before).saturating_add(1),
             column: in_line.saturating_add(1),
             shown: Shown::new(&line[left_out..]),
             front: in_line.saturating_sub(left_out),

@@ -1,7 +1,7 @@
 //! What a person wants to know of a refusal and of a run. No contract of the transformation speaks of it.
 
-use crate::excerpt::{Excerpt, feeds};
-use crate::reason::{Reason, of_left_out, of_no_token, of_syntax, of_term_syntax};
+use crate::excerpt::{Excerpt, line_feeds};
+use crate::reason::{Reason, left_out_reason, no_token_reason, syntax_reason, term_syntax_reason};
 use core_lang::Outcome;
 use scope_check::Notes;
 use term_model::bytes::is_blank_byte;
@@ -77,37 +77,37 @@ impl RunNotes {
     }
 
     // Notes what the run used.
-    pub(crate) fn of_run(&mut self, used: Used) {
+    pub(crate) fn note_run(&mut self, used: Used) {
         self.used = Some(used);
     }
 
     // Notes that the term comes after this part of the joined form, and whether a line `#term` ends it.
     pub(crate) fn begin_term(&mut self, front: &[u8], has_term_line: bool) {
-        self.lines_before_term = feeds(front);
+        self.lines_before_term = line_feeds(front);
         self.has_term_line = has_term_line;
     }
 
     // Notes why these definitions are refused.
-    pub(crate) fn of_definitions(&mut self, text: &[u8], fault: &Fault, checks: &Notes) {
+    pub(crate) fn note_definitions(&mut self, text: &[u8], fault: &Fault, checks: &Notes) {
         match fault {
             Fault::Lexical { at } => {
-                self.keep(text, *at, of_no_token(after(text, *at)));
+                self.keep(text, *at, no_token_reason(text_after(text, *at)));
             }
             Fault::ReservedWord { at } => {
-                self.keep(text, *at, of_left_out(after(text, *at)));
+                self.keep(text, *at, left_out_reason(text_after(text, *at)));
             }
             Fault::Syntax { at } => {
-                self.keep(text, *at, of_syntax(after(text, *at)));
+                self.keep(text, *at, syntax_reason(text_after(text, *at)));
             }
             Fault::Nesting { at } => {
                 self.keep(text, *at, Reason::NestedTooDeeply);
             }
-            _ => self.of_checks(text, fault, checks),
+            _ => self.note_checks(text, fault, checks),
         }
     }
 
     // Notes what the checks noted of this fault.
-    fn of_checks(&mut self, text: &[u8], fault: &Fault, checks: &Notes) {
+    fn note_checks(&mut self, text: &[u8], fault: &Fault, checks: &Notes) {
         let Some(note) = checks.first() else {
             return;
         };
@@ -121,7 +121,7 @@ impl RunNotes {
     }
 
     // Notes why this text of a term is refused.
-    pub(crate) fn of_term(&mut self, text: &[u8], fault: &Fault) {
+    pub(crate) fn note_term(&mut self, text: &[u8], fault: &Fault) {
         self.subject = Subject::Term;
         match fault {
             Fault::TermSyntax { .. } if is_blank(text) => {
@@ -133,10 +133,10 @@ impl RunNotes {
                 });
             }
             Fault::TermSyntax { at } => {
-                let reason = of_term_syntax(before(text, *at), after(text, *at));
+                let reason = term_syntax_reason(text_before(text, *at), text_after(text, *at));
                 self.keep(text, *at, reason);
             }
-            Fault::TermOversize { at } if after(text, *at).is_empty() => {
+            Fault::TermOversize { at } if text_after(text, *at).is_empty() => {
                 self.reason = Some(Reason::TermTooLarge);
             }
             Fault::TermOversize { at } => self.keep(text, *at, Reason::TermTooDeep),
@@ -145,7 +145,7 @@ impl RunNotes {
     }
 
     // Notes why a text was refused of which no place is known.
-    pub(crate) fn of_outcome(&mut self, outcome: &Result<Outcome<Term>, Fault>) {
+    pub(crate) fn note_outcome(&mut self, outcome: &Result<Outcome<Term>, Fault>) {
         match outcome {
             Err(Fault::DefsTooLong) => self.reason = Some(Reason::DefinitionsTooLong),
             Err(Fault::TermTooLong) => {
@@ -163,7 +163,7 @@ impl RunNotes {
     // Notes what is wrong at the offset of the text.
     fn keep(&mut self, text: &[u8], at: u64, reason: Reason) {
         self.reason = Some(reason);
-        self.place = Some(Excerpt::new(text, place(at)));
+        self.place = Some(Excerpt::new(text, index_of(at)));
     }
 }
 
@@ -172,17 +172,17 @@ fn is_blank(text: &[u8]) -> bool {
     text.iter().all(|byte| is_blank_byte(*byte))
 }
 
-// Returns the offset as a place in memory.
-fn place(at: u64) -> usize {
+// Returns the index of the byte at the offset.
+fn index_of(at: u64) -> usize {
     usize::try_from(at).unwrap_or(usize::MAX)
 }
 
 // Returns the text before the offset.
-fn before(text: &[u8], at: u64) -> &[u8] {
-    &text[..place(at).min(text.len())]
+fn text_before(text: &[u8], at: u64) -> &[u8] {
+    &text[..index_of(at).min(text.len())]
 }
 
 // Returns the text from the offset on.
-fn after(text: &[u8], at: u64) -> &[u8] {
-    &text[place(at).min(text.len())..]
+fn text_after(text: &[u8], at: u64) -> &[u8] {
+    &text[index_of(at).min(text.len())..]
 }

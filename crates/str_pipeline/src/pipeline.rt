@@ -211,7 +211,7 @@ pub fn transform_with_notes<D: Source, T: Source, M: PrimMeaning, W: Sink>(
 {
     *notes = RunNotes::none();
     let outcome = outcome_apart(alloc, defs, term, options, registry, notes);
-    notes.of_outcome(&outcome);
+    notes.note_outcome(&outcome);
     finish(alloc, outcome, out)
 }
 
@@ -278,6 +278,6 @@ pub fn transform_joined_with_notes<S: Source, M: PrimMeaning, W: Sink>(
 {
     *notes = RunNotes::none();
     let outcome = outcome_joined(alloc, input, options, registry, notes);
-    notes.of_outcome(&outcome);
+    notes.note_outcome(&outcome);
     finish(alloc, outcome, out)
 }

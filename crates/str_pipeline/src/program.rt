@@ -39,7 +39,7 @@ pub(crate) fn noted_program<M: PrimMeaning>(
     let mut checks = Notes::none();
     let program = program_of(alloc, definitions, options, registry, &mut checks);
     if let Err(fault) = &program {
-        notes.of_definitions(definitions, fault, &checks);
+        notes.note_definitions(definitions, fault, &checks);
     }
     program
 }

@@ -100,7 +100,7 @@ fn token_of(text: &[u8]) -> Shown {
 }
 
 // Returns what is wrong with the quoted text that the text begins with.
-fn of_quoted(text: &[u8]) -> Reason {
+fn quoted_text_reason(text: &[u8]) -> Reason {
     let mut is_escaped = false;
     for byte in text.iter().skip(1) {
         if is_escaped {
@@ -121,9 +121,9 @@ fn of_quoted(text: &[u8]) -> Reason {
 }
 
 // Returns why definitions have no token where this text begins.
-pub(crate) fn of_no_token(text: &[u8]) -> Reason {
+pub(crate) fn no_token_reason(text: &[u8]) -> Reason {
     if text.starts_with(b"\"") {
-        return of_quoted(text);
+        return quoted_text_reason(text);
     }
     if text.starts_with(b"/*") {
         return Reason::OpenComment;
@@ -141,12 +141,12 @@ pub(crate) fn of_no_token(text: &[u8]) -> Reason {
 }
 
 // Returns which word definitions have where this text begins.
-pub(crate) fn of_left_out(text: &[u8]) -> Reason {
+pub(crate) fn left_out_reason(text: &[u8]) -> Reason {
     Reason::LeftOut(token_of(text))
 }
 
 // Returns why no phrase goes on with this text.
-pub(crate) fn of_syntax(text: &[u8]) -> Reason {
+pub(crate) fn syntax_reason(text: &[u8]) -> Reason {
     if text.is_empty() {
         return Reason::EndsEarly;
     }
@@ -162,9 +162,9 @@ fn cuts_number(before: &[u8], after: &[u8]) -> bool {
 }
 
 // Returns why a text is no term at the place that has this text before it and this text after it.
-pub(crate) fn of_term_syntax(before: &[u8], after: &[u8]) -> Reason {
+pub(crate) fn term_syntax_reason(before: &[u8], after: &[u8]) -> Reason {
     if cuts_number(before, after) {
         return Reason::IntegerOutOfRange;
     }
-    of_syntax(after)
+    syntax_reason(after)
 }

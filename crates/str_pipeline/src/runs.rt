@@ -43,7 +43,7 @@ pub(crate) fn run_code<S: TermSpace + Holds + Drop, M: PrimMeaning>(
     let mut machine = Machine::new(alloc, space);
     let reference = entered(&mut machine, term)?;
     let run = machine.run(code, reference, budget, registry)?;
-    notes.of_run(Used {
+    notes.note_run(Used {
         rules: run.rules,
         steps: run.steps,
         shapes: machine.space().shapes(),
