@@ -1,7 +1,7 @@
 -- Faults of syntax, and faults of names.
 use Rattle.std.proofs.Common.{◌≡◌, ℕ, List, [], ◌∷◌, Err}
-use Rattle.term_model.specs.declared.fault.Fault.{Fault}
-use Rattle.term_model.specs.declared.fault.Fault.TheVariants as faults
+use Rattle.str_parser.specs.declared.refusal.Refusal.{Refusal}
+use Rattle.str_parser.specs.declared.refusal.Refusal.TheVariants as refusals
 use Rattle.str_syntax.specs.Trees.{Bytes, PrimaryTree}
 use Rattle.str_parser.specs.Lexemes.{Lexeme}
 use Rattle.str_parser.specs.Items.{Item, too_deep, Runs}
@@ -10,10 +10,10 @@ use Rattle.str_parser.specs.Readings.{NoRun, Missing, IsFault, IsSyntax, one_nam
 use Rattle.str_parser.specs.Begun.{IsNext}
 
 -- the fault of syntax, where it is known what the tokens are
-pub syntax_at : (First : ℕ → PrimaryTree → List Item → List Item → Type 0) (ts us : List Lexeme) (e : Fault) → IsSyntax e → ts ≡ us →
+pub syntax_at : (First : ℕ → PrimaryTree → List Item → List Item → Type 0) (ts us : List Lexeme) (e : Refusal) → IsSyntax e → ts ≡ us →
     ((k : ℕ) → NoRun (First k) us) → IsNext First ts (Err e)
-syntax_at First ts us (faults.Syntax _) s same n = λ k. rw same (n k)
-syntax_at First ts us faults.Memory s same n = tt
+syntax_at First ts us (refusals.Syntax _ _) s same n = λ k. rw same (n k)
+syntax_at First ts us refusals.Memory s same n = tt
 syntax_at First ts us _ s same n = absurd s
 
 -- ---- names
@@ -34,16 +34,14 @@ name_not_deep x [] r = r
 name_not_deep x (t ∷ ts) r = r.1
 
 -- where there are no names, there is no primary that wants them
-pub names_fault : (First : ℕ → PrimaryTree → List Item → List Item → Type 0) (Stops : List Item → Type 0) (ts names : List Lexeme) (e : Fault) →
+pub names_fault : (First : ℕ → PrimaryTree → List Item → List Item → Type 0) (Stops : List Item → Type 0) (ts names : List Lexeme) (e : Refusal) →
     (Missing some_names Stops names → (k : ℕ) → NoRun (First k) ts) → IsFault some_names Stops names e → IsNext First ts (Err e)
-names_fault First Stops ts names faults.Memory n f = tt
-names_fault First Stops ts names (faults.Syntax _) n f = n f
-names_fault First Stops ts names (faults.Nesting _) n f = absurd (names_not_deep f.tree names (f.runs []))
-names_fault First Stops ts names _ n f = absurd f
+names_fault First Stops ts names refusals.Memory n f = tt
+names_fault First Stops ts names (refusals.Syntax _ _) n f = n f
+names_fault First Stops ts names (refusals.Nesting _) n f = absurd (names_not_deep f.tree names (f.runs []))
 
-pub name_fault : (First : ℕ → PrimaryTree → List Item → List Item → Type 0) (Stops : List Item → Type 0) (ts names : List Lexeme) (e : Fault) →
+pub name_fault : (First : ℕ → PrimaryTree → List Item → List Item → Type 0) (Stops : List Item → Type 0) (ts names : List Lexeme) (e : Refusal) →
     (Missing one_name Stops names → (k : ℕ) → NoRun (First k) ts) → IsFault one_name Stops names e → IsNext First ts (Err e)
-name_fault First Stops ts names faults.Memory n f = tt
-name_fault First Stops ts names (faults.Syntax _) n f = n f
-name_fault First Stops ts names (faults.Nesting _) n f = absurd (name_not_deep f.tree names (f.runs []))
-name_fault First Stops ts names _ n f = absurd f
+name_fault First Stops ts names refusals.Memory n f = tt
+name_fault First Stops ts names (refusals.Syntax _ _) n f = n f
+name_fault First Stops ts names (refusals.Nesting _) n f = absurd (name_not_deep f.tree names (f.runs []))

@@ -1,7 +1,7 @@
 -- Reading sections and files from tokens: one law for each way that it can go.
 use Rattle.std.proofs.Common.{◌≡◌, ◌↔◌, IsTrue, ℕ, Bool, true, false, List, [], ◌∷◌, length, refl, ap, subst, arith, Err, inr}
-use Rattle.term_model.specs.declared.fault.Fault.{Fault}
-use Rattle.term_model.specs.declared.fault.Fault.TheVariants as faults
+use Rattle.str_parser.specs.declared.refusal.Refusal.{Refusal}
+use Rattle.str_parser.specs.declared.refusal.Refusal.TheVariants as refusals
 use Rattle.str_lexer.specs.declared.token.Token.{Token}
 use Rattle.str_lexer.specs.Lexes.{AreSlices}
 use Rattle.str_lexer.specs.declared.token.Keyword.TheVariants as K
@@ -11,7 +11,7 @@ use Rattle.str_parser.specs.Items.{Item, token, part, no_build, only, whole, too
 use Rattle.str_parser.specs.Phrases.{form, top_forms, signature_parts, section, sections, Spelled, IsPhrase, OnlyPhrase, TooNested}
 use Rattle.str_parser.specs.Readings.{NotAt, AtMost, Found, Missing, Nested, IsFault}
 use Rattle.str_parser.specs.Runs.{NoneOf, FoundAny}
-use Rattle.str_parser.specs.Parsing.{is_where, is_name, begins_name, EndsRule, EndsForms, EndsSection, AtEnd, one_top, is_inside, IsParsing}
+use Rattle.str_parser.specs.Parsing.{is_where, is_name, begins_name, EndsRule, EndsForms, EndsSection, AtEnd, one_top, is_inside, fault_of, IsParsing}
 use Rattle.str_parser.specs.Within.{AreWithin}
 use Rattle.str_parser.proofs.WayLaws.{deep_either, not_both, not_along}
 use Rattle.str_parser.proofs.SeveralLaws.{several, GoesOn, Follows}
@@ -220,11 +220,10 @@ file_missing ts m = (
   λ d. m.none d.f.sections [] refl (deep_either (sections d.f.sections []) ts d.runs),
 )
 
-pub file_fault : (ts : List Lexeme) (e : Fault) → IsFault sections AtEnd ts e → IsParsing ts (Err e)
-file_fault ts faults.Memory h = tt
-file_fault ts (faults.Syntax _) h = file_missing ts h
-file_fault ts (faults.Nesting _) h = record { f = file_with h.tree; runs = h.runs [] }
-file_fault ts _ h = absurd h
+pub file_fault : (ts : List Lexeme) (e : Refusal) → IsFault sections AtEnd ts e → IsParsing ts (Err (fault_of e))
+file_fault ts refusals.Memory h = tt
+file_fault ts (refusals.Syntax _ _) h = file_missing ts h
+file_fault ts (refusals.Nesting _) h = record { f = file_with h.tree; runs = h.runs [] }
 
 -- slices of a text lie in it
 pub slices_within : (text : List ℕ) (at : ℕ) (ts : List Token) → AreSlices text at ts → AreWithin (length text) ts

@@ -1,7 +1,7 @@
 -- How a let goes on: one law for each way.
 use Rattle.std.proofs.Common.{◌≡◌, ℕ, ◌+◌, ◌≤◌, List, [], ◌∷◌, ◌++◌, refl, sym, ◌∙◌, ap, arith, map, Box, Vec, Global, Err}
-use Rattle.term_model.specs.declared.fault.Fault.{Fault}
-use Rattle.term_model.specs.declared.fault.Fault.TheVariants as faults
+use Rattle.str_parser.specs.declared.refusal.Refusal.{Refusal}
+use Rattle.str_parser.specs.declared.refusal.Refusal.TheVariants as refusals
 use Rattle.str_lexer.specs.declared.token.Mark.TheVariants as M
 use Rattle.str_lexer.specs.declared.token.Keyword.TheVariants as K
 use Rattle.str_syntax.specs.Trees.{Bytes, ParameterTree, absent, strategies_only, with_terms, StrategyTree, PrimaryTree, let_in, DefinitionTree, definition, DefinitionTrees, no_definitions, more_definitions, head}
@@ -143,11 +143,10 @@ no_name : (done : Vec StrategyDefinition Global) (k : ℕ) (ts : List Lexeme) �
     GoesToDefinition done k u is left → Runs either left ts → ⊥
 no_name done k ts m u is left (goes_to_definition (definition (head y qs) s) ds t g) r = m.none y _ (parameters_at_most qs _) r
 
-pub name_fault : (done : Vec StrategyDefinition Global) (ts : List Lexeme) (e : Fault) → IsFault one_name (AtMost 4) ts e → IsNext (GoesToDefinition done) ts (Err e)
-name_fault done ts faults.Memory f = tt
-name_fault done ts (faults.Syntax at) f = λ k. record { none = λ u is h r. no_name done k ts f u is r.left r.goes r.runs }
-name_fault done ts (faults.Nesting at) f = absurd (name_shallow f.tree ts (f.runs []))
-name_fault done ts e f = absurd f
+pub name_fault : (done : Vec StrategyDefinition Global) (ts : List Lexeme) (e : Refusal) → IsFault one_name (AtMost 4) ts e → IsNext (GoesToDefinition done) ts (Err e)
+name_fault done ts refusals.Memory f = tt
+name_fault done ts (refusals.Syntax at _) f = λ k. record { none = λ u is h r. no_name done k ts f u is r.left r.goes r.runs }
+name_fault done ts (refusals.Nesting at) f = absurd (name_shallow f.tree ts (f.runs []))
 
 -- no parameters after the name
 no_parameters : (done : Vec StrategyDefinition Global) (k : ℕ) (ts rest : List Lexeme) (x : Bytes) → Found one_name (AtMost 4) ts x rest →
@@ -156,11 +155,10 @@ no_parameters done k ts rest x n m u is left (goes_to_definition (definition (he
     m.none qs _ (omega arith) (n.only_one y _ (parameters_at_most qs _) r).1
 
 pub parameters_fault : (done : Vec StrategyDefinition Global) (ts rest : List Lexeme) (x : Bytes) → Found one_name (AtMost 4) ts x rest →
-    (e : Fault) → IsFault parameters (AtMost 3) rest e → IsNext (GoesToDefinition done) ts (Err e)
-parameters_fault done ts rest x n faults.Memory f = tt
-parameters_fault done ts rest x n (faults.Syntax at) f = λ k. record { none = λ u is h r. no_parameters done k ts rest x n f u is r.left r.goes r.runs }
-parameters_fault done ts rest x n (faults.Nesting at) f = absurd (parameters_shallow f.tree rest (f.runs []))
-parameters_fault done ts rest x n e f = absurd f
+    (e : Refusal) → IsFault parameters (AtMost 3) rest e → IsNext (GoesToDefinition done) ts (Err e)
+parameters_fault done ts rest x n refusals.Memory f = tt
+parameters_fault done ts rest x n (refusals.Syntax at _) f = λ k. record { none = λ u is h r. no_parameters done k ts rest x n f u is r.left r.goes r.runs }
+parameters_fault done ts rest x n (refusals.Nesting at) f = absurd (parameters_shallow f.tree rest (f.runs []))
 
 -- no = after the parameters
 no_sign : (is : List Item) (ts : List Lexeme) → NotAt (mark M.Equals) ts → Runs either (sign M.Equals ∷ is) ts → ⊥

@@ -19,6 +19,7 @@ pub mod NameLaws
 pub mod PartFaults
 pub mod PartLaws
 pub mod PatternBeginLaws
+pub mod PatternFaults
 pub mod PatternLists
 pub mod PatternLoopLaws
 pub mod PatternParts

@@ -1,6 +1,6 @@
 -- Reading names and parameters: one law for each way that it can go.
 use Rattle.std.proofs.Common.{◌≡◌, ℕ, ◌≤◌, false, List, [], ◌∷◌, ◌++◌, refl, ◌∙◌, ap, arith, Result, Ok, Err, Vec, Global}
-use Rattle.term_model.specs.declared.fault.Fault.{Fault}
+use Rattle.str_parser.specs.declared.refusal.Refusal.{Refusal}
 use Rattle.str_lexer.specs.declared.token.Mark.{Mark}
 use Rattle.str_lexer.specs.declared.token.Mark.TheVariants as M
 use Rattle.str_syntax.specs.Trees.{ParameterTree, absent, strategies_only, with_terms}
@@ -122,7 +122,7 @@ any_none : (x : List ℕ) (ahead : List Lexeme) → Missing some_names (NoneOf n
 any_none x ahead m [] is h r = let g = h (name x) ahead r in cc
 any_none x ahead m (u ∷ us) is h r = m.none (u ∷ us) is (fewer is h) r
 
-at_name : (x : List ℕ) (ahead : List Lexeme) (r : Result (Vec (List ℕ) Global × List Lexeme) Fault) →
+at_name : (x : List ℕ) (ahead : List Lexeme) (r : Result (Vec (List ℕ) Global × List Lexeme) Refusal) →
     IsReading some_names (NoneOf names_go_on) names_of (name x ∷ ahead) r → IsReadingAny names (NoneOf any_names_go_on) names_of (name x ∷ ahead) r
 at_name x ahead (Ok (xs, rest)) f = any_found xs.items x ahead rest f
 at_name x ahead (Err e) f =
@@ -132,7 +132,7 @@ at_name x ahead (Err e) f =
     f
 
 -- at a name, what reads some names reads names or none
-pub any_at_name : (x : List ℕ) (ts ahead : List Lexeme) (r : Result (Vec (List ℕ) Global × List Lexeme) Fault) → ts ≡ name x ∷ ahead →
+pub any_at_name : (x : List ℕ) (ts ahead : List Lexeme) (r : Result (Vec (List ℕ) Global × List Lexeme) Refusal) → ts ≡ name x ∷ ahead →
     IsReading some_names (NoneOf names_go_on) names_of ts r → IsReadingAny names (NoneOf any_names_go_on) names_of ts r
 any_at_name x ts ahead r e f = rw e (at_name x ahead r (rw e at f))
 

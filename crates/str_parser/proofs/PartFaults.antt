@@ -1,8 +1,8 @@
 -- Tokens after a part of a primary or of a pattern with which it does not go on.
 use Rattle.std.proofs.Common.{ℕ, Bool, List, refl, Vec, Global, Box}
 use Rattle.std.specs.Prelude.{Err}
-use Rattle.term_model.specs.declared.fault.Fault.{Fault}
-use Rattle.term_model.specs.declared.fault.Fault.TheVariants as faults
+use Rattle.str_parser.specs.declared.refusal.Refusal.{Refusal}
+use Rattle.str_parser.specs.declared.refusal.Refusal.TheVariants as refusals
 use Rattle.str_lexer.specs.declared.token.Mark.TheVariants as M
 use Rattle.str_lexer.specs.declared.token.Keyword.TheVariants as K
 use Rattle.str_syntax.specs.declared.strategy.Pattern.{Pattern}
@@ -57,9 +57,9 @@ no_rule_right k l p ts on close = record { none = λ u is h r. not_rule_right k 
 -- ---- patterns
 
 -- the fault where there is no rest
-pub syntax_inner : (Rest : Bool → ℕ → PatternTree → List Item → List Item → Type 0) (m : Bool) (ts : List Lexeme) (fault : Fault) →
+pub syntax_inner : (Rest : Bool → ℕ → PatternTree → List Item → List Item → Type 0) (m : Bool) (ts : List Lexeme) (fault : Refusal) →
     IsSyntax fault → ((k : ℕ) → NoRun (Rest m k) ts) → IsNextPattern Rest m ts (Err fault)
-syntax_inner Rest m ts (faults.Syntax at) s n = n
+syntax_inner Rest m ts (refusals.Syntax at _) s n = n
 syntax_inner Rest m ts _ s n = absurd s
 
 not_application : (m : Bool) (k : ℕ) (c : Bytes) (done : Vec Pattern Global) (p : PatternTree) (ts : List Lexeme) → NotAt (mark M.Comma) ts → NotAt (mark M.CloseParenthesis) ts →

@@ -1,8 +1,8 @@
 -- How a pattern goes on after its first tokens: one law for each way.
 use Rattle.std.proofs.Common.{◌≡◌, ℕ, ℤ, ◌+◌, ◌≤◌, Bool, true, false, List, [], ◌∷◌, refl, sym, ◌∙◌, ap, subst, arith, Vec, Global}
 use Rattle.std.specs.Prelude.{Err}
-use Rattle.term_model.specs.declared.fault.Fault.{Fault}
-use Rattle.term_model.specs.declared.fault.Fault.TheVariants as faults
+use Rattle.str_parser.specs.declared.refusal.Refusal.{Refusal}
+use Rattle.str_parser.specs.declared.refusal.Refusal.TheVariants as refusals
 use Rattle.str_lexer.specs.declared.token.Keyword.{Keyword}
 use Rattle.str_lexer.specs.declared.token.Mark.{Mark}
 use Rattle.str_lexer.specs.declared.token.Mark.TheVariants as M
@@ -408,6 +408,6 @@ pub empty_begins : (m : Bool) (k : ℕ) → NoRun (WrittenPattern m k) []
 empty_begins m k = record { none = λ u is h r. empty_written m k u is r.left r.goes r.runs }
 
 -- a fault, where no pattern begins
-pub begins_no_pattern : (m : Bool) (ts : List Lexeme) (fault : Fault) → IsSyntax fault → ((k : ℕ) → NoRun (WrittenPattern m k) ts) → IsNextPattern WrittenPattern m ts (Err fault)
-begins_no_pattern m ts (faults.Syntax at) s n = n
+pub begins_no_pattern : (m : Bool) (ts : List Lexeme) (fault : Refusal) → IsSyntax fault → ((k : ℕ) → NoRun (WrittenPattern m k) ts) → IsNextPattern WrittenPattern m ts (Err fault)
+begins_no_pattern m ts (refusals.Syntax at _) s n = n
 begins_no_pattern m ts _ s n = absurd s

@@ -1,7 +1,7 @@
 -- How tokens run along items.
 use Rattle.std.proofs.Common.{List, [], ◌∷◌, inl, inr, ap, arith}
-use Rattle.term_model.specs.declared.fault.Fault.{Fault}
-use Rattle.term_model.specs.declared.fault.Fault.TheVariants as faults
+use Rattle.str_parser.specs.declared.refusal.Refusal.{Refusal}
+use Rattle.str_parser.specs.declared.refusal.Refusal.TheVariants as refusals
 use Rattle.str_parser.specs.Lexemes.{Lexeme}
 use Rattle.str_parser.specs.Items.{Item, token, part, no_build, only, whole, too_deep, either, Runs}
 use Rattle.str_parser.specs.Readings.{NotAt, Missing, Nested, IsFault, IsSyntax}
@@ -40,16 +40,15 @@ not_along t is (u ∷ us) n r = n us (ap (λ x. x ∷ us) r.0)
 
 -- one fault means the other
 pub fault_along : {T U : Type 0} {write : T → List Item → List Item} {Stops : List Item → Type 0} {ts : List Lexeme}
-    {outer : U → List Item → List Item} {Ends : List Item → Type 0} {us : List Lexeme} (e : Fault) →
+    {outer : U → List Item → List Item} {Ends : List Item → Type 0} {us : List Lexeme} (e : Refusal) →
     (Missing write Stops ts → Missing outer Ends us) → (Nested write ts → Nested outer us) →
     IsFault write Stops ts e → IsFault outer Ends us e
-fault_along faults.Memory f g h = tt
-fault_along (faults.Syntax _) f g h = f h
-fault_along (faults.Nesting _) f g h = g h
-fault_along _ f g h = absurd h
+fault_along refusals.Memory f g h = tt
+fault_along (refusals.Syntax _ _) f g h = f h
+fault_along (refusals.Nesting _) f g h = g h
 
 -- a fault that says Syntax says that there is no tree
-pub syntax_fault : {T : Type 0} {write : T → List Item → List Item} {Stops : List Item → Type 0} {ts : List Lexeme} (e : Fault) →
+pub syntax_fault : {T : Type 0} {write : T → List Item → List Item} {Stops : List Item → Type 0} {ts : List Lexeme} (e : Refusal) →
     IsSyntax e → Missing write Stops ts → IsFault write Stops ts e
-syntax_fault (faults.Syntax _) s m = m
+syntax_fault (refusals.Syntax _ _) s m = m
 syntax_fault _ s m = absurd s

@@ -1,7 +1,7 @@
 -- Primaries that have been read whole, and tokens along which there is no rest.
 use Rattle.std.proofs.Common.{◌≡◌, ℕ, ◌≤◌, ◌∙◌, List, [], ◌∷◌, arith, sym, ap, subst, length, Option, Some, None, Result, Ok, Err, Box, Global}
-use Rattle.term_model.specs.declared.fault.Fault.{Fault}
-use Rattle.term_model.specs.declared.fault.Fault.TheVariants as faults
+use Rattle.str_parser.specs.declared.refusal.Refusal.{Refusal}
+use Rattle.str_parser.specs.declared.refusal.Refusal.TheVariants as refusals
 use Rattle.str_syntax.specs.Trees.{PrimaryTree}
 use Rattle.str_syntax.specs.declared.strategy.Primary.{Primary}
 use Rattle.str_syntax.specs.Views.{primary_of}
@@ -32,34 +32,17 @@ whole_leads k b e ends = record {
   no_longer = ends.no_longer;
 }
 
-pub whole_next : (Rest : ℕ → PrimaryTree → List Item → List Item → Type 0) (t : PrimaryTree) (ts rest : List Lexeme) (result : Result Begun Fault) →
+pub whole_next : (Rest : ℕ → PrimaryTree → List Item → List Item → Type 0) (t : PrimaryTree) (ts rest : List Lexeme) (result : Result Begun Refusal) →
     IsWhole t rest result → ((k : ℕ) → EndsWith (Rest k) t ts rest) → IsNext Rest ts result
 whole_next Rest t ts rest (Ok (states.Whole b following)) w ends = λ k. rw (w.1) (whole_leads k b w.0 (ends k))
-whole_next Rest t ts rest (Err faults.Memory) w ends = tt
+whole_next Rest t ts rest (Err refusals.Memory) w ends = tt
 whole_next Rest t ts rest (Ok (states.ToStrategy _ _)) w ends = absurd w
 whole_next Rest t ts rest (Ok (states.ToPattern _ _)) w ends = absurd w
-whole_next Rest t ts rest (Err faults.Read) w ends = absurd w
-whole_next Rest t ts rest (Err faults.Write) w ends = absurd w
-whole_next Rest t ts rest (Err faults.DefsTooLong) w ends = absurd w
-whole_next Rest t ts rest (Err (faults.Lexical _)) w ends = absurd w
-whole_next Rest t ts rest (Err (faults.ReservedWord _)) w ends = absurd w
-whole_next Rest t ts rest (Err (faults.Syntax _)) w ends = absurd w
-whole_next Rest t ts rest (Err (faults.Nesting _)) w ends = absurd w
-whole_next Rest t ts rest (Err faults.DuplicateDeclaration) w ends = absurd w
-whole_next Rest t ts rest (Err faults.Undeclared) w ends = absurd w
-whole_next Rest t ts rest (Err faults.Parameters) w ends = absurd w
-whole_next Rest t ts rest (Err faults.Clash) w ends = absurd w
-whole_next Rest t ts rest (Err faults.UnknownStrategy) w ends = absurd w
-whole_next Rest t ts rest (Err faults.NotBuildable) w ends = absurd w
-whole_next Rest t ts rest (Err faults.UnknownPrimitive) w ends = absurd w
-whole_next Rest t ts rest (Err faults.NoMain) w ends = absurd w
-whole_next Rest t ts rest (Err faults.TermTooLong) w ends = absurd w
-whole_next Rest t ts rest (Err (faults.TermSyntax _)) w ends = absurd w
-whole_next Rest t ts rest (Err (faults.TermOversize _)) w ends = absurd w
-whole_next Rest t ts rest (Err faults.TermUndeclared) w ends = absurd w
+whole_next Rest t ts rest (Err (refusals.Syntax _ _)) w ends = absurd w
+whole_next Rest t ts rest (Err (refusals.Nesting _)) w ends = absurd w
 
 -- the same, where what was made is that tree
-pub made_next : (Rest : ℕ → PrimaryTree → List Item → List Item → Type 0) (t made : PrimaryTree) (ts rest : List Lexeme) (result : Result Begun Fault) →
+pub made_next : (Rest : ℕ → PrimaryTree → List Item → List Item → Type 0) (t made : PrimaryTree) (ts rest : List Lexeme) (result : Result Begun Refusal) →
     made ≡ t → IsWhole made rest result → ((k : ℕ) → EndsWith (Rest k) t ts rest) → IsNext Rest ts result
 made_next Rest t made ts rest result e w ends = whole_next Rest t ts rest result (subst (λ u. IsWhole u rest result) e w) ends
 
@@ -73,53 +56,19 @@ leads_on a b = record {
 }
 
 -- where a rest leads to another, and that goes on so, the first goes on so
-pub leads_next : (First Second : ℕ → PrimaryTree → List Item → List Item → Type 0) (ts rest : List Lexeme) (result : Result Begun Fault) →
+pub leads_next : (First Second : ℕ → PrimaryTree → List Item → List Item → Type 0) (ts rest : List Lexeme) (result : Result Begun Refusal) →
     ((k : ℕ) → Leads (First k) (Second k) ts rest) → IsNext Second rest result → IsNext First ts result
 leads_next First Second ts rest (Ok b) leads next = λ k. leads_on (leads k) (next k)
-leads_next First Second ts rest (Err faults.Memory) leads next = tt
-leads_next First Second ts rest (Err (faults.Syntax _)) leads next = λ k. record { none = λ u is h r. (next k).none u is h ((leads k).all u is h r) }
-leads_next First Second ts rest (Err faults.Read) leads next = absurd next
-leads_next First Second ts rest (Err faults.Write) leads next = absurd next
-leads_next First Second ts rest (Err faults.DefsTooLong) leads next = absurd next
-leads_next First Second ts rest (Err (faults.Lexical _)) leads next = absurd next
-leads_next First Second ts rest (Err (faults.ReservedWord _)) leads next = absurd next
-leads_next First Second ts rest (Err (faults.Nesting _)) leads next = absurd next
-leads_next First Second ts rest (Err faults.DuplicateDeclaration) leads next = absurd next
-leads_next First Second ts rest (Err faults.Undeclared) leads next = absurd next
-leads_next First Second ts rest (Err faults.Parameters) leads next = absurd next
-leads_next First Second ts rest (Err faults.Clash) leads next = absurd next
-leads_next First Second ts rest (Err faults.UnknownStrategy) leads next = absurd next
-leads_next First Second ts rest (Err faults.NotBuildable) leads next = absurd next
-leads_next First Second ts rest (Err faults.UnknownPrimitive) leads next = absurd next
-leads_next First Second ts rest (Err faults.NoMain) leads next = absurd next
-leads_next First Second ts rest (Err faults.TermTooLong) leads next = absurd next
-leads_next First Second ts rest (Err (faults.TermSyntax _)) leads next = absurd next
-leads_next First Second ts rest (Err (faults.TermOversize _)) leads next = absurd next
-leads_next First Second ts rest (Err faults.TermUndeclared) leads next = absurd next
+leads_next First Second ts rest (Err refusals.Memory) leads next = tt
+leads_next First Second ts rest (Err (refusals.Syntax _ _)) leads next = λ k. record { none = λ u is h r. (next k).none u is h ((leads k).all u is h r) }
+leads_next First Second ts rest (Err (refusals.Nesting _)) leads next = absurd next
 
 -- the fault where there is no rest
-pub syntax_next : (Rest : ℕ → PrimaryTree → List Item → List Item → Type 0) (ts : List Lexeme) (fault : Fault) →
+pub syntax_next : (Rest : ℕ → PrimaryTree → List Item → List Item → Type 0) (ts : List Lexeme) (fault : Refusal) →
     IsSyntax fault → ((k : ℕ) → NoRun (Rest k) ts) → IsNext Rest ts (Err fault)
-syntax_next Rest ts faults.Memory f none = absurd f
-syntax_next Rest ts (faults.Syntax _) f none = none
-syntax_next Rest ts faults.Read f none = absurd f
-syntax_next Rest ts faults.Write f none = absurd f
-syntax_next Rest ts faults.DefsTooLong f none = absurd f
-syntax_next Rest ts (faults.Lexical _) f none = absurd f
-syntax_next Rest ts (faults.ReservedWord _) f none = absurd f
-syntax_next Rest ts (faults.Nesting _) f none = absurd f
-syntax_next Rest ts faults.DuplicateDeclaration f none = absurd f
-syntax_next Rest ts faults.Undeclared f none = absurd f
-syntax_next Rest ts faults.Parameters f none = absurd f
-syntax_next Rest ts faults.Clash f none = absurd f
-syntax_next Rest ts faults.UnknownStrategy f none = absurd f
-syntax_next Rest ts faults.NotBuildable f none = absurd f
-syntax_next Rest ts faults.UnknownPrimitive f none = absurd f
-syntax_next Rest ts faults.NoMain f none = absurd f
-syntax_next Rest ts faults.TermTooLong f none = absurd f
-syntax_next Rest ts (faults.TermSyntax _) f none = absurd f
-syntax_next Rest ts (faults.TermOversize _) f none = absurd f
-syntax_next Rest ts faults.TermUndeclared f none = absurd f
+syntax_next Rest ts refusals.Memory f none = absurd f
+syntax_next Rest ts (refusals.Syntax _ _) f none = none
+syntax_next Rest ts (refusals.Nesting _) f none = absurd f
 
 -- the token that items begin with
 abbrev pub first_token : List Item → Option Lexeme

@@ -2,8 +2,8 @@
 use Rattle.std.specs.Prelude.{◌≡◌, ℕ, ◌+◌, map, Bool, true, false, List, [], ◌∷◌, Result, Ok, Err, Box}
 use Rattle.std.specs.declared.vec.Vec.{Vec}
 use Rattle.std.specs.declared.alloc.Global.{Global}
-use Rattle.term_model.specs.declared.fault.Fault.{Fault}
-use Rattle.term_model.specs.declared.fault.Fault.TheVariants as faults
+use Rattle.str_parser.specs.declared.refusal.Refusal.{Refusal}
+use Rattle.str_parser.specs.declared.refusal.Refusal.TheVariants as refusals
 use Rattle.str_lexer.specs.declared.token.Mark.TheVariants as M
 use Rattle.str_lexer.specs.declared.token.Keyword.TheVariants as K
 use Rattle.str_syntax.specs.declared.strategy.Operator.{Operator}
@@ -172,10 +172,10 @@ following (states.ToStrategy _ rest) = rest
 following (states.ToPattern _ rest) = rest
 
 -- the primary goes on, at every level, as what has been read says; or it does not go on so
-abbrev pub IsNext : (ℕ → PrimaryTree → List Item → List Item → Type 0) → List Lexeme → Result Begun Fault → Type 0
+abbrev pub IsNext : (ℕ → PrimaryTree → List Item → List Item → Type 0) → List Lexeme → Result Begun Refusal → Type 0
 IsNext Rest ts (Ok b) = (k : ℕ) → Leads (Rest k) (Continues k b) ts (following b)
-IsNext Rest ts (Err faults.Memory) = Unit {0}
-IsNext Rest ts (Err (faults.Syntax _)) = (k : ℕ) → NoRun (Rest k) ts
+IsNext Rest ts (Err refusals.Memory) = Unit {0}
+IsNext Rest ts (Err (refusals.Syntax _ _)) = (k : ℕ) → NoRun (Rest k) ts
 IsNext Rest ts (Err _) = ⊥
 
 -- a primary that has been read up to this strategy and has it
@@ -228,10 +228,10 @@ after_pattern (pattern_states.ToStrategy rest) = rest
 after_pattern (pattern_states.ToPattern _ rest) = rest
 
 -- the pattern goes on, at every level, as what has been read says; or it does not go on so
-abbrev pub IsNextPattern : (Bool → ℕ → PatternTree → List Item → List Item → Type 0) → Bool → List Lexeme → Result BegunPattern Fault → Type 0
+abbrev pub IsNextPattern : (Bool → ℕ → PatternTree → List Item → List Item → Type 0) → Bool → List Lexeme → Result BegunPattern Refusal → Type 0
 IsNextPattern Rest in_match ts (Ok b) = (k : ℕ) → Leads (Rest in_match k) (ContinuesPattern in_match k b) ts (after_pattern b)
-IsNextPattern Rest in_match ts (Err faults.Memory) = Unit {0}
-IsNextPattern Rest in_match ts (Err (faults.Syntax _)) = (k : ℕ) → NoRun (Rest in_match k) ts
+IsNextPattern Rest in_match ts (Err refusals.Memory) = Unit {0}
+IsNextPattern Rest in_match ts (Err (refusals.Syntax _ _)) = (k : ℕ) → NoRun (Rest in_match k) ts
 IsNextPattern Rest in_match ts (Err _) = ⊥
 
 -- a pattern that has been read up to this pattern and has it
@@ -243,10 +243,10 @@ abbrev pub boxed_primary_of : Box Primary Global → PrimaryTree
 boxed_primary_of t = primary_of t.value
 
 -- a primary that has been read whole
-abbrev pub IsWhole : PrimaryTree → List Lexeme → Result Begun Fault → Type 0
+abbrev pub IsWhole : PrimaryTree → List Lexeme → Result Begun Refusal → Type 0
 IsWhole u ts (Ok (states.Whole t rest)) = (primary_of t.value ≡ u) × (rest ≡ ts)
 IsWhole u ts (Ok _) = ⊥
-IsWhole u ts (Err faults.Memory) = Unit {0}
+IsWhole u ts (Err refusals.Memory) = Unit {0}
 IsWhole u ts (Err _) = ⊥
 
 -- a sequence that is a part at this level

@@ -1,10 +1,10 @@
 -- The fault where a part would stand at level 201.
 use Rattle.std.specs.Prelude.{Bool, true, false}
-use Rattle.term_model.specs.declared.fault.Fault.{Fault}
-use Rattle.term_model.specs.declared.fault.Fault.TheVariants as faults
+use Rattle.str_parser.specs.declared.refusal.Refusal.{Refusal}
+use Rattle.str_parser.specs.declared.refusal.Refusal.TheVariants as refusals
 
 -- Nesting where the part can begin, else Syntax
-abbrev pub IsBeyondFault : Bool → Fault → Type 0
-IsBeyondFault true (faults.Nesting _) = Unit {0}
-IsBeyondFault false (faults.Syntax _) = Unit {0}
+abbrev pub IsBeyondFault : Bool → Refusal → Type 0
+IsBeyondFault true (refusals.Nesting _) = Unit {0}
+IsBeyondFault false (refusals.Syntax _ _) = Unit {0}
 IsBeyondFault _ _ = ⊥

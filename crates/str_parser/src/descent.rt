@@ -10,23 +10,24 @@ ghost use Rattle.str_parser.specs.Begun.{inner_strategy, inner_sequence, inner_p
 ghost use Rattle.str_parser.specs.Beyond.{IsBeyondFault};
 
 use crate::begun::{Begun, BegunPattern};
+use crate::expected::Expected;
 use crate::file::MAX_LEVEL;
 use crate::input::{Input, Lexeme};
 use crate::pattern_part::{applied, begins_pattern};
+use crate::refusal::Refusal;
 use crate::{pattern_begin, primary_begin};
 use std::alloc::Global;
 use str_lexer::{Keyword, Mark};
 use str_syntax::{Pattern, Primary, Sequence, Step, Strategy, build};
-use term_model::Fault;
 
 // The fault where a part would stand beyond the greatest level: whether the tokens can begin it decides.
-fn beyond(input: &Input<'_>, begins: bool) -> Fault
+fn beyond(input: &Input<'_>, begins: bool, expected: Expected) -> Refusal
     ensures { IsBeyondFault begins result }
 {
     if begins {
-        return Fault::Nesting { at: input.at() };
+        return Refusal::Nesting { at: input.at() };
     }
-    input.syntax()
+    input.syntax(expected)
 }
 
 // Tells whether the first token can begin a strategy.
@@ -72,12 +73,12 @@ pub(crate) fn strategy<'a>(
     alloc: Global,
     input: Input<'a>,
     level: u32,
-) -> Result<(Strategy, Input<'a>), Fault>
+) -> Result<(Strategy, Input<'a>), Refusal>
     requires { level ≤ max_level + 1 }
     ensures { IsReading (inner_strategy level) (AtMost 0) strategy_of input.entry result }
 {
     if level > MAX_LEVEL {
-        return Err(beyond(&input, begins_strategy(&input)));
+        return Err(beyond(&input, begins_strategy(&input), Expected::Strategy));
     }
     let (first, rest) = sequence(alloc, input, level)?;
     if let Some(following) = rest.after(Mark::LeftChoice) {
@@ -97,13 +98,13 @@ fn guarded_choice<'a>(
     first: Sequence,
     input: Input<'a>,
     level: u32,
-) -> Result<(Strategy, Input<'a>), Fault>
+) -> Result<(Strategy, Input<'a>), Refusal>
     requires { level ≤ max_level }
     ensures { (ts : List L) → Found (inner_sequence level) (AtMost 1) ts (sequence_of first) (mark M.Less ∷ input.entry) → IsReading (inner_strategy level) (AtMost 0) strategy_of ts result }
 {
     let (then, rest) = strategy(alloc, input, level + 1)?;
     let Some(following) = rest.after(Mark::Plus) else {
-        return Err(rest.syntax());
+        return Err(rest.syntax(Expected::Plus));
     };
     let (other, rest) = strategy(alloc, following, level + 1)?;
     let made = build::guarded_choice(alloc, first, then, other)?;
@@ -112,12 +113,16 @@ fn guarded_choice<'a>(
 
 // Reads the sequence at this level that the tokens begin with; also returns the tokens after it.
 #[cycle(phrase)]
-fn sequence<'a>(alloc: Global, input: Input<'a>, level: u32) -> Result<(Sequence, Input<'a>), Fault>
+fn sequence<'a>(
+    alloc: Global,
+    input: Input<'a>,
+    level: u32,
+) -> Result<(Sequence, Input<'a>), Refusal>
     requires { level ≤ max_level + 1 }
     ensures { IsReading (inner_sequence level) (AtMost 1) sequence_of input.entry result }
 {
     if level > MAX_LEVEL {
-        return Err(beyond(&input, begins_strategy(&input)));
+        return Err(beyond(&input, begins_strategy(&input), Expected::Strategy));
     }
     let (first, rest) = step(alloc, input, level)?;
     let Some(following) = rest.after(Mark::Semicolon) else {
@@ -129,7 +134,7 @@ fn sequence<'a>(alloc: Global, input: Input<'a>, level: u32) -> Result<(Sequence
 
 // Reads the step at this level that the tokens begin with; also returns the tokens after it.
 #[cycle(phrase)]
-fn step<'a>(alloc: Global, input: Input<'a>, level: u32) -> Result<(Step, Input<'a>), Fault>
+fn step<'a>(alloc: Global, input: Input<'a>, level: u32) -> Result<(Step, Input<'a>), Refusal>
     requires { level ≤ max_level }
     ensures { IsReading (step level) (AtMost 2) step_of input.entry result }
 {
@@ -147,7 +152,7 @@ fn primary<'a>(
     alloc: Global,
     input: Input<'a>,
     level: u32,
-) -> Result<(Box<Primary>, Input<'a>), Fault>
+) -> Result<(Box<Primary>, Input<'a>), Refusal>
     requires { level ≤ max_level }
     ensures { IsReading (primary level) (AtMost 3) boxed_primary_of input.entry result }
 {
@@ -174,12 +179,12 @@ pub(crate) fn pattern<'a>(
     input: Input<'a>,
     in_match: bool,
     level: u32,
-) -> Result<(Pattern, Input<'a>), Fault>
+) -> Result<(Pattern, Input<'a>), Refusal>
     requires { level ≤ max_level + 1 }
     ensures { IsReading (inner_pattern in_match level) (AtMost 3) pattern_of input.entry result }
 {
     if level > MAX_LEVEL {
-        return Err(beyond(&input, begins_pattern(&input, in_match)));
+        return Err(beyond(&input, begins_pattern(&input, in_match), Expected::Pattern));
     }
     let mut begun = pattern_begin::begin(alloc, input, in_match)?;
     loop {

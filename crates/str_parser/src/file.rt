@@ -7,16 +7,22 @@ ghost use Rattle.str_parser.specs.Phrases;
 ghost use Rattle.str_parser.specs.Readings.{IsReading};
 ghost use Rattle.str_parser.specs.Parsing.{EndsSection, AtEnd, IsReadingAll, sections_of, IsParsing};
 
+use crate::expected::Expected;
 use crate::form::definitions;
 use crate::input::Input;
+use crate::refusal::Refusal;
 use crate::sorts::signature_parts;
 use std::alloc::Global;
 use str_lexer::{Keyword, Token};
 use str_syntax::{File, Section};
 use term_model::Fault;
 
-// Reads the section that the tokens begin with; also returns the tokens after it.
-fn section<'a>(alloc: Global, input: Input<'a>) -> Result<(Section, Input<'a>), Fault>
+// Reads the section that the tokens begin with; also returns the tokens after it. Where none begins, that is what was expected.
+fn section<'a>(
+    alloc: Global,
+    input: Input<'a>,
+    expected: Expected,
+) -> Result<(Section, Input<'a>), Refusal>
     ensures { IsReading Phrases.section EndsSection section_of input.entry result }
 {
     if let Some(following) = input.after_keyword(Keyword::Signature) {
@@ -28,20 +34,29 @@ fn section<'a>(alloc: Global, input: Input<'a>) -> Result<(Section, Input<'a>), 
         return Ok((Section::Rules(definitions), rest));
     }
     let Some(following) = input.after_keyword(Keyword::Strategies) else {
-        return Err(input.syntax());
+        return Err(input.syntax(expected));
     };
     let (definitions, rest) = definitions(alloc, following)?;
     Ok((Section::Strategies(definitions), rest))
 }
 
+// Returns what could stand after these sections.
+fn after_sections(sections: &[Section]) -> Expected {
+    if sections.is_empty() {
+        return Expected::Section;
+    }
+    Expected::NextSection
+}
+
 // The sections that the tokens are.
-fn sections<'a>(alloc: Global, input: Input<'a>) -> Result<Vec<Section>, Fault>
+fn sections<'a>(alloc: Global, input: Input<'a>) -> Result<Vec<Section>, Refusal>
     ensures { IsReadingAll Phrases.sections sections_of input.entry result }
 {
     let mut sections = Vec::new(alloc);
     let mut rest = input;
     while !rest.is_empty() {
-        let (section, following) = section(alloc, rest)?;
+        let expected = after_sections(&sections);
+        let (section, following) = section(alloc, rest, expected)?;
         sections.push(section)?;
         rest = following;
     }
@@ -60,6 +75,26 @@ pub fn parse(alloc: Global, text: &[u8], tokens: &[Token]) -> Result<File, Fault
     requires { AreSlices text.now 0 tokens.now }
     ensures { IsParsing (lexemes text.now tokens.now) result }
 {
-    let sections = sections(alloc, Input::new(text, tokens))?;
-    Ok(File { sections })
+    let mut expected = None;
+    parse_with_notes(alloc, text, tokens, &mut expected)
+}
+
+/// The same, with what could stand at the place of a fault: `Some` exactly where the fault is `Syntax`.
+pub fn parse_with_notes(
+    alloc: Global,
+    text: &[u8],
+    tokens: &[Token],
+    expected: &mut Option<Expected>,
+) -> Result<File, Fault>
+    requires { AreSlices text.now 0 tokens.now }
+    ensures { IsParsing (lexemes text.now tokens.now) result }
+{
+    *expected = None;
+    match sections(alloc, Input::new(text, tokens)) {
+        Ok(sections) => Ok(File { sections }),
+        Err(refusal) => {
+            *expected = refusal.expected();
+            Err(refusal.fault())
+        }
+    }
 }

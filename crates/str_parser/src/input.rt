@@ -4,9 +4,10 @@ ghost use Rattle.str_parser.specs.Lexemes.{lexemes, lexeme_of};
 ghost use Rattle.str_parser.specs.Within.{AreWithin};
 ghost use Rattle.str_parser.specs.Readings.{lexeme_in, IsFirst, IsAfter, IsAfterKeyword, IsSyntax};
 
+use crate::expected::Expected;
+use crate::refusal::Refusal;
 use std::marker::Model;
 use str_lexer::{Keyword, Mark, Token, TokenKind};
-use term_model::Fault;
 
 // A token with its text.
 #[derive(Clone, Copy)]
@@ -106,11 +107,12 @@ impl<'a> Input<'a> {
         }
     }
 
-    // The fault that the first token makes the tokens no phrase.
-    pub(crate) fn syntax(&self) -> Fault
+    // The refusal of the first token, in the place of which something else was expected.
+    pub(crate) fn syntax(&self, expected: Expected) -> Refusal
         ensures { IsSyntax result }
     {
-        Fault::Syntax { at: self.at() }
+        let at = self.at();
+        Refusal::Syntax { at, expected }
     }
 
     // Tells whether there is no token.

@@ -3,6 +3,7 @@
 
 mod begun;
 mod descent;
+pub mod expected;
 pub mod file;
 mod form;
 mod input;
@@ -14,6 +15,8 @@ mod primary_let;
 mod primary_pattern;
 mod primary_rule;
 mod primary_strategy;
+mod refusal;
 mod sorts;
 
-pub use file::{MAX_LEVEL, parse};
+pub use expected::Expected;
+pub use file::{MAX_LEVEL, parse, parse_with_notes};

@@ -4,31 +4,36 @@ ghost use Rattle.str_parser.specs.Phrases.{some_names, names as any_names, param
 ghost use Rattle.str_parser.specs.Readings.{IsReading, AtMost, one_name, itself, names_of};
 ghost use Rattle.str_parser.specs.Runs.{IsReadingAny, NoneOf, names_go_on, any_names_go_on};
 
+use crate::expected::Expected;
 use crate::input::{Input, Lexeme};
+use crate::refusal::Refusal;
 use std::alloc::Global;
 use str_lexer::Mark;
 use str_syntax::{Name, Parameters};
-use term_model::Fault;
 
-// Reads the name that the tokens begin with; also returns the tokens after it.
-pub(crate) fn name<'a>(alloc: Global, input: Input<'a>) -> Result<(Name, Input<'a>), Fault>
+// Reads the name that the tokens begin with; also returns the tokens after it. Where there is none, that is what was expected.
+pub(crate) fn name<'a>(
+    alloc: Global,
+    input: Input<'a>,
+    expected: Expected,
+) -> Result<(Name, Input<'a>), Refusal>
     ensures { IsReading one_name (AtMost 4) itself input.entry result }
 {
     let Some((Lexeme::Name(bytes), rest)) = input.first() else {
-        return Err(input.syntax());
+        return Err(input.syntax(expected));
     };
     Ok((Name::new(alloc, bytes, input.at())?, rest))
 }
 
 // Reads the names with commas between that the tokens begin with, one at least; also returns the tokens after them.
-pub(crate) fn names<'a>(alloc: Global, input: Input<'a>) -> Result<(Vec<Name>, Input<'a>), Fault>
+pub(crate) fn names<'a>(alloc: Global, input: Input<'a>) -> Result<(Vec<Name>, Input<'a>), Refusal>
     ensures { IsReading some_names (NoneOf names_go_on) names_of input.entry result }
 {
-    let (first, mut rest) = name(alloc, input)?;
+    let (first, mut rest) = name(alloc, input, Expected::Name)?;
     let mut found = Vec::with_capacity(alloc, 1)?;
     found.push(first)?;
     while let Some(following) = rest.after(Mark::Comma) {
-        let (other, following) = name(alloc, following)?;
+        let (other, following) = name(alloc, following, Expected::Name)?;
         found.push(other)?;
         rest = following;
     }
@@ -36,7 +41,7 @@ pub(crate) fn names<'a>(alloc: Global, input: Input<'a>) -> Result<(Vec<Name>, I
 }
 
 // Reads the names with commas between that the tokens begin with, if any; also returns the tokens after them.
-fn names_up_to<'a>(alloc: Global, input: Input<'a>) -> Result<(Vec<Name>, Input<'a>), Fault>
+fn names_up_to<'a>(alloc: Global, input: Input<'a>) -> Result<(Vec<Name>, Input<'a>), Refusal>
     ensures { IsReadingAny any_names (NoneOf any_names_go_on) names_of input.entry result }
 {
     match input.first() {
@@ -45,11 +50,27 @@ fn names_up_to<'a>(alloc: Global, input: Input<'a>) -> Result<(Vec<Name>, Input<
     }
 }
 
+// Returns what could stand after these strategy parameters.
+fn after_strategies(names: &[Name]) -> Expected {
+    if names.is_empty() {
+        return Expected::NameBarOrParenthesis;
+    }
+    Expected::CommaBarOrParenthesis
+}
+
+// Returns what could stand after these term parameters.
+fn after_terms(names: &[Name]) -> Expected {
+    if names.is_empty() {
+        return Expected::NameOrParenthesis;
+    }
+    Expected::CommaOrParenthesis
+}
+
 // Reads the parameters that the tokens begin with; also returns the tokens after them.
 pub(crate) fn parameters<'a>(
     alloc: Global,
     input: Input<'a>,
-) -> Result<(Parameters, Input<'a>), Fault>
+) -> Result<(Parameters, Input<'a>), Refusal>
     ensures { IsReadingAny written_parameters (AtMost 3) parameters_of input.entry result }
 {
     let Some(following) = input.after(Mark::OpenParenthesis) else {
@@ -60,11 +81,11 @@ pub(crate) fn parameters<'a>(
         return Ok((Parameters::Strategies(strategies), rest));
     }
     let Some(following) = rest.after(Mark::Bar) else {
-        return Err(rest.syntax());
+        return Err(rest.syntax(after_strategies(&strategies)));
     };
     let (terms, rest) = names_up_to(alloc, following)?;
     let Some(rest) = rest.after(Mark::CloseParenthesis) else {
-        return Err(rest.syntax());
+        return Err(rest.syntax(after_terms(&terms)));
     };
     Ok((Parameters::WithTerms(strategies, terms), rest))
 }

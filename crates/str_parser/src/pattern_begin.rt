@@ -6,22 +6,23 @@ ghost use Rattle.str_parser.specs.Phrases.{is_constructor as has_no_quote};
 ghost use Rattle.str_parser.specs.Begun.{IsNextPattern, WrittenPattern};
 
 use crate::begun::{BeforeInner, BegunPattern};
+use crate::expected::Expected;
 use crate::input::{Input, Lexeme};
+use crate::refusal::Refusal;
 use std::alloc::Global;
 use str_lexer::Mark;
 use str_syntax::{Name, Pattern, Text};
-use term_model::Fault;
 
 // The pattern that the tokens begin with, in a match or in a build, up to its first part.
 pub(crate) fn begin<'a>(
     alloc: Global,
     input: Input<'a>,
     in_match: bool,
-) -> Result<BegunPattern<'a>, Fault>
+) -> Result<BegunPattern<'a>, Refusal>
     ensures { IsNextPattern WrittenPattern in_match input.entry result }
 {
     let Some((first, rest)) = input.first() else {
-        return Err(input.syntax());
+        return Err(input.syntax(Expected::Pattern));
     };
     match first {
         Lexeme::Name(name) => begin_name(alloc, name, input.at(), rest),
@@ -32,8 +33,8 @@ pub(crate) fn begin<'a>(
             Ok(BegunPattern::Whole(Pattern::Quoted(text), rest))
         }
         Lexeme::Mark(mark) => begin_mark(alloc, mark, input.at(), rest, in_match),
-        Lexeme::Keyword(_) => Err(input.syntax()),
-        Lexeme::LeftOut => Err(input.syntax()),
+        Lexeme::Keyword(_) => Err(input.syntax(Expected::Pattern)),
+        Lexeme::LeftOut => Err(input.syntax(Expected::Pattern)),
     }
 }
 
@@ -44,14 +45,17 @@ fn begin_mark<'a>(
     at: u64,
     input: Input<'a>,
     in_match: bool,
-) -> Result<BegunPattern<'a>, Fault>
+) -> Result<BegunPattern<'a>, Refusal>
     ensures { IsNextPattern WrittenPattern in_match (mark_lexeme mark ∷ input.entry) result }
 {
     match mark {
         Mark::OpenParenthesis => Ok(begin_parenthesized(alloc, input)),
         Mark::OpenBracket => Ok(begin_bracketed(alloc, input)),
         Mark::Less if !in_match => Ok(BegunPattern::ToStrategy(input)),
-        _ => Err(Fault::Syntax { at }),
+        _ => {
+            let expected = Expected::Pattern;
+            Err(Refusal::Syntax { at, expected })
+        }
     }
 }
 
@@ -93,7 +97,7 @@ fn begin_name<'a>(
     bytes: &'a [u8],
     at: u64,
     input: Input<'a>,
-) -> Result<BegunPattern<'a>, Fault>
+) -> Result<BegunPattern<'a>, Refusal>
     ensures { (in_match : Bool) → IsNextPattern WrittenPattern in_match (name bytes.now ∷ input.entry) result }
 {
     let name = Name::new(alloc, bytes, at)?;

@@ -6,11 +6,12 @@ ghost use Rattle.str_parser.specs.Phrases.{pattern_part};
 ghost use Rattle.str_parser.specs.Begun.{IsNextPattern, HasInner, GoesApplied};
 
 use crate::begun::{BeforeInner, BegunPattern};
+use crate::expected::Expected;
 use crate::input::{Input, Lexeme};
+use crate::refusal::Refusal;
 use std::alloc::Global;
 use str_lexer::Mark;
 use str_syntax::{Name, Pattern, Strategy};
-use term_model::Fault;
 
 impl BeforeInner {
     // The pattern with this pattern after what has been read, up to its next part.
@@ -20,7 +21,7 @@ impl BeforeInner {
         alloc: Global,
         part: Pattern,
         input: Input<'a>,
-    ) -> Result<BegunPattern<'a>, Fault>
+    ) -> Result<BegunPattern<'a>, Refusal>
         ensures { (in_match : Bool) → IsNextPattern (HasInner self (pattern_of part)) in_match input.entry result }
     {
         match self {
@@ -39,7 +40,7 @@ fn alias<'a>(
     name: Name,
     part: Pattern,
     input: Input<'a>,
-) -> Result<BegunPattern<'a>, Fault>
+) -> Result<BegunPattern<'a>, Refusal>
     ensures { (in_match : Bool) → IsNextPattern (HasInner (BeforeInner.Alias name) (pattern_of part)) in_match input.entry result }
 {
     let made = Pattern::Alias(name, Box::new(alloc, part)?);
@@ -51,7 +52,7 @@ fn application<'a>(
     done: Vec<Pattern>,
     part: Pattern,
     input: Input<'a>,
-) -> Result<BegunPattern<'a>, Fault>
+) -> Result<BegunPattern<'a>, Refusal>
     ensures { (in_match : Bool) → IsNextPattern (HasInner (BeforeInner.Application name done) (pattern_of part)) in_match input.entry result }
 {
     let mut parts = done;
@@ -60,7 +61,7 @@ fn application<'a>(
         return Ok(BegunPattern::ToPattern(BeforeInner::Application(name, parts), following));
     }
     let Some(rest) = input.after(Mark::CloseParenthesis) else {
-        return Err(input.syntax());
+        return Err(input.syntax(Expected::CommaOrParenthesis));
     };
     Ok(BegunPattern::Whole(Pattern::Application(name, parts), rest))
 }
@@ -70,7 +71,7 @@ fn parenthesized<'a>(
     done: Vec<Pattern>,
     part: Pattern,
     input: Input<'a>,
-) -> Result<BegunPattern<'a>, Fault>
+) -> Result<BegunPattern<'a>, Refusal>
     ensures { (in_match : Bool) → IsNextPattern (HasInner (BeforeInner.Parenthesized done) (pattern_of part)) in_match input.entry result }
 {
     let mut parts = done;
@@ -79,7 +80,7 @@ fn parenthesized<'a>(
         return Ok(BegunPattern::ToPattern(BeforeInner::Parenthesized(parts), following));
     }
     let Some(rest) = input.after(Mark::CloseParenthesis) else {
-        return Err(input.syntax());
+        return Err(input.syntax(Expected::CommaOrParenthesis));
     };
     if parts.is_empty() {
         return Ok(BegunPattern::Whole(Pattern::Parenthesized(Box::new(alloc, part)?), rest));
@@ -92,7 +93,7 @@ fn bracketed<'a>(
     done: Vec<Pattern>,
     part: Pattern,
     input: Input<'a>,
-) -> Result<BegunPattern<'a>, Fault>
+) -> Result<BegunPattern<'a>, Refusal>
     ensures { (in_match : Bool) → IsNextPattern (HasInner (BeforeInner.Bracketed done) (pattern_of part)) in_match input.entry result }
 {
     let mut parts = done;
@@ -104,7 +105,7 @@ fn bracketed<'a>(
         return Ok(BegunPattern::ToPattern(BeforeInner::Tail(parts), following));
     }
     let Some(rest) = input.after(Mark::CloseBracket) else {
-        return Err(input.syntax());
+        return Err(input.syntax(Expected::CommaBarOrBracket));
     };
     Ok(BegunPattern::Whole(Pattern::List(parts, None), rest))
 }
@@ -114,11 +115,11 @@ fn tail<'a>(
     parts: Vec<Pattern>,
     part: Pattern,
     input: Input<'a>,
-) -> Result<BegunPattern<'a>, Fault>
+) -> Result<BegunPattern<'a>, Refusal>
     ensures { (in_match : Bool) → IsNextPattern (HasInner (BeforeInner.Tail parts) (pattern_of part)) in_match input.entry result }
 {
     let Some(rest) = input.after(Mark::CloseBracket) else {
-        return Err(input.syntax());
+        return Err(input.syntax(Expected::CloseBracket));
     };
     let made = Pattern::List(parts, Some(Box::new(alloc, part)?));
     Ok(BegunPattern::Whole(made, rest))
@@ -129,7 +130,7 @@ fn applied_to<'a>(
     applied: Box<Strategy>,
     part: Pattern,
     input: Input<'a>,
-) -> Result<BegunPattern<'a>, Fault>
+) -> Result<BegunPattern<'a>, Refusal>
     ensures { (in_match : Bool) → IsNextPattern (HasInner (BeforeInner.AppliedTo applied) (pattern_of part)) in_match input.entry result }
 {
     let made = Pattern::AppliedTo(applied, Box::new(alloc, part)?);
@@ -141,11 +142,11 @@ pub(crate) fn applied<'a>(
     alloc: Global,
     applied: Strategy,
     input: Input<'a>,
-) -> Result<BegunPattern<'a>, Fault>
+) -> Result<BegunPattern<'a>, Refusal>
     ensures { (in_match : Bool) → IsNextPattern (GoesApplied (strategy_of applied)) in_match input.entry result }
 {
     let Some(rest) = input.after(Mark::Greater) else {
-        return Err(input.syntax());
+        return Err(input.syntax(Expected::Greater));
     };
     let applied = Box::new(alloc, applied)?;
     if begins_pattern(&rest, false) {

@@ -6,38 +6,48 @@ ghost use Rattle.str_parser.specs.Phrases.{keyword_of};
 ghost use Rattle.str_parser.specs.Begun.{IsWhole, IsNext, Written, GoesBehindBar};
 
 use crate::begun::{BeforePattern, BeforeStrategy, Begun};
+use crate::expected::Expected;
 use crate::input::{Input, Lexeme};
 use crate::names::{name, names};
 use crate::primary_let::begin_definition;
+use crate::refusal::Refusal;
 use std::alloc::Global;
 use str_lexer::{Keyword, Mark};
 use str_syntax::{Arguments, Name, Operator, Pattern, Primary, Strategy, Text};
-use term_model::Fault;
 
 // This primary as a whole.
-pub(crate) fn whole<'a>(alloc: Global, made: Primary, input: Input<'a>) -> Result<Begun<'a>, Fault>
+pub(crate) fn whole<'a>(
+    alloc: Global,
+    made: Primary,
+    input: Input<'a>,
+) -> Result<Begun<'a>, Refusal>
     ensures { IsWhole (primary_of made) input.entry result }
 {
     Ok(Begun::Whole(Box::new(alloc, made)?, input))
 }
 
 // The primary that the tokens begin with, up to its first part.
-pub(crate) fn begin<'a>(alloc: Global, input: Input<'a>) -> Result<Begun<'a>, Fault>
+pub(crate) fn begin<'a>(alloc: Global, input: Input<'a>) -> Result<Begun<'a>, Refusal>
     ensures { IsNext Written input.entry result }
 {
     let Some((first, rest)) = input.first() else {
-        return Err(input.syntax());
+        return Err(input.syntax(Expected::Strategy));
     };
     match first {
         Lexeme::Name(name) => begin_name(alloc, name, input.at(), rest),
         Lexeme::Mark(mark) => begin_mark(alloc, mark, input.at(), rest),
         Lexeme::Keyword(keyword) => begin_keyword(alloc, keyword, input.at(), rest),
-        _ => Err(input.syntax()),
+        _ => Err(input.syntax(Expected::Strategy)),
     }
 }
 
 // The primary whose mark, at this byte, stands before the tokens.
-fn begin_mark<'a>(alloc: Global, mark: Mark, at: u64, input: Input<'a>) -> Result<Begun<'a>, Fault>
+fn begin_mark<'a>(
+    alloc: Global,
+    mark: Mark,
+    at: u64,
+    input: Input<'a>,
+) -> Result<Begun<'a>, Refusal>
     ensures { IsNext Written (L.mark mark ∷ input.entry) result }
 {
     match mark {
@@ -48,12 +58,15 @@ fn begin_mark<'a>(alloc: Global, mark: Mark, at: u64, input: Input<'a>) -> Resul
         Mark::OpenParenthesis => begin_parenthesized(alloc, input),
         Mark::OpenBracket => begin_bracketed(alloc, input),
         Mark::OpenBrace => begin_scope(alloc, input),
-        _ => Err(Fault::Syntax { at }),
+        _ => {
+            let expected = Expected::Strategy;
+            Err(Refusal::Syntax { at, expected })
+        }
     }
 }
 
 // The congruence or strategy whose `(` stands before the tokens.
-fn begin_parenthesized<'a>(alloc: Global, input: Input<'a>) -> Result<Begun<'a>, Fault>
+fn begin_parenthesized<'a>(alloc: Global, input: Input<'a>) -> Result<Begun<'a>, Refusal>
     ensures { IsNext Written (L.mark Mark.OpenParenthesis ∷ input.entry) result }
 {
     if let Some(rest) = input.after(Mark::CloseParenthesis) {
@@ -63,7 +76,7 @@ fn begin_parenthesized<'a>(alloc: Global, input: Input<'a>) -> Result<Begun<'a>,
 }
 
 // The congruence whose `[` stands before the tokens.
-fn begin_bracketed<'a>(alloc: Global, input: Input<'a>) -> Result<Begun<'a>, Fault>
+fn begin_bracketed<'a>(alloc: Global, input: Input<'a>) -> Result<Begun<'a>, Refusal>
     ensures { IsNext Written (L.mark Mark.OpenBracket ∷ input.entry) result }
 {
     if let Some(rest) = input.after(Mark::CloseBracket) {
@@ -73,12 +86,12 @@ fn begin_bracketed<'a>(alloc: Global, input: Input<'a>) -> Result<Begun<'a>, Fau
 }
 
 // The scope whose `{` stands before the tokens.
-fn begin_scope<'a>(alloc: Global, input: Input<'a>) -> Result<Begun<'a>, Fault>
+fn begin_scope<'a>(alloc: Global, input: Input<'a>) -> Result<Begun<'a>, Refusal>
     ensures { IsNext Written (L.mark Mark.OpenBrace ∷ input.entry) result }
 {
     let (variables, rest) = names(alloc, input)?;
     let Some(following) = rest.after(Mark::Colon) else {
-        return Err(rest.syntax());
+        return Err(rest.syntax(Expected::CommaOrColon));
     };
     Ok(Begun::ToStrategy(BeforeStrategy::Scope(variables), following))
 }
@@ -89,7 +102,7 @@ fn begin_keyword<'a>(
     keyword: Keyword,
     at: u64,
     input: Input<'a>,
-) -> Result<Begun<'a>, Fault>
+) -> Result<Begun<'a>, Refusal>
     ensures { IsNext Written (L.keyword keyword ∷ input.entry) result }
 {
     match keyword {
@@ -102,52 +115,55 @@ fn begin_keyword<'a>(
         Keyword::Some => begin_operator(Operator::Some, input),
         Keyword::If => Ok(Begun::ToStrategy(BeforeStrategy::Condition, input)),
         Keyword::Rec => begin_recursive(alloc, input),
-        Keyword::Let => begin_definition(alloc, Vec::new(alloc), input),
+        Keyword::Let => begin_definition(alloc, Vec::new(alloc), input, Expected::Name),
         Keyword::Prim => begin_primitive(alloc, input),
-        _ => Err(Fault::Syntax { at }),
+        _ => {
+            let expected = Expected::Strategy;
+            Err(Refusal::Syntax { at, expected })
+        }
     }
 }
 
 // The operator whose keyword stands before the tokens.
-fn begin_operator<'a>(operator: Operator, input: Input<'a>) -> Result<Begun<'a>, Fault>
+fn begin_operator<'a>(operator: Operator, input: Input<'a>) -> Result<Begun<'a>, Refusal>
     ensures { IsNext Written (L.keyword (keyword_of operator) ∷ input.entry) result }
 {
     let Some(following) = input.after(Mark::OpenParenthesis) else {
-        return Err(input.syntax());
+        return Err(input.syntax(Expected::OpenParenthesis));
     };
     Ok(Begun::ToStrategy(BeforeStrategy::Operator(operator), following))
 }
 
 // The recursive strategy whose `rec` stands before the tokens.
-fn begin_recursive<'a>(alloc: Global, input: Input<'a>) -> Result<Begun<'a>, Fault>
+fn begin_recursive<'a>(alloc: Global, input: Input<'a>) -> Result<Begun<'a>, Refusal>
     ensures { IsNext Written (L.keyword Keyword.Rec ∷ input.entry) result }
 {
-    let (recursive, rest) = name(alloc, input)?;
+    let (recursive, rest) = name(alloc, input, Expected::Name)?;
     let Some(following) = rest.after(Mark::OpenParenthesis) else {
-        return Err(rest.syntax());
+        return Err(rest.syntax(Expected::OpenParenthesis));
     };
     Ok(Begun::ToStrategy(BeforeStrategy::Recursive(recursive), following))
 }
 
 // The primitive whose `prim` stands before the tokens.
-fn begin_primitive<'a>(alloc: Global, input: Input<'a>) -> Result<Begun<'a>, Fault>
+fn begin_primitive<'a>(alloc: Global, input: Input<'a>) -> Result<Begun<'a>, Refusal>
     ensures { IsNext Written (L.keyword Keyword.Prim ∷ input.entry) result }
 {
     let Some(following) = input.after(Mark::OpenParenthesis) else {
-        return Err(input.syntax());
+        return Err(input.syntax(Expected::OpenParenthesis));
     };
     let Some((first, rest)) = following.first() else {
-        return Err(following.syntax());
+        return Err(following.syntax(Expected::QuotedText));
     };
     let Lexeme::Quoted(text) = first else {
-        return Err(following.syntax());
+        return Err(following.syntax(Expected::QuotedText));
     };
     let text = Text::new(alloc, text)?;
     if let Some(rest) = rest.after(Mark::CloseParenthesis) {
         return whole(alloc, Primary::Primitive(text, Vec::new(alloc)), rest);
     }
     let Some(following) = rest.after(Mark::Comma) else {
-        return Err(rest.syntax());
+        return Err(rest.syntax(Expected::CommaOrParenthesis));
     };
     let before = BeforePattern::Primitive(text, Vec::new(alloc));
     Ok(Begun::ToPattern(before, following))
@@ -159,7 +175,7 @@ fn begin_name<'a>(
     called: &'a [u8],
     at: u64,
     input: Input<'a>,
-) -> Result<Begun<'a>, Fault>
+) -> Result<Begun<'a>, Refusal>
     ensures { IsNext Written (L.name called.now ∷ input.entry) result }
 {
     let called = Name::new(alloc, called, at)?;
@@ -184,7 +200,7 @@ pub(crate) fn begin_terms<'a>(
     called: Name,
     strategies: Vec<Strategy>,
     input: Input<'a>,
-) -> Result<Begun<'a>, Fault>
+) -> Result<Begun<'a>, Refusal>
     ensures { IsNext (GoesBehindBar called strategies) input.entry result }
 {
     let terms: Vec<Pattern> = Vec::new(alloc);

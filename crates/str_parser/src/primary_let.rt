@@ -3,26 +3,28 @@ ghost use Rattle.str_syntax.specs.Views.{strategy_of};
 ghost use Rattle.str_parser.specs.Begun.{IsNext, HasStrategy, GoesToDefinition};
 
 use crate::begun::{BeforeStrategy, Begun};
+use crate::expected::Expected;
 use crate::input::Input;
 use crate::names::{name, parameters};
 use crate::primary_begin::whole;
+use crate::refusal::Refusal;
 use std::alloc::Global;
 use str_lexer::{Keyword, Mark};
 use str_syntax::{DefinitionHead, Name, Parameters, Primary, Strategy, StrategyDefinition};
-use term_model::Fault;
 
-// The next definition of a let, after these.
+// The next definition of a let, after these. Where none begins, that is what was expected.
 pub(crate) fn begin_definition<'a>(
     alloc: Global,
     done: Vec<StrategyDefinition>,
     input: Input<'a>,
-) -> Result<Begun<'a>, Fault>
+    expected: Expected,
+) -> Result<Begun<'a>, Refusal>
     ensures { IsNext (GoesToDefinition done) input.entry result }
 {
-    let (defined, rest) = name(alloc, input)?;
+    let (defined, rest) = name(alloc, input, expected)?;
     let (parameters, rest) = parameters(alloc, rest)?;
     let Some(following) = rest.after(Mark::Equals) else {
-        return Err(rest.syntax());
+        return Err(rest.syntax(Expected::Equals));
     };
     let before = BeforeStrategy::Definition(done, defined, parameters);
     Ok(Begun::ToStrategy(before, following))
@@ -36,7 +38,7 @@ pub(crate) fn definition<'a>(
     parameters: Parameters,
     body: Strategy,
     input: Input<'a>,
-) -> Result<Begun<'a>, Fault>
+) -> Result<Begun<'a>, Refusal>
     ensures { IsNext (HasStrategy (BeforeStrategy.Definition done name parameters) (strategy_of body)) input.entry result }
 {
     let mut definitions = done;
@@ -46,7 +48,7 @@ pub(crate) fn definition<'a>(
     if let Some(following) = input.after_keyword(Keyword::In) {
         return Ok(Begun::ToStrategy(BeforeStrategy::LetBody(definitions), following));
     }
-    begin_definition(alloc, definitions, input)
+    begin_definition(alloc, definitions, input, Expected::NameOrIn)
 }
 
 // The let after what its definitions scope over.
@@ -55,11 +57,11 @@ pub(crate) fn let_body<'a>(
     definitions: Vec<StrategyDefinition>,
     part: Strategy,
     input: Input<'a>,
-) -> Result<Begun<'a>, Fault>
+) -> Result<Begun<'a>, Refusal>
     ensures { IsNext (HasStrategy (BeforeStrategy.LetBody definitions) (strategy_of part)) input.entry result }
 {
     let Some(rest) = input.after_keyword(Keyword::End) else {
-        return Err(input.syntax());
+        return Err(input.syntax(Expected::End));
     };
     let body = Box::new(alloc, part)?;
     whole(alloc, Primary::Let(definitions, body), rest)

@@ -4,13 +4,14 @@ ghost use Rattle.str_syntax.specs.Views.{pattern_of, primary_of};
 ghost use Rattle.str_parser.specs.Begun.{IsNext, HasPattern, wants_match};
 
 use crate::begun::{BeforePattern, Begun};
+use crate::expected::Expected;
 use crate::input::Input;
 use crate::primary_begin::whole;
 use crate::primary_rule::{rule_left, rule_right};
+use crate::refusal::Refusal;
 use std::alloc::Global;
 use str_lexer::Mark;
 use str_syntax::{Arguments, Name, Pattern, Primary, Strategy, Text};
-use term_model::Fault;
 
 impl BeforePattern {
     // Tells whether the pattern that comes next is in a match.
@@ -27,7 +28,7 @@ impl BeforePattern {
         alloc: Global,
         part: Pattern,
         input: Input<'a>,
-    ) -> Result<Begun<'a>, Fault>
+    ) -> Result<Begun<'a>, Refusal>
         ensures { IsNext (HasPattern self (pattern_of part)) input.entry result }
     {
         match self {
@@ -49,7 +50,7 @@ fn apply_to<'a>(
     applied: Box<Strategy>,
     part: Pattern,
     input: Input<'a>,
-) -> Result<Begun<'a>, Fault>
+) -> Result<Begun<'a>, Refusal>
     ensures { IsNext (HasPattern (BeforePattern.ApplyTo applied) (pattern_of part)) input.entry result }
 {
     let made = Primary::Apply(applied, Box::new(alloc, part)?);
@@ -63,7 +64,7 @@ fn terms<'a>(
     done: Vec<Pattern>,
     part: Pattern,
     input: Input<'a>,
-) -> Result<Begun<'a>, Fault>
+) -> Result<Begun<'a>, Refusal>
     ensures { IsNext (HasPattern (BeforePattern.Terms called strategies done) (pattern_of part)) input.entry result }
 {
     let mut parts = done;
@@ -73,7 +74,7 @@ fn terms<'a>(
         return Ok(Begun::ToPattern(before, following));
     }
     let Some(rest) = input.after(Mark::CloseParenthesis) else {
-        return Err(input.syntax());
+        return Err(input.syntax(Expected::CommaOrParenthesis));
     };
     let arguments = Arguments::WithTerms(strategies, Box::new(alloc, parts)?);
     let made = Primary::Call(called, arguments);
@@ -86,7 +87,7 @@ fn primitive<'a>(
     done: Vec<Pattern>,
     part: Pattern,
     input: Input<'a>,
-) -> Result<Begun<'a>, Fault>
+) -> Result<Begun<'a>, Refusal>
     ensures { IsNext (HasPattern (BeforePattern.Primitive text done) (pattern_of part)) input.entry result }
 {
     let mut parts = done;
@@ -95,7 +96,7 @@ fn primitive<'a>(
         return Ok(Begun::ToPattern(BeforePattern::Primitive(text, parts), following));
     }
     let Some(rest) = input.after(Mark::CloseParenthesis) else {
-        return Err(input.syntax());
+        return Err(input.syntax(Expected::CommaOrParenthesis));
     };
     whole(alloc, Primary::Primitive(text, parts), rest)
 }

@@ -3,14 +3,15 @@ ghost use Rattle.str_syntax.specs.Views.{strategy_of};
 ghost use Rattle.str_parser.specs.Begun.{IsNext, HasStrategy};
 
 use crate::begun::{BeforePattern, BeforeStrategy, Begun};
+use crate::expected::Expected;
 use crate::input::Input;
 use crate::primary_begin::{begin_terms, whole};
 use crate::primary_let::{definition, let_body};
 use crate::primary_rule::rule_condition;
+use crate::refusal::Refusal;
 use std::alloc::Global;
 use str_lexer::{Keyword, Mark};
 use str_syntax::{Arguments, Name, Operator, Primary, Strategy};
-use term_model::Fault;
 
 impl BeforeStrategy {
     // The primary with this strategy after what has been read, up to its next part.
@@ -20,7 +21,7 @@ impl BeforeStrategy {
         alloc: Global,
         part: Strategy,
         input: Input<'a>,
-    ) -> Result<Begun<'a>, Fault>
+    ) -> Result<Begun<'a>, Refusal>
         ensures { IsNext (HasStrategy self (strategy_of part)) input.entry result }
     {
         match self {
@@ -48,11 +49,11 @@ impl BeforeStrategy {
     }
 }
 
-fn apply<'a>(alloc: Global, applied: Strategy, input: Input<'a>) -> Result<Begun<'a>, Fault>
+fn apply<'a>(alloc: Global, applied: Strategy, input: Input<'a>) -> Result<Begun<'a>, Refusal>
     ensures { IsNext (HasStrategy BeforeStrategy.Apply (strategy_of applied)) input.entry result }
 {
     let Some(following) = input.after(Mark::Greater) else {
-        return Err(input.syntax());
+        return Err(input.syntax(Expected::Greater));
     };
     let before = BeforePattern::ApplyTo(Box::new(alloc, applied)?);
     Ok(Begun::ToPattern(before, following))
@@ -63,7 +64,7 @@ fn parenthesized<'a>(
     done: Vec<Strategy>,
     part: Strategy,
     input: Input<'a>,
-) -> Result<Begun<'a>, Fault>
+) -> Result<Begun<'a>, Refusal>
     ensures { IsNext (HasStrategy (BeforeStrategy.Parenthesized done) (strategy_of part)) input.entry result }
 {
     let mut parts = done;
@@ -72,7 +73,7 @@ fn parenthesized<'a>(
         return Ok(Begun::ToStrategy(BeforeStrategy::Parenthesized(parts), following));
     }
     let Some(rest) = input.after(Mark::CloseParenthesis) else {
-        return Err(input.syntax());
+        return Err(input.syntax(Expected::CommaOrParenthesis));
     };
     if parts.is_empty() {
         return whole(alloc, Primary::Parenthesized(Box::new(alloc, part)?), rest);
@@ -86,7 +87,7 @@ fn bracketed<'a>(
     done: Vec<Strategy>,
     part: Strategy,
     input: Input<'a>,
-) -> Result<Begun<'a>, Fault>
+) -> Result<Begun<'a>, Refusal>
     ensures { IsNext (HasStrategy (BeforeStrategy.Bracketed done) (strategy_of part)) input.entry result }
 {
     let mut parts = done;
@@ -98,7 +99,7 @@ fn bracketed<'a>(
         return Ok(Begun::ToStrategy(BeforeStrategy::Tail(parts), following));
     }
     let Some(rest) = input.after(Mark::CloseBracket) else {
-        return Err(input.syntax());
+        return Err(input.syntax(Expected::CommaBarOrBracket));
     };
     whole(alloc, Primary::ListCongruence(parts, None), rest)
 }
@@ -108,11 +109,11 @@ fn tail<'a>(
     parts: Vec<Strategy>,
     part: Strategy,
     input: Input<'a>,
-) -> Result<Begun<'a>, Fault>
+) -> Result<Begun<'a>, Refusal>
     ensures { IsNext (HasStrategy (BeforeStrategy.Tail parts) (strategy_of part)) input.entry result }
 {
     let Some(rest) = input.after(Mark::CloseBracket) else {
-        return Err(input.syntax());
+        return Err(input.syntax(Expected::CloseBracket));
     };
     let made = Primary::ListCongruence(parts, Some(Box::new(alloc, part)?));
     whole(alloc, made, rest)
@@ -124,7 +125,7 @@ fn arguments<'a>(
     done: Vec<Strategy>,
     part: Strategy,
     input: Input<'a>,
-) -> Result<Begun<'a>, Fault>
+) -> Result<Begun<'a>, Refusal>
     ensures { IsNext (HasStrategy (BeforeStrategy.Arguments called done) (strategy_of part)) input.entry result }
 {
     let mut parts = done;
@@ -136,7 +137,7 @@ fn arguments<'a>(
         return begin_terms(alloc, called, parts, following);
     }
     let Some(rest) = input.after(Mark::CloseParenthesis) else {
-        return Err(input.syntax());
+        return Err(input.syntax(Expected::CommaBarOrParenthesis));
     };
     let made = Primary::Call(called, Arguments::Strategies(parts));
     whole(alloc, made, rest)
@@ -147,11 +148,11 @@ fn scope<'a>(
     variables: Vec<Name>,
     part: Strategy,
     input: Input<'a>,
-) -> Result<Begun<'a>, Fault>
+) -> Result<Begun<'a>, Refusal>
     ensures { IsNext (HasStrategy (BeforeStrategy.Scope variables) (strategy_of part)) input.entry result }
 {
     let Some(rest) = input.after(Mark::CloseBrace) else {
-        return Err(input.syntax());
+        return Err(input.syntax(Expected::CloseBrace));
     };
     let made = Primary::Scope(variables, Box::new(alloc, part)?);
     whole(alloc, made, rest)
@@ -162,11 +163,11 @@ fn operated<'a>(
     operator: Operator,
     part: Strategy,
     input: Input<'a>,
-) -> Result<Begun<'a>, Fault>
+) -> Result<Begun<'a>, Refusal>
     ensures { IsNext (HasStrategy (BeforeStrategy.Operator operator) (strategy_of part)) input.entry result }
 {
     let Some(rest) = input.after(Mark::CloseParenthesis) else {
-        return Err(input.syntax());
+        return Err(input.syntax(Expected::CloseParenthesis));
     };
     let made = Primary::Operator(operator, Box::new(alloc, part)?);
     whole(alloc, made, rest)
@@ -177,21 +178,21 @@ fn recursive<'a>(
     name: Name,
     part: Strategy,
     input: Input<'a>,
-) -> Result<Begun<'a>, Fault>
+) -> Result<Begun<'a>, Refusal>
     ensures { IsNext (HasStrategy (BeforeStrategy.Recursive name) (strategy_of part)) input.entry result }
 {
     let Some(rest) = input.after(Mark::CloseParenthesis) else {
-        return Err(input.syntax());
+        return Err(input.syntax(Expected::CloseParenthesis));
     };
     let made = Primary::Recursive(name, Box::new(alloc, part)?);
     whole(alloc, made, rest)
 }
 
-fn condition<'a>(alloc: Global, part: Strategy, input: Input<'a>) -> Result<Begun<'a>, Fault>
+fn condition<'a>(alloc: Global, part: Strategy, input: Input<'a>) -> Result<Begun<'a>, Refusal>
     ensures { IsNext (HasStrategy BeforeStrategy.Condition (strategy_of part)) input.entry result }
 {
     let Some(following) = input.after_keyword(Keyword::Then) else {
-        return Err(input.syntax());
+        return Err(input.syntax(Expected::Then));
     };
     let before = BeforeStrategy::Consequence(Box::new(alloc, part)?);
     Ok(Begun::ToStrategy(before, following))
@@ -202,7 +203,7 @@ fn consequence<'a>(
     condition: Box<Strategy>,
     part: Strategy,
     input: Input<'a>,
-) -> Result<Begun<'a>, Fault>
+) -> Result<Begun<'a>, Refusal>
     ensures { IsNext (HasStrategy (BeforeStrategy.Consequence condition) (strategy_of part)) input.entry result }
 {
     let part = Box::new(alloc, part)?;
@@ -211,7 +212,7 @@ fn consequence<'a>(
         return Ok(Begun::ToStrategy(before, following));
     }
     let Some(rest) = input.after_keyword(Keyword::End) else {
-        return Err(input.syntax());
+        return Err(input.syntax(Expected::ElseOrEnd));
     };
     let made = Primary::If(condition, part, None);
     whole(alloc, made, rest)
@@ -223,11 +224,11 @@ fn alternative<'a>(
     then: Box<Strategy>,
     part: Strategy,
     input: Input<'a>,
-) -> Result<Begun<'a>, Fault>
+) -> Result<Begun<'a>, Refusal>
     ensures { IsNext (HasStrategy (BeforeStrategy.Alternative condition then) (strategy_of part)) input.entry result }
 {
     let Some(rest) = input.after_keyword(Keyword::End) else {
-        return Err(input.syntax());
+        return Err(input.syntax(Expected::End));
     };
     let made = Primary::If(condition, then, Some(Box::new(alloc, part)?));
     whole(alloc, made, rest)

@@ -8,13 +8,14 @@ ghost use Rattle.str_parser.specs.Readings.{IsReading};
 ghost use Rattle.str_parser.specs.Runs.{IsReadingAny, NoneOf};
 ghost use Rattle.str_parser.specs.Sorts.{inner_sort, some_sorts, some_factors, typed, type_of, sorts_from, declarations_from, signatures_from, IsSole, first_is, IsFirstName, begins_declaration, begins_signature_part, sort_goes_on, sort_list_goes_on, sort_run_goes_on, factors_go_on, declaration_goes_on, signature_part_goes_on, signature_goes_on};
 
+use crate::expected::Expected;
 use crate::file::MAX_LEVEL;
 use crate::input::{Input, Lexeme};
 use crate::pattern_begin::is_constructor;
+use crate::refusal::Refusal;
 use std::alloc::Global;
 use str_lexer::{Keyword, Mark};
 use str_syntax::{Declaration, Name, SignaturePart, Sort};
-use term_model::Fault;
 
 // What stands after the colon of a declaration.
 #[derive(Drop)]
@@ -79,15 +80,15 @@ fn at_sort(input: &Input) -> bool
 
 // Reads the sort at this level that the tokens begin with; also returns the tokens after it.
 #[cycle(sort)]
-fn sort<'a>(alloc: Global, input: Input<'a>, level: u32) -> Result<(Sort, Input<'a>), Fault>
+fn sort<'a>(alloc: Global, input: Input<'a>, level: u32) -> Result<(Sort, Input<'a>), Refusal>
     requires { level ≤ max_level + 1 }
     ensures { IsReading (inner_sort level) (NoneOf sort_goes_on) sort_tree_of input.entry result }
 {
     let Some((bytes, following)) = first_name(&input) else {
-        return Err(input.syntax());
+        return Err(input.syntax(Expected::Sort));
     };
     if level > MAX_LEVEL {
-        return Err(Fault::Nesting { at: input.at() });
+        return Err(Refusal::Nesting { at: input.at() });
     }
     let name = Name::new(alloc, bytes, input.at())?;
     let Some(inner) = following.after(Mark::OpenParenthesis) else {
@@ -95,7 +96,7 @@ fn sort<'a>(alloc: Global, input: Input<'a>, level: u32) -> Result<(Sort, Input<
     };
     let (parts, rest) = sort_list(alloc, inner, level + 1)?;
     let Some(rest) = rest.after(Mark::CloseParenthesis) else {
-        return Err(rest.syntax());
+        return Err(rest.syntax(Expected::CommaOrParenthesis));
     };
     Ok((Sort::Applied(name, parts), rest))
 }
@@ -106,7 +107,7 @@ fn sort_list<'a>(
     alloc: Global,
     input: Input<'a>,
     level: u32,
-) -> Result<(Vec<Sort>, Input<'a>), Fault>
+) -> Result<(Vec<Sort>, Input<'a>), Refusal>
     requires { level ≤ max_level + 1 }
     ensures { IsReading (some_sorts level) (NoneOf sort_list_goes_on) sorts_from input.entry result }
 {
@@ -122,7 +123,7 @@ fn sort_list<'a>(
 }
 
 // Reads the sorts that the tokens begin with, one after the other; also returns the tokens after them.
-fn sort_run<'a>(alloc: Global, input: Input<'a>) -> Result<(Vec<Sort>, Input<'a>), Fault>
+fn sort_run<'a>(alloc: Global, input: Input<'a>) -> Result<(Vec<Sort>, Input<'a>), Refusal>
     ensures { IsReadingAny written_run (NoneOf sort_run_goes_on) sorts_from input.entry result }
 {
     let mut found = Vec::new(alloc);
@@ -136,7 +137,7 @@ fn sort_run<'a>(alloc: Global, input: Input<'a>) -> Result<(Vec<Sort>, Input<'a>
 }
 
 // Reads the sorts with * between that the tokens begin with, one at least; also returns the tokens after them.
-fn factors<'a>(alloc: Global, input: Input<'a>) -> Result<(Vec<Sort>, Input<'a>), Fault>
+fn factors<'a>(alloc: Global, input: Input<'a>) -> Result<(Vec<Sort>, Input<'a>), Refusal>
     ensures { IsReading some_factors (NoneOf factors_go_on) sorts_from input.entry result }
 {
     let (first, mut rest) = sort(alloc, input, 1)?;
@@ -162,7 +163,7 @@ fn sole(parts: Vec<Sort>) -> Option<Sort>
 }
 
 // What the tokens after the colon of a declaration begin with, and the tokens after that.
-fn sort_type<'a>(alloc: Global, input: Input<'a>) -> Result<(SortType, Input<'a>), Fault>
+fn sort_type<'a>(alloc: Global, input: Input<'a>) -> Result<(SortType, Input<'a>), Refusal>
     ensures { IsReading typed (NoneOf declaration_goes_on) type_of input.entry result }
 {
     let (parts, rest) = factors(alloc, input)?;
@@ -171,37 +172,37 @@ fn sort_type<'a>(alloc: Global, input: Input<'a>) -> Result<(SortType, Input<'a>
         return Ok((SortType::Mapping(parts, made), rest));
     }
     let Some(made) = sole(parts) else {
-        return Err(rest.syntax());
+        return Err(rest.syntax(Expected::StarOrArrow));
     };
     Ok((SortType::Plain(made), rest))
 }
 
 // Reads the injection whose colon stands before the tokens; also returns the tokens after it.
-fn injection<'a>(alloc: Global, input: Input<'a>) -> Result<(Declaration, Input<'a>), Fault>
+fn injection<'a>(alloc: Global, input: Input<'a>) -> Result<(Declaration, Input<'a>), Refusal>
     ensures { IsReading written_declaration (NoneOf declaration_goes_on) declaration_of (mark Mark.Colon ∷ input.entry) result }
 {
     let (found, rest) = sort_type(alloc, input)?;
     match found {
-        SortType::Plain(_) => Err(rest.syntax()),
+        SortType::Plain(_) => Err(rest.syntax(Expected::StarOrArrow)),
         SortType::Mapping(parts, made) => Ok((Declaration::Injection(parts, made), rest)),
     }
 }
 
 // Reads the declaration that the tokens begin with; also returns the tokens after it.
-fn declaration<'a>(alloc: Global, input: Input<'a>) -> Result<(Declaration, Input<'a>), Fault>
+fn declaration<'a>(alloc: Global, input: Input<'a>) -> Result<(Declaration, Input<'a>), Refusal>
     ensures { IsReading written_declaration (NoneOf declaration_goes_on) declaration_of input.entry result }
 {
     if let Some(following) = input.after(Mark::Colon) {
         return injection(alloc, following);
     }
     let Some((bytes, following)) = first_name(&input) else {
-        return Err(input.syntax());
+        return Err(input.syntax(Expected::Constructor));
     };
     if !is_constructor(bytes) {
-        return Err(input.syntax());
+        return Err(input.syntax(Expected::Constructor));
     }
     let Some(following) = following.after(Mark::Colon) else {
-        return Err(following.syntax());
+        return Err(following.syntax(Expected::Colon));
     };
     let name = Name::new(alloc, bytes, input.at())?;
     let (found, rest) = sort_type(alloc, following)?;
@@ -212,7 +213,10 @@ fn declaration<'a>(alloc: Global, input: Input<'a>) -> Result<(Declaration, Inpu
 }
 
 // Reads the declarations that the tokens begin with; also returns the tokens after them.
-fn declarations<'a>(alloc: Global, input: Input<'a>) -> Result<(Vec<Declaration>, Input<'a>), Fault>
+fn declarations<'a>(
+    alloc: Global,
+    input: Input<'a>,
+) -> Result<(Vec<Declaration>, Input<'a>), Refusal>
     ensures { IsReadingAny written_declarations (NoneOf signature_part_goes_on) declarations_from input.entry result }
 {
     let mut found = Vec::new(alloc);
@@ -226,7 +230,10 @@ fn declarations<'a>(alloc: Global, input: Input<'a>) -> Result<(Vec<Declaration>
 }
 
 // Reads the part of a signature that the tokens begin with; also returns the tokens after it.
-fn signature_part<'a>(alloc: Global, input: Input<'a>) -> Result<(SignaturePart, Input<'a>), Fault>
+fn signature_part<'a>(
+    alloc: Global,
+    input: Input<'a>,
+) -> Result<(SignaturePart, Input<'a>), Refusal>
     ensures { IsReading written_part (NoneOf signature_part_goes_on) signature_of input.entry result }
 {
     if let Some(following) = input.after_keyword(Keyword::Sorts) {
@@ -234,7 +241,7 @@ fn signature_part<'a>(alloc: Global, input: Input<'a>) -> Result<(SignaturePart,
         return Ok((SignaturePart::Sorts(found), rest));
     }
     let Some(following) = input.after_keyword(Keyword::Constructors) else {
-        return Err(input.syntax());
+        return Err(input.syntax(Expected::NextSection));
     };
     let (found, rest) = declarations(alloc, following)?;
     Ok((SignaturePart::Constructors(found), rest))
@@ -244,7 +251,7 @@ fn signature_part<'a>(alloc: Global, input: Input<'a>) -> Result<(SignaturePart,
 pub(crate) fn signature_parts<'a>(
     alloc: Global,
     input: Input<'a>,
-) -> Result<(Vec<SignaturePart>, Input<'a>), Fault>
+) -> Result<(Vec<SignaturePart>, Input<'a>), Refusal>
     ensures { IsReadingAny written_parts (NoneOf signature_goes_on) signatures_from input.entry result }
 {
     let mut found = Vec::new(alloc);
