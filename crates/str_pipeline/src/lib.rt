@@ -17,6 +17,7 @@ mod sink;
 mod source;
 mod status;
 mod tally;
+mod term_gap;
 
 pub use answer::{DEFAULT_BUDGET, MAX_BUDGET, MAX_DEFINITIONS, MAX_TERM};
 pub use counted::Counted;
@@ -27,8 +28,9 @@ pub use notes::{RunNotes, Subject, Used};
 pub use pipeline::{
     transform, transform_joined, transform_joined_with_notes, transform_with_notes,
 };
-pub use reason::Reason;
+pub use reason::{Reason, Wanted};
 pub use shown::Shown;
 pub use sink::{Sink, write_all};
 pub use source::{Source, read_all};
 pub use status::{Options, Status};
+pub use term_gap::TermExpected;

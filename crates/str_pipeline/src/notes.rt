@@ -1,9 +1,12 @@
 //! What a person wants to know of a refusal and of a run. No contract of the transformation speaks of it.
 
 use crate::excerpt::{Excerpt, line_feeds};
-use crate::reason::{Reason, left_out_reason, no_token_reason, syntax_reason, term_syntax_reason};
+use crate::reason::{
+    Reason, Wanted, left_out_reason, no_token_reason, syntax_reason, term_syntax_reason,
+};
 use core_lang::Outcome;
 use scope_check::Notes;
+use str_parser::Expected;
 use term_model::bytes::is_blank_byte;
 use term_model::{Fault, Term};
 
@@ -32,6 +35,24 @@ pub struct RunNotes {
     lines_before_term: usize,
     has_term_line: bool,
     used: Option<Used>,
+}
+
+// What was found in definitions while a program was made of them.
+#[derive(Drop)]
+pub(crate) struct Found {
+    // What could stand at the place of a fault of syntax.
+    pub(crate) expected: Option<Expected>,
+    pub(crate) checks: Notes,
+}
+
+impl Found {
+    // Nothing was found.
+    pub(crate) fn none() -> Found {
+        Found {
+            expected: None,
+            checks: Notes::none(),
+        }
+    }
 }
 
 impl RunNotes {
@@ -88,7 +109,7 @@ impl RunNotes {
     }
 
     // Notes why these definitions are refused.
-    pub(crate) fn note_definitions(&mut self, text: &[u8], fault: &Fault, checks: &Notes) {
+    pub(crate) fn note_definitions(&mut self, text: &[u8], fault: &Fault, found: &Found) {
         match fault {
             Fault::Lexical { at } => {
                 self.keep(text, *at, no_token_reason(text_after(text, *at)));
@@ -97,12 +118,14 @@ impl RunNotes {
                 self.keep(text, *at, left_out_reason(text_after(text, *at)));
             }
             Fault::Syntax { at } => {
-                self.keep(text, *at, syntax_reason(text_after(text, *at)));
+                let wanted = found.expected.map(Wanted::InDefinitions);
+                let rest = text_after(text, *at);
+                self.keep(text, *at, syntax_reason(Subject::Definitions, rest, wanted));
             }
             Fault::Nesting { at } => {
                 self.keep(text, *at, Reason::NestedTooDeeply);
             }
-            _ => self.note_checks(text, fault, checks),
+            _ => self.note_checks(text, fault, &found.checks),
         }
     }
 
@@ -133,7 +156,8 @@ impl RunNotes {
                 });
             }
             Fault::TermSyntax { at } => {
-                let reason = term_syntax_reason(text_before(text, *at), text_after(text, *at));
+                let (before, after) = (text_before(text, *at), text_after(text, *at));
+                let reason = term_syntax_reason(text, before, after);
                 self.keep(text, *at, reason);
             }
             Fault::TermOversize { at } if text_after(text, *at).is_empty() => {

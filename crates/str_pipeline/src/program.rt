@@ -5,14 +5,14 @@ ghost use Rattle.prim_registry.specs.Entries.{Covers};
 ghost use Rattle.str_pipeline.specs.Setting.{setting_of, setting_with};
 ghost use Rattle.str_pipeline.specs.Steps.{IsProgram};
 
-use crate::notes::RunNotes;
+use crate::notes::{Found, RunNotes};
 use crate::status::Options;
 use prim_registry::{PrimMeaning, Registry};
-use scope_check::{Checked, Notes, check_with_notes};
+use scope_check::{Checked, check_with_notes};
 use std::alloc::Global;
 use str_desugar::to_core;
 use str_lexer::lex;
-use str_parser::parse;
+use str_parser::parse_with_notes;
 use strat_code::Code;
 use strat_compile::compile;
 use strategy_lib::with_library;
@@ -36,10 +36,10 @@ pub(crate) fn noted_program<M: PrimMeaning>(
     ensures program { IsProgram (setting_of M.answer registry.now options.now) definitions.now result }
     ensures covers { IfOk result (λ program. Covers registry.now program.code.prims) }
 {
-    let mut checks = Notes::none();
-    let program = program_of(alloc, definitions, options, registry, &mut checks);
+    let mut found = Found::none();
+    let program = program_of(alloc, definitions, options, registry, &mut found);
     if let Err(fault) = &program {
-        notes.note_definitions(definitions, fault, &checks);
+        notes.note_definitions(definitions, fault, &found);
     }
     program
 }
@@ -50,33 +50,33 @@ fn program_of<M: PrimMeaning>(
     definitions: &[u8],
     options: &Options,
     registry: &Registry<M>,
-    notes: &mut Notes,
+    found: &mut Found,
 ) -> Result<Program, Fault>
     ensures program { IsProgram (setting_of M.answer registry.now options.now) definitions.now result }
     ensures covers { IfOk result (λ program. Covers registry.now program.code.prims) }
 {
     let primitives = registry.names(alloc)?;
-    let program = program_with(alloc, definitions, options, &primitives, notes)?;
+    let program = program_with(alloc, definitions, options, &primitives, found)?;
     Ok(program)
 }
 
 /// Makes the program of a definition file with the library after it, of which the definition that the options name is run. The fault is
 /// `Memory`, or the first of these: `Lexical` or `ReservedWord`, as `lex` says; `Syntax` or `Nesting`, as `parse` says; and what `check`
-/// finds in the file with the library, of which the notes say more.
+/// finds in the file with the library. More of it is in what was found.
 fn program_with(
     alloc: Global,
     definitions: &[u8],
     options: &Options,
     primitives: &PrimNames,
-    notes: &mut Notes,
+    found: &mut Found,
 ) -> Result<Program, Fault>
     ensures program { (M : Meaning) → IsProgram (setting_with M primitives.now options.now) definitions.now result }
     ensures known { IfOk result (λ program. (name : List ℕ) (k : ℕ) → Contains program.code.prims (name, k) → Contains primitives.now (name, k)) }
 {
     let tokens = lex(alloc, definitions)?;
-    let file = parse(alloc, definitions, &tokens)?;
+    let file = parse_with_notes(alloc, definitions, &tokens, &mut found.expected)?;
     let file = with_library(alloc, file)?;
-    let checked = check_with_notes(alloc, file, primitives, &options.main, notes)?;
+    let checked = check_with_notes(alloc, file, primitives, &options.main, &mut found.checks)?;
     let core = to_core(alloc, &checked)?;
     // For its contract: these are the primitives that occur in the core.
     let _ = core.prims();

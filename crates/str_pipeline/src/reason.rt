@@ -1,10 +1,30 @@
 //! What is wrong at the place of a refusal, in words.
 
+use crate::notes::Subject;
 use crate::shown::Shown;
+use crate::term_gap::{TermExpected, TermGap};
 use scope_check::Note;
 use std::fmt;
+use str_parser::Expected;
 use term_model::bytes::{is_digit_byte, is_octal_byte, unescaped};
 use term_model::symbol::continues;
+
+/// What could stand at the place of a refusal instead.
+#[derive(Clone, Copy, Debug, PartialEq, Eq)]
+pub enum Wanted {
+    InDefinitions(Expected),
+    InTerm(TermExpected),
+}
+
+impl Wanted {
+    // What could stand there, as a list.
+    fn words(&self) -> &'static str {
+        match self {
+            Wanted::InDefinitions(expected) => expected.words(),
+            Wanted::InTerm(expected) => expected.words(),
+        }
+    }
+}
 
 /// What is wrong with a text that is refused.
 #[derive(Clone, Copy)]
@@ -20,8 +40,15 @@ pub enum Reason {
     NoToken(Shown),
     /// A word of a part of the language that is left out.
     LeftOut(Shown),
-    Misplaced(Shown),
-    EndsEarly,
+    /// No phrase goes on with this token.
+    Misplaced {
+        token: Shown,
+        wanted: Option<Wanted>,
+    },
+    /// The text ends where it would have to go on.
+    EndsEarly {
+        wanted: Option<Wanted>,
+    },
     /// Definitions are nested deeper than 200 levels.
     NestedTooDeeply,
     NoTerm,
@@ -37,16 +64,43 @@ pub enum Reason {
     Checked(Note),
 }
 
+// Writes a token between quotes, or the number of a byte that cannot be shown.
+fn write_token<W: fmt::Write>(token: &Shown, f: &mut fmt::Formatter<W>) -> fmt::Result {
+    match token.hidden() {
+        Some(byte) => write!(f, "the byte 0x{byte:02x}"),
+        None => write!(f, "'{token}'"),
+    }
+}
+
+// Writes what could stand at a place, where that is known.
+fn write_wanted<W: fmt::Write>(wanted: Option<Wanted>, f: &mut fmt::Formatter<W>) -> fmt::Result {
+    match wanted {
+        Some(wanted) => write!(f, ": expected {}", wanted.words()),
+        None => Ok(()),
+    }
+}
+
 /// A part of a sentence, without a full stop.
 impl fmt::Display for Reason {
     fn fmt<W: fmt::Write>(&self, f: &mut fmt::Formatter<W>) -> fmt::Result {
         match self {
-            Reason::NoToken(bytes) => write!(f, "'{bytes}' begins no token"),
+            Reason::NoToken(bytes) => {
+                write_token(bytes, f)?;
+                f.write_str(" begins no token")
+            }
             Reason::LeftOut(word) => write!(
                 f,
                 "the word '{word}' belongs to a part of the language that strc leaves out"
             ),
-            Reason::Misplaced(token) => write!(f, "'{token}' cannot stand here"),
+            Reason::Misplaced { token, wanted } => {
+                write_token(token, f)?;
+                f.write_str(" cannot stand here")?;
+                write_wanted(*wanted, f)
+            }
+            Reason::EndsEarly { wanted } => {
+                f.write_str("the text ends too early")?;
+                write_wanted(*wanted, f)
+            }
             Reason::Checked(note) => write!(f, "{note}"),
             _ => f.write_str(self.words()),
         }
@@ -67,7 +121,6 @@ impl Reason {
             Reason::NearlyTermLine => {
                 "'#term' has to be a line of its own, without blanks before or after it"
             }
-            Reason::EndsEarly => "the text ends too early",
             Reason::NestedTooDeeply => "this is nested deeper than 200 levels",
             Reason::NoTerm => "there is no term",
             Reason::NoTermLine => "there is no term, since no line of the input is '#term'",
@@ -83,19 +136,44 @@ impl Reason {
     }
 }
 
+// Whether a name of such a text may go on with the byte.
+fn is_in_name(subject: Subject, byte: u8) -> bool {
+    match subject {
+        Subject::Definitions => {
+            byte.is_ascii_alphanumeric() || matches!(byte, b'_' | b'-' | b'\'')
+        }
+        Subject::Term => continues(byte),
+    }
+}
+
+// Returns how many bytes of the text belong to the quoted text that it begins with.
+fn quoted_length(text: &[u8]) -> usize {
+    let mut is_escaped = true;
+    for (index, byte) in text.iter().enumerate() {
+        if *byte == b'"' && !is_escaped {
+            return index.saturating_add(1);
+        }
+        is_escaped = *byte == b'\\' && !is_escaped;
+    }
+    text.len()
+}
+
 // Shows the token or word that the text begins with, or its first byte.
-fn token_of(text: &[u8]) -> Shown {
-    let Some((first, others)) = text.split_first() else {
-        return Shown::new(text);
+fn token_of(subject: Subject, text: &[u8]) -> Shown {
+    let length = match text.first() {
+        Some(b'"') => quoted_length(text),
+        Some(first) if is_in_name(subject, *first) => text
+            .iter()
+            .position(|byte| !is_in_name(subject, *byte))
+            .unwrap_or(text.len()),
+        _ => 1,
     };
-    let further = if text.starts_with(b"->") || text.starts_with(b"<+") {
-        Some(1)
-    } else if continues(*first) {
-        others.iter().position(|byte| !continues(*byte))
+    let is_arrow = text.starts_with(b"->") || text.starts_with(b"=>");
+    let length = if is_arrow || text.starts_with(b"<+") {
+        2
     } else {
-        Some(0)
+        length
     };
-    let length = further.unwrap_or(others.len()).saturating_add(1);
     Shown::new(&text[..length.min(text.len())])
 }
 
@@ -136,21 +214,22 @@ pub(crate) fn no_token_reason(text: &[u8]) -> Reason {
     }
     match text.first() {
         Some(byte) if is_digit_byte(*byte) || *byte == b'-' => Reason::IntegerOutOfRange,
-        _ => Reason::NoToken(token_of(text)),
+        _ => Reason::NoToken(token_of(Subject::Definitions, text)),
     }
 }
 
 // Returns which word definitions have where this text begins.
 pub(crate) fn left_out_reason(text: &[u8]) -> Reason {
-    Reason::LeftOut(token_of(text))
+    Reason::LeftOut(token_of(Subject::Definitions, text))
 }
 
-// Returns why no phrase goes on with this text.
-pub(crate) fn syntax_reason(text: &[u8]) -> Reason {
+// Returns why no phrase goes on with this rest of a text, where something else is wanted.
+pub(crate) fn syntax_reason(subject: Subject, text: &[u8], wanted: Option<Wanted>) -> Reason {
     if text.is_empty() {
-        return Reason::EndsEarly;
+        return Reason::EndsEarly { wanted };
     }
-    Reason::Misplaced(token_of(text))
+    let token = token_of(subject, text);
+    Reason::Misplaced { token, wanted }
 }
 
 // Whether the text ends with a digit, and the other begins with one.
@@ -161,10 +240,17 @@ fn cuts_number(before: &[u8], after: &[u8]) -> bool {
     }
 }
 
-// Returns why a text is no term at the place that has this text before it and this text after it.
-pub(crate) fn term_syntax_reason(before: &[u8], after: &[u8]) -> Reason {
+// Returns why this text of a term is no term at the place that has this part of it before it and this part after it.
+pub(crate) fn term_syntax_reason(text: &[u8], before: &[u8], after: &[u8]) -> Reason {
     if cuts_number(before, after) {
         return Reason::IntegerOutOfRange;
     }
-    syntax_reason(after)
+    let gap = TermGap::after(before);
+    match gap.quote() {
+        Some(quote) => quoted_text_reason(text.get(quote..).unwrap_or(after)),
+        None => {
+            let wanted = Some(Wanted::InTerm(gap.expected()));
+            syntax_reason(Subject::Term, after, wanted)
+        }
+    }
 }

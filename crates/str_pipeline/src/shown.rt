@@ -12,6 +12,8 @@ pub struct Shown {
     bytes: [u8; MOST],
     length: usize,
     is_cut: bool,
+    // The first byte, where it is not shown as it is.
+    hidden: Option<u8>,
     ghost within: { length ≤ 72 },
 }
 
@@ -37,7 +39,16 @@ impl Shown {
             bytes,
             length: text.len().min(MOST),
             is_cut: text.len() > MOST,
+            hidden: text
+                .first()
+                .copied()
+                .filter(|byte| printable(*byte) != *byte),
         }
+    }
+
+    /// The first byte, where it is not shown as it is.
+    pub fn hidden(&self) -> Option<u8> {
+        self.hidden
     }
 }
 

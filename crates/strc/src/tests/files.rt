@@ -35,7 +35,7 @@ fn runs(rt: HostRuntime) -> Result<(), Fail> {
             "",
             2,
             "#refused TermSyntax\n",
-            "strc: TermSyntax at byte 3\nbad.trm:1:4: the text ends too early\n    F(1\n       ^\n",
+            "strc: TermSyntax at byte 3\nbad.trm:1:4: the text ends too early: expected ',' or ')'\n    F(1\n       ^\n",
         ),
         ("strc first.str", "8", 1, "#failed\n", ""),
         ("strc sum.str", "(2,3)", 0, "5\n", ""),

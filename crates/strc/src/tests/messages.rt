@@ -26,7 +26,7 @@ const ROWS: &[(&str, &str)] = &[
     ),
     (
         "strategies main = id \x01\n#term\n1",
-        "strc: Lexical at byte 21\nstdin:1:22: '?' begins no token\n    strategies main = id ?\n                         ^\n",
+        "strc: Lexical at byte 21\nstdin:1:22: the byte 0x01 begins no token\n    strategies main = id ?\n                         ^\n",
     ),
     (
         "strategies main = id; with\n#term\n1",
@@ -34,15 +34,15 @@ const ROWS: &[(&str, &str)] = &[
     ),
     (
         "strategies main = id )\n#term\n1",
-        "strc: Syntax at byte 21\nstdin:1:22: ')' cannot stand here\n    strategies main = id )\n                         ^\n",
+        "strc: Syntax at byte 21\nstdin:1:22: ')' cannot stand here: expected more of this section, or the next one\n    strategies main = id )\n                         ^\n",
     ),
     (
         "strategies main = id ->\n#term\n1",
-        "strc: Syntax at byte 21\nstdin:1:22: '->' cannot stand here\n    strategies main = id ->\n                         ^\n",
+        "strc: Syntax at byte 21\nstdin:1:22: '->' cannot stand here: expected more of this section, or the next one\n    strategies main = id ->\n                         ^\n",
     ),
     (
         "strategies main = id;\n#term\n1",
-        "strc: Syntax at byte 22\nstdin:2:1: the text ends too early\n    \n    ^\n",
+        "strc: Syntax at byte 22\nstdin:2:1: the text ends too early: expected a strategy\n    \n    ^\n",
     ),
     (
         "signature sorts E constructors C : E * E -> E strategies\nmain = ?C(1)\n#term\n1",
@@ -70,11 +70,11 @@ const ROWS: &[(&str, &str)] = &[
     ),
     (
         "strategies main = id\n#term\n(7,)",
-        "strc: TermSyntax at byte 3\nstdin:3:4: ')' cannot stand here (line 1 of the term)\n    (7,)\n       ^\n",
+        "strc: TermSyntax at byte 3\nstdin:3:4: ')' cannot stand here: expected a term (line 1 of the term)\n    (7,)\n       ^\n",
     ),
     (
         "strategies main = id ; id ; id ; id ; id ; id ; id ; id ; id ; id ; id ; id ; id ; id ; id ; id ; id ; id ; id ; id ; id ; ; ; id ; id ; id ; id ; id ; id ; id ; id ; id ; id ; id ; id ; id ; id ; id ; id ; id ; id ; id ; id\n#term\n1",
-        "strc: Syntax at byte 123\nstdin:1:124: ';' cannot stand here\n  .. ; id ; id ; id ; id ; id ; id ; id ; id ; id ; ; ; id ; id ; id ; id ; ..\n                                                    ^\n",
+        "strc: Syntax at byte 123\nstdin:1:124: ';' cannot stand here: expected a strategy\n  .. ; id ; id ; id ; id ; id ; id ; id ; id ; id ; ; ; id ; id ; id ; id ; ..\n                                                    ^\n",
     ),
 ];
 
@@ -125,6 +125,22 @@ fn the_place_of_nesting(rt: HostRuntime) -> Result<(), Fail> {
     assert_eq!(rt; ran.status, 2);
     assert_eq!(rt; ran.out.written(), b"#refused Nesting\n".as_slice());
     assert!(rt; ran.diagnostics.written().starts_with(told));
+    Ok(())
+}
+
+#[test]
+fn a_line_of_a_mebibyte(rt: HostRuntime) -> Result<(), Fail> {
+    let alloc = rt.alloc();
+    let mut text = b"strategies ".to_vec(alloc)?;
+    for _ in 0..149794 {
+        text.extend_from_slice(b"f = id ")?;
+    }
+    text.extend_from_slice(b")")?;
+    let told =
+        b"strc: Syntax at byte 1048569\nstdin:1:1048570: ')' cannot stand here: expected more of this section, or the next one\n  .. = id f = id f = id f = id f = id f = id f = id )\n                                                    ^\n";
+    let ran = run_on(alloc, "strc", &text, None, None, None)?;
+    assert_eq!(rt; ran.status, 2);
+    assert_eq!(rt; ran.diagnostics.written(), told.as_slice());
     Ok(())
 }
 

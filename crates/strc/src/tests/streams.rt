@@ -45,7 +45,7 @@ fn statuses(rt: HostRuntime) -> Result<(), Fail> {
             None,
             2,
             "#refused TermSyntax\n",
-            "strc: TermSyntax at byte 3\nstdin:3:4: the text ends too early (line 1 of the term)\n    F(1\n       ^\n",
+            "strc: TermSyntax at byte 3\nstdin:3:4: the text ends too early: expected ',' or ')' (line 1 of the term)\n    F(1\n       ^\n",
         ),
         (
             "strategies main = id\n#term\n1",

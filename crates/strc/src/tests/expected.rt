@@ -1,0 +1,173 @@
+//! What is expected at a place that is refused.
+use crate::tests::samples::run_on;
+use std::test::Fail;
+
+// Definitions up to a token, the token, and what is expected in its place.
+const DEFINITIONS: &[(&str, &str, &str)] = &[
+    ("", "main", "'signature', 'rules' or 'strategies'"),
+    (
+        "strategies main = id ",
+        ")",
+        "more of this section, or the next one",
+    ),
+    ("signature constructors C : E C ", "strategies", "':'"),
+    ("signature constructors ", "c'", "the name of a constructor"),
+    ("signature constructors C : ", "1", "a sort"),
+    ("signature constructors C : L(E ", ";", "',' or ')'"),
+    (
+        "signature constructors C : E * E ",
+        "strategies",
+        "'*' or '->'",
+    ),
+    ("signature constructors : E ", "strategies", "'*' or '->'"),
+    ("strategies ", "=", "more of this section, or the next one"),
+    ("strategies f(x, ", "1", "a name"),
+    ("strategies f(", "1", "a name, '|' or ')'"),
+    ("strategies f(s|", "1", "a name or ')'"),
+    ("strategies f(s ", "t", "',', '|' or ')'"),
+    ("strategies f(s|x ", "y", "',' or ')'"),
+    ("rules r ", "->", "':' or '='"),
+    ("rules r : ", "->", "a pattern"),
+    ("rules r : x ", "=", "'->'"),
+    ("strategies main = ", ";", "a strategy"),
+    ("strategies main = id ; ", ")", "a strategy"),
+    ("strategies main = ?", ")", "a pattern"),
+    ("strategies main = ", "\"a\\\"b\"", "a strategy"),
+    ("strategies main = ", "\"\"", "a strategy"),
+    ("strategies main = ", "-12", "a strategy"),
+    ("strategies main = ", "=>", "a strategy"),
+    ("strategies main = all ", ";", "'('"),
+    ("strategies main = rec ", "(", "a name"),
+    ("strategies main = rec x ", ";", "'('"),
+    ("strategies main = prim ", ";", "'('"),
+    ("strategies main = prim(", "x", "a quoted text"),
+    ("strategies main = prim(\"a\" ", ";", "',' or ')'"),
+    ("strategies main = prim(\"a\", x ", ";", "',' or ')'"),
+    ("strategies main = (id ", "]", "',' or ')'"),
+    ("strategies main = [id ", ")", "',', '|' or ']'"),
+    ("strategies main = [id|id ", ")", "']'"),
+    ("strategies main = f(id ", "]", "',', '|' or ')'"),
+    ("strategies main = f(|x ", ";", "',' or ')'"),
+    ("strategies main = all(id ", "]", "')'"),
+    ("strategies main = rec x(id ", "]", "')'"),
+    ("strategies main = {x ", "}", "',' or ':'"),
+    ("strategies main = {x : id ", ")", "'}'"),
+    ("strategies main = <id ", ")", "'>'"),
+    ("strategies main = id < id ", ")", "'+'"),
+    ("strategies main = if id ", "else", "'then'"),
+    ("strategies main = if id then id ", ")", "'else' or 'end'"),
+    ("strategies main = if id then id else id ", ")", "'end'"),
+    ("strategies main = let ", "in", "a name"),
+    ("strategies main = let f ", "in", "'='"),
+    ("strategies main = let f = id ", "end", "a name or 'in'"),
+    ("strategies main = let f = id in id ", ")", "'end'"),
+    ("strategies main = \\x ", ";", "'->'"),
+    ("strategies main = \\x -> x ", ")", "'where' or '\\'"),
+    ("strategies main = \\x -> x where id ", ")", "'\\'"),
+    ("strategies main = ?C(x ", "]", "',' or ')'"),
+    ("strategies main = ?(x ", "]", "',' or ')'"),
+    ("strategies main = ?[x ", ")", "',', '|' or ']'"),
+    ("strategies main = ?[x|y ", ")", "']'"),
+    ("strategies main = !<id ", ")", "'>'"),
+];
+
+// A term up to a token, the token, and what is expected in its place.
+const TERMS: &[(&str, &str, &str)] = &[
+    ("", ")", "a term"),
+    ("(", ",", "a term or ')'"),
+    ("[", ")", "a term or ']'"),
+    ("f{", ")", "a term or '}'"),
+    ("(1,", ")", "a term"),
+    ("(1 ", "]", "',' or ')'"),
+    ("[1 ", ")", "',' or ']'"),
+    ("f{a ", ")", "',' or '}'"),
+    ("1 ", "2", "the end of the text"),
+    ("f(1) ", "f", "the end of the text"),
+    ("-", "x", "a digit"),
+    ("[(1),f(\"a)\\\"]\") ", ")", "',' or ']'"),
+];
+
+// What else is reported: the words of the command line, the text, and the two first lines.
+const OTHERS: &[(&str, &str, &str)] = &[
+    (
+        "strc",
+        "strategies main = f(id",
+        "strc: Syntax at byte 22\nstdin:1:23: the text ends too early: expected ',', '|' or ')'\n",
+    ),
+    (
+        "strc id.str",
+        "f(1,[2",
+        "strc: TermSyntax at byte 6\nstdin:1:7: the text ends too early: expected ',' or ']'\n",
+    ),
+    (
+        "strc id.str",
+        "-",
+        "strc: TermSyntax at byte 1\nstdin:1:2: the text ends too early: expected a digit\n",
+    ),
+    (
+        "strc id.str",
+        "f(\"ab",
+        "strc: TermSyntax at byte 5\nstdin:1:6: the quoted text is not closed on its line\n",
+    ),
+    (
+        "strc id.str",
+        "f(\x1f)",
+        "strc: TermSyntax at byte 2\nstdin:1:3: the byte 0x1f cannot stand here: expected a term or ')'\n",
+    ),
+    (
+        "strc id.str",
+        "f(\"a\\q\")",
+        "strc: TermSyntax at byte 5\nstdin:1:6: the quoted text has an unknown escape\n",
+    ),
+];
+
+#[test]
+fn expected_in_definitions(rt: HostRuntime) -> Result<(), Fail> {
+    let alloc = rt.alloc();
+    for (before, token, expected) in DEFINITIONS {
+        let at = before.len();
+        let column = at.saturating_add(1);
+        let text = format!(in alloc; "{before}{token}\n#term\n1")?;
+        let told = format!(in alloc;
+            "strc: Syntax at byte {at}\nstdin:1:{column}: '{token}' cannot stand here: expected {expected}\n"
+        )?;
+        let ran = run_on(alloc, "strc", text.as_bytes(), None, None, None)?;
+        assert!(rt;
+            ran.diagnostics.written().starts_with(told.as_bytes()),
+            "{text}"
+        );
+    }
+    Ok(())
+}
+
+#[test]
+fn expected_in_terms(rt: HostRuntime) -> Result<(), Fail> {
+    let alloc = rt.alloc();
+    for (before, token, expected) in TERMS {
+        let at = before.len();
+        let column = at.saturating_add(1);
+        let text = format!(in alloc; "{before}{token}")?;
+        let told = format!(in alloc;
+            "strc: TermSyntax at byte {at}\nstdin:1:{column}: '{token}' cannot stand here: expected {expected}\n"
+        )?;
+        let ran = run_on(alloc, "strc id.str", text.as_bytes(), None, None, None)?;
+        assert!(rt;
+            ran.diagnostics.written().starts_with(told.as_bytes()),
+            "{text}"
+        );
+    }
+    Ok(())
+}
+
+#[test]
+fn ends_and_bytes(rt: HostRuntime) -> Result<(), Fail> {
+    let alloc = rt.alloc();
+    for (line, text, told) in OTHERS {
+        let ran = run_on(alloc, line, text.as_bytes(), None, None, None)?;
+        assert!(rt;
+            ran.diagnostics.written().starts_with(told.as_bytes()),
+            "{text}"
+        );
+    }
+    Ok(())
+}
