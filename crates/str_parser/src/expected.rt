@@ -1,13 +1,27 @@
 //! What would go on at the place of a fault of syntax, for a person. No contract of the parser speaks of it.
 
+use str_syntax::{Declaration, Definition, DefinitionForm, Section, SignaturePart};
+
 /// What could stand where the tokens of definitions are no phrase: that with which the innermost part goes on or ends that is open there.
 /// An operator may be possible as well.
 #[derive(Clone, Copy, Debug, PartialEq, Eq)]
 pub enum Expected {
     /// The keyword of a section.
     Section,
-    /// More of the last section, or the keyword of the next.
-    NextSection,
+    /// After the word `signature`.
+    PartOrSection,
+    /// After the sorts of a signature.
+    SortOrSection,
+    /// After a declaration.
+    DeclarationOrSection,
+    /// After a declaration that has one sort as yet.
+    ArgumentOrDeclaration,
+    /// After the word `rules` or `strategies`.
+    DefinitionOrSection,
+    /// After a rule without a condition.
+    WhereOrDefinition,
+    /// After a strategy with which a definition may end.
+    OperatorOrDefinition,
     Sort,
     Constructor,
     Name,
@@ -48,7 +62,13 @@ impl Expected {
     pub fn words(&self) -> &'static str {
         match self {
             Expected::Section => "'signature', 'rules' or 'strategies'",
-            Expected::NextSection => "more of this section, or the next one",
+            Expected::PartOrSection => "'sorts', 'constructors' or a section",
+            Expected::SortOrSection => "a sort, 'constructors' or a section",
+            Expected::DeclarationOrSection => "a declaration or a section",
+            Expected::ArgumentOrDeclaration => "'*', '->', a declaration or a section",
+            Expected::DefinitionOrSection => "a definition or a section",
+            Expected::WhereOrDefinition => "'where', a definition or a section",
+            Expected::OperatorOrDefinition => "an operator, a definition or a section",
             Expected::Sort => "a sort",
             Expected::Constructor => "the name of a constructor",
             Expected::Name => "a name",
@@ -79,5 +99,40 @@ impl Expected {
             Expected::CommaBarOrParenthesis => "',', '|' or ')'",
             Expected::CommaBarOrBracket => "',', '|' or ']'",
         }
+    }
+}
+
+// Returns what could stand after these sections.
+pub(crate) fn after_sections(sections: &[Section]) -> Expected {
+    match sections.last() {
+        None => Expected::Section,
+        Some(Section::Signature(parts)) => after_parts(parts),
+        Some(Section::Rules(definitions)) => after_definitions(definitions),
+        Some(Section::Strategies(definitions)) => after_definitions(definitions),
+    }
+}
+
+// Returns what could stand after these parts of a signature.
+fn after_parts(parts: &[SignaturePart]) -> Expected {
+    match parts.last() {
+        None => Expected::PartOrSection,
+        Some(SignaturePart::Sorts(_)) => Expected::SortOrSection,
+        Some(SignaturePart::Constructors(declarations)) => match declarations.last() {
+            Some(Declaration::Constant(_, _)) => Expected::ArgumentOrDeclaration,
+            _ => Expected::DeclarationOrSection,
+        },
+    }
+}
+
+// Returns what could stand after these rules and definitions.
+fn after_definitions(definitions: &[Definition]) -> Expected {
+    let Some(last) = definitions.last() else {
+        return Expected::DefinitionOrSection;
+    };
+    match &last.form {
+        DefinitionForm::Rule(defined) if defined.rule.condition.is_none() => {
+            Expected::WhereOrDefinition
+        }
+        _ => Expected::OperatorOrDefinition,
     }
 }

@@ -7,7 +7,7 @@ ghost use Rattle.str_parser.specs.Phrases;
 ghost use Rattle.str_parser.specs.Readings.{IsReading};
 ghost use Rattle.str_parser.specs.Parsing.{EndsSection, AtEnd, IsReadingAll, sections_of, IsParsing};
 
-use crate::expected::Expected;
+use crate::expected::{Expected, after_sections};
 use crate::form::definitions;
 use crate::input::Input;
 use crate::refusal::Refusal;
@@ -38,14 +38,6 @@ fn section<'a>(
     };
     let (definitions, rest) = definitions(alloc, following)?;
     Ok((Section::Strategies(definitions), rest))
-}
-
-// Returns what could stand after these sections.
-fn after_sections(sections: &[Section]) -> Expected {
-    if sections.is_empty() {
-        return Expected::Section;
-    }
-    Expected::NextSection
 }
 
 // The sections that the tokens are.

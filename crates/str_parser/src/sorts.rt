@@ -241,7 +241,7 @@ fn signature_part<'a>(
         return Ok((SignaturePart::Sorts(found), rest));
     }
     let Some(following) = input.after_keyword(Keyword::Constructors) else {
-        return Err(input.syntax(Expected::NextSection));
+        return Err(input.syntax(Expected::PartOrSection));
     };
     let (found, rest) = declarations(alloc, following)?;
     Ok((SignaturePart::Constructors(found), rest))

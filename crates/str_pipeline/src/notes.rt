@@ -112,7 +112,8 @@ impl RunNotes {
     pub(crate) fn note_definitions(&mut self, text: &[u8], fault: &Fault, found: &Found) {
         match fault {
             Fault::Lexical { at } => {
-                self.keep(text, *at, no_token_reason(text_after(text, *at)));
+                let (before, after) = (text_before(text, *at), text_after(text, *at));
+                self.keep(text, *at, no_token_reason(before, after));
             }
             Fault::ReservedWord { at } => {
                 self.keep(text, *at, left_out_reason(text_after(text, *at)));
@@ -184,16 +185,27 @@ impl RunNotes {
         }
     }
 
-    // Notes what is wrong at the offset of the text.
+    // Notes what is wrong at the offset of the text. Where the text ends too early, that is the end of its last line that is not blank.
     fn keep(&mut self, text: &[u8], at: u64, reason: Reason) {
+        let at = match reason {
+            Reason::EndsEarly { .. } => end_of(text),
+            _ => index_of(at),
+        };
         self.reason = Some(reason);
-        self.place = Some(Excerpt::new(text, index_of(at)));
+        self.place = Some(Excerpt::new(text, at));
     }
 }
 
 // Whether the text is blank.
 fn is_blank(text: &[u8]) -> bool {
     text.iter().all(|byte| is_blank_byte(*byte))
+}
+
+// Returns how many bytes the text has without the blanks at its end.
+fn end_of(text: &[u8]) -> usize {
+    text.iter()
+        .rposition(|byte| !is_blank_byte(*byte))
+        .map_or(0, |last| last.saturating_add(1))
 }
 
 // Returns the index of the byte at the offset.

@@ -37,6 +37,8 @@ pub enum Reason {
     ByteOrderMark,
     /// A line of definitions has `#term` and something else.
     NearlyTermLine,
+    /// A line of definitions is `#term`: they are not in the joined form.
+    TermLine,
     NoToken(Shown),
     /// A word of a part of the language that is left out.
     LeftOut(Shown),
@@ -121,6 +123,9 @@ impl Reason {
             Reason::NearlyTermLine => {
                 "'#term' has to be a line of its own, without blanks before or after it"
             }
+            Reason::TermLine => {
+                "a file of definitions has no line '#term': the joined form is read from standard input"
+            }
             Reason::NestedTooDeeply => "this is nested deeper than 200 levels",
             Reason::NoTerm => "there is no term",
             Reason::NoTermLine => "there is no term, since no line of the input is '#term'",
@@ -198,8 +203,14 @@ fn quoted_text_reason(text: &[u8]) -> Reason {
     Reason::OpenText
 }
 
-// Returns why definitions have no token where this text begins.
-pub(crate) fn no_token_reason(text: &[u8]) -> Reason {
+// Whether a line ends after `#term`, with which the text begins.
+fn ends_term_line(text: &[u8]) -> bool {
+    let rest = text.strip_prefix(b"#term").unwrap_or(text);
+    rest.is_empty() || rest.starts_with(b"\n") || rest.starts_with(b"\r\n")
+}
+
+// Returns why definitions have no token where this text begins, which has this text before it.
+pub(crate) fn no_token_reason(before: &[u8], text: &[u8]) -> Reason {
     if text.starts_with(b"\"") {
         return quoted_text_reason(text);
     }
@@ -207,6 +218,10 @@ pub(crate) fn no_token_reason(text: &[u8]) -> Reason {
         return Reason::OpenComment;
     }
     if text.starts_with(b"#term") {
+        let is_begun = before.is_empty() || before.ends_with(b"\n");
+        if is_begun && ends_term_line(text) {
+            return Reason::TermLine;
+        }
         return Reason::NearlyTermLine;
     }
     if text.starts_with(b"\xEF\xBB\xBF") {

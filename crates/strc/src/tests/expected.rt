@@ -5,10 +5,38 @@ use std::test::Fail;
 // Definitions up to a token, the token, and what is expected in its place.
 const DEFINITIONS: &[(&str, &str, &str)] = &[
     ("", "main", "'signature', 'rules' or 'strategies'"),
+    ("signature ", "x", "'sorts', 'constructors' or a section"),
+    (
+        "signature sorts S ",
+        "1",
+        "a sort, 'constructors' or a section",
+    ),
+    ("signature constructors ", "1", "a declaration or a section"),
+    (
+        "signature constructors C : E ",
+        ",",
+        "'*', '->', a declaration or a section",
+    ),
+    (
+        "signature constructors C : E -> E ",
+        ",",
+        "a declaration or a section",
+    ),
+    ("rules ", "=", "a definition or a section"),
+    (
+        "rules r : x -> x ",
+        ";",
+        "'where', a definition or a section",
+    ),
+    (
+        "rules r : x -> x where id ",
+        ")",
+        "an operator, a definition or a section",
+    ),
     (
         "strategies main = id ",
         ")",
-        "more of this section, or the next one",
+        "an operator, a definition or a section",
     ),
     ("signature constructors C : E C ", "strategies", "':'"),
     ("signature constructors ", "c'", "the name of a constructor"),
@@ -20,7 +48,6 @@ const DEFINITIONS: &[(&str, &str, &str)] = &[
         "'*' or '->'",
     ),
     ("signature constructors : E ", "strategies", "'*' or '->'"),
-    ("strategies ", "=", "more of this section, or the next one"),
     ("strategies f(x, ", "1", "a name"),
     ("strategies f(", "1", "a name, '|' or ')'"),
     ("strategies f(s|", "1", "a name or ')'"),
@@ -89,6 +116,16 @@ const TERMS: &[(&str, &str, &str)] = &[
 
 // What else is reported: the words of the command line, the text, and the two first lines.
 const OTHERS: &[(&str, &str, &str)] = &[
+    (
+        "strc",
+        "rules r : x ->\n\n  \n",
+        "strc: Syntax at byte 19\nstdin:1:15: the text ends too early: expected a pattern\n    rules r : x ->\n",
+    ),
+    (
+        "strc joined.str",
+        "1",
+        "strc: Lexical at byte 21\njoined.str:2:1: a file of definitions has no line '#term': the joined form is read from standard input\n",
+    ),
     (
         "strc",
         "strategies main = f(id",

@@ -1,6 +1,7 @@
 //! What is said of refusals, and of the numbers of runs.
-use crate::tests::samples::run_on;
+use crate::tests::samples::{run_on, run_over};
 use std::test::Fail;
+use str_pipeline::Faulty;
 
 // The joined form, and what is reported of it.
 const ROWS: &[(&str, &str)] = &[
@@ -34,15 +35,15 @@ const ROWS: &[(&str, &str)] = &[
     ),
     (
         "strategies main = id )\n#term\n1",
-        "strc: Syntax at byte 21\nstdin:1:22: ')' cannot stand here: expected more of this section, or the next one\n    strategies main = id )\n                         ^\n",
+        "strc: Syntax at byte 21\nstdin:1:22: ')' cannot stand here: expected an operator, a definition or a section\n    strategies main = id )\n                         ^\n",
     ),
     (
         "strategies main = id ->\n#term\n1",
-        "strc: Syntax at byte 21\nstdin:1:22: '->' cannot stand here: expected more of this section, or the next one\n    strategies main = id ->\n                         ^\n",
+        "strc: Syntax at byte 21\nstdin:1:22: '->' cannot stand here: expected an operator, a definition or a section\n    strategies main = id ->\n                         ^\n",
     ),
     (
         "strategies main = id;\n#term\n1",
-        "strc: Syntax at byte 22\nstdin:2:1: the text ends too early: expected a strategy\n    \n    ^\n",
+        "strc: Syntax at byte 22\nstdin:1:22: the text ends too early: expected a strategy\n    strategies main = id;\n                         ^\n",
     ),
     (
         "signature sorts E constructors C : E * E -> E strategies\nmain = ?C(1)\n#term\n1",
@@ -78,6 +79,78 @@ const ROWS: &[(&str, &str)] = &[
     ),
 ];
 
+// What the checks find: definitions, and what the second line says of them.
+const CHECKS: &[(&str, &str, &str)] = &[
+    (
+        "signature constructors C : E C : E strategies main = id",
+        "DuplicateDeclaration",
+        "stdin:1:30: constructor C is declared twice with the same sorts\n",
+    ),
+    (
+        "strategies f(s, s) = id main = id",
+        "Parameters",
+        "stdin:1:17: name s stands twice among parameters or in a scope\n",
+    ),
+    (
+        "strategies g(s) = s g(t) = t main = id",
+        "Parameters",
+        "stdin:1:21: strategy g has alternatives with other parameters\n",
+    ),
+    (
+        "signature constructors C : E strategies C = id main = id",
+        "Clash",
+        "stdin:1:41: name C is that of a declared constructor and of a strategy\n",
+    ),
+    (
+        "strategies try(s) = s main = id",
+        "Clash",
+        "stdin:1:12: strategy try is a definition of the library\n",
+    ),
+    (
+        "strategies f(s) = s main = f",
+        "UnknownStrategy",
+        "stdin:1:28: strategy f with 0 strategy and 0 term parameters is not defined (it is defined with 1 and 0)\n",
+    ),
+    (
+        "strategies main = !_",
+        "NotBuildable",
+        "stdin:1:20: pattern _ cannot be built\n",
+    ),
+    (
+        "strategies main = !x@1",
+        "NotBuildable",
+        "stdin:1:20: pattern x@ cannot be built\n",
+    ),
+];
+
+// Words of the command line, a byte, how often it stands in standard input, and what is reported first.
+const LONG: &[(&str, u8, u32, &str)] = &[
+    (
+        "strc",
+        b' ',
+        1048577,
+        "strc: DefsTooLong\nstdin: the definitions have more than 1048576 bytes\n",
+    ),
+    (
+        "strc id.str",
+        b'a',
+        16777217,
+        "strc: TermTooLong\nstdin: the text of the term has more than 16777216 bytes\n",
+    ),
+    (
+        "strc id.str",
+        b'a',
+        16777216,
+        "strc: TermOversize at byte 16777216\nstdin: the term has more than 16777216 nodes or is deeper than 1000 levels\n",
+    ),
+    (
+        "strc id.str",
+        b'(',
+        1001,
+        "strc: TermOversize at byte 1000\nstdin:1:1001: the term is deeper than 1000 levels\n",
+    ),
+];
+
 // Words of the command line, the term, and what is reported of the run.
 const RUNS: &[(&str, &str, &str)] = &[
     (
@@ -91,6 +164,11 @@ const RUNS: &[(&str, &str, &str)] = &[
         "strc: 0 rules, 1 steps, 1 shapes\n",
     ),
     ("strc id.str", "7", ""),
+    (
+        "strc --strict signed.str",
+        "F(G(7))",
+        "strc: TermUndeclared\nstdin: an application of the term is not declared\n",
+    ),
 ];
 
 #[test]
@@ -129,6 +207,40 @@ fn the_place_of_nesting(rt: HostRuntime) -> Result<(), Fail> {
 }
 
 #[test]
+fn what_the_checks_find(rt: HostRuntime) -> Result<(), Fail> {
+    let alloc = rt.alloc();
+    for (definitions, word, line) in CHECKS {
+        let text = format!(in alloc; "{definitions}\n#term\n1")?;
+        let told = format!(in alloc; "strc: {word}\n{line}")?;
+        let ran = run_on(alloc, "strc", text.as_bytes(), None, None, None)?;
+        assert!(rt;
+            ran.diagnostics.written().starts_with(told.as_bytes()),
+            "{text}"
+        );
+    }
+    Ok(())
+}
+
+#[test]
+fn long_texts(rt: HostRuntime) -> Result<(), Fail> {
+    let alloc = rt.alloc();
+    for (line, byte, count, told) in LONG {
+        let mut text = Vec::new(alloc);
+        for _ in 0..*count {
+            text.push(*byte)?;
+        }
+        let input = Faulty::reader(text, 65536, None);
+        let ran = run_over(alloc, line, input, None, None)?;
+        assert_eq!(rt; ran.status, 2, "{told}");
+        assert!(rt;
+            ran.diagnostics.written().starts_with(told.as_bytes()),
+            "{told}"
+        );
+    }
+    Ok(())
+}
+
+#[test]
 fn a_line_of_a_mebibyte(rt: HostRuntime) -> Result<(), Fail> {
     let alloc = rt.alloc();
     let mut text = b"strategies ".to_vec(alloc)?;
@@ -137,8 +249,8 @@ fn a_line_of_a_mebibyte(rt: HostRuntime) -> Result<(), Fail> {
     }
     text.extend_from_slice(b")")?;
     let told =
-        b"strc: Syntax at byte 1048569\nstdin:1:1048570: ')' cannot stand here: expected more of this section, or the next one\n  .. = id f = id f = id f = id f = id f = id f = id )\n                                                    ^\n";
-    let ran = run_on(alloc, "strc", &text, None, None, None)?;
+        b"strc: Syntax at byte 1048569\nstdin:1:1048570: ')' cannot stand here: expected an operator, a definition or a section\n  .. = id f = id f = id f = id f = id f = id f = id )\n                                                    ^\n";
+    let ran = run_over(alloc, "strc", Faulty::reader(text, 65536, None), None, None)?;
     assert_eq!(rt; ran.status, 2);
     assert_eq!(rt; ran.diagnostics.written(), told.as_slice());
     Ok(())

@@ -8,7 +8,7 @@ use str_pipeline::Faulty;
 use term_model::Fault;
 
 /// The files: path and text.
-const FILES: [(&str, &str); 8] = [
+const FILES: [(&str, &str); 9] = [
     ("id.str", "strategies main = id"),
     ("first.str", "strategies main = ?(x,_); !x go = id"),
     (
@@ -23,6 +23,7 @@ const FILES: [(&str, &str); 8] = [
     ("bad.str", "strategies main = foo"),
     ("pair.trm", "(7,f(1))"),
     ("bad.trm", "F(1"),
+    ("joined.str", "strategies main = id\n#term\n1"),
 ];
 
 /// Opens the files. A path that ends with a slash is one of a folder, which can be opened and not read.
@@ -77,8 +78,23 @@ pub(super) fn run_on(
     requires write { IfSome bad_write (λ n. 1 ≤ n) }
     requires diagnostic { IfSome bad_diagnostic (λ n. 1 ≤ n) }
 {
+    let input = Faulty::reader(input.to_vec(alloc)?, 5, bad_read);
+    run_over(alloc, line, input, bad_write, bad_diagnostic)
+}
+
+/// The same, over this reader.
+pub(super) fn run_over(
+    alloc: Global,
+    line: &str,
+    input: Faulty,
+    bad_write: Option<u64>,
+    bad_diagnostic: Option<u64>,
+) -> Result<Ran, AllocError>
+    requires write { IfSome bad_write (λ n. 1 ≤ n) }
+    requires diagnostic { IfSome bad_diagnostic (λ n. 1 ≤ n) }
+{
     let words = Ok(words_of(alloc, line)?);
-    let mut input = Faulty::reader(input.to_vec(alloc)?, 5, bad_read);
+    let mut input = input;
     let mut out = Faulty::writer(alloc, 4096, 3, bad_write, false)?;
     let mut diagnostics = Faulty::writer(alloc, 4096, 3, bad_diagnostic, false)?;
     let mut paths = Shelf { alloc };
