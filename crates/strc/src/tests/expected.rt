@@ -1,5 +1,6 @@
 //! What is expected at a place that is refused.
-use crate::tests::samples::run_on;
+use crate::tests::samples::reports;
+use std::alloc::{AllocError, Global};
 use std::test::Fail;
 
 // Definitions up to a token, the token, and what is expected in its place.
@@ -158,21 +159,28 @@ const OTHERS: &[(&str, &str, &str)] = &[
     ),
 ];
 
+// Returns the first lines of the report that the token is refused, and that something else is expected in its place.
+fn report_of(
+    alloc: Global,
+    word: &str,
+    before: &str,
+    token: &str,
+    expected: &str,
+) -> Result<String, AllocError> {
+    let at = before.len();
+    let column = at.saturating_add(1);
+    format!(in alloc;
+        "strc: {word} at byte {at}\nstdin:1:{column}: '{token}' cannot stand here: expected {expected}\n"
+    )
+}
+
 #[test]
 fn expected_in_definitions(rt: HostRuntime) -> Result<(), Fail> {
     let alloc = rt.alloc();
     for (before, token, expected) in DEFINITIONS {
-        let at = before.len();
-        let column = at.saturating_add(1);
         let text = format!(in alloc; "{before}{token}\n#term\n1")?;
-        let told = format!(in alloc;
-            "strc: Syntax at byte {at}\nstdin:1:{column}: '{token}' cannot stand here: expected {expected}\n"
-        )?;
-        let ran = run_on(alloc, "strc", text.as_bytes(), None, None, None)?;
-        assert!(rt;
-            ran.diagnostics.written().starts_with(told.as_bytes()),
-            "{text}"
-        );
+        let report = report_of(alloc, "Syntax", before, token, expected)?;
+        assert!(rt; reports(alloc, "strc", &text, &report)?, "{text}");
     }
     Ok(())
 }
@@ -181,17 +189,9 @@ fn expected_in_definitions(rt: HostRuntime) -> Result<(), Fail> {
 fn expected_in_terms(rt: HostRuntime) -> Result<(), Fail> {
     let alloc = rt.alloc();
     for (before, token, expected) in TERMS {
-        let at = before.len();
-        let column = at.saturating_add(1);
         let text = format!(in alloc; "{before}{token}")?;
-        let told = format!(in alloc;
-            "strc: TermSyntax at byte {at}\nstdin:1:{column}: '{token}' cannot stand here: expected {expected}\n"
-        )?;
-        let ran = run_on(alloc, "strc id.str", text.as_bytes(), None, None, None)?;
-        assert!(rt;
-            ran.diagnostics.written().starts_with(told.as_bytes()),
-            "{text}"
-        );
+        let report = report_of(alloc, "TermSyntax", before, token, expected)?;
+        assert!(rt; reports(alloc, "strc id.str", &text, &report)?, "{text}");
     }
     Ok(())
 }
@@ -199,12 +199,8 @@ fn expected_in_terms(rt: HostRuntime) -> Result<(), Fail> {
 #[test]
 fn ends_and_bytes(rt: HostRuntime) -> Result<(), Fail> {
     let alloc = rt.alloc();
-    for (line, text, told) in OTHERS {
-        let ran = run_on(alloc, line, text.as_bytes(), None, None, None)?;
-        assert!(rt;
-            ran.diagnostics.written().starts_with(told.as_bytes()),
-            "{text}"
-        );
+    for (line, text, report) in OTHERS {
+        assert!(rt; reports(alloc, line, text, report)?, "{text}");
     }
     Ok(())
 }

@@ -1,5 +1,5 @@
 //! What is said of refusals, and of the numbers of runs.
-use crate::tests::samples::{run_on, run_over};
+use crate::tests::samples::{reports, run_on, run_over};
 use std::test::Fail;
 use str_pipeline::Faulty;
 
@@ -211,12 +211,8 @@ fn what_the_checks_find(rt: HostRuntime) -> Result<(), Fail> {
     let alloc = rt.alloc();
     for (definitions, word, line) in CHECKS {
         let text = format!(in alloc; "{definitions}\n#term\n1")?;
-        let told = format!(in alloc; "strc: {word}\n{line}")?;
-        let ran = run_on(alloc, "strc", text.as_bytes(), None, None, None)?;
-        assert!(rt;
-            ran.diagnostics.written().starts_with(told.as_bytes()),
-            "{text}"
-        );
+        let report = format!(in alloc; "strc: {word}\n{line}")?;
+        assert!(rt; reports(alloc, "strc", &text, &report)?, "{text}");
     }
     Ok(())
 }

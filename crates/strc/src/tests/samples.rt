@@ -112,3 +112,14 @@ pub(super) fn run_over(
         diagnostics,
     })
 }
+
+/// Runs the program with these words and this standard input, and returns whether its report begins so.
+pub(super) fn reports(
+    alloc: Global,
+    line: &str,
+    input: &str,
+    report: &str,
+) -> Result<bool, AllocError> {
+    let ran = run_on(alloc, line, input.as_bytes(), None, None, None)?;
+    Ok(ran.diagnostics.written().starts_with(report.as_bytes()))
+}
