@@ -1,6 +1,0 @@
-use Rattle.std.proofs.Common.{subst}
-use Rattle.prim_registry.specs.Entries.{Covers}
-use Rattle.run_bench.proofs.runs.count.Goals as goal
-
-pub run_compiled-requires-clause-covers : goal.run_compiled-requires-clause-covers
-run_compiled-requires-clause-covers g c = subst (λ names. Covers c.args.registry.now names) c.prims.ensures.same (c.covers.ensures.0 c.if-not-covers.false)
