@@ -15,12 +15,11 @@ use crate::evaluator::library_rows::LIBRARY;
 use crate::evaluator::pattern_rows::PATTERNS;
 use crate::evaluator::primitive_rows::PRIMITIVES;
 use crate::evaluator::rows::{ENDLESS, EVERY_FORM, Ends, FIRST_PART, OTHER_FORMS, RANGES, Row};
-use crate::evaluator::samples::{pattern, program, term};
+use crate::evaluator::samples::{Word, pattern, program, term};
 use crate::evaluator::traversal_rows::TRAVERSALS;
 use core_eval::eval;
-use core_lang::{Core, CoreDef, Outcome, Run};
-use prim_registry::standard::{add, concat, explode, implode, length, sub};
-use prim_registry::{Action, Flat, Prim, PrimMeaning, Registry, Standard};
+use core_lang::{Core, CoreDef, CorePattern, Outcome, Run};
+use prim_registry::{Action, Flat, Prim, PrimMeaning, Registry, STANDARD, Standard};
 use std::alloc::{AllocError, Global};
 use std::test::Fail;
 use term_model::Term;
@@ -49,34 +48,82 @@ fn run(
     Ok(eval(alloc, core, term, budget, registry)?)
 }
 
-// Whether the run ended so.
-fn ended(alloc: Global, run: &Run<Term>, ending: Ends) -> Result<bool, Fail> {
-    Ok(match (&run.outcome, ending) {
-        (Outcome::Rewritten(found), Ends::To(pieces)) => *found == term(alloc, pieces)?,
-        (Outcome::Failed, Ends::Failed) => true,
-        (Outcome::Oversize, Ends::Oversize) => true,
-        _ => false,
-    })
+// Whether the run within the budget ends so, by so many rules.
+fn ends(
+    alloc: Global,
+    core: &Core,
+    from: &Term,
+    budget: u32,
+    registry: &Registry<Standard>,
+    ending: Ends,
+    rules: u32,
+) -> Result<bool, Fail>
+    requires budget { budget ≤ 2_000 }
+    requires honest { IsHonest ⟦<Standard as PrimMeaning>⟧.answer registry.now }
+{
+    let run = run(alloc, core, from, budget, registry)?;
+    if run.rules != rules || run.steps != 0 {
+        return Ok(false);
+    }
+    match (&run.outcome, ending) {
+        (Outcome::Rewritten(found), Ends::To(pieces)) => Ok(*found == term(alloc, pieces)?),
+        (Outcome::Failed, Ends::Failed) => Ok(true),
+        (Outcome::Oversize, Ends::Oversize) => Ok(true),
+        _ => Ok(false),
+    }
 }
 
-// Each ends as it should with the whole budget and with that of its rules, and is spent with one less.
+// Whether the run uses up the budget.
+fn is_spent(
+    alloc: Global,
+    core: &Core,
+    from: &Term,
+    budget: u32,
+    registry: &Registry<Standard>,
+) -> Result<bool, Fail>
+    requires budget { budget ≤ 2_000 }
+    requires honest { IsHonest ⟦<Standard as PrimMeaning>⟧.answer registry.now }
+{
+    let run = run(alloc, core, from, budget, registry)?;
+    Ok(matches!(run.outcome, Outcome::Spent) && run.rules == budget)
+}
+
+// Whether the run ends so with the whole budget and with that of its rules, and is spent with one less.
+fn ends_by(
+    alloc: Global,
+    core: &Core,
+    from: &Term,
+    registry: &Registry<Standard>,
+    ending: Ends,
+    rules: u32,
+) -> Result<bool, Fail>
+    requires rules { rules ≤ 2_000 }
+    requires honest { IsHonest ⟦<Standard as PrimMeaning>⟧.answer registry.now }
+{
+    Ok(
+        ends(alloc, core, from, 2000, registry, ending, rules)?
+            && ends(alloc, core, from, rules, registry, ending, rules)?
+            && is_spent(alloc, core, from, rules.saturating_sub(1), registry)?,
+    )
+}
+
+// Whether the program of a row ends as it should.
+fn is_met(alloc: Global, row: &Row, registry: &Registry<Standard>) -> Result<bool, Fail>
+    requires { IsHonest ⟦<Standard as PrimMeaning>⟧.answer registry.now }
+{
+    let (_, words, pieces, ending, rules) = row;
+    let core = core(alloc, program(alloc, words)?)?;
+    let term = term(alloc, pieces)?;
+    ends_by(alloc, &core, &term, registry, *ending, (*rules).min(2000))
+}
+
+// The program of each row ends as it should.
 fn check_rows(alloc: Global, rows: &[Row], registry: &Registry<Standard>) -> Result<(), Fail>
     requires { IsHonest ⟦<Standard as PrimMeaning>⟧.answer registry.now }
 {
-    for (name, words, pieces, ending, rules) in rows {
-        let core = core(alloc, program(alloc, words)?)?;
-        let term = term(alloc, pieces)?;
-        let rules = (*rules).min(2000);
-        for budget in [2000, rules] {
-            let run = run(alloc, &core, &term, budget, registry)?;
-            if !ended(alloc, &run, *ending)? || run.rules != rules || run.steps != 0 {
-                return Err(Fail::new(name));
-            }
-        }
-        let less = rules.saturating_sub(1);
-        let run = run(alloc, &core, &term, less, registry)?;
-        if !matches!(run.outcome, Outcome::Spent) || run.rules != less {
-            return Err(Fail::new(name));
+    for row in rows {
+        if !is_met(alloc, row, registry)? {
+            return Err(Fail::new(row.0));
         }
     }
     Ok(())
@@ -96,55 +143,45 @@ fn programs(rt: HostRuntime) -> Result<(), Fail> {
 fn primitives(rt: HostRuntime) -> Result<(), Fail> {
     let alloc = rt.alloc();
     let mut registry = Registry::<Standard>::new(alloc);
-    let action: Action = Box::new(alloc, |args: &[Flat]| -> Result<Option<Flat>, AllocError> {
-        Ok(add(args))
-    })?;
-    registry.register(Prim::new(b"add".to_vec(alloc)?, 2, action))?;
-    let action: Action = Box::new(alloc, |args: &[Flat]| -> Result<Option<Flat>, AllocError> {
-        Ok(sub(args))
-    })?;
-    registry.register(Prim::new(b"sub".to_vec(alloc)?, 2, action))?;
-    let action: Action = Box::new(alloc, |args: &[Flat]| -> Result<Option<Flat>, AllocError> {
-        Ok(length(args))
-    })?;
-    registry.register(Prim::new(b"length".to_vec(alloc)?, 1, action))?;
-    let action: Action = Box::new(
-        alloc,
-        move |args: &[Flat]| -> Result<Option<Flat>, AllocError> { explode(alloc, args) },
-    )?;
-    registry.register(Prim::new(b"explode".to_vec(alloc)?, 1, action))?;
-    let action: Action = Box::new(
-        alloc,
-        move |args: &[Flat]| -> Result<Option<Flat>, AllocError> { implode(alloc, args) },
-    )?;
-    registry.register(Prim::new(b"implode".to_vec(alloc)?, 1, action))?;
-    let action: Action = Box::new(
-        alloc,
-        move |args: &[Flat]| -> Result<Option<Flat>, AllocError> { concat(alloc, args) },
-    )?;
-    registry.register(Prim::new(b"concat".to_vec(alloc)?, 2, action))?;
-    check_rows(alloc, PRIMITIVES, &registry)?;
-    Ok(())
+    for primitive in STANDARD {
+        let action: Action = Box::new(
+            alloc,
+            move |args: &[Flat]| -> Result<Option<Flat>, AllocError> {
+                primitive.answer(alloc, args)
+            },
+        )?;
+        let name = primitive.name().to_vec(alloc)?;
+        registry.register(Prim::new(name, primitive.arity(), action))?;
+    }
+    check_rows(alloc, PRIMITIVES, &registry)
 }
 
-// Whether the programs without an end use up this budget.
-fn use_up(alloc: Global, budget: u32) -> Result<bool, Fail> {
-    let budget = budget.min(2000);
+// Whether the program, which has no end, uses up the budget.
+fn uses_up(alloc: Global, words: &[Word], budget: u32) -> Result<bool, Fail>
+    requires { budget ≤ 2_000 }
+{
     let registry = Registry::<Standard>::new(alloc);
-    for (_, words) in ENDLESS {
-        let core = core(alloc, program(alloc, words)?)?;
-        let run = run(alloc, &core, &Term::int(alloc, 1)?, budget, &registry)?;
-        if !matches!(run.outcome, Outcome::Spent) || run.rules != budget {
-            return Ok(false);
+    let core = core(alloc, program(alloc, words)?)?;
+    let run = run(alloc, &core, &Term::int(alloc, 1)?, budget, &registry)?;
+    Ok(matches!(run.outcome, Outcome::Spent) && run.rules == budget)
+}
+
+// Each of the programs without an end uses up the budget.
+fn check_endless(alloc: Global, budget: u32) -> Result<(), Fail>
+    requires { budget ≤ 2_000 }
+{
+    for (name, words) in ENDLESS {
+        if !uses_up(alloc, words, budget)? {
+            return Err(Fail::from((name, budget)));
         }
     }
-    Ok(true)
+    Ok(())
 }
 
 #[test]
 fn endless(rt: HostRuntime) -> Result<(), Fail> {
     for budget in [0, 1, 1000] {
-        assert!(rt; use_up(rt.alloc(), budget)?, "{budget}");
+        check_endless(rt.alloc(), budget)?;
     }
     Ok(())
 }
@@ -153,27 +190,47 @@ fn endless(rt: HostRuntime) -> Result<(), Fail> {
 // slower, it ends with no answer.
 #[test]
 fn whole_budget(rt: HostRuntime) -> Result<(), Fail> {
-    assert!(rt; use_up(rt.alloc(), 2000)?);
-    Ok(())
+    check_endless(rt.alloc(), 2000)
+}
+
+// Whether the call of the program's main is in range.
+fn is_in_range(alloc: Global, words: &[Word], main: usize) -> Result<bool, Fail> {
+    let definitions = program(alloc, words)?;
+    Ok(Core::in_range(&definitions, main))
 }
 
 #[test]
 fn ranges(rt: HostRuntime) -> Result<(), Fail> {
-    let alloc = rt.alloc();
-    for (name, words, main, there) in RANGES {
-        let definitions = program(alloc, words)?;
-        assert_eq!(rt; Core::in_range(&definitions, *main), *there, "{name}");
+    for (name, words, main, is_there) in RANGES {
+        if is_in_range(rt.alloc(), words, *main)? != *is_there {
+            return Err(Fail::new(name));
+        }
     }
     Ok(())
 }
 
+// The copy of the pattern with every form.
+fn copy_of_every_form(alloc: Global) -> Result<Box<CorePattern>, Fail> {
+    let every = pattern(alloc, EVERY_FORM)?;
+    Ok(Box::new(alloc, every.copy(alloc)?)?)
+}
+
+// Whether the copy is the pattern of these words.
+fn is_copied_as(alloc: Global, words: &[Word]) -> Result<bool, Fail> {
+    let copy = copy_of_every_form(alloc)?;
+    let expected = pattern(alloc, words)?;
+    Ok(*copy == *expected)
+}
+
 #[test]
 fn copies(rt: HostRuntime) -> Result<(), Fail> {
-    let alloc = rt.alloc();
-    let copy = pattern(alloc, EVERY_FORM)?.copy(alloc)?;
-    assert!(rt; copy == pattern(alloc, EVERY_FORM)?);
+    if !is_copied_as(rt.alloc(), EVERY_FORM)? {
+        return Err(Fail::new("another copy"));
+    }
     for words in OTHER_FORMS {
-        assert!(rt; copy != pattern(alloc, words)?);
+        if is_copied_as(rt.alloc(), words)? {
+            return Err(Fail::new("the copy of another pattern"));
+        }
     }
     Ok(())
 }

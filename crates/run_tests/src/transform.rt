@@ -1,6 +1,7 @@
 //! What no clause says: outside vectors and whole runs.
 mod complaints;
 mod devices;
+mod failures;
 mod forms;
 mod language_rows;
 mod library_rows;

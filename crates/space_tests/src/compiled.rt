@@ -1,10 +1,17 @@
 // The code of a small program, which was worked out by hand.
+ghost use Rattle.std.specs.Prelude.{◌≡◌, [], IfOk, map};
+ghost use Rattle.core_lang.specs.Program.{no_patterns};
+ghost use Rattle.core_lang.specs.Views.{pattern_of};
+ghost use Rattle.strat_code.specs.Code.{call_definition, match_term};
+ghost use Rattle.strat_code.specs.CodeOf.{argument_of, code_of, instr_of};
+ghost use Rattle.strat_code.specs.Worked.{match_of_small, small_code};
+
 use core_lang::{Coordinate, Core, CoreDef, CorePattern, CoreStrategy};
 use std::alloc::{AllocError, Global};
 use std::test::Fail;
-use strat_code::{Argument, Instr};
+use strat_code::{Argument, Code, Instr, small_code_stands};
 use strat_compile::compile;
-use term_model::Sym;
+use term_model::{PrimNames, Sym};
 
 const HERE: Coordinate = Coordinate {
     layers_up: 0,
@@ -17,7 +24,9 @@ const ONE_LAYER_UP: Coordinate = Coordinate {
 };
 
 // F(x)
-fn f_of_x(alloc: Global) -> Result<CorePattern, AllocError> {
+fn f_of_x(alloc: Global) -> Result<CorePattern, AllocError>
+    ensures { IfOk result (λ made. match_term 3 (pattern_of made) ≡ match_of_small) }
+{
     let parts = vec![in alloc; CorePattern::Variable(HERE)]?;
     Ok(CorePattern::Applied(Sym::named(alloc, b"F")?, parts))
 }
@@ -68,7 +77,9 @@ fn call_in_code(
     room: usize,
     next_address: usize,
     arguments: Vec<Argument>,
-) -> Instr {
+) -> Instr
+    ensures { instr_of [] result ≡ call_definition 1 frames entry room next_address (map argument_of arguments.items) no_patterns }
+{
     Instr::CallDefinition {
         nodes: 1,
         frames,
@@ -81,7 +92,9 @@ fn call_in_code(
 }
 
 // Its code: main's call and the end of the run, the body of main with the code of its argument, the body of f.
-fn small_code(alloc: Global) -> Result<Vec<Instr>, AllocError> {
+fn small_instrs(alloc: Global) -> Result<Vec<Instr>, AllocError>
+    ensures { IfOk result (λ made. code_of [] made.items ≡ small_code) }
+{
     let begin = call_in_code(alloc, 0, 2, 0, 1, Vec::new(alloc));
     let argument = vec![in alloc; Argument::Code(3)]?;
     let body = call_in_code(alloc, 1, 6, 1, 5, argument);
@@ -112,9 +125,23 @@ fn code_of_a_small_program(rt: HostRuntime) -> Result<(), Fail> {
     let alloc = rt.alloc();
     let core = small_core(alloc)?;
     let code = compile(alloc, &core)?;
-    let expected = small_code(alloc)?;
+    let expected = small_instrs(alloc)?;
     if code.instrs() != expected.as_slice() || !code.prims().is_empty() {
         return Err(Fail::new("the code is the one that was worked out"));
+    }
+    Ok(())
+}
+
+#[test]
+fn code_of_instructions(rt: HostRuntime) -> Result<(), Fail> {
+    small_code_stands();
+    let alloc = rt.alloc();
+    let code = Code::new(small_instrs(alloc)?, Vec::new(alloc), PrimNames::new(alloc));
+    if code.len() != 10 || !code.prims().is_empty() {
+        return Err(Fail::new("the code of ten instructions has no primitives"));
+    }
+    if code.at(3) != &(Instr::Count { nodes: 1 }) || code.at(9) != &Instr::EndDefinition {
+        return Err(Fail::new("each instruction has its address"));
     }
     Ok(())
 }

@@ -1,5 +1,6 @@
-//! Tests of spaces of terms, of the compiler, and of the machine that runs over spaces: each row over the space of terms themselves and over the
-//! store, and of a definition file through each public call. They stand in a crate of their own, since a crate with tests is proved once more for them.
+//! Tests of spaces of terms, of code and the compiler, and of the machine that runs over spaces: each row over the space of terms themselves
+//! and over the store, and of a definition file through each public call. They stand in a crate of their own, since a crate with tests is
+//! proved once more for them.
 #![tactic(auto)]
 
 #[cfg(test)]

@@ -115,10 +115,10 @@ fn from_bytes_to_runs_of_the_machine(rt: HostRuntime) -> Result<(), Fail> {
     let alloc = rt.alloc();
     let code = code_of(alloc, DEFINITIONS)?;
     let term = read_term(alloc, b"(7,f(1))")?;
-    let store = StoreSpace::new(alloc, BuildHasherDefault::new());
     if !takes_five_twice(alloc, RcSpace, &code, &term)? {
         return Err(Fail::new("over terms"));
     }
+    let store = StoreSpace::new(alloc, BuildHasherDefault::new());
     if !takes_five_twice(alloc, store, &code, &term)? {
         return Err(Fail::new("over a store"));
     }

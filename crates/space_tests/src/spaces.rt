@@ -18,6 +18,19 @@ const CHANGED: &[(&[u8], &[u8])] = &[
     (b"(1,[3]){7,8}", b"([3],1){7,8} (1,[3]){[3],1} "),
 ];
 
+// Names of symbols, and two integers.
+const MAKERS: &[(&[u8], i32, i32)] = &[
+    (b"F", 1, 2),
+    (b"Plus", -7, -7),
+    (b"of_15_letters__", 0, 2147483647),
+];
+
+// Texts of terms that are taken apart.
+const TAKEN: &[&[u8]] = &[b"[2,F(1,2)]{1}", b"F(1,F(1)){[]}", b"7{1}", b"[1,1,1,1,1]"];
+
+// Texts of terms, and whether the root of each has a number.
+const ROOTS: &[(&[u8], bool)] = &[(b"7{F}", false), (b"[F,F]", false), (b"F{7}", true)];
+
 // The list of the second integer and of the symbol over both, with the first integer as its annotation, after something
 // else was made and given back.
 fn built<S: TermSpace>(
@@ -185,19 +198,27 @@ fn store(alloc: Global) -> StoreSpace {
     StoreSpace::new(alloc, BuildHasherDefault::new())
 }
 
-// Runs the clients that make terms over a space.
+// Whether the client that makes terms makes the one that is expected.
+fn makes<S: TermSpace>(
+    alloc: Global,
+    space: &mut S,
+    name: &[u8],
+    left: i32,
+    right: i32,
+) -> Result<bool, Fail> {
+    let symbol = Sym::plain(alloc, name)?.ok_or("no name")?;
+    let Some(made) = built(alloc, space, &symbol, left, right)? else {
+        return Ok(false);
+    };
+    let term = space.leave(alloc, &made)?;
+    Ok(term == expected(alloc, &symbol, left, right)?)
+}
+
+// Runs the client that makes terms over a space.
 fn run_makers<S: TermSpace>(alloc: Global, space: &mut S) -> Result<(), Fail> {
-    let table: [(&[u8], i32, i32); 3] = [
-        (b"F", 1, 2),
-        (b"Plus", -7, -7),
-        (b"of_15_letters__", 0, 2147483647),
-    ];
-    for (name, left, right) in table {
-        let symbol = Sym::plain(alloc, name)?.ok_or("no name")?;
-        let made = built(alloc, space, &symbol, left, right)?.ok_or("oversize")?;
-        let list = expected(alloc, &symbol, left, right)?;
-        if space.leave(alloc, &made)? != list {
-            return Err(Fail::new("another term was built"));
+    for (name, left, right) in MAKERS {
+        if !makes(alloc, space, name, *left, *right)? {
+            return Err(Fail::new(name.escape_ascii()));
         }
     }
     Ok(())
@@ -208,70 +229,82 @@ fn run_changes<S: TermSpace>(alloc: Global, space: &mut S) -> Result<(), Fail> {
     for (text, wanted) in CHANGED {
         let written = changed(alloc, space, &read_term(alloc, text)?)?;
         if &written[..] != *wanted {
-            return Err(Fail::new("changed into other terms"));
+            return Err(Fail::new(text.escape_ascii()));
         }
     }
     Ok(())
 }
 
-// Takes terms apart over a space, and looks at their parts.
-fn run_takers<S: TermSpace>(alloc: Global, space: &mut S) -> Result<(), Fail> {
-    let texts: [&[u8]; 4] = [b"[2,F(1,2)]{1}", b"F(1,F(1)){[]}", b"7{1}", b"[1,1,1,1,1]"];
-    for text in texts {
-        let term = read_term(alloc, text)?;
-        for place in 0..term.children().len() {
-            if takes_apart(alloc, space, &term, place)?.is_none() {
-                return Err(Fail::new("not as it was"));
-            }
+// Whether the term is as it was, wherever it is taken apart.
+fn is_as_it_was<S: TermSpace>(alloc: Global, space: &mut S, text: &[u8]) -> Result<bool, Fail> {
+    let term = read_term(alloc, text)?;
+    for place in 0..term.children().len() {
+        if takes_apart(alloc, space, &term, place)?.is_none() {
+            return Ok(false);
         }
     }
+    Ok(true)
+}
+
+// Whether the second part of a pair is 2.
+fn is_second<S: TermSpace>(alloc: Global, space: &mut S) -> Result<bool, Fail> {
     let pair = read_term(alloc, b"(1,2){3}")?;
-    if second(alloc, space, &pair)? != Some((Some(2), Term::int(alloc, 2)?)) {
+    Ok(second(alloc, space, &pair)? == Some((Some(2), Term::int(alloc, 2)?)))
+}
+
+// Takes terms apart over a space, and looks at their parts.
+fn run_takers<S: TermSpace>(alloc: Global, space: &mut S) -> Result<(), Fail> {
+    for text in TAKEN {
+        if !is_as_it_was(alloc, space, text)? {
+            return Err(Fail::new(text.escape_ascii()));
+        }
+    }
+    if !is_second(alloc, space)? {
         return Err(Fail::new("another second part"));
     }
     Ok(())
 }
 
-// Looks at the numbers of roots.
-fn run_numbers<S: TermSpace>(alloc: Global, space: &mut S) -> Result<(), Fail> {
-    let symbols = [
-        Sym::named(alloc, b"F")?,
-        Sym::named(alloc, b"FG")?,
-        Sym::quoted(alloc, b"")?,
-        Sym::tuple(),
-    ];
-    for symbol in symbols.iter() {
-        if !is_numbered(alloc, space, symbol)? {
-            return Err(Fail::new("another number"));
-        }
+// Looks at the numbers of symbols over a space.
+fn run_symbols<S: TermSpace>(alloc: Global, space: &mut S) -> Result<(), Fail> {
+    if !is_numbered(alloc, space, &Sym::named(alloc, b"F")?)?
+        || !is_numbered(alloc, space, &Sym::named(alloc, b"FG")?)?
+        || !is_numbered(alloc, space, &Sym::quoted(alloc, b"")?)?
+        || !is_numbered(alloc, space, &Sym::tuple())?
+    {
+        return Err(Fail::new("another number"));
     }
-    let texts: [(&[u8], bool); 3] = [(b"7{F}", false), (b"[F,F]", false), (b"F{7}", true)];
-    for (text, is_symbol) in texts {
-        if has_number(alloc, space, &read_term(alloc, text)?)? != is_symbol {
-            return Err(Fail::new("only symbols have numbers"));
+    Ok(())
+}
+
+// Looks at the numbers of roots over a space.
+fn run_roots<S: TermSpace>(alloc: Global, space: &mut S) -> Result<(), Fail> {
+    for (text, is_symbol) in ROOTS {
+        if has_number(alloc, space, &read_term(alloc, text)?)? != *is_symbol {
+            return Err(Fail::new(text.escape_ascii()));
         }
     }
     Ok(())
 }
 
-#[test]
-fn terms_themselves(rt: HostRuntime) -> Result<(), Fail> {
-    let alloc = rt.alloc();
-    let mut space = RcSpace;
-    run_numbers(alloc, &mut space)?;
+// Runs all clients over a space.
+fn run_clients<S: TermSpace + Drop>(alloc: Global, space: S) -> Result<(), Fail> {
+    let mut space = space;
+    run_symbols(alloc, &mut space)?;
+    run_roots(alloc, &mut space)?;
     run_makers(alloc, &mut space)?;
     run_changes(alloc, &mut space)?;
     run_takers(alloc, &mut space)
 }
 
 #[test]
+fn terms_themselves(rt: HostRuntime) -> Result<(), Fail> {
+    run_clients(rt.alloc(), RcSpace)
+}
+
+#[test]
 fn stored_terms(rt: HostRuntime) -> Result<(), Fail> {
-    let alloc = rt.alloc();
-    let mut space = store(alloc);
-    run_numbers(alloc, &mut space)?;
-    run_makers(alloc, &mut space)?;
-    run_changes(alloc, &mut space)?;
-    run_takers(alloc, &mut space)
+    run_clients(rt.alloc(), store(rt.alloc()))
 }
 
 // A space that says how many shapes it holds.
@@ -354,37 +387,45 @@ fn run_lists<S: TermSpace<Ref = u32> + Holds + Drop>(
     Ok(Some(space.held()))
 }
 
+// Lengths of lists, and how many shapes the space holds then.
+const LISTS: &[(i32, usize)] = &[(7, 15), (100, 201)];
+
 #[test]
 fn numbers_of_lists(rt: HostRuntime) -> Result<(), Fail> {
-    for (count, held) in [(7, 15), (100, 201)] {
-        if run_lists(rt.alloc(), store(rt.alloc()), count)? != Some(held) {
-            return Err(Fail::new("another number of shapes"));
+    for (count, held) in LISTS {
+        if run_lists(rt.alloc(), store(rt.alloc()), *count)? != Some(*held) {
+            return Err(Fail::new(count));
         }
     }
     Ok(())
 }
 
+// Blocks of the parts from 2 on, the last first.
+const BLOCKS: &[Block<usize>] = &[
+    Block {
+        front: Front::Three(5, 6, 7),
+        rest: 0,
+    },
+    Block {
+        front: Front::Three(2, 3, 4),
+        rest: 1,
+    },
+];
+
 #[test]
-fn blocks(rt: HostRuntime) -> Result<(), Fail> {
-    let blocks = [
-        Block {
-            front: Front::Three(5, 6, 7),
-            rest: 0,
-        },
-        Block {
-            front: Front::Three(2, 3, 4),
-            rest: 1,
-        },
-    ];
+fn blocks() -> Result<(), Fail> {
     let first = Block {
         front: Front::One(1),
         rest: 2,
     };
-    let parts = Parts::of_block(&first, &blocks);
-    assert_eq!(rt; parts.len(), 7);
+    let parts = Parts::of_block(&first, BLOCKS);
     for i in 0..7 {
-        assert_eq!(rt; parts.get(i), Some(&(i + 1)));
+        if parts.get(i) != Some(&(i + 1)) {
+            return Err(Fail::new(i));
+        }
     }
-    assert_eq!(rt; parts.get(7), None);
+    if parts.len() != 7 || parts.get(7).is_some() {
+        return Err(Fail::new("another number of parts"));
+    }
     Ok(())
 }

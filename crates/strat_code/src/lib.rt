@@ -8,6 +8,3 @@ mod laws;
 pub use code::Code;
 pub use instr::{Argument, Case, Instr, Root, Traversal};
 pub use laws::{longer_code_stands, small_code_stands};
-
-#[cfg(test)]
-mod tests;

@@ -256,9 +256,9 @@ fn built(alloc: Global, words: &[Word]) -> Result<Workbench, Fail> {
 }
 
 // The pattern of these words.
-pub fn pattern(alloc: Global, words: &[Word]) -> Result<CorePattern, Fail> {
+pub fn pattern(alloc: Global, words: &[Word]) -> Result<Box<CorePattern>, Fail> {
     let mut bench = built(alloc, words)?;
-    last(&mut bench.patterns)
+    Ok(Box::new(alloc, last(&mut bench.patterns)?)?)
 }
 
 // The definitions of a program: main, whose body is the strategy that is left, and those that are left.

@@ -5,6 +5,7 @@ ghost use Rattle.term_model.specs.Limits.{max_budget};
 ghost use Rattle.str_pipeline.specs.Setting.{setting_of};
 ghost use Rattle.str_pipeline.specs.Written.{IsWritten};
 
+use crate::transform::pipeline::plain_options;
 use prim_registry::{PrimMeaning, Registry, Standard};
 use std::alloc::Global;
 use std::test::Fail;
@@ -42,52 +43,49 @@ fn transformed<M: PrimMeaning>(
     })
 }
 
+/// Definitions, a term, a budget, and the line.
+const ROWS: &[(&str, &str, u32, &str)] = &[
+    (
+        "strategies main = ?(x,_); !x",
+        "(7,f(1))",
+        MAX_BUDGET,
+        "7\n",
+    ),
+    ("strategies main = ?(x,_); !x", "7", MAX_BUDGET, "#failed\n"),
+    ("strategies main = ?(x,_); !x", "(7,1)", 4, "#spent\n"),
+    ("strategies main = rec x(x)", "7", 100, "#spent\n"),
+    (
+        "strategies main = id",
+        "(7,",
+        MAX_BUDGET,
+        "#refused TermSyntax\n",
+    ),
+    ("strategies main = #", "7", MAX_BUDGET, "#refused Lexical\n"),
+    (
+        "strategies main = go",
+        "7",
+        MAX_BUDGET,
+        "#refused UnknownStrategy\n",
+    ),
+];
+
+/// Whether definitions and a term give this line within the budget, and the status of a term where it is one.
+fn gives(alloc: Global, defs: &str, term: &str, budget: u32, line: &str) -> Result<bool, Fault>
+    requires { budget ≤ max_budget }
+{
+    let options = plain_options(alloc, budget)?;
+    let registry = Registry::<Standard>::new(alloc);
+    let answer = transformed(alloc, defs.as_bytes(), term.as_bytes(), &options, &registry)?;
+    let is_term = matches!(answer.status, Status::Rewritten);
+    Ok(answer.line.as_slice() == line.as_bytes() && is_term != line.starts_with("#"))
+}
+
 #[test]
 fn texts_in_memory(rt: HostRuntime) -> Result<(), Fail> {
-    // definitions, term, budget; the line
-    let rows = [
-        (
-            "strategies main = ?(x,_); !x",
-            "(7,f(1))",
-            MAX_BUDGET,
-            "7\n",
-        ),
-        ("strategies main = ?(x,_); !x", "7", MAX_BUDGET, "#failed\n"),
-        ("strategies main = ?(x,_); !x", "(7,1)", 4, "#spent\n"),
-        ("strategies main = rec x(x)", "7", 100, "#spent\n"),
-        (
-            "strategies main = id",
-            "(7,",
-            MAX_BUDGET,
-            "#refused TermSyntax\n",
-        ),
-        ("strategies main = #", "7", MAX_BUDGET, "#refused Lexical\n"),
-        (
-            "strategies main = go",
-            "7",
-            MAX_BUDGET,
-            "#refused UnknownStrategy\n",
-        ),
-    ];
-    let registry = Registry::<Standard>::new(rt.alloc());
-    for (defs, term, budget, line) in rows {
-        let options = Options {
-            main: b"main".to_vec(rt.alloc())?,
-            strict: false,
-            budget: budget.min(MAX_BUDGET),
-        };
-        let answer = transformed(
-            rt.alloc(),
-            defs.as_bytes(),
-            term.as_bytes(),
-            &options,
-            &registry,
-        )?;
-        assert_eq!(rt; answer.line.as_slice(), line.as_bytes());
-        assert_eq!(rt;
-            matches!(answer.status, Status::Rewritten),
-            !line.starts_with("#")
-        );
+    for (defs, term, budget, line) in ROWS {
+        if !gives(rt.alloc(), defs, term, (*budget).min(MAX_BUDGET), line)? {
+            return Err(Fail::from((defs, term)));
+        }
     }
     Ok(())
 }

@@ -8,8 +8,8 @@ use crate::transform::forms::{FORMS, SIGNATURE};
 use crate::transform::language_rows::{CHECK_ROWS, LANGUAGE_ROWS};
 use crate::transform::library_rows::LIBRARY_ROWS;
 use crate::transform::long_rows::{ENDLESS, LONG_ROWS};
-use crate::transform::option_rows::OPTION_ROWS;
-use crate::transform::rows::{JOINED_ROWS, Pieces, ROWS, TextRow};
+use crate::transform::option_rows::{OPTION_ROWS, OptionRow};
+use crate::transform::rows::{JOINED_ROWS, JoinedRow, ROWS, Row, TextRow};
 use crate::transform::term_rows::TERM_ROWS;
 use prim_registry::{PrimMeaning, Registry, Standard};
 use std::alloc::{AllocError, Global};
@@ -18,12 +18,13 @@ use str_pipeline::{Faulty, MAX_BUDGET, Options, Status, transform, transform_joi
 use term_model::Fault;
 
 /// How much a reader gives and a writer takes in a call.
-const PIECE: usize = 65_536;
+pub(super) const PIECE: usize = 65_536;
 
 /// Room for the longest line.
-const ROOM: usize = 4_096;
+pub(super) const ROOM: usize = 4_096;
 
-fn text_of(alloc: Global, pieces: Pieces) -> Result<Vec<u8>, AllocError> {
+/// The pieces, one after the other.
+fn text_of(alloc: Global, pieces: &[(&str, usize)]) -> Result<Vec<u8>, AllocError> {
     let mut text = Vec::new(alloc);
     for (piece, times) in pieces {
         for _ in 0..*times {
@@ -33,7 +34,8 @@ fn text_of(alloc: Global, pieces: Pieces) -> Result<Vec<u8>, AllocError> {
     Ok(text)
 }
 
-fn line_of(alloc: Global, pieces: Pieces) -> Result<Vec<u8>, AllocError> {
+/// The same as a line.
+fn line_of(alloc: Global, pieces: &[(&str, usize)]) -> Result<Vec<u8>, AllocError> {
     let mut line = text_of(alloc, pieces)?;
     line.push(b'\n')?;
     Ok(line)
@@ -91,17 +93,41 @@ fn gives_with(
     requires budget { options.now.budget ≤ max_budget }
     requires honest { IsHonest ⟦<Standard as PrimMeaning>⟧.answer registry.now }
 {
+    let text = joined_form(alloc, defs, term)?;
+    Ok(
+        gives_apart(alloc, defs, term, options, registry, line)?
+            && gives_joined(alloc, &text, PIECE, options, registry, line)?,
+    )
+}
+
+/// The joined form of definitions and a term.
+fn joined_form(alloc: Global, defs: &[u8], term: &[u8]) -> Result<Vec<u8>, AllocError> {
+    let mut text = defs.to_vec(alloc)?;
+    text.extend_from_slice(b"\n#term\n")?;
+    text.extend_from_slice(term)?;
+    Ok(text)
+}
+
+/// Whether definitions and a term, each from a reader of its own, give this line.
+fn gives_apart(
+    alloc: Global,
+    defs: &[u8],
+    term: &[u8],
+    options: &Options,
+    registry: &Registry<Standard>,
+    line: &[u8],
+) -> Result<bool, Fault>
+    requires budget { options.now.budget ≤ max_budget }
+    requires honest { IsHonest ⟦<Standard as PrimMeaning>⟧.answer registry.now }
+{
     let mut out = Faulty::writer(alloc, ROOM, PIECE, None, false)?;
     let mut first = Faulty::reader(defs.to_vec(alloc)?, PIECE, None);
     let mut second = Faulty::reader(term.to_vec(alloc)?, PIECE, None);
     let status = transform(alloc, &mut first, &mut second, options, registry, &mut out)?;
-    let is_apart = fits(&status, line) && out.written() == line;
-    let mut text = defs.to_vec(alloc)?;
-    text.extend_from_slice(b"\n#term\n")?;
-    text.extend_from_slice(term)?;
-    Ok(is_apart && gives_joined(alloc, &text, PIECE, options, registry, line)?)
+    Ok(fits(&status, line) && out.written() == line)
 }
 
+/// Whether a text in the joined form, which is read by so many bytes at a time, gives this line.
 fn gives_joined(
     alloc: Global,
     text: &[u8],
@@ -120,6 +146,20 @@ fn gives_joined(
     Ok(fits(&status, line) && out.written() == line)
 }
 
+/// Whether definitions and a term use up the budget.
+fn uses_up(
+    alloc: Global,
+    defs: &[u8],
+    term: &[u8],
+    budget: u32,
+    registry: &Registry<Standard>,
+) -> Result<bool, Fault>
+    requires budget { budget ≤ max_budget }
+    requires honest { IsHonest ⟦<Standard as PrimMeaning>⟧.answer registry.now }
+{
+    gives(alloc, defs, term, budget, registry, b"#spent\n")
+}
+
 /// Whether definitions and a term give this line, and where a number of rules is stated, by no fewer.
 fn takes(
     alloc: Global,
@@ -131,26 +171,32 @@ fn takes(
 ) -> Result<bool, Fault>
     requires { IsHonest ⟦<Standard as PrimMeaning>⟧.answer registry.now }
 {
-    let is_line = gives(alloc, defs, term, MAX_BUDGET, registry, line)?;
+    if !gives(alloc, defs, term, MAX_BUDGET, registry, line)? {
+        return Ok(false);
+    }
     let Some(rules) = rules else {
-        return Ok(is_line);
+        return Ok(true);
     };
     let rules = rules.min(MAX_BUDGET);
-    let is_enough = gives(alloc, defs, term, rules, registry, line)?;
-    let is_spent = gives(
-        alloc,
-        defs,
-        term,
-        rules.saturating_sub(1),
-        registry,
-        b"#spent\n",
-    )?;
-    let is_begun = gives(alloc, defs, term, 0, registry, b"#spent\n")?;
-    Ok(is_line && is_enough && is_spent && is_begun)
+    Ok(
+        gives(alloc, defs, term, rules, registry, line)?
+            && uses_up(alloc, defs, term, rules.saturating_sub(1), registry)?
+            && uses_up(alloc, defs, term, 0, registry)?,
+    )
+}
+
+/// Whether definitions and a term do as a row says.
+fn is_met(alloc: Global, row: &Row, registry: &Registry<Standard>) -> Result<bool, Fault>
+    requires { IsHonest ⟦<Standard as PrimMeaning>⟧.answer registry.now }
+{
+    let defs = text_of(alloc, row.defs)?;
+    let term = text_of(alloc, row.term)?;
+    let line = line_of(alloc, row.line)?;
+    takes(alloc, &defs, &term, row.rules, registry, &line)
 }
 
 /// Whether definitions, of which this is the front, and a term do as a row says.
-pub(super) fn is_met(
+fn is_met_after(
     alloc: Global,
     front: &str,
     row: &TextRow,
@@ -159,25 +205,18 @@ pub(super) fn is_met(
     requires { IsHonest ⟦<Standard as PrimMeaning>⟧.answer registry.now }
 {
     let (definitions, term, line, rules) = row;
-    let mut defs = front.as_bytes().to_vec(alloc)?;
-    defs.extend_from_slice(definitions.as_bytes())?;
-    let mut text = line.as_bytes().to_vec(alloc)?;
-    text.push(b'\n')?;
-    takes(alloc, &defs, term.as_bytes(), *rules, registry, &text)
+    let defs = text_of(alloc, &[(front, 1), (definitions, 1)])?;
+    let line = line_of(alloc, &[(line, 1)])?;
+    takes(alloc, &defs, term.as_bytes(), *rules, registry, &line)
 }
 
 #[test]
 fn rows(rt: HostRuntime) -> Result<(), Fail> {
-    let alloc = rt.alloc();
-    let registry = Registry::<Standard>::new(alloc);
-    for (index, row) in ROWS.iter().chain(TERM_ROWS).enumerate() {
-        let defs = text_of(alloc, row.defs)?;
-        let term = text_of(alloc, row.term)?;
-        let line = line_of(alloc, row.line)?;
-        assert!(rt;
-            takes(alloc, &defs, &term, row.rules, &registry, &line)?,
-            "row {index}"
-        );
+    let registry = Registry::<Standard>::new(rt.alloc());
+    for row in ROWS.iter().chain(TERM_ROWS) {
+        if !is_met(rt.alloc(), row, &registry)? {
+            return Err(Fail::from((row.defs, row.term)));
+        }
     }
     Ok(())
 }
@@ -185,68 +224,80 @@ fn rows(rt: HostRuntime) -> Result<(), Fail> {
 // Runs of many rules. Under `rt try`, whose checks make runs slower, they take minutes.
 #[test]
 fn long_runs(rt: HostRuntime) -> Result<(), Fail> {
-    let alloc = rt.alloc();
-    let registry = Registry::<Standard>::new(alloc);
-    for (index, row) in LONG_ROWS.iter().enumerate() {
-        let defs = text_of(alloc, row.defs)?;
-        let term = text_of(alloc, row.term)?;
-        let line = line_of(alloc, row.line)?;
-        assert!(rt;
-            takes(alloc, &defs, &term, row.rules, &registry, &line)?,
-            "row {index}"
-        );
+    let registry = Registry::<Standard>::new(rt.alloc());
+    for row in LONG_ROWS {
+        if !is_met(rt.alloc(), row, &registry)? {
+            return Err(Fail::from((row.defs, row.term)));
+        }
     }
     for defs in ENDLESS {
-        assert!(rt;
-            gives(
-                alloc,
-                defs.as_bytes(),
-                b"7",
-                1_000_000,
-                &registry,
-                b"#spent\n"
-            )?,
-            "{defs}"
-        );
+        if !uses_up(rt.alloc(), defs.as_bytes(), b"7", 1_000_000, &registry)? {
+            return Err(Fail::new(defs));
+        }
+    }
+    Ok(())
+}
+
+/// Checks that the definitions of each row, after this front, and its term do as the row says.
+pub(super) fn check_rows(
+    alloc: Global,
+    front: &str,
+    rows: &[TextRow],
+    registry: &Registry<Standard>,
+) -> Result<(), Fail>
+    requires { IsHonest ⟦<Standard as PrimMeaning>⟧.answer registry.now }
+{
+    for row in rows {
+        if !is_met_after(alloc, front, row, registry)? {
+            return Err(Fail::from((row.0, row.1)));
+        }
     }
     Ok(())
 }
 
 #[test]
 fn text_rows(rt: HostRuntime) -> Result<(), Fail> {
-    let alloc = rt.alloc();
-    let registry = Registry::<Standard>::new(alloc);
-    let tables = [
-        ("", LANGUAGE_ROWS),
-        ("", CHECK_ROWS),
-        ("", LIBRARY_ROWS),
-        (SIGNATURE, FORMS),
-    ];
-    for (front, rows) in tables {
-        for row in rows {
-            assert!(rt;
-                is_met(alloc, front, row, &registry)?,
-                "{} on {}",
-                row.0,
-                row.1
-            );
-        }
+    let registry = Registry::<Standard>::new(rt.alloc());
+    for rows in [LANGUAGE_ROWS, CHECK_ROWS, LIBRARY_ROWS] {
+        check_rows(rt.alloc(), "", rows, &registry)?;
     }
-    Ok(())
+    check_rows(rt.alloc(), SIGNATURE, FORMS, &registry)
 }
 
 /// A file with both parts.
 fn file_with(alloc: Global, first: &Part, second: &Part) -> Result<Vec<u8>, AllocError> {
-    let mut text = b"signature constructors ".to_vec(alloc)?;
-    text.extend_from_slice(first.declarations.as_bytes())?;
-    text.extend_from_slice(second.declarations.as_bytes())?;
-    text.extend_from_slice(b" strategies ")?;
-    text.extend_from_slice(first.definitions.as_bytes())?;
-    text.extend_from_slice(second.definitions.as_bytes())?;
-    if first.has_main && second.has_main {
-        text.extend_from_slice(b"main = id")?;
-    }
-    Ok(text)
+    let main = if first.has_main && second.has_main {
+        "main = id"
+    } else {
+        ""
+    };
+    text_of(
+        alloc,
+        &[
+            ("signature constructors ", 1),
+            (first.declarations, 1),
+            (second.declarations, 1),
+            (" strategies ", 1),
+            (first.definitions, 1),
+            (second.definitions, 1),
+            (main, 1),
+        ],
+    )
+}
+
+/// Whether the fault of this word is reported of a file with both parts.
+fn is_reported(
+    alloc: Global,
+    word: &str,
+    first: &Part,
+    second: &Part,
+    registry: &Registry<Standard>,
+) -> Result<bool, Fault>
+    requires { IsHonest ⟦<Standard as PrimMeaning>⟧.answer registry.now }
+{
+    let file = file_with(alloc, first, second)?;
+    let line = line_of(alloc, &[("#refused ", 1), (word, 1)])?;
+    gives(alloc, &file, b"1", MAX_BUDGET, registry, &line)
 }
 
 #[test]
@@ -254,189 +305,82 @@ fn the_least_complaint(rt: HostRuntime) -> Result<(), Fail> {
     let alloc = rt.alloc();
     let registry = Registry::<Standard>::new(alloc);
     for (index, part) in PARTS.iter().enumerate() {
-        let mut line = b"#refused ".to_vec(alloc)?;
-        line.extend_from_slice(part.word.as_bytes())?;
-        line.push(b'\n')?;
         for other in PARTS.iter().skip(index).skip(1) {
-            for (first, second) in [(part, other), (other, part)] {
-                let file = file_with(alloc, first, second)?;
-                assert!(rt;
-                    gives(alloc, &file, b"1", MAX_BUDGET, &registry, &line)?,
-                    "{} {}",
-                    first.word,
-                    second.word
-                );
+            if !is_reported(alloc, part.word, part, other, &registry)?
+                || !is_reported(alloc, part.word, other, part, &registry)?
+            {
+                return Err(Fail::from((part.word, other.word)));
             }
         }
     }
     Ok(())
 }
 
+/// Whether a row of the joined form gives its line, also where a short text is read by 1 and by 7 bytes at a time.
+fn is_met_joined(
+    alloc: Global,
+    row: &JoinedRow,
+    options: &Options,
+    registry: &Registry<Standard>,
+) -> Result<bool, Fault>
+    requires budget { options.now.budget ≤ max_budget }
+    requires honest { IsHonest ⟦<Standard as PrimMeaning>⟧.answer registry.now }
+{
+    let text = text_of(alloc, row.text)?;
+    let line = line_of(alloc, row.line)?;
+    for piece in [PIECE, 1, 7] {
+        let is_tried = piece == PIECE || text.len() < PIECE;
+        if is_tried && !gives_joined(alloc, &text, piece, options, registry, &line)? {
+            return Ok(false);
+        }
+    }
+    Ok(true)
+}
+
 #[test]
 fn joined_rows(rt: HostRuntime) -> Result<(), Fail> {
-    let alloc = rt.alloc();
-    let options = plain_options(alloc, MAX_BUDGET)?;
-    let registry = Registry::<Standard>::new(alloc);
-    for (index, row) in JOINED_ROWS.iter().enumerate() {
-        let text = text_of(alloc, row.text)?;
-        let line = line_of(alloc, row.line)?;
-        assert!(rt;
-            gives_joined(alloc, &text, PIECE, &options, &registry, &line)?,
-            "row {index}"
-        );
-        if text.len() < PIECE {
-            assert!(rt;
-                gives_joined(alloc, &text, 1, &options, &registry, &line)?,
-                "row {index} by 1"
-            );
-            assert!(rt;
-                gives_joined(alloc, &text, 7, &options, &registry, &line)?,
-                "row {index} by 7"
-            );
+    let options = plain_options(rt.alloc(), MAX_BUDGET)?;
+    let registry = Registry::<Standard>::new(rt.alloc());
+    for row in JOINED_ROWS {
+        if !is_met_joined(rt.alloc(), row, &options, &registry)? {
+            return Err(Fail::from(row.text));
         }
     }
     Ok(())
 }
 
+/// Whether a row with options gives its line.
+fn is_met_with_options(
+    alloc: Global,
+    row: &OptionRow,
+    registry: &Registry<Standard>,
+) -> Result<bool, Fault>
+    requires { IsHonest ⟦<Standard as PrimMeaning>⟧.answer registry.now }
+{
+    let (defs, term, main, is_strict, budget, line) = row;
+    let line = line_of(alloc, &[(line, 1)])?;
+    let options = Options {
+        main: main.as_bytes().to_vec(alloc)?,
+        strict: *is_strict,
+        budget: (*budget).min(MAX_BUDGET),
+    };
+    gives_with(
+        alloc,
+        defs.as_bytes(),
+        term.as_bytes(),
+        &options,
+        registry,
+        &line,
+    )
+}
+
 #[test]
 fn option_rows(rt: HostRuntime) -> Result<(), Fail> {
-    let alloc = rt.alloc();
-    let registry = Registry::<Standard>::new(alloc);
-    for (defs, term, main, strict, budget, line) in OPTION_ROWS {
-        let options = Options {
-            main: main.as_bytes().to_vec(alloc)?,
-            strict: *strict,
-            budget: (*budget).min(MAX_BUDGET),
-        };
-        let mut text = line.as_bytes().to_vec(alloc)?;
-        text.push(b'\n')?;
-        assert!(rt;
-            gives_with(
-                alloc,
-                defs.as_bytes(),
-                term.as_bytes(),
-                &options,
-                &registry,
-                &text
-            )?,
-            "{main} of {defs} on {term}"
-        );
-    }
-    Ok(())
-}
-
-#[test]
-fn failing_readers(rt: HostRuntime) -> Result<(), Fail> {
-    let alloc = rt.alloc();
-    let options = plain_options(alloc, MAX_BUDGET)?;
-    let registry = Registry::<Standard>::new(alloc);
-    let defs = b"strategies main = ?(x,_); !x";
-    let term = b"(7,f(1))";
-    let joined = b"strategies main = ?(x,_); !x\n#term\n(7,f(1))";
-    for bad in 1..60u64 {
-        let mut out = Faulty::writer(alloc, ROOM, PIECE, None, false)?;
-        let mut first = Faulty::reader(defs.to_vec(alloc)?, 1, Some(bad));
-        let mut second = Faulty::reader(term.to_vec(alloc)?, 1, None);
-        let answer = transform(
-            alloc,
-            &mut first,
-            &mut second,
-            &options,
-            &registry,
-            &mut out,
-        );
-        assert_eq!(rt;
-            matches!(answer, Err(Fault::Read)),
-            bad <= defs.len() as u64 + 1
-        );
-
-        let mut first = Faulty::reader(defs.to_vec(alloc)?, 1, None);
-        let mut second = Faulty::reader(term.to_vec(alloc)?, 1, Some(bad));
-        let mut out = Faulty::writer(alloc, ROOM, PIECE, None, false)?;
-        let answer = transform(
-            alloc,
-            &mut first,
-            &mut second,
-            &options,
-            &registry,
-            &mut out,
-        );
-        let is_bad = bad <= term.len() as u64 + 1;
-        assert_eq!(rt; matches!(answer, Err(Fault::Read)), is_bad);
-        assert_eq!(rt; out.written().is_empty(), is_bad);
-
-        let mut input = Faulty::reader(joined.to_vec(alloc)?, 1, Some(bad));
-        let mut out = Faulty::writer(alloc, ROOM, PIECE, None, false)?;
-        let answer = transform_joined(alloc, &mut input, &options, &registry, &mut out);
-        let is_bad = bad <= joined.len() as u64 + 1;
-        assert_eq!(rt; matches!(answer, Err(Fault::Read)), is_bad);
-        assert_eq!(rt; out.written().is_empty(), is_bad);
-    }
-    Ok(())
-}
-
-#[test]
-fn refused_definitions_leave_the_term(rt: HostRuntime) -> Result<(), Fail> {
-    let alloc = rt.alloc();
-    let options = plain_options(alloc, MAX_BUDGET)?;
-    let registry = Registry::<Standard>::new(alloc);
-    for (defs, line) in [
-        ("strategies main = #", b"#refused Lexical\n".as_slice()),
-        ("strategies main = id;", b"#refused Syntax\n".as_slice()),
-        ("module m", b"#refused ReservedWord\n".as_slice()),
-        (
-            "strategies main = go",
-            b"#refused UnknownStrategy\n".as_slice(),
-        ),
-        ("", b"#refused NoMain\n".as_slice()),
-    ] {
-        let mut first = Faulty::reader(defs.as_bytes().to_vec(alloc)?, 9, None);
-        let mut second = Faulty::reader(b"1".to_vec(alloc)?, 9, Some(1));
-        let mut out = Faulty::writer(alloc, ROOM, 1, None, false)?;
-        let answer = transform(
-            alloc,
-            &mut first,
-            &mut second,
-            &options,
-            &registry,
-            &mut out,
-        );
-        assert!(rt; matches!(answer, Ok(Status::Refused(_))), "{defs}");
-        assert_eq!(rt; out.written(), line);
-    }
-    Ok(())
-}
-
-#[test]
-fn failing_writers(rt: HostRuntime) -> Result<(), Fail> {
-    let alloc = rt.alloc();
-    let options = plain_options(alloc, MAX_BUDGET)?;
-    let registry = Registry::<Standard>::new(alloc);
-    let line = b"f(1)\n";
-    for bad in 1..8u64 {
-        let silent = bad % 2 == 0;
-        let is_bad = bad <= 5;
-        let wrote = line.len().min((bad as usize).saturating_sub(1));
-        let mut first = Faulty::reader(b"strategies main = ?(_,x); !x".to_vec(alloc)?, 9, None);
-        let mut second = Faulty::reader(b"(7,f(1))".to_vec(alloc)?, 9, None);
-        let mut out = Faulty::writer(alloc, ROOM, 1, Some(bad), silent)?;
-        let answer = transform(
-            alloc,
-            &mut first,
-            &mut second,
-            &options,
-            &registry,
-            &mut out,
-        );
-        assert_eq!(rt; matches!(answer, Err(Fault::Write)), is_bad);
-        assert_eq!(rt; out.written(), &line[..wrote]);
-
-        let text = b"strategies main = ?(_,x); !x\n#term\n(7,f(1))";
-        let mut input = Faulty::reader(text.to_vec(alloc)?, 9, None);
-        let mut out = Faulty::writer(alloc, ROOM, 1, Some(bad), silent)?;
-        let answer = transform_joined(alloc, &mut input, &options, &registry, &mut out);
-        assert_eq!(rt; matches!(answer, Err(Fault::Write)), is_bad);
-        assert_eq!(rt; out.written(), &line[..wrote]);
+    let registry = Registry::<Standard>::new(rt.alloc());
+    for row in OPTION_ROWS {
+        if !is_met_with_options(rt.alloc(), row, &registry)? {
+            return Err(Fail::from((row.2, row.0, row.1)));
+        }
     }
     Ok(())
 }

@@ -1,4 +1,4 @@
-//! Files that call primitives, where `add` and `length` are registered.
+//! Files that call primitives, where the standard ones are registered.
 use crate::transform::rows::TextRow;
 
 pub(super) const PRIMITIVE_ROWS: &[TextRow] = &[

@@ -1,61 +1,67 @@
 //! Runs with primitives.
-use crate::transform::pipeline::{is_met, plain_options};
+ghost use Rattle.std.specs.Prelude.{◌≤◌};
+ghost use Rattle.prim_registry.specs.Entries.{IsHonest};
+ghost use Rattle.term_model.specs.Limits.{max_budget};
+
+use crate::transform::pipeline::{check_rows, plain_options};
 use crate::transform::primitive_rows::PRIMITIVE_ROWS;
-use prim_registry::standard::{add, length};
-use prim_registry::{Action, Flat, Prim, Registry, Standard};
-use std::alloc::AllocError;
+use prim_registry::{Action, Flat, Prim, PrimMeaning, Registry, STANDARD, Standard};
+use std::alloc::{AllocError, Global};
 use std::test::Fail;
-use str_pipeline::{Counted, MAX_BUDGET, transform};
+use str_pipeline::{Counted, MAX_BUDGET, Options, transform};
 use term_model::Fault;
 
 #[test]
 fn primitive_rows(rt: HostRuntime) -> Result<(), Fail> {
     let alloc = rt.alloc();
     let mut registry = Registry::<Standard>::new(alloc);
-    let action: Action = Box::new(alloc, |args: &[Flat]| -> Result<Option<Flat>, AllocError> {
-        Ok(add(args))
-    })?;
-    registry.register(Prim::new(b"add".to_vec(alloc)?, 2, action))?;
-    let action: Action = Box::new(alloc, |args: &[Flat]| -> Result<Option<Flat>, AllocError> {
-        Ok(length(args))
-    })?;
-    registry.register(Prim::new(b"length".to_vec(alloc)?, 1, action))?;
-    for row in PRIMITIVE_ROWS {
-        assert!(rt;
-            is_met(alloc, "", row, &registry)?,
-            "{} on {}",
-            row.0,
-            row.1
-        );
+    for primitive in STANDARD {
+        let action: Action = Box::new(
+            alloc,
+            move |args: &[Flat]| -> Result<Option<Flat>, AllocError> {
+                primitive.answer(alloc, args)
+            },
+        )?;
+        let name = primitive.name().to_vec(alloc)?;
+        registry.register(Prim::new(name, primitive.arity(), action))?;
     }
-    Ok(())
+    check_rows(alloc, "", PRIMITIVE_ROWS, &registry)
+}
+
+/// Runs a program that adds the parts of its term, if that is a pair. Returns whether the run ends with the fault `Memory` and writes
+/// nothing, exactly if it is to (`is_fault`).
+fn is_memory_fault(
+    alloc: Global,
+    term: &[u8],
+    is_fault: bool,
+    options: &Options,
+    registry: &Registry<Standard>,
+) -> bool
+    requires budget { options.now.budget ≤ max_budget }
+    requires honest { IsHonest ⟦<Standard as PrimMeaning>⟧.answer registry.now }
+{
+    let mut first = Counted::new(b"strategies main = ?(x,y); prim(\"add\",x,y)".as_slice());
+    let mut second = Counted::new(term);
+    let mut out = Counted::new(Vec::new(alloc));
+    let answer = transform(alloc, &mut first, &mut second, options, registry, &mut out);
+    matches!(answer, Err(Fault::Memory)) == is_fault && out.into_inner().is_empty() == is_fault
 }
 
 #[test]
 fn a_primitive_without_memory(rt: HostRuntime) -> Result<(), Fail> {
     let alloc = rt.alloc();
+    let options = plain_options(alloc, MAX_BUDGET)?;
     let mut registry = Registry::<Standard>::new(alloc);
     let action: Action = Box::new(
         alloc,
         |_args: &[Flat]| -> Result<Option<Flat>, AllocError> { Err(AllocError) },
     )?;
     registry.register(Prim::new(b"add".to_vec(alloc)?, 2, action))?;
-    let options = plain_options(alloc, MAX_BUDGET)?;
-    let defs = b"strategies main = ?(x,y); prim(\"add\",x,y)".as_slice();
-    for (term, has_memory) in [(b"(2,3)".as_slice(), false), (b"2".as_slice(), true)] {
-        let mut first = Counted::new(defs);
-        let mut second = Counted::new(term);
-        let mut out = Counted::new(Vec::new(alloc));
-        let answer = transform(
-            alloc,
-            &mut first,
-            &mut second,
-            &options,
-            &registry,
-            &mut out,
-        );
-        assert_eq!(rt; matches!(answer, Err(Fault::Memory)), !has_memory);
-        assert_eq!(rt; out.into_inner().is_empty(), !has_memory);
+    if !is_memory_fault(alloc, b"(2,3)", true, &options, &registry) {
+        return Err(Fail::new("a pair, for which the primitive is called"));
+    }
+    if !is_memory_fault(alloc, b"2", false, &options, &registry) {
+        return Err(Fail::new("a number, for which it is not called"));
     }
     Ok(())
 }

@@ -174,33 +174,56 @@ fn report_of(
     )
 }
 
+/// Whether the token is refused in definitions, and this is expected in its place.
+fn is_refused_in_definitions(
+    alloc: Global,
+    before: &str,
+    token: &str,
+    expected: &str,
+) -> Result<bool, AllocError> {
+    let text = format!(in alloc; "{before}{token}\n#term\n1")?;
+    let report = report_of(alloc, "Syntax", before, token, expected)?;
+    reports(alloc, "strc", &text, &report)
+}
+
 #[test]
 fn expected_in_definitions(rt: HostRuntime) -> Result<(), Fail> {
-    let alloc = rt.alloc();
     for (before, token, expected) in DEFINITIONS {
-        let text = format!(in alloc; "{before}{token}\n#term\n1")?;
-        let report = report_of(alloc, "Syntax", before, token, expected)?;
-        assert!(rt; reports(alloc, "strc", &text, &report)?, "{text}");
+        if !is_refused_in_definitions(rt.alloc(), before, token, expected)? {
+            return Err(Fail::from((before, token)));
+        }
     }
     Ok(())
 }
 
+/// Whether the token is refused in a term, and this is expected in its place.
+fn is_refused_in_term(
+    alloc: Global,
+    before: &str,
+    token: &str,
+    expected: &str,
+) -> Result<bool, AllocError> {
+    let text = format!(in alloc; "{before}{token}")?;
+    let report = report_of(alloc, "TermSyntax", before, token, expected)?;
+    reports(alloc, "strc id.str", &text, &report)
+}
+
 #[test]
 fn expected_in_terms(rt: HostRuntime) -> Result<(), Fail> {
-    let alloc = rt.alloc();
     for (before, token, expected) in TERMS {
-        let text = format!(in alloc; "{before}{token}")?;
-        let report = report_of(alloc, "TermSyntax", before, token, expected)?;
-        assert!(rt; reports(alloc, "strc id.str", &text, &report)?, "{text}");
+        if !is_refused_in_term(rt.alloc(), before, token, expected)? {
+            return Err(Fail::from((before, token)));
+        }
     }
     Ok(())
 }
 
 #[test]
 fn ends_and_bytes(rt: HostRuntime) -> Result<(), Fail> {
-    let alloc = rt.alloc();
     for (line, text, report) in OTHERS {
-        assert!(rt; reports(alloc, line, text, report)?, "{text}");
+        if !reports(rt.alloc(), line, text, report)? {
+            return Err(Fail::from((line, text)));
+        }
     }
     Ok(())
 }

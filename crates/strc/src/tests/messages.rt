@@ -1,5 +1,6 @@
 //! What is said of refusals, and of the numbers of runs.
-use crate::tests::samples::{reports, run_on, run_over};
+use crate::tests::samples::{is_refused, reports, run_on, run_over};
+use std::alloc::{AllocError, Global};
 use std::test::Fail;
 use str_pipeline::Faulty;
 
@@ -123,29 +124,29 @@ const CHECKS: &[(&str, &str, &str)] = &[
     ),
 ];
 
-// Words of the command line, a byte, how often it stands in standard input, and what is reported first.
-const LONG: &[(&str, u8, u32, &str)] = &[
+// Words of the command line, a text, how often it stands in standard input, and what is reported first.
+const LONG: &[(&str, &str, u32, &str)] = &[
     (
         "strc",
-        b' ',
+        " ",
         1048577,
         "strc: DefsTooLong\nstdin: the definitions have more than 1048576 bytes\n",
     ),
     (
         "strc id.str",
-        b'a',
+        "a",
         16777217,
         "strc: TermTooLong\nstdin: the text of the term has more than 16777216 bytes\n",
     ),
     (
         "strc id.str",
-        b'a',
+        "a",
         16777216,
         "strc: TermOversize at byte 16777216\nstdin: the term has more than 16777216 nodes or is deeper than 1000 levels\n",
     ),
     (
         "strc id.str",
-        b'(',
+        "(",
         1001,
         "strc: TermOversize at byte 1000\nstdin:1:1001: the term is deeper than 1000 levels\n",
     ),
@@ -173,10 +174,10 @@ const RUNS: &[(&str, &str, &str)] = &[
 
 #[test]
 fn places_of_refusals(rt: HostRuntime) -> Result<(), Fail> {
-    for (text, diagnostics) in ROWS {
-        let ran = run_on(rt.alloc(), "strc", text.as_bytes(), None, None, None)?;
-        assert_eq!(rt; ran.status, 2, "{text}");
-        assert_eq!(rt; ran.diagnostics.written(), diagnostics.as_bytes(), "{text}");
+    for (text, report) in ROWS {
+        if !is_refused(rt.alloc(), text.as_bytes(), report)? {
+            return Err(Fail::new(text));
+        }
     }
     Ok(())
 }
@@ -184,79 +185,108 @@ fn places_of_refusals(rt: HostRuntime) -> Result<(), Fail> {
 #[test]
 fn bytes_beyond_ascii(rt: HostRuntime) -> Result<(), Fail> {
     let text = b"\xEF\xBB\xBFstrategies main = id";
-    let told =
-        b"strc: Lexical at byte 0\nstdin:1:1: a byte order mark cannot stand here\n    ???strategies main = id\n    ^\n";
-    let ran = run_on(rt.alloc(), "strc", text, None, None, None)?;
-    assert_eq!(rt; ran.diagnostics.written(), told.as_slice());
+    let report =
+        "strc: Lexical at byte 0\nstdin:1:1: a byte order mark cannot stand here\n    ???strategies main = id\n    ^\n";
+    if !is_refused(rt.alloc(), text, report)? {
+        return Err(Fail::new("a byte order mark"));
+    }
     Ok(())
+}
+
+/// The front, the piece so many times, and the back.
+fn repeat(
+    alloc: Global,
+    front: &str,
+    piece: &str,
+    count: u32,
+    back: &str,
+) -> Result<Vec<u8>, AllocError> {
+    let mut text = front.as_bytes().to_vec(alloc)?;
+    for _ in 0..count {
+        text.extend_from_slice(piece.as_bytes())?;
+    }
+    text.extend_from_slice(back.as_bytes())?;
+    Ok(text)
 }
 
 #[test]
 fn the_place_of_nesting(rt: HostRuntime) -> Result<(), Fail> {
-    let alloc = rt.alloc();
-    let mut text = b"strategies main = ".to_vec(alloc)?;
-    for _ in 0..201 {
-        text.push(b'(')?;
+    let text = repeat(rt.alloc(), "strategies main = ", "(", 201, "")?;
+    let ran = run_on(rt.alloc(), "strc", &text, None, None, None)?;
+    if ran.status != 2 || ran.out.written() != b"#refused Nesting\n".as_slice() {
+        return Err(Fail::new("another status"));
     }
-    let told = b"strc: Nesting at byte 218\nstdin:1:219: this is nested deeper than 200 levels\n";
-    let ran = run_on(alloc, "strc", &text, None, None, None)?;
-    assert_eq!(rt; ran.status, 2);
-    assert_eq!(rt; ran.out.written(), b"#refused Nesting\n".as_slice());
-    assert!(rt; ran.diagnostics.written().starts_with(told));
+    let report = b"strc: Nesting at byte 218\nstdin:1:219: this is nested deeper than 200 levels\n";
+    if !ran.diagnostics.written().starts_with(report) {
+        return Err(Fail::new("another report"));
+    }
     Ok(())
+}
+
+/// Whether the checks find this in definitions.
+fn is_found(alloc: Global, definitions: &str, word: &str, line: &str) -> Result<bool, AllocError> {
+    let text = format!(in alloc; "{definitions}\n#term\n1")?;
+    let report = format!(in alloc; "strc: {word}\n{line}")?;
+    reports(alloc, "strc", &text, &report)
 }
 
 #[test]
 fn what_the_checks_find(rt: HostRuntime) -> Result<(), Fail> {
-    let alloc = rt.alloc();
     for (definitions, word, line) in CHECKS {
-        let text = format!(in alloc; "{definitions}\n#term\n1")?;
-        let report = format!(in alloc; "strc: {word}\n{line}")?;
-        assert!(rt; reports(alloc, "strc", &text, &report)?, "{text}");
+        if !is_found(rt.alloc(), definitions, word, line)? {
+            return Err(Fail::new(definitions));
+        }
     }
     Ok(())
 }
 
+/// Whether a long standard input is refused, with a report that begins so.
+fn is_refused_long(
+    alloc: Global,
+    line: &str,
+    text: Vec<u8>,
+    begins: &str,
+) -> Result<bool, AllocError> {
+    let ran = run_over(alloc, line, Faulty::reader(text, 65536, None), None, None)?;
+    Ok(ran.status == 2 && ran.diagnostics.written().starts_with(begins.as_bytes()))
+}
+
 #[test]
 fn long_texts(rt: HostRuntime) -> Result<(), Fail> {
-    let alloc = rt.alloc();
-    for (line, byte, count, told) in LONG {
-        let mut text = Vec::new(alloc);
-        for _ in 0..*count {
-            text.push(*byte)?;
+    for (line, piece, count, begins) in LONG {
+        let text = repeat(rt.alloc(), "", piece, *count, "")?;
+        if !is_refused_long(rt.alloc(), line, text, begins)? {
+            return Err(Fail::new(begins));
         }
-        let input = Faulty::reader(text, 65536, None);
-        let ran = run_over(alloc, line, input, None, None)?;
-        assert_eq!(rt; ran.status, 2, "{told}");
-        assert!(rt;
-            ran.diagnostics.written().starts_with(told.as_bytes()),
-            "{told}"
-        );
     }
     Ok(())
 }
 
 #[test]
 fn a_line_of_a_mebibyte(rt: HostRuntime) -> Result<(), Fail> {
-    let alloc = rt.alloc();
-    let mut text = b"strategies ".to_vec(alloc)?;
-    for _ in 0..149794 {
-        text.extend_from_slice(b"f = id ")?;
-    }
-    text.extend_from_slice(b")")?;
-    let told =
+    let text = repeat(rt.alloc(), "strategies ", "f = id ", 149_794, ")")?;
+    let input = Faulty::reader(text, 65536, None);
+    let ran = run_over(rt.alloc(), "strc", input, None, None)?;
+    let report =
         b"strc: Syntax at byte 1048569\nstdin:1:1048570: ')' cannot stand here: expected an operator, a definition or a section\n  .. = id f = id f = id f = id f = id f = id f = id )\n                                                    ^\n";
-    let ran = run_over(alloc, "strc", Faulty::reader(text, 65536, None), None, None)?;
-    assert_eq!(rt; ran.status, 2);
-    assert_eq!(rt; ran.diagnostics.written(), told.as_slice());
+    if ran.status != 2 || ran.diagnostics.written() != report.as_slice() {
+        return Err(Fail::new("another report"));
+    }
     Ok(())
+}
+
+/// Whether this is what is reported of a run.
+fn is_told(alloc: Global, line: &str, term: &str, report: &str) -> Result<bool, AllocError> {
+    let ran = run_on(alloc, line, term.as_bytes(), None, None, None)?;
+    Ok(ran.diagnostics.written() == report.as_bytes())
 }
 
 #[test]
 fn numbers_of_runs(rt: HostRuntime) -> Result<(), Fail> {
-    for (line, term, diagnostics) in RUNS {
-        let ran = run_on(rt.alloc(), line, term.as_bytes(), None, None, None)?;
-        assert_eq!(rt; ran.diagnostics.written(), diagnostics.as_bytes(), "{line}");
+    for (line, term, report) in RUNS {
+        if !is_told(rt.alloc(), line, term, report)? {
+            return Err(Fail::new(line));
+        }
     }
     Ok(())
 }

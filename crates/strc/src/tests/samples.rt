@@ -123,3 +123,19 @@ pub(super) fn reports(
     let ran = run_on(alloc, line, input.as_bytes(), None, None, None)?;
     Ok(ran.diagnostics.written().starts_with(report.as_bytes()))
 }
+
+/// Runs the program in the joined form on this input, and returns whether it is refused with this report.
+pub(super) fn is_refused(alloc: Global, input: &[u8], report: &str) -> Result<bool, AllocError> {
+    let ran = run_on(alloc, "strc", input, None, None, None)?;
+    Ok(ran.status == 2 && ran.diagnostics.written() == report.as_bytes())
+}
+
+/// Returns the first bad call of a row. Calls are counted from 1 on.
+pub(super) fn bad_call(call: Option<u64>) -> Option<u64>
+    ensures { IfSome result (λ n. 1 ≤ n) }
+{
+    match call {
+        Some(number) => Some(number.max(1)),
+        None => None,
+    }
+}
