@@ -38,8 +38,8 @@ length_rest (t ∷ ts) (suc i) d h = let e : suc i + 1 ≡ suc (i + 1) = omega a
 
 pub ruleset counting = (length_text, length_enclosed, length_enclosed_some, length_enclosed_none, length-append, weights-parts_of, weights-annos_of, weight_positive, weight-get_or, length_rest)
 
-integer_bound : (z : ℤ) → IsInRange z → length (signed_decimal z) ≤ 11
-integer_bound z h = length_signed_le 10 z (omega (arith, ints)) (omega (arith, ints))
+integer_bound : (z : ℤ) → IsInRange z → length (signed_decimal z) ≤ 20
+integer_bound z h = length_signed_le 19 z (omega (arith, ints)) (omega (arith, ints))
 
 record IsShort (bs : List ℕ) : Type 0 where
   bound : length bs ≤ 4
@@ -68,7 +68,7 @@ enclosed_bound : (ts : Trees) (left right : ℕ) (inner : List ℕ) → length (
 enclosed_bound end left right inner = omega arith
 enclosed_bound (more t ts) left right inner = rw (length-append inner (right ∷ [])) (omega arith)
 
-bare_bound : (h : Head) (ps : Trees) (inner : List ℕ) → IsHead h ps → length (bare_text h ps inner) ≤ 11 + (4 * head_weight h + length inner)
+bare_bound : (h : Head) (ps : Trees) (inner : List ℕ) → IsHead h ps → length (bare_text h ps inner) ≤ 20 + (4 * head_weight h + length inner)
 bare_bound (heads.Int z) ps inner is = omega (arith, integer_bound z is.0)
 bare_bound (heads.App (Plain name)) ps inner is = rw (length-append name (enclosed ps 40 41 inner)) (omega (arith, enclosed_bound ps 40 41 inner))
 bare_bound (heads.App (Quoted bs)) ps inner is =
@@ -77,15 +77,15 @@ bare_bound (heads.App Tuple) ps inner is = rw (length-append inner (41 ∷ [])) 
 bare_bound heads.List ps inner is = rw (length-append inner (93 ∷ [])) (omega arith)
 
 mutual
-  pub text_bound : (t : Tree) → IsTerm t → length (text t) + 2 ≤ 16 * weight t
+  pub text_bound : (t : Tree) → IsTerm t → length (text t) + 2 ≤ 24 * weight t
   text_bound (node h ps xs) is =
       rw (length-append (bare_text h ps (texts ps)) (enclosed xs 123 125 (texts xs)))
       (omega (arith, bare_bound h ps (texts ps) is.0, texts_bound ps is.1, texts_bound xs is.2, enclosed_bound xs 123 125 (texts xs)))
 
-  texts_bound : (ts : Trees) → AreTerms ts → length (texts ts) ≤ 16 * weights ts
+  texts_bound : (ts : Trees) → AreTerms ts → length (texts ts) ≤ 24 * weights ts
   texts_bound end is = omega arith
   texts_bound (more t ts) is = rw (length-append (text t) (rest_texts ts)) (omega (arith, text_bound t is.0, rest_bound ts is.1))
 
-  rest_bound : (ts : Trees) → AreTerms ts → length (rest_texts ts) ≤ 16 * weights ts
+  rest_bound : (ts : Trees) → AreTerms ts → length (rest_texts ts) ≤ 24 * weights ts
   rest_bound end is = omega arith
   rest_bound (more t ts) is = rw (length-append (text t) (rest_texts ts)) (omega (arith, text_bound t is.0, rest_bound ts is.1))

@@ -10,7 +10,7 @@ use term_model::symbol::Kind;
 use term_model::term::MAX_WEIGHT;
 use term_model::{Head, Term};
 
-// A text has at most 16 bytes for each unit of its term's weight.
+// A text has at most 24 bytes for each unit of its term's weight.
 #[tactic(auto, using(crate::proofs::LengthLemmas::text_bound))]
 pub(crate) fn text_len(term: &Term) -> u64
     ensures { result ≡ length (text term.now) }
@@ -88,7 +88,7 @@ fn with_all(counted: u64, terms: &[Term]) -> u64
     counted
 }
 
-fn number_len(value: i32) -> u64
+fn number_len(value: i64) -> u64
     ensures { result ≡ length (signed_decimal value) }
 {
     let mut buffer = Buffer::new();

@@ -25,7 +25,7 @@ pub(crate) fn push_bytes(bytes: &[u8], out: &mut Vec<u8>) -> Result<(), AllocErr
 }
 
 // The digits of a number, after a minus where it is negative.
-pub(crate) fn push_number(value: i32, out: &mut Vec<u8>) -> Result<(), AllocError>
+pub(crate) fn push_number(value: i64, out: &mut Vec<u8>) -> Result<(), AllocError>
     ensures written { OnOk result (out.new.items ≡ out.old.items ++ signed_decimal value) }
     ensures kept { Extends out.old.items out.new.items }
 {

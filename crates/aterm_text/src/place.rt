@@ -31,7 +31,7 @@ pub(crate) enum Place {
     Name { from: usize },
     // A minus.
     Sign,
-    Digits { negative: bool, value: u32 },
+    Digits { negative: bool, value: u64 },
     // Quoted text: what is copied, then the raw bytes from this index on.
     Text { copied: Bytes, from: usize },
     // Quoted text up to a backslash.

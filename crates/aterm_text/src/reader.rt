@@ -20,7 +20,7 @@ use term_model::term::MAX_DEPTH;
 use term_model::{Fault, Sym, Term};
 
 // One more digit.
-fn digits(negative: bool, value: u32, byte: u8, at: u64) -> Result<Place, Fault>
+fn digits(negative: bool, value: u64, byte: u8, at: u64) -> Result<Place, Fault>
     requires { IsTrue (is_digit byte) }
     ensures gives { (s : List Inside) → Gives result s (counted negative value byte s) }
     ensures calm { IfOk result IsCalm }
@@ -101,7 +101,7 @@ fn symbol(alloc: Global, text: &[u8], from: usize, to: usize) -> Result<Sym, All
 fn number(
     alloc: Global,
     negative: bool,
-    value: u32,
+    value: u64,
     levels: &mut Levels,
     byte: u8,
     at: u64,

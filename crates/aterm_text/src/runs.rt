@@ -35,7 +35,7 @@ pub(crate) fn resume(text: &[u8], index: usize, place: &mut Place) -> usize
 
 // Where the digits end that keep the number in range, and the number up to there.
 #[tactic(auto, using(crate::proofs::RunLemmas::run_digit))]
-fn digits_end(text: &[u8], index: usize, negative: bool, value: u32) -> (usize, u32)
+fn digits_end(text: &[u8], index: usize, negative: bool, value: u64) -> (usize, u64)
     requires bound { index ≤ length text.now }
     requires value { value ≤ max_magnitude negative }
     ensures high { result.0 ≤ length text.now }

@@ -1,5 +1,5 @@
 -- What the standard primitives return of their arguments: a flat value, or none.
-use Rattle.std.specs.Prelude.{ℕ, ℤ, pos, negsuc, ◌+ℤ◌, ◌-ℤ◌, ◌*ℤ◌, int_le, int_lt, int_div, unsigned_abs, List, [], ◌∷◌, ◌++◌, length, map, Option, Some, None, Bool, true, false, codes, nat_le, ◌==◌, ◌&&◌, if◌then◌else◌}
+use Rattle.std.specs.Prelude.{ℕ, ℤ, pos, ◌+ℤ◌, ◌-ℤ◌, ◌*ℤ◌, int_le, int_lt, int_div, unsigned_abs, List, [], ◌∷◌, ◌++◌, length, map, Option, Some, None, Bool, true, false, codes, nat_le, ◌==◌, ◌&&◌, if◌then◌else◌}
 use Rattle.std.specs.Cmp.Lexicographic.{pointwise}
 use Rattle.std.specs.Fmt.{signed_decimal}
 use Rattle.std.specs.List.{list_all}
@@ -35,7 +35,7 @@ one_list args = None
 
 -- an integer of the language
 abbrev pub ranged : ℤ → Option FlatValue
-ranged z = if int_le (negsuc 2_147_483_647) z && int_le z (pos 2_147_483_647) then Some (number z) else None
+ranged z = if int_le (signed true (max_magnitude true)) z && int_le z (signed false (max_magnitude false)) then Some (number z) else None
 
 -- the quotient cut towards 0
 abbrev pub quotient : ℤ → ℤ → Option FlatValue

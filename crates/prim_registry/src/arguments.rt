@@ -7,7 +7,7 @@ ghost use Rattle.prim_registry.specs.Values.{values_of};
 use crate::flat::Flat;
 
 // Two integers, where the arguments are these and no others.
-pub(crate) fn two_integers(args: &[Flat]) -> Option<(i32, i32)>
+pub(crate) fn two_integers(args: &[Flat]) -> Option<(i64, i64)>
     ensures { result ≡ integers_of (values_of args.now) }
 {
     match args {
@@ -27,7 +27,7 @@ pub(crate) fn two_texts(args: &[Flat]) -> Option<(&[u8], &[u8])>
 }
 
 // One integer.
-pub(crate) fn one_integer(args: &[Flat]) -> Option<i32>
+pub(crate) fn one_integer(args: &[Flat]) -> Option<i64>
     ensures { result ≡ integer_of (values_of args.now) }
 {
     match args {
@@ -47,7 +47,7 @@ pub(crate) fn one_text(args: &[Flat]) -> Option<&[u8]>
 }
 
 // One list of integers.
-pub(crate) fn one_list(args: &[Flat]) -> Option<&[i32]>
+pub(crate) fn one_list(args: &[Flat]) -> Option<&[i64]>
     ensures { option_map (λ numbers. numbers.now) result ≡ list_of (values_of args.now) }
 {
     match args {

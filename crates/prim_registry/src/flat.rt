@@ -41,7 +41,7 @@ impl Bytes {
 /// The integers of a list.
 #[derive(Debug, Drop)]
 pub struct Numbers {
-    numbers: Vec<i32>,
+    numbers: Vec<i64>,
 }
 
 impl Model for Numbers {
@@ -52,21 +52,21 @@ impl Model for Numbers {
 
 impl Numbers {
     /// Returns the list of these integers.
-    pub fn new(numbers: Vec<i32>) -> Numbers
+    pub fn new(numbers: Vec<i64>) -> Numbers
         ensures { result ≡ numbers.items }
     {
         Numbers { numbers }
     }
 
     /// Returns the integers.
-    pub fn as_slice(&self) -> &[i32]
+    pub fn as_slice(&self) -> &[i64]
         ensures { result.now ≡ self.now }
     {
         self.numbers.as_slice()
     }
 
     /// Returns the integers as a vector, without a copy.
-    pub fn into_vec(self) -> Vec<i32>
+    pub fn into_vec(self) -> Vec<i64>
         ensures { result.items ≡ self }
     {
         self.numbers
@@ -77,7 +77,7 @@ impl Numbers {
 #[derive(Debug, Drop)]
 pub enum Flat {
     /// An integer.
-    Int(i32),
+    Int(i64),
     /// A string.
     Str(Bytes),
     /// A list of integers, which may be empty.

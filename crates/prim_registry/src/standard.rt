@@ -1,12 +1,15 @@
 //! The standard primitives. Each function takes the arguments of a call, of whatever number and kinds.
 ghost use Rattle.std.specs.Prelude.{◌≡◌, codes};
-ghost use Rattle.prim_registry.specs.Standard.{ranged as ranged_value, standard};
+ghost use Rattle.std.specs.Option.{option_map};
+ghost use Rattle.prim_registry.specs.Standard.{standard};
 ghost use Rattle.prim_registry.specs.Values.{answer_of, values_of};
+ghost use Rattle.term_model.specs.Flat.{number};
 
 use crate::arguments::{one_text, two_integers};
 use crate::flat::Flat;
 use crate::primitive::PrimMeaning;
 pub use crate::texts::{concat, explode, implode, int_text, text_int};
+use term_model::bytes::greatest_magnitude;
 
 /// The meaning of the standard primitives.
 pub struct Standard;
@@ -15,42 +18,38 @@ impl PrimMeaning for Standard {
     ghost answer = { standard };
 }
 
-// The integer, where it is one of 32 bits.
-fn ranged(value: i64) -> Option<Flat>
-    ensures { answer_of result ≡ ranged_value value }
+// The integer as an answer, where there is one.
+fn answer(value: Option<i64>) -> Option<Flat>
+    ensures { answer_of result ≡ option_map number value }
 {
-    if -2_147_483_648 <= value && value <= 2_147_483_647 {
-        Some(Flat::Int(value as i32))
-    } else {
-        None
-    }
+    Some(Flat::Int(value?))
 }
 
-/// Returns the sum of two integers, where it has 32 bits; `None` at other arguments.
+/// Returns the sum of two integers, where it has 64 bits; `None` at other arguments.
 pub fn add(args: &[Flat]) -> Option<Flat>
     ensures { answer_of result ≡ standard (codes "add") (values_of args.now) }
 {
     let (left, right) = two_integers(args)?;
-    ranged(i64::from(left) + i64::from(right))
+    answer(left.checked_add(right))
 }
 
-/// Returns the first of two integers without the second, where that has 32 bits; `None` at other arguments.
+/// Returns the first of two integers without the second, where that has 64 bits; `None` at other arguments.
 pub fn sub(args: &[Flat]) -> Option<Flat>
     ensures { answer_of result ≡ standard (codes "sub") (values_of args.now) }
 {
     let (left, right) = two_integers(args)?;
-    ranged(i64::from(left) - i64::from(right))
+    answer(left.checked_sub(right))
 }
 
-/// Returns the product of two integers, where it has 32 bits; `None` at other arguments.
+/// Returns the product of two integers, where it has 64 bits; `None` at other arguments.
 pub fn mul(args: &[Flat]) -> Option<Flat>
     ensures { answer_of result ≡ standard (codes "mul") (values_of args.now) }
 {
     let (left, right) = two_integers(args)?;
-    ranged(i64::from(left) * i64::from(right))
+    answer(left.checked_mul(right))
 }
 
-/// Returns the quotient of two integers, cut towards 0. `None` where the second is 0, where the quotient has more than 32 bits, and
+/// Returns the quotient of two integers, cut towards 0. `None` where the second is 0, where the quotient has more than 64 bits, and
 /// at other arguments.
 pub fn div(args: &[Flat]) -> Option<Flat>
     ensures { answer_of result ≡ standard (codes "div") (values_of args.now) }
@@ -59,11 +58,11 @@ pub fn div(args: &[Flat]) -> Option<Flat>
     if right == 0 {
         return None;
     }
-    ranged(i64::from(left) / i64::from(right))
+    answer(left.checked_div(right))
 }
 
 /// Returns what is left of the first of two integers without the second times their quotient, which is cut towards 0 and may
-/// have more than 32 bits. `None` where the second is 0, and at other arguments.
+/// have more than 64 bits. `None` where the second is 0, and at other arguments.
 pub fn modulo(args: &[Flat]) -> Option<Flat>
     ensures { answer_of result ≡ standard (codes "mod") (values_of args.now) }
 {
@@ -86,13 +85,13 @@ pub fn less(args: &[Flat]) -> Option<Flat>
     }
 }
 
-/// Returns the number of bytes of a string, where it has 32 bits; `None` at other arguments.
+/// Returns the number of bytes of a string, where it has 64 bits; `None` at other arguments.
 pub fn length(args: &[Flat]) -> Option<Flat>
     ensures { answer_of result ≡ standard (codes "length") (values_of args.now) }
 {
     let text = one_text(args)?;
-    if text.len() > 2_147_483_647 {
+    if text.len() as u64 > greatest_magnitude(false) {
         return None;
     }
-    Some(Flat::Int(text.len() as i32))
+    Some(Flat::Int(text.len() as i64))
 }

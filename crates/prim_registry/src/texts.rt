@@ -26,12 +26,12 @@ pub fn concat(alloc: Global, args: &[Flat]) -> Result<Option<Flat>, AllocError>
 }
 
 // The bytes as integers.
-fn integers(alloc: Global, bytes: &[u8]) -> Result<Vec<i32>, AllocError>
+fn integers(alloc: Global, bytes: &[u8]) -> Result<Vec<i64>, AllocError>
     ensures { IfOk result (λ integers. integers.items ≡ map pos bytes.now) }
 {
     let mut integers = Vec::with_capacity(alloc, bytes.len())?;
     for byte in bytes {
-        integers.push(i32::from(*byte))?;
+        integers.push(i64::from(*byte))?;
     }
     Ok(integers)
 }
@@ -48,7 +48,7 @@ pub fn explode(alloc: Global, args: &[Flat]) -> Result<Option<Flat>, AllocError>
 }
 
 // The integers as bytes, where each is one.
-fn bytes(alloc: Global, integers: &[i32]) -> Result<Option<Vec<u8>>, AllocError>
+fn bytes(alloc: Global, integers: &[i64]) -> Result<Option<Vec<u8>>, AllocError>
     ensures { IfOk result (λ bytes. option_map (λ v. v.items) bytes ≡ bytes_of_integers integers.now) }
 {
     let mut bytes = Vec::with_capacity(alloc, integers.len())?;
@@ -95,7 +95,7 @@ fn are_digits(bytes: &[u8]) -> bool
 }
 
 // The magnitude that the digits spell, unless no integer of this sign has it.
-fn magnitude(negative: bool, digits: &[u8]) -> Option<u32>
+fn magnitude(negative: bool, digits: &[u8]) -> Option<u64>
     requires { list_all is_digit digits.now ≡ true }
     ensures { MatchOption result (max_magnitude negative < value_from 0 digits.now) (λ n. (n ≡ value_from 0 digits.now) × (n ≤ max_magnitude negative)) }
 {
@@ -132,7 +132,7 @@ fn integer_in(bytes: &[u8]) -> Option<Flat>
 }
 
 /// Returns the integer that a string spells by one or more digits, with a minus before them where it is negative. `None` where the
-/// string is no such text or the integer has more than 32 bits, and at other arguments.
+/// string is no such text or the integer has more than 64 bits, and at other arguments.
 pub fn text_int(args: &[Flat]) -> Option<Flat>
     ensures { answer_of result ≡ standard (codes "text_int") (values_of args.now) }
 {

@@ -31,7 +31,7 @@ pub(crate) fn begins(text: &[u8]) -> bool
 }
 
 // The magnitude that the digits spell, unless no integer of this sign has it.
-fn magnitude(negative: bool, digits: &[u8]) -> Option<u32>
+fn magnitude(negative: bool, digits: &[u8]) -> Option<u64>
     requires { run_length (first_is is_digit) digits.now ≡ length digits.now }
     ensures { MatchOption result (max_magnitude negative < value_from 0 digits.now) (λ n. (n ≡ value_from 0 digits.now) × (n ≤ max_magnitude negative)) }
 {
@@ -46,7 +46,7 @@ fn magnitude(negative: bool, digits: &[u8]) -> Option<u32>
 }
 
 // The integer that the bytes begin with after its sign, and the bytes after it.
-fn unsigned<'a>(negative: bool, text: &'a [u8]) -> Option<(i32, &'a [u8])>
+fn unsigned<'a>(negative: bool, text: &'a [u8]) -> Option<(i64, &'a [u8])>
     requires { first_is is_digit text.now ≡ true }
     ensures { IsSignedRead negative text.now result }
 {
@@ -59,7 +59,7 @@ fn unsigned<'a>(negative: bool, text: &'a [u8]) -> Option<(i32, &'a [u8])>
 }
 
 // The integer that the bytes begin with, and the bytes after it.
-pub(crate) fn integer<'a>(text: &'a [u8]) -> Option<(i32, &'a [u8])>
+pub(crate) fn integer<'a>(text: &'a [u8]) -> Option<(i64, &'a [u8])>
     requires { begins_integer text.now ≡ true }
     ensures { IsIntegerRead text.now result }
 {

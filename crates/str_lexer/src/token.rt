@@ -160,7 +160,7 @@ pub enum TokenKind {
     /// `_`
     Wildcard,
     /// An integer of this value.
-    Integer(i32),
+    Integer(i64),
     /// A quoted text.
     Quoted(QuotedText),
     /// A mark.

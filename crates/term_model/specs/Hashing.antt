@@ -20,7 +20,7 @@ symbol_writes s = fed.u8 (kind_number (kind_of s)) ++ fed.slice fed.u8 (bytes_of
 
 -- the variant, and what it holds
 abbrev pub head_writes : Head → fed.HashWrites
-head_writes (heads.Int n) = fed.u8 0 ++ fed.i32 n
+head_writes (heads.Int n) = fed.u8 0 ++ fed.i64 n
 head_writes (heads.App s) = fed.u8 1 ++ symbol_writes s
 head_writes heads.List = fed.u8 2
 

@@ -37,37 +37,37 @@ pub fn unescaped(byte: u8) -> Option<u8>
     }
 }
 
-// The greatest magnitude of an integer of this sign.
-fn greatest_magnitude(negative: bool) -> u64
+/// The greatest magnitude of an integer of the language that has this sign.
+pub fn greatest_magnitude(negative: bool) -> u64
     ensures { result ≡ max_magnitude negative }
 {
     if negative {
-        2_147_483_648
+        9_223_372_036_854_775_808
     } else {
-        2_147_483_647
+        9_223_372_036_854_775_807
     }
 }
 
 /// The magnitude with one more digit; `None` where no integer of this sign has it.
-pub fn with_digit(negative: bool, magnitude: u32, byte: u8) -> Option<u32>
+pub fn with_digit(negative: bool, magnitude: u64, byte: u8) -> Option<u64>
     requires { IsTrue (is_digit byte) }
     ensures { MatchOption result (max_magnitude negative < 10 * magnitude + (byte - 48)) (λ longer. (longer ≡ 10 * magnitude + (byte - 48)) × (longer ≤ max_magnitude negative)) }
 {
-    let longer = 10 * u64::from(magnitude) + u64::from(byte - b'0');
-    if longer > greatest_magnitude(negative) {
+    let longer = 10 * u128::from(magnitude) + u128::from(byte - b'0');
+    if longer > u128::from(greatest_magnitude(negative)) {
         return None;
     }
-    Some(longer as u32)
+    Some(longer as u64)
 }
 
 /// The integer of this sign and magnitude.
-pub fn signed(negative: bool, magnitude: u32) -> i32
+pub fn signed(negative: bool, magnitude: u64) -> i64
     requires { magnitude ≤ max_magnitude negative }
     ensures { result ≡ integer_of negative magnitude }
 {
     if negative {
-        -i64::from(magnitude) as i32
+        -i128::from(magnitude) as i64
     } else {
-        magnitude as i32
+        magnitude as i64
     }
 }

@@ -16,7 +16,7 @@ const HIGH: u64 = 4_294_967_296;
 #[derive(Drop)]
 pub enum Top<'a> {
     /// An integer, which has no parts.
-    Int(i32),
+    Int(i64),
     /// A symbol that is applied to the parts.
     App(&'a Sym),
     /// A list, whose elements are the parts.

@@ -68,7 +68,7 @@ impl TermSpace for RcSpace {
         at.clone()
     }
 
-    fn int_of(&self, at: &Term) -> Option<i32> {
+    fn int_of(&self, at: &Term) -> Option<i64> {
         match at.head() {
             Head::Int(value) => Some(*value),
             Head::App(_) | Head::List => None,
@@ -123,7 +123,7 @@ impl TermSpace for RcSpace {
         symbol.clone()
     }
 
-    fn int(&mut self, alloc: Global, value: i32) -> Result<Term, AllocError> {
+    fn int(&mut self, alloc: Global, value: i64) -> Result<Term, AllocError> {
         Term::int(alloc, value)
     }
 

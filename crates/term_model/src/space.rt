@@ -85,7 +85,7 @@ pub trait TermSpace {
         ensures term { IfOk result (λ r. term_of self.now r ≡ term_of self.now at.now) };
 
     /// The integer that the term is, whatever its annotations.
-    fn int_of(&self, at: &Self::Ref) -> Option<i32>
+    fn int_of(&self, at: &Self::Ref) -> Option<i64>
         requires { IsTrue (stands self.now at.now) }
         ensures { MatchOption result ((z : _) → head_of (term_of self.now at.now) ≡ heads.Int z → ⊥) (λ z. head_of (term_of self.now at.now) ≡ heads.Int z) };
 
@@ -141,7 +141,7 @@ pub trait TermSpace {
         ensures symbol { IfOk result (λ n. symbol_of self.new n ≡ symbol.now) };
 
     /// The integer, with no annotations.
-    fn int(&mut self, alloc: Global, value: i32) -> Result<Self::Ref, AllocError>
+    fn int(&mut self, alloc: Global, value: i64) -> Result<Self::Ref, AllocError>
         ensures keeps { Keeps stands term_of is_valid knows symbol_of self.old self.new }
         ensures stands { IfOk result (λ r. IsTrue (stands self.new r)) }
         ensures term { IfOk result (λ r. term_of self.new r ≡ term (heads.Int value) [] []) };

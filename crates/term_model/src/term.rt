@@ -22,7 +22,7 @@ pub const MAX_DEPTH: u32 = 1000;
 #[derive(Debug, Drop)]
 pub enum Head {
     /// An integer, which has no parts.
-    Int(i32),
+    Int(i64),
     /// A symbol that is applied to the parts.
     App(Sym),
     /// A list, whose elements are the parts.
@@ -170,7 +170,7 @@ fn make(
 
 impl Term {
     /// The integer, with no annotations. `AllocError` where there is no memory for a node.
-    pub fn int(alloc: Global, value: i32) -> Result<Term, AllocError>
+    pub fn int(alloc: Global, value: i64) -> Result<Term, AllocError>
         ensures { IfOk result (λ t. t ≡ term (Head.Int value) [] []) }
     {
         let node = Node {

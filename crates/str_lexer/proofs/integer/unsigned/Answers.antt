@@ -1,5 +1,5 @@
 use Rattle.std.proofs.Common.{◌≡◌, ◌∙◌, ap, rules, take, ◌<◌}
-use Rattle.std.specs.Int.{w32}
+use Rattle.std.specs.Int.{w64}
 use mir.Val.{to_z, of_z}
 use Rattle.term_model.specs.Bytes.{is_digit, signed, value_from}
 use Rattle.term_model.specs.Limits.{IsInRange, max_magnitude}
@@ -19,7 +19,7 @@ returns-in_default c =
 pub returns : goal.returns
 returns c =
     let v = c.in-Some.ensures.0 ∙ ap (value_from 0) c.split_at.ensures.front in
-    let z : to_z w32 (of_z w32 c.signed.result) ≡ c.signed.result = search rules in
+    let z : to_z w64 (of_z w64 c.signed.result) ≡ c.signed.result = search rules in
     let s = c.signed.ensures ∙ ap (signed c.args.negative) v in
     let fits : IsInRange c.signed.result = rw c.signed.ensures (in_range c.args.negative c.in-Some.value c.in-Some.ensures.1) in
     rw (z, c.split_at.ensures.back) (found_integer c.args.negative _ _ c.requires c.digit_count-end.ensures.counts _ s fits)
