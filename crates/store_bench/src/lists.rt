@@ -14,7 +14,7 @@ pub(crate) fn numbered<S: TermSpace>(
 {
     let mut elements = Vec::new(alloc);
     for value in 0..size {
-        let element = space.int(alloc, value.cast_signed())?;
+        let element = space.int(alloc, i64::from(value))?;
         elements.push(element)?;
     }
     match space.list(alloc, &elements[..])? {
@@ -54,7 +54,7 @@ pub(crate) fn built<S: TermSpace>(
     let mut element = Vec::new(alloc);
     for value in 0..size {
         element.clear();
-        let first = space.int(alloc, value.cast_signed())?;
+        let first = space.int(alloc, i64::from(value))?;
         element.push(first)?;
         if space.list_len(&list).is_none() {
             break;

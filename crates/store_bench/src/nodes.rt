@@ -6,7 +6,7 @@ use std::alloc::{AllocError, Global};
 #[derive(Clone, Copy)]
 pub(crate) struct Node {
     pub(crate) count: usize,
-    pub(crate) value: i32,
+    pub(crate) value: i64,
 }
 
 // The next number of a linear congruence, which is less than 2^31.
@@ -41,7 +41,7 @@ pub(crate) fn random_nodes(alloc: Global, size: u32) -> Result<Vec<Node>, AllocE
             left = left.saturating_sub(part);
             open.push(part)?;
         }
-        let value = (next(&mut state) % 16) as i32;
+        let value = (next(&mut state) % 16) as i64;
         nodes.push(Node {
             count: count as usize,
             value,

@@ -18,39 +18,41 @@ use Rattle.term_model.specs.declared.made.Made.TheVariants as made
 use Rattle.term_model.specs.declared.parts.Block.{Block}
 use Rattle.term_model.proofs.TermLemmas.{list_of-trees_of}
 use Rattle.term_store.specs.Chains.{IsBlockIn}
+use Rattle.term_store.specs.Shapes.{shape_head, shape_parts, shape_annos}
 use Rattle.term_store.specs.Store.{head_in}
 use Rattle.term_store.specs.Space.{count, term_of, chain_at, shape_term, Stand, MayStand, IsShapeAt, IsMade, Keeps, KeepsChains}
 use Rattle.term_store.specs.declared.store.StoreSpace.{StoreSpace}
 use Rattle.term_store.specs.declared.stored.StoredHead.TheVariants as stored
 use Rattle.term_store.specs.declared.stored.StoredShape.{StoredShape}
+use Rattle.term_store.specs.declared.stored.StoredShape.TheVariants as forms
 use Rattle.term_store.proofs.MakingLemmas.{length-places}
 use Rattle.term_store.proofs.PlainLemmas.{map_same}
 
 -- the head, the parts and the annotations of a term, by its shape
-pub head_at : (s : StoreSpace) (at : ℕ) (x : StoredShape) → IsShapeAt s at x → head_of (term_of s at) ≡ head_in s.symbols.keys x.head
+pub head_at : (s : StoreSpace) (at : ℕ) (x : StoredShape) → IsShapeAt s at x → head_of (term_of s at) ≡ head_in s.symbols.keys (shape_head x)
 head_at s at x is = ap head_of is.term
 
-pub parts_at : (s : StoreSpace) (at : ℕ) (x : StoredShape) → IsShapeAt s at x → parts_of (term_of s at) ≡ map (term_of s) (list_in s.chains x.parts)
+pub parts_at : (s : StoreSpace) (at : ℕ) (x : StoredShape) → IsShapeAt s at x → parts_of (term_of s at) ≡ map (term_of s) (list_in s.chains (shape_parts x))
 parts_at s at x is = ap parts_of is.term ∙ list_of-trees_of _
 
-pub annos_at : (s : StoreSpace) (at : ℕ) (x : StoredShape) → IsShapeAt s at x → annos_of (term_of s at) ≡ map (term_of s) (chain_at s x.annos)
+pub annos_at : (s : StoreSpace) (at : ℕ) (x : StoredShape) → IsShapeAt s at x → annos_of (term_of s at) ≡ map (term_of s) (chain_at s (shape_annos x))
 annos_at s at x is = ap annos_of is.term ∙ list_of-trees_of _
 
 -- how many parts a term has
-pub count_at : (s : StoreSpace) (at : ℕ) (x : StoredShape) → IsShapeAt s at x → length (list_in s.chains x.parts) ≡ length (parts_of (term_of s at))
-count_at s at x is = sym (ap length (parts_at s at x is) ∙ length-places (term_of s) (list_in s.chains x.parts))
+pub count_at : (s : StoreSpace) (at : ℕ) (x : StoredShape) → IsShapeAt s at x → length (list_in s.chains (shape_parts x)) ≡ length (parts_of (term_of s at))
+count_at s at x is = sym (ap length (parts_at s at x is) ∙ length-places (term_of s) (list_in s.chains (shape_parts x)))
 
-pub counted : (s : StoreSpace) (at n : ℕ) (x : StoredShape) → IsShapeAt s at x → n ≡ length (list_in s.chains x.parts) → n ≡ length (parts_of (term_of s at))
+pub counted : (s : StoreSpace) (at n : ℕ) (x : StoredShape) → IsShapeAt s at x → n ≡ length (list_in s.chains (shape_parts x)) → n ≡ length (parts_of (term_of s at))
 counted s at n x is e = e ∙ count_at s at x is
 
 -- a list, and the symbol over its parts
-pub list_at : (s : StoreSpace) (at n : ℕ) (x : StoredShape) → IsShapeAt s at x → x.head ≡ stored.List → n ≡ length (list_in s.chains x.parts) → IsList (term_of s at) n
+pub list_at : (s : StoreSpace) (at n : ℕ) (x : StoredShape) → IsShapeAt s at x → shape_head x ≡ stored.List → n ≡ length (list_in s.chains (shape_parts x)) → IsList (term_of s at) n
 list_at s at n x is h e = record { head = head_at s at x is ∙ ap (head_in s.symbols.keys) h; long = sym (counted s at n x is e) }
 
-pub applied_at : (s : StoreSpace) (at n c : ℕ) (x : StoredShape) (name : Symbol) → IsShapeAt s at x → head_in s.symbols.keys x.head ≡ heads.App name → n ≡ length (list_in s.chains x.parts) → n ≡ c → IsApplied (term_of s at) name c
+pub applied_at : (s : StoreSpace) (at n c : ℕ) (x : StoredShape) (name : Symbol) → IsShapeAt s at x → head_in s.symbols.keys (shape_head x) ≡ heads.App name → n ≡ length (list_in s.chains (shape_parts x)) → n ≡ c → IsApplied (term_of s at) name c
 applied_at s at n c x name is h e same = record { head = head_at s at x is ∙ h; long = sym (counted s at n x is e) ∙ same }
 
-pub length_applied : (s : StoreSpace) (at n c : ℕ) (x : StoredShape) (name : Symbol) → IsShapeAt s at x → n ≡ length (list_in s.chains x.parts) → IsApplied (term_of s at) name c → n ≡ c
+pub length_applied : (s : StoreSpace) (at n c : ℕ) (x : StoredShape) (name : Symbol) → IsShapeAt s at x → n ≡ length (list_in s.chains (shape_parts x)) → IsApplied (term_of s at) name c → n ≡ c
 length_applied s at n c x name is e applied = counted s at n x is e ∙ applied.long
 
 -- the part at an index
@@ -71,14 +73,14 @@ slice_get-within [] i x e = absurd (cc)
 slice_get-within (y ∷ ys) zero x e = omega arith
 slice_get-within (y ∷ ys) (suc i) x e = let h = slice_get-within ys i x e in omega (arith, h)
 
-pub part_stands : (s : StoreSpace) (at i p : ℕ) (x : StoredShape) → IsShapeAt s at x → slice_get (list_in s.chains x.parts) i ≡ Some p → IsTrue (nat_lt p (count s))
+pub part_stands : (s : StoreSpace) (at i p : ℕ) (x : StoredShape) → IsShapeAt s at x → slice_get (list_in s.chains (shape_parts x)) i ≡ Some p → IsTrue (nat_lt p (count s))
 part_stands s at i p x is e =
-    let xs : List ℕ = list_in s.chains x.parts in
+    let xs : List ℕ = list_in s.chains (shape_parts x) in
     let below : get_or xs i p < count s = is.may.parts i p (slice_get-within xs i p e) in
     lt-ltb p (count s) (subst (λ k. k < count s) (get_or_from_slice_get xs i p p e) below)
 
-pub part_is : (s : StoreSpace) (at i p : ℕ) (x : StoredShape) → IsShapeAt s at x → slice_get (list_in s.chains x.parts) i ≡ Some p → slice_get (parts_of (term_of s at)) i ≡ Some (term_of s p)
-part_is s at i p x is e = ap (λ ts. slice_get ts i) (parts_at s at x is) ∙ slice_get-map (term_of s) (list_in s.chains x.parts) i p e
+pub part_is : (s : StoreSpace) (at i p : ℕ) (x : StoredShape) → IsShapeAt s at x → slice_get (list_in s.chains (shape_parts x)) i ≡ Some p → slice_get (parts_of (term_of s at)) i ≡ Some (term_of s p)
+part_is s at i p x is e = ap (λ ts. slice_get ts i) (parts_at s at x is) ∙ slice_get-map (term_of s) (list_in s.chains (shape_parts x)) i p e
 
 -- what was made, as a space says it
 pub makes : (s : StoreSpace) (t u : Tree) (r : Result (Made ℕ) AllocError) → IfOk r (IsMade s t) → t ≡ u → IfOk r (Makes (λ s r. nat_lt r (count s)) (λ s r. term_of s r) s u)
@@ -87,15 +89,15 @@ makes s t u (Ok (made.Fits k)) is same = (lt-ltb k (count s) is.0, is.1 ∙ same
 makes s t u (Ok made.Oversize) is same = λ fits. is (subst Fits (sym same) fits)
 
 -- the term of a shape after chains came
-pub shape_then : (old mid : StoreSpace) (x : StoredShape) (h : Head) (ps qs : List ℕ) → KeepsChains old mid → head_in mid.symbols.keys x.head ≡ h → list_in mid.chains x.parts ≡ ps → chain_at mid x.annos ≡ qs
+pub shape_then : (old mid : StoreSpace) (x : StoredShape) (h : Head) (ps qs : List ℕ) → KeepsChains old mid → head_in mid.symbols.keys (shape_head x) ≡ h → list_in mid.chains (shape_parts x) ≡ ps → chain_at mid (shape_annos x) ≡ qs
     → shape_term mid x ≡ term h (map (term_of old) ps) (map (term_of old) qs)
 shape_then old mid x h ps qs keeps eh ep eq =
-    let parts : map (term_of mid) (list_in mid.chains x.parts) ≡ map (term_of old) ps = ap (map (term_of mid)) ep ∙ map_same (term_of mid) (term_of old) ps (λ k d within. keeps.terms _) in
-    let annos_ : map (term_of mid) (chain_at mid x.annos) ≡ map (term_of old) qs = ap (map (term_of mid)) eq ∙ map_same (term_of mid) (term_of old) qs (λ k d within. keeps.terms _) in
-    ap (λ g. term g (map (term_of mid) (list_in mid.chains x.parts)) (map (term_of mid) (chain_at mid x.annos))) eh ∙ (ap (λ ts. term h ts (map (term_of mid) (chain_at mid x.annos))) parts ∙ ap (λ ts. term h (map (term_of old) ps) ts) annos_)
+    let parts : map (term_of mid) (list_in mid.chains (shape_parts x)) ≡ map (term_of old) ps = ap (map (term_of mid)) ep ∙ map_same (term_of mid) (term_of old) ps (λ k d within. keeps.terms _) in
+    let annos_ : map (term_of mid) (chain_at mid (shape_annos x)) ≡ map (term_of old) qs = ap (map (term_of mid)) eq ∙ map_same (term_of mid) (term_of old) qs (λ k d within. keeps.terms _) in
+    ap (λ g. term g (map (term_of mid) (list_in mid.chains (shape_parts x))) (map (term_of mid) (chain_at mid (shape_annos x)))) eh ∙ (ap (λ ts. term h ts (map (term_of mid) (chain_at mid (shape_annos x)))) parts ∙ ap (λ ts. term h (map (term_of old) ps) ts) annos_)
 
-pub head_kept : (old mid : StoreSpace) (at : ℕ) (x : StoredShape) → KeepsChains old mid → IsShapeAt old at x → head_in mid.symbols.keys x.head ≡ head_of (term_of old at)
-head_kept old mid at x keeps is = ap (λ symbols. head_in symbols x.head) keeps.symbols ∙ sym (head_at old at x is)
+pub head_kept : (old mid : StoreSpace) (at : ℕ) (x : StoredShape) → KeepsChains old mid → IsShapeAt old at x → head_in mid.symbols.keys (shape_head x) ≡ head_of (term_of old at)
+head_kept old mid at x keeps is = ap (λ symbols. head_in symbols (shape_head x)) keeps.symbols ∙ sym (head_at old at x is)
 
 -- the term of a head, parts and annotations after a symbol came
 pub made_then : (old mid : StoreSpace) (g h : Head) (ps qs : List ℕ) → Keeps old mid → g ≡ h → Stand old ps → Stand old qs → term g (map (term_of mid) ps) (map (term_of mid) qs) ≡ term h (map (term_of old) ps) (map (term_of old) qs)
@@ -105,7 +107,7 @@ made_then old mid g h ps qs keeps e hp hq =
     ap (λ f. term f (map (term_of mid) ps) (map (term_of mid) qs)) e ∙ (ap (λ ts. term h ts (map (term_of mid) qs)) parts ∙ ap (λ ts. term h (map (term_of old) ps) ts) annos_)
 
 -- a list in front of which elements were put
-pub list_stands : (old mid : StoreSpace) (b : Block ℕ) (ps : List ℕ) → KeepsChains old mid → IsBlockIn mid.chains b ps → Stand old ps → MayStand mid (record { head = stored.List; parts = b; annos = 0 })
+pub list_stands : (old mid : StoreSpace) (b : Block ℕ) (ps : List ℕ) → KeepsChains old mid → IsBlockIn mid.chains b ps → Stand old ps → MayStand mid (forms.List 0 b)
 list_stands old mid b ps keeps block stand = record {
   head = refl;
   block = record { list = refl; rest = block.rest; whole = block.whole; none = block.none };
@@ -114,19 +116,19 @@ list_stands old mid b ps keeps block stand = record {
   bare = λ is. absurd (cc);
 }
 
-pub list_term : (old mid : StoreSpace) (b : Block ℕ) (ps : List ℕ) → KeepsChains old mid → IsBlockIn mid.chains b ps → shape_term mid (record { head = stored.List; parts = b; annos = 0 }) ≡ term heads.List (map (term_of old) ps) []
-list_term old mid b ps keeps block = shape_then old mid (record { head = stored.List; parts = b; annos = 0 }) heads.List ps [] keeps refl block.list mid.store.empty
+pub list_term : (old mid : StoreSpace) (b : Block ℕ) (ps : List ℕ) → KeepsChains old mid → IsBlockIn mid.chains b ps → shape_term mid (forms.List 0 b) ≡ term heads.List (map (term_of old) ps) []
+list_term old mid b ps keeps block = shape_then old mid (forms.List 0 b) heads.List ps [] keeps refl block.list mid.store.empty
 
-pub both_lists : (s : StoreSpace) (at : ℕ) (x : StoredShape) (xs : List ℕ) → IsShapeAt s at x → map (term_of s) (xs ++ list_in s.chains x.parts) ≡ map (term_of s) xs ++ parts_of (term_of s at)
-both_lists s at x xs is = map-append (term_of s) xs (list_in s.chains x.parts) ∙ ap (λ ts. map (term_of s) xs ++ ts) (sym (parts_at s at x is))
+pub both_lists : (s : StoreSpace) (at : ℕ) (x : StoredShape) (xs : List ℕ) → IsShapeAt s at x → map (term_of s) (xs ++ list_in s.chains (shape_parts x)) ≡ map (term_of s) xs ++ parts_of (term_of s at)
+both_lists s at x xs is = map-append (term_of s) xs (list_in s.chains (shape_parts x)) ∙ ap (λ ts. map (term_of s) xs ++ ts) (sym (parts_at s at x is))
 
 stand-append : (s : StoreSpace) (xs ys : List ℕ) → Stand s xs → Stand s ys → Stand s (xs ++ ys)
 stand-append s [] ys hx hy k d h = hy k d h
 stand-append s (x ∷ xs) ys hx hy zero d h = hx 0 d (omega arith)
 stand-append s (x ∷ xs) ys hx hy (suc k) d h = stand-append s xs ys (λ j e within. hx (suc j) e (omega (arith, within))) hy k d (omega (arith, h))
 
-pub both_stand : (s : StoreSpace) (at : ℕ) (x : StoredShape) (xs : List ℕ) → IsShapeAt s at x → Stand s xs → Stand s (xs ++ list_in s.chains x.parts)
-both_stand s at x xs is stand = stand-append s xs (list_in s.chains x.parts) stand is.may.parts
+pub both_stand : (s : StoreSpace) (at : ℕ) (x : StoredShape) (xs : List ℕ) → IsShapeAt s at x → Stand s xs → Stand s (xs ++ list_in s.chains (shape_parts x))
+both_stand s at x xs is stand = stand-append s xs (list_in s.chains (shape_parts x)) stand is.may.parts
 
 -- the elements after the first ones
 pub drop_stands : (s : StoreSpace) (n : ℕ) (xs : List ℕ) → Stand s xs → Stand s (drop n xs)
@@ -139,8 +141,8 @@ map-drop f zero xs = refl
 map-drop f (suc n) [] = refl
 map-drop f (suc n) (x ∷ xs) = map-drop f n xs
 
-pub dropped : (s : StoreSpace) (at n : ℕ) (x : StoredShape) → IsShapeAt s at x → map (term_of s) (drop n (list_in s.chains x.parts)) ≡ drop n (parts_of (term_of s at))
-dropped s at n x is = map-drop (term_of s) n (list_in s.chains x.parts) ∙ ap (drop n) (sym (parts_at s at x is))
+pub dropped : (s : StoreSpace) (at n : ℕ) (x : StoredShape) → IsShapeAt s at x → map (term_of s) (drop n (list_in s.chains (shape_parts x))) ≡ drop n (parts_of (term_of s at))
+dropped s at n x is = map-drop (term_of s) n (list_in s.chains (shape_parts x)) ∙ ap (drop n) (sym (parts_at s at x is))
 
 pub keeps_all : (s : StoreSpace) → KeepsChains s s
 keeps_all s = record { symbols = refl; named = refl; shapes = refl; more = omega arith; chains = λ j h. refl; terms = λ k. refl }

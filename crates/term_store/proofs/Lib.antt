@@ -6,6 +6,7 @@ pub mod SpaceLemmas
 pub mod ShapeLaws
 pub mod LendingLaws
 pub mod LawsOfSpace
+pub mod MadeShapes
 pub mod MakingLemmas
 pub mod SymbolLaws
 pub mod WalkLaws

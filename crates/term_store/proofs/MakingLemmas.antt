@@ -2,15 +2,17 @@
 use Rattle.std.proofs.Common.{◌≡◌, ℕ, suc, ◌+◌, ◌<◌, ◌≤◌, List, [], ◌∷◌, length, map, refl, ap, subst, arith}
 use Rattle.std.specs.Prelude.{min, max, Option, Some, None, MatchOption}
 use Rattle.term_model.specs.Limits.{max_weight, max_depth}
-use Rattle.term_model.specs.Term.{Tree, weights, trees_of, head_weight}
+use Rattle.term_model.specs.Term.{Tree, term, weights, trees_of, head_weight}
 use Rattle.term_model.specs.Blocks.{list_in}
 use Rattle.term_model.specs.declared.parts.Block.{Block}
 use Rattle.term_model.proofs.TermLemmas.{weight_positive}
+use Rattle.term_store.specs.Shapes.{shape_head, shape_parts, shape_annos}
 use Rattle.term_store.specs.Store.{head_in, IsShape, IsSize, IsSum, IsTotal}
 use Rattle.term_store.specs.Chains.{IsBlockIn, IsChainIn}
 use Rattle.term_store.specs.Space.{count, term_of, chain_at, shape_term, MayStand, KeepsChains, AreHeavy}
 use Rattle.term_store.proofs.PlainLemmas.{map_same}
 use Rattle.term_store.specs.declared.store.StoreSpace.{StoreSpace}
+use Rattle.term_store.specs.declared.stored.StoredHead.{StoredHead}
 use Rattle.term_store.specs.declared.stored.StoredShape.{StoredShape}
 use Rattle.term_store.specs.declared.stored.Span.{Span}
 use Rattle.term_store.proofs.StoreLemmas.{made_size}
@@ -38,18 +40,22 @@ shape_next s x last long may =
       annos = omega (arith, annos_, long);
       whole = may.block.whole;
       none = may.block.none;
-      places = record { parts = may.parts; annos = s.store.standing x.annos may.annos };
+      places = record { parts = may.parts; annos = s.store.standing (shape_annos x) may.annos };
       bare = may.bare;
     }
 
 -- the size of the term of a shape, by those of its parts and annotations
-pub shape_size : (s : StoreSpace) (x : StoredShape) (name weight_ depth_ last known : ℕ) (annos : Span) → name ≡ min (head_weight (head_in s.symbols.keys x.head)) (max_weight + 1)
-    → IsTotal (map (term_of s) (list_in s.chains x.parts)) weight_ depth_ → IsSum (map (term_of s) (chain_at s x.annos)) annos
+pub shape_size : (s : StoreSpace) (x : StoredShape) (h : StoredHead) (b : Block ℕ) (a name weight_ depth_ last known : ℕ) (annos : Span) → h ≡ shape_head x → b ≡ shape_parts x → a ≡ shape_annos x
+    → name ≡ min (head_weight (head_in s.symbols.keys h)) (max_weight + 1) → IsTotal (map (term_of s) (list_in s.chains b)) weight_ depth_ → IsSum (map (term_of s) (chain_at s a)) annos
     → 1 + (name + (weight_ + annos.weight)) ≤ max_weight → 1 + max depth_ annos.depth ≤ max_depth
     → IsSize (shape_term s x) (record { weight = 1 + (name + (weight_ + annos.weight)); depth = 1 + max depth_ annos.depth; chains = last; symbols = known })
-shape_size s x name weight_ depth_ last known annos named parts sum light flat =
-    made_size (head_in s.symbols.keys x.head) (map (term_of s) (list_in s.chains x.parts)) (map (term_of s) (chain_at s x.annos)) name weight_ depth_ annos.weight annos.depth last known
-    named parts.weight parts.depth sum.weight sum.depth light flat
+shape_size s x h b a name weight_ depth_ last known annos is_head is_block is_chain named parts sum light flat =
+    let sized : IsSize (term (head_in s.symbols.keys h) (map (term_of s) (list_in s.chains b)) (map (term_of s) (chain_at s a))) (record { weight = 1 + (name + (weight_ + annos.weight)); depth = 1 + max depth_ annos.depth; chains = last; symbols = known }) =
+    made_size (head_in s.symbols.keys h) (map (term_of s) (list_in s.chains b)) (map (term_of s) (chain_at s a)) name weight_ depth_ annos.weight annos.depth last known
+    named parts.weight parts.depth sum.weight sum.depth light flat in
+    let same : term (head_in s.symbols.keys h) (map (term_of s) (list_in s.chains b)) (map (term_of s) (chain_at s a)) ≡ shape_term s x =
+    λ i. term (head_in s.symbols.keys (is_head i)) (map (term_of s) (list_in s.chains (is_block i))) (map (term_of s) (chain_at s (is_chain i))) in
+    subst (λ t. IsSize t (record { weight = 1 + (name + (weight_ + annos.weight)); depth = 1 + max depth_ annos.depth; chains = last; symbols = known })) same sized
 
 -- places whose terms are too heavy together were so before chains came
 pub heavy_before : (old new : StoreSpace) (places : List ℕ) → KeepsChains old new → AreHeavy new places → AreHeavy old places

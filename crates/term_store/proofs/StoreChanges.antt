@@ -6,6 +6,7 @@ use Rattle.term_model.specs.Symbol.{Symbol}
 use Rattle.term_store.specs.Chains.{IsWhole}
 use Rattle.term_model.specs.Blocks.{front_list, list_in}
 use Rattle.term_store.specs.Plain.{term_at, IsPlain}
+use Rattle.term_store.specs.Shapes.{shape_head, shape_parts, shape_annos}
 use Rattle.term_store.specs.Store.{head_in, plain, plains, held, MayHave, IsShape, IsSize, IsSum, IsEntry, IsStore}
 use Rattle.term_store.specs.declared.stored.StoredShape.{StoredShape}
 use Rattle.term_store.specs.declared.stored.Extent.{Extent}
@@ -14,21 +15,21 @@ use Rattle.term_store.proofs.PlainLemmas.{map_same, term_at-take}
 use Rattle.term_store.proofs.StoreLemmas.{none_extent, length-plains, sum_kept, push_at}
 
 -- a shape is plainly the same among chains that agree as far as it names them
-pub plain_other : (symbols : List Symbol) (chains others : List (List ℕ)) (last : ℕ) (s : StoredShape) → ((j : ℕ) → j ≤ last → get_or others j [] ≡ get_or chains j []) → s.parts.rest ≤ last → s.annos ≤ last → plain symbols others s ≡ plain symbols chains s
+pub plain_other : (symbols : List Symbol) (chains others : List (List ℕ)) (last : ℕ) (s : StoredShape) → ((j : ℕ) → j ≤ last → get_or others j [] ≡ get_or chains j []) → (shape_parts s).rest ≤ last → shape_annos s ≤ last → plain symbols others s ≡ plain symbols chains s
 plain_other symbols chains others last s agree hr ha =
-    let parts : list_in others s.parts ≡ list_in chains s.parts = ap (λ l. front_list s.parts.front ++ l) (agree s.parts.rest hr) in
-    let annos_ : get_or others s.annos [] ≡ get_or chains s.annos [] = agree s.annos ha in
-    λ w. record { head = head_in symbols s.head; parts = parts w; annos = annos_ w }
+    let parts : list_in others (shape_parts s) ≡ list_in chains (shape_parts s) = ap (λ l. front_list (shape_parts s).front ++ l) (agree (shape_parts s).rest hr) in
+    let annos_ : get_or others (shape_annos s) [] ≡ get_or chains (shape_annos s) [] = agree (shape_annos s) ha in
+    λ w. record { head = head_in symbols (shape_head s); parts = parts w; annos = annos_ w }
 
 pub shape_other : (symbols : List Symbol) (chains others : List (List ℕ)) (k last : ℕ) (s : StoredShape) → ((j : ℕ) → j ≤ last → get_or others j [] ≡ get_or chains j []) → IsShape symbols chains k last s → IsShape symbols others k last s
 shape_other symbols chains others k last s agree is = record {
   head = is.head;
   rest = is.rest;
   annos = is.annos;
-  whole = subst IsWhole (sym (agree s.parts.rest is.rest)) is.whole;
+  whole = subst IsWhole (sym (agree (shape_parts s).rest is.rest)) is.whole;
   none = is.none;
   places = subst (IsPlain k) (sym (plain_other symbols chains others last s agree is.rest is.annos)) is.places;
-  bare = subst (MayHave s.head) (sym (ap (λ l. front_list s.parts.front ++ l) (agree s.parts.rest is.rest))) is.bare;
+  bare = subst (MayHave (shape_head s)) (sym (ap (λ l. front_list (shape_parts s).front ++ l) (agree (shape_parts s).rest is.rest))) is.bare;
 }
 
 -- the first shapes among chains that agree as far as they name them
@@ -53,8 +54,8 @@ module _ (symbols : List Symbol) (chains : List (List ℕ)) (shapes : List Store
       let is = store.entries k d none_extent (omega (arith, kn, within)) in
       let far : (get_or extents k none_extent).chains ≤ last = bound k none_extent kn in
       let same : get_or (take n shapes) k d ≡ get_or shapes k d = get_or-take n shapes k d kn in
-      let hr : (get_or shapes k d).parts.rest ≤ last = let r = is.shape.rest in omega (arith, r, far) in
-      let ha : (get_or shapes k d).annos ≤ last = let r = is.shape.annos in omega (arith, r, far) in
+      let hr : (shape_parts (get_or shapes k d)).rest ≤ last = let r = is.shape.rest in omega (arith, r, far) in
+      let ha : shape_annos (get_or shapes k d) ≤ last = let r = is.shape.annos in omega (arith, r, far) in
       subst (λ (x : StoredShape). plain symbols (take (last + 1) chains) x ≡ plain symbols chains x) (sym same) (plain_other symbols chains (take (last + 1) chains) last (get_or shapes k d) agree hr ha))
       ∙ sym (take-map (plain symbols chains) n shapes)
 

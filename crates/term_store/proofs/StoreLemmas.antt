@@ -1,5 +1,5 @@
 -- The terms that a store holds.
-use Rattle.std.proofs.Common.{Bool, true, false, if◌then◌else◌, ◌≡◌, ℕ, zero, suc, ◌+◌, ◌<◌, ◌≤◌, List, [], ◌∷◌, ◌++◌, length, map, get_or, refl, sym, ◌∙◌, ap, subst, All, arith, length-append, ◌⊎◌, inl, inr}
+use Rattle.std.proofs.Common.{rules, Bool, true, false, if◌then◌else◌, ◌≡◌, ℕ, zero, suc, ◌+◌, ◌<◌, ◌≤◌, List, [], ◌∷◌, ◌++◌, length, map, get_or, refl, sym, ◌∙◌, ap, subst, All, arith, length-append, ◌⊎◌, inl, inr}
 use Rattle.std.proofs.lemmas.Grind.{common_steps}
 use Rattle.std.proofs.lemmas.List.{map-append, get_or-map}
 use Rattle.std.proofs.Math.Seq.{get_or-append_seam}
@@ -12,13 +12,16 @@ use Rattle.std.specs.Prelude.{min, max, not}
 use Rattle.term_store.specs.Chains.{AreApart, IsWhole}
 use Rattle.term_model.specs.Blocks.{front_list, list_in}
 use Rattle.term_store.specs.Plain.{Plain, term_at, IsPlain, ArePlain}
+use Rattle.term_store.specs.Shapes.{empty_block, shape_head, shape_parts, shape_annos}
 use Rattle.term_store.specs.Store.{AreDistinct, head_in, plain, plains, held, IsAmong, IsShape, IsSize, IsSum, IsEntry, IsStore}
 use Rattle.term_model.specs.declared.parts.Front.{Front}
 use Rattle.term_model.specs.declared.parts.Front.TheVariants as fronts
 use Rattle.term_model.specs.declared.parts.Block.{Block}
 use Rattle.term_store.specs.declared.stored.StoredHead.{StoredHead}
 use Rattle.term_store.specs.declared.stored.StoredHead.TheVariants as stored
+use Rattle.term_store.specs.contracts.stored.StoredShapePartialEq.TheImpl as comparison
 use Rattle.term_store.specs.declared.stored.StoredShape.{StoredShape}
+use Rattle.term_store.specs.declared.stored.StoredShape.TheVariants as forms
 use Rattle.term_store.specs.declared.stored.Extent.{Extent}
 use Rattle.term_store.specs.declared.stored.Span.{Span}
 use Rattle.term_store.proofs.ChainLemmas.{front_same, some_list}
@@ -72,21 +75,45 @@ head_same symbols stored.List (stored.Int w) distinct ia ib e = cc
 head_same symbols stored.List (stored.Symbol n) distinct ia ib e = cc
 head_same symbols stored.List stored.List distinct ia ib e = refl
 
+-- two shapes with the same head, block and chain
+shape_same : (s t : StoredShape) → shape_head s ≡ shape_head t → shape_parts s ≡ shape_parts t → shape_annos s ≡ shape_annos t → s ≡ t
+shape_same (forms.Int a z) (forms.Int b w) h p e = cc
+shape_same (forms.Int a z) (forms.Applied b c n) h p e = cc
+shape_same (forms.Int a z) (forms.List b c) h p e = cc
+shape_same (forms.Applied a d m) (forms.Int b w) h p e = cc
+shape_same (forms.Applied a d m) (forms.Applied b c n) h p e = let same : m ≡ n = cc in λ i. forms.Applied (e i) (p i) (same i)
+shape_same (forms.Applied a d m) (forms.List b c) h p e = cc
+shape_same (forms.List a d) (forms.Int b w) h p e = cc
+shape_same (forms.List a d) (forms.Applied b c n) h p e = cc
+shape_same (forms.List a d) (forms.List b c) h p e = λ i. forms.List (e i) (p i)
+
+-- two shapes that the comparison finds the same are so
+pub shape_equal : (s t : StoredShape) → (comparison.ghosts).eq s t ≡ true → s ≡ t
+shape_equal (forms.Int a z) (forms.Int b w) e = search rules
+shape_equal (forms.Int a z) (forms.Applied b c n) e = cc
+shape_equal (forms.Int a z) (forms.List b c) e = cc
+shape_equal (forms.Applied a d m) (forms.Int b w) e = cc
+shape_equal (forms.Applied a d m) (forms.Applied b c n) e = search rules
+shape_equal (forms.Applied a d m) (forms.List b c) e = cc
+shape_equal (forms.List a d) (forms.Int b w) e = cc
+shape_equal (forms.List a d) (forms.Applied b c n) e = cc
+shape_equal (forms.List a d) (forms.List b c) e = search rules
+
 -- two shapes that are plainly the same
 pub plain_same : (symbols : List Symbol) (chains : List (List ℕ)) (k l last last2 : ℕ) (s t : StoredShape) → AreDistinct symbols → AreApart chains → get_or chains 0 [] ≡ []
     → last < length chains → last2 < length chains → IsShape symbols chains k last s → IsShape symbols chains l last2 t → plain symbols chains s ≡ plain symbols chains t → s ≡ t
 plain_same symbols chains k l last last2 s t distinct apart empty hl hl2 is it e =
-    let rs : s.parts.rest ≤ last = is.rest in
-    let rt : t.parts.rest ≤ last2 = it.rest in
-    let as_ : s.annos ≤ last = is.annos in
-    let at_ : t.annos ≤ last2 = it.annos in
-    let heads_ : s.head ≡ t.head = head_same symbols s.head t.head distinct is.head it.head (ap (λ (p : Plain). p.head) e) in
-    let parts : s.parts ≡ t.parts = block_same chains s.parts t.parts apart empty (omega arith) (omega arith) is.whole it.whole is.none it.none (ap (λ (p : Plain). p.parts) e) in
-    let annos_ : s.annos ≡ t.annos = apart s.annos t.annos (omega arith) (omega arith) (ap (λ (p : Plain). p.annos) e) in
-    λ w. record { head = heads_ w; parts = parts w; annos = annos_ w }
+    let rs : (shape_parts s).rest ≤ last = is.rest in
+    let rt : (shape_parts t).rest ≤ last2 = it.rest in
+    let as_ : shape_annos s ≤ last = is.annos in
+    let at_ : shape_annos t ≤ last2 = it.annos in
+    let heads_ : shape_head s ≡ shape_head t = head_same symbols (shape_head s) (shape_head t) distinct is.head it.head (ap (λ (p : Plain). p.head) e) in
+    let parts : shape_parts s ≡ shape_parts t = block_same chains (shape_parts s) (shape_parts t) apart empty (omega arith) (omega arith) is.whole it.whole is.none it.none (ap (λ (p : Plain). p.parts) e) in
+    let annos_ : shape_annos s ≡ shape_annos t = apart (shape_annos s) (shape_annos t) (omega arith) (omega arith) (ap (λ (p : Plain). p.annos) e) in
+    shape_same s t heads_ parts annos_
 
 pub none_shape : StoredShape
-none_shape = record { head = stored.List; parts = record { front = fronts.Zero; rest = 0 }; annos = 0 }
+none_shape = forms.List 0 empty_block
 
 pub none_extent : Extent
 none_extent = record { weight = 0; depth = 0; chains = 0; symbols = 0 }
@@ -143,7 +170,7 @@ plain_pushed ps p are is k d h = by (push_at ps p k h)
 
 -- the term of a shape that is put last
 pub held_new : (symbols : List Symbol) (chains : List (List ℕ)) (shapes : List StoredShape) (extents : List Extent) (spans : List Span) (last : ℕ) (s : StoredShape) → IsStore symbols chains shapes extents spans → IsShape symbols chains (length shapes) last s
-    → held symbols chains (shapes ++ s ∷ []) (length shapes) ≡ term (head_in symbols s.head) (map (held symbols chains shapes) (list_in chains s.parts)) (map (held symbols chains shapes) (get_or chains s.annos []))
+    → held symbols chains (shapes ++ s ∷ []) (length shapes) ≡ term (head_in symbols (shape_head s)) (map (held symbols chains shapes) (list_in chains (shape_parts s))) (map (held symbols chains shapes) (get_or chains (shape_annos s) []))
 held_new symbols chains shapes extents spans last s store is =
     let ps : List Plain = plains symbols chains shapes in
     let p : Plain = plain symbols chains s in
@@ -164,7 +191,7 @@ sum_kept f g xs sp same is = subst (λ ts. IsSum ts sp) (sym (map_same g f xs sa
 -- a store with one shape more
 pub store_push : (symbols : List Symbol) (chains : List (List ℕ)) (shapes : List StoredShape) (extents : List Extent) (spans : List Span) (s : StoredShape) (e : Extent) → IsStore symbols chains shapes extents spans
     → IsShape symbols chains (length shapes) e.chains s → e.chains + 1 ≡ length chains → e.symbols ≡ length symbols
-    → IsSize (term (head_in symbols s.head) (map (held symbols chains shapes) (list_in chains s.parts)) (map (held symbols chains shapes) (get_or chains s.annos []))) e
+    → IsSize (term (head_in symbols (shape_head s)) (map (held symbols chains shapes) (list_in chains (shape_parts s))) (map (held symbols chains shapes) (get_or chains (shape_annos s) []))) e
     → IsStore symbols chains (shapes ++ s ∷ []) (extents ++ e ∷ []) spans
 store_push symbols chains shapes extents spans s e store is last known size = record {
   as_many = let l = store.as_many in simp length-append (omega (arith, l));
@@ -202,7 +229,7 @@ store_push symbols chains shapes extents spans s e store is last known size = re
           shape = is;
           last = omega (arith, last);
           early = λ j h. store.standing j (omega (arith, last, h));
-          among = subst (λ n. IsAmong n s.head) (sym known) is.head;
+          among = subst (λ n. IsAmong n (shape_head s)) (sym known) is.head;
           known = omega (arith, known);
           size = subst (λ t. IsSize t e) (sym (held_new symbols chains shapes extents spans e.chains s store is)) size;
         } in
@@ -242,7 +269,7 @@ store_push symbols chains shapes extents spans s e store is last known size = re
 
 -- the term at a place, by the shape that stands there
 pub held_at : (symbols : List Symbol) (chains : List (List ℕ)) (shapes : List StoredShape) (extents : List Extent) (spans : List Span) (at : ℕ) (s : StoredShape) → IsStore symbols chains shapes extents spans → at < length shapes → get_or shapes at s ≡ s
-    → held symbols chains shapes at ≡ term (head_in symbols s.head) (map (held symbols chains shapes) (list_in chains s.parts)) (map (held symbols chains shapes) (get_or chains s.annos []))
+    → held symbols chains shapes at ≡ term (head_in symbols (shape_head s)) (map (held symbols chains shapes) (list_in chains (shape_parts s))) (map (held symbols chains shapes) (get_or chains (shape_annos s) []))
 held_at symbols chains shapes extents spans at s store within is =
     let ps : List Plain = plains symbols chains shapes in
     let p : Plain = plain symbols chains s in
@@ -253,11 +280,11 @@ held_at symbols chains shapes extents spans at s store within is =
 -- the term of a shape that was put last, by the terms before
 pub held_pushed : (symbols : List Symbol) (chains : List (List ℕ)) (shapes : List StoredShape) (extents others : List Extent) (spans : List Span) (at : ℕ) (s : StoredShape) → IsStore symbols chains (shapes ++ s ∷ []) others spans → IsPlain (length shapes) (plain symbols chains s)
     → at < length (shapes ++ s ∷ []) → get_or (shapes ++ s ∷ []) at s ≡ s
-    → held symbols chains (shapes ++ s ∷ []) at ≡ term (head_in symbols s.head) (map (held symbols chains shapes) (list_in chains s.parts)) (map (held symbols chains shapes) (get_or chains s.annos []))
+    → held symbols chains (shapes ++ s ∷ []) at ≡ term (head_in symbols (shape_head s)) (map (held symbols chains shapes) (list_in chains (shape_parts s))) (map (held symbols chains shapes) (get_or chains (shape_annos s) []))
 held_pushed symbols chains shapes extents others spans at s store places within is =
-    let parts : map (held symbols chains (shapes ++ s ∷ [])) (list_in chains s.parts) ≡ map (held symbols chains shapes) (list_in chains s.parts) = map_same _ _ (list_in chains s.parts) (λ j e inside. held_kept symbols chains shapes (s ∷ []) _ (places.parts j e inside)) in
-    let annos_ : map (held symbols chains (shapes ++ s ∷ [])) (get_or chains s.annos []) ≡ map (held symbols chains shapes) (get_or chains s.annos []) = map_same _ _ (get_or chains s.annos []) (λ j e inside. held_kept symbols chains shapes (s ∷ []) _ (places.annos j e inside)) in
-    held_at symbols chains (shapes ++ s ∷ []) others spans at s store within is ∙ (ap (λ ts. term (head_in symbols s.head) ts (map (held symbols chains (shapes ++ s ∷ [])) (get_or chains s.annos []))) parts ∙ ap (λ ts. term (head_in symbols s.head) (map (held symbols chains shapes) (list_in chains s.parts)) ts) annos_)
+    let parts : map (held symbols chains (shapes ++ s ∷ [])) (list_in chains (shape_parts s)) ≡ map (held symbols chains shapes) (list_in chains (shape_parts s)) = map_same _ _ (list_in chains (shape_parts s)) (λ j e inside. held_kept symbols chains shapes (s ∷ []) _ (places.parts j e inside)) in
+    let annos_ : map (held symbols chains (shapes ++ s ∷ [])) (get_or chains (shape_annos s) []) ≡ map (held symbols chains shapes) (get_or chains (shape_annos s) []) = map_same _ _ (get_or chains (shape_annos s) []) (λ j e inside. held_kept symbols chains shapes (s ∷ []) _ (places.annos j e inside)) in
+    held_at symbols chains (shapes ++ s ∷ []) others spans at s store within is ∙ (ap (λ ts. term (head_in symbols (shape_head s)) ts (map (held symbols chains (shapes ++ s ∷ [])) (get_or chains (shape_annos s) []))) parts ∙ ap (λ ts. term (head_in symbols (shape_head s)) (map (held symbols chains shapes) (list_in chains (shape_parts s))) ts) annos_)
 
 -- the keys after an insertion
 pub new_keys : {X : Type 0} (b added : Bool) (xs ks : List X) (x : X) → added ≡ not b → added ≡ true → ks ≡ (if b then xs else xs ++ x ∷ []) → ks ≡ xs ++ x ∷ []

@@ -7,6 +7,7 @@ use Rattle.term_model.specs.declared.term.Head.TheVariants as heads
 use Rattle.term_model.specs.Symbol.{Symbol, Tuple}
 use Rattle.term_model.specs.Blocks.{list_in}
 use Rattle.term_store.specs.Plain.{term_at, IsPlain}
+use Rattle.term_store.specs.Shapes.{shape_head, shape_parts, shape_annos}
 use Rattle.term_store.specs.Store.{head_in, plain, plains, held, IsAmong, IsShape, IsSize, IsStore, IsLast, AreNamed}
 use Rattle.term_store.specs.Space.{count, term_of}
 use Rattle.term_store.specs.declared.store.StoreSpace.{StoreSpace}
@@ -36,15 +37,15 @@ among_more few many (stored.Int z) le is = is
 among_more few many (stored.Symbol n) le is = let below : n < few = ltb-true n few is in grind (arith, below)
 among_more few many stored.List le is = is
 
-plain_among : (symbols others : List Symbol) (chains : List (List ℕ)) (count : ℕ) (s : StoredShape) → Agree symbols others count → IsAmong count s.head → plain others chains s ≡ plain symbols chains s
+plain_among : (symbols others : List Symbol) (chains : List (List ℕ)) (count : ℕ) (s : StoredShape) → Agree symbols others count → IsAmong count (shape_head s) → plain others chains s ≡ plain symbols chains s
 plain_among symbols others chains count s agree is =
-    let heads_ : head_in others s.head ≡ head_in symbols s.head = head_other symbols others count s.head agree is in
-    λ w. record { head = heads_ w; parts = list_in chains s.parts; annos = get_or chains s.annos [] }
+    let heads_ : head_in others (shape_head s) ≡ head_in symbols (shape_head s) = head_other symbols others count (shape_head s) agree is in
+    λ w. record { head = heads_ w; parts = list_in chains (shape_parts s); annos = get_or chains (shape_annos s) [] }
 
 -- a shape among symbols that agree as far as it names them
-shape_among : (symbols others : List Symbol) (chains : List (List ℕ)) (count k last : ℕ) (s : StoredShape) → Agree symbols others count → IsAmong count s.head → IsShape symbols chains k last s → IsShape others chains k last s
+shape_among : (symbols others : List Symbol) (chains : List (List ℕ)) (count k last : ℕ) (s : StoredShape) → Agree symbols others count → IsAmong count (shape_head s) → IsShape symbols chains k last s → IsShape others chains k last s
 shape_among symbols others chains count k last s agree among is = record {
-  head = among_more count (length others) s.head agree.long among;
+  head = among_more count (length others) (shape_head s) agree.long among;
   rest = is.rest;
   annos = is.annos;
   whole = is.whole;
@@ -56,8 +57,8 @@ shape_among symbols others chains count k last s agree among is = record {
 -- a store among symbols that agree as far as its extents say that its shapes name them
 module _ (symbols others : List Symbol) (chains : List (List ℕ)) (shapes : List StoredShape) (extents : List Extent) (spans : List Span) (store : IsStore symbols chains shapes extents spans) (count : ℕ)
     (bound : (k : ℕ) (e : Extent) → k < length shapes → (get_or extents k e).symbols ≤ count) (agree : Agree symbols others count) where
-  named_at : (k : ℕ) (d : StoredShape) → k < length shapes → IsAmong count (get_or shapes k d).head
-  named_at k d h = among_more (get_or extents k none_extent).symbols count (get_or shapes k d).head (bound k none_extent h) (store.entries k d none_extent h).among
+  named_at : (k : ℕ) (d : StoredShape) → k < length shapes → IsAmong count (shape_head (get_or shapes k d))
+  named_at k d h = among_more (get_or extents k none_extent).symbols count (shape_head (get_or shapes k d)) (bound k none_extent h) (store.entries k d none_extent h).among
 
   among_plains : plains others chains shapes ≡ plains symbols chains shapes
   among_plains = map_same (plain others chains) (plain symbols chains) shapes (λ k d h. plain_among symbols others chains count (get_or shapes k d) agree (named_at k d h))

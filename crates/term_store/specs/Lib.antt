@@ -1,6 +1,7 @@
 pub mod Chains
 pub mod Hashing
 pub mod Plain
+pub mod Shapes
 pub mod Store
 pub mod Space
 pub mod Entering

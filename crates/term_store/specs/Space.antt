@@ -8,6 +8,7 @@ use Rattle.term_model.specs.declared.made.Made.{Made}
 use Rattle.term_model.specs.declared.made.Made.TheVariants as made
 use Rattle.term_model.specs.declared.parts.Block.{Block}
 use Rattle.term_store.specs.Chains.{IsBlockIn}
+use Rattle.term_store.specs.Shapes.{shape_head, shape_parts, shape_annos}
 use Rattle.term_store.specs.Store.{held, head_in, IsAmong, MayHave}
 use Rattle.term_store.specs.declared.stored.StoredShape.{StoredShape}
 use Rattle.term_store.specs.declared.store.StoreSpace.{StoreSpace}
@@ -34,7 +35,7 @@ Stand s places = All (λ i. i < count s) places
 
 -- the term of a shape
 abbrev pub shape_term : StoreSpace → StoredShape → Tree
-shape_term s x = term (head_in s.symbols.keys x.head) (map (term_of s) (list_in s.chains x.parts)) (map (term_of s) (chain_at s x.annos))
+shape_term s x = term (head_in s.symbols.keys (shape_head x)) (map (term_of s) (list_in s.chains (shape_parts x))) (map (term_of s) (chain_at s (shape_annos x)))
 
 -- a block of standing places
 pub record IsBlockOver (s : StoreSpace) (b : Block ℕ) : Type 0 where
@@ -43,17 +44,17 @@ pub record IsBlockOver (s : StoreSpace) (b : Block ℕ) : Type 0 where
 
 -- a shape whose parts and annotations stand
 pub record MayStand (s : StoreSpace) (x : StoredShape) : Type 0 where
-  pub head : IsAmong (length s.symbols.keys) x.head
-  pub block : IsBlockIn s.chains x.parts (list_in s.chains x.parts)
-  pub parts : Stand s (list_in s.chains x.parts)
-  pub annos : x.annos < length s.chains
-  pub bare : MayHave x.head (list_in s.chains x.parts)
+  pub head : IsAmong (length s.symbols.keys) (shape_head x)
+  pub block : IsBlockIn s.chains (shape_parts x) (list_in s.chains (shape_parts x))
+  pub parts : Stand s (list_in s.chains (shape_parts x))
+  pub annos : shape_annos x < length s.chains
+  pub bare : MayHave (shape_head x) (list_in s.chains (shape_parts x))
 
 -- the shape at a place: its parts and annotations are before it
 pub record IsShapeAt (s : StoreSpace) (at : ℕ) (x : StoredShape) : Type 0 where
   pub may : MayStand s x
-  pub parts : All (λ i. i < at) (list_in s.chains x.parts)
-  pub annos : All (λ i. i < at) (chain_at s x.annos)
+  pub parts : All (λ i. i < at) (list_in s.chains (shape_parts x))
+  pub annos : All (λ i. i < at) (chain_at s (shape_annos x))
   pub term : term_of s at ≡ shape_term s x
   pub fits : Fits (term_of s at)
 

@@ -8,6 +8,7 @@ use Rattle.term_model.specs.Limits.{max_weight, max_depth}
 use Rattle.term_model.specs.Blocks.{front_list, list_in}
 use Rattle.term_store.specs.Chains.{IsWhole}
 use Rattle.term_store.specs.Plain.{Plain, IsPlain, term_at}
+use Rattle.term_store.specs.Shapes.{shape_head, shape_parts, shape_annos}
 use Rattle.term_store.specs.declared.stored.StoredHead.{StoredHead}
 use Rattle.term_store.specs.declared.stored.StoredHead.TheVariants as stored
 use Rattle.term_store.specs.declared.stored.StoredShape.{StoredShape}
@@ -25,7 +26,7 @@ head_in symbols stored.List = heads.List
 
 -- a shape with its lists in place of their numbers
 abbrev pub plain : List Symbol → List (List ℕ) → StoredShape → Plain
-plain symbols chains s = record { head = head_in symbols s.head; parts = list_in chains s.parts; annos = slice_index_or chains s.annos [] }
+plain symbols chains s = record { head = head_in symbols (shape_head s); parts = list_in chains (shape_parts s); annos = slice_index_or chains (shape_annos s) [] }
 
 abbrev pub plains : List Symbol → List (List ℕ) → List StoredShape → List Plain
 plains symbols chains shapes = map (plain symbols chains) shapes
@@ -55,13 +56,13 @@ MayHave h places = IsTrue (is_int h) → length places ≡ 0
 
 -- a shape that may stand at place k, where chains up to this number may be named
 pub record IsShape (symbols : List Symbol) (chains : List (List ℕ)) (k last : ℕ) (s : StoredShape) : Type 0 where
-  pub head : IsAmong (length symbols) s.head
-  pub rest : s.parts.rest ≤ last
-  pub annos : s.annos ≤ last
-  pub whole : IsWhole (slice_index_or chains s.parts.rest [])
-  pub none : length (front_list s.parts.front) ≡ 0 → s.parts.rest ≡ 0
+  pub head : IsAmong (length symbols) (shape_head s)
+  pub rest : (shape_parts s).rest ≤ last
+  pub annos : shape_annos s ≤ last
+  pub whole : IsWhole (slice_index_or chains (shape_parts s).rest [])
+  pub none : length (front_list (shape_parts s).front) ≡ 0 → (shape_parts s).rest ≡ 0
   pub places : IsPlain k (plain symbols chains s)
-  pub bare : MayHave s.head (list_in chains s.parts)
+  pub bare : MayHave (shape_head s) (list_in chains (shape_parts s))
 
 -- the size of a term that fits
 pub record IsSize (t : Tree) (e : Extent) : Type 0 where
@@ -82,7 +83,7 @@ pub record IsEntry (symbols : List Symbol) (chains : List (List ℕ)) (shapes : 
   pub shape : IsShape symbols chains k e.chains s
   pub last : e.chains < length chains
   pub early : (j : ℕ) → j ≤ e.chains → All (λ i. i < k) (slice_index_or chains j [])
-  pub among : IsAmong e.symbols s.head
+  pub among : IsAmong e.symbols (shape_head s)
   pub known : e.symbols ≤ length symbols
   pub size : IsSize (held symbols chains shapes k) e
 

@@ -47,10 +47,10 @@ impl StoreSpace {
             return Ok(copy);
         }
         let shape = self.shape_at(at);
-        let parts = self.leave_block(alloc, at, shape.parts, terms, stack)?;
-        let annos = self.chains.block(shape.annos);
+        let parts = self.leave_block(alloc, at, shape.parts(), terms, stack)?;
+        let annos = self.chains.block(shape.annos());
         let annos = self.leave_block(alloc, at, annos, terms, stack)?;
-        let head = self.head_out(shape.head)?;
+        let head = self.head_out(shape.head())?;
         let Made::Fits(term) = Term::new(alloc, head, parts, annos)? else {
             unreachable!()
         };

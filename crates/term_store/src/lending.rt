@@ -1,14 +1,15 @@
 // What the store lends: heads, and the places of blocks and chains.
 ghost use Rattle.std.specs.Prelude.{◌≡◌, ◌↔◌, ◌<◌, ℕ, length, map, IsTrue, Some};
-ghost use Rattle.term_model.specs.Blocks.{list_in};
+ghost use Rattle.term_model.specs.Blocks.{list_in, IsAt};
 ghost use Rattle.term_model.specs.Space.{IsTop};
 ghost use Rattle.term_model.specs.declared.term.Head.TheVariants as heads;
 ghost use Rattle.term_store.specs.Chains.{AreApart};
+ghost use Rattle.term_store.specs.Shapes.{shape_parts};
 ghost use Rattle.term_store.specs.Store.{head_in, IsAmong, AreDistinct};
 ghost use Rattle.term_store.specs.Space.{count, term_of, symbol_at, chain_at, Stand, IsBlockOver};
 
 use crate::store::StoreSpace;
-use crate::stored::StoredHead;
+use crate::stored::{StoredHead, StoredShape};
 use term_model::{Block, Parts, Top};
 
 impl StoreSpace {
@@ -26,11 +27,30 @@ impl StoreSpace {
         }
     }
 
-    // The places of a block, lent.
-    pub(crate) fn places<'a>(&'a self, block: &'a Block<u32>) -> Parts<'a, u32>
-        ensures { result ≡ list_in self.now.chains block.now }
+    // The places of the parts of a shape, lent.
+    pub(crate) fn places<'a>(&'a self, shape: &'a StoredShape) -> Parts<'a, u32>
+        ensures { result ≡ list_in self.now.chains (shape_parts shape.now) }
     {
-        Parts::of_block(block, self.chains.blocks())
+        match shape {
+            StoredShape::Int { .. } => Parts::of_slice(&[]),
+            StoredShape::Applied { parts, .. } | StoredShape::List { parts, .. } => {
+                Parts::of_block(parts, self.chains.blocks())
+            }
+        }
+    }
+
+    // The place of a part of a shape, lent. Most parts are among the first three of a block.
+    pub(crate) fn place_in<'a>(&'a self, shape: &'a StoredShape, index: usize) -> Option<&'a u32>
+        ensures { IsAt result (list_in self.now.chains (shape_parts shape.now)) index }
+    {
+        let block = match shape {
+            StoredShape::Int { .. } => return None,
+            StoredShape::Applied { parts, .. } | StoredShape::List { parts, .. } => parts,
+        };
+        if let Some(place) = block.front.get(index) {
+            return Some(place);
+        }
+        Parts::of_block(block, self.chains.blocks()).get(index)
     }
 
     // The places of a chain, lent.

@@ -7,19 +7,13 @@ ghost use Rattle.term_store.specs.Chains.{IsBlockIn, IsChainIn};
 ghost use Rattle.term_store.specs.Space.{count, term_of, shape_term, Stand, MayStand, IsBlockOver, Keeps, KeepsChains, IsMade, AreHeavy};
 
 use crate::store::StoreSpace;
-use crate::stored::{Extent, Span, StoredHead, StoredShape};
+use crate::stored::{EMPTY, Extent, Span, StoredHead, StoredShape};
 use std::alloc::AllocError;
 use term_model::term::{MAX_DEPTH, MAX_WEIGHT};
 use term_model::{Block, Front, Made};
 
 // The most shapes that there are.
 const MAX_SHAPES: usize = 4_294_967_295;
-
-// The block of no places.
-pub(crate) const EMPTY: Block<u32> = Block {
-    front: Front::Zero,
-    rest: 0,
-};
 
 impl StoreSpace {
     // The place of the term of this shape.
@@ -28,9 +22,9 @@ impl StoreSpace {
         ensures keeps { Keeps self.old self.new }
         ensures made { IfOk result (IsMade self.new (shape_term self.old shape)) }
     {
-        let symbol = self.symbol_weight(shape.head);
-        let parts = self.size_in(shape.parts);
-        let annos = self.span(shape.annos);
+        let symbol = self.symbol_weight(shape.head());
+        let parts = self.size_in(shape.parts());
+        let annos = self.span(shape.annos());
         let weight = 1 + (symbol + (parts.weight + annos.weight));
         let depth = 1 + parts.depth.max(annos.depth);
         if weight > MAX_WEIGHT || depth > MAX_DEPTH {
@@ -183,11 +177,7 @@ impl StoreSpace {
         let Some(chain) = self.chain_of(annos)? else {
             return Ok(Made::Oversize);
         };
-        let made = self.intern(StoredShape {
-            head,
-            parts: block,
-            annos: chain,
-        })?;
+        let made = self.intern(StoredShape::new(head, block, chain))?;
         Ok(made)
     }
 }

@@ -5,7 +5,6 @@ ghost use Rattle.term_model.specs.Space.{Keeps, Makes, MayHave};
 ghost use Rattle.term_store.specs.Space as stored;
 
 use crate::chains::Chains;
-use crate::making::EMPTY;
 use crate::store::StoreSpace;
 use crate::stored::{StoredHead, StoredShape};
 use indexmap::IndexSet;
@@ -72,16 +71,16 @@ impl TermSpace for StoreSpace {
     fn shape<'a>(&'a self, at: &'a u32) -> Shape<'a, u32> {
         let shape = self.shape_ref(*at);
         Shape {
-            head: self.top(shape.head),
-            parts: self.places(&shape.parts),
-            annos: self.chain_places(shape.annos),
+            head: self.top(shape.head()),
+            parts: self.places(shape),
+            annos: self.chain_places(shape.annos()),
         }
     }
 
     #[tactic(auto, using(crate::proofs::LawsOfSpace::reading))]
     fn head<'a>(&'a self, at: &'a u32) -> Top<'a> {
         let shape = self.shape_at(*at);
-        self.top(shape.head)
+        self.top(shape.head())
     }
 
     #[tactic(auto, using(crate::proofs::LawsOfSpace::reading))]
@@ -94,26 +93,25 @@ impl TermSpace for StoreSpace {
     }
 
     #[tactic(auto, using(crate::proofs::LawsOfSpace::reading))]
-    fn int_of(&self, at: &u32) -> Option<i32> {
-        match self.shape_at(*at).head {
-            StoredHead::Int(value) => Some(value),
-            StoredHead::Symbol(_) | StoredHead::List => None,
+    fn int_of(&self, at: &u32) -> Option<i64> {
+        match self.shape_at(*at) {
+            StoredShape::Int { value, .. } => Some(value),
+            StoredShape::Applied { .. } | StoredShape::List { .. } => None,
         }
     }
 
     #[tactic(auto, using(crate::proofs::LawsOfSpace::reading))]
     fn list_len(&self, at: &u32) -> Option<usize> {
-        let shape = self.shape_at(*at);
-        match shape.head {
-            StoredHead::List => Some(self.len_in(shape.parts)),
-            StoredHead::Int(_) | StoredHead::Symbol(_) => None,
+        match self.shape_at(*at) {
+            StoredShape::List { parts, .. } => Some(self.len_in(parts)),
+            StoredShape::Int { .. } | StoredShape::Applied { .. } => None,
         }
     }
 
     #[tactic(auto, using(crate::proofs::LawsOfSpace::reading))]
     fn is_app(&self, at: &u32, name: &u32, count: usize) -> bool {
-        let shape = self.shape_at(*at);
-        self.is_symbol(shape.head, *name) && self.len_in(shape.parts) == count
+        let shape = self.shape_ref(*at);
+        self.is_symbol(shape.head(), *name) && self.len_in(shape.parts()) == count
     }
 
     fn number(&self, name: &u32) -> usize {
@@ -123,31 +121,30 @@ impl TermSpace for StoreSpace {
     #[tactic(auto, using(crate::proofs::LawsOfSpace::reading))]
     fn root_number(&self, at: &u32) -> Option<usize> {
         let shape = self.shape_at(*at);
-        self.symbol_number(shape.head)
+        self.symbol_number(shape.head())
     }
 
     #[tactic(auto, using(crate::proofs::LawsOfSpace::reading))]
     fn count(&self, at: &u32) -> usize {
-        self.len_in(self.shape_at(*at).parts)
+        self.len_in(self.shape_at(*at).parts())
     }
 
     #[tactic(auto, using(crate::proofs::LawsOfSpace::reading))]
     fn part(&self, at: &u32, index: usize) -> Result<u32, AllocError> {
         let shape = self.shape_ref(*at);
-        let parts = self.places(&shape.parts);
-        Ok(*parts.get(index).unwrap())
+        Ok(*self.place_in(shape, index).unwrap())
     }
 
     #[tactic(auto, using(crate::proofs::LawsOfSpace::reading))]
     fn push_parts(&self, at: &u32, stack: &mut Vec<u32>) -> Result<(), AllocError> {
         let shape = self.shape_at(*at);
-        self.push_block(shape.parts, stack)
+        self.push_block(shape.parts(), stack)
     }
 
     #[tactic(auto, using(crate::proofs::LawsOfSpace::reading))]
     fn push_annos(&self, at: &u32, stack: &mut Vec<u32>) -> Result<(), AllocError> {
         let shape = self.shape_at(*at);
-        let annos = self.chains.block(shape.annos);
+        let annos = self.chains.block(shape.annos());
         self.push_block(annos, stack)
     }
 
@@ -158,7 +155,7 @@ impl TermSpace for StoreSpace {
     }
 
     #[tactic(auto, using(crate::proofs::LawsOfSpace::making))]
-    fn int(&mut self, alloc: Global, value: i32) -> Result<u32, AllocError> {
+    fn int(&mut self, alloc: Global, value: i64) -> Result<u32, AllocError> {
         let _ = alloc;
         let made = self.make_over(StoredHead::Int(value), &[], &[])?;
         match made {
@@ -188,26 +185,18 @@ impl TermSpace for StoreSpace {
     ) -> Result<Made<u32>, AllocError> {
         let _ = alloc;
         let shape = self.shape_at(*tail);
-        let Some(parts) = self.before(elements, shape.parts)? else {
+        let Some(parts) = self.before(elements, shape.parts())? else {
             return Ok(Made::Oversize);
         };
-        self.intern(StoredShape {
-            head: StoredHead::List,
-            parts,
-            annos: 0,
-        })
+        self.intern(StoredShape::List { annos: 0, parts })
     }
 
     #[tactic(auto, using(crate::proofs::LawsOfSpace::making))]
     fn rest(&mut self, alloc: Global, at: &u32, count: usize) -> Result<u32, AllocError> {
         let _ = alloc;
         let shape = self.shape_at(*at);
-        let parts = self.after(shape.parts, count);
-        let made = self.intern(StoredShape {
-            head: StoredHead::List,
-            parts,
-            annos: 0,
-        })?;
+        let parts = self.after(shape.parts(), count);
+        let made = self.intern(StoredShape::List { annos: 0, parts })?;
         match made {
             Made::Fits(place) => Ok(place),
             Made::Oversize => unreachable!(),
@@ -218,17 +207,13 @@ impl TermSpace for StoreSpace {
     fn rebuild(&mut self, alloc: Global, at: &u32, parts: &[u32]) -> Result<Made<u32>, AllocError> {
         let _ = alloc;
         let shape = self.shape_at(*at);
-        if self.are_same(shape.parts, parts) {
+        if self.are_same(shape.parts(), parts) {
             return Ok(Made::Fits(*at));
         }
         let Some(parts) = self.block_of(parts)? else {
             return Ok(Made::Oversize);
         };
-        self.intern(StoredShape {
-            head: shape.head,
-            parts,
-            annos: shape.annos,
-        })
+        self.intern(StoredShape::new(shape.head(), parts, shape.annos()))
     }
 
     #[tactic(auto, using(crate::proofs::LawsOfSpace::making))]
@@ -243,11 +228,7 @@ impl TermSpace for StoreSpace {
         let Some(annos) = self.chain_of(annos)? else {
             return Ok(Made::Oversize);
         };
-        self.intern(StoredShape {
-            head: shape.head,
-            parts: shape.parts,
-            annos,
-        })
+        self.intern(StoredShape::new(shape.head(), shape.parts(), annos))
     }
 
     #[tactic(auto, using(crate::proofs::LawsOfSpace::making))]

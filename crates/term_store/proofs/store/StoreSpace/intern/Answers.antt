@@ -6,7 +6,7 @@ use Rattle.term_store.specs.declared.stored.StoredShape.{StoredShape}
 use Rattle.term_store.specs.declared.stored.Extent.{Extent}
 use Rattle.term_store.specs.Space.{shape_term}
 use Rattle.term_store.specs.Store.{IsStore, IsShape, IsSize}
-use Rattle.term_store.proofs.StoreLemmas.{store_push, held_at, held_kept, held_pushed, new_keys, old_keys}
+use Rattle.term_store.proofs.StoreLemmas.{shape_equal, store_push, held_at, held_kept, held_pushed, new_keys, old_keys}
 use Rattle.term_store.proofs.MakingLemmas.{shape_next, shape_size}
 use Rattle.term_store.proofs.store.StoreSpace.intern.Goals as goal
 
@@ -27,12 +27,12 @@ returns-then-not-added-clause-made c =
     let keys : new ≡ s.shapes.keys = old_keys _ c.in_ok-at.added s.shapes.keys new shape c.in_ok-at.ensures.added (search rules) c.in_ok-at.ensures.keys in
     let stored = c.in_ok-at.ensures.stored in
     let equal = stored.2 in
-    let same : shape ≡ stored.0 = search rules in
+    let same : shape ≡ stored.0 = shape_equal shape stored.0 equal in
     let is : get_or new c.in_ok-at.at shape ≡ shape = get_or_from_slice_get new c.in_ok-at.at stored.0 shape stored.1 ∙ sym same in
     let within : c.in_ok-at.at < length new = c.in_ok-at.ensures.within in
     let flat : 1 + max c.size_in-parts.result.depth c.span-annos.result.depth ≤ max_depth = subst (λ d. 1 + d ≤ max_depth) c.max-depth.ensures c.if-depth-gt-MAX_DEPTH.false in
-    let size = shape_size s shape c.symbol_weight-symbol.result c.size_in-parts.result.weight c.size_in-parts.result.depth 0 0 c.span-annos.result
-    c.symbol_weight-symbol.ensures c.size_in-parts.ensures c.span-annos.ensures c.if-weight-gt-MAX_WEIGHT.false flat in
+    let size = shape_size s shape c.head.result c.parts.result c.annos.result c.symbol_weight-symbol.result c.size_in-parts.result.weight c.size_in-parts.result.depth 0 0 c.span-annos.result
+    c.head.ensures c.parts.ensures c.annos.ensures c.symbol_weight-symbol.ensures c.size_in-parts.ensures c.span-annos.ensures c.if-weight-gt-MAX_WEIGHT.false flat in
     (within, rw keys (held_at s.symbols.keys s.chains s.shapes.keys s.extents.items s.spans.items c.in_ok-at.at shape s.store (rw keys at within) (rw keys at is)), size.fits)
 
 pub invariant_of-self-2 : goal.invariant_of-self-2
@@ -47,8 +47,8 @@ invariant_of-self-2 c =
     let is : IsShape s.symbols.keys s.chains (length s.shapes.keys) c.len-chains.result shape = shape_next s shape c.len-chains.result long c.requires in
     let flat : 1 + max c.size_in-parts.result.depth c.span-annos.result.depth ≤ max_depth = subst (λ d. 1 + d ≤ max_depth) c.max-depth.ensures c.if-depth-gt-MAX_DEPTH.false in
     let size : IsSize (shape_term s shape) e = subst (λ d. IsSize (shape_term s shape) (record { weight = 1 + (c.symbol_weight-symbol.result + (c.size_in-parts.result.weight + c.span-annos.result.weight)); depth = 1 + d; chains = c.len-chains.result; symbols = c.len-symbols.result })) (sym c.max-depth.ensures)
-    (shape_size s shape c.symbol_weight-symbol.result c.size_in-parts.result.weight c.size_in-parts.result.depth c.len-chains.result c.len-symbols.result c.span-annos.result
-    c.symbol_weight-symbol.ensures c.size_in-parts.ensures c.span-annos.ensures c.if-weight-gt-MAX_WEIGHT.false flat) in
+    (shape_size s shape c.head.result c.parts.result c.annos.result c.symbol_weight-symbol.result c.size_in-parts.result.weight c.size_in-parts.result.depth c.len-chains.result c.len-symbols.result c.span-annos.result
+    c.head.ensures c.parts.ensures c.annos.ensures c.symbol_weight-symbol.ensures c.size_in-parts.ensures c.span-annos.ensures c.if-weight-gt-MAX_WEIGHT.false flat) in
     record { store = rw (keys, items) (store_push s.symbols.keys s.chains s.shapes.keys s.extents.items s.spans.items shape e s.store is long c.len-symbols.ensures.len size); within = s.within }
 
 pub returns-clause-keeps : goal.returns-clause-keeps
@@ -76,12 +76,12 @@ returns-clause-made c =
     let is : IsShape s.symbols.keys s.chains (length s.shapes.keys) c.len-chains.result shape = shape_next s shape c.len-chains.result long c.requires in
     let flat : 1 + max c.size_in-parts.result.depth c.span-annos.result.depth ≤ max_depth = subst (λ d. 1 + d ≤ max_depth) c.max-depth.ensures c.if-depth-gt-MAX_DEPTH.false in
     let size : IsSize (shape_term s shape) e = subst (λ d. IsSize (shape_term s shape) (record { weight = 1 + (c.symbol_weight-symbol.result + (c.size_in-parts.result.weight + c.span-annos.result.weight)); depth = 1 + d; chains = c.len-chains.result; symbols = c.len-symbols.result })) (sym c.max-depth.ensures)
-    (shape_size s shape c.symbol_weight-symbol.result c.size_in-parts.result.weight c.size_in-parts.result.depth c.len-chains.result c.len-symbols.result c.span-annos.result
-    c.symbol_weight-symbol.ensures c.size_in-parts.ensures c.span-annos.ensures c.if-weight-gt-MAX_WEIGHT.false flat) in
+    (shape_size s shape c.head.result c.parts.result c.annos.result c.symbol_weight-symbol.result c.size_in-parts.result.weight c.size_in-parts.result.depth c.len-chains.result c.len-symbols.result c.span-annos.result
+    c.head.ensures c.parts.ensures c.annos.ensures c.symbol_weight-symbol.ensures c.size_in-parts.ensures c.span-annos.ensures c.if-weight-gt-MAX_WEIGHT.false flat) in
     let pushed : IsStore s.symbols.keys s.chains (s.shapes.keys ++ shape ∷ []) (s.extents.items ++ e ∷ []) s.spans.items = store_push s.symbols.keys s.chains s.shapes.keys s.extents.items s.spans.items shape e s.store is long c.len-symbols.ensures.len size in
     let stored = c.in_ok-at.ensures.stored in
     let equal = stored.2 in
-    let same : shape ≡ stored.0 = search rules in
+    let same : shape ≡ stored.0 = shape_equal shape stored.0 equal in
     let there : get_or new c.in_ok-at.at shape ≡ shape = get_or_from_slice_get new c.in_ok-at.at stored.0 shape stored.1 ∙ sym same in
     let within : c.in_ok-at.at < length new = c.in_ok-at.ensures.within in
     (within, rw keys (held_pushed s.symbols.keys s.chains s.shapes.keys s.extents.items (s.extents.items ++ e ∷ []) s.spans.items c.in_ok-at.at shape pushed is.places (rw keys at within) (rw keys at there)), size.fits)
