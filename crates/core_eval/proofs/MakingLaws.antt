@@ -8,11 +8,12 @@ use Rattle.term_model.specs.declared.made.Made.{Made}
 use Rattle.term_model.specs.declared.made.Made.TheVariants as made
 use Rattle.term_model.specs.Term.{Tree, node, Trees, end, more, term, head_of, parts_of, annos_of, trees_of, fits, all_fit, made_of}
 use Rattle.term_model.proofs.TermLemmas.{trees_of-list_of}
-use Rattle.term_model.proofs.FitsLaws.{both, large_part, bare_large, made_large}
+use Rattle.term_model.specs.declared.term.Head.TheVariants as heads
+use Rattle.term_model.proofs.FitsLaws.{both, large_part, large_annotation, bare_large, made_large, made_is}
 use Rattle.core_lang.specs.declared.coordinate.Coordinate.{Coordinate}
 use Rattle.core_lang.specs.declared.program.CorePattern.{CorePattern}
 use Rattle.core_lang.specs.Environment.{Bindings}
-use Rattle.core_lang.specs.Building.{with_front, made_like, instance, instances, element_instances}
+use Rattle.core_lang.specs.Building.{with_front, made_like, made_with, instance, instances, element_instances}
 use Rattle.core_lang.specs.Program.{Pattern}
 use Rattle.core_lang.specs.Views.{pattern_of, patterns_of, elements_in}
 use Rattle.core_eval.specs.Instance.{AreMade, tree_like, tree_like_other, made_like_other, joined, both_terms}
@@ -146,3 +147,29 @@ module _ (place : Coordinate → Option ℕ) (e : Bindings) where
   elements_made (p ∷ ps) rest =
       ap (λ o. with_front (instance place (pattern_of p) e) o) (elements_made ps rest) ∙
       after_front (instance place (pattern_of p) e) (instances place (patterns_of ps) e) (element_instances place (elements_in [] rest) e)
+
+-- terms that are made are terms, whether or not each fits
+some_made : {vs : Option Trees} (k : Made (Vec Tree Global)) → AreMade vs (Some k) → (us : Trees) × (vs ≡ Some us)
+some_made (made.Fits ts) fact = (trees_of ts.items, fact.0)
+some_made made.Oversize fact = (fact.0, fact.1)
+
+same_trees : {us vs : Trees} → Some us ≡ Some vs → us ≡ vs
+same_trees e = cc
+
+-- the empty list with annotations, one of which does not fit
+pub holder_oversize : (us : Trees) {k : Made (Vec Tree Global)} → AreMade (Some us) (Some k) → k ≡ made.Oversize → made.Oversize ≡ made_of (node heads.List end us)
+holder_oversize us fact is =
+    let large = subst (λ z. AreMade (Some us) (Some z)) is fact in
+    sym (made_large (node heads.List end us) (large_annotation heads.List end us (ap all_fit (same_trees large.1) ∙ large.2)))
+
+like_holder : (o : Option Tree) (us : Trees) → made_like o (Some (node heads.List end us)) ≡ made_with o (Some us)
+like_holder None us = refl
+like_holder (Some (node h ts annos)) us = refl
+
+-- with the annotations of the empty list is with the terms that were made for it
+pub with_held : (o : Option Tree) (us : Option Trees) (k : Made (Vec Tree Global)) (r : Made Tree) → AreMade us (Some k) →
+    ((zs : Trees) → AreMade (Some zs) (Some k) → r ≡ made_of (node heads.List end zs)) → (v : Tree) → r ≡ made.Fits v → made_like o (Some v) ≡ made_with o us
+with_held o us k r fact holder v is =
+    let some = some_made k fact in
+    let held = made_is (node heads.List end some.0) v (sym (holder some.0 (subst (λ z. AreMade z (Some k)) some.1 fact)) ∙ is) in
+    ap (λ t. made_like o (Some t)) held.0 ∙ (like_holder o some.0 ∙ ap (λ v. made_with o v) (sym some.1))

@@ -2,7 +2,7 @@
 use Rattle.std.proofs.Common.{◌≡◌, ℕ, zero, suc, ◌<◌, ◌≤◌, Option, Some, None, List, [], ◌∷◌, length, map, drop, take, ◌-◌, get_or, refl, sym, ◌∙◌, ap, arith, subst}
 use Rattle.std.specs.Prelude.{Bool, true, false, if◌then◌else◌, nat_le}
 use Rattle.term_model.specs.declared.term.Head.TheVariants as heads
-use Rattle.term_model.specs.Term.{Tree, node, Trees, end, head_of, parts_of, term, list_of, trees_of, weight, weights, depth, depths, fits, Fits, made_of}
+use Rattle.term_model.specs.Term.{Tree, node, Trees, end, head_of, parts_of, annos_of, term, list_of, trees_of, weight, weights, depth, depths, fits, Fits, made_of}
 use Rattle.term_model.specs.Limits.{max_weight, max_depth}
 use Rattle.term_model.specs.declared.made.Made.{Made}
 use Rattle.term_model.specs.declared.made.Made.TheVariants as made
@@ -11,13 +11,14 @@ use Rattle.term_model.specs.Same.{same, same_head}
 use Rattle.core_lang.specs.Environment.{Bindings}
 use Rattle.core_lang.specs.declared.coordinate.Coordinate.{Coordinate}
 use Rattle.core_lang.specs.declared.program.CorePattern.{CorePattern}
-use Rattle.core_lang.specs.Program.{Pattern, applied, Patterns, list, Elements, no_elements}
+use Rattle.core_lang.specs.Program.{Pattern, applied, Patterns, list, annotated, Elements, no_elements}
 use Rattle.core_lang.specs.Tried.{put, put_at, and_then, tried, tried_all, tried_elements}
 use Rattle.core_lang.specs.Views.{pattern_of, patterns_of, elements_in}
 use Rattle.core_lang.proofs.PutLaws.{put_past, put_held}
 use Rattle.core_eval.specs.Matching.{Found, FirstFound}
 use Rattle.core_eval.specs.Frame.{IsPast}
 use Rattle.term_model.proofs.TermLemmas.{trees_of-list_of}
+use Rattle.term_model.proofs.FitsLaws.{bare_fits, fits-complete, made_fits}
 use Rattle.term_model.specs.Symbol.{Symbol}
 
 found_by_test : (b : Bool) (e : Bindings) (o : Option Bindings) → o ≡ (if b then Some e else None) → Found o b e
@@ -38,6 +39,35 @@ module _ (place : Coordinate → Option ℕ) where
       tried place p t e ≡ tried_all place ps (trees_of (parts_of t)) e
   same_symbol_tried p f ps t e test_is is test out =
       ap (λ q. tried place q t e) is ∙ (applied_tried f ps t e ∙ ap (λ b. if b then tried_all place ps (trees_of (parts_of t)) e else None) (sym test ∙ out))
+
+  -- a pattern of a term without its annotations, and those of these
+  annotated_tried : (p : Pattern Coordinate) (qs : Patterns Coordinate) (t : Tree) (e : Bindings) →
+      tried place (annotated p qs) t e ≡ and_then (tried place p (term (head_of t) (parts_of t) []) e) (λ f. tried_all place qs (trees_of (annos_of t)) f)
+  annotated_tried p qs (node h ts annos) e =
+      ap (λ us. and_then (tried place p (node h us end) e) (λ f. tried_all place qs annos f)) (sym (trees_of-list_of ts)) ∙
+      ap (λ us. and_then (tried place p (node h (trees_of (list_of ts)) end) e) (λ f. tried_all place qs us f)) (sym (trees_of-list_of annos))
+
+  stopped : (o : Option Bindings) (go : Bindings → Option Bindings) (test : Bool) (f : Bindings) → Found o test f → test ≡ false → and_then o go ≡ None
+  stopped o go true f h is = absurd (cc)
+  stopped o go false f h is = ap (λ r. and_then r go) h
+
+  gone_on : (o : Option Bindings) (go : Bindings → Option Bindings) (test : Bool) (f : Bindings) → Found o test f → test ≡ true → and_then o go ≡ go f
+  gone_on o go true f h is = ap (λ r. and_then r go) h
+  gone_on o go false f h is = absurd (cc)
+
+  pub annotated_fails : (q p : Pattern Coordinate) (qs : Patterns Coordinate) (t bare : Tree) (e f : Bindings) (test : Bool) → q ≡ annotated p qs → bare ≡ term (head_of t) (parts_of t) [] →
+      Found (tried place p bare e) test f → test ≡ false → tried place q t e ≡ None
+  annotated_fails q p qs t bare e f test is at first so =
+      ap (λ r. tried place r t e) is ∙
+      (annotated_tried p qs t e ∙ stopped _ (λ g. tried_all place qs (trees_of (annos_of t)) g) test f (subst (λ u. Found (tried place p u e) test f) at first) so)
+
+  pub annotated_goes_on : (q p : Pattern Coordinate) (qs : Patterns Coordinate) (t bare : Tree) (e f g : Bindings) (test rest_test : Bool) → q ≡ annotated p qs → bare ≡ term (head_of t) (parts_of t) [] →
+      Found (tried place p bare e) test f → test ≡ true → Found (tried_all place qs (trees_of (annos_of t)) f) rest_test g → Found (tried place q t e) rest_test g
+  annotated_goes_on q p qs t bare e f g test rest_test is at first so others =
+      subst (λ o. Found o rest_test g)
+      (sym (ap (λ r. tried place r t e) is ∙
+      (annotated_tried p qs t e ∙ gone_on _ (λ h. tried_all place qs (trees_of (annos_of t)) h) test f (subst (λ u. Found (tried place p u e) test f) at first) so)))
+      others
 
   -- several patterns
   no_rest : (o : Option Bindings) (go : Bindings → Option Bindings) → ((f : Bindings) → go f ≡ None) → and_then o go ≡ None
@@ -127,3 +157,14 @@ after_made t n m whole is large = no_oversize (fits (term heads.List (drop n (pa
 pub put_nowhere : (o : Option ℕ) (t : Tree) (e : Bindings) (n : ℕ) → IsPast o n → n ≡ length e → put_at o t e ≡ None
 put_nowhere None t e n h is = refl
 put_nowhere (Some i) t e n h is = put_past i t e (omega arith)
+
+-- what the bare term of a term is, and that it fits
+bare_again : (t : Tree) → Fits t → fits (term (head_of t) (parts_of t) []) ≡ true
+bare_again (node h ts annos) whole = ap (λ us. fits (node h us end)) (trees_of-list_of ts) ∙ bare_fits h ts annos (fits-complete (node h ts annos) whole)
+
+pub bare_made : (t : Tree) (annos : List Tree) (m : Made Tree) → Fits t → annos ≡ [] → m ≡ made_of (term (head_of t) (parts_of t) annos) → m ≡ made.Oversize → ⊥
+bare_made t annos m whole none is large =
+    let fitting = made_fits (term (head_of t) (parts_of t) []) (bare_again t whole) in
+    let same = ap (λ xs. made_of (term (head_of t) (parts_of t) xs)) none in
+    let wrong : made.Fits (term (head_of t) (parts_of t) []) ≡ made.Oversize = sym fitting ∙ (sym same ∙ (sym is ∙ large)) in
+    cc

@@ -75,7 +75,7 @@ fn numbers(alloc: Global, terms: &[Term]) -> Result<Option<Numbers>, AllocError>
 }
 
 // Returns the integer that the term is.
-fn number(t: &Term) -> Option<i32>
+fn number(t: &Term) -> Option<i64>
     ensures { result ≡ integer_of t.now }
 {
     match t.head() {
@@ -107,7 +107,7 @@ pub fn term_of(alloc: Global, value: &Flat) -> Result<Made<Term>, AllocError>
 }
 
 // Makes the integers.
-fn integers(alloc: Global, numbers: &[i32]) -> Result<Vec<Term>, AllocError>
+fn integers(alloc: Global, numbers: &[i64]) -> Result<Vec<Term>, AllocError>
     ensures { IfOk result (λ terms. trees_of terms.items ≡ flat.integers numbers.now) }
 {
     let mut terms = Vec::new(alloc);

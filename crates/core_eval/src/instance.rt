@@ -1,10 +1,10 @@
 // What a build makes of a pattern.
-ghost use Rattle.std.specs.Prelude.{◌≡◌, IfOk, []};
+ghost use Rattle.std.specs.Prelude.{◌≡◌, IfOk, [], Some, Option, false};
 ghost use Rattle.std.specs.Option.{option_map};
 ghost use Rattle.core_lang.specs.Building as building;
 ghost use Rattle.core_lang.specs.Resolved.{by_coordinates};
 ghost use Rattle.core_lang.specs.Views.{elements_in, pattern_of, patterns_of, rest_of};
-ghost use Rattle.term_model.specs.Term.{Trees, made_of};
+ghost use Rattle.term_model.specs.Term.{Trees, node, end, fits, made_of};
 ghost use Rattle.core_eval.specs.Frame.{environment_of};
 ghost use Rattle.core_eval.specs.Instance.{AreMade, made_like_other};
 
@@ -12,7 +12,7 @@ use crate::frame::{Frame, value};
 use crate::making::{application, integer, is_list, joined, keep, like_other, list};
 use core_lang::{Coordinate, CorePattern};
 use std::alloc::{AllocError, Global};
-use term_model::{Made, Term};
+use term_model::{Head, Made, Term};
 
 /// The instance of the pattern, with the annotations of another term if there is one in place of its own; none where
 /// a variable has no term, however large the rest.
@@ -54,7 +54,87 @@ pub fn instance(
             },
             None => Ok(None),
         },
+        CorePattern::Annotated(part, annotations) => {
+            let annos = instances(alloc, annotations.as_slice(), frame, places)?;
+            let made = annotated(alloc, part, annos, other, frame, places)?;
+            Ok(made)
+        }
     }
+}
+
+// Makes the instance of the pattern with these annotations, or with those of another term if there is one.
+#[cycle(instance)]
+fn annotated(
+    alloc: Global,
+    p: &CorePattern,
+    annos: Option<Made<Vec<Term>>>,
+    other: Option<&Term>,
+    frame: &Frame,
+    places: &[Option<Term>],
+) -> Result<Option<Made<Term>>, AllocError>
+    ensures { IfOk result (λ made. (us : Option Trees) → AreMade us annos → made ≡ option_map made_of (made_like_other (building.made_with (building.instance (by_coordinates.place_of (environment_of frame.now)) (pattern_of p.now) places.now) us) other.entry)) }
+{
+    let Some(annos) = annos else {
+        return Ok(None);
+    };
+    match other {
+        None => {
+            let made = with_annotations(alloc, p, annos, frame, places)?;
+            Ok(made)
+        }
+        Some(_) => {
+            let made = instance(alloc, p, other, frame, places)?;
+            Ok(made)
+        }
+    }
+}
+
+// Makes the instance of the pattern with these annotations.
+#[cycle(instance)]
+fn with_annotations(
+    alloc: Global,
+    p: &CorePattern,
+    annos: Made<Vec<Term>>,
+    frame: &Frame,
+    places: &[Option<Term>],
+) -> Result<Option<Made<Term>>, AllocError>
+    ensures { IfOk result (λ made. (us : Option Trees) → AreMade us (Some annos) → made ≡ option_map made_of (building.made_with (building.instance (by_coordinates.place_of (environment_of frame.now)) (pattern_of p.now) places.now) us)) }
+{
+    let Made::Fits(holder) = holder(alloc, annos)? else {
+        let made = too_large(alloc, p, frame, places)?;
+        return Ok(made);
+    };
+    let made = instance(alloc, p, Some(&holder), frame, places)?;
+    Ok(made)
+}
+
+// Makes a term with these annotations: the empty list.
+fn holder(alloc: Global, annos: Made<Vec<Term>>) -> Result<Made<Term>, AllocError>
+    ensures { IfOk result (λ made. (us : Trees) → AreMade (Some us) (Some annos) → made ≡ made_of (node Head.List end us)) }
+{
+    match annos {
+        Made::Fits(annos) => {
+            let made = Term::new(alloc, Head::List, Vec::new(alloc), annos)?;
+            Ok(made)
+        }
+        Made::Oversize => Ok(Made::Oversize),
+    }
+}
+
+// What the instance of the pattern is with annotations that are too large for any term.
+#[cycle(instance)]
+fn too_large(
+    alloc: Global,
+    p: &CorePattern,
+    frame: &Frame,
+    places: &[Option<Term>],
+) -> Result<Option<Made<Term>>, AllocError>
+    ensures { IfOk result (λ made. (us : Trees) → fits (node Head.List end us) ≡ false → made ≡ option_map made_of (building.made_with (building.instance (by_coordinates.place_of (environment_of frame.now)) (pattern_of p.now) places.now) (Some us))) }
+{
+    let Some(_) = instance(alloc, p, None, frame, places)? else {
+        return Ok(None);
+    };
+    Ok(Some(Made::Oversize))
 }
 
 // Makes the term of the variable, with the annotations of another term if there is one; none where it has no term.
@@ -130,6 +210,13 @@ fn elements(
             }
             None => Ok(None),
         },
+        CorePattern::Annotated(part, annotations) => {
+            let Some(_) = instances(alloc, annotations.as_slice(), frame, places)? else {
+                return Ok(None);
+            };
+            let made = elements(alloc, part, frame, places)?;
+            Ok(made)
+        }
         CorePattern::Anything => Ok(None),
         CorePattern::Alias(_, _) => Ok(None),
         CorePattern::Integer(_) => Ok(None),

@@ -63,7 +63,7 @@ fn node(
 }
 
 /// Makes the integer, with the annotations of another term if there is one.
-pub fn integer(alloc: Global, number: i32, other: Option<&Term>) -> Result<Made<Term>, AllocError>
+pub fn integer(alloc: Global, number: i64, other: Option<&Term>) -> Result<Made<Term>, AllocError>
     ensures { IfOk result (λ made. made ≡ made_of (tree_like_other (term (Head.Int number) [] []) other.entry)) }
 {
     node(alloc, Head::Int(number), Vec::new(alloc), other)

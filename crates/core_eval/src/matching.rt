@@ -53,6 +53,14 @@ pub fn matches(
             Ok(yes)
         }
         CorePattern::Like(_, _) => Ok(false),
+        CorePattern::Annotated(part, annotations) => {
+            let bare = bare(alloc, t)?;
+            if !matches(alloc, part, frame, &bare, places)? {
+                return Ok(false);
+            }
+            let yes = all_match(alloc, annotations.as_slice(), frame, t.annos(), places)?;
+            Ok(yes)
+        }
     }
 }
 
@@ -142,6 +150,17 @@ fn list_after(alloc: Global, t: &Term, from: usize) -> Result<Term, AllocError>
     }
 }
 
+// Returns the term without its annotations.
+fn bare(alloc: Global, t: &Term) -> Result<Term, AllocError>
+    ensures { IfOk result (λ made. made ≡ term (head_of t.now) (parts_of t.now) []) }
+{
+    t.fits();
+    match t.with_annos(alloc, Vec::new(alloc))? {
+        Made::Fits(made) => Ok(made),
+        Made::Oversize => unreachable!(),
+    }
+}
+
 // Gives the variable the term; where it has one, whether they are the same.
 fn bind_variable(
     x: Coordinate,
@@ -174,7 +193,7 @@ fn bind(places: &mut Vec<Option<Term>>, at: usize, t: &Term) -> Result<bool, All
     Ok(true)
 }
 
-fn is_integer(t: &Term, value: i32) -> bool
+fn is_integer(t: &Term, value: i64) -> bool
     ensures { result ≡ same_head (head_of t.now) (Head.Int value) }
 {
     match t.head() {

@@ -4,9 +4,9 @@ use Rattle.std.specs.Prelude.{Bool, true, false}
 use Rattle.term_model.specs.declared.term.Head.TheVariants as heads
 use Rattle.term_model.specs.Same.{same_head}
 use Rattle.term_model.specs.Symbol.{Symbol}
-use Rattle.term_model.specs.Term.{Tree, node, Trees, head_of, parts_of, trees_of}
+use Rattle.term_model.specs.Term.{Tree, node, Trees, head_of, parts_of, annos_of, trees_of}
 use Rattle.term_model.proofs.TermLemmas.{trees_of-list_of}
-use Rattle.core_lang.specs.Building.{applied_to, list_term, elements_of, made_like}
+use Rattle.core_lang.specs.Building.{applied_to, list_term, elements_of, made_like, made_with}
 
 -- the elements of what a pattern of the rest makes
 pub elements_of_list : (o : Option Trees) → elements_of (list_term o) ≡ o
@@ -45,3 +45,30 @@ pub no_elements_held : (t : Tree) (b : Bool) → b ≡ same_head (head_of t) hea
 no_elements_held (node heads.List ts annos) b h is = absurd (cc)
 no_elements_held (node (heads.Int z) ts annos) b h is = refl
 no_elements_held (node (heads.App f) ts annos) b h is = refl
+
+-- annotations in the place of others
+pub elements_with : (o : Option Tree) (us : Trees) → elements_of (made_with o (Some us)) ≡ elements_of o
+elements_with None us = refl
+elements_with (Some (node heads.List ts annos)) us = refl
+elements_with (Some (node (heads.Int z) ts annos)) us = refl
+elements_with (Some (node (heads.App f) ts annos)) us = refl
+
+pub with_none : (o : Option Tree) → made_with o None ≡ None
+with_none None = refl
+with_none (Some t) = refl
+
+pub elements_with_none : (o : Option Tree) → elements_of (made_with o None) ≡ None
+elements_with_none o = ap elements_of (with_none o)
+
+pub with_again : (o : Option Tree) (us vs : Trees) → made_with (made_with o (Some us)) (Some vs) ≡ made_with o (Some vs)
+with_again None us vs = refl
+with_again (Some (node h ts annos)) us vs = refl
+
+pub with_then_like : (o : Option Tree) (us : Trees) (v : Tree) → made_like (made_with o (Some us)) (Some v) ≡ made_like o (Some v)
+with_then_like None us v = refl
+with_then_like (Some (node h ts annos)) us (node g vs others) = refl
+
+-- the annotations of a variable's term are given like any others
+pub like_with : (o : Option Tree) (v : Tree) → made_like o (Some v) ≡ made_with o (Some (trees_of (annos_of v)))
+like_with None v = refl
+like_with (Some (node h ts annos)) (node g us others) = ap (λ xs. Some (node h ts xs)) (sym (trees_of-list_of others))

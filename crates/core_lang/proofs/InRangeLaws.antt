@@ -7,7 +7,7 @@ use Rattle.std.specs.Option.{option_or, option_map}
 use Rattle.std.specs.Cmp.{unsigned_Decides}
 use Rattle.core_lang.specs.declared.coordinate.Coordinate.{Coordinate}
 use Rattle.core_lang.specs.Program.{Pattern, Patterns, Elements, more_definitions, strategies_count, patterns_count}
-use Rattle.core_lang.specs.Resolution.{Scopes, nowhere, names, defined, here, one_layer_up, variable_coordinate, callee_coordinate, ResolvesPattern, to_anything, to_variable, to_alias, to_integer, to_applied, to_list, to_like, ResolvesPatterns, to_no_patterns, to_more_patterns, ResolvesElements, to_no_elements, to_the_rest, to_more_elements, Resolves, to_id, to_fail, to_seq, to_choice, to_match, to_build, to_scope, to_all, to_one, to_some, to_definitions, to_call, to_primitive, ResolvesStrategies, to_no_strategies, to_more_strategies, ResolvesDefinitions, to_no_definitions, to_more_definitions, ResolvesProgram}
+use Rattle.core_lang.specs.Resolution.{Scopes, nowhere, names, defined, here, one_layer_up, variable_coordinate, callee_coordinate, ResolvesPattern, to_anything, to_variable, to_alias, to_integer, to_applied, to_list, to_like, to_annotated, ResolvesPatterns, to_no_patterns, to_more_patterns, ResolvesElements, to_no_elements, to_the_rest, to_more_elements, Resolves, to_id, to_fail, to_seq, to_choice, to_match, to_build, to_scope, to_all, to_one, to_some, to_definitions, to_call, to_primitive, ResolvesStrategies, to_no_strategies, to_more_strategies, ResolvesDefinitions, to_no_definitions, to_more_definitions, ResolvesProgram}
 use Rattle.core_lang.specs.InRange.{Layers, no_layers, layer_of, layer_of_definitions, outside, IsDefinition, IsCallee, VariableInRange, PatternInRange, PatternsInRange, ElementsInRange, StrategyInRange, StrategiesInRange, DefinitionsInRange, InRange}
 use Rattle.core_lang.proofs.LookupLaws.{position_below, both}
 
@@ -76,6 +76,7 @@ module _ {S : Scopes} {L : Layers} (l : LayersOf S L) where
     pattern_there (to_applied rs) = patterns_there rs
     pattern_there (to_list rs) = elements_there rs
     pattern_there (to_like {x = x} {y = y} r is) = (pattern_there r, variable_there l x y is)
+    pattern_there (to_annotated r rs) = (pattern_there r, patterns_there rs)
 
     patterns_there : {ps : Patterns Name} {qs : Patterns Coordinate} → ResolvesPatterns S ps qs → PatternsInRange L qs
     patterns_there to_no_patterns = tt

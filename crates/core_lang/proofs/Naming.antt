@@ -3,7 +3,7 @@ use Rattle.std.specs.Prelude.{ℕ, zero, suc, ◌+◌, List, [], ◌∷◌}
 use Rattle.core_lang.specs.Named.{NamedStrategy, NamedStrategies, NamedDefinitions, Name}
 use Rattle.core_lang.specs.Resolved.{ResolvedStrategy, ResolvedStrategies, ResolvedDefinitions}
 use Rattle.core_lang.specs.declared.coordinate.Coordinate.{Coordinate}
-use Rattle.core_lang.specs.Program.{Pattern, anything, variable, alias, integer, applied, list, like, Patterns, no_patterns, more_patterns, Elements, no_elements, the_rest, more_elements, id, fail, seq, choice, match, build, scope, all, one, some, with_definitions, call, primitive, no_strategies, more_strategies, no_definitions, more_definitions}
+use Rattle.core_lang.specs.Program.{Pattern, anything, variable, alias, integer, applied, list, like, annotated, Patterns, no_patterns, more_patterns, Elements, no_elements, the_rest, more_elements, id, fail, seq, choice, match, build, scope, all, one, some, with_definitions, call, primitive, no_strategies, more_strategies, no_definitions, more_definitions}
 use Rattle.core_lang.specs.Resolution.{Scopes, nowhere, names, defined}
 use Rattle.core_lang.specs.InRange.{Layers, no_layers, layer_of, layer_of_definitions, outside}
 
@@ -37,6 +37,7 @@ module _ (named : ℕ → Name) where
     pattern_named L (applied f ps) = applied f (patterns_named L ps)
     pattern_named L (list ps) = list (elements_named L ps)
     pattern_named L (like p y) = like (pattern_named L p) (name_of L y)
+    pattern_named L (annotated p qs) = annotated (pattern_named L p) (patterns_named L qs)
 
     pub patterns_named : Layers → Patterns Coordinate → Patterns Name
     patterns_named L no_patterns = no_patterns

@@ -8,8 +8,8 @@ use Rattle.std.specs.Cmp.{unsigned_Decides}
 use Rattle.std.proofs.lemmas.Bool.Decides.{nat_tests}
 use Rattle.std.proofs.lemmas.Slice.Eq.{bytes_eq-Decides}
 use Rattle.core_lang.specs.declared.coordinate.Coordinate.{Coordinate}
-use Rattle.core_lang.specs.Program.{Pattern, anything, variable, alias, integer, applied, list, like, Patterns, no_patterns, more_patterns, Elements, no_elements, the_rest, more_elements, id, fail, seq, choice, match, build, scope, all, one, some, with_definitions, call, primitive, no_strategies, more_strategies, no_definitions, more_definitions, strategies_count, patterns_count}
-use Rattle.core_lang.specs.Resolution.{here, one_layer_up, variable_coordinate, callee_coordinate, ResolvesPattern, to_anything, to_variable, to_alias, to_integer, to_applied, to_list, to_like, ResolvesPatterns, to_no_patterns, to_more_patterns, ResolvesElements, to_no_elements, to_the_rest, to_more_elements, Resolves, to_id, to_fail, to_seq, to_choice, to_match, to_build, to_scope, to_all, to_one, to_some, to_definitions, to_call, to_primitive, ResolvesStrategies, to_no_strategies, to_more_strategies, ResolvesDefinitions, to_no_definitions, to_more_definitions, ResolvesProgram}
+use Rattle.core_lang.specs.Program.{Pattern, anything, variable, alias, integer, applied, list, like, annotated, Patterns, no_patterns, more_patterns, Elements, no_elements, the_rest, more_elements, id, fail, seq, choice, match, build, scope, all, one, some, with_definitions, call, primitive, no_strategies, more_strategies, no_definitions, more_definitions, strategies_count, patterns_count}
+use Rattle.core_lang.specs.Resolution.{here, one_layer_up, variable_coordinate, callee_coordinate, ResolvesPattern, to_anything, to_variable, to_alias, to_integer, to_applied, to_list, to_like, to_annotated, ResolvesPatterns, to_no_patterns, to_more_patterns, ResolvesElements, to_no_elements, to_the_rest, to_more_elements, Resolves, to_id, to_fail, to_seq, to_choice, to_match, to_build, to_scope, to_all, to_one, to_some, to_definitions, to_call, to_primitive, ResolvesStrategies, to_no_strategies, to_more_strategies, ResolvesDefinitions, to_no_definitions, to_more_definitions, ResolvesProgram}
 use Rattle.core_lang.specs.InRange.{Layers, no_layers, layer_of, layer_of_definitions, outside, IsVariable, IsDefinition, IsCallee, PatternInRange, PatternsInRange, ElementsInRange, StrategyInRange, StrategiesInRange, DefinitionsInRange, InRange}
 use Rattle.core_lang.proofs.Naming.{definitions_count, free, names_from, name_of, pattern_named, patterns_named, elements_named, strategy_named, strategies_named, definitions_named, scopes_named}
 
@@ -135,6 +135,7 @@ module _ (named : ℕ → Name) (own : (a b : ℕ) → same_name (named a) (name
     pattern_resolved L (applied f ps) r = to_applied (patterns_resolved L ps r)
     pattern_resolved L (list ps) r = to_list (elements_resolved L ps r)
     pattern_resolved L (like p y) r = to_like (pattern_resolved L p r.0) (variable_found L y.layers_up y.slot r.1)
+    pattern_resolved L (annotated p qs) r = to_annotated (pattern_resolved L p r.0) (patterns_resolved L qs r.1)
 
     patterns_resolved : (L : Layers) (ps : Patterns Coordinate) → PatternsInRange L ps → ResolvesPatterns (scopes_named named L) (patterns_named named L ps) ps
     patterns_resolved L no_patterns r = to_no_patterns

@@ -5,10 +5,10 @@ use Rattle.term_model.specs.declared.term.Head.TheVariants as heads
 use Rattle.core_lang.specs.Program.{Pattern, Patterns, Elements}
 use Rattle.core_lang.specs.Environment.{Bindings}
 use Rattle.core_lang.specs.Matching.{HasValue, Conforms, ConformAll, ConformElements, IsPlaceIn, IsPlaceInAny, IsPlaceInElements, Matches}
-use Rattle.core_lang.specs.Building.{value_in, with_front, applied_to, list_term, elements_of, made_like, instance, instances, element_instances}
+use Rattle.core_lang.specs.Building.{value_in, with_front, applied_to, list_term, elements_of, made_like, made_with, instance, instances, element_instances}
 use Rattle.core_lang.specs.Named.{Name}
 use Rattle.core_lang.specs.declared.coordinate.Coordinate.{Coordinate}
-use Rattle.core_lang.specs.Resolution.{Scopes, variable_coordinate, ResolvesPattern, to_anything, to_variable, to_alias, to_integer, to_applied, to_list, to_like, ResolvesPatterns, to_no_patterns, to_more_patterns, ResolvesElements, to_no_elements, to_the_rest, to_more_elements}
+use Rattle.core_lang.specs.Resolution.{Scopes, variable_coordinate, ResolvesPattern, to_anything, to_variable, to_alias, to_integer, to_applied, to_list, to_like, to_annotated, ResolvesPatterns, to_no_patterns, to_more_patterns, ResolvesElements, to_no_elements, to_the_rest, to_more_elements}
 
 module _ (S : Scopes) (P : Name → Option ℕ) (Q : Coordinate → Option ℕ) (same : (x : Name) (y : Coordinate) → variable_coordinate S x ≡ Some y → P x ≡ Q y) where
   value_to : (x : Name) (y : Coordinate) → variable_coordinate S x ≡ Some y → (e : Bindings) (t : Tree) → HasValue P x e t → HasValue Q y e t
@@ -23,6 +23,7 @@ module _ (S : Scopes) (P : Name → Option ℕ) (Q : Coordinate → Option ℕ) 
     conforms_to (to_applied rs) e (node h ts annos) c = (c.0, all_conform_to rs e ts c.1)
     conforms_to (to_list rs) e (node h ts annos) c = (c.0, elements_conform_to rs e ts c.1)
     conforms_to (to_like r is) e t c = absurd c
+    conforms_to (to_annotated r rs) e (node h ts annos) c = (conforms_to r e (node h ts end) c.0, all_conform_to rs e annos c.1)
 
     all_conform_to : {ps : Patterns Name} {qs : Patterns Coordinate} → ResolvesPatterns S ps qs → (e : Bindings) (ts : Trees) → ConformAll P ps e ts → ConformAll Q qs e ts
     all_conform_to to_no_patterns e ts c = c
@@ -45,6 +46,8 @@ module _ (S : Scopes) (P : Name → Option ℕ) (Q : Coordinate → Option ℕ) 
     place_to (to_applied rs) i h = place_in_any_to rs i h
     place_to (to_list rs) i h = place_in_elements_to rs i h
     place_to (to_like r is) i h = absurd h
+    place_to (to_annotated r rs) i (inl h) = inl (place_to r i h)
+    place_to (to_annotated r rs) i (inr h) = inr (place_in_any_to rs i h)
 
     place_in_any_to : {ps : Patterns Name} {qs : Patterns Coordinate} → ResolvesPatterns S ps qs → (i : ℕ) → IsPlaceInAny P ps i → IsPlaceInAny Q qs i
     place_in_any_to to_no_patterns i h = absurd h
@@ -77,6 +80,7 @@ module _ (S : Scopes) (P : Name → Option ℕ) (Q : Coordinate → Option ℕ) 
     conforms_from (to_applied rs) e (node h ts annos) c = (c.0, all_conform_from rs e ts c.1)
     conforms_from (to_list rs) e (node h ts annos) c = (c.0, elements_conform_from rs e ts c.1)
     conforms_from (to_like r is) e t c = absurd c
+    conforms_from (to_annotated r rs) e (node h ts annos) c = (conforms_from r e (node h ts end) c.0, all_conform_from rs e annos c.1)
 
     all_conform_from : {ps : Patterns Name} {qs : Patterns Coordinate} → ResolvesPatterns S ps qs → (e : Bindings) (ts : Trees) → ConformAll Q qs e ts → ConformAll P ps e ts
     all_conform_from to_no_patterns e ts c = c
@@ -99,6 +103,8 @@ module _ (S : Scopes) (P : Name → Option ℕ) (Q : Coordinate → Option ℕ) 
     place_from (to_applied rs) i h = place_in_any_from rs i h
     place_from (to_list rs) i h = place_in_elements_from rs i h
     place_from (to_like r is) i h = absurd h
+    place_from (to_annotated r rs) i (inl h) = inl (place_from r i h)
+    place_from (to_annotated r rs) i (inr h) = inr (place_in_any_from rs i h)
 
     place_in_any_from : {ps : Patterns Name} {qs : Patterns Coordinate} → ResolvesPatterns S ps qs → (i : ℕ) → IsPlaceInAny Q qs i → IsPlaceInAny P ps i
     place_in_any_from to_no_patterns i h = absurd h
@@ -128,6 +134,7 @@ module _ (S : Scopes) (P : Name → Option ℕ) (Q : Coordinate → Option ℕ) 
     instance_same (to_applied {f = f} rs) e = ap (λ v. applied_to v f) (instances_same rs e)
     instance_same (to_list rs) e = ap (λ v. list_term v) (element_instances_same rs e)
     instance_same (to_like {x = x} {y = y} r is) e = ap₂ made_like (instance_same r e) (ap (λ v. value_in v e) (same x y is))
+    instance_same (to_annotated r rs) e = ap₂ made_with (instance_same r e) (instances_same rs e)
 
     pub instances_same : {ps : Patterns Name} {qs : Patterns Coordinate} → ResolvesPatterns S ps qs → (e : Bindings) → instances P ps e ≡ instances Q qs e
     instances_same to_no_patterns e = refl

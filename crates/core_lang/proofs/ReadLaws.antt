@@ -14,7 +14,7 @@ use Rattle.core_lang.specs.declared.program.CoreStrategy.TheVariants as strategi
 use Rattle.core_lang.specs.declared.program.CoreStrategy.TheOpen as forms
 use Rattle.core_lang.specs.declared.program.CoreStrategy.TheFolds.{fold-roll-CoreStrategy, fold_out-CoreArm, fold_out-CoreDef, map-CoreStrategy}
 use Rattle.core_lang.specs.declared.program.CoreStrategy.TheViews.{roll-CoreStrategy, out-CoreArm, out-CoreDef}
-use Rattle.core_lang.specs.Program.{Pattern, anything, variable, alias, integer, applied, list, like, Strategy, id, fail, seq, choice, match, build, scope, all, one, some, with_definitions, call, primitive}
+use Rattle.core_lang.specs.Program.{Pattern, anything, variable, alias, integer, applied, list, like, annotated, Strategy, id, fail, seq, choice, match, build, scope, all, one, some, with_definitions, call, primitive}
 use Rattle.core_lang.specs.Views.{pattern_of, pattern_step, patterns_of, elements_in, rest_of, chain, Arm, first_of, strategy_of, strategies_of, strategy_step, arm_of, arm_step, Def, def_of, def_step, definitions_of}
 
 pattern_roll : (x : pattern_forms.CorePattern-F CorePattern) → pattern_of (roll-CorePattern x) ≡ pattern_step (map-CorePattern CorePattern (Pattern Coordinate) pattern_of x)
@@ -41,6 +41,9 @@ reads_list ps (Some p) = ap pattern_of (sym (patterns.rolls-List ps (Some p))) �
 
 pub reads_like : (p : Box CorePattern Global) (x : Coordinate) → pattern_of (patterns.Like p x) ≡ like (pattern_of p.value) x
 reads_like p x = ap pattern_of (sym (patterns.rolls-Like p x)) ∙ pattern_roll (pattern_forms.Like p x)
+
+pub reads_annotated : (p : Box CorePattern Global) (qs : Vec CorePattern Global) → pattern_of (patterns.Annotated p qs) ≡ annotated (pattern_of p.value) (patterns_of qs.items)
+reads_annotated p qs = ap pattern_of (sym (patterns.rolls-Annotated p qs)) ∙ pattern_roll (pattern_forms.Annotated p qs)
 
 strategy_roll : (x : forms.CoreStrategy-F CoreStrategy CoreArm CoreDef) →
     strategy_of (roll-CoreStrategy x) ≡ strategy_step (map-CoreStrategy CoreStrategy CoreArm CoreDef (Strategy Coordinate ℕ) Arm Def strategy_of arm_of def_of x)

@@ -1,18 +1,19 @@
 -- A pattern that asks for another root than a term has does not match it, and what begins with it fails.
-use Rattle.std.proofs.Common.{◌≡◌, ℕ, ◌+◌, ◌<◌, ◌⊎◌, inl, inr, Option, Some, None, refl, ap, arith}
+use Rattle.std.proofs.Common.{◌≡◌, ℕ, ◌+◌, ◌<◌, ◌⊎◌, inl, inr, Option, Some, None, refl, sym, ◌∙◌, ap, arith}
 use Rattle.std.specs.Prelude.{Bool, true, false, ◌&&◌, if◌then◌else◌}
+use Rattle.term_model.specs.declared.term.Head.{Head}
 use Rattle.term_model.specs.declared.term.Head.TheVariants as heads
 use Rattle.term_model.specs.Term.{Tree, node, Trees, end, more}
 use Rattle.term_model.specs.Same.{same_head}
 use Rattle.term_model.specs.Flat.{Meaning}
-use Rattle.core_lang.specs.Program.{Pattern, anything, variable, alias, integer, applied, list, like, Patterns, no_patterns, more_patterns, Elements, no_elements, the_rest, more_elements, Strategy}
+use Rattle.core_lang.specs.Program.{Pattern, anything, variable, alias, integer, applied, list, like, annotated, Patterns, no_patterns, more_patterns, Elements, no_elements, the_rest, more_elements, Strategy}
 use Rattle.core_lang.specs.Environment.{Environment, Bindings, Reading}
 use Rattle.core_lang.specs.Matching.{Matches}
 use Rattle.core_lang.specs.Ending.{failed}
 use Rattle.core_lang.specs.Derivation.{Derives, by_seq_stop, by_no_match, by_scope}
 use Rattle.core_lang.specs.Settled.{Verdict, ends, spent, Settled, settled, unsettled}
 use Rattle.core_lang.specs.Going.{Goes}
-use Rattle.core_lang.specs.Roots.{Root, are_many, has_root, count_of_patterns, count_of_elements, is_open, root_of, Begins, begins_match, begins_seq, begins_scope}
+use Rattle.core_lang.specs.Roots.{Root, any_root, integer_root, symbol_root, list_root, are_many, has_root, count_of_patterns, count_of_elements, is_open, root_of, Begins, begins_match, begins_seq, begins_scope}
 use Rattle.core_lang.specs.Tried.{and_then, put_at, tried, tried_all, tried_elements}
 use Rattle.core_lang.proofs.TriedLaws.{tried_none}
 use Rattle.core_lang.proofs.Unique.{unique}
@@ -25,6 +26,17 @@ then_none (Some e) go h = h e
 both_none : (a b : Bool) (o : Option Bindings) → (a && b) ≡ false → (b ≡ false → o ≡ None) → (if a then o else None) ≡ None
 both_none true b o h k = k h
 both_none false b o h k = refl
+
+-- annotations do not matter to a root
+bare_root : (r : Root) (h : Head) (ts annos : Trees) → has_root r (node h ts annos) ≡ has_root r (node h ts end)
+bare_root any_root h ts annos = refl
+bare_root (integer_root z) h ts annos = refl
+bare_root (symbol_root f n) h ts annos = refl
+bare_root (list_root n o) h ts annos = refl
+
+none_then : (o : Option Bindings) (go : Bindings → Option Bindings) → o ≡ None → and_then o go ≡ None
+none_then None go h = refl
+none_then (Some e) go h = absurd (cc)
 
 module _ {X : Type 0} (place : X → Option ℕ) where
   all_none : (ps : Patterns X) (ts : Trees) (e : Bindings) → are_many (count_of_patterns ps) false ts ≡ false → tried_all place ps ts e ≡ None
@@ -48,6 +60,8 @@ module _ {X : Type 0} (place : X → Option ℕ) where
   root_none (applied f ps) (node h ts annos) e k = both_none (same_head h (heads.App f)) (are_many (count_of_patterns ps) false ts) (tried_all place ps ts e) k (λ m. all_none ps ts e m)
   root_none (list ps) (node h ts annos) e k = both_none (same_head h heads.List) (are_many (count_of_elements ps) (is_open ps) ts) (tried_elements place ps ts e) k (λ m. elements_none ps ts e m)
   root_none (like p x) t e h = absurd (cc)
+  root_none (annotated p qs) (node h ts annos) e k =
+      none_then (tried place p (node h ts end) e) (λ f. tried_all place qs annos f) (root_none p (node h ts end) e (sym (bare_root (root_of p) h ts annos) ∙ k))
 
   pub other_root : (p : Pattern X) (t : Tree) (e f : Bindings) → has_root (root_of p) t ≡ false → Matches place p e t f → ⊥
   other_root p t e f h = tried_none place (root_none p t e h) f

@@ -3,7 +3,7 @@ use Rattle.std.specs.Prelude.{ℕ, Option, Some, None, slice_get}
 use Rattle.term_model.specs.declared.term.Head.TheVariants as heads
 use Rattle.term_model.specs.Symbol.{Symbol}
 use Rattle.term_model.specs.Term.{Tree, node, Trees, end, more}
-use Rattle.core_lang.specs.Program.{Pattern, anything, variable, alias, integer, applied, list, like, Patterns, no_patterns, more_patterns, Elements, no_elements, the_rest, more_elements}
+use Rattle.core_lang.specs.Program.{Pattern, anything, variable, alias, integer, applied, list, like, annotated, Patterns, no_patterns, more_patterns, Elements, no_elements, the_rest, more_elements}
 use Rattle.core_lang.specs.Environment.{Bindings}
 
 -- what is held, if anything is
@@ -45,6 +45,12 @@ made_like None v = None
 made_like (Some t) None = None
 made_like (Some (node h ts annos)) (Some (node g us others)) = Some (node h ts others)
 
+-- the term with these annotations in the place of its own
+abbrev pub made_with : Option Tree → Option Trees → Option Tree
+made_with None us = None
+made_with (Some t) None = None
+made_with (Some (node h ts annos)) (Some us) = Some (node h ts us)
+
 -- patterns are read by the place of each variable
 module _ {X : Type 0} (place : X → Option ℕ) where
   abbrev mutual
@@ -57,6 +63,7 @@ module _ {X : Type 0} (place : X → Option ℕ) where
     instance (applied f ps) e = applied_to (instances ps e) f
     instance (list ps) e = list_term (element_instances ps e)
     instance (like p x) e = made_like (instance p e) (value_in (place x) e)
+    instance (annotated p qs) e = made_with (instance p e) (instances qs e)
 
     pub instances : Patterns X → Bindings → Option Trees
     instances no_patterns e = Some end

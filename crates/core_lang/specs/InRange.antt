@@ -2,7 +2,7 @@
 use Rattle.std.specs.Prelude.{◌≡◌, ℕ, zero, suc, ◌<◌}
 use Rattle.core_lang.specs.Resolved.{ResolvedStrategy, ResolvedStrategies, ResolvedDefinitions}
 use Rattle.core_lang.specs.declared.coordinate.Coordinate.{Coordinate}
-use Rattle.core_lang.specs.Program.{Pattern, anything, variable, alias, integer, applied, list, like, Patterns, no_patterns, more_patterns, Elements, no_elements, the_rest, more_elements, id, fail, seq, choice, match, build, scope, all, one, some, with_definitions, call, primitive, no_strategies, more_strategies, no_definitions, more_definitions, strategies_count, patterns_count}
+use Rattle.core_lang.specs.Program.{Pattern, anything, variable, alias, integer, applied, list, like, annotated, Patterns, no_patterns, more_patterns, Elements, no_elements, the_rest, more_elements, id, fail, seq, choice, match, build, scope, all, one, some, with_definitions, call, primitive, no_strategies, more_strategies, no_definitions, more_definitions, strategies_count, patterns_count}
 
 -- the layers that a part of a program over coordinates stands in, innermost first
 pub data Layers : Type 0 where
@@ -50,6 +50,7 @@ abbrev mutual
   PatternInRange L (applied f ps) = PatternsInRange L ps
   PatternInRange L (list ps) = ElementsInRange L ps
   PatternInRange L (like p y) = PatternInRange L p × VariableInRange L y
+  PatternInRange L (annotated p qs) = PatternInRange L p × PatternsInRange L qs
 
   pub PatternsInRange : Layers → Patterns Coordinate → Type 0
   PatternsInRange L no_patterns = Unit {0}

@@ -2,7 +2,7 @@
 use Rattle.std.specs.Prelude.{◌≡◌, ℕ, ◌⊎◌, Option, Some, length, slice_get}
 use Rattle.term_model.specs.declared.term.Head.TheVariants as heads
 use Rattle.term_model.specs.Term.{Tree, node, Trees, end, more}
-use Rattle.core_lang.specs.Program.{Pattern, anything, variable, alias, integer, applied, list, like, Patterns, no_patterns, more_patterns, Elements, no_elements, the_rest, more_elements}
+use Rattle.core_lang.specs.Program.{Pattern, anything, variable, alias, integer, applied, list, like, annotated, Patterns, no_patterns, more_patterns, Elements, no_elements, the_rest, more_elements}
 use Rattle.core_lang.specs.Environment.{Bindings}
 
 -- the place holds this term
@@ -16,7 +16,8 @@ module _ {X : Type 0} (place : X → Option ℕ) where
   HasValue x e t = (i : ℕ) × (place x ≡ Some i) × Holds e i t
 
   abbrev mutual
-    -- the pattern conforms to the term under the bindings; annotations count in the values of variables alone
+    -- the pattern conforms to the term under the bindings; annotations count in the values of variables, and where the
+    -- pattern has patterns of them
     pub Conforms : Pattern X → Bindings → Tree → Type 0
     Conforms anything e t = Unit {0}
     Conforms (variable x) e t = HasValue x e t
@@ -25,6 +26,8 @@ module _ {X : Type 0} (place : X → Option ℕ) where
     Conforms (applied f ps) e (node h ts annos) = (h ≡ heads.App f) × ConformAll ps e ts
     Conforms (list ps) e (node h ts annos) = (h ≡ heads.List) × ConformElements ps e ts
     Conforms (like p x) e t = ⊥
+    -- the pattern to the term without its annotations, and each of the others to one of these
+    Conforms (annotated p qs) e (node h ts annos) = Conforms p e (node h ts end) × ConformAll qs e annos
 
     -- each pattern to one term
     pub ConformAll : Patterns X → Bindings → Trees → Type 0
@@ -50,6 +53,7 @@ module _ {X : Type 0} (place : X → Option ℕ) where
     IsPlaceIn (applied f ps) i = IsPlaceInAny ps i
     IsPlaceIn (list ps) i = IsPlaceInElements ps i
     IsPlaceIn (like p x) i = ⊥
+    IsPlaceIn (annotated p qs) i = IsPlaceIn p i ⊎ IsPlaceInAny qs i
 
     pub IsPlaceInAny : Patterns X → ℕ → Type 0
     IsPlaceInAny no_patterns i = ⊥

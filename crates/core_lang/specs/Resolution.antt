@@ -2,7 +2,7 @@
 use Rattle.std.specs.Prelude.{◌≡◌, ℕ, suc, ℤ, Option, Some, None, List, [], length}
 use Rattle.std.specs.Option.{option_or, option_map}
 use Rattle.term_model.specs.Symbol.{Symbol}
-use Rattle.core_lang.specs.Program.{Pattern, anything, variable, alias, integer, applied, list, like, Patterns, no_patterns, more_patterns, Elements, no_elements, the_rest, more_elements, id, fail, seq, choice, match, build, scope, all, one, some, with_definitions, call, primitive, no_strategies, more_strategies, no_definitions, more_definitions, strategies_count, patterns_count}
+use Rattle.core_lang.specs.Program.{Pattern, anything, variable, alias, integer, applied, list, like, annotated, Patterns, no_patterns, more_patterns, Elements, no_elements, the_rest, more_elements, id, fail, seq, choice, match, build, scope, all, one, some, with_definitions, call, primitive, no_strategies, more_strategies, no_definitions, more_definitions, strategies_count, patterns_count}
 use Rattle.core_lang.specs.declared.coordinate.Coordinate.{Coordinate}
 use Rattle.core_lang.specs.Named.{NamedStrategy, NamedStrategies, NamedDefinitions, Name, position_of, parameter_position, definition_position}
 use Rattle.core_lang.specs.Resolved.{ResolvedStrategy, ResolvedStrategies, ResolvedDefinitions}
@@ -40,6 +40,7 @@ mutual
     to_applied : {f : Symbol} {ps : Patterns Name} {qs : Patterns Coordinate} → ResolvesPatterns S ps qs → ResolvesPattern S (applied f ps) (applied f qs)
     to_list : {ps : Elements Name} {qs : Elements Coordinate} → ResolvesElements S ps qs → ResolvesPattern S (list ps) (list qs)
     to_like : {p : Pattern Name} {q : Pattern Coordinate} {x : Name} {y : Coordinate} → ResolvesPattern S p q → variable_coordinate S x ≡ Some y → ResolvesPattern S (like p x) (like q y)
+    to_annotated : {p : Pattern Name} {q : Pattern Coordinate} {ps : Patterns Name} {qs : Patterns Coordinate} → ResolvesPattern S p q → ResolvesPatterns S ps qs → ResolvesPattern S (annotated p ps) (annotated q qs)
 
   pub data ResolvesPatterns (S : Scopes) : Patterns Name → Patterns Coordinate → Type 0 where
     to_no_patterns : ResolvesPatterns S no_patterns no_patterns

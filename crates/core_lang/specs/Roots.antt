@@ -4,7 +4,7 @@ use Rattle.term_model.specs.declared.term.Head.TheVariants as heads
 use Rattle.term_model.specs.Symbol.{Symbol}
 use Rattle.term_model.specs.Term.{Tree, node, Trees, end, more}
 use Rattle.term_model.specs.Same.{same_head}
-use Rattle.core_lang.specs.Program.{Pattern, anything, variable, alias, integer, applied, list, like, Patterns, no_patterns, more_patterns, Elements, no_elements, the_rest, more_elements, Strategy, match, seq, scope}
+use Rattle.core_lang.specs.Program.{Pattern, anything, variable, alias, integer, applied, list, like, annotated, Patterns, no_patterns, more_patterns, Elements, no_elements, the_rest, more_elements, Strategy, match, seq, scope}
 
 -- what is asked of a root: nothing, an integer, a symbol with n parts, a list of n elements or, where it is
 -- open, of at least n
@@ -54,6 +54,7 @@ module _ {X : Type 0} where
   root_of (applied f ps) = symbol_root f (count_of_patterns ps)
   root_of (list ps) = list_root (count_of_elements ps) (is_open ps)
   root_of (like p x) = any_root
+  root_of (annotated p qs) = root_of p
 
 -- the strategy begins with a match whose pattern asks for this root, alone, in scopes, and in sequences however they are
 -- nested; where a term has another root, its derivation has n nodes

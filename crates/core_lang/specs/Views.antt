@@ -12,7 +12,7 @@ use Rattle.core_lang.specs.declared.program.CoreStrategy.TheOpen.{CoreStrategy-F
 use Rattle.core_lang.specs.declared.program.CoreStrategy.TheFolds.{fold-CoreStrategy, fold-CoreArm, fold-CoreDef}
 use Rattle.core_lang.specs.declared.program.CoreArm.{CoreArm}
 use Rattle.core_lang.specs.declared.program.CoreDef.{CoreDef}
-use Rattle.core_lang.specs.Program.{Pattern, anything, variable, alias, integer, applied, list, like, Patterns, no_patterns, more_patterns, Elements, no_elements, the_rest, more_elements, Strategy, id, fail, seq, choice, match, build, scope, all, one, some, with_definitions, call, primitive, Strategies, no_strategies, more_strategies, Definitions, no_definitions, more_definitions}
+use Rattle.core_lang.specs.Program.{Pattern, anything, variable, alias, integer, applied, list, like, annotated, Patterns, no_patterns, more_patterns, Elements, no_elements, the_rest, more_elements, Strategy, id, fail, seq, choice, match, build, scope, all, one, some, with_definitions, call, primitive, Strategies, no_strategies, more_strategies, Definitions, no_definitions, more_definitions}
 use Rattle.core_lang.specs.Resolved.{here}
 
 abbrev pub patterns_in : List (Pattern Coordinate) → Patterns Coordinate
@@ -37,6 +37,7 @@ pattern_step (pattern_forms.Integer z) = integer z
 pattern_step (pattern_forms.Applied f ps) = applied f (patterns_in ps.items)
 pattern_step (pattern_forms.List ps rest) = list (elements_in ps.items (unboxed rest))
 pattern_step (pattern_forms.Like p x) = like p.value x
+pattern_step (pattern_forms.Annotated p qs) = annotated p.value (patterns_in qs.items)
 
 abbrev pub pattern_of : CorePattern → Pattern Coordinate
 pattern_of = fold-CorePattern (Pattern Coordinate) pattern_step

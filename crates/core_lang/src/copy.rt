@@ -25,6 +25,10 @@ impl CorePattern {
                 Ok(CorePattern::List(elements, optional(alloc, rest)?))
             }
             CorePattern::Like(part, x) => Ok(CorePattern::Like(boxed(alloc, part)?, *x)),
+            CorePattern::Annotated(part, annotations) => {
+                let annotations = patterns(alloc, annotations)?;
+                Ok(CorePattern::Annotated(boxed(alloc, part)?, annotations))
+            }
         }
     }
 }

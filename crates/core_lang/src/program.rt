@@ -10,13 +10,15 @@ pub enum CorePattern {
     Variable(Coordinate),
     /// A variable, and the pattern of its term; a build has no use for it.
     Alias(Coordinate, Box<CorePattern>),
-    Integer(i32),
+    Integer(i64),
     /// A symbol applied to patterns; a quoted text is one with none.
     Applied(Sym, Vec<CorePattern>),
     /// The elements of a list, and the pattern of the rest after them where it may have more.
     List(Vec<CorePattern>, Option<Box<CorePattern>>),
     /// In a build alone: what the pattern makes, with the annotations of the variable's term.
     Like(Box<CorePattern>, Coordinate),
+    /// A pattern of the term without its annotations, and a pattern of each of these.
+    Annotated(Box<CorePattern>, Vec<CorePattern>),
 }
 
 /// A strategy. A chain that groups to the right is one list, so that no walk recurses along it.

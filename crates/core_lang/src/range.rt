@@ -225,6 +225,9 @@ fn pattern_in_range(p: &CorePattern, layers: &Layers) -> bool
             }
         }
         CorePattern::Like(part, x) => { pattern_in_range(part, layers) && has_variable(layers, *x) }
+        CorePattern::Annotated(part, annotations) => {
+            pattern_in_range(part, layers) && patterns_in_range(annotations.as_slice(), layers)
+        }
     }
 }
 

@@ -1,6 +1,6 @@
 use Rattle.std.proofs.Common.{◌∙◌, sym, ap, subst, Some, None, refl, []}
 use Rattle.core_eval.specs.Instance.{AreMade, made_like_other, both_terms}
-use Rattle.core_eval.proofs.MakingLaws.{elements_made}
+use Rattle.core_eval.proofs.MakingLaws.{elements_made, with_held}
 use Rattle.term_model.proofs.FitsLaws.{parts_fit}
 use Rattle.core_lang.proofs.ElementLaws.{elements_held, elements_of_list}
 use Rattle.std.specs.Option.{option_map}
@@ -86,3 +86,9 @@ instance-returns-in_ok-made-in-List t c =
     ap (λ v. option_map made_of (made_like_other v c.args.other))
     (sym (ap (λ q. building.instance place q e) read ∙ ap building.list_term (elements_made place e c.in-List.first.items (rest_of c.in-List.rest) ∙
     ap (λ xs. both_terms (building.instances place (patterns_of xs) e) vs) (sym c.as_slice-in-List.ensures.value))))
+
+pub with_annotations-returns : goal.with_annotations-returns
+with_annotations-returns t c = λ us fact.
+    let built = building.instance (by_coordinates.place_of (environment_of c.args.frame.now)) (pattern_of c.args.p.now) c.args.places.now in
+    c.in_ok-made-2.ensures ∙
+    ap (λ o. option_map made_of o) (with_held built us c.args.annos c.in_ok-holder.field-0 fact c.in_ok-holder.ensures c.in-Fits.holder c.in-Fits.is)

@@ -3,9 +3,10 @@ use Rattle.term_model.specs.Term.{parts_of, trees_of}
 use Rattle.core_lang.specs.Tried.{tried_elements}
 use Rattle.core_lang.specs.Resolved.{by_coordinates}
 use Rattle.core_lang.specs.Views.{pattern_of, patterns_of, elements_in, rest_of}
-use Rattle.core_lang.proofs.ReadLaws.{reads_applied, reads_list}
+use Rattle.core_lang.specs.Program.{annotated}
+use Rattle.core_lang.proofs.ReadLaws.{reads_applied, reads_list, reads_annotated}
 use Rattle.core_eval.specs.Frame.{environment_of}
-use Rattle.core_eval.proofs.MatchingLaws.{other_count, same_symbol_tried, list_tried, too_few, first_lacks, first_goes_on, some_left}
+use Rattle.core_eval.proofs.MatchingLaws.{other_count, same_symbol_tried, list_tried, too_few, first_lacks, first_goes_on, some_left, annotated_fails, annotated_goes_on}
 use Rattle.core_eval.proofs.matching.+matching.Goals as goal
 
 pub all_match-returns-then-patterns-terms : goal.all_match-returns-then-patterns-terms
@@ -58,3 +59,18 @@ rest_matches-returns-then-from-children t c =
     let parts = parts_of c.args.t.now in
     ap (λ o. tried_elements place (elements_in [] (rest_of o)) (trees_of (drop c.args.from parts)) e) c.in-None.is ∙
     some_left place parts c.args.from e (subst (λ us. c.args.from < length us) c.children.ensures c.if-from-children.true)
+
+pub matches-returns-then-not-branch-2 : goal.matches-returns-then-not-branch-2
+matches-returns-then-not-branch-2 t c =
+    let qs = patterns_of c.in-Annotated.annotations.items in
+    annotated_fails (by_coordinates.place_of (environment_of c.args.frame.now)) (pattern_of c.args.p.now) (pattern_of c.deref-in-Annotated.result.now) qs c.args.t.now c.in_ok-bare-in-Annotated.bare c.args.places.now.items _ c.in_ok-matches-in-Annotated.field-0
+    (ap pattern_of c.in-Annotated.is ∙ (reads_annotated c.in-Annotated.part c.in-Annotated.annotations ∙ ap (λ b. annotated (pattern_of b) qs) (sym c.deref-in-Annotated.ensures)))
+    c.in_ok-bare-in-Annotated.ensures c.in_ok-matches-in-Annotated.ensures c.if-not-branch-2.true
+
+pub matches-returns-in_ok-yes-in-Annotated : goal.matches-returns-in_ok-yes-in-Annotated
+matches-returns-in_ok-yes-in-Annotated t c =
+    let qs = patterns_of c.in-Annotated.annotations.items in
+    let others = rw (c.as_slice-in-Annotated.ensures.value, c.annos.ensures) at c.in_ok-yes-in-Annotated.ensures in
+    annotated_goes_on (by_coordinates.place_of (environment_of c.args.frame.now)) (pattern_of c.args.p.now) (pattern_of c.deref-in-Annotated.result.now) qs c.args.t.now c.in_ok-bare-in-Annotated.bare c.args.places.now.items _ _ c.in_ok-matches-in-Annotated.field-0 c.in_ok-yes-in-Annotated.yes
+    (ap pattern_of c.in-Annotated.is ∙ (reads_annotated c.in-Annotated.part c.in-Annotated.annotations ∙ ap (λ b. annotated (pattern_of b) qs) (sym c.deref-in-Annotated.ensures)))
+    c.in_ok-bare-in-Annotated.ensures c.in_ok-matches-in-Annotated.ensures c.if-not-branch-2.false others
