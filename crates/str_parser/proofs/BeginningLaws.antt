@@ -1,7 +1,7 @@
 -- What tokens begin with along which a strategy or a pattern runs.
 use Rattle.std.proofs.Common.{◌≡◌, ℕ, Bool, true, false, List, [], ◌∷◌, refl}
 use Rattle.str_syntax.specs.declared.strategy.Operator.TheVariants as O
-use Rattle.str_syntax.specs.Trees.{PatternTree, variable, wildcard, alias, integer, quoted, application, grouped, tuple, list, applied, applied_to, StrategyTree, plain_sequence, left_choice, guarded_choice, SequenceTree, last, then, StepTree, plain_step, matching, PrimaryTree, identity, failure, match, build, apply, parenthesized, scope, operator, conditional, recursive, let_in, primitive, lambda, call, tuple_congruence, list_congruence, no_definitions, more_definitions, no_strategy, one_strategy, no_pattern, one_pattern, no_arguments, strategy_arguments, all_arguments}
+use Rattle.str_syntax.specs.Trees.{PatternTree, variable, wildcard, alias, integer, quoted, application, grouped, tuple, list, annotated, applied, applied_to, StrategyTree, plain_sequence, left_choice, guarded_choice, SequenceTree, last, then, StepTree, plain_step, matching, PrimaryTree, identity, failure, match, build, apply, parenthesized, scope, operator, conditional, recursive, let_in, primitive, lambda, call, tuple_congruence, list_congruence, no_definitions, more_definitions, no_strategy, one_strategy, no_pattern, one_pattern, no_arguments, strategy_arguments, all_arguments}
 use Rattle.str_parser.specs.Lexemes.{Lexeme, strategy_part, first_begins}
 use Rattle.str_parser.specs.Items.{Item, either, Runs}
 use Rattle.str_parser.specs.Phrases.{pattern_part, pattern, strategy, sequence, step, primary}
@@ -60,6 +60,7 @@ pattern_begins true k (grouped p) is (t ∷ ts) r = rw r.0 refl
 pattern_begins true k (tuple ps) is (t ∷ ts) r = rw r.1.0 refl
 pattern_begins true k (list ps no_pattern) is (t ∷ ts) r = rw r.0 refl
 pattern_begins true k (list ps (one_pattern p)) is (t ∷ ts) r = rw r.1.0 refl
+pattern_begins true k (annotated p qs) is ts r = pattern_begins true k p _ ts r.1
 pattern_begins true k (applied s) is ts r = let e = r.0 in cc
 pattern_begins true k (applied_to s p) is ts r = let e = r.0 in cc
 pattern_begins false k (variable x) is (t ∷ ts) r = rw r.0 refl
@@ -72,6 +73,7 @@ pattern_begins false k (grouped p) is (t ∷ ts) r = rw r.0 refl
 pattern_begins false k (tuple ps) is (t ∷ ts) r = rw r.1.0 refl
 pattern_begins false k (list ps no_pattern) is (t ∷ ts) r = rw r.0 refl
 pattern_begins false k (list ps (one_pattern p)) is (t ∷ ts) r = rw r.1.0 refl
+pattern_begins false k (annotated p qs) is ts r = pattern_begins false k p _ ts r.1
 pattern_begins false k (applied s) is (t ∷ ts) r = rw r.1.0 refl
 pattern_begins false k (applied_to s p) is (t ∷ ts) r = rw r.1.0 refl
 pattern_begins m k (application c ps) is [] r = absurd r.1

@@ -6,7 +6,7 @@ use Rattle.str_syntax.specs.Trees.{PrimaryTree, PatternTree}
 use Rattle.str_parser.specs.Lexemes.{Lexeme}
 use Rattle.str_parser.specs.Items.{Item}
 use Rattle.str_parser.specs.Readings.{Missing, Nested, IsFault, IsSyntax, NoRun}
-use Rattle.str_parser.specs.Begun.{IsNext, IsNextPattern}
+use Rattle.str_parser.specs.Begun.{IsNext, IsNextPattern, NoPattern}
 use Rattle.str_parser.specs.Beyond.{IsBeyondFault}
 
 pub beyond_fault : {T : Type 0} (write : T → List Item → List Item) (Stops : List Item → Type 0) (ts : List Lexeme) (b : Bool) (e : Refusal) →
@@ -27,7 +27,7 @@ next_fault Rest us write Stops ts (refusals.Syntax _ _) f h = f h
 next_fault Rest us write Stops ts _ f h = absurd h
 
 pub next_pattern_fault : (Rest : Bool → ℕ → PatternTree → List Item → List Item → Type 0) (m : Bool) (us : List Lexeme) (write : PatternTree → List Item → List Item) (Stops : List Item → Type 0) (ts : List Lexeme) (e : Refusal) →
-    (((k : ℕ) → NoRun (Rest m k) us) → Missing write Stops ts) → IsNextPattern Rest m us (Err e) → IsFault write Stops ts e
+    (((k : ℕ) → NoPattern (Rest m k) us) → Missing write Stops ts) → IsNextPattern Rest m us (Err e) → IsFault write Stops ts e
 next_pattern_fault Rest m us write Stops ts refusals.Memory f h = tt
 next_pattern_fault Rest m us write Stops ts (refusals.Syntax _ _) f h = f h
 next_pattern_fault Rest m us write Stops ts _ f h = absurd h

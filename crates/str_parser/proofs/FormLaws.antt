@@ -136,41 +136,41 @@ conditional_found l r s ts following rest f g = record {
 
 -- ---- names with parameters
 
-at_most_four : (ps : ParameterTree) (is : List Item) → AtMost 3 is → AtMost 4 (parameters ps is)
-at_most_four absent is h = omega (arith, h)
-at_most_four (strategies_only fs) is h = omega arith
-at_most_four (with_terms fs xs) is h = omega arith
+at_most_five : (ps : ParameterTree) (is : List Item) → AtMost 3 is → AtMost 5 (parameters ps is)
+at_most_five absent is h = omega (arith, h)
+at_most_five (strategies_only fs) is h = omega arith
+at_most_five (with_terms fs xs) is h = omega arith
 
-no_name : (ts : List Lexeme) → Missing one_name (AtMost 4) ts → (u : HeadTree) (is : List Item) → AtMost 3 is → Runs either (headed u is) ts → ⊥
-no_name ts m (head x ps) is h r = m.none x (parameters ps is) (at_most_four ps is h) r
+no_name : (ts : List Lexeme) → Missing one_name (AtMost 5) ts → (u : HeadTree) (is : List Item) → AtMost 3 is → Runs either (headed u is) ts → ⊥
+no_name ts m (head x ps) is h r = m.none x (parameters ps is) (at_most_five ps is h) r
 
-pub name_missing : (ts : List Lexeme) → Missing one_name (AtMost 4) ts → Missing headed (AtMost 3) ts
+pub name_missing : (ts : List Lexeme) → Missing one_name (AtMost 5) ts → Missing headed (AtMost 3) ts
 name_missing ts m = record { none = no_name ts m }
 
 pub name_nested : (ts : List Lexeme) → Nested one_name ts → Nested headed ts
 name_nested ts n = record { tree = head n.tree absent; runs = λ is. n.runs is }
 
-no_parameters : (x : Bytes) (ts rest : List Lexeme) → Found one_name (AtMost 4) ts x rest → Missing parameters (AtMost 3) rest → (u : HeadTree) (is : List Item) → AtMost 3 is → Runs either (headed u is) ts → ⊥
+no_parameters : (x : Bytes) (ts rest : List Lexeme) → Found one_name (AtMost 5) ts x rest → Missing parameters (AtMost 3) rest → (u : HeadTree) (is : List Item) → AtMost 3 is → Runs either (headed u is) ts → ⊥
 no_parameters x ts rest f m (head y ps) is h r =
-    let a = f.only_one y (parameters ps is) (at_most_four ps is h) r in
+    let a = f.only_one y (parameters ps is) (at_most_five ps is h) r in
     m.none ps is h a.1
 
-pub parameters_missing : (x : Bytes) (ts rest : List Lexeme) → Found one_name (AtMost 4) ts x rest → Missing parameters (AtMost 3) rest → Missing headed (AtMost 3) ts
+pub parameters_missing : (x : Bytes) (ts rest : List Lexeme) → Found one_name (AtMost 5) ts x rest → Missing parameters (AtMost 3) rest → Missing headed (AtMost 3) ts
 parameters_missing x ts rest f m = record { none = no_parameters x ts rest f m }
 
-pub parameters_nested : (x : Bytes) (ts rest : List Lexeme) → Found one_name (AtMost 4) ts x rest → Nested parameters rest → Nested headed ts
+pub parameters_nested : (x : Bytes) (ts rest : List Lexeme) → Found one_name (AtMost 5) ts x rest → Nested parameters rest → Nested headed ts
 parameters_nested x ts rest f n = record {
   tree = head x n.tree;
   runs = λ is. f.sound too_deep (parameters n.tree is) (n.runs is);
 }
 
-head_only : (x : Bytes) (ps : ParameterTree) (ts mid rest : List Lexeme) → Found one_name (AtMost 4) ts x mid → FoundAny parameters (AtMost 3) mid ps rest → (u : HeadTree) (is : List Item) → AtMost 3 is → Runs either (headed u is) ts → (u ≡ head x ps) × Runs either is rest
+head_only : (x : Bytes) (ps : ParameterTree) (ts mid rest : List Lexeme) → Found one_name (AtMost 5) ts x mid → FoundAny parameters (AtMost 3) mid ps rest → (u : HeadTree) (is : List Item) → AtMost 3 is → Runs either (headed u is) ts → (u ≡ head x ps) × Runs either is rest
 head_only x ps ts mid rest f g (head y qs) is h r =
-    let a = f.only_one y (parameters qs is) (at_most_four qs is h) r in
+    let a = f.only_one y (parameters qs is) (at_most_five qs is h) r in
     let b = g.only_one qs is h a.1 in
     (rw (a.0, b.0) refl, b.1)
 
-pub head_found : (x : Bytes) (ps : ParameterTree) (ts mid rest : List Lexeme) → Found one_name (AtMost 4) ts x mid → FoundAny parameters (AtMost 3) mid ps rest → Found headed (AtMost 3) ts (head x ps) rest
+pub head_found : (x : Bytes) (ps : ParameterTree) (ts mid rest : List Lexeme) → Found one_name (AtMost 5) ts x mid → FoundAny parameters (AtMost 3) mid ps rest → Found headed (AtMost 3) ts (head x ps) rest
 head_found x ps ts mid rest f g = record {
   sound = λ way is r. f.sound way (parameters ps is) (g.sound way is r);
   only_one = head_only x ps ts mid rest f g;

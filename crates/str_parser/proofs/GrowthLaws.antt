@@ -2,10 +2,10 @@
 use Rattle.std.proofs.Common.{◌≡◌, ℕ, ◌+◌, ◌≤◌, ◌<◌, Bool, true, false, List, [], ◌∷◌, refl, arith, length}
 use Rattle.str_lexer.specs.declared.token.Mark.TheVariants as M
 use Rattle.str_lexer.specs.declared.token.Keyword.TheVariants as K
-use Rattle.str_syntax.specs.Trees.{ParameterTree, absent, strategies_only, with_terms, PatternTree, variable, wildcard, alias, integer, quoted, application, grouped, tuple, list, applied, applied_to, PatternTrees, no_patterns, more_patterns, StrategyTree, plain_sequence, left_choice, guarded_choice, StrategyTrees, no_strategies, more_strategies, SequenceTree, last, then, StepTree, plain_step, matching, PrimaryTree, identity, failure, match, build, apply, parenthesized, scope, operator, conditional, recursive, let_in, primitive, lambda, call, tuple_congruence, list_congruence, RuleTree, rewrites, DefinitionTree, definition, DefinitionTrees, no_definitions, more_definitions, no_strategy, one_strategy, no_pattern, one_pattern, no_arguments, strategy_arguments, all_arguments, head}
+use Rattle.str_syntax.specs.Trees.{ParameterTree, absent, strategies_only, with_terms, PatternTree, variable, wildcard, alias, integer, quoted, application, grouped, tuple, list, annotated, applied, applied_to, PatternTrees, no_patterns, more_patterns, StrategyTree, plain_sequence, left_choice, guarded_choice, StrategyTrees, no_strategies, more_strategies, SequenceTree, last, then, StepTree, plain_step, matching, PrimaryTree, identity, failure, match, build, apply, parenthesized, scope, operator, conditional, recursive, let_in, primitive, lambda, call, tuple_congruence, list_congruence, RuleTree, rewrites, DefinitionTree, definition, DefinitionTrees, no_definitions, more_definitions, no_strategy, one_strategy, no_pattern, one_pattern, no_arguments, strategy_arguments, all_arguments, head}
 use Rattle.str_parser.specs.Lexemes.{Lexeme, strategy_part, match_part, build_part}
 use Rattle.str_parser.specs.Items.{Item, token, part, no_build, only, whole, Runs}
-use Rattle.str_parser.specs.Phrases.{sign, word, named, pattern_part, other_names, names, some_names, parameters, is_constructor, is_not, are_parts, are_operands, any_patterns, any_strategies, pattern, patterns, other_patterns, strategy, strategy_list, other_strategies, sequence, step, primary, rule, defined, definitions}
+use Rattle.str_parser.specs.Phrases.{sign, word, named, pattern_part, other_names, names, some_names, parameters, is_constructor, is_not, are_parts, are_operands, any_patterns, any_strategies, takes_annotations, pattern, patterns, other_patterns, strategy, strategy_list, other_strategies, sequence, step, primary, rule, defined, definitions}
 
 abbrev if_not : Bool → ℕ → ℕ
 if_not true n = n
@@ -52,6 +52,7 @@ mutual
   pattern_grows in_match k (tuple ps) is = omega (arith, grows_by (are_parts ps) (size (sign M.OpenParenthesis ∷ patterns in_match (k + 1) ps (sign M.CloseParenthesis ∷ is))), patterns_grow in_match (k + 1) ps (sign M.CloseParenthesis ∷ is))
   pattern_grows in_match k (list ps no_pattern) is = omega (arith, patterns_grow in_match (k + 1) ps (sign M.CloseBracket ∷ is))
   pattern_grows in_match k (list ps (one_pattern p)) is = omega (arith, grows_by (any_patterns ps) (size (sign M.OpenBracket ∷ patterns in_match (k + 1) ps (sign M.Bar ∷ part (pattern_part in_match) (k + 1) ∷ pattern in_match (k + 1) p (sign M.CloseBracket ∷ is)))), patterns_grow in_match (k + 1) ps (sign M.Bar ∷ part (pattern_part in_match) (k + 1) ∷ pattern in_match (k + 1) p (sign M.CloseBracket ∷ is)), pattern_grows in_match (k + 1) p (sign M.CloseBracket ∷ is))
+  pattern_grows in_match k (annotated p qs) is = omega (arith, grows_by (takes_annotations p) (size (pattern in_match k p (sign M.OpenBrace ∷ patterns in_match (k + 1) qs (sign M.CloseBrace ∷ is)))), pattern_grows in_match k p (sign M.OpenBrace ∷ patterns in_match (k + 1) qs (sign M.CloseBrace ∷ is)), patterns_grow in_match (k + 1) qs (sign M.CloseBrace ∷ is))
   pattern_grows in_match k (applied s) is = omega (arith, grows_by (is_not in_match) (size (sign M.Less ∷ part strategy_part (k + 1) ∷ strategy (k + 1) s (sign M.Greater ∷ no_build ∷ is))), strategy_grows (k + 1) s (sign M.Greater ∷ no_build ∷ is))
   pattern_grows in_match k (applied_to s p) is = omega (arith, grows_by (is_not in_match) (size (sign M.Less ∷ part strategy_part (k + 1) ∷ strategy (k + 1) s (sign M.Greater ∷ part build_part (k + 1) ∷ pattern in_match (k + 1) p is))), strategy_grows (k + 1) s (sign M.Greater ∷ part build_part (k + 1) ∷ pattern in_match (k + 1) p is), pattern_grows in_match (k + 1) p is)
 

@@ -133,28 +133,28 @@ name_shallow x [] r = r
 name_shallow x (t ∷ ts) r = r.1
 
 -- parameters in front of = bind a name no stronger than a (
-parameters_at_most : (qs : ParameterTree) (is : List Item) → strength (parameters qs (sign M.Equals ∷ is)) ≤ 4
+parameters_at_most : (qs : ParameterTree) (is : List Item) → strength (parameters qs (sign M.Equals ∷ is)) ≤ 5
 parameters_at_most absent is = omega arith
 parameters_at_most (strategies_only fs) is = omega arith
 parameters_at_most (with_terms fs xs) is = omega arith
 
 -- no name
-no_name : (done : Vec StrategyDefinition Global) (k : ℕ) (ts : List Lexeme) → Missing one_name (AtMost 4) ts → (u : PrimaryTree) (is left : List Item) →
+no_name : (done : Vec StrategyDefinition Global) (k : ℕ) (ts : List Lexeme) → Missing one_name (AtMost 5) ts → (u : PrimaryTree) (is left : List Item) →
     GoesToDefinition done k u is left → Runs either left ts → ⊥
 no_name done k ts m u is left (goes_to_definition (definition (head y qs) s) ds t g) r = m.none y _ (parameters_at_most qs _) r
 
-pub name_fault : (done : Vec StrategyDefinition Global) (ts : List Lexeme) (e : Refusal) → IsFault one_name (AtMost 4) ts e → IsNext (GoesToDefinition done) ts (Err e)
+pub name_fault : (done : Vec StrategyDefinition Global) (ts : List Lexeme) (e : Refusal) → IsFault one_name (AtMost 5) ts e → IsNext (GoesToDefinition done) ts (Err e)
 name_fault done ts refusals.Memory f = tt
 name_fault done ts (refusals.Syntax at _) f = λ k. record { none = λ u is h r. no_name done k ts f u is r.left r.goes r.runs }
 name_fault done ts (refusals.Nesting at) f = absurd (name_shallow f.tree ts (f.runs []))
 
 -- no parameters after the name
-no_parameters : (done : Vec StrategyDefinition Global) (k : ℕ) (ts rest : List Lexeme) (x : Bytes) → Found one_name (AtMost 4) ts x rest →
+no_parameters : (done : Vec StrategyDefinition Global) (k : ℕ) (ts rest : List Lexeme) (x : Bytes) → Found one_name (AtMost 5) ts x rest →
     Missing parameters (AtMost 3) rest → (u : PrimaryTree) (is left : List Item) → GoesToDefinition done k u is left → Runs either left ts → ⊥
 no_parameters done k ts rest x n m u is left (goes_to_definition (definition (head y qs) s) ds t g) r =
     m.none qs _ (omega arith) (n.only_one y _ (parameters_at_most qs _) r).1
 
-pub parameters_fault : (done : Vec StrategyDefinition Global) (ts rest : List Lexeme) (x : Bytes) → Found one_name (AtMost 4) ts x rest →
+pub parameters_fault : (done : Vec StrategyDefinition Global) (ts rest : List Lexeme) (x : Bytes) → Found one_name (AtMost 5) ts x rest →
     (e : Refusal) → IsFault parameters (AtMost 3) rest e → IsNext (GoesToDefinition done) ts (Err e)
 parameters_fault done ts rest x n refusals.Memory f = tt
 parameters_fault done ts rest x n (refusals.Syntax at _) f = λ k. record { none = λ u is h r. no_parameters done k ts rest x n f u is r.left r.goes r.runs }
@@ -165,18 +165,18 @@ no_sign : (is : List Item) (ts : List Lexeme) → NotAt (mark M.Equals) ts → R
 no_sign is [] a r = r
 no_sign is (t ∷ ts) a r = a ts (ap (λ (x : Lexeme). x ∷ ts) r.0)
 
-no_equals : (done : Vec StrategyDefinition Global) (k : ℕ) (ts rest more : List Lexeme) (x : Bytes) (qs : ParameterTree) → Found one_name (AtMost 4) ts x rest →
+no_equals : (done : Vec StrategyDefinition Global) (k : ℕ) (ts rest more : List Lexeme) (x : Bytes) (qs : ParameterTree) → Found one_name (AtMost 5) ts x rest →
     FoundAny parameters (AtMost 3) rest qs more → NotAt (mark M.Equals) more → (u : PrimaryTree) (is left : List Item) →
     GoesToDefinition done k u is left → Runs either left ts → ⊥
 no_equals done k ts rest more x qs n q a u is left (goes_to_definition (definition (head y ps) s) ds t g) r =
     let body = inner_strategy (k + 1) s (definitions (k + 1) ds (word K.In ∷ inner_strategy (k + 1) t (word K.End ∷ is))) in
     no_sign body more a (q.only_one ps (sign M.Equals ∷ body) (omega arith) (n.only_one y _ (parameters_at_most ps _) r).1).1
 
-pub equals_no_run : (done : Vec StrategyDefinition Global) (k : ℕ) (ts rest more : List Lexeme) (x : Bytes) (qs : ParameterTree) → Found one_name (AtMost 4) ts x rest →
+pub equals_no_run : (done : Vec StrategyDefinition Global) (k : ℕ) (ts rest more : List Lexeme) (x : Bytes) (qs : ParameterTree) → Found one_name (AtMost 5) ts x rest →
     FoundAny parameters (AtMost 3) rest qs more → NotAt (mark M.Equals) more → NoRun (GoesToDefinition done k) ts
 equals_no_run done k ts rest more x qs n q a = record { none = λ u is h r. no_equals done k ts rest more x qs n q a u is r.left r.goes r.runs }
 
-begin_sound : (done : Vec StrategyDefinition Global) (k : ℕ) (ts rest more : List Lexeme) (x : Bytes) (ps : Parameters) → Found one_name (AtMost 4) ts x rest →
+begin_sound : (done : Vec StrategyDefinition Global) (k : ℕ) (ts rest more : List Lexeme) (x : Bytes) (ps : Parameters) → Found one_name (AtMost 5) ts x rest →
     FoundAny parameters (AtMost 3) rest (parameters_of ps) (mark M.Equals ∷ more) → (way : Way) (u : PrimaryTree) (is left : List Item) →
     Continues k (states.ToStrategy (B.Definition done x ps) more) u is left → Runs way left more → Run (GoesToDefinition done k) way u is ts
 begin_sound done k ts rest more x ps n q way u is left (at_strategy s (goes_definition t ds g)) r =
@@ -187,7 +187,7 @@ renamed : (done : Vec StrategyDefinition Global) (x y : Bytes) (qs ps : Paramete
     let_in (definitions_with done (definition (head y qs) s) ds) t ≡ let_in (definitions_with done (definition (head x ps) s) ds) t
 renamed done x y qs ps s t ds a b = rw (a, b) refl
 
-begin_all : (done : Vec StrategyDefinition Global) (k : ℕ) (ts rest more : List Lexeme) (x : Bytes) (ps : Parameters) → Found one_name (AtMost 4) ts x rest →
+begin_all : (done : Vec StrategyDefinition Global) (k : ℕ) (ts rest more : List Lexeme) (x : Bytes) (ps : Parameters) → Found one_name (AtMost 5) ts x rest →
     FoundAny parameters (AtMost 3) rest (parameters_of ps) (mark M.Equals ∷ more) → (u : PrimaryTree) (is left : List Item) →
     GoesToDefinition done k u is left → Runs either left ts → Run (Continues k (states.ToStrategy (B.Definition done x ps) more)) either u is more
 begin_all done k ts rest more x ps n q u is left (goes_to_definition (definition (head y qs) s) ds t g) r =
@@ -195,7 +195,7 @@ begin_all done k ts rest more x ps n q u is left (goes_to_definition (definition
     let b = q.only_one qs _ (omega arith) a.1 in
     record { left = _; goes = at_strategy s (goes_definition t ds (g ∙ renamed done x y qs (parameters_of ps) s t ds a.0 b.0)); runs = b.1.1 }
 
-pub begin_leads : (done : Vec StrategyDefinition Global) (k : ℕ) (ts rest more : List Lexeme) (x : Bytes) (ps : Parameters) → Found one_name (AtMost 4) ts x rest →
+pub begin_leads : (done : Vec StrategyDefinition Global) (k : ℕ) (ts rest more : List Lexeme) (x : Bytes) (ps : Parameters) → Found one_name (AtMost 5) ts x rest →
     FoundAny parameters (AtMost 3) rest (parameters_of ps) (mark M.Equals ∷ more) →
     Leads (GoesToDefinition done k) (Continues k (states.ToStrategy (B.Definition done x ps) more)) ts more
 begin_leads done k ts rest more x ps n q = record {

@@ -1,3 +1,4 @@
+pub mod AnnotationLaws
 pub mod ArgumentLaws
 pub mod BeginFaults
 pub mod BeginningLaws

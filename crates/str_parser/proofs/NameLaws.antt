@@ -14,7 +14,7 @@ use Rattle.str_parser.proofs.FaultLaws.{fault_means, found_written, missing_writ
 
 -- ---- strengths
 
-mark_at_most : (m : Mark) → mark_strength m ≤ 4
+mark_at_most : (m : Mark) → mark_strength m ≤ 5
 mark_at_most M.OpenParenthesis = omega arith
 mark_at_most M.At = omega arith
 mark_at_most M.DoubleArrow = omega arith
@@ -23,17 +23,17 @@ mark_at_most M.LeftChoice = omega arith
 mark_at_most M.Less = omega arith
 mark_at_most _ = omega arith
 
-lexeme_at_most : (t : Lexeme) → lexeme_strength t ≤ 4
+lexeme_at_most : (t : Lexeme) → lexeme_strength t ≤ 5
 lexeme_at_most (mark m) = mark_at_most m
 lexeme_at_most _ = omega arith
 
 -- nothing binds stronger than this
-pub at_most_four : (is : List Item) → AtMost 4 is
-at_most_four [] = omega arith
-at_most_four (token t ∷ is) = lexeme_at_most t
-at_most_four (part p k ∷ is) = omega arith
-at_most_four (no_build ∷ is) = omega arith
-at_most_four (only b ∷ is) = at_most_four is
+pub at_most_five : (is : List Item) → AtMost 5 is
+at_most_five [] = omega arith
+at_most_five (token t ∷ is) = lexeme_at_most t
+at_most_five (part p k ∷ is) = omega arith
+at_most_five (no_build ∷ is) = omega arith
+at_most_five (only b ∷ is) = at_most_five is
 
 -- items that bind no stronger than => do not begin with a parenthesis
 pub none_opens : (is : List Item) (rest : List Lexeme) → AtMost 3 is → Runs either is (mark M.OpenParenthesis ∷ rest) → ⊥
@@ -56,32 +56,32 @@ some_names_are (x ∷ xs) is = ap (λ l. named x ∷ l) (other_names_are xs is)
 abbrev pub PartlyNames : List (List ℕ) → List Lexeme → List Lexeme → Type 0
 PartlyNames all ts rest = Partly (some (following (mark M.Comma)) one_name) (following (mark M.Comma)) one_name names_go_on 1 all ts rest
 
-follows : (us : List (List ℕ)) (is : List Item) → NoneOf names_go_on is → AtMost 4 (many (following (mark M.Comma)) one_name us is)
-follows us is h = at_most_four (many (following (mark M.Comma)) one_name us is)
+follows : (us : List (List ℕ)) (is : List Item) → NoneOf names_go_on is → AtMost 5 (many (following (mark M.Comma)) one_name us is)
+follows us is h = at_most_five (many (following (mark M.Comma)) one_name us is)
 
-pub names_first : (x : List ℕ) (ts rest : List Lexeme) → Found one_name (AtMost 4) ts x rest → PartlyNames (x ∷ []) ts rest
-names_first x ts rest f = partly_first (following (mark M.Comma)) one_name (AtMost 4) names_go_on x ts rest follows f
+pub names_first : (x : List ℕ) (ts rest : List Lexeme) → Found one_name (AtMost 5) ts x rest → PartlyNames (x ∷ []) ts rest
+names_first x ts rest f = partly_first (following (mark M.Comma)) one_name (AtMost 5) names_go_on x ts rest follows f
 
-pub names_more : (all : List (List ℕ)) (x : List ℕ) (ts rest ahead after : List Lexeme) → PartlyNames all ts rest → rest ≡ mark M.Comma ∷ ahead → Found one_name (AtMost 4) ahead x after → PartlyNames (all ++ (x ∷ [])) ts after
+pub names_more : (all : List (List ℕ)) (x : List ℕ) (ts rest ahead after : List Lexeme) → PartlyNames all ts rest → rest ≡ mark M.Comma ∷ ahead → Found one_name (AtMost 5) ahead x after → PartlyNames (all ++ (x ∷ [])) ts after
 names_more all x ts rest ahead after w e f =
     partly_more (some (following (mark M.Comma)) one_name) (following (mark M.Comma)) one_name names_go_on 1 all x ts rest after w
-    (next_after (mark M.Comma) one_name (AtMost 4) names_go_on x rest ahead after refl follows e f)
+    (next_after (mark M.Comma) one_name (AtMost 5) names_go_on x rest ahead after refl follows e f)
 
 pub names_found : (all : List (List ℕ)) (ts rest : List Lexeme) → PartlyNames all ts rest → NotAt (mark M.Comma) rest → Found some_names (NoneOf names_go_on) ts all rest
 names_found all ts rest w n =
     found_written (some (following (mark M.Comma)) one_name) some_names (NoneOf names_go_on) ts all rest some_names_are
     (partly_found (some (following (mark M.Comma)) one_name) (following (mark M.Comma)) one_name names_go_on all ts rest w (none_after (mark M.Comma) one_name names_go_on rest n))
 
-pub names_missing : (all : List (List ℕ)) (ts rest ahead : List Lexeme) → PartlyNames all ts rest → rest ≡ mark M.Comma ∷ ahead → Missing one_name (AtMost 4) ahead → Missing some_names (NoneOf names_go_on) ts
+pub names_missing : (all : List (List ℕ)) (ts rest ahead : List Lexeme) → PartlyNames all ts rest → rest ≡ mark M.Comma ∷ ahead → Missing one_name (AtMost 5) ahead → Missing some_names (NoneOf names_go_on) ts
 names_missing all ts rest ahead w e m =
     missing_written (some (following (mark M.Comma)) one_name) some_names (NoneOf names_go_on) ts some_names_are
-    (missing_after (some (following (mark M.Comma)) one_name) (mark M.Comma) one_name (AtMost 4) names_go_on 1 all ts rest ahead w refl follows e m)
+    (missing_after (some (following (mark M.Comma)) one_name) (mark M.Comma) one_name (AtMost 5) names_go_on 1 all ts rest ahead w refl follows e m)
 
-first_missing : (ts : List Lexeme) → Missing one_name (AtMost 4) ts → (us : List (List ℕ)) (is : List Item) → Runs either (some_names us is) ts → ⊥
+first_missing : (ts : List Lexeme) → Missing one_name (AtMost 5) ts → (us : List (List ℕ)) (is : List Item) → Runs either (some_names us is) ts → ⊥
 first_missing ts m [] is r = let e = r.0 in cc
-first_missing ts m (u ∷ us) is r = m.none u (other_names us is) (at_most_four (other_names us is)) r
+first_missing ts m (u ∷ us) is r = m.none u (other_names us is) (at_most_five (other_names us is)) r
 
-pub names_none : (ts : List Lexeme) → Missing one_name (AtMost 4) ts → Missing some_names (NoneOf names_go_on) ts
+pub names_none : (ts : List Lexeme) → Missing one_name (AtMost 5) ts → Missing some_names (NoneOf names_go_on) ts
 names_none ts m = record { none = λ us is h r. first_missing ts m us is r }
 
 -- no name is too deep

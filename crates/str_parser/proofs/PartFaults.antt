@@ -11,7 +11,7 @@ use Rattle.str_syntax.specs.Trees.{Bytes, PatternTree, no_patterns, more_pattern
 use Rattle.str_parser.specs.Lexemes.{Lexeme, mark, keyword}
 use Rattle.str_parser.specs.Items.{Item, either, Runs}
 use Rattle.str_parser.specs.Readings.{IsSyntax, NoRun, NotAt}
-use Rattle.str_parser.specs.Begun.{IsNextPattern, Goes, goes_parenthesized, goes_condition, goes_condition_else, goes_consequence, goes_consequence_else, GoesBy, goes_rule_right, goes_rule_right_where, GoesIn, goes_application, goes_grouped, goes_list, goes_list_to_tail}
+use Rattle.str_parser.specs.Begun.{IsNextPattern, NoPattern, Goes, goes_parenthesized, goes_condition, goes_condition_else, goes_consequence, goes_consequence_else, GoesBy, goes_rule_right, goes_rule_right_where, GoesIn, goes_application, goes_grouped, goes_list, goes_list_to_tail, goes_list_tail, goes_annotations, GoesApplied, goes_applied, goes_applied_then}
 use Rattle.str_parser.specs.declared.begun.BeforeStrategy.TheVariants as B
 use Rattle.str_parser.specs.declared.begun.BeforePattern.TheVariants as P
 use Rattle.str_parser.specs.declared.begun.BeforeInner.TheVariants as I
@@ -58,7 +58,7 @@ no_rule_right k l p ts on close = record { none = λ u is h r. not_rule_right k 
 
 -- the fault where there is no rest
 pub syntax_inner : (Rest : Bool → ℕ → PatternTree → List Item → List Item → Type 0) (m : Bool) (ts : List Lexeme) (fault : Refusal) →
-    IsSyntax fault → ((k : ℕ) → NoRun (Rest m k) ts) → IsNextPattern Rest m ts (Err fault)
+    IsSyntax fault → ((k : ℕ) → NoPattern (Rest m k) ts) → IsNextPattern Rest m ts (Err fault)
 syntax_inner Rest m ts (refusals.Syntax at _) s n = n
 syntax_inner Rest m ts _ s n = absurd s
 
@@ -68,7 +68,7 @@ not_application m k c done p ts comma close u is left (goes_application no_patte
 not_application m k c done p ts comma close u is left (goes_application (more_patterns q ps) e) r = not_along (mark M.Comma) left ts refl comma r
 
 pub no_application : (m : Bool) (k : ℕ) (c : Bytes) (done : Vec Pattern Global) (p : PatternTree) (ts : List Lexeme) → NotAt (mark M.Comma) ts → NotAt (mark M.CloseParenthesis) ts →
-    NoRun (GoesIn m k (I.Application c done) p) ts
+    NoPattern (GoesIn m k (I.Application c done) p) ts
 no_application m k c done p ts comma close = record { none = λ u is h r. not_application m k c done p ts comma close u is r.left r.goes r.runs }
 
 not_grouped : (m : Bool) (k : ℕ) (done : Vec Pattern Global) (p : PatternTree) (ts : List Lexeme) → NotAt (mark M.Comma) ts → NotAt (mark M.CloseParenthesis) ts →
@@ -77,7 +77,7 @@ not_grouped m k done p ts comma close u is left (goes_grouped no_patterns e) r =
 not_grouped m k done p ts comma close u is left (goes_grouped (more_patterns q ps) e) r = not_along (mark M.Comma) left ts refl comma r
 
 pub no_grouped : (m : Bool) (k : ℕ) (done : Vec Pattern Global) (p : PatternTree) (ts : List Lexeme) → NotAt (mark M.Comma) ts → NotAt (mark M.CloseParenthesis) ts →
-    NoRun (GoesIn m k (I.Parenthesized done) p) ts
+    NoPattern (GoesIn m k (I.Parenthesized done) p) ts
 no_grouped m k done p ts comma close = record { none = λ u is h r. not_grouped m k done p ts comma close u is r.left r.goes r.runs }
 
 not_listed : (m : Bool) (k : ℕ) (done : Vec Pattern Global) (p : PatternTree) (ts : List Lexeme) → NotAt (mark M.Comma) ts → NotAt (mark M.Bar) ts → NotAt (mark M.CloseBracket) ts →
@@ -88,5 +88,32 @@ not_listed m k done p ts comma bar close u is left (goes_list_to_tail t no_patte
 not_listed m k done p ts comma bar close u is left (goes_list_to_tail t (more_patterns q ps) e) r = not_along (mark M.Comma) left ts refl comma r
 
 pub no_listed : (m : Bool) (k : ℕ) (done : Vec Pattern Global) (p : PatternTree) (ts : List Lexeme) → NotAt (mark M.Comma) ts → NotAt (mark M.Bar) ts → NotAt (mark M.CloseBracket) ts →
-    NoRun (GoesIn m k (I.Bracketed done) p) ts
+    NoPattern (GoesIn m k (I.Bracketed done) p) ts
 no_listed m k done p ts comma bar close = record { none = λ u is h r. not_listed m k done p ts comma bar close u is r.left r.goes r.runs }
+
+not_tail : (m : Bool) (k : ℕ) (done : Vec Pattern Global) (p : PatternTree) (ts : List Lexeme) → NotAt (mark M.CloseBracket) ts →
+    (u : PatternTree) (is left : List Item) → GoesIn m k (I.Tail done) p u is left → Runs either left ts → ⊥
+not_tail m k done p ts close u is left (goes_list_tail e) r = not_along (mark M.CloseBracket) left ts refl close r
+
+pub no_tail : (m : Bool) (k : ℕ) (done : Vec Pattern Global) (p : PatternTree) (ts : List Lexeme) → NotAt (mark M.CloseBracket) ts →
+    NoPattern (GoesIn m k (I.Tail done) p) ts
+no_tail m k done p ts close = record { none = λ u is h r. not_tail m k done p ts close u is r.left r.goes r.runs }
+
+not_annotation : (m : Bool) (k : ℕ) (b : Box Pattern Global) (done : Vec Pattern Global) (p : PatternTree) (ts : List Lexeme) →
+    NotAt (mark M.Comma) ts → NotAt (mark M.CloseBrace) ts →
+    (u : PatternTree) (is left : List Item) → GoesIn m k (I.Annotated b done) p u is left → Runs either left ts → ⊥
+not_annotation m k b done p ts comma close u is left (goes_annotations no_patterns e) r = not_along (mark M.CloseBrace) left ts refl close r
+not_annotation m k b done p ts comma close u is left (goes_annotations (more_patterns q ps) e) r = not_along (mark M.Comma) left ts refl comma r
+
+pub no_annotation : (m : Bool) (k : ℕ) (b : Box Pattern Global) (done : Vec Pattern Global) (p : PatternTree) (ts : List Lexeme) →
+    NotAt (mark M.Comma) ts → NotAt (mark M.CloseBrace) ts →
+    NoPattern (GoesIn m k (I.Annotated b done) p) ts
+no_annotation m k b done p ts comma close = record { none = λ u is h r. not_annotation m k b done p ts comma close u is r.left r.goes r.runs }
+
+not_applied : (m : Bool) (k : ℕ) (s : StrategyTree) (ts : List Lexeme) → NotAt (mark M.Greater) ts →
+    (u : PatternTree) (is left : List Item) → GoesApplied s m k u is left → Runs either left ts → ⊥
+not_applied m k s ts close u is left goes_applied r = not_along (mark M.Greater) left ts refl close r
+not_applied m k s ts close u is left goes_applied_then r = not_along (mark M.Greater) left ts refl close r
+
+pub no_applied : (m : Bool) (k : ℕ) (s : StrategyTree) (ts : List Lexeme) → NotAt (mark M.Greater) ts → NoPattern (GoesApplied s m k) ts
+no_applied m k s ts close = record { none = λ u is h r. not_applied m k s ts close u is r.left r.goes r.runs }

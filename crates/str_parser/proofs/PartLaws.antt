@@ -23,7 +23,7 @@ passed_deep p k is ts h (inr r) = r
 
 -- ---- tokens in front of items that stop there
 
-mark_binds : (m : Mark) → mark_strength m ≤ 4
+mark_binds : (m : Mark) → mark_strength m ≤ 5
 mark_binds M.OpenParenthesis = omega arith
 mark_binds M.CloseParenthesis = omega arith
 mark_binds M.OpenBracket = omega arith
@@ -47,7 +47,7 @@ mark_binds M.Arrow = omega arith
 mark_binds M.DoubleArrow = omega arith
 mark_binds M.LeftChoice = omega arith
 
-lexeme_binds : (t : Lexeme) → lexeme_strength t ≤ 4
+lexeme_binds : (t : Lexeme) → lexeme_strength t ≤ 5
 lexeme_binds (name x) = omega arith
 lexeme_binds wildcard = omega arith
 lexeme_binds (integer z) = omega arith

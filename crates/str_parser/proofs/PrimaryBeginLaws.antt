@@ -221,7 +221,7 @@ module _ (k : ℕ) where
 
   -- ---- rec
 
-  pub recursive_leads : (x : Bytes) (ts rest : List Lexeme) → Found one_name (AtMost 4) ts x (mark M.OpenParenthesis ∷ rest) →
+  pub recursive_leads : (x : Bytes) (ts rest : List Lexeme) → Found one_name (AtMost 5) ts x (mark M.OpenParenthesis ∷ rest) →
       Leads (Written k) (Continues k (states.ToStrategy (B.Recursive x) rest)) (keyword K.Rec ∷ ts) rest
   recursive_leads x ts rest f = leads_by k _ _ _ _ sound all (omega (arith, f.shorter))
     where
@@ -237,13 +237,13 @@ module _ (k : ℕ) where
           let p = f.only_one y (parenthesis s is) (omega arith) r.1 in
           recursive_of y p.0 s is p.1.1
 
-  pub recursive_no_name : (ts : List Lexeme) → Missing one_name (AtMost 4) ts → NoRun (Written k) (keyword K.Rec ∷ ts)
+  pub recursive_no_name : (ts : List Lexeme) → Missing one_name (AtMost 5) ts → NoRun (Written k) (keyword K.Rec ∷ ts)
   recursive_no_name ts m = no_run_by k _ _ none
     where
       none : NoneLed k (keyword K.Rec) ts
       none u is (led_recursive {x = y} {s = s}) r = m.none y (parenthesis s is) (omega arith) r.1
 
-  pub recursive_no_parenthesis : (x : Bytes) (ts rest : List Lexeme) → Found one_name (AtMost 4) ts x rest → NotAt (mark M.OpenParenthesis) rest →
+  pub recursive_no_parenthesis : (x : Bytes) (ts rest : List Lexeme) → Found one_name (AtMost 5) ts x rest → NotAt (mark M.OpenParenthesis) rest →
       NoRun (Written k) (keyword K.Rec ∷ ts)
   recursive_no_parenthesis x ts rest f n = no_run_by k _ _ none
     where

@@ -8,7 +8,7 @@ use Rattle.str_lexer.specs.declared.token.Keyword.TheVariants as K
 use Rattle.str_syntax.specs.declared.strategy.Operator.{Operator}
 use Rattle.str_syntax.specs.declared.strategy.Operator.TheVariants as O
 use Rattle.str_syntax.specs.Trees as patterns
-use Rattle.str_syntax.specs.Trees.{Bytes, PatternTree, variable, wildcard, alias, integer, application, grouped, tuple, list, applied, applied_to, PatternTrees, StrategyTree, plain_sequence, left_choice, guarded_choice, StrategyTrees, SequenceTree, last, then, StepTree, plain_step, matching, PrimaryTree, identity, failure, match, build, apply, parenthesized, scope, operator, conditional, recursive, let_in, primitive, lambda, call, tuple_congruence, list_congruence, RuleTree, DefinitionTree, DefinitionTrees, no_definitions, more_definitions, no_strategy, one_strategy, no_pattern, one_pattern, no_arguments, strategy_arguments, all_arguments}
+use Rattle.str_syntax.specs.Trees.{Bytes, PatternTree, variable, wildcard, alias, integer, application, grouped, tuple, list, annotated, applied, applied_to, PatternTrees, StrategyTree, plain_sequence, left_choice, guarded_choice, StrategyTrees, SequenceTree, last, then, StepTree, plain_step, matching, PrimaryTree, identity, failure, match, build, apply, parenthesized, scope, operator, conditional, recursive, let_in, primitive, lambda, call, tuple_congruence, list_congruence, RuleTree, DefinitionTree, DefinitionTrees, no_definitions, more_definitions, no_strategy, one_strategy, no_pattern, one_pattern, no_arguments, strategy_arguments, all_arguments}
 use Rattle.str_parser.specs.declared.input.Lexeme.{Lexeme as CodeLexeme}
 use Rattle.str_parser.specs.declared.input.Lexeme.TheVariants as C
 use Rattle.str_parser.specs.Lexemes.{Lexeme, name, quoted, mark, keyword, begins_strategy, begins_pattern}
@@ -160,6 +160,7 @@ build_begins way k (grouped p) is t ts r = rw r.0 refl
 build_begins way k (tuple ps) is t ts r = rw r.1.0 refl
 build_begins way k (list ps no_pattern) is t ts r = rw r.0 refl
 build_begins way k (list ps (one_pattern p)) is t ts r = rw r.1.0 refl
+build_begins way k (annotated p qs) is t ts r = build_begins way k p _ t ts r.1
 build_begins way k (applied s) is t ts r = rw r.1.0 refl
 build_begins way k (applied_to s p) is t ts r = rw r.1.0 refl
 

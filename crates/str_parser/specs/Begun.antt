@@ -1,5 +1,5 @@
 -- Trees that have been read in part: how they go on.
-use Rattle.std.specs.Prelude.{◌≡◌, ℕ, ◌+◌, map, Bool, true, false, List, [], ◌∷◌, Result, Ok, Err, Box}
+use Rattle.std.specs.Prelude.{◌≡◌, ℕ, ◌+◌, ◌≤◌, length, map, if◌then◌else◌, Bool, true, false, List, [], ◌∷◌, Result, Ok, Err, Box}
 use Rattle.std.specs.declared.vec.Vec.{Vec}
 use Rattle.std.specs.declared.alloc.Global.{Global}
 use Rattle.str_parser.specs.declared.refusal.Refusal.{Refusal}
@@ -12,12 +12,12 @@ use Rattle.str_syntax.specs.declared.strategy.Pattern.{Pattern}
 use Rattle.str_syntax.specs.declared.strategy.Primary.{Primary}
 use Rattle.str_syntax.specs.declared.strategy.Strategy.{Strategy}
 use Rattle.str_syntax.specs.declared.strategy.StrategyDefinition.{StrategyDefinition}
-use Rattle.str_syntax.specs.Trees.{Bytes, PatternTree, alias, application, grouped, tuple, list, applied, applied_to, PatternTrees, no_patterns, more_patterns, StrategyTree, StrategyTrees, no_strategies, more_strategies, SequenceTree, PrimaryTree, match, build, apply, parenthesized, scope, operator, conditional, recursive, let_in, primitive, lambda, call, tuple_congruence, list_congruence, rewrites, DefinitionTree, definition, DefinitionTrees, no_definitions, more_definitions, no_strategy, one_strategy, no_pattern, one_pattern, strategy_arguments, all_arguments, head}
+use Rattle.str_syntax.specs.Trees.{Bytes, PatternTree, alias, application, grouped, tuple, list, annotated, applied, applied_to, PatternTrees, no_patterns, more_patterns, StrategyTree, StrategyTrees, no_strategies, more_strategies, SequenceTree, PrimaryTree, match, build, apply, parenthesized, scope, operator, conditional, recursive, let_in, primitive, lambda, call, tuple_congruence, list_congruence, rewrites, DefinitionTree, definition, DefinitionTrees, no_definitions, more_definitions, no_strategy, one_strategy, no_pattern, one_pattern, strategy_arguments, all_arguments, head}
 use Rattle.str_syntax.specs.Views.{pattern_of, strategy_of, primary_of, definition_of, parameters_of, strategies_of, patterns_of}
 use Rattle.str_parser.specs.Lexemes.{Lexeme, strategy_part}
-use Rattle.str_parser.specs.Items.{Item, part, no_build}
-use Rattle.str_parser.specs.Phrases.{sign, word, pattern_part, pattern, patterns, other_patterns, strategy, other_strategies, sequence, defined, definitions, primary}
-use Rattle.str_parser.specs.Readings.{Leads, NoRun}
+use Rattle.str_parser.specs.Items.{Item, part, no_build, Way, either}
+use Rattle.str_parser.specs.Phrases.{sign, word, pattern_part, takes_annotations, pattern, patterns, other_patterns, strategy, other_strategies, sequence, defined, definitions, primary}
+use Rattle.str_parser.specs.Readings.{strength, Run, Leads, NoRun}
 use Rattle.str_parser.specs.declared.begun.BeforeStrategy.{BeforeStrategy}
 use Rattle.str_parser.specs.declared.begun.BeforeStrategy.TheVariants as B
 use Rattle.str_parser.specs.declared.begun.BeforePattern.{BeforePattern}
@@ -187,9 +187,14 @@ HasPattern before p k = GoesBy k before p
 
 -- ---- patterns
 
--- how a pattern is written as a whole
+-- the pattern does not end with annotations of the whole
+abbrev pub is_bare : PatternTree → Bool
+is_bare (annotated p qs) = false
+is_bare _ = true
+
+-- how a pattern without them is written as a whole
 pub data WrittenPattern (in_match : Bool) (k : ℕ) : PatternTree → List Item → List Item → Type 0 where
-  written_pattern : {u : PatternTree} {is : List Item} → WrittenPattern in_match k u is (pattern in_match k u is)
+  written_pattern : {u : PatternTree} {is : List Item} → is_bare u ≡ true → WrittenPattern in_match k u is (pattern in_match k u is)
 
 -- how a pattern, read up to a pattern in it, goes on after that
 pub data GoesIn (in_match : Bool) (k : ℕ) : BeforeInner → PatternTree → PatternTree → List Item → List Item → Type 0 where
@@ -207,12 +212,19 @@ pub data GoesIn (in_match : Bool) (k : ℕ) : BeforeInner → PatternTree → Pa
       u ≡ list (patterns_of done.items) (one_pattern p) → GoesIn in_match k (I.Tail done) p u is (sign M.CloseBracket ∷ is)
   goes_applied_to : {s : Box Strategy Global} {p : PatternTree} {is : List Item} →
       GoesIn in_match k (I.AppliedTo s) p (applied_to (strategy_of s.value) p) is is
+  goes_annotations : {q : Box Pattern Global} {done : Vec Pattern Global} {p : PatternTree} (ps : PatternTrees) {u : PatternTree} {is : List Item} →
+      u ≡ annotated (pattern_of q.value) (patterns_with done p ps) → GoesIn in_match k (I.Annotated q done) p u is (other_patterns in_match (k + 1) ps (sign M.CloseBrace ∷ is))
 
 -- how a build goes on after < and this strategy
 pub data GoesApplied (s : StrategyTree) (in_match : Bool) (k : ℕ) : PatternTree → List Item → List Item → Type 0 where
   goes_applied : {is : List Item} → GoesApplied s in_match k (applied s) is (sign M.Greater ∷ no_build ∷ is)
   goes_applied_then : {p : PatternTree} {is : List Item} →
       GoesApplied s in_match k (applied_to s p) is (sign M.Greater ∷ inner_pattern in_match (k + 1) p is)
+
+-- how a pattern goes on after this one and the { of its annotations
+pub data GoesAnnotated (p : PatternTree) (in_match : Bool) (k : ℕ) : PatternTree → List Item → List Item → Type 0 where
+  goes_annotated : (qs : PatternTrees) {u : PatternTree} {is : List Item} → takes_annotations p ≡ true → u ≡ annotated p qs →
+      GoesAnnotated p in_match k u is (patterns in_match (k + 1) qs (sign M.CloseBrace ∷ is))
 
 -- how a pattern goes on from where it has been read to
 pub data ContinuesPattern (in_match : Bool) (k : ℕ) : BegunPattern → PatternTree → List Item → List Item → Type 0 where
@@ -227,11 +239,25 @@ after_pattern (pattern_states.Whole _ rest) = rest
 after_pattern (pattern_states.ToStrategy rest) = rest
 after_pattern (pattern_states.ToPattern _ rest) = rest
 
+-- how strongly what stands after the pattern may bind it: as a { does, where annotations may follow
+abbrev pub most_after : PatternTree → ℕ
+most_after p = if takes_annotations p then 4 else 3
+
+-- Leads of patterns after which annotations may stand
+pub record LeadsPattern (First Second : PatternTree → List Item → List Item → Type 0) (ts rest : List Lexeme) : Type 0 where
+  pub sound : (way : Way) (u : PatternTree) (is : List Item) → Run Second way u is rest → Run First way u is ts
+  pub all : (u : PatternTree) (is : List Item) → strength is ≤ most_after u → Run First either u is ts → Run Second either u is rest
+  pub no_longer : length rest ≤ length ts
+
+-- NoRun of such patterns
+pub record NoPattern (Rest : PatternTree → List Item → List Item → Type 0) (ts : List Lexeme) : Type 0 where
+  pub none : (u : PatternTree) (is : List Item) → strength is ≤ most_after u → Run Rest either u is ts → ⊥
+
 -- the pattern goes on, at every level, as what has been read says; or it does not go on so
 abbrev pub IsNextPattern : (Bool → ℕ → PatternTree → List Item → List Item → Type 0) → Bool → List Lexeme → Result BegunPattern Refusal → Type 0
-IsNextPattern Rest in_match ts (Ok b) = (k : ℕ) → Leads (Rest in_match k) (ContinuesPattern in_match k b) ts (after_pattern b)
+IsNextPattern Rest in_match ts (Ok b) = (k : ℕ) → LeadsPattern (Rest in_match k) (ContinuesPattern in_match k b) ts (after_pattern b)
 IsNextPattern Rest in_match ts (Err refusals.Memory) = Unit {0}
-IsNextPattern Rest in_match ts (Err (refusals.Syntax _ _)) = (k : ℕ) → NoRun (Rest in_match k) ts
+IsNextPattern Rest in_match ts (Err (refusals.Syntax _ _)) = (k : ℕ) → NoPattern (Rest in_match k) ts
 IsNextPattern Rest in_match ts (Err _) = ⊥
 
 -- a pattern that has been read up to this pattern and has it

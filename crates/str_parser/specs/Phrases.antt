@@ -8,7 +8,7 @@ use Rattle.str_syntax.specs.declared.strategy.Operator.{Operator}
 use Rattle.str_syntax.specs.declared.strategy.Operator.TheVariants as O
 use Rattle.str_syntax.specs.declared.definition.Origin.{Origin}
 use Rattle.str_syntax.specs.declared.definition.Origin.TheVariants as origins
-use Rattle.str_syntax.specs.Trees.{Bytes, ParameterTree, absent, strategies_only, with_terms, HeadTree, PatternTree, variable, wildcard, alias, integer, quoted, application, grouped, tuple, list, applied, applied_to, PatternTrees, no_patterns, more_patterns, StrategyTree, plain_sequence, left_choice, guarded_choice, StrategyTrees, no_strategies, more_strategies, OptionalStrategy, SequenceTree, last, then, StepTree, plain_step, matching, PrimaryTree, identity, failure, match, build, apply, parenthesized, scope, operator, conditional, recursive, let_in, primitive, lambda, call, tuple_congruence, list_congruence, ArgumentTree, RuleTree, rewrites, DefinitionTree, definition, DefinitionTrees, no_definitions, more_definitions, SortTree, sort, sort_of, SortTrees, no_sorts, more_sorts, DeclarationTree, constant, constructor, injection, SignatureTree, sorts, constructors, FormTree, rule_form, strategy_form, TopTree, SectionTree, signature, rules, strategies, FileTree, no_strategy, one_strategy, no_pattern, one_pattern, no_arguments, strategy_arguments, all_arguments, head}
+use Rattle.str_syntax.specs.Trees.{Bytes, ParameterTree, absent, strategies_only, with_terms, HeadTree, PatternTree, variable, wildcard, alias, integer, quoted, application, grouped, tuple, list, annotated, applied, applied_to, PatternTrees, no_patterns, more_patterns, StrategyTree, plain_sequence, left_choice, guarded_choice, StrategyTrees, no_strategies, more_strategies, OptionalStrategy, SequenceTree, last, then, StepTree, plain_step, matching, PrimaryTree, identity, failure, match, build, apply, parenthesized, scope, operator, conditional, recursive, let_in, primitive, lambda, call, tuple_congruence, list_congruence, ArgumentTree, RuleTree, rewrites, DefinitionTree, definition, DefinitionTrees, no_definitions, more_definitions, SortTree, sort, sort_of, SortTrees, no_sorts, more_sorts, DeclarationTree, constant, constructor, injection, SignatureTree, sorts, constructors, FormTree, rule_form, strategy_form, TopTree, SectionTree, signature, rules, strategies, FileTree, no_strategy, one_strategy, no_pattern, one_pattern, no_arguments, strategy_arguments, all_arguments, head}
 use Rattle.str_parser.specs.Lexemes.{Lexeme, Part, strategy_part, match_part, build_part, sort_part, first_begins}
 use Rattle.str_parser.specs.Lexemes.{Lexeme as L}
 use Rattle.str_parser.specs.Items.{Item, token, part, no_build, only, too_deep, Runs}
@@ -88,6 +88,14 @@ abbrev pub any_strategies : StrategyTrees → Bool
 any_strategies no_strategies = false
 any_strategies (more_strategies s ss) = true
 
+-- annotations may follow the pattern: after x@p they are those of p, after <s> p too, and after <s> or annotations there are none
+abbrev pub takes_annotations : PatternTree → Bool
+takes_annotations (alias x p) = false
+takes_annotations (annotated p qs) = false
+takes_annotations (applied s) = false
+takes_annotations (applied_to s p) = false
+takes_annotations _ = true
+
 abbrev mutual
   -- The pattern at this level, in a match or in a build. What stands in a pattern is one level further in.
   pub pattern : Bool → ℕ → PatternTree → List Item → List Item
@@ -101,6 +109,7 @@ abbrev mutual
   pattern in_match k (tuple ps) is = only (are_parts ps) ∷ sign M.OpenParenthesis ∷ patterns in_match (k + 1) ps (sign M.CloseParenthesis ∷ is)
   pattern in_match k (list ps no_pattern) is = sign M.OpenBracket ∷ patterns in_match (k + 1) ps (sign M.CloseBracket ∷ is)
   pattern in_match k (list ps (one_pattern p)) is = only (any_patterns ps) ∷ sign M.OpenBracket ∷ patterns in_match (k + 1) ps (sign M.Bar ∷ part (pattern_part in_match) (k + 1) ∷ pattern in_match (k + 1) p (sign M.CloseBracket ∷ is))
+  pattern in_match k (annotated p qs) is = only (takes_annotations p) ∷ pattern in_match k p (sign M.OpenBrace ∷ patterns in_match (k + 1) qs (sign M.CloseBrace ∷ is))
   pattern in_match k (applied s) is = only (is_not in_match) ∷ sign M.Less ∷ part strategy_part (k + 1) ∷ strategy (k + 1) s (sign M.Greater ∷ no_build ∷ is)
   pattern in_match k (applied_to s p) is = only (is_not in_match) ∷ sign M.Less ∷ part strategy_part (k + 1) ∷ strategy (k + 1) s (sign M.Greater ∷ part build_part (k + 1) ∷ pattern in_match (k + 1) p is)
 

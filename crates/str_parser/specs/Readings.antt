@@ -50,10 +50,11 @@ IsSyntax _ = ⊥
 
 -- ---- trees
 
--- How strongly a token binds what stands before it: a ( or @ a name, a => a primary, a ; a step, a <+ or < a sequence.
+-- How strongly a token binds what stands before it: a ( or @ a name, a { a pattern, a => a primary, a ; a step, a <+ or < a sequence.
 abbrev pub mark_strength : Mark → ℕ
-mark_strength M.OpenParenthesis = 4
-mark_strength M.At = 4
+mark_strength M.OpenParenthesis = 5
+mark_strength M.At = 5
+mark_strength M.OpenBrace = 4
 mark_strength M.DoubleArrow = 3
 mark_strength M.Semicolon = 2
 mark_strength M.LeftChoice = 1
@@ -69,8 +70,8 @@ abbrev pub strength : List Item → ℕ
 strength [] = 0
 strength (token t ∷ is) = lexeme_strength t
 strength (only b ∷ is) = strength is
-strength (part p k ∷ is) = 4
-strength (no_build ∷ is) = 4
+strength (part p k ∷ is) = 5
+strength (no_build ∷ is) = 5
 
 -- the first token binds no stronger than this
 abbrev pub AtMost : ℕ → List Item → Type 0

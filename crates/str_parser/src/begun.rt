@@ -79,6 +79,8 @@ pub(crate) enum BeforeInner {
     Tail(Vec<Pattern>),
     // `<s>`
     AppliedTo(Box<Strategy>),
+    // `p{p, ..,`
+    Annotated(Box<Pattern>, Vec<Pattern>),
 }
 
 // How far a pattern has been read, and the tokens after that.

@@ -13,7 +13,7 @@ use crate::begun::{Begun, BegunPattern};
 use crate::expected::Expected;
 use crate::file::MAX_LEVEL;
 use crate::input::{Input, Lexeme};
-use crate::pattern_part::{applied, begins_pattern};
+use crate::pattern_part::{applied, begin_annotations, begins_pattern};
 use crate::refusal::Refusal;
 use crate::{pattern_begin, primary_begin};
 use std::alloc::Global;
@@ -189,7 +189,12 @@ pub(crate) fn pattern<'a>(
     let mut begun = pattern_begin::begin(alloc, input, in_match)?;
     loop {
         begun = match begun {
-            BegunPattern::Whole(made, rest) => return Ok((made, rest)),
+            BegunPattern::Whole(made, rest) => {
+                let Some(following) = rest.after(Mark::OpenBrace) else {
+                    return Ok((made, rest));
+                };
+                begin_annotations(alloc, made, &rest, following)?
+            }
             BegunPattern::ToStrategy(rest) => {
                 let (part, rest) = strategy(alloc, rest, level + 1)?;
                 applied(alloc, part, rest)?

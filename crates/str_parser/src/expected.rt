@@ -55,10 +55,24 @@ pub enum Expected {
     /// After a part of a call or of parameters, where terms may come after a bar.
     CommaBarOrParenthesis,
     CommaBarOrBracket,
+    /// After an annotation of a pattern.
+    CommaOrBrace,
+    /// No `{`: the pattern has annotations already.
+    OneListOfAnnotations,
+    /// No `{`: it would follow `<s>`, which has no annotations without parentheses around it.
+    ParenthesesAroundApplied,
 }
 
 impl Expected {
-    /// What could stand there, as a list: `',' or ')'`.
+    /// Tells whether the words are a rule that the token breaks, and no list of what could stand there.
+    pub fn is_rule(&self) -> bool {
+        matches!(
+            self,
+            Expected::OneListOfAnnotations | Expected::ParenthesesAroundApplied
+        )
+    }
+
+    /// What could stand there, as a list: `',' or ')'`. Or the rule that the token breaks: `a pattern has one list of annotations`.
     pub fn words(&self) -> &'static str {
         match self {
             Expected::Section => "'signature', 'rules' or 'strategies'",
@@ -98,6 +112,9 @@ impl Expected {
             Expected::CommaOrParenthesis => "',' or ')'",
             Expected::CommaBarOrParenthesis => "',', '|' or ')'",
             Expected::CommaBarOrBracket => "',', '|' or ']'",
+            Expected::CommaOrBrace => "',' or '}'",
+            Expected::OneListOfAnnotations => "a pattern has one list of annotations",
+            Expected::ParenthesesAroundApplied => "'<..>' takes annotations only in parentheses",
         }
     }
 }

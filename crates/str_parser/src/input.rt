@@ -14,7 +14,7 @@ use str_lexer::{Keyword, Mark, Token, TokenKind};
 pub(crate) enum Lexeme<'a> {
     Name(&'a [u8]),
     Wildcard,
-    Integer(i32),
+    Integer(i64),
     Quoted(&'a [u8]),
     Mark(Mark),
     Keyword(Keyword),

@@ -17,7 +17,7 @@ pub(crate) fn name<'a>(
     input: Input<'a>,
     expected: Expected,
 ) -> Result<(Name, Input<'a>), Refusal>
-    ensures { IsReading one_name (AtMost 4) itself input.entry result }
+    ensures { IsReading one_name (AtMost 5) itself input.entry result }
 {
     let Some((Lexeme::Name(bytes), rest)) = input.first() else {
         return Err(input.syntax(expected));

@@ -2,8 +2,8 @@
 ghost use Rattle.std.specs.Prelude.{◌≡◌, Bool, false};
 ghost use Rattle.str_syntax.specs.Views.{pattern_of, strategy_of};
 ghost use Rattle.str_parser.specs.Lexemes.{first_begins};
-ghost use Rattle.str_parser.specs.Phrases.{pattern_part};
-ghost use Rattle.str_parser.specs.Begun.{IsNextPattern, HasInner, GoesApplied};
+ghost use Rattle.str_parser.specs.Phrases.{pattern_part, takes_annotations as may_be_annotated};
+ghost use Rattle.str_parser.specs.Begun.{IsNextPattern, HasInner, GoesApplied, GoesAnnotated};
 
 use crate::begun::{BeforeInner, BegunPattern};
 use crate::expected::Expected;
@@ -31,6 +31,7 @@ impl BeforeInner {
             BeforeInner::Bracketed(done) => bracketed(done, part, input),
             BeforeInner::Tail(parts) => tail(alloc, parts, part, input),
             BeforeInner::AppliedTo(applied) => applied_to(alloc, applied, part, input),
+            BeforeInner::Annotated(bare, done) => annotated(bare, done, part, input),
         }
     }
 }
@@ -135,6 +136,65 @@ fn applied_to<'a>(
 {
     let made = Pattern::AppliedTo(applied, Box::new(alloc, part)?);
     Ok(BegunPattern::Whole(made, input))
+}
+
+// Tells whether annotations may follow the pattern. After `x@p` and `<s> p` they are those of p, and after annotations and `<s>` there are none.
+fn takes_annotations(pattern: &Pattern) -> bool
+    ensures { result ≡ may_be_annotated (pattern_of pattern.now) }
+{
+    match pattern {
+        Pattern::Alias(_, _) => false,
+        Pattern::Annotated(_, _) => false,
+        Pattern::Applied(_) => false,
+        Pattern::AppliedTo(_, _) => false,
+        _ => true,
+    }
+}
+
+// Why no annotations may follow the pattern.
+fn no_annotations(pattern: &Pattern) -> Expected {
+    match pattern {
+        Pattern::Applied(_) => Expected::ParenthesesAroundApplied,
+        _ => Expected::OneListOfAnnotations,
+    }
+}
+
+// The pattern with this part, whose `{` stands before the tokens, up to its first annotation. No annotations may follow some.
+pub(crate) fn begin_annotations<'a>(
+    alloc: Global,
+    bare: Pattern,
+    brace: &Input<'a>,
+    input: Input<'a>,
+) -> Result<BegunPattern<'a>, Refusal>
+    ensures { (in_match : Bool) → IsNextPattern (GoesAnnotated (pattern_of bare)) in_match input.entry result }
+{
+    if !takes_annotations(&bare) {
+        return Err(brace.syntax(no_annotations(&bare)));
+    }
+    let bare = Box::new(alloc, bare)?;
+    if let Some(rest) = input.after(Mark::CloseBrace) {
+        return Ok(BegunPattern::Whole(Pattern::Annotated(bare, Vec::new(alloc)), rest));
+    }
+    Ok(BegunPattern::ToPattern(BeforeInner::Annotated(bare, Vec::new(alloc)), input))
+}
+
+fn annotated<'a>(
+    bare: Box<Pattern>,
+    done: Vec<Pattern>,
+    part: Pattern,
+    input: Input<'a>,
+) -> Result<BegunPattern<'a>, Refusal>
+    ensures { (in_match : Bool) → IsNextPattern (HasInner (BeforeInner.Annotated bare done) (pattern_of part)) in_match input.entry result }
+{
+    let mut parts = done;
+    parts.push(part)?;
+    if let Some(following) = input.after(Mark::Comma) {
+        return Ok(BegunPattern::ToPattern(BeforeInner::Annotated(bare, parts), following));
+    }
+    let Some(rest) = input.after(Mark::CloseBrace) else {
+        return Err(input.syntax(Expected::CommaOrBrace));
+    };
+    Ok(BegunPattern::Whole(Pattern::Annotated(bare, parts), rest))
 }
 
 // The build `<s>`, where this strategy is s and its `<` and itself have been read, up to its next part.

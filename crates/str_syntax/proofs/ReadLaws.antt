@@ -23,7 +23,7 @@ use Rattle.str_syntax.specs.declared.sort.Sort.TheVariants as sorts
 use Rattle.str_syntax.specs.declared.sort.Sort.TheOpen as sort_forms
 use Rattle.str_syntax.specs.declared.sort.Sort.TheFolds.{fold-roll-Sort, map-Sort}
 use Rattle.str_syntax.specs.declared.sort.Sort.TheViews.{roll-Sort}
-use Rattle.str_syntax.specs.Trees.{ArgumentTree, PatternTree, PrimaryTree, RuleTree, SequenceTree, StepTree, StrategyTree, DefinitionTree, definition, SortTree, sort, sort_of, variable, wildcard, alias, integer, quoted, application, grouped, tuple, list, applied, applied_to, plain_sequence, left_choice, guarded_choice, last, then, plain_step, matching, identity, failure, match, build, apply, parenthesized, scope, operator, conditional, recursive, let_in, primitive, lambda, call, tuple_congruence, list_congruence, no_arguments, strategy_arguments, all_arguments, rewrites}
+use Rattle.str_syntax.specs.Trees.{ArgumentTree, PatternTree, PrimaryTree, RuleTree, SequenceTree, StepTree, StrategyTree, DefinitionTree, definition, SortTree, sort, sort_of, variable, wildcard, alias, integer, quoted, application, grouped, tuple, list, annotated, applied, applied_to, plain_sequence, left_choice, guarded_choice, last, then, plain_step, matching, identity, failure, match, build, apply, parenthesized, scope, operator, conditional, recursive, let_in, primitive, lambda, call, tuple_congruence, list_congruence, no_arguments, strategy_arguments, all_arguments, rewrites}
 use Rattle.str_syntax.specs.Views.{argument_step, pattern_step, primary_step, rule_step, sequence_step, step_step, strategy_step, definition_step, arguments_of, pattern_of, primary_of, rule_of, sequence_of, step_of, strategy_of, definition_of, optional_pattern_of, optional_strategy_of, patterns_of, strategies_of, definitions_of, head_of, sort_step, sort_tree_of, sorts_of}
 
 pattern_roll : (x : forms.Pattern-F Arguments Pattern Primary Sequence Step Strategy Rule StrategyDefinition) →
@@ -57,6 +57,9 @@ reads_tuple ps = ap pattern_of (sym (patterns.rolls-Tuple ps)) ∙ pattern_roll 
 pub reads_list : (ps : Vec Pattern Global) (o : Option (Box Pattern Global)) → pattern_of (patterns.List ps o) ≡ list (patterns_of ps.items) (optional_pattern_of o)
 reads_list ps None = ap pattern_of (sym (patterns.rolls-List ps None)) ∙ pattern_roll (forms.List ps None)
 reads_list ps (Some p) = ap pattern_of (sym (patterns.rolls-List ps (Some p))) ∙ pattern_roll (forms.List ps (Some p))
+
+pub reads_annotated : (p : Box Pattern Global) (ps : Vec Pattern Global) → pattern_of (patterns.Annotated p ps) ≡ annotated (pattern_of p.value) (patterns_of ps.items)
+reads_annotated p ps = ap pattern_of (sym (patterns.rolls-Annotated p ps)) ∙ pattern_roll (forms.Annotated p ps)
 
 pub reads_applied : (s : Box Strategy Global) → pattern_of (patterns.Applied s) ≡ applied (strategy_of s.value)
 reads_applied s = ap pattern_of (sym (patterns.rolls-Applied s)) ∙ pattern_roll (forms.Applied s)
@@ -212,4 +215,4 @@ pub reads_sort_of : (a : List ℕ) (parts : Vec Sort Global) → sort_tree_of (s
 reads_sort_of a parts = ap sort_tree_of (sym (sorts.rolls-Applied a parts)) ∙ sort_roll (sort_forms.Applied a parts)
 
 -- what each tree stands for
-pub ruleset reads = (reads_variable, reads_wildcard, reads_alias, reads_integer, reads_quoted, reads_application, reads_grouped, reads_tuple, reads_list, reads_applied, reads_applied_to, reads_plain_sequence, reads_left_choice, reads_guarded_choice, reads_last, reads_then, reads_plain_step, reads_matching, reads_identity, reads_failure, reads_match, reads_build, reads_apply, reads_parenthesized, reads_scope, reads_operator, reads_conditional, reads_recursive, reads_let, reads_primitive, reads_lambda, reads_call, reads_tuple_congruence, reads_list_congruence, reads_no_arguments, reads_strategy_arguments, reads_all_arguments, reads_made_rule, reads_made_definition, reads_sort, reads_sort_of)
+pub ruleset reads = (reads_variable, reads_wildcard, reads_alias, reads_integer, reads_quoted, reads_application, reads_grouped, reads_tuple, reads_list, reads_annotated, reads_applied, reads_applied_to, reads_plain_sequence, reads_left_choice, reads_guarded_choice, reads_last, reads_then, reads_plain_step, reads_matching, reads_identity, reads_failure, reads_match, reads_build, reads_apply, reads_parenthesized, reads_scope, reads_operator, reads_conditional, reads_recursive, reads_let, reads_primitive, reads_lambda, reads_call, reads_tuple_congruence, reads_list_congruence, reads_no_arguments, reads_strategy_arguments, reads_all_arguments, reads_made_rule, reads_made_definition, reads_sort, reads_sort_of)

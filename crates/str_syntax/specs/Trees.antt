@@ -28,6 +28,8 @@ mutual
     grouped : PatternTree → PatternTree
     tuple : PatternTrees → PatternTree
     list : PatternTrees → OptionalPattern → PatternTree
+    -- a pattern, and those of its annotations
+    annotated : PatternTree → PatternTrees → PatternTree
     applied : StrategyTree → PatternTree
     applied_to : StrategyTree → PatternTree → PatternTree
 

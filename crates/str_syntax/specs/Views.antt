@@ -30,7 +30,7 @@ use Rattle.str_syntax.specs.declared.definition.Definition.{Definition}
 use Rattle.str_syntax.specs.declared.definition.Section.{Section}
 use Rattle.str_syntax.specs.declared.definition.Section.TheVariants as section_forms
 use Rattle.str_syntax.specs.declared.definition.File.{File}
-use Rattle.str_syntax.specs.Trees.{ParameterTree, absent, strategies_only, with_terms, HeadTree, head, PatternTree, variable, wildcard, alias, integer, quoted, application, grouped, tuple, list, applied, applied_to, PatternTrees, no_patterns, more_patterns, OptionalPattern, no_pattern, one_pattern, StrategyTree, plain_sequence, left_choice, guarded_choice, StrategyTrees, no_strategies, more_strategies, OptionalStrategy, no_strategy, one_strategy, SequenceTree, last, then, StepTree, plain_step, matching, PrimaryTree, identity, failure, match, build, apply, parenthesized, scope, operator, conditional, recursive, let_in, primitive, lambda, call, tuple_congruence, list_congruence, ArgumentTree, no_arguments, strategy_arguments, all_arguments, RuleTree, rewrites, DefinitionTree, definition, DefinitionTrees, no_definitions, more_definitions, SortTree, sort, sort_of, SortTrees, no_sorts, more_sorts, DeclarationTree, constant, constructor, injection, SignatureTree, sorts, constructors, FormTree, rule_form, strategy_form, TopTree, SectionTree, signature, rules, strategies, FileTree}
+use Rattle.str_syntax.specs.Trees.{ParameterTree, absent, strategies_only, with_terms, HeadTree, head, PatternTree, variable, wildcard, alias, integer, quoted, application, grouped, tuple, list, annotated, applied, applied_to, PatternTrees, no_patterns, more_patterns, OptionalPattern, no_pattern, one_pattern, StrategyTree, plain_sequence, left_choice, guarded_choice, StrategyTrees, no_strategies, more_strategies, OptionalStrategy, no_strategy, one_strategy, SequenceTree, last, then, StepTree, plain_step, matching, PrimaryTree, identity, failure, match, build, apply, parenthesized, scope, operator, conditional, recursive, let_in, primitive, lambda, call, tuple_congruence, list_congruence, ArgumentTree, no_arguments, strategy_arguments, all_arguments, RuleTree, rewrites, DefinitionTree, definition, DefinitionTrees, no_definitions, more_definitions, SortTree, sort, sort_of, SortTrees, no_sorts, more_sorts, DeclarationTree, constant, constructor, injection, SignatureTree, sorts, constructors, FormTree, rule_form, strategy_form, TopTree, SectionTree, signature, rules, strategies, FileTree}
 
 abbrev pub patterns_in : List PatternTree → PatternTrees
 patterns_in [] = no_patterns
@@ -80,6 +80,7 @@ pattern_step (forms.Application f ps) = application f (patterns_in ps.items)
 pattern_step (forms.Pattern::Parenthesized p) = grouped p.value
 pattern_step (forms.Tuple ps) = tuple (patterns_in ps.items)
 pattern_step (forms.List ps p) = list (patterns_in ps.items) (optional_pattern p)
+pattern_step (forms.Annotated p ps) = annotated p.value (patterns_in ps.items)
 pattern_step (forms.Applied s) = applied s.value
 pattern_step (forms.AppliedTo s p) = applied_to s.value p.value
 

@@ -184,6 +184,9 @@ impl Pattern {
             Pattern::List(ps, p) => {
                 Ok(Pattern::List(patterns(alloc, ps)?, optional_pattern(alloc, p)?))
             }
+            Pattern::Annotated(p, annotations) => {
+                Ok(Pattern::Annotated(boxed_pattern(alloc, p)?, patterns(alloc, annotations)?))
+            }
             Pattern::Applied(s) => Ok(Pattern::Applied(boxed(alloc, s)?)),
             Pattern::AppliedTo(s, p) => {
                 Ok(Pattern::AppliedTo(boxed(alloc, s)?, boxed_pattern(alloc, p)?))

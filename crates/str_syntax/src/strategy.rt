@@ -135,7 +135,7 @@ pub struct StrategyDefinition {
     pub body: Box<Strategy>,
 }
 
-/// A pattern, in a match or in a build. The last two forms stand in builds alone.
+/// A pattern, in a match or in a build.
 #[cycle(syntax)]
 #[derive(Drop)]
 pub enum Pattern {
@@ -146,7 +146,7 @@ pub enum Pattern {
     /// `x@p`
     Alias(Name, Box<Pattern>),
     /// `1`
-    Integer(i32),
+    Integer(i64),
     /// `"text"`
     Quoted(Text),
     /// `C(p, ..)`, a constructor applied to any number of patterns.
@@ -157,8 +157,10 @@ pub enum Pattern {
     Tuple(Vec<Pattern>),
     /// `[]`, `[p, ..]` or `[p, .. | p]`, with one pattern or more before a bar.
     List(Vec<Pattern>, Option<Box<Pattern>>),
-    /// `<s>`, a strategy applied to the current term.
+    /// `p{p, ..}`, a pattern with patterns of its annotations, of which there may be none.
+    Annotated(Box<Pattern>, Vec<Pattern>),
+    /// `<s>`, a strategy applied to the current term; in a build alone.
     Applied(Box<Strategy>),
-    /// `<s> p`, a strategy applied to what p builds.
+    /// `<s> p`, a strategy applied to what p builds; in a build alone.
     AppliedTo(Box<Strategy>, Box<Pattern>),
 }

@@ -5,12 +5,13 @@ use Rattle.std.proofs.lemmas.Result.{err_from_is_err_and}
 use Rattle.str_syntax.specs.Views.{strategy_of, pattern_of}
 use Rattle.str_parser.specs.Phrases.{step, primary}
 use Rattle.str_parser.specs.Readings.{AtMost}
-use Rattle.str_parser.specs.Begun.{inner_strategy, inner_sequence, inner_pattern, Written, WrittenPattern, HasStrategy, HasPattern, HasInner, GoesApplied, wants_match}
+use Rattle.str_parser.specs.Begun.{inner_strategy, inner_sequence, inner_pattern, Written, WrittenPattern, HasStrategy, HasPattern, HasInner, GoesApplied, GoesAnnotated, wants_match}
 use Rattle.str_parser.proofs.FaultLaws.{fault_means}
 use Rattle.str_parser.proofs.DescentFaults.{beyond_fault, syntax_fault, next_fault, next_pattern_fault}
 use Rattle.str_parser.proofs.ChoiceLaws.{strategy_nested, strategy_beyond, missing_sequence, nested_sequence, found_plain, missing_right, nested_right, found_choice, missing_first, nested_first, missing_plus, missing_second, nested_second, found_guarded}
 use Rattle.str_parser.proofs.SequenceLaws.{sequence_nested, sequence_beyond, missing_step, nested_step, found_last, missing_others, nested_others, found_then, missing_primary, nested_primary, found_plain_step, missing_matched, nested_matched, found_matching}
 use Rattle.str_parser.proofs.LoopLaws.{leads_on, found_whole, missing_run, missing_all, leads_strategy, missing_strategy, nested_strategy, leads_pattern, missing_pattern, nested_pattern}
+use Rattle.str_parser.proofs.AnnotationLaws.{leads_in_braces, leads_annotated}
 use Rattle.str_parser.proofs.PatternLoopLaws.{pattern_nested, pattern_beyond, found_whole_pattern, missing_pattern_run, missing_all_patterns, leads_applied, missing_applied, nested_applied, leads_inner, missing_inner, nested_inner}
 use Rattle.str_parser.proofs.descent.+phrase.Goals as goal
 
@@ -29,12 +30,21 @@ pattern-returns-in_err-begun t c =
     rw (p.1, p.2) (next_pattern_fault WrittenPattern c.args.in_match c.args.input (inner_pattern c.args.in_match c.args.level) (AtMost 3) c.args.input _ (λ n. missing_all_patterns _ _ _ (omega arith) (n c.args.level)) c.in_err-begun.ensures)
 
 pub pattern-loop-begun-init : goal.pattern-loop-begun-init
-pattern-loop-begun-init t c = c.in_ok-begun.ensures c.args.level
+pattern-loop-begun-init t c = leads_in_braces c.args.in_match c.args.level (c.in_ok-begun.ensures c.args.level)
 
-pub pattern-returns-in-Whole : goal.pattern-returns-in-Whole
-pattern-returns-in-Whole t c =
+pub pattern-returns-in_default : goal.pattern-returns-in_default
+pattern-returns-in_default t c =
     let i = rw c.in-Whole.is at c.loop-begun.invariant in
-    found_whole_pattern _ _ _ _ _ (omega arith) i
+    found_whole_pattern _ _ _ _ _ (omega arith) i c.in_default.ensures
+
+pub pattern-returns-in_err-begun-in-Whole : goal.pattern-returns-in_err-begun-in-Whole
+pattern-returns-in_err-begun-in-Whole t c =
+    let i = rw c.in-Whole.is at c.loop-begun.invariant in
+    let p = err_from_is_err_and c.from_residual-in_err-begun-in-Whole.result c.from_residual-in_err-begun-in-Whole.ensures.1 in
+    rw (p.1, p.2) (next_pattern_fault (GoesAnnotated (pattern_of c.in-Whole.made)) c.args.in_match c.in-Some.following
+    (inner_pattern c.args.in_match c.args.level) (AtMost 3) c.args.input _
+    (λ n. missing_pattern_run _ _ _ _ _ (omega arith) (leads_on i (rw c.in-Some.ensures (leads_annotated _ _ _ _ _))) (n c.args.level))
+    (c.in_err-begun-in-Whole.ensures c.args.in_match))
 
 pub pattern-returns-in_err-part-in-ToStrategy : goal.pattern-returns-in_err-part-in-ToStrategy
 pattern-returns-in_err-part-in-ToStrategy t c =
@@ -48,7 +58,7 @@ pattern-returns-in_err-begun-in-ToStrategy t c =
     let i = rw c.in-ToStrategy.is at c.loop-begun.invariant in
     let p = err_from_is_err_and c.from_residual-in_err-begun-in-ToStrategy.result c.from_residual-in_err-begun-in-ToStrategy.ensures.1 in
     rw (p.1, p.2) (next_pattern_fault (GoesApplied (strategy_of c.in_ok-part-in-ToStrategy.part)) c.args.in_match c.in_ok-part-in-ToStrategy.rest (inner_pattern c.args.in_match c.args.level) (AtMost 3) c.args.input _
-    (λ n. missing_pattern_run _ _ _ _ _ (omega arith) (leads_on i (leads_applied _ _ _ _ _ c.in_ok-part-in-ToStrategy.ensures)) (n c.args.level)) (c.in_err-begun-in-ToStrategy.ensures c.args.in_match))
+    (λ n. missing_pattern_run _ _ _ _ _ (omega arith) (leads_on i (leads_in_braces _ _ (leads_applied _ _ _ _ _ c.in_ok-part-in-ToStrategy.ensures))) (n c.args.level)) (c.in_err-begun-in-ToStrategy.ensures c.args.in_match))
 
 pub pattern-returns-in_err-part-in-ToPattern : goal.pattern-returns-in_err-part-in-ToPattern
 pattern-returns-in_err-part-in-ToPattern t c =
@@ -62,7 +72,18 @@ pattern-returns-in_err-begun-in-ToPattern t c =
     let i = rw c.in-ToPattern.is at c.loop-begun.invariant in
     let p = err_from_is_err_and c.from_residual-in_err-begun-in-ToPattern.result c.from_residual-in_err-begun-in-ToPattern.ensures.1 in
     rw (p.1, p.2) (next_pattern_fault (HasInner c.in-ToPattern.before (pattern_of c.in_ok-part-in-ToPattern.part)) c.args.in_match c.in_ok-part-in-ToPattern.rest (inner_pattern c.args.in_match c.args.level) (AtMost 3) c.args.input _
-    (λ n. missing_pattern_run _ _ _ _ _ (omega arith) (leads_on i (leads_inner _ _ _ _ _ _ c.in_ok-part-in-ToPattern.ensures)) (n c.args.level)) (c.in_err-begun-in-ToPattern.ensures c.args.in_match))
+    (λ n. missing_pattern_run _ _ _ _ _ (omega arith) (leads_on i (leads_in_braces _ _ (leads_inner _ _ _ _ _ _ c.in_ok-part-in-ToPattern.ensures))) (n c.args.level)) (c.in_err-begun-in-ToPattern.ensures c.args.in_match))
+
+pub pattern-loop-begun-smaller-in_ok-begun-in-Whole : goal.pattern-loop-begun-smaller-in_ok-begun-in-Whole
+pattern-loop-begun-smaller-in_ok-begun-in-Whole t c =
+    let a = c.in_ok-begun-in-Whole.ensures c.args.in_match c.args.level in
+    rw (c.in-Whole.is, c.in-Some.ensures) (omega (arith, a.no_longer))
+
+pub pattern-loop-begun-preserved-in_ok-begun-in-Whole : goal.pattern-loop-begun-preserved-in_ok-begun-in-Whole
+pattern-loop-begun-preserved-in_ok-begun-in-Whole t c =
+    let i = rw c.in-Whole.is at c.loop-begun.invariant in
+    let a = c.in_ok-begun-in-Whole.ensures c.args.in_match c.args.level in
+    leads_on i (leads_on (rw c.in-Some.ensures (leads_annotated _ _ c.in-Whole.made _ _)) (leads_in_braces _ _ a))
 
 pub pattern-loop-begun-smaller-in_ok-begun-in-ToStrategy : goal.pattern-loop-begun-smaller-in_ok-begun-in-ToStrategy
 pattern-loop-begun-smaller-in_ok-begun-in-ToStrategy t c =
@@ -75,7 +96,7 @@ pattern-loop-begun-preserved-in_ok-begun-in-ToStrategy t c =
     let i = rw c.in-ToStrategy.is at c.loop-begun.invariant in
     let a = c.in_ok-begun-in-ToStrategy.ensures c.args.in_match c.args.level in
     let b = c.in_ok-part-in-ToStrategy.ensures in
-    leads_on i (leads_on (leads_applied _ _ _ _ _ b) a)
+    leads_on i (leads_on (leads_in_braces _ _ (leads_applied _ _ _ _ _ b)) (leads_in_braces _ _ a))
 
 pub pattern-loop-begun-smaller : goal.pattern-loop-begun-smaller
 pattern-loop-begun-smaller t c =
@@ -88,7 +109,7 @@ pattern-loop-begun-preserved t c =
     let i = rw c.in-ToPattern.is at c.loop-begun.invariant in
     let a = c.in_ok-begun-in-ToPattern.ensures c.args.in_match c.args.level in
     let b = c.in_ok-part-in-ToPattern.ensures in
-    leads_on i (leads_on (leads_inner _ _ c.in-ToPattern.before _ _ _ b) a)
+    leads_on i (leads_on (leads_in_braces _ _ (leads_inner _ _ c.in-ToPattern.before _ _ _ b)) (leads_in_braces _ _ a))
 
 -- ---- primaries
 

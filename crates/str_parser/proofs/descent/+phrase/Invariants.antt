@@ -1,6 +1,7 @@
 use Rattle.std.proofs.Common.{◌+◌, ◌-◌, ◌*◌, length}
 use Rattle.str_parser.specs.Readings.{Leads}
-use Rattle.str_parser.specs.Begun.{Written, Continues, following, WrittenPattern, ContinuesPattern, after_pattern}
+use Rattle.str_parser.specs.Begun.{Written, Continues, following, after_pattern}
+use Rattle.str_parser.proofs.AnnotationLaws.{WrittenAny, ContinuesAny}
 use Rattle.str_parser.proofs.descent.+phrase.Given as goal
 
 abbrev pub decreases-strategy : goal.decreases-strategy
@@ -29,7 +30,7 @@ abbrev pub decreases-primary-loop-begun : goal.decreases-primary-loop-begun
 decreases-primary-loop-begun l = length (following l.begun)
 
 abbrev pub invariant-pattern-loop-begun : goal.invariant-pattern-loop-begun
-invariant-pattern-loop-begun l = Leads (WrittenPattern l.in_match l.level) (ContinuesPattern l.in_match l.level l.begun) l.fn.input (after_pattern l.begun)
+invariant-pattern-loop-begun l = Leads (WrittenAny l.in_match l.level) (ContinuesAny l.in_match l.level l.begun) l.fn.input (after_pattern l.begun)
 
 abbrev pub decreases-pattern-loop-begun : goal.decreases-pattern-loop-begun
 decreases-pattern-loop-begun l = length (after_pattern l.begun)

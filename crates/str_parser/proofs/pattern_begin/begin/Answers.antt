@@ -1,4 +1,4 @@
-use Rattle.std.proofs.Common.{rules, ◌≡◌, ap, ◌∙◌, w32}
+use Rattle.std.proofs.Common.{rules, ◌≡◌, ap, ◌∙◌, w64}
 use mir.Val.{to_z, of_z}
 use Rattle.str_syntax.specs.Trees.{integer, quoted}
 use Rattle.str_syntax.proofs.ReadLaws.{reads_wildcard, reads_integer, reads_quoted}
@@ -16,7 +16,7 @@ returns-in-Wildcard c = λ k. rw (c.in-Some.ensures, c.in-Wildcard.is) (wildcard
 
 pub returns-in-Integer : goal.returns-in-Integer
 returns-in-Integer c =
-    let v : to_z w32 (of_z w32 c.in-Integer.value) ≡ c.in-Integer.value = search rules in
+    let v : to_z w64 (of_z w64 c.in-Integer.value) ≡ c.in-Integer.value = search rules in
     λ k. rw (c.in-Some.ensures, c.in-Integer.is) (integer_leads c.args.in_match k _ _ _ (reads_integer _ ∙ ap integer v))
 
 pub returns-in_ok-text-in-Quoted : goal.returns-in_ok-text-in-Quoted

@@ -4,7 +4,13 @@ use Rattle.str_syntax.specs.Views.{strategy_of}
 use Rattle.str_syntax.proofs.ReadLaws.{reads_applied}
 use Rattle.str_parser.specs.Lexemes.{build_part, first_begins}
 use Rattle.str_parser.proofs.InnerLaws.{applied_whole, applied_then}
+use Rattle.str_parser.specs.Begun.{GoesApplied}
+use Rattle.str_parser.proofs.PartFaults.{syntax_inner, no_applied}
 use Rattle.str_parser.proofs.pattern_part.applied.Goals as goal
+
+pub returns-in_default : goal.returns-in_default
+returns-in_default c = λ m. syntax_inner (GoesApplied (strategy_of c.args.applied)) m _ _ c.syntax.ensures
+    (λ k. no_applied m k (strategy_of c.args.applied) _ c.in_default.ensures)
 
 pub returns-then-begins_pattern : goal.returns-then-begins_pattern
 returns-then-begins_pattern c =

@@ -9,7 +9,7 @@ use Rattle.str_parser.proofs.primary_begin.begin_recursive.Goals as goal
 pub returns-in_err-recursive : goal.returns-in_err-recursive
 returns-in_err-recursive c =
     let p = err_from_is_err_and c.from_residual.result c.from_residual.ensures.1 in
-    rw (p.1, p.2) (name_fault Written (AtMost 4) _ _ _ (λ m k. recursive_no_name k _ m) c.in_err-recursive.ensures)
+    rw (p.1, p.2) (name_fault Written (AtMost 5) _ _ _ (λ m k. recursive_no_name k _ m) c.in_err-recursive.ensures)
 
 pub returns-in_default : goal.returns-in_default
 returns-in_default c = syntax_next _ _ _ c.syntax.ensures (λ k. recursive_no_parenthesis k _ _ _ c.in_ok-recursive.ensures c.in_default.ensures)

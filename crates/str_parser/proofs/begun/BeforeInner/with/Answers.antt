@@ -17,3 +17,6 @@ returns-in-Tail c = λ m. rw c.in-Tail.is (c.tail.ensures m)
 
 pub returns-in-AppliedTo : goal.returns-in-AppliedTo
 returns-in-AppliedTo c = λ m. rw c.in-AppliedTo.is (c.applied_to.ensures m)
+
+pub returns-in-Annotated : goal.returns-in-Annotated
+returns-in-Annotated c = λ m. rw c.in-Annotated.is (c.annotated.ensures m)
