@@ -6,7 +6,7 @@ use Rattle.scope_check.specs.declared.side.Side.TheVariants.{Match, Build}
 use Rattle.scope_check.specs.Seen.{Seen, nothing, in_rec, in_let, in_body, heads_in, tops_in, top_heads, at_top}
 use Rattle.str_syntax.specs.declared.definition.Origin.{Origin}
 use Rattle.str_syntax.specs.declared.definition.Origin.TheVariants as origins
-use Rattle.str_syntax.specs.Trees.{HeadTree, PatternTree, variable, wildcard, alias, integer, quoted, application, grouped, tuple, list, applied, applied_to, PatternTrees, no_patterns, more_patterns, OptionalPattern, no_pattern, one_pattern, StrategyTree, plain_sequence, left_choice, guarded_choice, StrategyTrees, no_strategies, more_strategies, OptionalStrategy, no_strategy, one_strategy, SequenceTree, last, then, StepTree, plain_step, matching, PrimaryTree, identity, failure, match, build, apply, parenthesized, scope, operator, conditional, recursive, let_in, primitive, lambda, call, tuple_congruence, list_congruence, ArgumentTree, no_arguments, strategy_arguments, all_arguments, RuleTree, rewrites, DefinitionTree, definition, DefinitionTrees, no_definitions, more_definitions, FormTree, rule_form, strategy_form, TopTree, FileTree}
+use Rattle.str_syntax.specs.Trees.{HeadTree, PatternTree, variable, wildcard, alias, integer, quoted, application, grouped, tuple, list, annotated, applied, applied_to, PatternTrees, no_patterns, more_patterns, OptionalPattern, no_pattern, one_pattern, StrategyTree, plain_sequence, left_choice, guarded_choice, StrategyTrees, no_strategies, more_strategies, OptionalStrategy, no_strategy, one_strategy, SequenceTree, last, then, StepTree, plain_step, matching, PrimaryTree, identity, failure, match, build, apply, parenthesized, scope, operator, conditional, recursive, let_in, primitive, lambda, call, tuple_congruence, list_congruence, ArgumentTree, no_arguments, strategy_arguments, all_arguments, RuleTree, rewrites, DefinitionTree, definition, DefinitionTrees, no_definitions, more_definitions, FormTree, rule_form, strategy_form, TopTree, FileTree}
 
 pub data Node : Type 0 where
   -- a pattern of a match or of a build
@@ -34,6 +34,7 @@ abbrev mutual
   in_pattern P m L (grouped p) = P L (pattern m (grouped p)) || in_pattern P m L p
   in_pattern P m L (tuple ps) = P L (pattern m (tuple ps)) || in_patterns P m L ps
   in_pattern P m L (list ps p) = P L (pattern m (list ps p)) || (in_patterns P m L ps || in_optional_pattern P m L p)
+  in_pattern P m L (annotated p qs) = P L (pattern m (annotated p qs)) || (in_pattern P m L p || in_patterns P m L qs)
   in_pattern P m L (applied s) = P L (pattern m (applied s)) || in_strategy P L s
   in_pattern P m L (applied_to s p) = P L (pattern m (applied_to s p)) || (in_strategy P L s || in_pattern P m L p)
 

@@ -423,6 +423,11 @@ fn pattern<'t>(
             let second = optional_pattern(alloc, known, layers, side, p, notes)?;
             Ok(first.or(second))
         }
+        Pattern::Annotated(p, ps) => {
+            let first = pattern(alloc, known, layers, side, p, notes)?;
+            let second = patterns(alloc, known, layers, side, ps, notes)?;
+            Ok(first.or(second))
+        }
         Pattern::Applied(s) => strategy(alloc, known, layers, s, notes),
         Pattern::AppliedTo(s, p) => {
             let first = strategy(alloc, known, layers, s, notes)?;

@@ -3,8 +3,8 @@ use Rattle.std.proofs.Common.{ℕ, ◌+◌, ◌≤◌, [], arith}
 use Rattle.core_lang.specs.Named.{Name}
 use Rattle.core_lang.specs.Program.{Pattern, Patterns, Elements}
 use Rattle.core_lang.specs.Program as core
-use Rattle.core_lang.specs.Resolution.{Scopes, ResolvesPattern, to_anything, to_variable, to_alias, to_integer, to_applied, to_list, ResolvesPatterns, to_no_patterns, to_more_patterns, ResolvesElements, to_no_elements, to_the_rest, to_more_elements}
-use Rattle.str_syntax.specs.Trees.{PatternTree, variable, wildcard, alias, integer, quoted, application, grouped, tuple, list, applied, applied_to, PatternTrees, no_patterns, more_patterns, OptionalPattern, no_pattern, one_pattern}
+use Rattle.core_lang.specs.Resolution.{Scopes, ResolvesPattern, to_anything, to_variable, to_alias, to_integer, to_applied, to_list, to_annotated, ResolvesPatterns, to_no_patterns, to_more_patterns, ResolvesElements, to_no_elements, to_the_rest, to_more_elements}
+use Rattle.str_syntax.specs.Trees.{PatternTree, variable, wildcard, alias, integer, quoted, application, grouped, tuple, list, annotated, applied, applied_to, PatternTrees, no_patterns, more_patterns, OptionalPattern, no_pattern, one_pattern}
 use Rattle.str_desugar.specs.Equations.{matched, matched_parts, matched_rest, built, built_parts, built_rest, elements_of, applications, applications_among, applications_of_rest}
 use Rattle.str_desugar.specs.Frames.{frames_of, pattern_at, patterns_at, elements_at}
 use Rattle.str_desugar.specs.Variables.{names_of, names_among, names_of_rest}
@@ -48,6 +48,9 @@ mutual
   matched_resolved S (list ps p) bound =
       to_list (elements_resolved S (matched_parts ps) (matched_rest p) (matched_parts_resolved S ps (bound_left S (names_among ps) (names_of_rest p) bound))
       (matched_rest_resolved S p (bound_right S (names_among ps) (names_of_rest p) bound)))
+  matched_resolved S (annotated p qs) bound =
+      to_annotated (matched_resolved S p (bound_left S (names_of p) (names_among qs) bound))
+      (patterns_resolved S (matched_parts qs) (matched_parts_resolved S qs (bound_right S (names_of p) (names_among qs) bound)))
   matched_resolved S (applied s) bound = to_anything
   matched_resolved S (applied_to s p) bound = to_anything
 
@@ -78,6 +81,10 @@ mutual
       to_list (elements_resolved S (built_parts i ps) (built_rest (i + applications_among ps) p)
       (built_parts_resolved S n i ps (bound_left S (names_among ps) (names_of_rest p) bound) brings (omega arith))
       (built_rest_resolved S n (i + applications_among ps) p (bound_right S (names_among ps) (names_of_rest p) bound) brings (omega arith)))
+  built_resolved S n i (annotated p qs) bound brings h =
+      to_annotated (built_resolved S n i p (bound_left S (names_of p) (names_among qs) bound) brings (omega arith))
+      (patterns_resolved S (built_parts (i + applications p) qs)
+      (built_parts_resolved S n (i + applications p) qs (bound_right S (names_of p) (names_among qs) bound) brings (omega arith)))
   built_resolved S n i (applied s) bound brings h = to_variable (brings i (omega arith))
   built_resolved S n i (applied_to s p) bound brings h = to_variable (brings i (omega arith))
 

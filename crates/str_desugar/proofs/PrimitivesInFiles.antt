@@ -19,7 +19,7 @@ use Rattle.scope_check.specs.Somewhere.{Test, in_pattern, in_patterns, in_option
 use Rattle.str_syntax.specs.Arity.{number_of_patterns, number_of_strategies}
 use Rattle.str_syntax.specs.declared.definition.Origin.{Origin}
 use Rattle.str_syntax.specs.declared.strategy.Operator.TheVariants as operators
-use Rattle.str_syntax.specs.Trees.{Bytes, head, PatternTree, variable, wildcard, alias, integer, quoted, application, grouped, tuple, list, applied, applied_to, PatternTrees, no_patterns, more_patterns, OptionalPattern, no_pattern, one_pattern, StrategyTree, plain_sequence, left_choice, guarded_choice, StrategyTrees, no_strategies, more_strategies, OptionalStrategy, no_strategy, one_strategy, SequenceTree, last, StepTree, plain_step, matching, PrimaryTree, identity, failure, match, build, apply, parenthesized, scope, operator, conditional, recursive, let_in, primitive, lambda, call, tuple_congruence, list_congruence, no_arguments, strategy_arguments, all_arguments, RuleTree, rewrites, definition, DefinitionTrees, no_definitions, more_definitions, FormTree, rule_form, strategy_form, TopTree, FileTree}
+use Rattle.str_syntax.specs.Trees.{Bytes, head, PatternTree, variable, wildcard, alias, integer, quoted, application, grouped, tuple, list, annotated, applied, applied_to, PatternTrees, no_patterns, more_patterns, OptionalPattern, no_pattern, one_pattern, StrategyTree, plain_sequence, left_choice, guarded_choice, StrategyTrees, no_strategies, more_strategies, OptionalStrategy, no_strategy, one_strategy, SequenceTree, last, StepTree, plain_step, matching, PrimaryTree, identity, failure, match, build, apply, parenthesized, scope, operator, conditional, recursive, let_in, primitive, lambda, call, tuple_congruence, list_congruence, no_arguments, strategy_arguments, all_arguments, RuleTree, rewrites, definition, DefinitionTrees, no_definitions, more_definitions, FormTree, rule_form, strategy_form, TopTree, FileTree}
 use Rattle.str_syntax.specs.Trees as trees
 use Rattle.str_desugar.specs.Alternatives.{Alternative, same_key, firsts, first_success, definitions_among, definitions_of_all}
 use Rattle.str_desugar.specs.Brought.{kept, patterns_from, elements_from, elements_and_rest_from}
@@ -265,6 +265,10 @@ module _ (has : Bytes → ℕ → Bool) (name : Bytes) (k : ℕ) where
           let h = or_parts (in_patterns unknown Build L ps) (in_optional_pattern unknown Build L p) e in
           all_and (results_among declared i ps) (results_of_rest declared (i + applications_among ps) p)
           (results_among_known L i ps h.0) (results_of_rest_known L (i + applications_among ps) p h.1)
+      results_known L i (annotated p qs) e =
+          let h = or_parts (in_pattern unknown Build L p) (in_patterns unknown Build L qs) e in
+          all_and (results declared i p) (results_among declared (i + applications p) qs)
+          (results_known L i p h.0) (results_among_known L (i + applications p) qs h.1)
       results_known L i (applied s) e = result_known i (strategy_core declared s ∷ []) (strategy_known L s e, tt)
       results_known L i (applied_to s p) e =
           let h = or_parts (in_strategy unknown L s) (in_pattern unknown Build L p) e in

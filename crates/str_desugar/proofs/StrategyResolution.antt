@@ -14,7 +14,7 @@ use Rattle.scope_check.specs.Somewhere.{heading, in_pattern, in_patterns, in_opt
 use Rattle.str_syntax.specs.Arity.{number_of_patterns, number_of_strategies}
 use Rattle.str_syntax.specs.declared.definition.Origin.TheVariants as origins
 use Rattle.str_syntax.specs.declared.strategy.Operator.TheVariants as operators
-use Rattle.str_syntax.specs.Trees.{Bytes, ParameterTree, head, PatternTree, variable, wildcard, alias, integer, quoted, application, grouped, tuple, list, applied, applied_to, PatternTrees, no_patterns, more_patterns, OptionalPattern, no_pattern, one_pattern, StrategyTree, plain_sequence, left_choice, guarded_choice, StrategyTrees, no_strategies, more_strategies, OptionalStrategy, no_strategy, one_strategy, SequenceTree, last, then, StepTree, plain_step, matching, PrimaryTree, identity, failure, match, build, apply, parenthesized, scope, operator, conditional, recursive, let_in, primitive, lambda, call, tuple_congruence, list_congruence, ArgumentTree, no_arguments, strategy_arguments, all_arguments, RuleTree, rewrites, DefinitionTree, definition, DefinitionTrees, no_definitions, more_definitions}
+use Rattle.str_syntax.specs.Trees.{Bytes, ParameterTree, head, PatternTree, variable, wildcard, alias, integer, quoted, application, grouped, tuple, list, annotated, applied, applied_to, PatternTrees, no_patterns, more_patterns, OptionalPattern, no_pattern, one_pattern, StrategyTree, plain_sequence, left_choice, guarded_choice, StrategyTrees, no_strategies, more_strategies, OptionalStrategy, no_strategy, one_strategy, SequenceTree, last, then, StepTree, plain_step, matching, PrimaryTree, identity, failure, match, build, apply, parenthesized, scope, operator, conditional, recursive, let_in, primitive, lambda, call, tuple_congruence, list_congruence, ArgumentTree, no_arguments, strategy_arguments, all_arguments, RuleTree, rewrites, DefinitionTree, definition, DefinitionTrees, no_definitions, more_definitions}
 use Rattle.str_desugar.specs.Alternatives.{definitions_of_all}
 use Rattle.str_desugar.specs.Brought.{first_names, kept}
 use Rattle.str_desugar.specs.Equations.{constructor_symbol, applications, applications_among, applications_of_rest, built, built_parts, build_after, symbol_congruence, part_of, strategy_core, sequence_core, step_core, primary_core, strategies_core, otherwise_core, rule_core, parts, results, results_among, results_of_rest, alternatives, alternative_core}
@@ -312,6 +312,12 @@ module _ (ds : List Declared) where
         all_and T (results_among declared i ps) (results_of_rest declared (i + applications_among ps) p)
         (results_among_resolved T L n i ps (neither_first _ _ _ _ rest) (bound_left T (names_among ps) (names_of_rest p) bound) sees k r (omega arith))
         (results_of_rest_resolved T L n (i + applications_among ps) p (neither_rest _ _ _ _ rest) (bound_right T (names_among ps) (names_of_rest p) bound) sees k r (omega arith))
+    results_resolved T L n i (annotated p qs) fine bound sees k r h =
+        let rest : Neither (in_pattern (is_unknown ds) Build L p || in_patterns (is_unknown ds) Build L qs) (in_pattern has_bad_parameters Build L p || in_patterns has_bad_parameters Build L qs) =
+        fine in
+        all_and T (results declared i p) (results_among declared (i + applications p) qs)
+        (results_resolved T L n i p (neither_first _ _ _ _ rest) (bound_left T (names_of p) (names_among qs) bound) sees k r (omega arith))
+        (results_among_resolved T L n (i + applications p) qs (neither_rest _ _ _ _ rest) (bound_right T (names_of p) (names_among qs) bound) sees k r (omega arith))
     results_resolved T L n i (applied s) fine bound sees k r h =
         result_resolved T n i (strategy_core declared s ∷ []) k r (omega arith) (strategy_resolved T L s fine bound sees, tt)
     results_resolved T L n i (applied_to s p) fine bound sees k r h =

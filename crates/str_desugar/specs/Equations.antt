@@ -5,7 +5,7 @@ use Rattle.term_model.specs.Symbol.{Symbol, Plain, Quoted, Tuple, is_name}
 use Rattle.core_lang.specs.Named.{NamedStrategy, NamedStrategies, NamedDefinitions, Name, written, brought}
 use Rattle.core_lang.specs.Program.{Pattern, Patterns, Elements, Strategy, Strategies, Definitions}
 use Rattle.core_lang.specs.Program as core
-use Rattle.str_syntax.specs.Trees.{Bytes, head, PatternTree, variable, wildcard, alias, integer, quoted, application, grouped, tuple, list, applied, applied_to, PatternTrees, no_patterns, more_patterns, OptionalPattern, no_pattern, one_pattern, StrategyTree, plain_sequence, left_choice, guarded_choice, StrategyTrees, no_strategies, more_strategies, OptionalStrategy, no_strategy, one_strategy, SequenceTree, last, then, StepTree, plain_step, matching, PrimaryTree, identity, failure, match, build, apply, parenthesized, scope, operator, conditional, recursive, let_in, primitive, lambda, call, tuple_congruence, list_congruence, no_arguments, strategy_arguments, all_arguments, RuleTree, rewrites, DefinitionTree, definition, DefinitionTrees, no_definitions, more_definitions, FormTree, rule_form, strategy_form, SectionTree, signature, rules, strategies, FileTree}
+use Rattle.str_syntax.specs.Trees.{Bytes, head, PatternTree, variable, wildcard, alias, integer, quoted, application, grouped, tuple, list, annotated, applied, applied_to, PatternTrees, no_patterns, more_patterns, OptionalPattern, no_pattern, one_pattern, StrategyTree, plain_sequence, left_choice, guarded_choice, StrategyTrees, no_strategies, more_strategies, OptionalStrategy, no_strategy, one_strategy, SequenceTree, last, then, StepTree, plain_step, matching, PrimaryTree, identity, failure, match, build, apply, parenthesized, scope, operator, conditional, recursive, let_in, primitive, lambda, call, tuple_congruence, list_congruence, no_arguments, strategy_arguments, all_arguments, RuleTree, rewrites, DefinitionTree, definition, DefinitionTrees, no_definitions, more_definitions, FormTree, rule_form, strategy_form, SectionTree, signature, rules, strategies, FileTree}
 use Rattle.str_syntax.specs.declared.strategy.Operator.TheVariants as operators
 use Rattle.str_syntax.specs.Arity.{number_of_strategies}
 use Rattle.str_desugar.specs.Variables.{each_once, without, strategy_names, term_names, free_in, free_in_rule, left_names}
@@ -55,6 +55,7 @@ abbrev mutual
   matched (grouped p) = matched p
   matched (tuple ps) = core.applied Tuple (matched_parts ps)
   matched (list ps p) = core.list (elements_of (matched_parts ps) (matched_rest p))
+  matched (annotated p qs) = core.annotated (matched p) (matched_parts qs)
   matched (applied s) = core.anything
   matched (applied_to s p) = core.anything
 
@@ -78,6 +79,7 @@ abbrev mutual
   applications (grouped p) = applications p
   applications (tuple ps) = applications_among ps
   applications (list ps p) = applications_among ps + applications_of_rest p
+  applications (annotated p qs) = applications p + applications_among qs
   applications (applied s) = 1
   applications (applied_to s p) = 1
 
@@ -105,6 +107,7 @@ abbrev mutual
   built i (grouped p) = built i p
   built i (tuple ps) = core.applied Tuple (built_parts i ps)
   built i (list ps p) = core.list (elements_of (built_parts i ps) (built_rest (i + applications_among ps) p))
+  built i (annotated p qs) = core.annotated (built i p) (built_parts (i + applications p) qs)
   built i (applied s) = core.variable (result_name i)
   built i (applied_to s p) = core.variable (result_name i)
 
@@ -256,6 +259,7 @@ abbrev mutual
   results declared i (grouped p) = results declared i p
   results declared i (tuple ps) = results_among declared i ps
   results declared i (list ps p) = results_among declared i ps ++ results_of_rest declared (i + applications_among ps) p
+  results declared i (annotated p qs) = results declared i p ++ results_among declared (i + applications p) qs
   results declared i (applied s) = result_of i (strategy_core declared s ∷ [])
   results declared i (applied_to s p) =
       result_of i (build_after (applications p) (results declared 0 p) (built 0 p) ∷ strategy_core declared s ∷ [])

@@ -5,7 +5,7 @@ use Rattle.core_lang.specs.declared.coordinate.Coordinate.{Coordinate}
 use Rattle.core_lang.specs.Named.{NamedStrategy, NamedStrategies, NamedDefinitions, Name, same_name, position_of, parameter_position}
 use Rattle.core_lang.specs.Resolved.{ResolvedStrategy, ResolvedStrategies, ResolvedDefinitions, here}
 use Rattle.core_lang.specs.Resolution.{Scopes, nowhere, names, defined, one_layer_up}
-use Rattle.core_lang.specs.Program.{Pattern, anything, variable, alias, integer, applied, list, like, Patterns, no_patterns, more_patterns, Elements, no_elements, the_rest, more_elements, id, fail, seq, choice, match, build, scope, all, one, some, with_definitions, call, primitive, no_strategies, more_strategies, no_definitions, more_definitions, strategies_count, patterns_count}
+use Rattle.core_lang.specs.Program.{Pattern, anything, variable, alias, integer, applied, list, like, annotated, Patterns, no_patterns, more_patterns, Elements, no_elements, the_rest, more_elements, id, fail, seq, choice, match, build, scope, all, one, some, with_definitions, call, primitive, no_strategies, more_strategies, no_definitions, more_definitions, strategies_count, patterns_count}
 
 -- the name of a definition, and how many strategy and term parameters it has
 pub record NamedKey : Type 0 where
@@ -66,6 +66,7 @@ abbrev mutual
   pattern_at F (applied f ps) = applied f (patterns_at F ps)
   pattern_at F (list ps) = list (elements_at F ps)
   pattern_at F (like p x) = like (pattern_at F p) (variable_at F x)
+  pattern_at F (annotated p qs) = annotated (pattern_at F p) (patterns_at F qs)
 
   pub patterns_at : Frames → Patterns Name → Patterns Coordinate
   patterns_at F no_patterns = no_patterns

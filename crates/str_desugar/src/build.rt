@@ -77,6 +77,10 @@ fn results_of(
                 Some(rest) => results_of(context, rest, scopes, symbols, next, items),
             }
         }
+        Pattern::Annotated(part, annotations) => {
+            results_of(context, part, scopes, symbols, next, items)?;
+            results_in(context, annotations, scopes, symbols, next, items)
+        }
         Pattern::Applied(inner) => {
             let only = strategy(context, inner, scopes, symbols)?;
             put_result(scopes, only, next, items)

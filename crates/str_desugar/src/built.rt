@@ -31,6 +31,11 @@ pub(crate) fn applications(source: &Pattern) -> Result<usize, AllocError>
             let rest = applications_of_rest(rest)?;
             among.checked_add(rest).ok_or(AllocError)
         }
+        Pattern::Annotated(part, annotations) => {
+            let first = applications(part)?;
+            let among = applications_among(annotations)?;
+            first.checked_add(among).ok_or(AllocError)
+        }
         Pattern::Applied(_) | Pattern::AppliedTo(_, _) => Ok(1),
     }
 }
@@ -96,6 +101,11 @@ pub(crate) fn built(
             let elements = built_parts(alloc, elements, scopes, symbols, next)?;
             let rest = built_rest(alloc, rest, scopes, symbols, next)?;
             Ok(CorePattern::List(elements, rest))
+        }
+        Pattern::Annotated(part, annotations) => {
+            let part = built(alloc, part, scopes, symbols, next)?;
+            let annotations = built_parts(alloc, annotations, scopes, symbols, next)?;
+            Ok(CorePattern::Annotated(Box::new(alloc, part)?, annotations))
         }
         Pattern::Applied(_) | Pattern::AppliedTo(_, _) => result(scopes, next),
     }

@@ -48,6 +48,11 @@ pub(crate) fn matched(
             let rest = matched_rest(alloc, rest, scopes, symbols)?;
             Ok(CorePattern::List(elements, rest))
         }
+        Pattern::Annotated(part, annotations) => {
+            let part = matched(alloc, part, scopes, symbols)?;
+            let annotations = matched_parts(alloc, annotations, scopes, symbols)?;
+            Ok(CorePattern::Annotated(Box::new(alloc, part)?, annotations))
+        }
         // No match of a file applies a strategy.
         Pattern::Wildcard(_) | Pattern::Applied(_) | Pattern::AppliedTo(_, _) => {
             Ok(CorePattern::Anything)

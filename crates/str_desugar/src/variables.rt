@@ -76,6 +76,10 @@ fn in_pattern(
             in_patterns(alloc, elements, bound, found)?;
             in_optional_pattern(alloc, rest, bound, found)
         }
+        Pattern::Annotated(part, annotations) => {
+            in_pattern(alloc, part, bound, found)?;
+            in_patterns(alloc, annotations, bound, found)
+        }
         Pattern::Applied(inner) => in_strategy(alloc, inner, bound, found),
         Pattern::AppliedTo(inner, part) => {
             in_strategy(alloc, inner, bound, found)?;
