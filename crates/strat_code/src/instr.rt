@@ -23,7 +23,7 @@ pub enum Traversal {
 #[derive(Debug, Drop, PartialEq, Eq)]
 pub enum Root {
     Any,
-    Integer(i32),
+    Integer(i64),
     /// A symbol with this number of parts.
     Symbol(Sym, usize),
     /// A list of this number of elements or, where it is open, of at least this number.

@@ -16,7 +16,7 @@ use Rattle.core_lang.specs.Resolved.{ResolvedStrategy}
 use Rattle.core_lang.specs.Roots.{Root, symbol_root, list_root, count_of_patterns, count_of_elements, is_open, root_of, Begins, begins_match, begins_seq, begins_scope}
 use Rattle.core_lang.specs.Views.{Arm, Def, pattern_of, patterns_in, elements_in, rest_of, strategy_of, arm_of, def_of, strategy_step, arm_step, def_step}
 use Rattle.strat_compile.specs.Emission.{BeginsNot}
-use Rattle.core_lang.proofs.ReadLaws.{reads_alias, reads_applied, reads_list, reads_match, reads_sequence, reads_scope}
+use Rattle.core_lang.proofs.ReadLaws.{reads_alias, reads_applied, reads_list, reads_annotated, reads_match, reads_sequence, reads_scope}
 
 patterns_counted : (ps : List CorePattern) → count_of_patterns (patterns_in (map pattern_of ps)) ≡ length ps
 patterns_counted [] = refl
@@ -34,6 +34,9 @@ opened (p ∷ ps) rest = opened ps rest
 
 pub asked_alias : (p q : CorePattern) (x : Coordinate) (part : Box CorePattern Global) (r : Root) → p ≡ patterns.Alias x part → q ≡ part.value → r ≡ root_of (pattern_of q) → r ≡ root_of (pattern_of p)
 asked_alias p q x part r is inner h = h ∙ ap (λ d. root_of (pattern_of d)) inner ∙ sym (ap root_of (ap pattern_of is ∙ reads_alias x part))
+
+pub asked_annotated : (p q : CorePattern) (part : Box CorePattern Global) (qs : Vec CorePattern Global) (r : Root) → p ≡ patterns.Annotated part qs → q ≡ part.value → r ≡ root_of (pattern_of q) → r ≡ root_of (pattern_of p)
+asked_annotated p q part qs r is inner h = h ∙ ap (λ d. root_of (pattern_of d)) inner ∙ sym (ap root_of (ap pattern_of is ∙ reads_annotated part qs))
 
 pub asked_symbol : (p : CorePattern) (f g : Symbol) (ps : Vec CorePattern Global) (n : ℕ) → p ≡ patterns.Applied f ps → g ≡ f → n ≡ length ps.items → symbol_root g n ≡ root_of (pattern_of p)
 asked_symbol p f g ps n is same parts = ap₂ (λ h k. symbol_root h k) same (parts ∙ sym (patterns_counted ps.items)) ∙ sym (ap root_of (ap pattern_of is ∙ reads_applied f ps))

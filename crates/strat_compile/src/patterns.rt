@@ -38,6 +38,10 @@ pub(crate) fn by_frames_pattern(
             let x = frame_coordinate(layers, *x)?;
             Ok(CorePattern::Like(boxed(alloc, layers, part)?, x))
         }
+        CorePattern::Annotated(part, annotations) => {
+            let annotations = by_frames_patterns(alloc, layers, annotations)?;
+            Ok(CorePattern::Annotated(boxed(alloc, layers, part)?, annotations))
+        }
     }
 }
 

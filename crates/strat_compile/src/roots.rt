@@ -22,7 +22,7 @@ pub(crate) struct Beginning {
 }
 
 // What a pattern asks of a term's root.
-#[tactic(auto, using(crate::proofs::BeginningLaws::asked_alias, crate::proofs::BeginningLaws::asked_symbol, crate::proofs::BeginningLaws::asked_list))]
+#[tactic(auto, using(crate::proofs::BeginningLaws::asked_alias, crate::proofs::BeginningLaws::asked_annotated, crate::proofs::BeginningLaws::asked_symbol, crate::proofs::BeginningLaws::asked_list))]
 fn root_asked(pattern: &CorePattern) -> Result<Root, AllocError>
     ensures { IfOk result (λ root. root_of root ≡ spec.root_of (pattern_of pattern.now)) }
 {
@@ -40,6 +40,10 @@ fn root_asked(pattern: &CorePattern) -> Result<Root, AllocError>
         }
         CorePattern::List(elements, rest) => Ok(Root::List(elements.len(), rest.is_some())),
         CorePattern::Like(_, _) => Ok(Root::Any),
+        CorePattern::Annotated(part, _) => {
+            let root = root_asked(part)?;
+            Ok(root)
+        }
     }
 }
 

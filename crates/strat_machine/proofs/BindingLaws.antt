@@ -7,10 +7,11 @@ use Rattle.term_model.specs.declared.term.Head.TheVariants as heads
 use Rattle.term_model.specs.Term.{Tree, node, Trees, end, more}
 use Rattle.term_model.specs.Same.{same, same_head}
 use Rattle.core_lang.specs.declared.coordinate.Coordinate.{Coordinate}
-use Rattle.core_lang.specs.Program.{Pattern, anything, variable, alias, integer, applied, list, like, Patterns, no_patterns, more_patterns, Elements, no_elements, the_rest, more_elements}
+use Rattle.core_lang.specs.Program.{Pattern, anything, variable, alias, integer, applied, list, like, annotated, Patterns, no_patterns, more_patterns, Elements, no_elements, the_rest, more_elements}
 use Rattle.core_lang.specs.Environment.{Bindings}
 use Rattle.core_lang.specs.InRange.{Layers, VariableInRange, PatternInRange, PatternsInRange, ElementsInRange}
-use Rattle.core_lang.specs.Building.{value_in, with_front, applied_to, list_term, elements_of, made_like, instance, instances, element_instances}
+use Rattle.core_lang.specs.Building.{value_in, with_front, applied_to, list_term, elements_of, made_like, made_with, instance, instances, element_instances}
+use Rattle.core_lang.specs.Roots.{are_many, count_of_patterns}
 use Rattle.core_lang.specs.Tried.{put, put_at, and_then, tried, tried_all, tried_elements}
 use Rattle.strat_code.specs.Renamed.{renamed, all_renamed, elements_renamed}
 use Rattle.strat_machine.specs.Binding.{cleared, with_term, Attempt, attempt, bind_value, bind, and_go, only_if, attempted, all_attempted, elements_attempted}
@@ -35,6 +36,14 @@ by_test b e T false = no_at_once b e T
 if_test : (b : ℕ) (e : Bindings) (T : List ℕ) (v : Bool) (o : Option Bindings) (a : Attempt) → Agrees b e T o a → Agrees b e T (if v then o else None) (only_if v e T a)
 if_test b e T true o a h = h
 if_test b e T false o a h = no_at_once b e T
+
+if_as_many : (b : ℕ) (e : Bindings) (T : List ℕ) (v : Bool) (o : Option Bindings) (a : Attempt) → (v ≡ false → o ≡ None) → Agrees b e T o a → Agrees b e T o (only_if v e T a)
+if_as_many b e T true o a none h = h
+if_as_many b e T false o a none h = subst (λ x. Agrees b e T x (attempt false e T)) (sym (none refl)) (no_at_once b e T)
+
+then_none : (o : Option Bindings) (go : Bindings → Option Bindings) → ((e : Bindings) → go e ≡ None) → and_then o go ≡ None
+then_none None go h = refl
+then_none (Some e) go h = h e
 
 append_assoc : (A B T : List ℕ) → A ++ (B ++ T) ≡ (A ++ B) ++ T
 append_assoc [] B T = refl
@@ -117,6 +126,13 @@ module _ (L : Layers) (f : Coordinate → Coordinate) (place other : Coordinate 
   bind_other : (b : ℕ) (y : Coordinate) (t : Tree) (e : Bindings) (T : List ℕ) → VariableInRange L y → Agrees b e T (put_at (place y) t e) (bind b (other (f y)) t e T)
   bind_other b y t e T r = subst (λ i. Agrees b e T (put_at (place y) t e) (bind b i t e T)) (sym (agree y r)) (bind_at b (place y) t e T)
 
+  -- another number of terms is not matched
+  others_none : (ps : Patterns Coordinate) (ts : Trees) (e : Bindings) → are_many (count_of_patterns (all_renamed f ps)) false ts ≡ false → tried_all place ps ts e ≡ None
+  others_none no_patterns end e h = absurd (cc)
+  others_none no_patterns (more t ts) e h = refl
+  others_none (more_patterns p ps) end e h = refl
+  others_none (more_patterns p ps) (more t ts) e h = then_none (tried place p t e) (λ g. tried_all place ps ts g) (λ g. others_none ps ts g h)
+
   module _ (b : ℕ) where
     mutual
       pub attempts : (p : Pattern Coordinate) (t : Tree) (e : Bindings) (T : List ℕ) → PatternInRange L p → Agrees b e T (tried place p t e) (attempted other b (renamed f p) t e T)
@@ -127,6 +143,9 @@ module _ (L : Layers) (f : Coordinate → Coordinate) (place other : Coordinate 
       attempts (applied g ps) (node h ts annos) e T r = if_test b e T (same_head h (heads.App g)) _ _ (attempts_all ps ts e T r)
       attempts (list ps) (node h ts annos) e T r = if_test b e T (same_head h heads.List) _ _ (attempts_elements ps ts e T r)
       attempts (like p y) t e T r = no_at_once b e T
+      attempts (annotated p qs) (node h ts annos) e T r =
+          if_as_many b e T (are_many (count_of_patterns (all_renamed f qs)) false annos) _ _ (λ m. then_none (tried place p (node h ts end) e) (λ g. tried_all place qs annos g) (λ g. others_none qs annos g m))
+          (then_on _ _ (attempts p (node h ts end) e T r.0) (λ g U. attempts_all qs annos g U r.1))
 
       pub attempts_all : (ps : Patterns Coordinate) (ts : Trees) (e : Bindings) (T : List ℕ) → PatternsInRange L ps → Agrees b e T (tried_all place ps ts e) (all_attempted other b (all_renamed f ps) ts e T)
       attempts_all no_patterns end e T r = yes_at_once b e T
@@ -150,6 +169,7 @@ module _ (L : Layers) (f : Coordinate → Coordinate) (place other : Coordinate 
     same_instance (applied g ps) e r = ap (λ o. applied_to o g) (same_instances ps e r)
     same_instance (list ps) e r = ap list_term (same_elements ps e r)
     same_instance (like p y) e r = ap (λ o. made_like o (value_in (other (f y)) e)) (same_instance p e r.0) ∙ ap (λ i. made_like (instance place p e) (value_in i e)) (agree y r.1)
+    same_instance (annotated p qs) e r = ap (λ o. made_with o (instances other (all_renamed f qs) e)) (same_instance p e r.0) ∙ ap (made_with (instance place p e)) (same_instances qs e r.1)
 
     pub same_instances : (ps : Patterns Coordinate) (e : Bindings) → PatternsInRange L ps → instances other (all_renamed f ps) e ≡ instances place ps e
     same_instances no_patterns e r = refl

@@ -1,21 +1,22 @@
 -- What building over references makes.
-use Rattle.std.proofs.Common.{◌≡◌, ℕ, zero, suc, ◌-◌, Option, Some, None, List, [], ◌∷◌, ◌++◌, length, map, drop, take, refl, sym, ◌∙◌, ap, subst}
-use Rattle.std.specs.Prelude.{Bool, true, false, IsTrue, MatchOption, slice_get}
+use Rattle.std.proofs.Common.{◌≡◌, ℕ, zero, suc, ◌-◌, arith, Option, Some, None, List, [], ◌∷◌, ◌++◌, length, map, drop, take, refl, sym, ◌∙◌, ap, subst}
+use Rattle.std.specs.Prelude.{Bool, true, false, IsTrue, MatchOption, is_some, slice_get}
 use Rattle.std.specs.Borrow.{Bor}
 use Rattle.std.specs.Option.{option_map}
 use Rattle.std.proofs.lemmas.Option.{slice_get-map}
 use Rattle.std.proofs.lemmas.List.{length-drop}
 use Rattle.std.proofs.Math.Seq.{take-length}
-use Rattle.core_lang.specs.Building.{value_in, value_at, with_front, made_like, applied_to, list_term, elements_of}
+use Rattle.core_lang.specs.Building.{value_in, value_at, with_front, made_with, applied_to, list_term, elements_of}
+use Rattle.core_lang.proofs.ElementLaws.{with_none}
 use Rattle.term_model.specs.declared.term.Head.TheVariants as heads
 use Rattle.term_model.specs.declared.made.Made.{Made}
 use Rattle.term_model.specs.declared.made.Made.TheVariants as made
 use Rattle.term_model.specs.Symbol.{Symbol}
-use Rattle.term_model.specs.Space.{Makes, Pushes}
-use Rattle.term_model.specs.Term.{Tree, node, Trees, end, more, term, head_of, parts_of, annos_of, list_of, trees_of, fits}
-use Rattle.term_model.proofs.FitsLaws.{fits-complete, fits-sound, not_true, large_part, bare_large}
+use Rattle.term_model.specs.Space.{Makes}
+use Rattle.term_model.specs.Term.{Tree, node, Trees, end, more, term, head_of, parts_of, annos_of, list_of, trees_of, fits, Fits, all_fit}
+use Rattle.term_model.proofs.FitsLaws.{fits-complete, fits-sound, not_true, large_part, large_annotation, bare_fits, bare_large}
 use Rattle.term_model.proofs.TermLemmas.{trees_of-list_of}
-use Rattle.strat_machine.specs.Builds.{held, held_in, IsBare, made_built, in_front, Builds, AreBuilt, AreElements}
+use Rattle.strat_machine.specs.Builds.{held, held_in, IsBare, made_built, large_with, in_front, Builds, AreBuilt, AreElements}
 use Rattle.strat_machine.specs.declared.building.Built.{Built}
 use Rattle.strat_machine.specs.declared.building.Built.TheVariants as built
 use Rattle.strat_machine.specs.declared.building.Pushed.{Pushed}
@@ -49,6 +50,10 @@ pub value_known : {W R : Type 0} (stands : W → R → Bool) (term_of : W → R 
 value_known stands term_of w o e None h is = value_is (term_of w) o e ∙ ap (option_map (term_of w)) is
 value_known stands term_of w o e (Some r) h is = (held_stands_in (λ u. IsTrue (stands w u)) e o r.now h is, value_is (term_of w) o e ∙ ap (option_map (term_of w)) is)
 
+pub some_held : {R : Type 0} (P : R → Type 0) (f : R → Tree) (o : Option Tree) (v : Option (Bor R)) → MatchOption v (o ≡ None) (λ r. P r.now × (o ≡ Some (f r.now))) → is_some v ≡ true → (t : Tree) × (o ≡ Some t)
+some_held P f o None h is = absurd (cc)
+some_held P f o (Some r) h is = (f r.now, h.1)
+
 -- what was made is built
 pub outcome_is : {W R : Type 0} (stands : W → R → Bool) (term_of : W → R → Tree) (w : W) (o : Option Tree) (t : Tree) (m : Made R) (v : Built R) → Makes stands term_of w t m → o ≡ Some t → v ≡ made_built m → Builds stands term_of w o v
 outcome_is stands term_of w o t m v h is same = subst (λ x. Builds stands term_of w o x) (sym same) (by_made m h)
@@ -64,47 +69,34 @@ slice_end n xs = ap (λ k. take k (drop n xs)) (sym (length-drop n xs)) ∙ take
 pub slice_is : {X : Type 0} (n : ℕ) (xs ys : List X) → xs ≡ ys → take (length xs - n) (drop n xs) ≡ drop n ys
 slice_is n xs ys is = slice_end n xs ∙ ap (drop n) is
 
-drop_old : {X : Type 0} (xs ys : List X) → drop (length xs) (xs ++ ys) ≡ ys
-drop_old [] ys = refl
-drop_old (x ∷ xs) ys = drop_old xs ys
-
-pub pushed_slice : {W R : Type 0} {stands : W → R → Bool} {term_of : W → R → Tree} {w : W} (n : ℕ) (xs old new : List R) (ts : List Tree) → Pushes stands term_of w ts old new → n ≡ length old → xs ≡ new → map (term_of w) (take (length xs - n) (drop n xs)) ≡ ts
-pushed_slice {term_of = term_of} {w} n xs old new ts p at is =
-    ap (map (term_of w)) (slice_is n xs new is ∙ (ap (λ k. drop k new) at ∙ (ap (drop (length old)) p.after ∙ drop_old old p.pushed))) ∙ p.are
-
-pub like_is : (t v : Tree) (annos : List Tree) → annos ≡ annos_of v → made_like (Some t) (Some v) ≡ Some (term (head_of t) (parts_of t) annos)
-like_is (node h ts xs) (node g us others) annos is =
-    ap (λ k. Some k) (sym (ap (λ k. node h k (trees_of annos)) (trees_of-list_of ts) ∙ (ap (λ k. node h ts (trees_of k)) is ∙ ap (λ k. node h ts k) (trees_of-list_of others))))
-
--- annotations of what has none
+-- what has no annotations
 no_annos : (xs : Trees) → list_of xs ≡ [] → xs ≡ end
 no_annos end is = refl
 no_annos (more x xs) is = absurd (cc)
 
-pub like_nothing : (t v : Tree) → annos_of t ≡ [] → annos_of v ≡ [] → made_like (Some t) (Some v) ≡ Some t
-like_nothing (node h ts xs) (node g us others) bare none = ap (λ k. Some (node h ts k)) (no_annos others none ∙ sym (no_annos xs bare))
+pub bare_same : (t u : Tree) → length (annos_of t) ≡ 0 → u ≡ t → u ≡ term (head_of t) (parts_of t) []
+bare_same (node h ts xs) u none is = is ∙ (ap (λ k. node h ts k) (no_annos xs (empty (list_of xs) none)) ∙ ap (λ k. node h k end) (sym (trees_of-list_of ts)))
+  where
+    empty : (xs : List Tree) → length xs ≡ 0 → xs ≡ []
+    empty [] h = refl
+    empty (x ∷ xs) h = absurd (omega arith)
 
-like_large : (t v : Tree) → annos_of t ≡ [] → fits t ≡ false → (u : Tree) × (made_like (Some t) (Some v) ≡ Some u) × (fits u ≡ false)
-like_large (node h ts xs) (node g us others) bare large =
-    (node h ts others, refl, bare_large h ts others (subst (λ k. fits (node h ts k) ≡ false) (no_annos xs bare) large))
+pub bare_fits_too : (t : Tree) → Fits t → Fits (term (head_of t) (parts_of t) [])
+bare_fits_too (node h ts xs) f =
+    subst (λ k. Fits (node h k end)) (sym (trees_of-list_of ts)) (fits-sound (node h ts end) (bare_fits h ts xs (fits-complete (node h ts xs) f)))
 
-module _ {W R : Type 0} (stands : W → R → Bool) (term_of : W → R → Tree) (w : W) where
-  pub bare_stays : (b : Built R) (v : Tree) → ((r : R) → b ≡ built.Made r → ⊥) → (o : Option Tree) → IsBare o → Builds stands term_of w o b → Builds stands term_of w (made_like o (Some v)) b
-  bare_stays (built.Made r) v h o bare k = absurd (h r refl)
-  bare_stays built.NoInstance v h o bare k = ap (λ x. made_like x (Some v)) k
-  bare_stays built.Oversize v h None bare k = absurd (differ k.1)
-    where
-      differ : None ≡ Some k.0 → ⊥
-      differ e = cc
-  bare_stays built.Oversize v h (Some t) bare k = like_large t v bare (let same : t ≡ k.0 = some_same k.1 in subst (λ u. fits u ≡ false) (sym same) k.2)
-    where
-      some_same : Some t ≡ Some k.0 → t ≡ k.0
-      some_same e = cc
+with_nothing : (t : Tree) → annos_of t ≡ [] → made_with (Some t) (Some end) ≡ Some t
+with_nothing (node h ts xs) bare = ap (λ k. Some (node h ts k)) (sym (no_annos xs bare))
 
-  pub bare_alike : (b : Built R) (r : R) (v : Tree) → b ≡ built.Made r → annos_of v ≡ [] → (o : Option Tree) → IsBare o → Builds stands term_of w o b → Builds stands term_of w (made_like o (Some v)) (built.Made r)
-  bare_alike b r v is none o bare k =
-      let made = subst (λ x. Builds stands term_of w o x) is k in
-      (made.0, ap (λ x. made_like x (Some v)) made.1 ∙ like_nothing (term_of w r) v (subst IsBare made.1 bare) none, made.2)
+large_with_any : (t : Tree) (us : Trees) → annos_of t ≡ [] → fits t ≡ false → (u : Tree) × (made_with (Some t) (Some us) ≡ Some u) × (fits u ≡ false)
+large_with_any (node h ts xs) us bare large = (node h ts us, refl, bare_large h ts us (subst (λ k. fits (node h ts k) ≡ false) (no_annos xs bare) large))
+
+-- annotations in the place of others
+with_is : (t : Tree) (us : List Tree) → made_with (Some t) (Some (trees_of us)) ≡ Some (term (head_of t) (parts_of t) us)
+with_is (node h ts xs) us = ap (λ k. Some (node h k (trees_of us))) (sym (trees_of-list_of ts))
+
+large_with_these : (t : Tree) (us : Trees) → all_fit us ≡ false → (u : Tree) × (made_with (Some t) (Some us) ≡ Some u) × (fits u ≡ false)
+large_with_these (node h ts xs) us large = (node h ts us, refl, large_annotation h ts us large)
 
 -- symbols applied to instances, and lists of them
 in_front_end : (ts us : List Tree) → in_front ts (Some (trees_of us)) ≡ Some (trees_of (ts ++ us))
@@ -114,6 +106,59 @@ in_front_end (t ∷ ts) us = ap (λ o. with_front (Some t) o) (in_front_end ts u
 in_front_all : (ts : List Tree) → in_front ts (Some end) ≡ Some (trees_of ts)
 in_front_all [] = refl
 in_front_all (t ∷ ts) = ap (λ o. with_front (Some t) o) (in_front_all ts)
+
+module _ {W R : Type 0} (stands : W → R → Bool) (term_of : W → R → Tree) (w w1 : W) (all : Option Trees → Option Trees) (rs : List R) (p : Pushed) (built_so : AreBuilt term_of w all rs p) where
+  -- a term that is given annotations
+  pub given_none : (t : Tree) → p ≡ pushed.NoInstance → Builds stands term_of w1 (made_with (Some t) (all (Some end))) built.NoInstance
+  given_none t is = let none = subst (λ x. AreBuilt term_of w all rs x) is built_so in ap (made_with (Some t)) (none (Some end))
+
+  pub given_large : (t : Tree) → p ≡ pushed.Oversize → Builds stands term_of w1 (made_with (Some t) (all (Some end))) built.Oversize
+  given_large t is =
+      let large = subst (λ x. AreBuilt term_of w all rs x) is built_so in
+      let whole = large_with_these t (trees_of large.0) large.2 in
+      (whole.0, ap (made_with (Some t)) (large.1 (Some end) ∙ in_front_all large.0) ∙ whole.1, whole.2)
+
+  pub given_all : (t : Tree) (m : Made R) (v : Built R) → p ≡ pushed.All → Makes stands term_of w1 (term (head_of t) (parts_of t) (map (term_of w) rs)) m → v ≡ made_built m → Builds stands term_of w1 (made_with (Some t) (all (Some end))) v
+  given_all t m v is k at =
+      let fit = subst (λ x. AreBuilt term_of w all rs x) is built_so in
+      outcome_is stands term_of w1 (made_with (Some t) (all (Some end))) (term (head_of t) (parts_of t) (map (term_of w) rs)) m v k
+      (ap (made_with (Some t)) (fit.0 (Some end) ∙ in_front_all (map (term_of w) rs)) ∙ with_is t (map (term_of w) rs)) at
+
+  -- what was built without annotations
+  module _ (o : Option Tree) (bare : IsBare o) (b : Built R) (made : Builds stands term_of w o b) where
+    pub none_given : b ≡ built.NoInstance → Builds stands term_of w1 (made_with o (all (Some end))) built.NoInstance
+    none_given is = ap (λ x. made_with x (all (Some end))) (subst (λ x. Builds stands term_of w o x) is made)
+
+    pub large_given : (v : Built R) → b ≡ built.Oversize → v ≡ large_with p → Builds stands term_of w1 (made_with o (all (Some end))) v
+    large_given v is at = subst (λ x. Builds stands term_of w1 (made_with o (all (Some end))) x) (sym at) (by_annos p built_so)
+      where
+        large : Builds stands term_of w o built.Oversize
+        large = subst (λ x. Builds stands term_of w o x) is made
+
+        with_these : (us : List Tree) → all (Some end) ≡ in_front us (Some end) → Builds stands term_of w1 (made_with o (all (Some end))) built.Oversize
+        with_these us are =
+            let whole = large_with_any large.0 (trees_of us) (subst IsBare large.1 bare) large.2 in
+            (whole.0, ap (λ x. made_with x (all (Some end))) large.1 ∙ (ap (made_with (Some large.0)) (are ∙ in_front_all us) ∙ whole.1), whole.2)
+
+        by_annos : (p : Pushed) → AreBuilt term_of w all rs p → Builds stands term_of w1 (made_with o (all (Some end))) (large_with p)
+        by_annos pushed.All h = with_these (map (term_of w) rs) (h.0 (Some end))
+        by_annos pushed.NoInstance h = ap (made_with o) (h (Some end)) ∙ with_none o
+        by_annos pushed.Oversize h = with_these h.0 (h.1 (Some end))
+
+    pub nothing_given : (r : R) → b ≡ built.Made r → p ≡ pushed.All → length rs ≡ 0 → Builds stands term_of w (made_with o (all (Some end))) (built.Made r)
+    nothing_given r is every few =
+        let one = subst (λ x. Builds stands term_of w o x) is made in
+        let fit = subst (λ x. AreBuilt term_of w all rs x) every built_so in
+        (one.0, ap (λ x. made_with x (all (Some end))) one.1 ∙ (ap (made_with (Some (term_of w r))) (fit.0 (Some end) ∙ nothing rs few) ∙ with_nothing (term_of w r) (subst IsBare one.1 bare)), one.2)
+      where
+        nothing : (rs : List R) → length rs ≡ 0 → in_front (map (term_of w) rs) (Some end) ≡ Some end
+        nothing [] h = refl
+        nothing (x ∷ xs) h = absurd (omega arith)
+
+    pub one_given : (r : R) (v : Built R) → b ≡ built.Made r → Builds stands term_of w1 (made_with (Some (term_of w r)) (all (Some end))) v → Builds stands term_of w1 (made_with o (all (Some end))) v
+    one_given r v is k =
+        let one = subst (λ x. Builds stands term_of w o x) is made in
+        subst (λ x. Builds stands term_of w1 (made_with x (all (Some end))) v) (sym one.1) k
 
 module _ {W R : Type 0} (stands : W → R → Bool) (term_of : W → R → Tree) (w w1 : W) (all : Option Trees → Option Trees) (rs : List R) (p : Pushed) (s : Symbol) where
   pub apply_none : p ≡ pushed.NoInstance → AreBuilt term_of w all rs p → Builds stands term_of w1 (applied_to (all (Some end)) s) built.NoInstance

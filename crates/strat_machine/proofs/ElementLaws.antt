@@ -1,17 +1,18 @@
 -- What building several patterns makes, one after another.
-use Rattle.std.proofs.Common.{◌≡◌, ℕ, ℤ, zero, suc, ◌+◌, ◌<◌, ◌≤◌, Option, Some, None, List, [], ◌∷◌, ◌++◌, length, map, drop, take, get_or, refl, sym, ◌∙◌, ap, subst, arith, add-one}
-use Rattle.std.specs.Prelude.{Bool, true, false, ◌&&◌, IsTrue, slice_get}
+use Rattle.std.proofs.Common.{◌≡◌, ℕ, ℤ, zero, suc, ◌+◌, ◌-◌, ◌<◌, ◌≤◌, Option, Some, None, List, [], ◌∷◌, ◌++◌, length, map, drop, take, get_or, refl, sym, ◌∙◌, ap, subst, arith, add-one}
+use Rattle.std.specs.Prelude.{Bool, true, false, ◌&&◌, IsTrue, is_some, slice_get}
 use Rattle.std.specs.Option.{option_map}
 use Rattle.std.proofs.lemmas.List.{drop_all, length-map, map-append}
 use Rattle.core_lang.specs.declared.coordinate.Coordinate.{Coordinate}
-use Rattle.core_lang.specs.Building.{value_in, with_front, made_like, applied_to, list_term, elements_of, instance, instances, element_instances}
+use Rattle.core_lang.specs.Building.{value_in, with_front, made_like, made_with, applied_to, list_term, elements_of, instance, instances, element_instances}
 use Rattle.core_lang.specs.Environment.{Bindings}
-use Rattle.core_lang.specs.Program.{Pattern, anything, variable, alias, integer, applied, list, like}
+use Rattle.core_lang.specs.Program.{Pattern, anything, variable, alias, integer, applied, list, like, annotated, Patterns}
 use Rattle.core_lang.specs.Views.{patterns_in, elements_in}
-use Rattle.core_lang.proofs.ElementLaws.{elements_of_list, elements_of_application, elements_annotated, annotated_again, annotated_without}
+use Rattle.core_lang.proofs.ElementLaws.{elements_of_list, elements_of_application, elements_annotated, annotated_without, elements_with, with_none, with_again, like_with}
 use Rattle.term_model.specs.Symbol.{Symbol}
-use Rattle.term_model.specs.Term.{Tree, Trees, end, parts_of, list_of, trees_of, fits, all_fit}
-use Rattle.term_model.proofs.FitsLaws.{all_fit-last}
+use Rattle.term_model.specs.Space.{Pushes}
+use Rattle.term_model.specs.Term.{Tree, Trees, end, parts_of, annos_of, list_of, trees_of, fits, Fits, all_fit}
+use Rattle.term_model.proofs.FitsLaws.{all_fit-last, annos_fit}
 use Rattle.term_model.proofs.TermLemmas.{trees_of-list_of}
 use Rattle.strat_machine.specs.Builds.{IsBare, IsKept, BuiltStands, in_front, instances_then, joined_elements, Builds, AreBuilt, AreBuiltBefore, AreElements, TailStands, Puts}
 use Rattle.strat_machine.specs.declared.building.Built.{Built}
@@ -21,7 +22,9 @@ use Rattle.strat_machine.specs.declared.building.Pushed.TheVariants as pushed
 use Rattle.strat_machine.specs.declared.building.Elements.{Elements}
 use Rattle.strat_machine.specs.declared.building.Elements.TheVariants as elements
 use Rattle.strat_machine.specs.References.{Places, AllPlaces, AllRefs}
+use Rattle.strat_machine.proofs.BuildingLaws.{slice_is}
 use Rattle.strat_machine.proofs.ReferenceSteps.{places_same}
+use Rattle.strat_machine.proofs.TraversalLaws.{refs_of_all}
 
 -- what was put on a stack
 drop_put : {X : Type 0} (xs ys : List X) → drop (length xs) (xs ++ ys) ≡ ys
@@ -69,7 +72,7 @@ puts_nothing_at stands w old new is Are h = record { put = []; after = is ∙ ap
 pub puts_as : {W R : Type 0} {stands : W → R → Bool} {w : W} {old new : List R} {Are Be : List R → Type 0} → ((rs : List R) → Are rs → Be rs) → Puts stands w old new Are → Puts stands w old new Be
 puts_as g p = record { put = p.put; after = p.after; standing = p.standing; are = g p.put p.are }
 
-refs_later : {R : Type 0} {P Q : R → Type 0} → ((r : R) → P r → Q r) → (rs : List R) → AllRefs P rs → AllRefs Q rs
+pub refs_later : {R : Type 0} {P Q : R → Type 0} → ((r : R) → P r → Q r) → (rs : List R) → AllRefs P rs → AllRefs Q rs
 refs_later later [] h = tt
 refs_later later (r ∷ rs) h = (later r h.0, refs_later later rs h.1)
 
@@ -77,9 +80,30 @@ refs_append : {R : Type 0} (P : R → Type 0) (rs us : List R) → AllRefs P rs 
 refs_append P [] us h k = k
 refs_append P (r ∷ rs) us h k = (h.0, refs_append P rs us h.1 k)
 
-refs_same : {R : Type 0} {P : R → Type 0} {f g : R → Tree} → ((r : R) → P r → g r ≡ f r) → (rs : List R) → AllRefs P rs → map g rs ≡ map f rs
+pub refs_same : {R : Type 0} {P : R → Type 0} {f g : R → Tree} → ((r : R) → P r → g r ≡ f r) → (rs : List R) → AllRefs P rs → map g rs ≡ map f rs
 refs_same same [] h = refl
 refs_same {f = f} {g} same (r ∷ rs) h = ap (λ t. t ∷ map g rs) (same r h.0) ∙ ap (λ ts. f r ∷ ts) (refs_same same rs h.1)
+
+-- annotations that were put on a stack
+pub pushes_put : {W R : Type 0} {stands : W → R → Bool} {term_of : W → R → Tree} {w : W} {ts : List Tree} {old new : List R} → Pushes stands term_of w ts old new → Puts stands w old new (λ rs. map (term_of w) rs ≡ ts)
+pushes_put {stands = stands} {w = w} p = record { put = p.pushed; after = p.after; standing = refs_of_all (λ r. IsTrue (stands w r)) p.pushed p.standing; are = p.are }
+
+pub annos_built : {W R : Type 0} (term_of : W → R → Tree) (w : W) (v : Tree) (rs : List R) → Fits v → map (term_of w) rs ≡ annos_of v → AreBuilt term_of w (in_front (annos_of v)) rs pushed.All
+annos_built term_of w v rs f is = (λ o. ap (λ ts. in_front ts o) (sym is), ap (λ ts. all_fit (trees_of ts)) is ∙ annos_fit v f)
+
+pub are_built_later : {W R : Type 0} (stands : W → R → Bool) (term_of : W → R → Tree) (w w1 : W) (all : Option Trees → Option Trees) (rs : List R) (p : Pushed) → ((r : R) → IsTrue (stands w r) → term_of w1 r ≡ term_of w r) → AllRefs (λ r. IsTrue (stands w r)) rs →
+    AreBuilt term_of w all rs p → AreBuilt term_of w1 all rs p
+are_built_later stands term_of w w1 all rs pushed.All same h k = let them = refs_same same rs h in (λ o. k.0 o ∙ ap (λ ts. in_front ts o) (sym them), ap (λ ts. all_fit (trees_of ts)) them ∙ k.1)
+are_built_later stands term_of w w1 all rs pushed.NoInstance same h k = k
+are_built_later stands term_of w w1 all rs pushed.Oversize same h k = k
+
+-- what stands on a stack from an index on, as a slice of a stack with the same references
+module _ {W R : Type 0} (stands : W → R → Bool) (w w1 : W) (from : ℕ) (xs old : List R) (is : xs ≡ old) (all_stand : AllRefs (λ r. IsTrue (stands w r)) (drop from old)) where
+  pub slice_stands : ((r : R) → IsTrue (stands w r) → IsTrue (stands w1 r)) → AllRefs (λ r. IsTrue (stands w1 r)) (take (length xs - from) (drop from xs))
+  slice_stands later = subst (λ rs. AllRefs (λ r. IsTrue (stands w1 r)) rs) (sym (slice_is from xs old is)) (refs_later later (drop from old) all_stand)
+
+  pub slice_built : (term_of : W → R → Tree) (all : Option Trees → Option Trees) (p : Pushed) → ((r : R) → IsTrue (stands w r) → term_of w1 r ≡ term_of w r) → AreBuilt term_of w all (drop from old) p → AreBuilt term_of w1 all (take (length xs - from) (drop from xs)) p
+  slice_built term_of all p same h = subst (λ rs. AreBuilt term_of w1 all rs p) (sym (slice_is from xs old is)) (are_built_later stands term_of w w1 all (drop from old) p same all_stand h)
 
 -- terms in front of others
 front_none : (ts : List Tree) → in_front ts None ≡ None
@@ -280,11 +304,54 @@ module _ (place : Coordinate → Option ℕ) (e : Bindings) where
   pub instance_like : (p q : Pattern Coordinate) (x : Coordinate) (v : Option Tree) → p ≡ like q x → value_in (place x) e ≡ v → instance place p e ≡ made_like (instance place q e) v
   instance_like p q x v is at = ap (λ r. instance place r e) is ∙ ap (λ u. made_like (instance place q e) u) at
 
+  -- an instance that is given annotations
+  pub like_as_with : (p : Pattern Coordinate) (v : Tree) → made_like (instance place p e) (Some v) ≡ made_with (instance place p e) (in_front (annos_of v) (Some end))
+  like_as_with p v = like_with (instance place p e) v ∙ ap (made_with (instance place p e)) (sym (front_end (annos_of v)))
+
+  pub instance_annotated : (p q : Pattern Coordinate) (qs : List (Pattern Coordinate)) → p ≡ annotated q (patterns_in qs) → instance place p e ≡ made_with (instance place q e) (instances_then place e qs (Some end))
+  instance_annotated p q qs is = ap (λ r. instance place r e) is ∙ ap (made_with (instance place q e)) (instances_are qs)
+
+  pub with_variable : (p : Pattern Coordinate) (x : Coordinate) (v : Option Tree) (us : Option Trees) → p ≡ variable x → value_in (place x) e ≡ v → made_with (instance place p e) us ≡ made_with v us
+  with_variable p x v us is at = ap (λ o. made_with o us) (instance_variable p x is ∙ at)
+
+  pub nothing_with : (p : Pattern Coordinate) (us : Option Trees) → p ≡ anything → made_with (instance place p e) us ≡ None
+  nothing_with p us is = ap (λ q. made_with (instance place q e) us) is
+
+  pub alias_with : (p q : Pattern Coordinate) (x : Coordinate) (us : Option Trees) → p ≡ alias x q → made_with (instance place p e) us ≡ None
+  alias_with p q x us is = ap (λ r. made_with (instance place r e) us) is
+
+  -- what replaced annotations are does not matter
+  replaced : (o : Option Tree) (xs : Trees) (us : Option Trees) → made_with (made_with o (Some xs)) us ≡ made_with o us
+  replaced o xs None = with_none (made_with o (Some xs)) ∙ sym (with_none o)
+  replaced o xs (Some us) = with_again o xs us
+
+  pub with_inner_like : (p q : Pattern Coordinate) (x : Coordinate) (v : Tree) (us : Option Trees) → p ≡ like q x → value_in (place x) e ≡ Some v → made_with (instance place p e) us ≡ made_with (instance place q e) us
+  with_inner_like p q x v us is at =
+      ap (λ o. made_with o us) (instance_like p q x (Some v) is at ∙ like_with (instance place q e) v) ∙ replaced (instance place q e) (trees_of (annos_of v)) us
+
+  have_some : (o : Option Trees) (test : Bool) → test ≡ is_some o → test ≡ true → (xs : Trees) × (o ≡ Some xs)
+  have_some None test is at = absurd (cc)
+  have_some (Some xs) test is at = (xs, refl)
+
+  have_none : (o : Option Trees) (test : Bool) → test ≡ is_some o → test ≡ false → o ≡ None
+  have_none None test is at = refl
+  have_none (Some xs) test is at = absurd (cc)
+
+  module _ (p q : Pattern Coordinate) (qs : Patterns Coordinate) (test : Bool) (is : p ≡ annotated q qs) (have : test ≡ is_some (instances place qs e)) where
+    pub lacks_annotation : test ≡ false → instance place p e ≡ None
+    lacks_annotation no_so = ap (λ r. instance place r e) is ∙ (ap (made_with (instance place q e)) (have_none (instances place qs e) test have no_so) ∙ with_none (instance place q e))
+
+    has_annotations : test ≡ true → (xs : Trees) × (instance place p e ≡ made_with (instance place q e) (Some xs))
+    has_annotations so = let some = have_some (instances place qs e) test have so in (some.0, ap (λ r. instance place r e) is ∙ ap (made_with (instance place q e)) some.1)
+
+    pub with_inner_annotated : (us : Option Trees) → test ≡ true → made_with (instance place p e) us ≡ made_with (instance place q e) us
+    with_inner_annotated us so = let some = has_annotations so in ap (λ o. made_with o us) some.1 ∙ replaced (instance place q e) some.0 us
+
+    pub elements_inner_annotated : test ≡ true → elements_of (instance place p e) ≡ elements_of (instance place q e)
+    elements_inner_annotated so = let some = has_annotations so in ap elements_of some.1 ∙ elements_with (instance place q e) some.0
+
   pub no_like : (p q : Pattern Coordinate) (x : Coordinate) → p ≡ like q x → value_in (place x) e ≡ None → instance place p e ≡ None
   no_like p q x is at = instance_like p q x None is at ∙ annotated_without (instance place q e)
-
-  pub like_again : (p q : Pattern Coordinate) (x : Coordinate) (u v : Tree) → p ≡ like q x → value_in (place x) e ≡ Some u → made_like (instance place p e) (Some v) ≡ made_like (instance place q e) (Some v)
-  like_again p q x u v is at = ap (λ o. made_like o (Some v)) (instance_like p q x (Some u) is at) ∙ annotated_again (instance place q e) u v
 
   pub elements_like : (p q : Pattern Coordinate) (x : Coordinate) (u : Tree) → p ≡ like q x → value_in (place x) e ≡ Some u → elements_of (instance place p e) ≡ elements_of (instance place q e)
   elements_like p q x u is at = ap elements_of (instance_like p q x (Some u) is at) ∙ elements_annotated (instance place q e) u
@@ -322,6 +389,17 @@ module _ (place : Coordinate → Option ℕ) (e : Bindings) where
 
   pub no_pattern : {N : Type 0} (f : N → Pattern Coordinate) (ps : List N) (i : ℕ) → length ps ≤ i → (v : Option Trees) → instances_then place e (drop i (map f ps)) v ≡ v
   no_pattern f ps i h v = let long = length-map ps f in ap (λ qs. instances_then place e qs v) (drop_all i (map f ps) (omega arith))
+
+-- whether several patterns have instances
+module _ {W R : Type 0} (term_of : W → R → Tree) (w : W) (place : Coordinate → Option ℕ) (e : Bindings) (ps : List (Pattern Coordinate)) (rs : List R) (p : Pushed) (built_so : AreBuilt term_of w (instances_then place e ps) rs p) where
+  pub one_lacks : p ≡ pushed.NoInstance → false ≡ is_some (instances place (patterns_in ps) e)
+  one_lacks is = let none = subst (λ x. AreBuilt term_of w (instances_then place e ps) rs x) is built_so in sym (ap is_some (instances_are place e ps ∙ none (Some end)))
+
+  pub each_fits : p ≡ pushed.All → true ≡ is_some (instances place (patterns_in ps) e)
+  each_fits is = let fit = subst (λ x. AreBuilt term_of w (instances_then place e ps) rs x) is built_so in sym (ap is_some (instances_are place e ps ∙ (fit.0 (Some end) ∙ front_end (map (term_of w) rs))))
+
+  pub one_is_large : p ≡ pushed.Oversize → true ≡ is_some (instances place (patterns_in ps) e)
+  one_is_large is = let large = subst (λ x. AreBuilt term_of w (instances_then place e ps) rs x) is built_so in sym (ap is_some (instances_are place e ps ∙ (large.1 (Some end) ∙ front_end large.0)))
 
 -- an instance in a later state of the space
 pub same_instance : {W R : Type 0} (stands : W → R → Bool) (term_of : W → R → Tree) (w w1 : W) (place : Coordinate → Option ℕ) (p q : Pattern Coordinate) (slots : Places R) → ((r : R) → IsTrue (stands w r) → term_of w1 r ≡ term_of w r) → AllPlaces (λ r. IsTrue (stands w r)) slots → q ≡ p →

@@ -4,17 +4,17 @@ use Rattle.std.specs.Prelude.{Bool, IsTrue}
 use Rattle.std.proofs.lemmas.List.{map-append}
 use Rattle.term_model.specs.Symbol.{Symbol}
 use Rattle.core_lang.specs.declared.coordinate.Coordinate.{Coordinate}
-use Rattle.core_lang.specs.Program.{Pattern, anything, variable, alias, integer, applied, list, like, more_patterns, Elements, no_elements, the_rest, more_elements}
+use Rattle.core_lang.specs.Program.{Pattern, anything, variable, alias, integer, applied, list, like, annotated, more_patterns, Elements, no_elements, the_rest, more_elements}
 use Rattle.core_lang.specs.declared.program.CorePattern.{CorePattern}
 use Rattle.core_lang.specs.declared.program.CorePattern.TheVariants as patterns
 use Rattle.core_lang.specs.Views.{pattern_of, rest_of, patterns_in, elements_in}
-use Rattle.core_lang.proofs.ReadLaws.{reads_applied, reads_list}
+use Rattle.core_lang.proofs.ReadLaws.{reads_applied, reads_list, reads_annotated}
 use Rattle.strat_machine.specs.declared.loaded.LoadedPattern.{LoadedPattern}
 use Rattle.strat_machine.specs.declared.loaded.LoadedPattern.TheVariants as loaded
 use Rattle.strat_machine.specs.declared.loaded.LoadedPattern.TheOpen as forms
 use Rattle.strat_machine.specs.declared.loaded.LoadedPattern.TheFolds.{fold-roll-LoadedPattern, map-LoadedPattern}
 use Rattle.strat_machine.specs.declared.loaded.LoadedPattern.TheViews.{roll-LoadedPattern}
-use Rattle.strat_machine.specs.Loaded.{Named, named_anything, named_variable, named_alias, named_integer, named_applied, named_list, named_open_list, named_like, AllNamed, no_named, more_named, all_named, named_step, named_of, meant, all_meant, elements_meant, loaded_of, all_loaded_of, rest_loaded_of, NamedKnown, AllNamedKnown, Known, AllKnown, RestKnown, IsLoaded, AreLoaded, IsLoadedRest}
+use Rattle.strat_machine.specs.Loaded.{Named, named_anything, named_variable, named_alias, named_integer, named_applied, named_list, named_open_list, named_like, named_annotated, AllNamed, no_named, more_named, all_named, named_step, named_of, meant, all_meant, elements_meant, loaded_of, all_loaded_of, rest_loaded_of, NamedKnown, AllNamedKnown, Known, AllKnown, RestKnown, IsLoaded, AreLoaded, IsLoadedRest}
 
 module _ {N : Type 0} {knows knows1 : N → Bool} (later : (n : N) → IsTrue (knows n) → IsTrue (knows1 n)) where
   mutual
@@ -27,6 +27,7 @@ module _ {N : Type 0} {knows knows1 : N → Bool} (later : (n : N) → IsTrue (k
     named_later (named_list ps) h = all_named_later ps h
     named_later (named_open_list ps p) h = (all_named_later ps h.0, named_later p h.1)
     named_later (named_like p x) h = named_later p h
+    named_later (named_annotated p qs) h = (named_later p h.0, all_named_later qs h.1)
 
     all_named_later : (ps : AllNamed N) → AllNamedKnown knows ps → AllNamedKnown knows1 ps
     all_named_later no_named h = tt
@@ -56,6 +57,7 @@ module _ {N : Type 0} (knows : N → Bool) (symbol_of symbol_of1 : N → Symbol)
     named_same (named_open_list ps p) h =
         ap list (ap (λ q. elements_meant symbol_of1 ps (the_rest q)) (named_same p h.1) ∙ elements_named_same ps (the_rest (meant symbol_of p)) h.0)
     named_same (named_like p x) h = ap (λ q. like q x) (named_same p h)
+    named_same (named_annotated p qs) h = ap (λ q. annotated q (all_meant symbol_of1 qs)) (named_same p h.0) ∙ ap (annotated (meant symbol_of p)) (all_named_same qs h.1)
 
     all_named_same : (ps : AllNamed N) → AllNamedKnown knows ps → all_meant symbol_of1 ps ≡ all_meant symbol_of ps
     all_named_same no_named h = refl
@@ -92,6 +94,9 @@ module _ {N : Type 0} where
   named_as_open_list : (ps : Vec (LoadedPattern N) Global) (p : Box (LoadedPattern N) Global) → named_of (loaded.List ps (Some p)) ≡ named_open_list (all_named (map named_of ps.items)) (named_of p.value)
   named_as_open_list ps p = ap named_of (sym (loaded.rolls-List ps (Some p))) ∙ named_roll (forms.List ps (Some p))
 
+  named_as_annotated : (p : Box (LoadedPattern N) Global) (qs : Vec (LoadedPattern N) Global) → named_of (loaded.Annotated p qs) ≡ named_annotated (named_of p.value) (all_named (map named_of qs.items))
+  named_as_annotated p qs = ap named_of (sym (loaded.rolls-Annotated p qs)) ∙ named_roll (forms.Annotated p qs)
+
 module _ {N : Type 0} (knows : N → Bool) where
   all_known : (ps : List (LoadedPattern N)) → AllKnown knows ps → AllNamedKnown knows (all_named (map named_of ps))
   all_known [] h = tt
@@ -119,6 +124,12 @@ module _ {N : Type 0} (knows : N → Bool) where
   known_list ps None h = (each_known ps.items (subst (λ q. NamedKnown knows q) (named_as_list ps) h), tt)
   known_list ps (Some p) h = let two = subst (λ q. NamedKnown knows q) (named_as_open_list ps p) h in (each_known ps.items two.0, two.1)
 
+  pub annotated_known : (p : Box (LoadedPattern N) Global) (qs : Vec (LoadedPattern N) Global) → Known knows p.value → AllKnown knows qs.items → Known knows (loaded.Annotated p qs)
+  annotated_known p qs h k = subst (λ q. NamedKnown knows q) (sym (named_as_annotated p qs)) (h, all_known qs.items k)
+
+  pub known_annotated : (p : Box (LoadedPattern N) Global) (qs : Vec (LoadedPattern N) Global) → Known knows (loaded.Annotated p qs) → Known knows p.value × AllKnown knows qs.items
+  known_annotated p qs h = let two = subst (λ q. NamedKnown knows q) (named_as_annotated p qs) h in (two.0, each_known qs.items two.1)
+
 module _ {N : Type 0} (symbol_of : N → Symbol) where
   all_are : (ps : List (LoadedPattern N)) → all_meant symbol_of (all_named (map named_of ps)) ≡ patterns_in (map (loaded_of symbol_of) ps)
   all_are [] = refl
@@ -139,6 +150,9 @@ module _ {N : Type 0} (symbol_of : N → Symbol) where
   loaded_list ps None = ap (meant symbol_of) (named_as_list ps) ∙ ap list (closed_are ps.items)
   loaded_list ps (Some p) = ap (meant symbol_of) (named_as_open_list ps p) ∙ ap list (open_are ps.items (loaded_of symbol_of p.value))
 
+  pub loaded_annotated : (p : Box (LoadedPattern N) Global) (qs : Vec (LoadedPattern N) Global) → loaded_of symbol_of (loaded.Annotated p qs) ≡ annotated (loaded_of symbol_of p.value) (all_loaded_of symbol_of qs.items)
+  loaded_annotated p qs = ap (meant symbol_of) (named_as_annotated p qs) ∙ ap (annotated (loaded_of symbol_of p.value)) (all_are qs.items)
+
 -- what a pattern of a known form is
 module _ {N : Type 0} (knows : N → Bool) (p : LoadedPattern N) where
   pub known_as_alias : (x : Coordinate) (q : Box (LoadedPattern N) Global) (v : LoadedPattern N) → p ≡ loaded.Alias x q → v ≡ q.value → Known knows p → Known knows v
@@ -152,6 +166,11 @@ module _ {N : Type 0} (knows : N → Bool) (p : LoadedPattern N) where
 
   pub known_as_list : (ps : Vec (LoadedPattern N) Global) (rest : Option (Box (LoadedPattern N) Global)) (xs : List (LoadedPattern N)) → p ≡ loaded.List ps rest → xs ≡ ps.items → Known knows p → AllKnown knows xs × RestKnown knows rest
   known_as_list ps rest xs is same h = let two = known_list knows ps rest (subst (λ q. Known knows q) is h) in (subst (λ ys. AllKnown knows ys) (sym same) two.0, two.1)
+
+  pub known_as_annotated : (q : Box (LoadedPattern N) Global) (ps : Vec (LoadedPattern N) Global) (v : LoadedPattern N) (xs : List (LoadedPattern N)) → p ≡ loaded.Annotated q ps → v ≡ q.value → xs ≡ ps.items → Known knows p → Known knows v × AllKnown knows xs
+  known_as_annotated q ps v xs is same items h =
+      let two = known_annotated knows q ps (subst (λ u. Known knows u) is h) in
+      (subst (λ u. Known knows u) (sym same) two.0, subst (λ ys. AllKnown knows ys) (sym items) two.1)
 
 module _ {N : Type 0} (knows : N → Bool) (rest : Option (Box (LoadedPattern N) Global)) (p : Box (LoadedPattern N) Global) (v : LoadedPattern N) (is : rest ≡ Some p) (same : v ≡ p.value) where
   pub rest_known_some : RestKnown knows rest → Known knows v
@@ -186,6 +205,12 @@ module _ {N : Type 0} (symbol_of : N → Symbol) (p : LoadedPattern N) where
       loaded_of symbol_of p ≡ list (elements_in (map (loaded_of symbol_of) xs) (rest_loaded_of symbol_of rest))
   loaded_as_list ps rest xs is same = ap (loaded_of symbol_of) is ∙ (loaded_list symbol_of ps rest ∙ ap (λ ys. list (elements_in (map (loaded_of symbol_of) ys) (rest_loaded_of symbol_of rest))) (sym same))
 
+  pub loaded_as_annotated : (q : Box (LoadedPattern N) Global) (ps : Vec (LoadedPattern N) Global) (v : LoadedPattern N) (xs : List (LoadedPattern N)) → p ≡ loaded.Annotated q ps → v ≡ q.value → xs ≡ ps.items →
+      loaded_of symbol_of p ≡ annotated (loaded_of symbol_of v) (all_loaded_of symbol_of xs)
+  loaded_as_annotated q ps v xs is same items =
+      ap (loaded_of symbol_of) is ∙ (loaded_annotated symbol_of q ps ∙
+      (ap (λ u. annotated (loaded_of symbol_of u) (all_loaded_of symbol_of ps.items)) (sym same) ∙ ap (λ ys. annotated (loaded_of symbol_of v) (all_loaded_of symbol_of ys)) (sym items)))
+
 -- loaded patterns stay so
 module _ {N : Type 0} {knows knows1 : N → Bool} {symbol_of symbol_of1 : N → Symbol} (later : (n : N) → IsTrue (knows n) → IsTrue (knows1 n)) (same : (n : N) → IsTrue (knows n) → symbol_of1 n ≡ symbol_of n) where
   pub is_loaded_later : {p : LoadedPattern N} {q : Pattern Coordinate} → IsLoaded knows symbol_of p q → IsLoaded knows1 symbol_of1 p q
@@ -208,6 +233,15 @@ module _ {N : Type 0} {knows : N → Bool} {symbol_of : N → Symbol} where
   list_is_loaded ps rest qs r xs q h k same form = record {
     known = list_known knows ps rest h.known k.known;
     is = loaded_list symbol_of ps rest ∙ (ap (λ ys. list (elements_in ys (rest_loaded_of symbol_of rest))) (h.are ∙ ap (map pattern_of) same) ∙ (ap (λ o. list (elements_in (map pattern_of qs.items) o)) k.is ∙ (sym (reads_list qs r) ∙ ap pattern_of (sym form))));
+  }
+
+  pub annotated_is_loaded : (p : Box (LoadedPattern N) Global) (ps : Vec (LoadedPattern N) Global) (r : Box CorePattern Global) (qs : Vec CorePattern Global) (inner : CorePattern) (xs : List CorePattern) (q : CorePattern) →
+      IsLoaded knows symbol_of p.value (pattern_of inner) → AreLoaded knows symbol_of ps.items (map pattern_of xs) → inner ≡ r.value → xs ≡ qs.items → q ≡ patterns.Annotated r qs → IsLoaded knows symbol_of (loaded.Annotated p ps) (pattern_of q)
+  annotated_is_loaded p ps r qs inner xs q h k same items form = record {
+    known = annotated_known knows p ps h.known k.known;
+    is =
+        loaded_annotated symbol_of p ps ∙ (ap (λ d. annotated d (all_loaded_of symbol_of ps.items)) (h.is ∙ ap pattern_of same) ∙
+        (ap (λ ys. annotated (pattern_of r.value) (patterns_in ys)) (k.are ∙ ap (map pattern_of) items) ∙ (sym (reads_annotated r qs) ∙ ap pattern_of (sym form))));
   }
 
   pub none_loaded : (ps : List (LoadedPattern N)) → ps ≡ [] → AreLoaded knows symbol_of ps []

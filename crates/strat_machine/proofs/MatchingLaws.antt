@@ -7,18 +7,19 @@ use Rattle.std.proofs.lemmas.List.{drop_all, length-map}
 use Rattle.std.proofs.lemmas.Bool.{eq-eqb, eqb-true}
 use Rattle.term_model.specs.Symbol.{Symbol}
 use Rattle.term_model.specs.declared.term.Head.TheVariants as heads
-use Rattle.term_model.specs.Term.{Tree, node, term, head_of, parts_of, list_of, trees_of}
+use Rattle.term_model.specs.Term.{Tree, node, Trees, end, more, term, head_of, parts_of, annos_of, list_of, trees_of}
 use Rattle.term_model.specs.Same.{same, same_head, same-refl, same-true}
 use Rattle.term_model.specs.Space.{Keeps}
 use Rattle.term_model.proofs.TermLemmas.{trees_of-list_of}
 use Rattle.core_lang.specs.declared.coordinate.Coordinate.{Coordinate}
 use Rattle.core_lang.specs.Environment.{Bindings}
-use Rattle.core_lang.specs.Program.{Pattern, alias, applied, integer, list}
+use Rattle.core_lang.specs.Program.{Pattern, anything, variable, alias, integer, applied, list, like, annotated}
+use Rattle.core_lang.specs.Roots.{are_many, count_of_patterns}
 use Rattle.core_lang.specs.Views.{patterns_in, elements_in}
 use Rattle.strat_machine.specs.Binding.{with_term, Attempt, attempt, bind_value, bind, and_go, only_if, attempted, all_attempted, elements_attempted}
 use Rattle.strat_machine.specs.Loaded.{loaded_of, Known, AllKnown}
 use Rattle.strat_machine.specs.declared.loaded.LoadedPattern.{LoadedPattern}
-use Rattle.strat_machine.specs.Matches.{Goes, first_attempted, rest_attempted}
+use Rattle.strat_machine.specs.Matches.{Goes, first_attempted, rest_attempted, sees_annotations}
 use Rattle.strat_machine.specs.PlaceStack.{PlaceStack}
 use Rattle.strat_machine.specs.References.{Places, AllPlaces, Binds, binds_none, binds_one}
 use Rattle.strat_machine.proofs.ReferenceLaws.{all_with}
@@ -172,6 +173,57 @@ module _ (place : Coordinate → Option ℕ) (b : ℕ) where
   pub integer_tested : (z : ℤ) (t : Tree) (test : Bool) → test ≡ same_head (head_of t) (heads.Int z) → (e : Bindings) (T : List ℕ) → attempted place b (integer z) t e T ≡ attempt test e T
   integer_tested z (node h ts annos) test is e T = ap (λ v. attempt v e T) (sym is)
 
+  -- the term without its annotations
+  bare_alike : (p : Pattern Coordinate) (t : Tree) → sees_annotations p ≡ false → (e : Bindings) (T : List ℕ) → attempted place b p (term (head_of t) (parts_of t) []) e T ≡ attempted place b p t e T
+  bare_alike p (node h ts annos) is e T = ap (λ us. attempted place b p (node h us end) e T) (trees_of-list_of ts) ∙ by_form p is
+    where
+      by_form : (p : Pattern Coordinate) → sees_annotations p ≡ false → attempted place b p (node h ts end) e T ≡ attempted place b p (node h ts annos) e T
+      by_form anything is = refl
+      by_form (variable x) is = absurd (cc)
+      by_form (alias x q) is = absurd (cc)
+      by_form (integer z) is = refl
+      by_form (applied f ps) is = refl
+      by_form (list ps) is = refl
+      by_form (like q x) is = refl
+      by_form (annotated q qs) is = absurd (cc)
+
+  go_with : (a : Attempt) (go other : Bindings → List ℕ → Attempt) → ((f : Bindings) (U : List ℕ) → go f U ≡ other f U) → and_go a go ≡ and_go a other
+  go_with (attempt false e T) go other h = refl
+  go_with (attempt true e T) go other h = h e T
+
+  -- as many patterns as terms
+  all_as_first : (ps : List (Pattern Coordinate)) (ts : Trees) → length (list_of ts) ≡ length ps → (e : Bindings) (T : List ℕ) → all_attempted place b (patterns_in ps) ts e T ≡ first_attempted place b ps (list_of ts) e T
+  all_as_first [] end h e T = refl
+  all_as_first [] (more t ts) h e T = absurd (omega arith)
+  all_as_first (p ∷ ps) end h e T = absurd (omega arith)
+  all_as_first (p ∷ ps) (more t ts) h e T =
+      go_with (attempted place b p t e T) (λ f U. all_attempted place b (patterns_in ps) ts f U) (λ f U. first_attempted place b ps (list_of ts) f U) (λ f U. all_as_first ps ts (omega arith) f U)
+
+  as_many : (ps : List (Pattern Coordinate)) (ts : Trees) → length (list_of ts) ≡ length ps → are_many (count_of_patterns (patterns_in ps)) false ts ≡ true
+  as_many [] end h = refl
+  as_many [] (more t ts) h = absurd (omega arith)
+  as_many (p ∷ ps) end h = absurd (omega arith)
+  as_many (p ∷ ps) (more t ts) h = as_many ps ts (omega arith)
+
+  not_as_many : (ps : List (Pattern Coordinate)) (ts : Trees) → (length (list_of ts) ≡ length ps → ⊥) → are_many (count_of_patterns (patterns_in ps)) false ts ≡ false
+  not_as_many [] end h = absurd (h refl)
+  not_as_many [] (more t ts) h = refl
+  not_as_many (p ∷ ps) end h = refl
+  not_as_many (p ∷ ps) (more t ts) h = not_as_many ps ts (λ k. h (ap suc k))
+
+  pub annotated_stops : (p q : Pattern Coordinate) (qs : List (Pattern Coordinate)) (t : Tree) → p ≡ annotated q (patterns_in qs) → (length (annos_of t) ≡ length qs → ⊥) → (e : Bindings) (T : List ℕ) → attempted place b p t e T ≡ attempt false e T
+  annotated_stops p q qs (node h ts annos) is differ e T =
+      ap (λ r. attempted place b r (node h ts annos) e T) is ∙
+      not_so (are_many (count_of_patterns (patterns_in qs)) false annos) false (and_go (attempted place b q (node h ts end) e T) (λ f U. all_attempted place b (patterns_in qs) annos f U)) e T (sym (not_as_many qs annos differ)) refl
+
+  pub annotated_goes_on : (p q : Pattern Coordinate) (qs : List (Pattern Coordinate)) (t : Tree) → p ≡ annotated q (patterns_in qs) → length (annos_of t) ≡ length qs → (e : Bindings) (T : List ℕ) →
+      attempted place b p t e T ≡ and_go (attempted place b q (term (head_of t) (parts_of t) []) e T) (λ f U. first_attempted place b qs (annos_of t) f U)
+  annotated_goes_on p q qs (node h ts annos) is many e T =
+      ap (λ r. attempted place b r (node h ts annos) e T) is ∙
+      (tested (are_many (count_of_patterns (patterns_in qs)) false annos) true (and_go (attempted place b q (node h ts end) e T) (λ f U. all_attempted place b (patterns_in qs) annos f U)) e T (sym (as_many qs annos many)) refl ∙
+      (go_with (attempted place b q (node h ts end) e T) (λ f U. all_attempted place b (patterns_in qs) annos f U) (λ f U. first_attempted place b qs (list_of annos) f U) (λ f U. all_as_first qs annos many f U) ∙
+      ap (λ us. and_go (attempted place b q (node h us end) e T) (λ f U. first_attempted place b qs (list_of annos) f U)) (sym (trees_of-list_of ts))))
+
   -- whether there are terms left
   pub none_left : (ts : List Tree) (n : ℕ) (test : Bool) → n ≤ length ts → test ≡ nat_eq n (length ts) → (e : Bindings) (T : List ℕ) → rest_attempted place b None (drop n ts) e T ≡ attempt test e T
   none_left ts n true h is e T = ap (λ us. rest_attempted place b None us e T) (drop_all n ts (let same = eqb-true n (length ts) (sym is) in omega arith))
@@ -218,35 +270,35 @@ mapped_at f [] i x h is = absurd (omega arith)
 mapped_at f (y ∷ xs) zero x h is = ap (λ z. Some (f z)) (sym is)
 mapped_at f (y ∷ xs) (suc i) x h is = mapped_at f xs i x (omega arith) is
 
-module _ {W R M N : Type 0} {stands : W → R → Bool} {term_of : W → R → Tree} {is_valid : W → M → Bool} {knows : W → N → Bool} {symbol_of : W → N → Symbol} (place : Coordinate → Option ℕ) where
-  -- one pattern of several, and the others after it
+module _ {W R M N : Type 0} {stands : W → R → Bool} {term_of : W → R → Tree} {is_valid : W → M → Bool} {knows : W → N → Bool} {symbol_of : W → N → Symbol} (place : Coordinate → Option ℕ) (some_of : Tree → List Tree) where
+  -- one pattern of several, and the others after it, with the parts of a term or with its annotations
   one_goes : {w w1 : W} {e f : Places R} {T U : List ℕ} {b : ℕ} (ps : List (LoadedPattern N)) (at : R) (i : ℕ) (p : LoadedPattern N) (t : Tree) → AllKnown (knows w) ps → Keeps stands term_of is_valid knows symbol_of w w1 → IsTrue (stands w at) →
-      i < length ps → p ≡ get_or ps i p → slice_get (parts_of (term_of w1 at)) i ≡ Some t →
-      Goes stands term_of b (first_attempted place b (map (loaded_of (symbol_of w)) ps) (parts_of (term_of w at))) (first_attempted place b (drop i (map (loaded_of (symbol_of w)) ps)) (drop i (parts_of (term_of w at)))) w e T w1 f U →
-      Goes stands term_of b (first_attempted place b (map (loaded_of (symbol_of w)) ps) (parts_of (term_of w at)))
-      (λ g V. and_go (attempted place b (loaded_of (symbol_of w1) p) t g V) (λ g1 V1. first_attempted place b (drop (suc i) (map (loaded_of (symbol_of w)) ps)) (drop (suc i) (parts_of (term_of w at))) g1 V1)) w e T w1 f U
+      i < length ps → p ≡ get_or ps i p → slice_get (some_of (term_of w1 at)) i ≡ Some t →
+      Goes stands term_of b (first_attempted place b (map (loaded_of (symbol_of w)) ps) (some_of (term_of w at))) (first_attempted place b (drop i (map (loaded_of (symbol_of w)) ps)) (drop i (some_of (term_of w at)))) w e T w1 f U →
+      Goes stands term_of b (first_attempted place b (map (loaded_of (symbol_of w)) ps) (some_of (term_of w at)))
+      (λ g V. and_go (attempted place b (loaded_of (symbol_of w1) p) t g V) (λ g1 V1. first_attempted place b (drop (suc i) (map (loaded_of (symbol_of w)) ps)) (drop (suc i) (some_of (term_of w at))) g1 V1)) w e T w1 f U
   one_goes {w} {w1} {b = b} ps at i p t known keeps here_at within is part x =
       let pattern = mapped_at (loaded_of (symbol_of w)) ps i p within is ∙ ap (λ q. Some q) (sym (loaded_same (knows w) (symbol_of w) (symbol_of w1) keeps.symbols p (known_at (knows w) ps i p known within is))) in
-      let own = ap (λ u. slice_get (parts_of u) i) (sym (keeps.terms at here_at)) ∙ part in
-      goes_as (λ g V. refl) (λ g V. first_step place b (map (loaded_of (symbol_of w)) ps) (parts_of (term_of w at)) i (loaded_of (symbol_of w1) p) t g V pattern own) x
+      let own = ap (λ u. slice_get (some_of u) i) (sym (keeps.terms at here_at)) ∙ part in
+      goes_as (λ g V. refl) (λ g V. first_step place b (map (loaded_of (symbol_of w)) ps) (some_of (term_of w at)) i (loaded_of (symbol_of w1) p) t g V pattern own) x
 
   pub match_next : {w w1 w2 : W} {e f g : Places R} {T U V : List ℕ} {b : ℕ} (ps : List (LoadedPattern N)) (at : R) (i : ℕ) (p : LoadedPattern N) (t : Tree) (test : Bool) (d : ℕ) → AllKnown (knows w) ps → Keeps stands term_of is_valid knows symbol_of w w1 → IsTrue (stands w at) →
-      i < length ps → p ≡ get_or ps i p → slice_get (parts_of (term_of w1 at)) i ≡ Some t →
-      Goes stands term_of b (first_attempted place b (map (loaded_of (symbol_of w)) ps) (parts_of (term_of w at))) (first_attempted place b (drop i (map (loaded_of (symbol_of w)) ps)) (drop i (parts_of (term_of w at)))) w e T w1 f U →
+      i < length ps → p ≡ get_or ps i p → slice_get (some_of (term_of w1 at)) i ≡ Some t →
+      Goes stands term_of b (first_attempted place b (map (loaded_of (symbol_of w)) ps) (some_of (term_of w at))) (first_attempted place b (drop i (map (loaded_of (symbol_of w)) ps)) (drop i (some_of (term_of w at)))) w e T w1 f U →
       Keeps stands term_of is_valid knows symbol_of w1 w2 → d ≡ b → test ≡ true → Goes stands term_of d (attempted place d (loaded_of (symbol_of w1) p) t) (attempt test) w1 f U w2 g V →
-      Goes stands term_of b (first_attempted place b (map (loaded_of (symbol_of w)) ps) (parts_of (term_of w at))) (first_attempted place b (drop (i + 1) (map (loaded_of (symbol_of w)) ps)) (drop (i + 1) (parts_of (term_of w at)))) w e T w2 g V
+      Goes stands term_of b (first_attempted place b (map (loaded_of (symbol_of w)) ps) (some_of (term_of w at))) (first_attempted place b (drop (i + 1) (map (loaded_of (symbol_of w)) ps)) (drop (i + 1) (some_of (term_of w at)))) w e T w2 g V
   match_next {w} {w1} {w2} {f = f} {g = g} {U = U} {V = V} {b = b} ps at i p t test d known keeps here_at within is part x later same_barrier so y =
       let own = subst (λ d. Goes stands term_of d (attempted place d (loaded_of (symbol_of w1) p) t) (attempt test) w1 f U w2 g V) same_barrier y in
-      rw add-one (goes_then (one_goes ps at i p t known keeps here_at within is part x) later.standing (goes_and (λ g1 V1. first_attempted place b (drop (suc i) (map (loaded_of (symbol_of w)) ps)) (drop (suc i) (parts_of (term_of w at))) g1 V1) test so own))
+      rw add-one (goes_then (one_goes ps at i p t known keeps here_at within is part x) later.standing (goes_and (λ g1 V1. first_attempted place b (drop (suc i) (map (loaded_of (symbol_of w)) ps)) (drop (suc i) (some_of (term_of w at))) g1 V1) test so own))
 
   pub match_stops : {w w1 w2 : W} {e f g : Places R} {T U V : List ℕ} {b : ℕ} (ps : List (LoadedPattern N)) (at : R) (i : ℕ) (p : LoadedPattern N) (t : Tree) (test : Bool) (d : ℕ) → AllKnown (knows w) ps → Keeps stands term_of is_valid knows symbol_of w w1 → IsTrue (stands w at) →
-      i < length ps → p ≡ get_or ps i p → slice_get (parts_of (term_of w1 at)) i ≡ Some t →
-      Goes stands term_of b (first_attempted place b (map (loaded_of (symbol_of w)) ps) (parts_of (term_of w at))) (first_attempted place b (drop i (map (loaded_of (symbol_of w)) ps)) (drop i (parts_of (term_of w at)))) w e T w1 f U →
+      i < length ps → p ≡ get_or ps i p → slice_get (some_of (term_of w1 at)) i ≡ Some t →
+      Goes stands term_of b (first_attempted place b (map (loaded_of (symbol_of w)) ps) (some_of (term_of w at))) (first_attempted place b (drop i (map (loaded_of (symbol_of w)) ps)) (drop i (some_of (term_of w at)))) w e T w1 f U →
       Keeps stands term_of is_valid knows symbol_of w1 w2 → d ≡ b → test ≡ false → Goes stands term_of d (attempted place d (loaded_of (symbol_of w1) p) t) (attempt test) w1 f U w2 g V →
-      Goes stands term_of b (first_attempted place b (map (loaded_of (symbol_of w)) ps) (parts_of (term_of w at))) (attempt false) w e T w2 g V
+      Goes stands term_of b (first_attempted place b (map (loaded_of (symbol_of w)) ps) (some_of (term_of w at))) (attempt false) w e T w2 g V
   match_stops {w} {w1} {w2} {f = f} {g = g} {U = U} {V = V} {b = b} ps at i p t test d known keeps here_at within is part x later same_barrier so y =
       let own = subst (λ d. Goes stands term_of d (attempted place d (loaded_of (symbol_of w1) p) t) (attempt test) w1 f U w2 g V) same_barrier y in
-      goes_then (one_goes ps at i p t known keeps here_at within is part x) later.standing (goes_not (λ g1 V1. first_attempted place b (drop (suc i) (map (loaded_of (symbol_of w)) ps)) (drop (suc i) (parts_of (term_of w at))) g1 V1) test so own)
+      goes_then (one_goes ps at i p t known keeps here_at within is part x) later.standing (goes_not (λ g1 V1. first_attempted place b (drop (suc i) (map (loaded_of (symbol_of w)) ps)) (drop (suc i) (some_of (term_of w at))) g1 V1) test so own)
 
 -- a whole pattern
 module _ {W R : Type 0} {stands : W → R → Bool} {term_of : W → R → Tree} (place : Coordinate → Option ℕ) where
@@ -305,6 +357,40 @@ module _ {W R : Type 0} {stands : W → R → Bool} {term_of : W → R → Tree}
         (ap (λ u. attempted place b p u (map (option_map (term_of w)) e) T) (sym same_term) ∙
         (ap (λ r. attempted place b r t (map (option_map (term_of w)) e) T) (sym same_pattern) ∙
         (ap (λ h. attempted place b q t h T) (sym (places_same (λ r. IsTrue (stands w r)) (term_of w) (term_of w1) same e standing)) ∙ y.comes_to)));
+  }
+
+  -- a pattern with others of the annotations
+  pub annotated_none : {w : W} {e : Places R} {T : List ℕ} {b : ℕ} (p q : Pattern Coordinate) (qs : List (Pattern Coordinate)) (t : Tree) → p ≡ annotated q (patterns_in qs) → (length (annos_of t) ≡ length qs → ⊥) → AllPlaces (λ r. IsTrue (stands w r)) e →
+      Goes stands term_of b (attempted place b p t) (attempt false) w e T w e T
+  annotated_none {w} {e} {T} {b} p q qs t is differ all = goes_at_once all (annotated_stops place b p q qs t is differ (map (option_map (term_of w)) e) T)
+
+  module _ {w w1 : W} {e f : Places R} {T U : List ℕ} {b : ℕ} (p q : Pattern Coordinate) (qs : List (Pattern Coordinate)) (t : Tree) (held : Bool) (is : p ≡ annotated q (patterns_in qs)) (many : length (annos_of t) ≡ length qs)
+      (x : Goes stands term_of b (attempted place b q (term (head_of t) (parts_of t) [])) (attempt held) w e T w1 f U) where
+    pub annotated_fails : held ≡ false → Goes stands term_of b (attempted place b p t) (attempt false) w e T w1 f U
+    annotated_fails no_so = goes_as (λ g V. annotated_goes_on place b p q qs t is many g V) (λ g V. refl) (goes_not (λ g V. first_attempted place b qs (annos_of t) g V) held no_so x)
+
+    pub annotated_goes : {w2 : W} {g : Places R} {V : List ℕ} (others : List (Pattern Coordinate)) (u : Tree) (all : Bool) (d : ℕ) → held ≡ true → ((r : R) → IsTrue (stands w1 r) → IsTrue (stands w2 r)) → others ≡ qs → u ≡ t → d ≡ b →
+        Goes stands term_of d (first_attempted place d others (annos_of u)) (attempt all) w1 f U w2 g V → Goes stands term_of b (attempted place b p t) (attempt all) w e T w2 g V
+    annotated_goes {w2} {g} {V} others u all d so later same_patterns same_term same_barrier y =
+        goes_then (goes_as (λ h H. annotated_goes_on place b p q qs t is many h H)
+        (λ h H. ap (λ os. first_attempted place b os (annos_of t) h H) (sym same_patterns) ∙ ap (λ v. first_attempted place b others (annos_of v) h H) (sym same_term))
+        (goes_and (λ h H. first_attempted place b qs (annos_of t) h H) held so x)) later
+        (subst (λ d. Goes stands term_of d (first_attempted place d others (annos_of u)) (attempt all) w1 f U w2 g V) same_barrier y)
+
+  -- the term without its annotations: the term itself where they do not matter, or one that was made
+  pub unseen_goes : {w w1 : W} {e f : Places R} {T U : List ℕ} {b : ℕ} (p : Pattern Coordinate) (t : Tree) (test all : Bool) → test ≡ sees_annotations p → test ≡ false → Goes stands term_of b (attempted place b p t) (attempt all) w e T w1 f U →
+      Goes stands term_of b (attempted place b p (term (head_of t) (parts_of t) [])) (attempt all) w e T w1 f U
+  unseen_goes {b = b} p t test all is no_so x = goes_as (λ g V. bare_alike place b p t (sym is ∙ no_so) g V) (λ g V. refl) x
+
+  pub bare_goes : {w w1 w2 : W} {e f : Places R} {T U : List ℕ} {b : ℕ} (p q : Pattern Coordinate) (t u : Tree) (all : Bool) → AllPlaces (λ r. IsTrue (stands w r)) e → ((r : R) → IsTrue (stands w r) → term_of w1 r ≡ term_of w r) →
+      q ≡ p → u ≡ t → Goes stands term_of b (attempted place b q u) (attempt all) w1 e T w2 f U → Goes stands term_of b (attempted place b p t) (attempt all) w e T w2 f U
+  bare_goes {w} {w1} {e = e} {T = T} {b = b} p q t u all standing same same_pattern same_term y = record {
+    bound = y.bound;
+    standing = y.standing;
+    comes_to =
+        ap (λ x. attempted place b p x (map (option_map (term_of w)) e) T) (sym same_term) ∙
+        (ap (λ r. attempted place b r u (map (option_map (term_of w)) e) T) (sym same_pattern) ∙
+        (ap (λ h. attempted place b q u h T) (sym (places_same (λ r. IsTrue (stands w r)) (term_of w) (term_of w1) same e standing)) ∙ y.comes_to));
   }
 
   -- several patterns that are all done, or more than there are parts

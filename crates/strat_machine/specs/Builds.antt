@@ -48,6 +48,12 @@ abbrev pub made_built : {R : Type 0} → Made R → Built R
 made_built (made.Fits r) = built.Made r
 made_built made.Oversize = built.Oversize
 
+-- what does not fit, with annotations of which this came
+abbrev pub large_with : {R : Type 0} → Pushed → Built R
+large_with pushed.All = built.Oversize
+large_with pushed.NoInstance = built.NoInstance
+large_with pushed.Oversize = built.Oversize
+
 -- the first elements of a list, and the others
 abbrev pub joined_elements : {R : Type 0} → Pushed → Elements R → Elements R
 joined_elements pushed.All others = others

@@ -3,7 +3,7 @@ use Rattle.std.specs.Prelude.{◌≡◌, ℤ, Bool, IsTrue, List, [], ◌∷◌,
 use Rattle.std.specs.declared.alloc.Global.{Global}
 use Rattle.term_model.specs.Symbol.{Symbol}
 use Rattle.core_lang.specs.declared.coordinate.Coordinate.{Coordinate}
-use Rattle.core_lang.specs.Program.{Pattern, anything, variable, alias, integer, applied, list, like, Patterns, no_patterns, more_patterns, Elements, no_elements, the_rest, more_elements}
+use Rattle.core_lang.specs.Program.{Pattern, anything, variable, alias, integer, applied, list, like, annotated, Patterns, no_patterns, more_patterns, Elements, no_elements, the_rest, more_elements}
 use Rattle.core_lang.specs.Views.{patterns_in}
 use Rattle.strat_machine.specs.declared.loaded.LoadedPattern.{LoadedPattern}
 use Rattle.strat_machine.specs.declared.loaded.LoadedPattern.TheOpen.{LoadedPattern-F}
@@ -22,6 +22,7 @@ mutual
     -- a list with a pattern of its rest
     named_open_list : AllNamed N → Named N → Named N
     named_like : Named N → Coordinate → Named N
+    named_annotated : Named N → AllNamed N → Named N
 
   pub data AllNamed (N : Type 0) : Type 0 where
     no_named : AllNamed N
@@ -43,6 +44,7 @@ named_step (forms.Integer z) = named_integer z
 named_step (forms.Applied f ps) = named_applied f (all_named ps.items)
 named_step (forms.List ps rest) = named_elements (all_named ps.items) rest
 named_step (forms.Like p x) = named_like p.value x
+named_step (forms.Annotated p qs) = named_annotated p.value (all_named qs.items)
 
 -- the pattern over names that the code has
 abbrev pub named_of : {N : Type 0} → LoadedPattern N → Named N
@@ -60,6 +62,7 @@ module _ {N : Type 0} (symbol_of : N → Symbol) where
     meant (named_list ps) = list (elements_meant ps no_elements)
     meant (named_open_list ps p) = list (elements_meant ps (the_rest (meant p)))
     meant (named_like p x) = like (meant p) x
+    meant (named_annotated p qs) = annotated (meant p) (all_meant qs)
 
     pub all_meant : AllNamed N → Patterns Coordinate
     all_meant no_named = no_patterns
@@ -94,6 +97,7 @@ module _ {N : Type 0} (knows : N → Bool) where
     NamedKnown (named_list ps) = AllNamedKnown ps
     NamedKnown (named_open_list ps p) = AllNamedKnown ps × NamedKnown p
     NamedKnown (named_like p x) = NamedKnown p
+    NamedKnown (named_annotated p qs) = NamedKnown p × AllNamedKnown qs
 
     pub AllNamedKnown : AllNamed N → Type 0
     AllNamedKnown no_named = Unit {0}

@@ -4,7 +4,7 @@ use Rattle.std.specs.Option.{option_map}
 use Rattle.term_model.specs.declared.term.Head.TheVariants as heads
 use Rattle.term_model.specs.Term.{Tree, term}
 use Rattle.core_lang.specs.Environment.{Bindings}
-use Rattle.core_lang.specs.Program.{Pattern}
+use Rattle.core_lang.specs.Program.{Pattern, anything, variable, alias, integer, applied, list, like, annotated}
 use Rattle.strat_machine.specs.Binding.{Attempt, attempt, and_go, attempted}
 use Rattle.strat_machine.specs.References.{Places, AllPlaces, Binds}
 
@@ -26,3 +26,14 @@ abbrev pub rest_attempted : {X : Type 0} → (X → Option ℕ) → ℕ → Opti
 rest_attempted place b None [] e T = attempt true e T
 rest_attempted place b None (t ∷ ts) e T = attempt false e T
 rest_attempted place b (Some p) ts e T = attempted place b p (term heads.List ts []) e T
+
+-- the pattern gives the term itself to a variable, or asks for its annotations
+abbrev pub sees_annotations : {X : Type 0} → Pattern X → Bool
+sees_annotations anything = false
+sees_annotations (variable x) = true
+sees_annotations (alias x p) = true
+sees_annotations (integer z) = false
+sees_annotations (applied f ps) = false
+sees_annotations (list ps) = false
+sees_annotations (like p x) = false
+sees_annotations (annotated p qs) = true

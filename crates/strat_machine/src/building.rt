@@ -1,21 +1,21 @@
 // What a build makes of a pattern, over references.
-ghost use Rattle.std.specs.Prelude.{◌≡◌, IfOk, IsTrue, MatchOption, Option, Some, None, [], ◌≤◌, length, map, take, drop};
+ghost use Rattle.std.specs.Prelude.{◌≡◌, IfOk, IsTrue, MatchOption, Option, Some, None, [], ◌≤◌, is_some, length, map, drop};
 ghost use Rattle.std.specs.Option.{option_map};
-ghost use Rattle.core_lang.specs.Building.{applied_to, element_instances, elements_of, instance, instances, list_term, made_like, value_in};
+ghost use Rattle.core_lang.specs.Building.{element_instances, elements_of, instance, instances, made_like, made_with, value_in};
 ghost use Rattle.core_lang.specs.Views.{elements_in};
 ghost use Rattle.term_model.specs.Space.{Keeps};
 ghost use Rattle.term_model.specs.Term.{Trees, end};
-ghost use Rattle.strat_machine.specs.Builds.{held_in, joined_elements, made_built, instances_then, Builds, IsKept, AreBuilt, AreArguments, AreElements, TailStands, Puts};
+ghost use Rattle.strat_machine.specs.Builds.{held_in, joined_elements, instances_then, Builds, IsKept, AreBuilt, AreArguments, AreElements, Puts};
 ghost use Rattle.strat_machine.specs.Loaded.{Known, AllKnown, RestKnown, all_loaded_of, loaded_of, rest_loaded_of};
 ghost use Rattle.strat_machine.specs.References.{AllPlaces, AllRefs};
 ghost use Rattle.strat_machine.specs.State.{place_at};
 
-use crate::annotations::{annotated, with_annos_of};
 use crate::frames::Frames;
 use crate::loaded::LoadedPattern;
+use crate::making::{annotated, apply, list, with_built};
 use core_lang::Coordinate;
 use std::alloc::{AllocError, Global};
-use term_model::{Made, TermSpace};
+use term_model::TermSpace;
 
 /// What a build makes.
 #[derive(Drop)]
@@ -82,16 +82,6 @@ fn held<'a, R>(
     }
 }
 
-/// What was built where this was made.
-pub(crate) fn outcome<R: Drop>(made: Made<R>) -> Built<R>
-    ensures { result ≡ made_built made }
-{
-    match made {
-        Made::Fits(reference) => Built::Made(reference),
-        Made::Oversize => Built::Oversize,
-    }
-}
-
 /// Makes the instance of the pattern.
 #[cycle(building)]
 pub(crate) fn build<S: TermSpace>(
@@ -147,6 +137,14 @@ pub(crate) fn build<S: TermSpace>(
             let built = make_like(space, alloc, frames, here, slots, part, like, stack)?;
             Ok(built)
         }
+        LoadedPattern::Annotated(part, annotations) => {
+            let from = stack.len();
+            let annotations = annotations.as_slice();
+            let pushed = push_all(space, alloc, frames, here, slots, annotations, stack)?;
+            let built = make_with(space, alloc, frames, here, slots, part, pushed, from, stack)?;
+            stack.truncate(from);
+            Ok(built)
+        }
     }
 }
 
@@ -169,6 +167,46 @@ fn make_like<S: TermSpace>(
     ensures stack { IfOk result (λ _. stack.new.items ≡ stack.old.items) }
     ensures built { IfOk result (Builds S.stands S.term_of space.new (made_like (instance (place_at frames.now here) (loaded_of (S.symbol_of space.old) pattern.now) (map (option_map (S.term_of space.old)) slots.now)) (Some (S.term_of space.old like.now)))) }
 {
+    let from = stack.len();
+    space.fits(like);
+    space.push_annos(like, stack)?;
+    let built = make_with(
+        space,
+        alloc,
+        frames,
+        here,
+        slots,
+        pattern,
+        Pushed::All,
+        from,
+        stack,
+    )?;
+    stack.truncate(from);
+    Ok(built)
+}
+
+/// Makes the instance of the pattern with the annotations that stand on the stack from an index on, in the place of its
+/// own; where one of them has no instance or does not fit, neither has it or does it. Its own annotations are not made.
+#[cycle(building)]
+fn make_with<S: TermSpace>(
+    space: &mut S,
+    alloc: Global,
+    frames: &Frames,
+    here: usize,
+    slots: &[Option<S::Ref>],
+    pattern: &LoadedPattern<S::Name>,
+    pushed: Pushed,
+    from: usize,
+    stack: &mut Vec<S::Ref>,
+) -> Result<Built<S::Ref>, AllocError>
+    requires known { Known (S.knows space.old) pattern.now }
+    requires slots { AllPlaces (λ r. IsTrue (S.stands space.old r)) slots.now }
+    requires from { from ≤ length stack.old.items }
+    requires standing { AllRefs (λ r. IsTrue (S.stands space.old r)) (drop from stack.old.items) }
+    ensures keeps { Keeps S.stands S.term_of S.is_valid S.knows S.symbol_of space.old space.new }
+    ensures stack { IfOk result (λ _. stack.new.items ≡ stack.old.items) }
+    ensures built { IfOk result (λ made. (all : Option Trees → Option Trees) → AreBuilt S.term_of space.old all (drop from stack.old.items) pushed → Builds S.stands S.term_of space.new (made_with (instance (place_at frames.now here) (loaded_of (S.symbol_of space.old) pattern.now) (map (option_map (S.term_of space.old)) slots.now)) (all (Some end))) made) }
+{
     match pattern {
         LoadedPattern::Anything => Ok(Built::NoInstance),
         LoadedPattern::Alias(_, _) => Ok(Built::NoInstance),
@@ -176,101 +214,66 @@ fn make_like<S: TermSpace>(
             let Some(at) = value(space, frames, here, *x, slots) else {
                 return Ok(Built::NoInstance);
             };
-            let built = with_annos_of(space, alloc, at, like, stack)?;
+            let built = with_built(space, alloc, at, pushed, &stack[from..])?;
             Ok(built)
         }
         LoadedPattern::Integer(_) => {
             let bare = build(space, alloc, frames, here, slots, pattern, stack)?;
-            let built = annotated(space, alloc, bare, like, stack)?;
+            let built = annotated(space, alloc, bare, pushed, &stack[from..])?;
             Ok(built)
         }
         LoadedPattern::Applied(_, _) => {
             let bare = build(space, alloc, frames, here, slots, pattern, stack)?;
-            let built = annotated(space, alloc, bare, like, stack)?;
+            let built = annotated(space, alloc, bare, pushed, &stack[from..])?;
             Ok(built)
         }
         LoadedPattern::List(_, _) => {
             let bare = build(space, alloc, frames, here, slots, pattern, stack)?;
-            let built = annotated(space, alloc, bare, like, stack)?;
+            let built = annotated(space, alloc, bare, pushed, &stack[from..])?;
             Ok(built)
         }
         LoadedPattern::Like(part, x) => {
             if value(space, frames, here, *x, slots).is_none() {
                 return Ok(Built::NoInstance);
             }
-            let built = make_like(space, alloc, frames, here, slots, part, like, stack)?;
+            let built = make_with(space, alloc, frames, here, slots, part, pushed, from, stack)?;
+            Ok(built)
+        }
+        LoadedPattern::Annotated(part, annotations) => {
+            let annotations = annotations.as_slice();
+            if !have_instances(space, alloc, frames, here, slots, annotations, stack)? {
+                return Ok(Built::NoInstance);
+            }
+            let built = make_with(space, alloc, frames, here, slots, part, pushed, from, stack)?;
             Ok(built)
         }
     }
 }
 
-/// Makes the symbol of the name applied to what was put on the stack, and takes that off.
-fn apply<S: TermSpace>(
+/// Whether each of the patterns has an instance, whatever its size.
+#[cycle(building)]
+fn have_instances<S: TermSpace>(
     space: &mut S,
     alloc: Global,
-    name: &S::Name,
-    pushed: Pushed,
-    from: usize,
+    frames: &Frames,
+    here: usize,
+    slots: &[Option<S::Ref>],
+    patterns: &[LoadedPattern<S::Name>],
     stack: &mut Vec<S::Ref>,
-) -> Result<Built<S::Ref>, AllocError>
-    requires name { IsTrue (S.knows space.old name.now) }
-    requires from { from ≤ length stack.old.items }
-    requires standing { AllRefs (λ r. IsTrue (S.stands space.old r)) (drop from stack.old.items) }
+) -> Result<bool, AllocError>
+    requires known { AllKnown (S.knows space.old) patterns.now }
+    requires slots { AllPlaces (λ r. IsTrue (S.stands space.old r)) slots.now }
     ensures keeps { Keeps S.stands S.term_of S.is_valid S.knows S.symbol_of space.old space.new }
-    ensures stack { IfOk result (λ _. stack.new.items ≡ take from stack.old.items) }
-    ensures built { IfOk result (λ made. (all : Option Trees → Option Trees) → AreBuilt S.term_of space.old all (drop from stack.old.items) pushed → Builds S.stands S.term_of space.new (applied_to (all (Some end)) (S.symbol_of space.old name.now)) made) }
+    ensures stack { IfOk result (λ _. stack.new.items ≡ stack.old.items) }
+    ensures all { IfOk result (λ yes. yes ≡ is_some (instances (place_at frames.now here) (all_loaded_of (S.symbol_of space.old) patterns.now) (map (option_map (S.term_of space.old)) slots.now))) }
 {
+    let from = stack.len();
+    let pushed = push_all(space, alloc, frames, here, slots, patterns, stack)?;
+    stack.truncate(from);
     match pushed {
-        Pushed::NoInstance => {
-            stack.truncate(from);
-            Ok(Built::NoInstance)
-        }
-        Pushed::Oversize => {
-            stack.truncate(from);
-            Ok(Built::Oversize)
-        }
-        Pushed::All => {
-            let made = space.app(alloc, name, &stack[from..])?;
-            stack.truncate(from);
-            Ok(outcome(made))
-        }
-    }
-}
-
-/// Makes the list of the elements that were put on the stack, and takes those off.
-fn list<S: TermSpace>(
-    space: &mut S,
-    alloc: Global,
-    elements: Elements<S::Ref>,
-    from: usize,
-    stack: &mut Vec<S::Ref>,
-) -> Result<Built<S::Ref>, AllocError>
-    requires from { from ≤ length stack.old.items }
-    requires standing { AllRefs (λ r. IsTrue (S.stands space.old r)) (drop from stack.old.items) }
-    requires tail { TailStands S.stands S.term_of space.old elements }
-    ensures keeps { Keeps S.stands S.term_of S.is_valid S.knows S.symbol_of space.old space.new }
-    ensures stack { IfOk result (λ _. stack.new.items ≡ take from stack.old.items) }
-    ensures built { IfOk result (λ made. (all : Option Trees) → AreElements S.stands S.term_of space.old all (drop from stack.old.items) elements → Builds S.stands S.term_of space.new (list_term all) made) }
-{
-    match elements {
-        Elements::NoInstance => {
-            stack.truncate(from);
-            Ok(Built::NoInstance)
-        }
-        Elements::Oversize => {
-            stack.truncate(from);
-            Ok(Built::Oversize)
-        }
-        Elements::All => {
-            let made = space.list(alloc, &stack[from..])?;
-            stack.truncate(from);
-            Ok(outcome(made))
-        }
-        Elements::Before(tail) => {
-            let made = space.prepend(alloc, &stack[from..], &tail)?;
-            stack.truncate(from);
-            Ok(outcome(made))
-        }
+        Pushed::NoInstance => Ok(false),
+        Pushed::All => Ok(true),
+        Pushed::Oversize => Ok(true),
     }
 }
 
@@ -331,6 +334,14 @@ fn push_tail<S: TermSpace>(
         }
         LoadedPattern::Like(part, x) => {
             if value(space, frames, here, *x, slots).is_none() {
+                return Ok(Elements::NoInstance);
+            }
+            let elements = push_tail(space, alloc, frames, here, slots, part, stack)?;
+            Ok(elements)
+        }
+        LoadedPattern::Annotated(part, annotations) => {
+            let annotations = annotations.as_slice();
+            if !have_instances(space, alloc, frames, here, slots, annotations, stack)? {
                 return Ok(Elements::NoInstance);
             }
             let elements = push_tail(space, alloc, frames, here, slots, part, stack)?;

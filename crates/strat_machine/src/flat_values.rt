@@ -139,7 +139,7 @@ pub(crate) fn make_flat<S: TermSpace>(
 fn make_integers<S: TermSpace>(
     space: &mut S,
     alloc: Global,
-    numbers: &[i32],
+    numbers: &[i64],
 ) -> Result<Vec<S::Ref>, AllocError>
     ensures keeps { Keeps S.stands S.term_of S.is_valid S.knows S.symbol_of space.old space.new }
     ensures standing { IfOk result (λ rs. AllRefs (λ r. IsTrue (S.stands space.new r)) rs.items) }

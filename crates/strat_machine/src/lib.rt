@@ -13,6 +13,7 @@ mod instructions;
 mod laws;
 mod loaded;
 mod machine;
+mod making;
 mod matching;
 mod paid;
 mod patterns;

@@ -14,10 +14,11 @@ pub(crate) enum LoadedPattern<N> {
     Anything,
     Variable(Coordinate),
     Alias(Coordinate, Box<LoadedPattern<N>>),
-    Integer(i32),
+    Integer(i64),
     Applied(N, Vec<LoadedPattern<N>>),
     List(Vec<LoadedPattern<N>>, Option<Box<LoadedPattern<N>>>),
     Like(Box<LoadedPattern<N>>, Coordinate),
+    Annotated(Box<LoadedPattern<N>>, Vec<LoadedPattern<N>>),
 }
 
 /// Brings the names of a pattern in.
@@ -51,6 +52,11 @@ pub(crate) fn load_pattern<S: TermSpace>(
         CorePattern::Like(part, x) => {
             let part = load_boxed(space, alloc, part)?;
             Ok(LoadedPattern::Like(part, *x))
+        }
+        CorePattern::Annotated(part, annotations) => {
+            let part = load_boxed(space, alloc, part)?;
+            let annotations = load_patterns(space, alloc, annotations)?;
+            Ok(LoadedPattern::Annotated(part, annotations))
         }
     }
 }

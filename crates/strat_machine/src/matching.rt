@@ -1,16 +1,18 @@
 // Matching a pattern with the term of a reference.
-ghost use Rattle.std.specs.Prelude.{◌≡◌, ◌≤◌, IfOk, IsTrue, true, length, map, drop};
+ghost use Rattle.std.specs.Prelude.{◌≡◌, ◌≤◌, IfOk, IsTrue, true, [], length, map, drop};
 ghost use Rattle.core_lang.specs.Program.{list};
 ghost use Rattle.term_model.specs.declared.term.Head.TheVariants as heads;
-ghost use Rattle.term_model.specs.Term.{head_of, parts_of};
+ghost use Rattle.term_model.specs.Symbol.{Symbol};
+ghost use Rattle.term_model.specs.Term.{annos_of, head_of, parts_of, term};
 ghost use Rattle.term_model.specs.Same.{same_head};
 ghost use Rattle.term_model.specs.Space.{Keeps};
 ghost use Rattle.strat_machine.specs.Binding.{attempt, attempted, bind};
 ghost use Rattle.strat_machine.specs.Loaded.{Known, AllKnown, RestKnown, loaded_of, rest_loaded_of};
-ghost use Rattle.strat_machine.specs.Matches.{Goes, first_attempted, rest_attempted};
+ghost use Rattle.strat_machine.specs.Matches.{Goes, first_attempted, rest_attempted, sees_annotations};
 ghost use Rattle.strat_machine.specs.References.{AllPlaces};
 ghost use Rattle.strat_machine.specs.State.{place_at};
 
+use crate::annotations::{anno, anno_count, bare};
 use crate::frames::Frames;
 use crate::loaded::LoadedPattern;
 use crate::places::Places;
@@ -75,6 +77,89 @@ pub(crate) fn match_pattern<S: TermSpace>(
             Ok(yes)
         }
         LoadedPattern::Like(_, _) => Ok(false),
+        LoadedPattern::Annotated(part, annotations) => {
+            let annotations = annotations.as_slice();
+            if anno_count(space, at) != annotations.len() {
+                return Ok(false);
+            }
+            if !match_bare(space, alloc, frames, here, part, at, places)? {
+                return Ok(false);
+            }
+            let yes = match_annos(space, alloc, frames, here, annotations, at, places)?;
+            Ok(yes)
+        }
+    }
+}
+
+// Whether the pattern matches the term without its annotations. That term is made only where the pattern binds it or asks for its
+// annotations.
+#[cycle(matching)]
+fn match_bare<S: TermSpace>(
+    space: &mut S,
+    alloc: Global,
+    frames: &Frames,
+    here: usize,
+    pattern: &LoadedPattern<S::Name>,
+    at: &S::Ref,
+    places: &mut Places<S::Ref>,
+) -> Result<bool, AllocError>
+    requires known { Known (S.knows space.old) pattern.now }
+    requires stands { IsTrue (S.stands space.old at.now) }
+    requires places { AllPlaces (λ r. IsTrue (S.stands space.old r)) places.old.slots }
+    ensures keeps { Keeps S.stands S.term_of S.is_valid S.knows S.symbol_of space.old space.new }
+    ensures barrier { IfOk result (λ _. places.new.barrier ≡ places.old.barrier) }
+    ensures attempt { IfOk result (λ yes. Goes S.stands S.term_of places.old.barrier (attempted (place_at frames.now here) places.old.barrier (loaded_of (S.symbol_of space.old) pattern.now) (term (head_of (S.term_of space.old at.now)) (parts_of (S.term_of space.old at.now)) [])) (attempt yes) space.old places.old.slots places.old.trail space.new places.new.slots places.new.trail) }
+{
+    if !sees_annos(pattern) {
+        let yes = match_pattern(space, alloc, frames, here, pattern, at, places)?;
+        return Ok(yes);
+    }
+    let bare = bare(space, alloc, at)?;
+    let yes = match_pattern(space, alloc, frames, here, pattern, &bare, places)?;
+    Ok(yes)
+}
+
+// Whether each pattern matches the annotation at its place, of which there are as many.
+#[cycle(matching)]
+fn match_annos<S: TermSpace>(
+    space: &mut S,
+    alloc: Global,
+    frames: &Frames,
+    here: usize,
+    patterns: &[LoadedPattern<S::Name>],
+    at: &S::Ref,
+    places: &mut Places<S::Ref>,
+) -> Result<bool, AllocError>
+    requires known { AllKnown (S.knows space.old) patterns.now }
+    requires count { length (annos_of (S.term_of space.old at.now)) ≡ length patterns.now }
+    requires stands { IsTrue (S.stands space.old at.now) }
+    requires places { AllPlaces (λ r. IsTrue (S.stands space.old r)) places.old.slots }
+    ensures keeps { Keeps S.stands S.term_of S.is_valid S.knows S.symbol_of space.old space.new }
+    ensures barrier { IfOk result (λ _. places.new.barrier ≡ places.old.barrier) }
+    ensures attempt { IfOk result (λ yes. Goes S.stands S.term_of places.old.barrier (first_attempted (place_at frames.now here) places.old.barrier (map (loaded_of (S.symbol_of space.old)) patterns.now) (annos_of (S.term_of space.old at.now))) (attempt yes) space.old places.old.slots places.old.trail space.new places.new.slots places.new.trail) }
+{
+    for (i, pattern) in patterns.iter().enumerate() {
+        let anno = anno(space, at, i)?;
+        if !match_part(space, alloc, frames, here, pattern, &anno, places)? {
+            return Ok(false);
+        }
+    }
+    Ok(true)
+}
+
+// Whether the pattern binds the term, or asks for its annotations.
+fn sees_annos<N>(pattern: &LoadedPattern<N>) -> bool
+    ensures { (symbol_of : N → Symbol) → result ≡ sees_annotations (loaded_of symbol_of pattern.now) }
+{
+    match pattern {
+        LoadedPattern::Variable(_) => true,
+        LoadedPattern::Alias(_, _) => true,
+        LoadedPattern::Annotated(_, _) => true,
+        LoadedPattern::Anything => false,
+        LoadedPattern::Integer(_) => false,
+        LoadedPattern::Applied(_, _) => false,
+        LoadedPattern::List(_, _) => false,
+        LoadedPattern::Like(_, _) => false,
     }
 }
 
@@ -196,7 +281,7 @@ fn bind_variable<S: TermSpace>(
 }
 
 /// Whether the term is the integer, whatever its annotations.
-pub(crate) fn is_integer<S: TermSpace>(space: &S, at: &S::Ref, value: &i32) -> bool
+pub(crate) fn is_integer<S: TermSpace>(space: &S, at: &S::Ref, value: &i64) -> bool
     requires { IsTrue (S.stands space.now at.now) }
     ensures { result ≡ same_head (head_of (S.term_of space.now at.now)) (heads.Int value.now) }
 {

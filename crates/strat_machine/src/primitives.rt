@@ -17,9 +17,10 @@ ghost use Rattle.strat_machine.specs.SpaceOf.{space_of};
 ghost use Rattle.strat_machine.specs.RecordStack.{records_of};
 ghost use Rattle.strat_machine.specs.Stacks.{Performs, IsSafe, phase_with};
 
-use crate::building::{Built, Pushed, build_all, outcome};
+use crate::building::{Built, Pushed, build_all};
 use crate::flat_values::{flat_values, make_flat};
 use crate::loaded::LoadedPattern;
+use crate::making::outcome;
 use crate::stacks::{Phase, Stacks, Stop};
 use prim_registry::{Flat, PrimMeaning, Registry};
 use std::alloc::{AllocError, Global};

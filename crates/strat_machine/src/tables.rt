@@ -13,7 +13,7 @@ use term_model::TermSpace;
 #[derive(Drop)]
 pub(crate) enum LoadedRoot<N> {
     Any,
-    Integer(i32),
+    Integer(i64),
     Symbol(N, usize),
     List(usize, bool),
 }

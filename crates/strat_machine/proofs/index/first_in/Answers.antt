@@ -1,10 +1,16 @@
-use Rattle.std.proofs.Common.{refl, rules}
+use Rattle.std.proofs.Common.{◌-◌, length, drop, refl, rules}
 use Rattle.std.proofs.Math.Dec.{ltb}
-use Rattle.std.proofs.lemmas.List.Sorted.{IsPartitionPoint-from_clause, IsPartitionedBy-ltb}
+use Rattle.std.proofs.lemmas.List.Sorted.{IsNonDecreasingBy-drop, IsNonDecreasingBy-take, IsPartitionPoint-from_clause, IsPartitionedBy-ltb}
 use Rattle.std.proofs.lemmas.List.{take_rest}
 use Rattle.strat_machine.specs.Operands.{case_has}
 use Rattle.strat_machine.proofs.IndexLaws.{first_from, same_list}
 use Rattle.strat_machine.proofs.index.first_in.Goals as goal
+
+pub first_of-requires-clause-rising : goal.first_of-requires-clause-rising
+first_of-requires-clause-rising g c =
+    let list = c.args.list.now in
+    let start = c.partition_point-start.result in
+    IsNonDecreasingBy-take (λ x. x) (length list - start) (drop start list) (IsNonDecreasingBy-drop (λ x. x) start list c.requires.rising)
 
 pub returns : goal.returns
 returns g c =

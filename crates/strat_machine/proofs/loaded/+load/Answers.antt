@@ -1,6 +1,6 @@
 use Rattle.std.proofs.Common.{◌∙◌}
 use Rattle.strat_machine.proofs.SpaceLaws.{keeps_then}
-use Rattle.strat_machine.proofs.LoadedLaws.{applied_is_loaded, list_is_loaded, are_loaded_later, one_more_loaded}
+use Rattle.strat_machine.proofs.LoadedLaws.{applied_is_loaded, list_is_loaded, annotated_is_loaded, is_loaded_later, are_loaded_later, one_more_loaded}
 use Rattle.strat_machine.proofs.loaded.+load.Goals as goal
 
 pub load_pattern-returns-in_ok-parts-in-Applied-clause-loaded : goal.load_pattern-returns-in_ok-parts-in-Applied-clause-loaded
@@ -16,6 +16,12 @@ load_pattern-returns-in_ok-rest-in-List-clause-loaded g t c =
     let keeps = c.in_ok-rest-in-List.ensures.keeps in
     list_is_loaded c.in_ok-elements-in-List.elements c.in_ok-rest-in-List.rest c.in-List.elements c.in-List.rest c.deref-in-List.result.now c.args.pattern.now
     (are_loaded_later keeps.known keeps.symbols c.in_ok-elements-in-List.ensures.loaded) c.in_ok-rest-in-List.ensures.loaded c.deref-in-List.ensures.value c.in-List.is
+
+pub load_pattern-returns-in_ok-annotations-in-Annotated-clause-loaded : goal.load_pattern-returns-in_ok-annotations-in-Annotated-clause-loaded
+load_pattern-returns-in_ok-annotations-in-Annotated-clause-loaded g t c =
+    let keeps = c.in_ok-annotations-in-Annotated.ensures.keeps in
+    annotated_is_loaded c.in_ok-part-in-Annotated.part c.in_ok-annotations-in-Annotated.annotations c.in-Annotated.part c.in-Annotated.annotations c.deref-in-Annotated.result.now c.deref-in-Annotated-2.result.now c.args.pattern.now
+    (is_loaded_later keeps.known keeps.symbols c.in_ok-part-in-Annotated.ensures.loaded) c.in_ok-annotations-in-Annotated.ensures.loaded c.deref-in-Annotated.ensures c.deref-in-Annotated-2.ensures.value c.in-Annotated.is
 
 pub load_patterns-loop-p-preserved : goal.load_patterns-loop-p-preserved
 load_patterns-loop-p-preserved g t c =

@@ -1,15 +1,15 @@
 use Rattle.strat_machine.specs.declared.loaded.LoadedPattern.TheViews.{the_lemmas}
-use Rattle.std.proofs.Common.{rules, ◌≤◌, ◌∙◌, refl, sym, ap, subst, arith, length, map, drop}
+use Rattle.std.proofs.Common.{rules, [], ◌≤◌, ◌∙◌, refl, sym, ap, subst, arith, length, map, drop}
 use Rattle.std.specs.Prelude.{true, false}
 use Rattle.std.proofs.lemmas.List.{length-map}
 use Rattle.term_model.specs.Same.{same_head-true}
-use Rattle.term_model.specs.Term.{head_of, parts_of}
+use Rattle.term_model.specs.Term.{term, head_of, parts_of, annos_of}
 use Rattle.strat_machine.specs.Loaded.{loaded_of, rest_loaded_of}
 use Rattle.strat_machine.specs.State.{place_at}
 use Rattle.strat_machine.proofs.ReferenceLaws.{all_changed}
 use Rattle.strat_machine.proofs.SpaceLaws.{keeps_same, keeps_then}
-use Rattle.strat_machine.proofs.LoadedLaws.{loaded_as_anything, loaded_as_alias, loaded_as_integer, loaded_as_like, loaded_as_applied, loaded_as_list, loaded_same, rest_loaded_same, known_as_applied, known_as_list, known_later, rest_known_later, rest_known_some, rest_loaded_some}
-use Rattle.strat_machine.proofs.MatchingLaws.{goes_at_once, goes_as_pattern, match_lacks, match_stops, match_next, known_at, alias_goes, integer_tested, applied_none, applied_fails, applied_ends, list_none, list_fails, list_goes, no_rest, rest_goes}
+use Rattle.strat_machine.proofs.LoadedLaws.{loaded_as_anything, loaded_as_alias, loaded_as_integer, loaded_as_like, loaded_as_applied, loaded_as_list, loaded_same, all_loaded_same, rest_loaded_same, loaded_as_annotated, known_as_applied, known_as_list, known_as_annotated, known_later, all_known_later, rest_known_later, rest_known_some, rest_loaded_some}
+use Rattle.strat_machine.proofs.MatchingLaws.{goes_at_once, goes_as_pattern, match_lacks, match_stops, match_next, known_at, alias_goes, integer_tested, applied_none, applied_fails, applied_ends, list_none, list_fails, list_goes, no_rest, rest_goes, annotated_none, annotated_fails, annotated_goes, unseen_goes, bare_goes}
 use Rattle.strat_machine.proofs.matching.+matching.Goals as goal
 
 pub match_first-loop-i-init : goal.match_first-loop-i-init
@@ -27,7 +27,7 @@ match_first-returns-then-not-branch-clause-keeps g t c = keeps_then c.loop-i.inv
 
 pub match_first-returns-then-not-branch-clause-attempt : goal.match_first-returns-then-not-branch-clause-attempt
 match_first-returns-then-not-branch-clause-attempt g t c =
-    match_stops (place_at c.args.frames.now c.args.here) c.args.patterns.now c.args.at.now c.loop-i.i c.index-patterns-i.result (g.S.TermSpace.term_of c.loop-i.space c.in_ok-part.part) c.in_ok-match_part.field-0 c.loop-i.places.barrier
+    match_stops (place_at c.args.frames.now c.args.here) parts_of c.args.patterns.now c.args.at.now c.loop-i.i c.index-patterns-i.result (g.S.TermSpace.term_of c.loop-i.space c.in_ok-part.part) c.in_ok-match_part.field-0 c.loop-i.places.barrier
     c.requires.known c.loop-i.invariant.0 c.requires.stands c.loop-i-test.true c.index-patterns-i.is c.in_ok-part.ensures.term c.loop-i.invariant.3 c.in_ok-match_part.ensures.keeps c.loop-i.invariant.1 c.if-not-branch.true c.in_ok-match_part.ensures.attempt
 
 pub match_first-loop-i-preserved : goal.match_first-loop-i-preserved
@@ -35,7 +35,7 @@ match_first-loop-i-preserved g t c = (
   keeps_then c.loop-i.invariant.0 c.in_ok-match_part.ensures.keeps,
   c.in_ok-match_part.ensures.barrier ∙ c.loop-i.invariant.1,
   (let below = c.if-i-count.false in omega arith),
-  match_next (place_at c.args.frames.now c.args.here) c.args.patterns.now c.args.at.now c.loop-i.i c.index-patterns-i.result (g.S.TermSpace.term_of c.loop-i.space c.in_ok-part.part) c.in_ok-match_part.field-0 c.loop-i.places.barrier
+  match_next (place_at c.args.frames.now c.args.here) parts_of c.args.patterns.now c.args.at.now c.loop-i.i c.index-patterns-i.result (g.S.TermSpace.term_of c.loop-i.space c.in_ok-part.part) c.in_ok-match_part.field-0 c.loop-i.places.barrier
       c.requires.known c.loop-i.invariant.0 c.requires.stands c.loop-i-test.true c.index-patterns-i.is c.in_ok-part.ensures.term c.loop-i.invariant.3 c.in_ok-match_part.ensures.keeps c.loop-i.invariant.1 c.if-not-branch.false c.in_ok-match_part.ensures.attempt,
 )
 
@@ -164,3 +164,99 @@ match_rest-returns-in_ok-yes-in-Some-clause-attempt g t c =
     let known = rest_known_some (s.knows w) c.args.rest.now c.in-Some.pattern pattern c.in-Some.is c.deref.ensures c.requires.known in
     rest_goes (place_at c.args.frames.now c.args.here) (rest_loaded_of (s.symbol_of w) c.args.rest.now) (loaded_of (s.symbol_of w) pattern) (loaded_of (s.symbol_of w1) pattern) (drop c.args.from (parts_of (s.term_of w c.args.at.now))) (s.term_of w1 c.in_ok-others-in-Some.others) c.in_ok-yes-in-Some.yes
     c.requires.places keeps.terms (rest_loaded_some (s.knows w) c.args.rest.now c.in-Some.pattern pattern c.in-Some.is c.deref.ensures (s.symbol_of w)) (loaded_same (s.knows w) (s.symbol_of w) (s.symbol_of w1) keeps.symbols pattern known) c.in_ok-others-in-Some.ensures.term c.in_ok-yes-in-Some.ensures.attempt
+
+pub match_bare-match_pattern-requires-2 : goal.match_bare-match_pattern-requires-2
+match_bare-match_pattern-requires-2 g t c κs within =
+    let keeps = c.in_ok-bare.ensures.keeps in
+    (search (rules, the_lemmas), (within.0, (within.1.0, (within.1.1.0, (within.1.1.1, (known_later keeps.known c.args.pattern.now c.requires.known, (c.in_ok-bare.ensures.stands, all_changed keeps.standing c.args.places.now.slots c.requires.places)))))))
+
+pub match_bare-returns-then-not-sees_annos-clause-attempt : goal.match_bare-returns-then-not-sees_annos-clause-attempt
+match_bare-returns-then-not-sees_annos-clause-attempt g t c =
+    let s = g.S.TermSpace in
+    let w = c.args.space.now in
+    unseen_goes (place_at c.args.frames.now c.args.here) (loaded_of (s.symbol_of w) c.args.pattern.now) (s.term_of w c.args.at.now) c.sees_annos.result c.in_ok-yes.yes (c.sees_annos.ensures (s.symbol_of w)) c.if-not-sees_annos.true c.in_ok-yes.ensures.attempt
+
+pub match_bare-returns-clause-attempt : goal.match_bare-returns-clause-attempt
+match_bare-returns-clause-attempt g d c =
+    let s = g.S.TermSpace in
+    let w = c.args.space.now in
+    let w1 = c.bare.new.space in
+    let keeps = c.in_ok-bare.ensures.keeps in
+    let pattern = c.args.pattern.now in
+    let t = s.term_of w c.args.at.now in
+    bare_goes (place_at c.args.frames.now c.args.here) (loaded_of (s.symbol_of w) pattern) (loaded_of (s.symbol_of w1) pattern) (term (head_of t) (parts_of t) []) (s.term_of w1 c.in_ok-bare.bare) c.in_ok-yes-2.yes
+    c.requires.places keeps.terms (loaded_same (s.knows w) (s.symbol_of w) (s.symbol_of w1) keeps.symbols pattern c.requires.known) c.in_ok-bare.ensures.term c.in_ok-yes-2.ensures.attempt
+
+pub match_annos-loop-i-init : goal.match_annos-loop-i-init
+match_annos-loop-i-init g t c =
+    let s = g.S.TermSpace in
+    (keeps_same s.stands s.term_of s.is_valid s.knows s.symbol_of c.args.space.now, refl, goes_at_once c.requires.places refl)
+
+pub match_annos-match_part-requires : goal.match_annos-match_part-requires
+match_annos-match_part-requires g t c κs within =
+    let keeps = c.loop-i.invariant.0 in
+    let known = known_at (g.S.TermSpace.knows c.args.space.now) c.args.patterns.now c.loop-i.i c.index-patterns-i.result c.requires.known c.loop-i-test.true c.index-patterns-i.is in
+    (search (rules, the_lemmas), (within.0, (within.1.0, (within.1.1.0, (within.1.1.1, (known_later keeps.known c.index-patterns-i.result known, (c.in_ok-anno.ensures.stands, c.loop-i.invariant.2.standing)))))))
+
+pub match_annos-returns-then-not-branch-clause-keeps : goal.match_annos-returns-then-not-branch-clause-keeps
+match_annos-returns-then-not-branch-clause-keeps g t c = keeps_then c.loop-i.invariant.0 c.in_ok-match_part.ensures.keeps
+
+pub match_annos-returns-then-not-branch-clause-attempt : goal.match_annos-returns-then-not-branch-clause-attempt
+match_annos-returns-then-not-branch-clause-attempt g t c =
+    match_stops (place_at c.args.frames.now c.args.here) annos_of c.args.patterns.now c.args.at.now c.loop-i.i c.index-patterns-i.result (g.S.TermSpace.term_of c.loop-i.space c.in_ok-anno.anno) c.in_ok-match_part.field-0 c.loop-i.places.barrier
+    c.requires.known c.loop-i.invariant.0 c.requires.stands c.loop-i-test.true c.index-patterns-i.is c.in_ok-anno.ensures.term c.loop-i.invariant.2 c.in_ok-match_part.ensures.keeps c.loop-i.invariant.1 c.if-not-branch.true c.in_ok-match_part.ensures.attempt
+
+pub match_annos-loop-i-preserved : goal.match_annos-loop-i-preserved
+match_annos-loop-i-preserved g t c = (
+  keeps_then c.loop-i.invariant.0 c.in_ok-match_part.ensures.keeps,
+  c.in_ok-match_part.ensures.barrier ∙ c.loop-i.invariant.1,
+  match_next (place_at c.args.frames.now c.args.here) annos_of c.args.patterns.now c.args.at.now c.loop-i.i c.index-patterns-i.result (g.S.TermSpace.term_of c.loop-i.space c.in_ok-anno.anno) c.in_ok-match_part.field-0 c.loop-i.places.barrier
+      c.requires.known c.loop-i.invariant.0 c.requires.stands c.loop-i-test.true c.index-patterns-i.is c.in_ok-anno.ensures.term c.loop-i.invariant.2 c.in_ok-match_part.ensures.keeps c.loop-i.invariant.1 c.if-not-branch.false c.in_ok-match_part.ensures.attempt,
+)
+
+pub match_pattern-returns-then-anno_count-annotations-clause-attempt : goal.match_pattern-returns-then-anno_count-annotations-clause-attempt
+match_pattern-returns-then-anno_count-annotations-clause-attempt g t c =
+    let s = g.S.TermSpace in
+    let w = c.args.space.now in
+    let symbols = s.symbol_of w in
+    let annotations = c.as_slice-annotations.result.now in
+    annotated_none (place_at c.args.frames.now c.args.here) (loaded_of symbols c.args.pattern.now) (loaded_of symbols c.in-Annotated.part.value) (map (loaded_of symbols) annotations) (s.term_of w c.args.at.now)
+    (loaded_as_annotated symbols c.args.pattern.now c.in-Annotated.part c.in-Annotated.annotations c.in-Annotated.part.value annotations c.in-Annotated.is refl c.as_slice-annotations.ensures.value)
+    (λ same. c.if-anno_count-annotations.true (c.anno_count.ensures ∙ (same ∙ length-map annotations (loaded_of symbols)))) c.requires.places
+
+pub match_pattern-returns-then-not-branch-4-clause-attempt : goal.match_pattern-returns-then-not-branch-4-clause-attempt
+match_pattern-returns-then-not-branch-4-clause-attempt g t c =
+    let s = g.S.TermSpace in
+    let w = c.args.space.now in
+    let symbols = s.symbol_of w in
+    let annotations = c.as_slice-annotations.result.now in
+    let part = c.deref-in-Annotated.result.now in
+    let many = sym c.anno_count.ensures ∙ (c.if-anno_count-annotations.false ∙ sym (length-map annotations (loaded_of symbols))) in
+    annotated_fails (place_at c.args.frames.now c.args.here) (loaded_of symbols c.args.pattern.now) (loaded_of symbols part) (map (loaded_of symbols) annotations) (s.term_of w c.args.at.now) c.in_ok-match_bare-in-Annotated.field-0
+    (loaded_as_annotated symbols c.args.pattern.now c.in-Annotated.part c.in-Annotated.annotations part annotations c.in-Annotated.is c.deref-in-Annotated.ensures c.as_slice-annotations.ensures.value) many c.in_ok-match_bare-in-Annotated.ensures.attempt c.if-not-branch-4.true
+
+pub match_pattern-match_annos-requires : goal.match_pattern-match_annos-requires
+match_pattern-match_annos-requires g t c κs within =
+    let s = g.S.TermSpace in
+    let w = c.args.space.now in
+    let keeps = c.in_ok-match_bare-in-Annotated.ensures.keeps in
+    let annotations = c.as_slice-annotations.result.now in
+    let known = known_as_annotated (s.knows w) c.args.pattern.now c.in-Annotated.part c.in-Annotated.annotations c.deref-in-Annotated.result.now annotations c.in-Annotated.is c.deref-in-Annotated.ensures c.as_slice-annotations.ensures.value c.requires.known in
+    let many = ap (λ u. length (annos_of u)) (keeps.terms c.args.at.now c.requires.stands) ∙ (sym c.anno_count.ensures ∙ c.if-anno_count-annotations.false) in
+    (search (rules, the_lemmas), (within.0, (within.1.0, (within.1.1.0, (within.1.1.1, (all_known_later keeps.known annotations known.1, (many, (keeps.standing c.args.at.now c.requires.stands, c.in_ok-match_bare-in-Annotated.ensures.attempt.standing))))))))
+
+pub match_pattern-returns-in_ok-yes-in-Annotated-clause-attempt : goal.match_pattern-returns-in_ok-yes-in-Annotated-clause-attempt
+match_pattern-returns-in_ok-yes-in-Annotated-clause-attempt g t c =
+    let s = g.S.TermSpace in
+    let w = c.args.space.now in
+    let symbols = s.symbol_of w in
+    let annotations = c.as_slice-annotations.result.now in
+    let part = c.deref-in-Annotated.result.now in
+    let w1 = c.match_bare.new.space in
+    let keeps = c.in_ok-match_bare-in-Annotated.ensures.keeps in
+    let known = known_as_annotated (s.knows w) c.args.pattern.now c.in-Annotated.part c.in-Annotated.annotations c.deref-in-Annotated.result.now annotations c.in-Annotated.is c.deref-in-Annotated.ensures c.as_slice-annotations.ensures.value c.requires.known in
+    let many = sym c.anno_count.ensures ∙ (c.if-anno_count-annotations.false ∙ sym (length-map annotations (loaded_of symbols))) in
+    annotated_goes (place_at c.args.frames.now c.args.here) (loaded_of symbols c.args.pattern.now) (loaded_of symbols part) (map (loaded_of symbols) annotations) (s.term_of w c.args.at.now) c.in_ok-match_bare-in-Annotated.field-0
+    (loaded_as_annotated symbols c.args.pattern.now c.in-Annotated.part c.in-Annotated.annotations part annotations c.in-Annotated.is c.deref-in-Annotated.ensures c.as_slice-annotations.ensures.value) many c.in_ok-match_bare-in-Annotated.ensures.attempt
+    (map (loaded_of (s.symbol_of w1)) annotations) (s.term_of w1 c.args.at.now) c.in_ok-yes-in-Annotated.yes c.match_bare.new.places.barrier c.if-not-branch-4.false c.in_ok-yes-in-Annotated.ensures.keeps.standing
+    (all_loaded_same (s.knows w) symbols (s.symbol_of w1) keeps.symbols annotations known.1) (keeps.terms c.args.at.now c.requires.stands) c.in_ok-match_bare-in-Annotated.ensures.barrier c.in_ok-yes-in-Annotated.ensures.attempt

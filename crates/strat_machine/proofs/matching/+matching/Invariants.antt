@@ -1,6 +1,6 @@
 use Rattle.std.proofs.Common.{◌≡◌, ◌≤◌, drop, map}
 use Rattle.term_model.specs.Space.{Keeps}
-use Rattle.term_model.specs.Term.{parts_of}
+use Rattle.term_model.specs.Term.{parts_of, annos_of}
 use Rattle.strat_machine.specs.Loaded.{loaded_of}
 use Rattle.strat_machine.specs.Matches.{Goes, first_attempted}
 use Rattle.strat_machine.specs.State.{place_at}
@@ -15,4 +15,15 @@ invariant-match_first-loop-i g l =
     let ps = map (loaded_of (s.symbol_of w)) l.patterns in
     let ts = parts_of (s.term_of w l.at) in
     Keeps s.stands s.term_of s.is_valid s.knows s.symbol_of w l.space × (l.places.barrier ≡ old.barrier) × (l.i ≤ l.count) ×
+    Goes s.stands s.term_of old.barrier (first_attempted place old.barrier ps ts) (first_attempted place old.barrier (drop l.i ps) (drop l.i ts)) w old.slots old.trail l.space l.places.slots l.places.trail
+
+abbrev pub invariant-match_annos-loop-i : goal.invariant-match_annos-loop-i
+invariant-match_annos-loop-i g l =
+    let s = g.S.TermSpace in
+    let w = l.initial.space in
+    let old = l.initial.places in
+    let place = place_at l.frames l.here in
+    let ps = map (loaded_of (s.symbol_of w)) l.patterns in
+    let ts = annos_of (s.term_of w l.at) in
+    Keeps s.stands s.term_of s.is_valid s.knows s.symbol_of w l.space × (l.places.barrier ≡ old.barrier) ×
     Goes s.stands s.term_of old.barrier (first_attempted place old.barrier ps ts) (first_attempted place old.barrier (drop l.i ps) (drop l.i ts)) w old.slots old.trail l.space l.places.slots l.places.trail

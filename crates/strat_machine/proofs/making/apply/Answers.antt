@@ -1,6 +1,6 @@
 use Rattle.std.proofs.Common.{take, drop, length, ◌-◌}
 use Rattle.strat_machine.proofs.BuildingLaws.{apply_large, apply_all, slice_is}
-use Rattle.strat_machine.proofs.building.apply.Goals as goal
+use Rattle.strat_machine.proofs.making.apply.Goals as goal
 
 pub returns-in-Oversize-clause-built : goal.returns-in-Oversize-clause-built
 returns-in-Oversize-clause-built g c = λ all built.
