@@ -7,7 +7,7 @@ use crate::reason::{
 use core_lang::Outcome;
 use scope_check::Notes;
 use str_parser::Expected;
-use term_model::bytes::is_blank_byte;
+use term_model::bytes::{is_blank_byte, is_digit_byte};
 use term_model::{Fault, Term};
 
 /// One of the two texts that a transformation reads.
@@ -159,7 +159,11 @@ impl RunNotes {
             Fault::TermSyntax { at } => {
                 let (before, after) = (text_before(text, *at), text_after(text, *at));
                 let reason = term_syntax_reason(text, before, after);
-                self.keep(text, *at, reason);
+                let place = match reason {
+                    Reason::IntegerOutOfRange => integer_start(before),
+                    _ => *at,
+                };
+                self.keep(text, place, reason);
             }
             Fault::TermOversize { at } if text_after(text, *at).is_empty() => {
                 self.reason = Some(Reason::TermTooLarge);
@@ -206,6 +210,16 @@ fn end_of(text: &[u8]) -> usize {
     text.iter()
         .rposition(|byte| !is_blank_byte(*byte))
         .map_or(0, |last| last.saturating_add(1))
+}
+
+// Returns the offset at which the integer begins whose digits the text ends with.
+fn integer_start(text: &[u8]) -> u64 {
+    let digits = text
+        .iter()
+        .rposition(|byte| !is_digit_byte(*byte))
+        .map_or(0, |last| last.saturating_add(1));
+    let is_negative = text[..digits.min(text.len())].ends_with(b"-");
+    digits.saturating_sub(usize::from(is_negative)) as u64
 }
 
 // Returns the index of the byte at the offset.

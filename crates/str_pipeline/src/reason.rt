@@ -17,11 +17,19 @@ pub enum Wanted {
 }
 
 impl Wanted {
-    // What could stand there, as a list.
+    // What could stand there, as a list, or the rule that the token breaks.
     fn words(&self) -> &'static str {
         match self {
             Wanted::InDefinitions(expected) => expected.words(),
             Wanted::InTerm(expected) => expected.words(),
+        }
+    }
+
+    // Whether that is a rule.
+    fn is_rule(&self) -> bool {
+        match self {
+            Wanted::InDefinitions(expected) => expected.is_rule(),
+            Wanted::InTerm(_) => false,
         }
     }
 }
@@ -74,9 +82,10 @@ fn write_token<W: fmt::Write>(token: &Shown, f: &mut fmt::Formatter<W>) -> fmt::
     }
 }
 
-// Writes what could stand at a place, where that is known.
+// Writes what could stand at a place, or which rule is broken there, where that is known.
 fn write_wanted<W: fmt::Write>(wanted: Option<Wanted>, f: &mut fmt::Formatter<W>) -> fmt::Result {
     match wanted {
+        Some(wanted) if wanted.is_rule() => write!(f, ": {}", wanted.words()),
         Some(wanted) => write!(f, ": expected {}", wanted.words()),
         None => Ok(()),
     }
@@ -117,7 +126,7 @@ impl Reason {
             Reason::OpenText => "the quoted text is not closed on its line",
             Reason::UnknownEscape => "the quoted text has an unknown escape",
             Reason::IntegerOutOfRange => {
-                "the integer is not in the range from -2147483648 to 2147483647"
+                "the integer is not in the range from -9223372036854775808 to 9223372036854775807"
             }
             Reason::ByteOrderMark => "a byte order mark cannot stand here",
             Reason::NearlyTermLine => {
