@@ -21,6 +21,11 @@ const FILES: &[&str] = &[
       g(s) = rec k(s; k); let h = s h(t | x) = t in h(s | <h> 1) end
       p = prim(\"p\"); prim(\"p\", 1, <f> x)
       q = D(); C(f, g(f)); (); (f, f); []; [f, f]; [f, f | f]",
+    "signature constructors C : A -> A
+    rules
+      r : x@C(y){z, _{}} -> (<id>){[x]{y, 1}, C(z){}}
+    strategies
+      main = !<r> 2{<id>}",
 ];
 
 // Whether the copy of the file of this text has the core of its source.

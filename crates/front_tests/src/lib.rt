@@ -3,6 +3,8 @@
 #![tactic(auto)]
 
 #[cfg(test)]
+mod annotations;
+#[cfg(test)]
 mod checks;
 #[cfg(test)]
 mod copies;

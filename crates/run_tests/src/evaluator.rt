@@ -2,6 +2,8 @@
 ghost use Rattle.std.specs.Prelude.{◌≤◌};
 ghost use Rattle.prim_registry.specs.Entries.{IsHonest};
 
+mod annotated_builds;
+mod annotated_matches;
 mod call_rows;
 mod library_rows;
 mod pattern_rows;
@@ -10,6 +12,8 @@ mod rows;
 mod samples;
 mod traversal_rows;
 
+use crate::evaluator::annotated_builds::ANNOTATED_BUILDS;
+use crate::evaluator::annotated_matches::ANNOTATED_MATCHES;
 use crate::evaluator::call_rows::CALLS;
 use crate::evaluator::library_rows::LIBRARY;
 use crate::evaluator::pattern_rows::PATTERNS;
@@ -133,7 +137,15 @@ fn check_rows(alloc: Global, rows: &[Row], registry: &Registry<Standard>) -> Res
 fn programs(rt: HostRuntime) -> Result<(), Fail> {
     let alloc = rt.alloc();
     let registry = Registry::<Standard>::new(alloc);
-    for rows in [FIRST_PART, TRAVERSALS, CALLS, PATTERNS, LIBRARY] {
+    for rows in [
+        FIRST_PART,
+        TRAVERSALS,
+        CALLS,
+        PATTERNS,
+        ANNOTATED_MATCHES,
+        ANNOTATED_BUILDS,
+        LIBRARY,
+    ] {
         check_rows(alloc, rows, &registry)?;
     }
     Ok(())

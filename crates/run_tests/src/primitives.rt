@@ -12,9 +12,9 @@ use term_model::{Fault, PrimNames};
 /// A flat value that takes no memory.
 #[derive(Clone, Copy)]
 enum Sample {
-    Int(i32),
+    Int(i64),
     Str(&'static [u8]),
-    Ints(&'static [i32]),
+    Ints(&'static [i64]),
 }
 
 use Sample::{Int, Ints, Str};
@@ -53,22 +53,86 @@ type Case = (&'static str, &'static [Sample], Option<Sample>);
 
 const ARITHMETIC: &[Case] = &[
     ("add", &[Int(2), Int(-3)], Some(Int(-1))),
-    ("add", &[Int(2147483647), Int(1)], None),
+    ("add", &[Int(2147483647), Int(1)], Some(Int(2147483648))),
+    ("add", &[Int(9223372036854775807), Int(1)], None),
+    ("add", &[Int(-9223372036854775808), Int(-1)], None),
+    (
+        "add",
+        &[Int(9223372036854775807), Int(-9223372036854775808)],
+        Some(Int(-1)),
+    ),
     ("add", &[Int(2), Str(b"3")], None),
     ("sub", &[Int(2), Int(-3)], Some(Int(5))),
-    ("sub", &[Int(-2147483648), Int(1)], None),
+    ("sub", &[Int(-9223372036854775808), Int(1)], None),
+    ("sub", &[Int(0), Int(-9223372036854775808)], None),
+    (
+        "sub",
+        &[Int(-1), Int(-9223372036854775808)],
+        Some(Int(9223372036854775807)),
+    ),
     ("mul", &[Int(-46341), Int(46340)], Some(Int(-2147441940))),
-    ("mul", &[Int(65536), Int(32768)], None),
+    ("mul", &[Int(65536), Int(32768)], Some(Int(2147483648))),
+    ("mul", &[Int(4294967296), Int(2147483648)], None),
+    (
+        "mul",
+        &[Int(4294967296), Int(-2147483648)],
+        Some(Int(-9223372036854775808)),
+    ),
+    (
+        "mul",
+        &[Int(3037000499), Int(3037000499)],
+        Some(Int(9223372030926249001)),
+    ),
+    ("mul", &[Int(3037000500), Int(3037000500)], None),
+    ("mul", &[Int(-3037000500), Int(3037000500)], None),
+    ("mul", &[Int(-9223372036854775808), Int(-1)], None),
+    (
+        "mul",
+        &[Int(9223372036854775807), Int(-1)],
+        Some(Int(-9223372036854775807)),
+    ),
     ("div", &[Int(7), Int(-2)], Some(Int(-3))),
-    ("div", &[Int(-2147483648), Int(-1)], None),
-    ("div", &[Int(-2147483648), Int(1)], Some(Int(-2147483648))),
+    ("div", &[Int(-2147483648), Int(-1)], Some(Int(2147483648))),
+    ("div", &[Int(-9223372036854775808), Int(-1)], None),
+    (
+        "div",
+        &[Int(-9223372036854775808), Int(1)],
+        Some(Int(-9223372036854775808)),
+    ),
+    (
+        "div",
+        &[Int(9223372036854775807), Int(-1)],
+        Some(Int(-9223372036854775807)),
+    ),
+    (
+        "div",
+        &[Int(-9223372036854775808), Int(9223372036854775807)],
+        Some(Int(-1)),
+    ),
     ("div", &[Int(1), Int(0)], None),
+    ("div", &[Int(-9223372036854775808), Int(0)], None),
     ("mod", &[Int(7), Int(-2)], Some(Int(1))),
     ("mod", &[Int(-7), Int(2)], Some(Int(-1))),
-    ("mod", &[Int(-2147483648), Int(-1)], Some(Int(0))),
+    ("mod", &[Int(-9223372036854775808), Int(-1)], Some(Int(0))),
+    (
+        "mod",
+        &[Int(-9223372036854775808), Int(9223372036854775807)],
+        Some(Int(-1)),
+    ),
+    (
+        "mod",
+        &[Int(9223372036854775807), Int(-9223372036854775808)],
+        Some(Int(9223372036854775807)),
+    ),
     ("mod", &[Int(1), Int(0)], None),
     ("less", &[Int(-1), Int(0)], Some(Int(-1))),
     ("less", &[Int(0), Int(0)], None),
+    (
+        "less",
+        &[Int(-9223372036854775808), Int(9223372036854775807)],
+        Some(Int(-9223372036854775808)),
+    ),
+    ("less", &[Int(4294967296), Int(1)], None),
 ];
 
 const TEXTS: &[Case] = &[
@@ -82,17 +146,45 @@ const TEXTS: &[Case] = &[
     ("implode", &[Ints(&[65, 300])], None),
     ("implode", &[Ints(&[256])], None),
     ("implode", &[Ints(&[-1])], None),
+    ("implode", &[Ints(&[4294967361])], None),
+    ("implode", &[Ints(&[-4294967231])], None),
     ("implode", &[Ints(&[])], Some(Str(b""))),
-    ("int_text", &[Int(-2147483648)], Some(Str(b"-2147483648"))),
+    (
+        "int_text",
+        &[Int(-9223372036854775808)],
+        Some(Str(b"-9223372036854775808")),
+    ),
+    (
+        "int_text",
+        &[Int(9223372036854775807)],
+        Some(Str(b"9223372036854775807")),
+    ),
     ("int_text", &[Int(0)], Some(Str(b"0"))),
     ("text_int", &[Str(b"-007")], Some(Int(-7))),
     ("text_int", &[Str(b"+7")], None),
     ("text_int", &[Str(b"")], None),
     ("text_int", &[Str(b"-")], None),
     ("text_int", &[Str(b"00")], Some(Int(0))),
-    ("text_int", &[Str(b"2147483648")], None),
-    ("text_int", &[Str(b"-2147483648")], Some(Int(-2147483648))),
-    ("text_int", &[Str(b"-2147483649")], None),
+    ("text_int", &[Str(b"-0")], Some(Int(0))),
+    (
+        "text_int",
+        &[Str(b"9223372036854775807")],
+        Some(Int(9223372036854775807)),
+    ),
+    ("text_int", &[Str(b"9223372036854775808")], None),
+    (
+        "text_int",
+        &[Str(b"-9223372036854775808")],
+        Some(Int(-9223372036854775808)),
+    ),
+    ("text_int", &[Str(b"-9223372036854775809")], None),
+    ("text_int", &[Str(b"18446744073709551617")], None),
+    (
+        "text_int",
+        &[Str(b"-000000000000000000009223372036854775808")],
+        Some(Int(-9223372036854775808)),
+    ),
+    ("text_int", &[Str(&[b'0'; 1000])], Some(Int(0))),
 ];
 
 /// Whether the primitive returns what is expected.

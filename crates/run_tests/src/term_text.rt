@@ -19,7 +19,10 @@ const SPELLINGS: &[(&[u8], &[u8])] = &[
     (b"-0", b"0"),
     (b"( -00012 )\n", b"(-12)"),
     (b" [ ( ) , x-+*$9 ( ) ]{}", b"[(),x-+*$9]"),
-    (b"2147483647{-2147483648}", b"2147483647{-2147483648}"),
+    (
+        b"9223372036854775807{-9223372036854775808}",
+        b"9223372036854775807{-9223372036854775808}",
+    ),
     (b"_(_,[[]]){a,b(c){d}}", b"_(_,[[]]){a,b(c){d}}"),
 ];
 
@@ -63,8 +66,9 @@ const REFUSALS: &[(&[u8], u64)] = &[
     (b"", 0),
     (b" \n", 2),
     (b"t{a}{b}", 4),
-    (b"2147483648", 9),
-    (b"-2147483649", 10),
+    (b"9223372036854775808", 18),
+    (b"-9223372036854775809", 19),
+    (b"18446744073709551617", 19),
     (b"-", 1),
     (b"- 1", 1),
     (b"+1", 0),
@@ -141,6 +145,37 @@ fn repeat(alloc: Global, byte: u8, count: usize, rest: &[u8]) -> Result<Vec<u8>,
     let mut text = vec![in alloc; byte; count]?;
     text.extend_from_slice(rest)?;
     Ok(text)
+}
+
+/// What stands after thousands of zeros, and the canonical text of the term where it is in range.
+const AFTER_ZEROS: &[(&[u8], Option<&[u8]>)] = &[
+    (b"", Some(b"0")),
+    (b"9223372036854775807", Some(b"9223372036854775807")),
+    (b"9223372036854775808", None),
+];
+
+/// Whether so many zeros and the digits after them spell the term, or are refused at the last digit.
+fn is_after_zeros(
+    alloc: Global,
+    count: usize,
+    digits: &[u8],
+    expected: Option<&[u8]>,
+) -> Result<bool, Fault> {
+    let text = repeat(alloc, b'0', count, digits)?;
+    match expected {
+        Some(canonical) => spells(alloc, &text, canonical),
+        None => Ok(is_no_term(alloc, &text, text.len().saturating_sub(1) as u64)),
+    }
+}
+
+#[test]
+fn leading_zeros(rt: HostRuntime) -> Result<(), Fail> {
+    for (digits, expected) in AFTER_ZEROS {
+        if !is_after_zeros(rt.alloc(), 5_000, digits, *expected)? {
+            return Err(Fail::new(digits.escape_ascii()));
+        }
+    }
+    Ok(())
 }
 
 /// Bytes that are repeated, with how often, and the byte at which the text is refused.

@@ -1,4 +1,5 @@
 //! What no clause says: outside vectors and whole runs.
+mod annotation_rows;
 mod complaints;
 mod devices;
 mod failures;

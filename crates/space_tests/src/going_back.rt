@@ -87,7 +87,7 @@ impl<S: TermSpace + Drop> TermSpace for Counting<S> {
         self.space.dup(at)
     }
 
-    fn int_of(&self, at: &S::Ref) -> Option<i32> {
+    fn int_of(&self, at: &S::Ref) -> Option<i64> {
         self.space.int_of(at)
     }
 
@@ -127,7 +127,7 @@ impl<S: TermSpace + Drop> TermSpace for Counting<S> {
         self.space.name(alloc, symbol)
     }
 
-    fn int(&mut self, alloc: Global, value: i32) -> Result<S::Ref, AllocError> {
+    fn int(&mut self, alloc: Global, value: i64) -> Result<S::Ref, AllocError> {
         self.space.int(alloc, value)
     }
 
@@ -212,11 +212,11 @@ impl<S: TermSpace + Drop> TermSpace for Counting<S> {
 // What a run comes to: what it writes, which is nothing where it fails; how many rules it takes; how many shapes the space holds then, and
 // how often it went back.
 #[derive(Drop)]
-struct Seen {
-    written: Vec<u8>,
-    rules: u32,
-    held: usize,
-    back: u32,
+pub(crate) struct Seen {
+    pub(crate) written: Vec<u8>,
+    pub(crate) rules: u32,
+    pub(crate) held: usize,
+    pub(crate) back: u32,
 }
 
 // Runs the code on the term, and writes what it is rewritten to; nothing where it fails.
@@ -260,7 +260,7 @@ fn run_over<S: TermSpace + Holds + Drop>(
 }
 
 // Runs the definitions on the term over a store.
-fn run_in_store(alloc: Global, definitions: &[u8], text: &[u8]) -> Result<Seen, Fail> {
+pub(crate) fn run_in_store(alloc: Global, definitions: &[u8], text: &[u8]) -> Result<Seen, Fail> {
     let code = code_of(alloc, definitions)?;
     let term = read_term(alloc, text)?;
     let space = StoreSpace::new(alloc, BuildHasherDefault::new());

@@ -15,12 +15,20 @@ use term_model::{Fault, Head, Made, Sym, Term, TermSpace};
 use term_store::StoreSpace;
 
 // How many steps a row has.
-const STEPS: i32 = 12;
+const STEPS: i64 = 12;
 
 // The term of the older reference.
 const OLDER: &[u8] = b"[0,1,2,3,4,5,6,7,8,9,10,11]";
 
-const DEFINITIONS: &[u8] = b"strategies main = all({x: ?x; !(x,x)})";
+// Definitions and a term that are run, and the weight of what the term is rewritten to.
+const RUNS: &[(&[u8], &[u8], u32)] = &[
+    (b"strategies main = all({x: ?x; !(x,x)})", OLDER, 37),
+    (
+        b"strategies main = all({x,y: ?x{y}; !(x,x{y,y})})",
+        b"[0{4},1{5},2{6},3{7}]",
+        21,
+    ),
+];
 
 // The call of a space that a row is about.
 #[derive(Clone, Copy)]
@@ -49,7 +57,7 @@ fn has_term<S: TermSpace>(
 }
 
 // The list of an integer and the older term.
-fn pair_of(alloc: Global, term: &Term, value: i32) -> Result<Made<Term>, AllocError> {
+fn pair_of(alloc: Global, term: &Term, value: i64) -> Result<Made<Term>, AllocError> {
     let mut parts = Vec::with_capacity(alloc, 2)?;
     parts.push(Term::int(alloc, value)?)?;
     parts.push(term.clone()?)?;
@@ -63,7 +71,7 @@ fn enter<S: TermSpace>(
     space: &mut S,
     older: &S::Ref,
     term: &Term,
-    value: i32,
+    value: i64,
 ) -> Result<bool, AllocError>
     requires { IsTrue (S.stands space.old older.now) }
     ensures { IsTrue (S.stands space.new older.now) }
@@ -80,7 +88,7 @@ fn make<S: TermSpace>(
     alloc: Global,
     space: &mut S,
     older: &S::Ref,
-    value: i32,
+    value: i64,
 ) -> Result<bool, AllocError>
     requires { IsTrue (S.stands space.old older.now) }
     ensures { IsTrue (S.stands space.new older.now) }
@@ -100,7 +108,7 @@ fn prepend<S: TermSpace>(
     alloc: Global,
     space: &mut S,
     older: &S::Ref,
-    value: i32,
+    value: i64,
 ) -> Result<bool, AllocError>
     requires { IsTrue (S.stands space.old older.now) }
     ensures { IsTrue (S.stands space.new older.now) }
@@ -120,7 +128,7 @@ fn rest<S: TermSpace>(
     alloc: Global,
     space: &mut S,
     older: &S::Ref,
-    value: i32,
+    value: i64,
 ) -> Result<bool, AllocError>
     requires { IsTrue (S.stands space.old older.now) }
     ensures { IsTrue (S.stands space.new older.now) }
@@ -140,7 +148,7 @@ fn step<S: TermSpace>(
     row: Row,
     older: &S::Ref,
     term: &Term,
-    value: i32,
+    value: i64,
 ) -> Result<bool, AllocError>
     requires { IsTrue (S.stands space.old older.now) }
     ensures { IsTrue (S.stands space.new older.now) }
@@ -260,14 +268,20 @@ fn run_again<S: TermSpace + Drop>(
     weight_after(alloc, &mut machine, code, term)
 }
 
+// The weight of what the definitions rewrite the term to over a store, in a run that is taken again where memory is refused.
+fn weight_in_store(alloc: Global, definitions: &[u8], text: &[u8]) -> Result<u32, Fail> {
+    let code = code_of(alloc, definitions)?;
+    let term = read_term(alloc, text)?;
+    let store = StoreSpace::new(alloc, BuildHasherDefault::new());
+    Ok(run_again(alloc, store, &code, &term)?)
+}
+
 #[test]
 fn growth_run(rt: HostRuntime) -> Result<(), Fail> {
-    let alloc = rt.alloc();
-    let code = code_of(alloc, DEFINITIONS)?;
-    let term = read_term(alloc, OLDER)?;
-    let store = StoreSpace::new(alloc, BuildHasherDefault::new());
-    if run_again(alloc, store, &code, &term)? != 37 {
-        return Err(Fail::new("another term"));
+    for (definitions, text, weight) in RUNS {
+        if weight_in_store(rt.alloc(), definitions, text)? != *weight {
+            return Err(Fail::new("another term"));
+        }
     }
     Ok(())
 }

@@ -4,6 +4,8 @@
 #![tactic(auto)]
 
 #[cfg(test)]
+mod bare_terms;
+#[cfg(test)]
 mod compiled;
 #[cfg(test)]
 mod going_back;

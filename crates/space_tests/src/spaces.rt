@@ -19,10 +19,12 @@ const CHANGED: &[(&[u8], &[u8])] = &[
 ];
 
 // Names of symbols, and two integers.
-const MAKERS: &[(&[u8], i32, i32)] = &[
+const MAKERS: &[(&[u8], i64, i64)] = &[
     (b"F", 1, 2),
     (b"Plus", -7, -7),
-    (b"of_15_letters__", 0, 2147483647),
+    (b"of_15_letters__", 0, 9223372036854775807),
+    (b"F", 1, 4294967297),
+    (b"F", -9223372036854775808, 0),
 ];
 
 // Texts of terms that are taken apart.
@@ -37,8 +39,8 @@ fn built<S: TermSpace>(
     alloc: Global,
     space: &mut S,
     symbol: &Sym,
-    left: i32,
-    right: i32,
+    left: i64,
+    right: i64,
 ) -> Result<Option<S::Ref>, AllocError>
     ensures stands { IfOk result (λ made. IfSome made (λ r. IsTrue (S.stands space.new r))) }
     ensures term { IfOk result (λ made. IfSome made (λ r. S.term_of space.new r ≡ term heads.List (term (heads.Int right) [] [] ∷ term (heads.App symbol.now) (term (heads.Int left) [] [] ∷ term (heads.Int right) [] [] ∷ []) [] ∷ []) (term (heads.Int left) [] [] ∷ []))) }
@@ -131,7 +133,7 @@ fn second<S: TermSpace>(
     alloc: Global,
     space: &mut S,
     from: &Term,
-) -> Result<Option<(Option<i32>, Term)>, AllocError> {
+) -> Result<Option<(Option<i64>, Term)>, AllocError> {
     let at = space.enter(alloc, from)?;
     if space.count(&at) < 2 || !matches!(space.head(&at), Top::App(_)) {
         return Ok(None);
@@ -169,7 +171,7 @@ fn has_number<S: TermSpace>(alloc: Global, space: &mut S, from: &Term) -> Result
 }
 
 // The term that `built` makes, by the makers of terms.
-fn expected(alloc: Global, symbol: &Sym, left: i32, right: i32) -> Result<Term, Fail> {
+fn expected(alloc: Global, symbol: &Sym, left: i64, right: i64) -> Result<Term, Fail> {
     let parts = vec![in alloc; Term::int(alloc, left)?, Term::int(alloc, right)?]?;
     let Made::Fits(pair) = Term::app(alloc, symbol.clone()?, parts)? else {
         return Err(Fail::new("oversize"));
@@ -183,7 +185,7 @@ fn expected(alloc: Global, symbol: &Sym, left: i32, right: i32) -> Result<Term, 
 }
 
 // The list of the first integers from 0 on.
-fn numbers(alloc: Global, count: i32) -> Result<Term, Fail> {
+fn numbers(alloc: Global, count: i64) -> Result<Term, Fail> {
     let mut elements = Vec::new(alloc);
     for value in 0..count {
         elements.push(Term::int(alloc, value)?)?;
@@ -203,8 +205,8 @@ fn makes<S: TermSpace>(
     alloc: Global,
     space: &mut S,
     name: &[u8],
-    left: i32,
-    right: i32,
+    left: i64,
+    right: i64,
 ) -> Result<bool, Fail> {
     let symbol = Sym::plain(alloc, name)?.ok_or("no name")?;
     let Some(made) = built(alloc, space, &symbol, left, right)? else {
@@ -374,7 +376,7 @@ fn shared(rt: HostRuntime) -> Result<(), Fail> {
 fn run_lists<S: TermSpace<Ref = u32> + Holds + Drop>(
     alloc: Global,
     space: S,
-    count: i32,
+    count: i64,
 ) -> Result<Option<usize>, Fail> {
     let mut space = space;
     let list = numbers(alloc, count)?;
@@ -388,7 +390,7 @@ fn run_lists<S: TermSpace<Ref = u32> + Holds + Drop>(
 }
 
 // Lengths of lists, and how many shapes the space holds then.
-const LISTS: &[(i32, usize)] = &[(7, 15), (100, 201)];
+const LISTS: &[(i64, usize)] = &[(7, 15), (100, 201)];
 
 #[test]
 fn numbers_of_lists(rt: HostRuntime) -> Result<(), Fail> {

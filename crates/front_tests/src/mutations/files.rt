@@ -72,6 +72,22 @@ pub(super) const BUILDS: &str = "
       h = ! [ ] ; ! [ x ] ; ! [ x , < f > ] ; ! [ x | < g > ] ; ! [ x , y | [ z ] ]
       k = ! < id > ; ! < id > 1 ; < f > < g > ( < h > )";
 
+// A file is read once for each edit of each of its words, so short ones cost less.
+pub(super) const ANNOTATED_MATCHES: &str = "
+    rules r : x @ C ( y ) { 1 { } , _ } -> y
+    strategies main = ? ( x ) { y @ z } ; id";
+
+pub(super) const ANNOTATED_BUILDS: &str = "
+    strategies main = ! [ ] { } ; < f > x { < id > , \"q\" { y } } <+ ! ( < f > ) { < f > 1 { } }";
+
 pub(super) const ALL: &[&str] = &[
-    SIGNATURES, FORMS, OPERATORS, PRIMARIES, CALLS, MATCHES, BUILDS,
+    SIGNATURES,
+    FORMS,
+    OPERATORS,
+    PRIMARIES,
+    CALLS,
+    MATCHES,
+    BUILDS,
+    ANNOTATED_MATCHES,
+    ANNOTATED_BUILDS,
 ];

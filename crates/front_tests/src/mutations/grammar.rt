@@ -84,10 +84,13 @@ const STRATEGIES: &[(&str, &[&str])] = &[
 const PATTERNS: &[(&str, &[&str])] = &[
     (
         "Match",
+        &["BareMatch", "BareMatch { Matches }", "name @ Match"],
+    ),
+    (
+        "BareMatch",
         &[
             "name",
             "_",
-            "name @ Match",
             "integer",
             "quoted",
             "plain-name ( Matches )",
@@ -103,9 +106,18 @@ const PATTERNS: &[(&str, &[&str])] = &[
     (
         "Build",
         &[
+            "BareBuild",
+            "BareBuild { Builds }",
+            "name @ Build",
+            "< Strategy > no-build",
+            "< Strategy > Build",
+        ],
+    ),
+    (
+        "BareBuild",
+        &[
             "name",
             "_",
-            "name @ Build",
             "integer",
             "quoted",
             "plain-name ( Builds )",
@@ -114,8 +126,6 @@ const PATTERNS: &[(&str, &[&str])] = &[
             "( Build , SomeBuilds )",
             "[ Builds ]",
             "[ SomeBuilds | Build ]",
-            "< Strategy > no-build",
-            "< Strategy > Build",
         ],
     ),
     ("Builds", &["", "SomeBuilds"]),

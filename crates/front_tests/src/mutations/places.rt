@@ -23,8 +23,8 @@ const FAULTS: &[(&[u8], u64)] = &[
     (b"\"\\8\"", 0),
     (b"\xc3\xa9", 0),
     (b"_\x80", 1),
-    (b"2147483648", 0),
-    (b"x -2147483649", 2),
+    (b"9223372036854775808", 0),
+    (b"x -9223372036854775809", 2),
 ];
 
 // At each of these there is no token, this many bytes after its beginning, if nothing stands after it.

@@ -24,6 +24,8 @@ const FRONTS: &[&str] = &[
     "strategies main =",
     "strategies main = ! < id >",
     "strategies main = f ( x",
+    "strategies main = ? x { }",
+    "strategies main = ! < id > x { 1",
 ];
 
 // What a file of this one token is read as.

@@ -248,6 +248,24 @@ pub const RANGES: &[(&'static str, &'static [W], usize, bool)] = &[
         0,
         false,
     ),
+    (
+        "variables in and before braces",
+        &[X, ONE, Y, W::Annotated(2), W::Match, W::Scope(2)],
+        0,
+        true,
+    ),
+    (
+        "no variable before braces",
+        &[Y, ONE, W::Annotated(1), W::Match, W::Scope(1)],
+        0,
+        false,
+    ),
+    (
+        "no variable in braces",
+        &[X, ONE, Y, W::Annotated(2), W::Match, W::Scope(1)],
+        0,
+        false,
+    ),
     ("no main", &[W::Id], 1, false),
     (
         "main has a parameter",
@@ -296,6 +314,10 @@ pub const EVERY_FORM: &[W] = &[
     W::Applied(b"f", 1),
     W::Like(0, 1),
     PAIR,
+    X,
+    ONE,
+    W::Annotated(0),
+    W::Annotated(2),
 ];
 
 pub const OTHER_FORMS: &[&'static [W]] = &[
@@ -312,5 +334,24 @@ pub const OTHER_FORMS: &[&'static [W]] = &[
         W::Applied(b"f", 1),
         W::Like(1, 0),
         PAIR,
+        X,
+        ONE,
+        W::Annotated(0),
+        W::Annotated(2),
+    ],
+    &[
+        X,
+        W::Anything,
+        W::ListAndRest(1),
+        Y,
+        TWO,
+        W::List(2),
+        W::Alias(1, 0),
+        W::Applied(b"f", 1),
+        W::Like(0, 1),
+        PAIR,
+        X,
+        ONE,
+        W::Annotated(2),
     ],
 ];

@@ -10,7 +10,7 @@ pub enum Word {
     Anything,
     // The number of layers up, and the slot there.
     Variable(usize, usize),
-    Number(i32),
+    Number(i64),
     // A symbol applied to this number of patterns.
     Tuple(usize),
     Applied(&'static [u8], usize),
@@ -19,6 +19,8 @@ pub enum Word {
     ListAndRest(usize),
     Alias(usize, usize),
     Like(usize, usize),
+    // This number of patterns as annotations of the one before them.
+    Annotated(usize),
     Id,
     Fail,
     Match,
@@ -44,12 +46,14 @@ pub enum Word {
 // A step of building a term.
 #[derive(Clone, Copy)]
 pub enum Piece {
-    Int(i32),
+    Int(i64),
     TupleOf(usize),
     On(&'static [u8], usize),
     ListOf(usize),
     // The annotation 5.
     Marked,
+    // This number of terms as annotations of the one before them.
+    Noted(usize),
     // A string of this number of bytes.
     Text(usize),
 }
@@ -98,6 +102,7 @@ impl Workbench {
             Word::ListAndRest(count) => self.list_and_rest(count),
             Word::Alias(layers_up, slot) => self.alias(Coordinate { layers_up, slot }),
             Word::Like(layers_up, slot) => self.like(Coordinate { layers_up, slot }),
+            Word::Annotated(count) => self.annotate(count),
             Word::Id | Word::Fail | Word::Match | Word::Build => self.add_step(word),
             Word::Sequence(more) => self.sequence(more),
             Word::Choice(more) => self.choice(more),
@@ -152,6 +157,14 @@ impl Workbench {
     fn like(&mut self, x: Coordinate) -> Result<(), Fail> {
         let part = Box::new(self.alloc, last(&mut self.patterns)?)?;
         self.patterns.push(CorePattern::Like(part, x))?;
+        Ok(())
+    }
+
+    fn annotate(&mut self, count: usize) -> Result<(), Fail> {
+        let annotations = last_of(&mut self.patterns, count)?;
+        let part = Box::new(self.alloc, last(&mut self.patterns)?)?;
+        self.patterns
+            .push(CorePattern::Annotated(part, annotations))?;
         Ok(())
     }
 
@@ -287,6 +300,11 @@ fn marked(alloc: Global, term: Term) -> Result<Term, Fail> {
     fits(term.with_annos(alloc, annotations)?)
 }
 
+fn noted(alloc: Global, terms: &mut Vec<Term>, count: usize) -> Result<Term, Fail> {
+    let annotations = last_of(terms, count)?;
+    fits(last(terms)?.with_annos(alloc, annotations)?)
+}
+
 fn text(alloc: Global, length: usize) -> Result<Term, Fail> {
     let mut bytes = Vec::new(alloc);
     bytes.resize(length, b'a')?;
@@ -304,6 +322,7 @@ fn next_term(alloc: Global, piece: Piece, terms: &mut Vec<Term>) -> Result<Term,
             fits(Term::list(alloc, elements)?)
         }
         Piece::Marked => marked(alloc, last(terms)?),
+        Piece::Noted(count) => noted(alloc, terms, count),
         Piece::Text(length) => text(alloc, length),
     }
 }

@@ -31,11 +31,24 @@ fn escapes() -> Result<(), Fail> {
 }
 
 /// Whether an integer is negative, its first digits, one more digit, and all of them where they are in range.
-const DIGITS: &[(bool, u32, u8, Option<u32>)] = &[
-    (true, 214_748_364, b'8', Some(2_147_483_648)),
-    (true, 214_748_364, b'9', None),
-    (false, 214_748_364, b'7', Some(2_147_483_647)),
-    (false, 214_748_364, b'8', None),
+const DIGITS: &[(bool, u64, u8, Option<u64>)] = &[
+    (
+        true,
+        922_337_203_685_477_580,
+        b'8',
+        Some(9_223_372_036_854_775_808),
+    ),
+    (true, 922_337_203_685_477_580, b'9', None),
+    (
+        false,
+        922_337_203_685_477_580,
+        b'7',
+        Some(9_223_372_036_854_775_807),
+    ),
+    (false, 922_337_203_685_477_580, b'8', None),
+    (false, 214_748_364, b'8', Some(2_147_483_648)),
+    (false, 9_223_372_036_854_775_807, b'0', None),
+    (true, 9_223_372_036_854_775_808, b'9', None),
 ];
 
 #[test]
@@ -47,8 +60,13 @@ fn integers_at_the_bounds() -> Result<(), Fail> {
             return Err(Fail::new(digit));
         }
     }
-    if bytes::signed(true, 2_147_483_648) != -2_147_483_648 {
+    if bytes::signed(true, 9_223_372_036_854_775_808) != -9_223_372_036_854_775_808 {
         return Err(Fail::new("the least integer"));
+    }
+    if bytes::greatest_magnitude(true) != 9_223_372_036_854_775_808
+        || bytes::greatest_magnitude(false) != 9_223_372_036_854_775_807
+    {
+        return Err(Fail::new("the greatest magnitudes"));
     }
     Ok(())
 }

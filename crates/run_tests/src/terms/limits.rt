@@ -58,7 +58,7 @@ fn the_deepest_term(rt: HostRuntime) -> Result<(), Fail> {
 }
 
 /// The list of the integers from 0 on, of this length.
-fn count_up(alloc: Global, length: i32) -> Result<Term, Fail> {
+fn count_up(alloc: Global, length: i64) -> Result<Term, Fail> {
     let mut elements = Vec::new(alloc);
     for value in 0..length {
         elements.push(Term::int(alloc, value)?)?;
@@ -67,7 +67,7 @@ fn count_up(alloc: Global, length: i32) -> Result<Term, Fail> {
 }
 
 /// Whether the lists of these lengths are the same.
-fn are_equal(alloc: Global, one: i32, other: i32) -> Result<bool, Fail> {
+fn are_equal(alloc: Global, one: i64, other: i64) -> Result<bool, Fail> {
     Ok(count_up(alloc, one)? == count_up(alloc, other)?)
 }
 

@@ -32,7 +32,7 @@ fn apply(alloc: Global, name: &[u8], parts: Vec<Term>) -> Result<Term, Fail> {
 }
 
 /// A vector of one term, this integer.
-fn one_integer(alloc: Global, value: i32) -> Result<Vec<Term>, AllocError> {
+fn one_integer(alloc: Global, value: i64) -> Result<Vec<Term>, AllocError> {
     Ok(vec![in alloc; Term::int(alloc, value)?]?)
 }
 
@@ -104,7 +104,7 @@ fn list_of_one(alloc: Global) -> Result<Term, Fail> {
 }
 
 /// The term with this integer in place of its only part.
-fn with_integer(alloc: Global, term: &Term, value: i32) -> Result<Term, Fail> {
+fn with_integer(alloc: Global, term: &Term, value: i64) -> Result<Term, Fail> {
     let parts = one_integer(alloc, value)?;
     if term.children().len() != parts.len() {
         return Err(Fail::new("another number of parts"));
@@ -112,7 +112,7 @@ fn with_integer(alloc: Global, term: &Term, value: i32) -> Result<Term, Fail> {
     fitting(term.rebuild(alloc, parts)?)
 }
 
-fn is_part(alloc: Global, value: i32, term: &Term) -> Result<bool, AllocError> {
+fn is_part(alloc: Global, value: i64, term: &Term) -> Result<bool, AllocError> {
     Ok(term.children() == one_integer(alloc, value)?.as_slice())
 }
 

@@ -37,6 +37,27 @@ pub(super) const LANGUAGE_ROWS: &[TextRow] = &[
         "#failed",
         Some(3),
     ),
+    // integers-beyond-32-bits-differ
+    (
+        "strategies main = map(?1; !\"a\" <+ ?4294967297; !\"b\" <+ ?-4294967295; !\"c\" <+ !\"d\")",
+        "[1,4294967297,-4294967295,8589934593]",
+        "[\"a\",\"b\",\"c\",\"d\"]",
+        None,
+    ),
+    // rules-of-integers-beyond-32-bits
+    (
+        "rules a: 1 -> \"a\" b: 4294967297 -> \"b\" c: 8589934593 -> \"c\" strategies main = map(a <+ b <+ c <+ id)",
+        "[8589934593,4294967297,1,12884901889]",
+        "[\"c\",\"b\",\"a\",12884901889]",
+        None,
+    ),
+    // terms-beyond-32-bits-differ
+    (
+        "strategies main = map(?(x,x); !\"same\" <+ !\"other\")",
+        "[(1,4294967297),(4294967297,4294967297),(-1,4294967295)]",
+        "[\"other\",\"same\",\"other\"]",
+        None,
+    ),
     // closure-binds-at-its-maker
     (
         "signature constructors F : T -> T Pair : T * T -> T strategies f(s) = {x: ?F(x); !x; s} main = {x: where(!5; ?x); f(!Pair(<id>,x))}",

@@ -3,6 +3,7 @@ ghost use Rattle.std.specs.Prelude.{◌≡◌, ◌≤◌, IfOk};
 ghost use Rattle.prim_registry.specs.Entries.{IsHonest};
 ghost use Rattle.term_model.specs.Limits.{max_budget};
 
+use crate::transform::annotation_rows::{ANNOTATION_ROWS, CONSTRUCTORS, LARGE_ROWS};
 use crate::transform::complaints::{PARTS, Part};
 use crate::transform::forms::{FORMS, SIGNATURE};
 use crate::transform::language_rows::{CHECK_ROWS, LANGUAGE_ROWS};
@@ -213,7 +214,7 @@ fn is_met_after(
 #[test]
 fn rows(rt: HostRuntime) -> Result<(), Fail> {
     let registry = Registry::<Standard>::new(rt.alloc());
-    for row in ROWS.iter().chain(TERM_ROWS) {
+    for row in ROWS.iter().chain(TERM_ROWS).chain(LARGE_ROWS) {
         if !is_met(rt.alloc(), row, &registry)? {
             return Err(Fail::from((row.defs, row.term)));
         }
@@ -261,6 +262,7 @@ fn text_rows(rt: HostRuntime) -> Result<(), Fail> {
     for rows in [LANGUAGE_ROWS, CHECK_ROWS, LIBRARY_ROWS] {
         check_rows(rt.alloc(), "", rows, &registry)?;
     }
+    check_rows(rt.alloc(), CONSTRUCTORS, ANNOTATION_ROWS, &registry)?;
     check_rows(rt.alloc(), SIGNATURE, FORMS, &registry)
 }
 

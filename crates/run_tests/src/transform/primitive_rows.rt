@@ -10,7 +10,37 @@ pub(super) const PRIMITIVE_ROWS: &[TextRow] = &[
     ),
     (
         "strategies main = ?(x,y); prim(\"add\",x,y)",
+        "(9223372036854775807,1)",
+        "#failed",
+        None,
+    ),
+    (
+        "strategies main = ?(x,y); prim(\"add\",x,y)",
         "(2147483647,1)",
+        "2147483648",
+        Some(5),
+    ),
+    (
+        "strategies main = ?(x,y); prim(\"div\",x,y)",
+        "(-2147483648,-1)",
+        "2147483648",
+        Some(5),
+    ),
+    (
+        "strategies main = ?(x,y); prim(\"div\",x,y)",
+        "(-9223372036854775808,-1)",
+        "#failed",
+        None,
+    ),
+    (
+        "strategies main = ?(x,y); prim(\"mod\",x,y)",
+        "(-9223372036854775808,-1)",
+        "0",
+        Some(5),
+    ),
+    (
+        "strategies main = ?x; prim(\"implode\",x)",
+        "[4294967361]",
         "#failed",
         None,
     ),

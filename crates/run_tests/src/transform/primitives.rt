@@ -3,6 +3,7 @@ ghost use Rattle.std.specs.Prelude.{◌≤◌};
 ghost use Rattle.prim_registry.specs.Entries.{IsHonest};
 ghost use Rattle.term_model.specs.Limits.{max_budget};
 
+use crate::transform::annotation_rows::ANNOTATED_ARGUMENTS;
 use crate::transform::pipeline::{check_rows, plain_options};
 use crate::transform::primitive_rows::PRIMITIVE_ROWS;
 use prim_registry::{Action, Flat, Prim, PrimMeaning, Registry, STANDARD, Standard};
@@ -25,7 +26,10 @@ fn primitive_rows(rt: HostRuntime) -> Result<(), Fail> {
         let name = primitive.name().to_vec(alloc)?;
         registry.register(Prim::new(name, primitive.arity(), action))?;
     }
-    check_rows(alloc, "", PRIMITIVE_ROWS, &registry)
+    for rows in [PRIMITIVE_ROWS, ANNOTATED_ARGUMENTS] {
+        check_rows(alloc, "", rows, &registry)?;
+    }
+    Ok(())
 }
 
 /// Runs a program that adds the parts of its term, if that is a pair. Returns whether the run ends with the fault `Memory` and writes

@@ -97,6 +97,46 @@ const DEFINITIONS: &[(&str, &str, &str)] = &[
     ("strategies main = ?[x ", ")", "',', '|' or ']'"),
     ("strategies main = ?[x|y ", ")", "']'"),
     ("strategies main = !<id ", ")", "'>'"),
+    ("strategies main = ?x{", ")", "a pattern"),
+    ("strategies main = ?x{y ", ")", "',' or '}'"),
+    ("strategies main = ?x{y ", "|", "',' or '}'"),
+    ("strategies main = ?x{y, ", "}", "a pattern"),
+    ("strategies main = !C(1){y, <id> ", "]", "',' or '}'"),
+    ("rules r : x{y ", "->", "',' or '}'"),
+];
+
+// Definitions up to a token, the token, and the rule that it breaks.
+const RULES: &[(&str, &str, &str)] = &[
+    (
+        "strategies main = ?x{y}",
+        "{",
+        "a pattern has one list of annotations",
+    ),
+    (
+        "strategies main = ?x@y{}",
+        "{",
+        "a pattern has one list of annotations",
+    ),
+    (
+        "strategies main = !<id> 1{2}",
+        "{",
+        "a pattern has one list of annotations",
+    ),
+    (
+        "rules r : x{y{z}",
+        "{",
+        "a pattern has one list of annotations",
+    ),
+    (
+        "strategies main = !<id>",
+        "{",
+        "'<..>' takes annotations only in parentheses",
+    ),
+    (
+        "strategies main = !1{<id>",
+        "{",
+        "'<..>' takes annotations only in parentheses",
+    ),
 ];
 
 // A term up to a token, the token, and what is expected in its place.
@@ -133,6 +173,11 @@ const OTHERS: &[(&str, &str, &str)] = &[
         "strc: Syntax at byte 22\nstdin:1:23: the text ends too early: expected ',', '|' or ')'\n",
     ),
     (
+        "strc",
+        "strategies main = ?x{y",
+        "strc: Syntax at byte 22\nstdin:1:23: the text ends too early: expected ',' or '}'\n",
+    ),
+    (
         "strc id.str",
         "f(1,[2",
         "strc: TermSyntax at byte 6\nstdin:1:7: the text ends too early: expected ',' or ']'\n",
@@ -159,38 +204,42 @@ const OTHERS: &[(&str, &str, &str)] = &[
     ),
 ];
 
-// Returns the first lines of the report that the token is refused, and that something else is expected in its place.
+// Returns the first lines of the report that the token is refused, for this reason.
 fn report_of(
     alloc: Global,
     word: &str,
     before: &str,
     token: &str,
-    expected: &str,
+    front: &str,
+    reason: &str,
 ) -> Result<String, AllocError> {
     let at = before.len();
     let column = at.saturating_add(1);
     format!(in alloc;
-        "strc: {word} at byte {at}\nstdin:1:{column}: '{token}' cannot stand here: expected {expected}\n"
+        "strc: {word} at byte {at}\nstdin:1:{column}: '{token}' cannot stand here: {front}{reason}\n"
     )
 }
 
-/// Whether the token is refused in definitions, and this is expected in its place.
+/// Whether the token is refused in definitions, for the reason that the front and this text state.
 fn is_refused_in_definitions(
     alloc: Global,
     before: &str,
     token: &str,
-    expected: &str,
+    front: &str,
+    reason: &str,
 ) -> Result<bool, AllocError> {
     let text = format!(in alloc; "{before}{token}\n#term\n1")?;
-    let report = report_of(alloc, "Syntax", before, token, expected)?;
+    let report = report_of(alloc, "Syntax", before, token, front, reason)?;
     reports(alloc, "strc", &text, &report)
 }
 
 #[test]
 fn expected_in_definitions(rt: HostRuntime) -> Result<(), Fail> {
-    for (before, token, expected) in DEFINITIONS {
-        if !is_refused_in_definitions(rt.alloc(), before, token, expected)? {
-            return Err(Fail::from((before, token)));
+    for (front, rows) in [("expected ", DEFINITIONS), ("", RULES)] {
+        for (before, token, reason) in rows {
+            if !is_refused_in_definitions(rt.alloc(), before, token, front, reason)? {
+                return Err(Fail::from((before, token)));
+            }
         }
     }
     Ok(())
@@ -204,7 +253,7 @@ fn is_refused_in_term(
     expected: &str,
 ) -> Result<bool, AllocError> {
     let text = format!(in alloc; "{before}{token}")?;
-    let report = report_of(alloc, "TermSyntax", before, token, expected)?;
+    let report = report_of(alloc, "TermSyntax", before, token, "expected ", expected)?;
     reports(alloc, "strc id.str", &text, &report)
 }
 

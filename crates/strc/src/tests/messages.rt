@@ -19,8 +19,8 @@ const ROWS: &[(&str, &str)] = &[
         "strc: Lexical at byte 19\nstdin:1:20: the quoted text has an unknown escape\n    strategies main = ?\"a\\qb\"\n                       ^\n",
     ),
     (
-        "strategies main = ?2147483648\n#term\n1",
-        "strc: Lexical at byte 19\nstdin:1:20: the integer is not in the range from -2147483648 to 2147483647\n    strategies main = ?2147483648\n                       ^\n",
+        "strategies main = ?9223372036854775808\n#term\n1",
+        "strc: Lexical at byte 19\nstdin:1:20: the integer is not in the range from -9223372036854775808 to 9223372036854775807\n    strategies main = ?9223372036854775808\n                       ^\n",
     ),
     (
         "strategies main = id\r\n #term\r\n1",
@@ -67,8 +67,8 @@ const ROWS: &[(&str, &str)] = &[
         "strc: TermSyntax at byte 2\nstdin: there is no term\n",
     ),
     (
-        "strategies main = id\n#term\n[1,\n 99999999999]",
-        "strc: TermSyntax at byte 14\nstdin:4:11: the integer is not in the range from -2147483648 to 2147483647 (line 2 of the term)\n     99999999999]\n              ^\n",
+        "strategies main = id\n#term\n[1,\n 99999999999999999999]",
+        "strc: TermSyntax at byte 23\nstdin:4:2: the integer is not in the range from -9223372036854775808 to 9223372036854775807 (line 2 of the term)\n     99999999999999999999]\n     ^\n",
     ),
     (
         "strategies main = id\n#term\n(7,)",
@@ -121,6 +121,16 @@ const CHECKS: &[(&str, &str, &str)] = &[
         "strategies main = !x@1",
         "NotBuildable",
         "stdin:1:20: pattern x@ cannot be built\n",
+    ),
+    (
+        "strategies main = !1{x, _{2}}",
+        "NotBuildable",
+        "stdin:1:25: pattern _ cannot be built\n",
+    ),
+    (
+        "strategies main = ?x{y}; !x{C(y)}",
+        "Undeclared",
+        "stdin:1:29: constructor C with 1 part is not declared\n",
     ),
 ];
 
