@@ -17,7 +17,7 @@ enum Fault {
 }
 
 enum Head {
-    Int(i32),
+    Int(i64),
     Plain(Rc<[u8]>),
     Quoted(Rc<[u8]>),
     Tuple,
@@ -184,11 +184,11 @@ impl Reader<'_> {
         if negative {
             self.at += 1;
         }
-        let most: i64 = if negative { 1 << 31 } else { (1 << 31) - 1 };
+        let most: i128 = if negative { 1 << 63 } else { (1 << 63) - 1 };
         let from = self.at;
         let mut value = 0;
         while let Some(byte @ b'0'..=b'9') = self.peek() {
-            value = 10 * value + i64::from(byte - b'0');
+            value = 10 * value + i128::from(byte - b'0');
             if value > most {
                 return self.fault();
             }
@@ -198,7 +198,7 @@ impl Reader<'_> {
             return self.fault();
         }
         self.skip_blanks();
-        Ok(Head::Int(if negative { -value } else { value } as i32))
+        Ok(Head::Int(if negative { -value } else { value } as i64))
     }
 
     /// The bytes of quoted text, whose opening quote is next.
@@ -293,8 +293,8 @@ fn write_between(terms: &[Term], left: u8, right: u8, out: &mut Vec<u8>) {
     out.push(right);
 }
 
-fn write_integer(value: i32, out: &mut Vec<u8>) {
-    let mut digits = [0; 10];
+fn write_integer(value: i64, out: &mut Vec<u8>) {
+    let mut digits = [0; 19];
     let mut from = digits.len();
     let mut rest = value.unsigned_abs();
     loop {

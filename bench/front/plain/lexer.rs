@@ -54,7 +54,7 @@ pub enum Keyword {
 pub enum TokenKind<'a> {
     Name(&'a [u8]),
     Wildcard,
-    Integer(i32),
+    Integer(i64),
     Quoted(Vec<u8>),
     Mark(Mark),
     Keyword(Keyword),
@@ -169,16 +169,16 @@ impl<'a> Lexer<'a> {
         if negative {
             self.at += 1;
         }
-        let most: i64 = if negative { 1 << 31 } else { (1 << 31) - 1 };
+        let most: i128 = if negative { 1 << 63 } else { (1 << 63) - 1 };
         let mut value = 0;
         while let Some(byte @ b'0'..=b'9') = self.peek() {
-            value = 10 * value + i64::from(byte - b'0');
+            value = 10 * value + i128::from(byte - b'0');
             if value > most {
                 return None;
             }
             self.at += 1;
         }
-        Some(TokenKind::Integer(if negative { -value } else { value } as i32))
+        Some(TokenKind::Integer(if negative { -value } else { value } as i64))
     }
 
     fn quoted(&mut self) -> Option<Vec<u8>> {

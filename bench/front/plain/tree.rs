@@ -107,7 +107,7 @@ pub enum Pattern {
     Variable(Name),
     Wildcard,
     Alias(Name, Box<Pattern>),
-    Integer(i32),
+    Integer(i64),
     Quoted(Vec<u8>),
     Application(Name, Vec<Pattern>),
     Parenthesized(Box<Pattern>),

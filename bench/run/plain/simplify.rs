@@ -8,7 +8,7 @@ const NUM: Sym = 0;
 const PLUS: Sym = 1;
 const TIMES: Sym = 2;
 
-fn is_number(term: &Term, value: i32) -> bool {
+fn is_number(term: &Term, value: i64) -> bool {
     match applied(term) {
         Some((NUM, [number])) => matches!(**number, Term::Int(found) if found == value),
         _ => false,

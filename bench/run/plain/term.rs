@@ -6,7 +6,7 @@ use std::rc::Rc;
 pub type Sym = u32;
 
 pub enum Term {
-    Int(i32),
+    Int(i64),
     App(Sym, Vec<Rc<Term>>),
     List(Vec<Rc<Term>>),
 }
@@ -40,7 +40,7 @@ impl Symbols {
     }
 }
 
-pub fn int(value: i32) -> Rc<Term> {
+pub fn int(value: i64) -> Rc<Term> {
     Rc::new(Int(value))
 }
 

@@ -93,7 +93,7 @@ fn taken_apart(store: &mut Store, list: u32) -> usize {
 fn built(store: &mut Store, size: u32) -> usize {
     let mut list = store.make(Head::List, &[]).unwrap();
     for value in 0..size {
-        let first = store.make(Head::Int(value as i32), &[]).unwrap();
+        let first = store.make(Head::Int(value as i64), &[]).unwrap();
         if store.list_len(list).is_none() {
             break;
         }
@@ -109,7 +109,7 @@ fn list(size: u32, times: u32) -> usize {
     let mut count = 0;
     for _ in 0..times {
         let mut store = Store::default();
-        let elements: Vec<u32> = (0..size).map(|value| store.make(Head::Int(value as i32), &[]).unwrap()).collect();
+        let elements: Vec<u32> = (0..size).map(|value| store.make(Head::Int(value as i64), &[]).unwrap()).collect();
         let numbers = store.make(Head::List, &elements).unwrap();
         let start = Instant::now();
         let tails = taken_apart(&mut store, numbers);

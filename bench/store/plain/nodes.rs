@@ -3,7 +3,7 @@
 /// A node of a tree whose nodes come after their parts: how many of the last terms are its parts, and the integer that it is where it has none.
 pub struct Node {
     pub count: usize,
-    pub value: i32,
+    pub value: i64,
 }
 
 fn next(state: &mut u64) -> u32 {
@@ -29,7 +29,7 @@ pub fn random_nodes(size: u32) -> Vec<Node> {
             left -= part;
             open.push(part);
         }
-        let value = (next(&mut state) % 16) as i32;
+        let value = (next(&mut state) % 16) as i64;
         nodes.push(Node { count: count as usize, value });
     }
     nodes.reverse();

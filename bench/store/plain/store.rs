@@ -50,18 +50,50 @@ pub struct Block {
 
 const EMPTY: Block = Block { front: Front::Zero, rest: 0 };
 
-#[derive(Clone, Copy, PartialEq, Eq)]
+#[derive(Clone, Copy)]
 pub enum Head {
-    Int(i32),
+    Int(i64),
     Symbol(u32),
     List,
 }
 
+/// An integer stands where others have their parts, so that a shape takes 32 bytes.
 #[derive(Clone, Copy, PartialEq, Eq)]
-pub struct Shape {
-    head: Head,
-    parts: Block,
-    annos: u32,
+pub enum Shape {
+    Int { annos: u32, value: i64 },
+    Applied { annos: u32, parts: Block, number: u32 },
+    List { annos: u32, parts: Block },
+}
+
+impl Shape {
+    fn new(head: Head, parts: Block, annos: u32) -> Shape {
+        match head {
+            Head::Int(value) => Shape::Int { annos, value },
+            Head::Symbol(number) => Shape::Applied { annos, parts, number },
+            Head::List => Shape::List { annos, parts },
+        }
+    }
+
+    fn head(&self) -> Head {
+        match *self {
+            Shape::Int { value, .. } => Head::Int(value),
+            Shape::Applied { number, .. } => Head::Symbol(number),
+            Shape::List { .. } => Head::List,
+        }
+    }
+
+    fn parts(&self) -> Block {
+        match *self {
+            Shape::Int { .. } => EMPTY,
+            Shape::Applied { parts, .. } | Shape::List { parts, .. } => parts,
+        }
+    }
+
+    fn annos(&self) -> u32 {
+        match *self {
+            Shape::Int { annos, .. } | Shape::Applied { annos, .. } | Shape::List { annos, .. } => annos,
+        }
+    }
 }
 
 fn joined(high: u32, low: u32) -> u64 {
@@ -87,13 +119,22 @@ impl Key for Block {
 
 impl Key for Shape {
     fn mix(&self, mixer: &mut Mixer) {
-        let head = match self.head {
-            Head::Int(value) => value as u32,
-            Head::Symbol(number) => number,
-            Head::List => 0,
-        };
-        mixer.add(joined(head, self.annos));
-        self.parts.mix(mixer);
+        match *self {
+            Shape::Int { annos, value } => {
+                mixer.add(value as u64);
+                if annos != 0 {
+                    mixer.add(annos as u64);
+                }
+            }
+            Shape::Applied { annos, parts, number } => {
+                mixer.add(joined(number, annos));
+                parts.mix(mixer);
+            }
+            Shape::List { annos, parts } => {
+                mixer.add(annos as u64);
+                parts.mix(mixer);
+            }
+        }
     }
 }
 
@@ -170,12 +211,12 @@ impl Store {
 
     /// The place of the shape, where its term fits.
     fn intern(&mut self, shape: Shape) -> Option<u32> {
-        let symbol = match shape.head {
-            Head::Symbol(number) => self.symbols.keys[number as usize].bytes().len().min(MAX_WEIGHT as usize) as u32,
+        let symbol = match shape {
+            Shape::Applied { number, .. } => self.symbols.keys[number as usize].bytes().len().min(MAX_WEIGHT as usize) as u32,
             _ => 0,
         };
-        let parts = self.size_in(shape.parts);
-        let annos = self.span(shape.annos);
+        let parts = self.size_in(shape.parts());
+        let annos = self.span(shape.annos());
         let weight = 1 + symbol + parts.0 + annos.weight;
         let depth = 1 + parts.1.max(annos.depth);
         if weight > MAX_WEIGHT || depth > MAX_DEPTH {
@@ -225,7 +266,7 @@ impl Store {
             let block = self.before(annos, EMPTY)?;
             self.link(block)?
         };
-        self.intern(Shape { head, parts, annos })
+        self.intern(Shape::new(head, parts, annos))
     }
 
     pub fn make(&mut self, head: Head, parts: &[u32]) -> Option<u32> {
@@ -233,27 +274,29 @@ impl Store {
     }
 
     pub fn count(&self, at: u32) -> usize {
-        self.len_in(self.shapes.keys[at as usize].parts)
+        self.len_in(self.shapes.keys[at as usize].parts())
     }
 
     pub fn list_len(&self, at: u32) -> Option<usize> {
-        let shape = &self.shapes.keys[at as usize];
-        (shape.head == Head::List).then(|| self.len_in(shape.parts))
+        match self.shapes.keys[at as usize] {
+            Shape::List { parts, .. } => Some(self.len_in(parts)),
+            _ => None,
+        }
     }
 
     pub fn rest(&mut self, at: u32, count: usize) -> u32 {
-        let (mut block, mut left) = (self.shapes.keys[at as usize].parts, count);
+        let (mut block, mut left) = (self.shapes.keys[at as usize].parts(), count);
         while block.rest != 0 && left >= block.front.len() {
             left -= block.front.len();
             block = self.chains.keys[block.rest as usize - 1];
         }
         let parts = Block { front: block.front.without(left), rest: block.rest };
-        self.intern(Shape { head: Head::List, parts, annos: 0 }).unwrap()
+        self.intern(Shape::List { annos: 0, parts }).unwrap()
     }
 
     pub fn prepend(&mut self, elements: &[u32], tail: u32) -> Option<u32> {
-        let parts = self.before(elements, self.shapes.keys[tail as usize].parts)?;
-        self.intern(Shape { head: Head::List, parts, annos: 0 })
+        let parts = self.before(elements, self.shapes.keys[tail as usize].parts())?;
+        self.intern(Shape::List { annos: 0, parts })
     }
 
     /// The place of a term that is brought in.
@@ -295,12 +338,12 @@ impl Store {
             return term.clone();
         }
         let shape = self.shapes.keys[at as usize];
-        let parts = self.leave_block(shape.parts, terms, stack);
-        let annos = match shape.annos {
+        let parts = self.leave_block(shape.parts(), terms, stack);
+        let annos = match shape.annos() {
             0 => Vec::new(),
             chain => self.leave_block(self.chains.keys[chain as usize - 1], terms, stack),
         };
-        let head = match shape.head {
+        let head = match shape.head() {
             Head::Int(value) => TermHead::Int(value),
             Head::Symbol(number) => TermHead::App(self.symbols.keys[number as usize].clone()),
             Head::List => TermHead::List,

@@ -31,7 +31,7 @@ impl Symbol {
 
 #[derive(Clone)]
 pub enum TermHead {
-    Int(i32),
+    Int(i64),
     App(Symbol),
     List,
 }
@@ -45,7 +45,7 @@ pub struct Term {
 }
 
 impl Term {
-    pub fn int(value: i32) -> Rc<Term> {
+    pub fn int(value: i64) -> Rc<Term> {
         Rc::new(Term { head: TermHead::Int(value), parts: Vec::new(), annos: None, weight: 1, depth: 1 })
     }
 
