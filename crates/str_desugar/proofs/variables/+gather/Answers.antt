@@ -47,6 +47,13 @@ in_pattern-returns-in_ok-in_patterns-in-List t c =
     (ap names_of (ap pattern_of c.in-List.is ∙ reads.reads_list c.in-List.elements c.in-List.rest))
     (rw c.deref-in-List.ensures.value at c.in_ok-in_patterns-in-List.ensures) c.in_optional_pattern.ensures
 
+pub in_pattern-returns-in_ok-in_pattern-in-Annotated : goal.in_pattern-returns-in_ok-in_pattern-in-Annotated
+in_pattern-returns-in_ok-in_pattern-in-Annotated t c =
+    then_ok c.in_patterns-in-Annotated.result (bound_names c.args.bound.now) c.args.found.now c.in_pattern-in-Annotated.new.found c.in_patterns-in-Annotated.new.found
+    (names_of (pattern_of c.args.source.now)) (names_of (pattern_of c.in-Annotated.part.value)) (names_among (patterns_of c.in-Annotated.annotations.items))
+    (ap names_of (ap pattern_of c.in-Annotated.is ∙ reads.reads_annotated c.in-Annotated.part c.in-Annotated.annotations))
+    (rw c.deref-in-Annotated.ensures at c.in_ok-in_pattern-in-Annotated.ensures) (rw c.deref-in-Annotated-2.ensures.value at c.in_patterns-in-Annotated.ensures)
+
 pub in_pattern-returns-in_ok-in_strategy-in-AppliedTo : goal.in_pattern-returns-in_ok-in_strategy-in-AppliedTo
 in_pattern-returns-in_ok-in_strategy-in-AppliedTo t c =
     then_ok c.in_pattern-in-AppliedTo.result (bound_names c.args.bound.now) c.args.found.now c.in_strategy-in-AppliedTo.new.found c.in_pattern-in-AppliedTo.new.found
