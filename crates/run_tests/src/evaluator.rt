@@ -12,8 +12,8 @@ mod rows;
 mod samples;
 mod traversal_rows;
 
-use crate::evaluator::annotated_builds::ANNOTATED_BUILDS;
-use crate::evaluator::annotated_matches::ANNOTATED_MATCHES;
+use crate::evaluator::annotated_builds::{ANNOTATED_BUILDS, MORE_ANNOTATED_BUILDS};
+use crate::evaluator::annotated_matches::{ANNOTATED_MATCHES, MORE_ANNOTATED_MATCHES};
 use crate::evaluator::call_rows::CALLS;
 use crate::evaluator::library_rows::LIBRARY;
 use crate::evaluator::pattern_rows::PATTERNS;
@@ -143,14 +143,30 @@ fn programs(rt: HostRuntime) -> Result<(), Fail> {
     Ok(())
 }
 
-#[test]
-fn programs_with_annotations(rt: HostRuntime) -> Result<(), Fail> {
-    let alloc = rt.alloc();
+// The program of each row, which calls no primitive, ends as it should.
+fn check_programs(alloc: Global, rows: &[Row]) -> Result<(), Fail> {
     let registry = Registry::<Standard>::new(alloc);
-    for rows in [ANNOTATED_MATCHES, ANNOTATED_BUILDS] {
-        check_rows(alloc, rows, &registry)?;
-    }
-    Ok(())
+    check_rows(alloc, rows, &registry)
+}
+
+#[test]
+fn matches_with_annotations(rt: HostRuntime) -> Result<(), Fail> {
+    check_programs(rt.alloc(), ANNOTATED_MATCHES)
+}
+
+#[test]
+fn more_matches_with_annotations(rt: HostRuntime) -> Result<(), Fail> {
+    check_programs(rt.alloc(), MORE_ANNOTATED_MATCHES)
+}
+
+#[test]
+fn builds_with_annotations(rt: HostRuntime) -> Result<(), Fail> {
+    check_programs(rt.alloc(), ANNOTATED_BUILDS)
+}
+
+#[test]
+fn more_builds_with_annotations(rt: HostRuntime) -> Result<(), Fail> {
+    check_programs(rt.alloc(), MORE_ANNOTATED_BUILDS)
 }
 
 #[test]

@@ -203,6 +203,10 @@ pub const ANNOTATED_BUILDS: &[Row] = &[
         Ends::To(&[Int(1), Int(2), Noted(1)]),
         5,
     ),
+];
+
+// More of them: a test of all would take more steps than the prover allows.
+pub const MORE_ANNOTATED_BUILDS: &[Row] = &[
     (
         "?x; !(1{y})^x without a term",
         &[

@@ -181,6 +181,10 @@ pub const ANNOTATED_MATCHES: &[Row] = &[
         Ends::To(&[Int(1), Int(1), Noted(1)]),
         3,
     ),
+];
+
+// More of them: a test of all would take more steps than the prover allows.
+pub const MORE_ANNOTATED_MATCHES: &[Row] = &[
     (
         "?x{x} with an annotation of the annotation",
         &[X, X, Annotated(1), Match, Scope(1)],
