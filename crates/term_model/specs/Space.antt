@@ -17,6 +17,11 @@ pub record Keeps {S R M N : Type 0} (stands : S → R → Bool) (term_of : S →
   pub known : (n : N) → IsTrue (knows old n) → IsTrue (knows new n)
   pub symbols : (n : N) → IsTrue (knows old n) → symbol_of new n ≡ symbol_of old n
 
+-- no term is made: exactly the references that stood stand, and exactly the marks that were valid are valid
+pub record MakesNone {S R M : Type 0} (stands : S → R → Bool) (is_valid : S → M → Bool) (old new : S) : Type 0 where
+  pub standing : (r : R) → stands new r ≡ stands old r
+  pub valid : (m : M) → is_valid new m ≡ is_valid old m
+
 -- exactly the references that the mark covers stand, each with its term; each mark that it covers is valid; names stay
 pub record GoesBack {S R M N : Type 0} (stands : S → R → Bool) (term_of : S → R → Tree) (is_valid : S → M → Bool) (knows : S → N → Bool) (symbol_of : S → N → Symbol) (covers : M → R → Bool) (covers_mark : M → M → Bool) (mark : M) (old new : S) : Type 0 where
   pub exactly : (r : R) → IsTrue (stands new r) ↔ IsTrue (covers mark r)

@@ -4,7 +4,7 @@ ghost use Rattle.term_model.specs.Symbol.{Symbol};
 ghost use Rattle.term_model.specs.Term.{Tree, term, head_of, parts_of, annos_of, Fits};
 ghost use Rattle.term_model.specs.declared.term.Head.TheVariants as heads;
 ghost use Rattle.term_model.specs.declared.made.Made.TheVariants as made;
-ghost use Rattle.term_model.specs.Space.{Keeps, GoesBack, IsMarkOf, Makes, Pushes, IsApplied, IsList, MayHave, IsTop};
+ghost use Rattle.term_model.specs.Space.{Keeps, MakesNone, GoesBack, IsMarkOf, Makes, Pushes, IsApplied, IsList, MayHave, IsTop};
 
 use crate::made::Made;
 use crate::parts::{Shape, Top};
@@ -134,11 +134,13 @@ pub trait TermSpace {
         ensures pushed { OnOk result (Pushes stands term_of self.now (annos_of (term_of self.now at.now)) stack.old.items stack.new.items) }
         ensures err { OnErr result (stack.new.items ≡ stack.old.items) };
 
-    /// The name of a symbol. It is known for as long as the space is there, whatever the space goes back to.
+    /// The name of a symbol. It is known for as long as the space is there, whatever the space goes back to. No term is
+    /// made: exactly what stood stands, also where `AllocError` is returned.
     fn name(&mut self, alloc: Global, symbol: &Sym) -> Result<Self::Name, AllocError>
         ensures keeps { Keeps stands term_of is_valid knows symbol_of self.old self.new }
         ensures known { IfOk result (λ n. IsTrue (knows self.new n)) }
-        ensures symbol { IfOk result (λ n. symbol_of self.new n ≡ symbol.now) };
+        ensures symbol { IfOk result (λ n. symbol_of self.new n ≡ symbol.now) }
+        ensures none { MakesNone stands is_valid self.old self.new };
 
     /// The integer, with no annotations.
     fn int(&mut self, alloc: Global, value: i64) -> Result<Self::Ref, AllocError>
