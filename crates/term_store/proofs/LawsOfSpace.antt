@@ -1,5 +1,5 @@
 -- What a space's words say of a store.
-use Rattle.std.proofs.Common.{◌≡◌, ℕ, zero, suc, ◌<◌, nat_lt, List, [], ◌∷◌, ◌++◌, length, map, get_or, slice_get, drop, refl, sym, ◌∙◌, ap, subst, arith}
+use Rattle.std.proofs.Common.{◌≡◌, ℕ, zero, suc, ◌<◌, nat_lt, nat_le, List, [], ◌∷◌, ◌++◌, length, map, get_or, slice_get, drop, refl, sym, ◌∙◌, ap, subst, arith}
 use Rattle.std.specs.Prelude.{Result, Ok, Err, IfOk, Option, Some, None, IsSome, IsTrue}
 use Rattle.std.specs.declared.alloc.AllocError.{AllocError}
 use Rattle.std.specs.Borrow.{Bor}
@@ -7,7 +7,7 @@ use Rattle.std.proofs.lemmas.Bool.{lt-ltb}
 use Rattle.std.proofs.lemmas.List.{map-append}
 use Rattle.std.proofs.lemmas.Option.{get_or_from_slice_get}
 use Rattle.term_model.specs.Blocks.{list_in, IsAt}
-use Rattle.term_model.specs.Space.{Makes, IsApplied, IsList}
+use Rattle.term_model.specs.Space.{Makes, MakesNone, IsApplied, IsList}
 use Rattle.term_model.specs.Limits.{max_weight}
 use Rattle.term_model.specs.Symbol.{Symbol}
 use Rattle.term_model.specs.Term.{Tree, term, head_of, parts_of, annos_of, trees_of, weights, Fits}
@@ -22,6 +22,7 @@ use Rattle.term_store.specs.Shapes.{shape_head, shape_parts, shape_annos}
 use Rattle.term_store.specs.Store.{head_in}
 use Rattle.term_store.specs.Space.{count, term_of, chain_at, shape_term, Stand, MayStand, IsShapeAt, IsMade, Keeps, KeepsChains}
 use Rattle.term_store.specs.declared.store.StoreSpace.{StoreSpace}
+use Rattle.term_store.specs.declared.stored.StoredHead.{StoredHead}
 use Rattle.term_store.specs.declared.stored.StoredHead.TheVariants as stored
 use Rattle.term_store.specs.declared.stored.StoredShape.{StoredShape}
 use Rattle.term_store.specs.declared.stored.StoredShape.TheVariants as forms
@@ -44,6 +45,15 @@ count_at s at x is = sym (ap length (parts_at s at x is) ∙ length-places (term
 
 pub counted : (s : StoreSpace) (at n : ℕ) (x : StoredShape) → IsShapeAt s at x → n ≡ length (list_in s.chains (shape_parts x)) → n ≡ length (parts_of (term_of s at))
 counted s at n x is e = e ∙ count_at s at x is
+
+-- the shape of a list
+list_head : (symbols : List Symbol) (h : StoredHead) → head_in symbols h ≡ heads.List → h ≡ stored.List
+list_head symbols (stored.Int z) e = absurd (cc)
+list_head symbols (stored.Symbol n) e = absurd (cc)
+list_head symbols stored.List e = refl
+
+pub list_shape : (s : StoreSpace) (at : ℕ) (x : StoredShape) → IsShapeAt s at x → head_of (term_of s at) ≡ heads.List → shape_head x ≡ stored.List
+list_shape s at x is e = list_head s.symbols.keys (shape_head x) (sym (head_at s at x is) ∙ e)
 
 -- a list, and the symbol over its parts
 pub list_at : (s : StoreSpace) (at n : ℕ) (x : StoredShape) → IsShapeAt s at x → shape_head x ≡ stored.List → n ≡ length (list_in s.chains (shape_parts x)) → IsList (term_of s at) n
@@ -87,6 +97,10 @@ pub makes : (s : StoreSpace) (t u : Tree) (r : Result (Made ℕ) AllocError) →
 makes s t u (Err e) is same = tt
 makes s t u (Ok (made.Fits k)) is same = (lt-ltb k (count s) is.0, is.1 ∙ same, subst Fits same is.2)
 makes s t u (Ok made.Oversize) is same = λ fits. is (subst Fits (sym same) fits)
+
+-- where no shape is made, exactly what stood stands
+pub makes_none : (old new : StoreSpace) → count new ≡ count old → MakesNone (λ s r. nat_lt r (count s)) (λ s m. nat_le m (count s)) old new
+makes_none old new e = record { standing = λ r. ap (nat_lt r) e; valid = λ m. ap (nat_le m) e }
 
 -- the term of a shape after chains came
 pub shape_then : (old mid : StoreSpace) (x : StoredShape) (h : Head) (ps qs : List ℕ) → KeepsChains old mid → head_in mid.symbols.keys (shape_head x) ≡ h → list_in mid.chains (shape_parts x) ≡ ps → chain_at mid (shape_annos x) ≡ qs

@@ -1,18 +1,18 @@
 -- What putting in a shape or a chain comes to.
-use Rattle.std.proofs.Common.{◌≡◌, ℕ, suc, ◌+◌, ◌<◌, ◌≤◌, List, [], ◌∷◌, length, map, refl, ap, subst, arith}
+use Rattle.std.proofs.Common.{◌≡◌, ℕ, suc, ◌+◌, ◌<◌, ◌≤◌, List, [], ◌∷◌, length, map, refl, sym, ap, subst, arith}
 use Rattle.std.specs.Prelude.{min, max, Option, Some, None, MatchOption}
+use Rattle.term_model.specs.declared.term.Head.{Head}
 use Rattle.term_model.specs.Limits.{max_weight, max_depth}
 use Rattle.term_model.specs.Term.{Tree, term, weights, trees_of, head_weight}
 use Rattle.term_model.specs.Blocks.{list_in}
 use Rattle.term_model.specs.declared.parts.Block.{Block}
 use Rattle.term_model.proofs.TermLemmas.{weight_positive}
 use Rattle.term_store.specs.Shapes.{shape_head, shape_parts, shape_annos}
-use Rattle.term_store.specs.Store.{head_in, IsShape, IsSize, IsSum, IsTotal}
+use Rattle.term_store.specs.Store.{head_in, IsShape, IsSize, IsSum, IsBare}
 use Rattle.term_store.specs.Chains.{IsBlockIn, IsChainIn}
 use Rattle.term_store.specs.Space.{count, term_of, chain_at, shape_term, MayStand, KeepsChains, AreHeavy}
 use Rattle.term_store.proofs.PlainLemmas.{map_same}
 use Rattle.term_store.specs.declared.store.StoreSpace.{StoreSpace}
-use Rattle.term_store.specs.declared.stored.StoredHead.{StoredHead}
 use Rattle.term_store.specs.declared.stored.StoredShape.{StoredShape}
 use Rattle.term_store.specs.declared.stored.Span.{Span}
 use Rattle.term_store.proofs.StoreLemmas.{made_size}
@@ -44,18 +44,23 @@ shape_next s x last long may =
       bare = may.bare;
     }
 
--- the size of the term of a shape, by those of its parts and annotations
-pub shape_size : (s : StoreSpace) (x : StoredShape) (h : StoredHead) (b : Block ℕ) (a name weight_ depth_ last known : ℕ) (annos : Span) → h ≡ shape_head x → b ≡ shape_parts x → a ≡ shape_annos x
-    → name ≡ min (head_weight (head_in s.symbols.keys h)) (max_weight + 1) → IsTotal (map (term_of s) (list_in s.chains b)) weight_ depth_ → IsSum (map (term_of s) (chain_at s a)) annos
-    → 1 + (name + (weight_ + annos.weight)) ≤ max_weight → 1 + max depth_ annos.depth ≤ max_depth
-    → IsSize (shape_term s x) (record { weight = 1 + (name + (weight_ + annos.weight)); depth = 1 + max depth_ annos.depth; chains = last; symbols = known })
-shape_size s x h b a name weight_ depth_ last known annos is_head is_block is_chain named parts sum light flat =
-    let sized : IsSize (term (head_in s.symbols.keys h) (map (term_of s) (list_in s.chains b)) (map (term_of s) (chain_at s a))) (record { weight = 1 + (name + (weight_ + annos.weight)); depth = 1 + max depth_ annos.depth; chains = last; symbols = known }) =
-    made_size (head_in s.symbols.keys h) (map (term_of s) (list_in s.chains b)) (map (term_of s) (chain_at s a)) name weight_ depth_ annos.weight annos.depth last known
-    named parts.weight parts.depth sum.weight sum.depth light flat in
-    let same : term (head_in s.symbols.keys h) (map (term_of s) (list_in s.chains b)) (map (term_of s) (chain_at s a)) ≡ shape_term s x =
-    λ i. term (head_in s.symbols.keys (is_head i)) (map (term_of s) (list_in s.chains (is_block i))) (map (term_of s) (chain_at s (is_chain i))) in
-    subst (λ t. IsSize t (record { weight = 1 + (name + (weight_ + annos.weight)); depth = 1 + max depth_ annos.depth; chains = last; symbols = known })) same sized
+-- the size of the term of a shape, by that of its head and parts and that of its annotations
+pub shape_size : (s : StoreSpace) (x : StoredShape) (a weight_ depth_ last known : ℕ) (annos : Span) → a ≡ shape_annos x
+    → IsBare (head_in s.symbols.keys (shape_head x)) (map (term_of s) (list_in s.chains (shape_parts x))) weight_ depth_ → IsSum (map (term_of s) (chain_at s a)) annos
+    → 1 + (weight_ + annos.weight) ≤ max_weight → 1 + max depth_ annos.depth ≤ max_depth
+    → IsSize (shape_term s x) (record { weight = 1 + (weight_ + annos.weight); depth = 1 + max depth_ annos.depth; chains = last; symbols = known })
+shape_size s x a weight_ depth_ last known annos is_chain bare sum light flat =
+    let h : Head = head_in s.symbols.keys (shape_head x) in
+    let ps : List Tree = map (term_of s) (list_in s.chains (shape_parts x)) in
+    let name : ℕ = min (head_weight h) (max_weight + 1) in
+    let own : weight_ ≡ name + weights (trees_of ps) = bare.weight in
+    let same : 1 + (name + (weights (trees_of ps) + annos.weight)) ≡ 1 + (weight_ + annos.weight) = omega (arith, own) in
+    let small : 1 + (name + (weights (trees_of ps) + annos.weight)) ≤ max_weight = subst (λ w. w ≤ max_weight) (sym same) light in
+    let sized : IsSize (term h ps (map (term_of s) (chain_at s a))) (record { weight = 1 + (name + (weights (trees_of ps) + annos.weight)); depth = 1 + max depth_ annos.depth; chains = last; symbols = known }) =
+    made_size h ps (map (term_of s) (chain_at s a)) name (weights (trees_of ps)) depth_ annos.weight annos.depth last known refl refl bare.depth sum.weight sum.depth small flat in
+    let whole : IsSize (term h ps (map (term_of s) (chain_at s a))) (record { weight = 1 + (weight_ + annos.weight); depth = 1 + max depth_ annos.depth; chains = last; symbols = known }) =
+    subst (λ w. IsSize (term h ps (map (term_of s) (chain_at s a))) (record { weight = w; depth = 1 + max depth_ annos.depth; chains = last; symbols = known })) same sized in
+    subst (λ c. IsSize (term h ps (map (term_of s) (chain_at s c))) (record { weight = 1 + (weight_ + annos.weight); depth = 1 + max depth_ annos.depth; chains = last; symbols = known })) is_chain whole
 
 -- places whose terms are too heavy together were so before chains came
 pub heavy_before : (old new : StoreSpace) (places : List ℕ) → KeepsChains old new → AreHeavy new places → AreHeavy old places

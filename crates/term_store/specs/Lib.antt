@@ -7,3 +7,4 @@ pub mod Space
 pub mod Entering
 pub mod Leaving
 pub mod Walks
+pub mod Sizes

@@ -1,9 +1,9 @@
 -- What a store holds: symbols, chains of places, and shapes with their sizes.
-use Rattle.std.specs.Prelude.{◌≡◌, ◌<◌, ◌≤◌, ◌+◌, ◌*◌, ℕ, Bool, true, false, nat_lt, IsTrue, List, [], suc, length, map, slice_index_or, All}
+use Rattle.std.specs.Prelude.{◌≡◌, ◌<◌, ◌≤◌, ◌+◌, ◌*◌, ℕ, min, Bool, true, false, nat_lt, IsTrue, List, [], suc, length, map, slice_index_or, All}
 use Rattle.term_model.specs.declared.term.Head.{Head}
 use Rattle.term_model.specs.declared.term.Head.TheVariants as heads
 use Rattle.term_model.specs.Symbol.{Symbol, Tuple}
-use Rattle.term_model.specs.Term.{Tree, weight, weights, depth, depths, trees_of, Fits}
+use Rattle.term_model.specs.Term.{Tree, weight, weights, depth, depths, trees_of, head_weight, Fits}
 use Rattle.term_model.specs.Limits.{max_weight, max_depth}
 use Rattle.term_model.specs.Blocks.{front_list, list_in}
 use Rattle.term_store.specs.Chains.{IsWhole}
@@ -114,4 +114,11 @@ pub record IsTotal (ts : List Tree) (weight_ depth_ : ℕ) : Type 0 where
   pub weight : weight_ ≡ weights (trees_of ts)
   pub depth : depth_ ≡ depths (trees_of ts)
   pub light : weight_ ≤ 4 * max_weight
+  pub flat : depth_ ≤ max_depth
+
+-- how heavy and deep a head and the terms of its parts are together, which may be too heavy
+pub record IsBare (h : Head) (ts : List Tree) (weight_ depth_ : ℕ) : Type 0 where
+  pub weight : weight_ ≡ min (head_weight h) (max_weight + 1) + weights (trees_of ts)
+  pub depth : depth_ ≡ depths (trees_of ts)
+  pub light : weight_ ≤ 5 * max_weight + 1
   pub flat : depth_ ≤ max_depth

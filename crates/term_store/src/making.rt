@@ -22,11 +22,10 @@ impl StoreSpace {
         ensures keeps { Keeps self.old self.new }
         ensures made { IfOk result (IsMade self.new (shape_term self.old shape)) }
     {
-        let symbol = self.symbol_weight(shape.head());
-        let parts = self.size_in(shape.parts());
+        let bare = self.bare_size(&shape);
         let annos = self.span(shape.annos());
-        let weight = 1 + (symbol + (parts.weight + annos.weight));
-        let depth = 1 + parts.depth.max(annos.depth);
+        let weight = 1 + (bare.weight + annos.weight);
+        let depth = 1 + bare.depth.max(annos.depth);
         if weight > MAX_WEIGHT || depth > MAX_DEPTH {
             return Ok(Made::Oversize);
         }
@@ -137,8 +136,14 @@ impl StoreSpace {
         ensures keeps { KeepsChains self.old self.new }
         ensures made { IfOk result (λ found. MatchOption found (AreHeavy self.old places.now) (λ b. IsBlockIn self.new.chains b places.now)) }
     {
-        let found = self.before(places, EMPTY)?;
-        Ok(found)
+        let front = match places {
+            [] => Front::Zero,
+            [a] => Front::One(*a),
+            [a, b] => Front::Two(*a, *b),
+            [a, b, c] => Front::Three(*a, *b, *c),
+            _ => return self.before(places, EMPTY),
+        };
+        Ok(Some(Block { front, rest: 0 }))
     }
 
     // The number of the chain of these places; `None` where their terms are too heavy together.

@@ -1,6 +1,6 @@
 // Symbols under their numbers.
 ghost use Rattle.std.specs.Prelude.{◌≡◌, ◌<◌, length, IfOk};
-ghost use Rattle.term_store.specs.Space.{symbol_at, Keeps};
+ghost use Rattle.term_store.specs.Space.{count, symbol_at, Keeps};
 ghost use Rattle.term_store.specs.Store.{head_in, IsAmong};
 
 use crate::store::StoreSpace;
@@ -18,6 +18,7 @@ impl StoreSpace {
         ensures within { IfOk result (λ n. n < length self.new.symbols.keys) }
         ensures small { IfOk result (λ n. n < 4_294_967_295) }
         ensures symbol { IfOk result (λ n. symbol_at self.new n ≡ symbol.now) }
+        ensures shapes { count self.new ≡ count self.old }
     {
         if self.symbols.len() >= MAX_SYMBOLS {
             return Err(AllocError);
@@ -31,6 +32,7 @@ impl StoreSpace {
         ensures keeps { Keeps self.old self.new }
         ensures within { IfOk result (λ n. n < self.new.named) }
         ensures symbol { IfOk result (λ n. symbol_at self.new n ≡ symbol.now) }
+        ensures shapes { count self.new ≡ count self.old }
     {
         let number = self.number_of(symbol)?;
         self.named = self.named.max(number + 1);

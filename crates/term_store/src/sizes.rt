@@ -4,7 +4,8 @@ ghost use Rattle.term_model.specs.Limits.{max_weight};
 ghost use Rattle.term_model.specs.Term.{head_weight};
 ghost use Rattle.term_model.specs.Blocks.{list_in};
 ghost use Rattle.term_store.specs.Store.{head_in, IsAmong, IsSize, IsSum, IsTotal};
-ghost use Rattle.term_store.specs.Space.{count, term_of, chain_at, IsBlockOver, IsShapeAt};
+ghost use Rattle.term_store.specs.Space.{count, term_of, chain_at, MayStand, IsBlockOver, IsShapeAt};
+ghost use Rattle.term_store.specs.Sizes.{IsBareOf};
 
 use crate::store::StoreSpace;
 use crate::stored::{Extent, Span, StoredHead, StoredShape};
@@ -99,6 +100,29 @@ impl StoreSpace {
                     depth: a.depth.max(b.depth.max(c.depth.max(span.depth))),
                 }
             }
+        }
+    }
+
+    // How heavy and deep the head and the parts of a shape are together.
+    #[inline]
+    pub(crate) fn bare_size(&self, shape: &StoredShape) -> Size
+        requires { MayStand self.now shape.now }
+        ensures { IsBareOf self.now shape.now result }
+    {
+        match *shape {
+            StoredShape::Int { .. } => Size {
+                weight: 0,
+                depth: 0,
+            },
+            StoredShape::Applied { parts, number, .. } => {
+                let size = self.size_in(parts);
+                let symbol = self.symbol_weight(StoredHead::Symbol(number));
+                Size {
+                    weight: symbol + size.weight,
+                    depth: size.depth,
+                }
+            }
+            StoredShape::List { parts, .. } => self.size_in(parts),
         }
     }
 

@@ -148,7 +148,7 @@ impl TermSpace for StoreSpace {
         self.push_block(annos, stack)
     }
 
-    #[tactic(auto, using(crate::proofs::LawsOfSpace::making))]
+    #[tactic(auto, using(crate::proofs::LawsOfSpace::makes_none))]
     fn name(&mut self, alloc: Global, symbol: &Sym) -> Result<u32, AllocError> {
         let _ = alloc;
         self.name_of(symbol)
@@ -185,7 +185,7 @@ impl TermSpace for StoreSpace {
     ) -> Result<Made<u32>, AllocError> {
         let _ = alloc;
         let shape = self.shape_at(*tail);
-        let Some(parts) = self.before(elements, shape.parts())? else {
+        let Some(parts) = self.before(elements, shape.elements())? else {
             return Ok(Made::Oversize);
         };
         self.intern(StoredShape::List { annos: 0, parts })
@@ -195,7 +195,7 @@ impl TermSpace for StoreSpace {
     fn rest(&mut self, alloc: Global, at: &u32, count: usize) -> Result<u32, AllocError> {
         let _ = alloc;
         let shape = self.shape_at(*at);
-        let parts = self.after(shape.parts(), count);
+        let parts = self.after(shape.elements(), count);
         let made = self.intern(StoredShape::List { annos: 0, parts })?;
         match made {
             Made::Fits(place) => Ok(place),

@@ -3,6 +3,7 @@ ghost use Rattle.std.specs.Prelude.{◌≡◌, ◌++◌, ◌+◌, ◌*◌};
 ghost use Rattle.std.specs.Hash as fed;
 ghost use Rattle.std.proofs.Common.{rules};
 ghost use Rattle.std.specs.Cmp.Rules.{comparing, hashing};
+ghost use Rattle.term_store.specs.declared.stored.StoredHead.TheVariants as stored;
 ghost use Rattle.term_store.specs.Shapes.{shape_of, shape_head, shape_parts, shape_annos};
 
 use std::hash::{Hash, Hasher};
@@ -83,6 +84,18 @@ impl StoredShape {
         match *self {
             StoredShape::Int { .. } => EMPTY,
             StoredShape::Applied { parts, .. } | StoredShape::List { parts, .. } => parts,
+        }
+    }
+
+    // The block of the elements of a list.
+    #[inline]
+    pub(crate) fn elements(&self) -> Block<u32>
+        requires { shape_head self.now ≡ stored.List }
+        ensures { result ≡ shape_parts self.now }
+    {
+        match *self {
+            StoredShape::List { parts, .. } => parts,
+            StoredShape::Int { .. } | StoredShape::Applied { .. } => unreachable!(),
         }
     }
 

@@ -30,9 +30,9 @@ returns-then-not-added-clause-made c =
     let same : shape ≡ stored.0 = shape_equal shape stored.0 equal in
     let is : get_or new c.in_ok-at.at shape ≡ shape = get_or_from_slice_get new c.in_ok-at.at stored.0 shape stored.1 ∙ sym same in
     let within : c.in_ok-at.at < length new = c.in_ok-at.ensures.within in
-    let flat : 1 + max c.size_in-parts.result.depth c.span-annos.result.depth ≤ max_depth = subst (λ d. 1 + d ≤ max_depth) c.max-depth.ensures c.if-depth-gt-MAX_DEPTH.false in
-    let size = shape_size s shape c.head.result c.parts.result c.annos.result c.symbol_weight-symbol.result c.size_in-parts.result.weight c.size_in-parts.result.depth 0 0 c.span-annos.result
-    c.head.ensures c.parts.ensures c.annos.ensures c.symbol_weight-symbol.ensures c.size_in-parts.ensures c.span-annos.ensures c.if-weight-gt-MAX_WEIGHT.false flat in
+    let flat : 1 + max c.bare_size-bare.result.depth c.span-annos.result.depth ≤ max_depth = subst (λ d. 1 + d ≤ max_depth) c.max-depth.ensures c.if-depth-gt-MAX_DEPTH.false in
+    let size = shape_size s shape c.annos.result c.bare_size-bare.result.weight c.bare_size-bare.result.depth 0 0 c.span-annos.result
+    c.annos.ensures c.bare_size-bare.ensures c.span-annos.ensures c.if-weight-gt-MAX_WEIGHT.false flat in
     (within, rw keys (held_at s.symbols.keys s.chains s.shapes.keys s.extents.items s.spans.items c.in_ok-at.at shape s.store (rw keys at within) (rw keys at is)), size.fits)
 
 pub invariant_of-self-2 : goal.invariant_of-self-2
@@ -41,14 +41,14 @@ invariant_of-self-2 c =
     let shape : StoredShape = c.args.shape in
     let new = c.insert_full.new.self.keys in
     let keys : new ≡ s.shapes.keys ++ shape ∷ [] = new_keys _ c.in_ok-at.added s.shapes.keys new shape c.in_ok-at.ensures.added (search rules) c.in_ok-at.ensures.keys in
-    let e : Extent = record { weight = 1 + (c.symbol_weight-symbol.result + (c.size_in-parts.result.weight + c.span-annos.result.weight)); depth = 1 + c.max-depth.result; chains = c.len-chains.result; symbols = c.len-symbols.result } in
+    let e : Extent = record { weight = 1 + (c.bare_size-bare.result.weight + c.span-annos.result.weight); depth = 1 + c.max-depth.result; chains = c.len-chains.result; symbols = c.len-symbols.result } in
     let items : c.push_reserved.new.self.items ≡ s.extents.items ++ e ∷ [] = c.push_reserved.ensures.items ∙ ap (λ xs. xs ++ e ∷ []) c.in_ok-reserve.ensures.items in
     let long : c.len-chains.result + 1 ≡ length s.chains = c.len-chains.ensures.len in
     let is : IsShape s.symbols.keys s.chains (length s.shapes.keys) c.len-chains.result shape = shape_next s shape c.len-chains.result long c.requires in
-    let flat : 1 + max c.size_in-parts.result.depth c.span-annos.result.depth ≤ max_depth = subst (λ d. 1 + d ≤ max_depth) c.max-depth.ensures c.if-depth-gt-MAX_DEPTH.false in
-    let size : IsSize (shape_term s shape) e = subst (λ d. IsSize (shape_term s shape) (record { weight = 1 + (c.symbol_weight-symbol.result + (c.size_in-parts.result.weight + c.span-annos.result.weight)); depth = 1 + d; chains = c.len-chains.result; symbols = c.len-symbols.result })) (sym c.max-depth.ensures)
-    (shape_size s shape c.head.result c.parts.result c.annos.result c.symbol_weight-symbol.result c.size_in-parts.result.weight c.size_in-parts.result.depth c.len-chains.result c.len-symbols.result c.span-annos.result
-    c.head.ensures c.parts.ensures c.annos.ensures c.symbol_weight-symbol.ensures c.size_in-parts.ensures c.span-annos.ensures c.if-weight-gt-MAX_WEIGHT.false flat) in
+    let flat : 1 + max c.bare_size-bare.result.depth c.span-annos.result.depth ≤ max_depth = subst (λ d. 1 + d ≤ max_depth) c.max-depth.ensures c.if-depth-gt-MAX_DEPTH.false in
+    let size : IsSize (shape_term s shape) e = subst (λ d. IsSize (shape_term s shape) (record { weight = 1 + (c.bare_size-bare.result.weight + c.span-annos.result.weight); depth = 1 + d; chains = c.len-chains.result; symbols = c.len-symbols.result })) (sym c.max-depth.ensures)
+    (shape_size s shape c.annos.result c.bare_size-bare.result.weight c.bare_size-bare.result.depth c.len-chains.result c.len-symbols.result c.span-annos.result
+    c.annos.ensures c.bare_size-bare.ensures c.span-annos.ensures c.if-weight-gt-MAX_WEIGHT.false flat) in
     record { store = rw (keys, items) (store_push s.symbols.keys s.chains s.shapes.keys s.extents.items s.spans.items shape e s.store is long c.len-symbols.ensures.len size); within = s.within }
 
 pub returns-clause-keeps : goal.returns-clause-keeps
@@ -71,13 +71,13 @@ returns-clause-made c =
     let shape : StoredShape = c.args.shape in
     let new = c.insert_full.new.self.keys in
     let keys : new ≡ s.shapes.keys ++ shape ∷ [] = new_keys _ c.in_ok-at.added s.shapes.keys new shape c.in_ok-at.ensures.added (search rules) c.in_ok-at.ensures.keys in
-    let e : Extent = record { weight = 1 + (c.symbol_weight-symbol.result + (c.size_in-parts.result.weight + c.span-annos.result.weight)); depth = 1 + c.max-depth.result; chains = c.len-chains.result; symbols = c.len-symbols.result } in
+    let e : Extent = record { weight = 1 + (c.bare_size-bare.result.weight + c.span-annos.result.weight); depth = 1 + c.max-depth.result; chains = c.len-chains.result; symbols = c.len-symbols.result } in
     let long : c.len-chains.result + 1 ≡ length s.chains = c.len-chains.ensures.len in
     let is : IsShape s.symbols.keys s.chains (length s.shapes.keys) c.len-chains.result shape = shape_next s shape c.len-chains.result long c.requires in
-    let flat : 1 + max c.size_in-parts.result.depth c.span-annos.result.depth ≤ max_depth = subst (λ d. 1 + d ≤ max_depth) c.max-depth.ensures c.if-depth-gt-MAX_DEPTH.false in
-    let size : IsSize (shape_term s shape) e = subst (λ d. IsSize (shape_term s shape) (record { weight = 1 + (c.symbol_weight-symbol.result + (c.size_in-parts.result.weight + c.span-annos.result.weight)); depth = 1 + d; chains = c.len-chains.result; symbols = c.len-symbols.result })) (sym c.max-depth.ensures)
-    (shape_size s shape c.head.result c.parts.result c.annos.result c.symbol_weight-symbol.result c.size_in-parts.result.weight c.size_in-parts.result.depth c.len-chains.result c.len-symbols.result c.span-annos.result
-    c.head.ensures c.parts.ensures c.annos.ensures c.symbol_weight-symbol.ensures c.size_in-parts.ensures c.span-annos.ensures c.if-weight-gt-MAX_WEIGHT.false flat) in
+    let flat : 1 + max c.bare_size-bare.result.depth c.span-annos.result.depth ≤ max_depth = subst (λ d. 1 + d ≤ max_depth) c.max-depth.ensures c.if-depth-gt-MAX_DEPTH.false in
+    let size : IsSize (shape_term s shape) e = subst (λ d. IsSize (shape_term s shape) (record { weight = 1 + (c.bare_size-bare.result.weight + c.span-annos.result.weight); depth = 1 + d; chains = c.len-chains.result; symbols = c.len-symbols.result })) (sym c.max-depth.ensures)
+    (shape_size s shape c.annos.result c.bare_size-bare.result.weight c.bare_size-bare.result.depth c.len-chains.result c.len-symbols.result c.span-annos.result
+    c.annos.ensures c.bare_size-bare.ensures c.span-annos.ensures c.if-weight-gt-MAX_WEIGHT.false flat) in
     let pushed : IsStore s.symbols.keys s.chains (s.shapes.keys ++ shape ∷ []) (s.extents.items ++ e ∷ []) s.spans.items = store_push s.symbols.keys s.chains s.shapes.keys s.extents.items s.spans.items shape e s.store is long c.len-symbols.ensures.len size in
     let stored = c.in_ok-at.ensures.stored in
     let equal = stored.2 in
