@@ -1,2 +1,1 @@
 pub mod Library
-pub mod Keys
