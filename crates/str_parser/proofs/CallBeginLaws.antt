@@ -1,5 +1,5 @@
 -- How a call goes on after its name: one law for each way.
-use Rattle.std.proofs.Common.{◌≡◌, ◌∙◌, ℕ, ◌≤◌, List, [], ◌∷◌, map, refl, ap, sym, arith, Global}
+use Rattle.std.proofs.Common.{◌≡◌, ◌∙◌, ℕ, ◌≤◌, List, [], ◌∷◌, map, refl, ap, sym, arith, Box, Global}
 use Rattle.std.specs.declared.vec.Vec.{Vec}
 use Rattle.str_lexer.specs.declared.token.Mark.TheVariants as M
 use Rattle.str_syntax.specs.declared.strategy.Pattern.{Pattern}
@@ -94,7 +94,7 @@ module _ (k : ℕ) (f : Bytes) (ss : Vec Strategy Global) (rest : List Lexeme) w
       all u is left (goes_after_bar no_patterns e) r = (e, r.1)
       all u is left (goes_after_bar (more_patterns p ps) e) r = let e = inner_build_begins _ p _ _ _ r in cc
 
-  pub terms_lead : (v : Vec Pattern Global) → v.items ≡ [] → NotAt (mark M.CloseParenthesis) rest →
+  pub terms_lead : (v : Box (Vec Pattern Global) Global) → v.value.items ≡ [] → NotAt (mark M.CloseParenthesis) rest →
       Leads (GoesBehindBar f ss k) (Continues k (states.ToPattern (P.Terms f ss v) rest)) rest rest
   terms_lead v e n = record {
     sound = λ way u is r. sound way u is r.left r.goes r.runs;
@@ -102,7 +102,7 @@ module _ (k : ℕ) (f : Bytes) (ss : Vec Strategy Global) (rest : List Lexeme) w
     no_longer = omega arith;
   }
     where
-      first : (p : PatternTree) (ps : PatternTrees) → patterns_with v p ps ≡ more_patterns p ps
+      first : (p : PatternTree) (ps : PatternTrees) → patterns_with v.value p ps ≡ more_patterns p ps
       first p ps = ap (λ xs. patterns_then (map pattern_of xs) (more_patterns p ps)) e
 
       sound : (way : Way) (u : PrimaryTree) (is left : List Item) → Continues k (states.ToPattern (P.Terms f ss v) rest) u is left → Runs way left rest →

@@ -5,10 +5,10 @@ use Rattle.str_parser.specs.declared.refusal.Refusal.TheVariants as refusals
 use Rattle.str_lexer.specs.declared.token.Mark.TheVariants as M
 use Rattle.str_lexer.specs.declared.token.Keyword.TheVariants as K
 use Rattle.str_syntax.specs.Trees.{Bytes, ParameterTree, absent, strategies_only, with_terms, StrategyTree, PrimaryTree, let_in, DefinitionTree, definition, DefinitionTrees, no_definitions, more_definitions, head}
-use Rattle.str_syntax.specs.declared.strategy.Parameters.{Parameters}
+use Rattle.str_syntax.specs.declared.strategy.DefinitionHead.{DefinitionHead}
 use Rattle.str_syntax.specs.declared.strategy.Strategy.{Strategy}
 use Rattle.str_syntax.specs.declared.strategy.StrategyDefinition.{StrategyDefinition}
-use Rattle.str_syntax.specs.Views.{strategy_of, definition_of, definitions_of, parameters_of}
+use Rattle.str_syntax.specs.Views.{strategy_of, definition_of, definitions_of, head_of, parameters_of}
 use Rattle.str_parser.specs.Lexemes.{Lexeme, mark, keyword}
 use Rattle.str_parser.specs.Items.{Item, Way, too_deep, either, Runs}
 use Rattle.str_parser.specs.Phrases.{sign, word, names, other_names, parameters, definitions}
@@ -23,64 +23,64 @@ use Rattle.str_parser.proofs.WholeLaws.{EndsWith}
 -- ---- let .. f(..) = s
 
 -- the definitions of the second list are those of the first, and then this one
-pub record Grows (done made : Vec StrategyDefinition Global) (f : Bytes) (ps : Parameters) (s : StrategyTree) : Type 0 where
-  pub then : (more : DefinitionTrees) → definitions_then (map definition_of made.items) more ≡ definitions_with done (definition (head f (parameters_of ps)) s) more
+pub record Grows (done made : Vec StrategyDefinition Global) (hd : Box DefinitionHead Global) (s : StrategyTree) : Type 0 where
+  pub then : (more : DefinitionTrees) → definitions_then (map definition_of made.items) more ≡ definitions_with done (definition (head_of hd.value) s) more
 
 pushed_then : (done made : Vec StrategyDefinition Global) (d : StrategyDefinition) → made.items ≡ done.items ++ (d ∷ []) →
     (more : DefinitionTrees) → definitions_then (map definition_of made.items) more ≡ definitions_with done (definition_of d) more
 pushed_then done made d e no_definitions = definitions_last done made d e
 pushed_then done made d e (more_definitions x ds) = definitions_pushed done made d x ds e
 
-pub grows : (done made : Vec StrategyDefinition Global) (d : StrategyDefinition) (f : Bytes) (ps : Parameters) (b : Box Strategy Global) (s : Strategy) →
-    made.items ≡ done.items ++ (d ∷ []) → definition_of d ≡ definition (head f (parameters_of ps)) (strategy_of b.value) → b.value ≡ s → Grows done made f ps (strategy_of s)
-grows done made d f ps b s e g h = record {
-  then = λ more. pushed_then done made d e more ∙ ap (λ (x : DefinitionTree). definitions_with done x more) (g ∙ ap (λ (x : Strategy). definition (head f (parameters_of ps)) (strategy_of x)) h);
+pub grows : (done made : Vec StrategyDefinition Global) (d : StrategyDefinition) (hd : Box DefinitionHead Global) (b : Box Strategy Global) (s : Strategy) →
+    made.items ≡ done.items ++ (d ∷ []) → definition_of d ≡ definition (head_of hd.value) (strategy_of b.value) → b.value ≡ s → Grows done made hd (strategy_of s)
+grows done made d hd b s e g h = record {
+  then = λ more. pushed_then done made d e more ∙ ap (λ (x : DefinitionTree). definitions_with done x more) (g ∙ ap (λ (x : Strategy). definition (head_of hd.value) (strategy_of x)) h);
 }
 
-in_sound : (k : ℕ) (done made : Vec StrategyDefinition Global) (f : Bytes) (ps : Parameters) (s : StrategyTree) → Grows done made f ps s →
+in_sound : (k : ℕ) (done made : Vec StrategyDefinition Global) (hd : Box DefinitionHead Global) (s : StrategyTree) → Grows done made hd s →
     (rest : List Lexeme) (way : Way) (u : PrimaryTree) (is left : List Item) →
     Continues k (states.ToStrategy (B.LetBody made) rest) u is left → Runs way left rest →
-    Run (Goes k (B.Definition done f ps) s) way u is (keyword K.In ∷ rest)
-in_sound k done made f ps s h rest way u is left (at_strategy t (goes_let_body g)) r =
+    Run (Goes k (B.Definition done hd) s) way u is (keyword K.In ∷ rest)
+in_sound k done made hd s h rest way u is left (at_strategy t (goes_let_body g)) r =
     record { left = _; goes = goes_definition t no_definitions (g ∙ ap (λ (ds : DefinitionTrees). let_in ds t) (h.then no_definitions)); runs = (refl, r) }
 
-in_all : (k : ℕ) (done made : Vec StrategyDefinition Global) (f : Bytes) (ps : Parameters) (s : StrategyTree) → Grows done made f ps s →
+in_all : (k : ℕ) (done made : Vec StrategyDefinition Global) (hd : Box DefinitionHead Global) (s : StrategyTree) → Grows done made hd s →
     (rest : List Lexeme) (u : PrimaryTree) (is left : List Item) →
-    Goes k (B.Definition done f ps) s u is left → Runs either left (keyword K.In ∷ rest) →
+    Goes k (B.Definition done hd) s u is left → Runs either left (keyword K.In ∷ rest) →
     Run (Continues k (states.ToStrategy (B.LetBody made) rest)) either u is rest
-in_all k done made f ps s h rest u is left (goes_definition t no_definitions g) r =
+in_all k done made hd s h rest u is left (goes_definition t no_definitions g) r =
     record { left = _; goes = at_strategy t (goes_let_body (g ∙ sym (ap (λ (ds : DefinitionTrees). let_in ds t) (h.then no_definitions)))); runs = r.1 }
-in_all k done made f ps s h rest u is left (goes_definition t (more_definitions (definition (head x qs) b) ds) g) r = let e = r.0 in cc
+in_all k done made hd s h rest u is left (goes_definition t (more_definitions (definition (head x qs) b) ds) g) r = let e = r.0 in cc
 
-pub in_leads : (k : ℕ) (done made : Vec StrategyDefinition Global) (f : Bytes) (ps : Parameters) (s : StrategyTree) → Grows done made f ps s →
+pub in_leads : (k : ℕ) (done made : Vec StrategyDefinition Global) (hd : Box DefinitionHead Global) (s : StrategyTree) → Grows done made hd s →
     (rest : List Lexeme) →
-    Leads (Goes k (B.Definition done f ps) s) (Continues k (states.ToStrategy (B.LetBody made) rest)) (keyword K.In ∷ rest) rest
-in_leads k done made f ps s h rest = record {
-  sound = λ way u is r. in_sound k done made f ps s h rest way u is r.left r.goes r.runs;
-  all = λ u is l r. in_all k done made f ps s h rest u is r.left r.goes r.runs;
+    Leads (Goes k (B.Definition done hd) s) (Continues k (states.ToStrategy (B.LetBody made) rest)) (keyword K.In ∷ rest) rest
+in_leads k done made hd s h rest = record {
+  sound = λ way u is r. in_sound k done made hd s h rest way u is r.left r.goes r.runs;
+  all = λ u is l r. in_all k done made hd s h rest u is r.left r.goes r.runs;
   no_longer = omega arith;
 }
 
 -- where no `in` comes, another definition does
-to_definition_sound : (k : ℕ) (done made : Vec StrategyDefinition Global) (f : Bytes) (ps : Parameters) (s : StrategyTree) → Grows done made f ps s →
+to_definition_sound : (k : ℕ) (done made : Vec StrategyDefinition Global) (hd : Box DefinitionHead Global) (s : StrategyTree) → Grows done made hd s →
     (ts : List Lexeme) (way : Way) (u : PrimaryTree) (is left : List Item) →
-    GoesToDefinition made k u is left → Runs way left ts → Run (Goes k (B.Definition done f ps) s) way u is ts
-to_definition_sound k done made f ps s h ts way u is left (goes_to_definition d ds t g) r =
+    GoesToDefinition made k u is left → Runs way left ts → Run (Goes k (B.Definition done hd) s) way u is ts
+to_definition_sound k done made hd s h ts way u is left (goes_to_definition d ds t g) r =
     record { left = _; goes = goes_definition t (more_definitions d ds) (g ∙ ap (λ (xs : DefinitionTrees). let_in xs t) (h.then (more_definitions d ds))); runs = r }
 
-to_definition_all : (k : ℕ) (done made : Vec StrategyDefinition Global) (f : Bytes) (ps : Parameters) (s : StrategyTree) → Grows done made f ps s →
+to_definition_all : (k : ℕ) (done made : Vec StrategyDefinition Global) (hd : Box DefinitionHead Global) (s : StrategyTree) → Grows done made hd s →
     (ts : List Lexeme) → NotAt (keyword K.In) ts → (u : PrimaryTree) (is left : List Item) →
-    Goes k (B.Definition done f ps) s u is left → Runs either left ts → Run (GoesToDefinition made k) either u is ts
-to_definition_all k done made f ps s h [] n u is left (goes_definition t no_definitions g) r = absurd r
-to_definition_all k done made f ps s h (x ∷ ts) n u is left (goes_definition t no_definitions g) r = absurd (n ts (ap (λ (y : Lexeme). y ∷ ts) r.0))
-to_definition_all k done made f ps s h ts n u is left (goes_definition t (more_definitions d ds) g) r =
+    Goes k (B.Definition done hd) s u is left → Runs either left ts → Run (GoesToDefinition made k) either u is ts
+to_definition_all k done made hd s h [] n u is left (goes_definition t no_definitions g) r = absurd r
+to_definition_all k done made hd s h (x ∷ ts) n u is left (goes_definition t no_definitions g) r = absurd (n ts (ap (λ (y : Lexeme). y ∷ ts) r.0))
+to_definition_all k done made hd s h ts n u is left (goes_definition t (more_definitions d ds) g) r =
     record { left = _; goes = goes_to_definition d ds t (g ∙ sym (ap (λ (xs : DefinitionTrees). let_in xs t) (h.then (more_definitions d ds)))); runs = r }
 
-pub to_definition_leads : (k : ℕ) (done made : Vec StrategyDefinition Global) (f : Bytes) (ps : Parameters) (s : StrategyTree) → Grows done made f ps s →
-    (ts : List Lexeme) → NotAt (keyword K.In) ts → Leads (Goes k (B.Definition done f ps) s) (GoesToDefinition made k) ts ts
-to_definition_leads k done made f ps s h ts n = record {
-  sound = λ way u is r. to_definition_sound k done made f ps s h ts way u is r.left r.goes r.runs;
-  all = λ u is l r. to_definition_all k done made f ps s h ts n u is r.left r.goes r.runs;
+pub to_definition_leads : (k : ℕ) (done made : Vec StrategyDefinition Global) (hd : Box DefinitionHead Global) (s : StrategyTree) → Grows done made hd s →
+    (ts : List Lexeme) → NotAt (keyword K.In) ts → Leads (Goes k (B.Definition done hd) s) (GoesToDefinition made k) ts ts
+to_definition_leads k done made hd s h ts n = record {
+  sound = λ way u is r. to_definition_sound k done made hd s h ts way u is r.left r.goes r.runs;
+  all = λ u is l r. to_definition_all k done made hd s h ts n u is r.left r.goes r.runs;
   no_longer = omega arith;
 }
 
@@ -176,30 +176,30 @@ pub equals_no_run : (done : Vec StrategyDefinition Global) (k : ℕ) (ts rest mo
     FoundAny parameters (AtMost 3) rest qs more → NotAt (mark M.Equals) more → NoRun (GoesToDefinition done k) ts
 equals_no_run done k ts rest more x qs n q a = record { none = λ u is h r. no_equals done k ts rest more x qs n q a u is r.left r.goes r.runs }
 
-begin_sound : (done : Vec StrategyDefinition Global) (k : ℕ) (ts rest more : List Lexeme) (x : Bytes) (ps : Parameters) → Found one_name (AtMost 5) ts x rest →
-    FoundAny parameters (AtMost 3) rest (parameters_of ps) (mark M.Equals ∷ more) → (way : Way) (u : PrimaryTree) (is left : List Item) →
-    Continues k (states.ToStrategy (B.Definition done x ps) more) u is left → Runs way left more → Run (GoesToDefinition done k) way u is ts
-begin_sound done k ts rest more x ps n q way u is left (at_strategy s (goes_definition t ds g)) r =
-    record { left = _; goes = goes_to_definition (definition (head x (parameters_of ps)) s) ds t g; runs = n.sound way _ (q.sound way _ (refl, r)) }
+begin_sound : (done : Vec StrategyDefinition Global) (k : ℕ) (ts rest more : List Lexeme) (hd : Box DefinitionHead Global) → Found one_name (AtMost 5) ts hd.value.name rest →
+    FoundAny parameters (AtMost 3) rest (parameters_of hd.value.parameters) (mark M.Equals ∷ more) → (way : Way) (u : PrimaryTree) (is left : List Item) →
+    Continues k (states.ToStrategy (B.Definition done hd) more) u is left → Runs way left more → Run (GoesToDefinition done k) way u is ts
+begin_sound done k ts rest more hd n q way u is left (at_strategy s (goes_definition t ds g)) r =
+    record { left = _; goes = goes_to_definition (definition (head_of hd.value) s) ds t g; runs = n.sound way _ (q.sound way _ (refl, r)) }
 
 -- the definition of this name with these parameters
 renamed : (done : Vec StrategyDefinition Global) (x y : Bytes) (qs ps : ParameterTree) (s t : StrategyTree) (ds : DefinitionTrees) → y ≡ x → qs ≡ ps →
     let_in (definitions_with done (definition (head y qs) s) ds) t ≡ let_in (definitions_with done (definition (head x ps) s) ds) t
 renamed done x y qs ps s t ds a b = rw (a, b) refl
 
-begin_all : (done : Vec StrategyDefinition Global) (k : ℕ) (ts rest more : List Lexeme) (x : Bytes) (ps : Parameters) → Found one_name (AtMost 5) ts x rest →
-    FoundAny parameters (AtMost 3) rest (parameters_of ps) (mark M.Equals ∷ more) → (u : PrimaryTree) (is left : List Item) →
-    GoesToDefinition done k u is left → Runs either left ts → Run (Continues k (states.ToStrategy (B.Definition done x ps) more)) either u is more
-begin_all done k ts rest more x ps n q u is left (goes_to_definition (definition (head y qs) s) ds t g) r =
+begin_all : (done : Vec StrategyDefinition Global) (k : ℕ) (ts rest more : List Lexeme) (hd : Box DefinitionHead Global) → Found one_name (AtMost 5) ts hd.value.name rest →
+    FoundAny parameters (AtMost 3) rest (parameters_of hd.value.parameters) (mark M.Equals ∷ more) → (u : PrimaryTree) (is left : List Item) →
+    GoesToDefinition done k u is left → Runs either left ts → Run (Continues k (states.ToStrategy (B.Definition done hd) more)) either u is more
+begin_all done k ts rest more hd n q u is left (goes_to_definition (definition (head y qs) s) ds t g) r =
     let a = n.only_one y _ (parameters_at_most qs _) r in
     let b = q.only_one qs _ (omega arith) a.1 in
-    record { left = _; goes = at_strategy s (goes_definition t ds (g ∙ renamed done x y qs (parameters_of ps) s t ds a.0 b.0)); runs = b.1.1 }
+    record { left = _; goes = at_strategy s (goes_definition t ds (g ∙ renamed done hd.value.name y qs (parameters_of hd.value.parameters) s t ds a.0 b.0)); runs = b.1.1 }
 
-pub begin_leads : (done : Vec StrategyDefinition Global) (k : ℕ) (ts rest more : List Lexeme) (x : Bytes) (ps : Parameters) → Found one_name (AtMost 5) ts x rest →
-    FoundAny parameters (AtMost 3) rest (parameters_of ps) (mark M.Equals ∷ more) →
-    Leads (GoesToDefinition done k) (Continues k (states.ToStrategy (B.Definition done x ps) more)) ts more
-begin_leads done k ts rest more x ps n q = record {
-  sound = λ way u is r. begin_sound done k ts rest more x ps n q way u is r.left r.goes r.runs;
-  all = λ u is h r. begin_all done k ts rest more x ps n q u is r.left r.goes r.runs;
+pub begin_leads : (done : Vec StrategyDefinition Global) (k : ℕ) (ts rest more : List Lexeme) (hd : Box DefinitionHead Global) → Found one_name (AtMost 5) ts hd.value.name rest →
+    FoundAny parameters (AtMost 3) rest (parameters_of hd.value.parameters) (mark M.Equals ∷ more) →
+    Leads (GoesToDefinition done k) (Continues k (states.ToStrategy (B.Definition done hd) more)) ts more
+begin_leads done k ts rest more hd n q = record {
+  sound = λ way u is r. begin_sound done k ts rest more hd n q way u is r.left r.goes r.runs;
+  all = λ u is h r. begin_all done k ts rest more hd n q u is r.left r.goes r.runs;
   no_longer = omega (arith, n.shorter, q.no_longer);
 }

@@ -33,6 +33,7 @@ pub mod SequenceLaws
 pub mod SeveralLaws
 pub mod SortLaws
 pub mod SortLists
+pub mod StandingLaws
 pub mod StrategyParts
 pub mod TokenLaws
 pub mod TypeLaws

@@ -125,7 +125,7 @@ completed k (B.Recursive x) s = record { tree = _; left = _; goes = λ is. goes_
 completed k B.Condition s = record { tree = _; left = _; goes = λ is. goes_condition {t = s} }
 completed k (B.Consequence c) s = record { tree = _; left = _; goes = λ is. goes_consequence }
 completed k (B.Alternative c t) s = record { tree = _; left = _; goes = λ is. goes_alternative }
-completed k (B.Definition done f ps) s = record { tree = _; left = _; goes = λ is. goes_definition s no_definitions refl }
+completed k (B.Definition done hd) s = record { tree = _; left = _; goes = λ is. goes_definition s no_definitions refl }
 completed k (B.LetBody done) s = record { tree = _; left = _; goes = λ is. goes_let_body refl }
 completed k (B.RuleCondition l r) s = record { tree = _; left = _; goes = λ is. goes_rule_condition }
 

@@ -1,5 +1,5 @@
 -- Tokens after a pattern in a primary with which it does not go on.
-use Rattle.std.proofs.Common.{ℕ, List, refl, Vec, Global}
+use Rattle.std.proofs.Common.{ℕ, List, refl, Box, Vec, Global}
 use Rattle.str_lexer.specs.declared.token.Mark.TheVariants as M
 use Rattle.str_syntax.specs.declared.strategy.Pattern.{Pattern}
 use Rattle.str_syntax.specs.declared.strategy.Strategy.{Strategy}
@@ -11,13 +11,13 @@ use Rattle.str_parser.specs.Begun.{GoesBy, goes_terms, goes_primitive, goes_rule
 use Rattle.str_parser.specs.declared.begun.BeforePattern.TheVariants as P
 use Rattle.str_parser.proofs.WholeLaws.{not_along}
 
-not_terms : (k : ℕ) (f : Bytes) (ss : Vec Strategy Global) (done : Vec Pattern Global) (p : PatternTree) (ts : List Lexeme) →
+not_terms : (k : ℕ) (f : Bytes) (ss : Vec Strategy Global) (done : Box (Vec Pattern Global) Global) (p : PatternTree) (ts : List Lexeme) →
     NotAt (mark M.Comma) ts → NotAt (mark M.CloseParenthesis) ts →
     (u : PrimaryTree) (is left : List Item) → GoesBy k (P.Terms f ss done) p u is left → Runs either left ts → ⊥
 not_terms k f ss done p ts comma close u is left (goes_terms no_patterns e) r = not_along (mark M.CloseParenthesis) left ts refl close r
 not_terms k f ss done p ts comma close u is left (goes_terms (more_patterns q ps) e) r = not_along (mark M.Comma) left ts refl comma r
 
-pub no_terms : (k : ℕ) (f : Bytes) (ss : Vec Strategy Global) (done : Vec Pattern Global) (p : PatternTree) (ts : List Lexeme) →
+pub no_terms : (k : ℕ) (f : Bytes) (ss : Vec Strategy Global) (done : Box (Vec Pattern Global) Global) (p : PatternTree) (ts : List Lexeme) →
     NotAt (mark M.Comma) ts → NotAt (mark M.CloseParenthesis) ts → NoRun (GoesBy k (P.Terms f ss done) p) ts
 no_terms k f ss done p ts comma close = record { none = λ u is h r. not_terms k f ss done p ts comma close u is r.left r.goes r.runs }
 

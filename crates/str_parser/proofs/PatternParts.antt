@@ -51,22 +51,22 @@ apply_to_ends k s p ts = record {
 
 -- ---- f(s, .. | p, .., p
 
-terms_more_sound : (k : ℕ) (f : Bytes) (ss : Vec Strategy Global) (done made : Vec Pattern Global) (part : Pattern) → made.items ≡ done.items ++ (part ∷ []) →
+terms_more_sound : (k : ℕ) (f : Bytes) (ss : Vec Strategy Global) (done made : Box (Vec Pattern Global) Global) (part : Pattern) → made.value.items ≡ done.value.items ++ (part ∷ []) →
     (rest : List Lexeme) (way : Way) (u : PrimaryTree) (is left : List Item) →
     Continues k (states.ToPattern (P.Terms f ss made) rest) u is left → Runs way left rest →
     Run (GoesBy k (P.Terms f ss done) (pattern_of part)) way u is (mark M.Comma ∷ rest)
 terms_more_sound k f ss done made part e rest way u is left (at_pattern q (goes_terms ps g)) r =
-    record { left = _; goes = goes_terms (more_patterns q ps) (g ∙ ap (λ qs. call f (all_arguments (strategies_of ss.items) qs)) (patterns_pushed done made part q ps e)); runs = (refl, r) }
+    record { left = _; goes = goes_terms (more_patterns q ps) (g ∙ ap (λ qs. call f (all_arguments (strategies_of ss.items) qs)) (patterns_pushed done.value made.value part q ps e)); runs = (refl, r) }
 
-terms_more_all : (k : ℕ) (f : Bytes) (ss : Vec Strategy Global) (done made : Vec Pattern Global) (part : Pattern) → made.items ≡ done.items ++ (part ∷ []) →
+terms_more_all : (k : ℕ) (f : Bytes) (ss : Vec Strategy Global) (done made : Box (Vec Pattern Global) Global) (part : Pattern) → made.value.items ≡ done.value.items ++ (part ∷ []) →
     (rest : List Lexeme) (u : PrimaryTree) (is left : List Item) →
     GoesBy k (P.Terms f ss done) (pattern_of part) u is left → Runs either left (mark M.Comma ∷ rest) →
     Run (Continues k (states.ToPattern (P.Terms f ss made) rest)) either u is rest
 terms_more_all k f ss done made part e rest u is left (goes_terms no_patterns g) r = let t = r.0 in cc
 terms_more_all k f ss done made part e rest u is left (goes_terms (more_patterns q ps) g) r =
-    record { left = _; goes = at_pattern q (goes_terms ps (g ∙ sym (ap (λ qs. call f (all_arguments (strategies_of ss.items) qs)) (patterns_pushed done made part q ps e)))); runs = r.1 }
+    record { left = _; goes = at_pattern q (goes_terms ps (g ∙ sym (ap (λ qs. call f (all_arguments (strategies_of ss.items) qs)) (patterns_pushed done.value made.value part q ps e)))); runs = r.1 }
 
-pub terms_more_leads : (k : ℕ) (f : Bytes) (ss : Vec Strategy Global) (done made : Vec Pattern Global) (part : Pattern) → made.items ≡ done.items ++ (part ∷ []) →
+pub terms_more_leads : (k : ℕ) (f : Bytes) (ss : Vec Strategy Global) (done made : Box (Vec Pattern Global) Global) (part : Pattern) → made.value.items ≡ done.value.items ++ (part ∷ []) →
     (rest : List Lexeme) →
     Leads (GoesBy k (P.Terms f ss done) (pattern_of part)) (Continues k (states.ToPattern (P.Terms f ss made) rest)) (mark M.Comma ∷ rest) rest
 terms_more_leads k f ss done made part e rest = record {
@@ -75,18 +75,18 @@ terms_more_leads k f ss done made part e rest = record {
   no_longer = omega arith;
 }
 
-terms_end_all : (k : ℕ) (f : Bytes) (ss : Vec Strategy Global) (done made : Vec Pattern Global) (part : Pattern) → made.items ≡ done.items ++ (part ∷ []) →
+terms_end_all : (k : ℕ) (f : Bytes) (ss : Vec Strategy Global) (done made : Box (Vec Pattern Global) Global) (part : Pattern) → made.value.items ≡ done.value.items ++ (part ∷ []) →
     (rest : List Lexeme) (u : PrimaryTree) (is left : List Item) →
     GoesBy k (P.Terms f ss done) (pattern_of part) u is left → Runs either left (mark M.CloseParenthesis ∷ rest) →
-    (u ≡ call f (all_arguments (strategies_of ss.items) (patterns_of made.items))) × Runs either is rest
-terms_end_all k f ss done made part e rest u is left (goes_terms no_patterns g) r = (g ∙ ap (λ qs. call f (all_arguments (strategies_of ss.items) qs)) (patterns_ended done made part e), r.1)
+    (u ≡ call f (all_arguments (strategies_of ss.items) (patterns_of made.value.items))) × Runs either is rest
+terms_end_all k f ss done made part e rest u is left (goes_terms no_patterns g) r = (g ∙ ap (λ qs. call f (all_arguments (strategies_of ss.items) qs)) (patterns_ended done.value made.value part e), r.1)
 terms_end_all k f ss done made part e rest u is left (goes_terms (more_patterns q ps) g) r = let t = r.0 in cc
 
-pub terms_ends : (k : ℕ) (f : Bytes) (ss : Vec Strategy Global) (done made : Vec Pattern Global) (part : Pattern) → made.items ≡ done.items ++ (part ∷ []) →
+pub terms_ends : (k : ℕ) (f : Bytes) (ss : Vec Strategy Global) (done made : Box (Vec Pattern Global) Global) (part : Pattern) → made.value.items ≡ done.value.items ++ (part ∷ []) →
     (rest : List Lexeme) →
-    EndsWith (GoesBy k (P.Terms f ss done) (pattern_of part)) (call f (all_arguments (strategies_of ss.items) (patterns_of made.items))) (mark M.CloseParenthesis ∷ rest) rest
+    EndsWith (GoesBy k (P.Terms f ss done) (pattern_of part)) (call f (all_arguments (strategies_of ss.items) (patterns_of made.value.items))) (mark M.CloseParenthesis ∷ rest) rest
 terms_ends k f ss done made part e rest = record {
-  sound = λ way is r. record { left = _; goes = goes_terms no_patterns (sym (ap (λ qs. call f (all_arguments (strategies_of ss.items) qs)) (patterns_ended done made part e))); runs = (refl, r) };
+  sound = λ way is r. record { left = _; goes = goes_terms no_patterns (sym (ap (λ qs. call f (all_arguments (strategies_of ss.items) qs)) (patterns_ended done.value made.value part e))); runs = (refl, r) };
   all = λ u is h r. terms_end_all k f ss done made part e rest u is r.left r.goes r.runs;
   no_longer = omega arith;
 }

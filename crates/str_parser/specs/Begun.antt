@@ -7,17 +7,17 @@ use Rattle.str_parser.specs.declared.refusal.Refusal.TheVariants as refusals
 use Rattle.str_lexer.specs.declared.token.Mark.TheVariants as M
 use Rattle.str_lexer.specs.declared.token.Keyword.TheVariants as K
 use Rattle.str_syntax.specs.declared.strategy.Operator.{Operator}
-use Rattle.str_syntax.specs.declared.strategy.Parameters.{Parameters}
+use Rattle.str_syntax.specs.declared.strategy.DefinitionHead.{DefinitionHead}
 use Rattle.str_syntax.specs.declared.strategy.Pattern.{Pattern}
 use Rattle.str_syntax.specs.declared.strategy.Primary.{Primary}
 use Rattle.str_syntax.specs.declared.strategy.Strategy.{Strategy}
 use Rattle.str_syntax.specs.declared.strategy.StrategyDefinition.{StrategyDefinition}
-use Rattle.str_syntax.specs.Trees.{Bytes, PatternTree, alias, application, grouped, tuple, list, annotated, applied, applied_to, PatternTrees, no_patterns, more_patterns, StrategyTree, StrategyTrees, no_strategies, more_strategies, SequenceTree, PrimaryTree, match, build, apply, parenthesized, scope, operator, conditional, recursive, let_in, primitive, lambda, call, tuple_congruence, list_congruence, rewrites, DefinitionTree, definition, DefinitionTrees, no_definitions, more_definitions, no_strategy, one_strategy, no_pattern, one_pattern, strategy_arguments, all_arguments, head}
-use Rattle.str_syntax.specs.Views.{pattern_of, strategy_of, primary_of, definition_of, parameters_of, strategies_of, patterns_of}
+use Rattle.str_syntax.specs.Trees.{Bytes, PatternTree, alias, application, grouped, tuple, list, annotated, applied, applied_to, PatternTrees, no_patterns, more_patterns, StrategyTree, StrategyTrees, no_strategies, more_strategies, SequenceTree, PrimaryTree, match, build, apply, parenthesized, scope, operator, conditional, recursive, let_in, primitive, lambda, call, tuple_congruence, list_congruence, rewrites, DefinitionTree, definition, DefinitionTrees, no_definitions, more_definitions, no_strategy, one_strategy, no_pattern, one_pattern, strategy_arguments, all_arguments}
+use Rattle.str_syntax.specs.Views.{pattern_of, strategy_of, primary_of, definition_of, head_of, strategies_of, patterns_of}
 use Rattle.str_parser.specs.Lexemes.{Lexeme, strategy_part}
 use Rattle.str_parser.specs.Items.{Item, part, no_build, Way, either}
 use Rattle.str_parser.specs.Phrases.{sign, word, pattern_part, takes_annotations, pattern, patterns, other_patterns, strategy, other_strategies, sequence, defined, definitions, primary}
-use Rattle.str_parser.specs.Readings.{strength, Run, Leads, NoRun}
+use Rattle.str_parser.specs.Readings.{strength, AtMost, IsFault, Run, Leads, NoRun}
 use Rattle.str_parser.specs.declared.begun.BeforeStrategy.{BeforeStrategy}
 use Rattle.str_parser.specs.declared.begun.BeforeStrategy.TheVariants as B
 use Rattle.str_parser.specs.declared.begun.BeforePattern.{BeforePattern}
@@ -113,9 +113,9 @@ pub data Goes (k : ℕ) : BeforeStrategy → StrategyTree → PrimaryTree → Li
       Goes k (B.Consequence c) s (conditional (strategy_of c.value) s (one_strategy t)) is (word K.Else ∷ inner_strategy (k + 1) t (word K.End ∷ is))
   goes_alternative : {c t : Box Strategy Global} {s : StrategyTree} {is : List Item} →
       Goes k (B.Alternative c t) s (conditional (strategy_of c.value) (strategy_of t.value) (one_strategy s)) is (word K.End ∷ is)
-  goes_definition : {done : Vec StrategyDefinition Global} {f : Bytes} {ps : Parameters} {s : StrategyTree} (t : StrategyTree) (ds : DefinitionTrees) {u : PrimaryTree} {is : List Item} →
-      u ≡ let_in (definitions_with done (definition (head f (parameters_of ps)) s) ds) t →
-      Goes k (B.Definition done f ps) s u is (definitions (k + 1) ds (word K.In ∷ inner_strategy (k + 1) t (word K.End ∷ is)))
+  goes_definition : {done : Vec StrategyDefinition Global} {h : Box DefinitionHead Global} {s : StrategyTree} (t : StrategyTree) (ds : DefinitionTrees) {u : PrimaryTree} {is : List Item} →
+      u ≡ let_in (definitions_with done (definition (head_of h.value) s) ds) t →
+      Goes k (B.Definition done h) s u is (definitions (k + 1) ds (word K.In ∷ inner_strategy (k + 1) t (word K.End ∷ is)))
   goes_let_body : {done : Vec StrategyDefinition Global} {s : StrategyTree} {u : PrimaryTree} {is : List Item} →
       u ≡ let_in (definitions_then (map definition_of done.items) no_definitions) s → Goes k (B.LetBody done) s u is (word K.End ∷ is)
   goes_rule_condition : {l r : Box Pattern Global} {s : StrategyTree} {is : List Item} →
@@ -126,8 +126,8 @@ pub data GoesBy (k : ℕ) : BeforePattern → PatternTree → PrimaryTree → Li
   goes_match : {p : PatternTree} {is : List Item} → GoesBy k P.Match p (match p) is is
   goes_build : {p : PatternTree} {is : List Item} → GoesBy k P.Build p (build p) is is
   goes_apply_to : {s : Box Strategy Global} {p : PatternTree} {is : List Item} → GoesBy k (P.ApplyTo s) p (apply (strategy_of s.value) p) is is
-  goes_terms : {f : Bytes} {ss : Vec Strategy Global} {done : Vec Pattern Global} {p : PatternTree} (ps : PatternTrees) {u : PrimaryTree} {is : List Item} →
-      u ≡ call f (all_arguments (strategies_of ss.items) (patterns_with done p ps)) →
+  goes_terms : {f : Bytes} {ss : Vec Strategy Global} {done : Box (Vec Pattern Global) Global} {p : PatternTree} (ps : PatternTrees) {u : PrimaryTree} {is : List Item} →
+      u ≡ call f (all_arguments (strategies_of ss.items) (patterns_with done.value p ps)) →
       GoesBy k (P.Terms f ss done) p u is (other_patterns false (k + 1) ps (sign M.CloseParenthesis ∷ is))
   goes_primitive : {f : Bytes} {done : Vec Pattern Global} {p : PatternTree} (ps : PatternTrees) {u : PrimaryTree} {is : List Item} →
       u ≡ primitive f (patterns_with done p ps) → GoesBy k (P.Primitive f done) p u is (other_patterns false (k + 1) ps (sign M.CloseParenthesis ∷ is))
@@ -178,12 +178,27 @@ IsNext Rest ts (Err refusals.Memory) = Unit {0}
 IsNext Rest ts (Err (refusals.Syntax _ _)) = (k : ℕ) → NoRun (Rest k) ts
 IsNext Rest ts (Err _) = ⊥
 
+-- what has been read of a primary leads here, or is a fault of it
+abbrev pub Stands : ℕ → List Lexeme → Result Begun Refusal → Type 0
+Stands k ts (Ok b) = Leads (Written k) (Continues k b) ts (following b)
+Stands k ts (Err e) = IsFault (primary k) (AtMost 3) ts e
+
+-- one more than the tokens that are left, or nothing at a fault
+abbrev pub left_in : Result Begun Refusal → ℕ
+left_in (Ok b) = length (following b) + 1
+left_in (Err e) = 0
+
 -- a primary that has been read up to this strategy and has it
 abbrev pub HasStrategy : BeforeStrategy → StrategyTree → ℕ → PrimaryTree → List Item → List Item → Type 0
 HasStrategy before s k = Goes k before s
 
 abbrev pub HasPattern : BeforePattern → PatternTree → ℕ → PrimaryTree → List Item → List Item → Type 0
 HasPattern before p k = GoesBy k before p
+
+-- the same after a part in it was read, or refused
+abbrev pub IsNextAfter : {T X : Type 0} → (T → ℕ → PrimaryTree → List Item → List Item → Type 0) → (X → T) → Result (X × List Lexeme) Refusal → Result Begun Refusal → Type 0
+IsNextAfter Has tree_of (Ok (x, rest)) begun = IsNext (Has (tree_of x)) rest begun
+IsNextAfter Has tree_of (Err e) begun = begun ≡ Err e
 
 -- ---- patterns
 

@@ -1,7 +1,7 @@
 // Strategies and patterns of which the first tokens have been read.
 use crate::input::Input;
 use str_syntax::{
-    Name, Operator, Parameters, Pattern, Primary, Strategy, StrategyDefinition, Text,
+    DefinitionHead, Name, Operator, Pattern, Primary, Strategy, StrategyDefinition, Text,
 };
 
 // A primary that has been read up to a strategy in it.
@@ -30,7 +30,7 @@ pub(crate) enum BeforeStrategy {
     // `if s then s else`
     Alternative(Box<Strategy>, Box<Strategy>),
     // `let .. f(..) =`
-    Definition(Vec<StrategyDefinition>, Name, Parameters),
+    Definition(Vec<StrategyDefinition>, Box<DefinitionHead>),
     // `let .. in`
     LetBody(Vec<StrategyDefinition>),
     // `\ p -> p where`
@@ -47,7 +47,7 @@ pub(crate) enum BeforePattern {
     // `< s >`
     ApplyTo(Box<Strategy>),
     // `f(s, .. | p, ..,`
-    Terms(Name, Vec<Strategy>, Vec<Pattern>),
+    Terms(Name, Vec<Strategy>, Box<Vec<Pattern>>),
     // `prim("f", p, ..,`
     Primitive(Text, Vec<Pattern>),
     // `\`

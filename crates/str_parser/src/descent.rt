@@ -1,15 +1,16 @@
 // Strategies and patterns from tokens, by recursive descent with one token of look-ahead.
-ghost use Rattle.std.specs.Prelude.{◌≡◌, ◌+◌, ◌≤◌, Bool, true, false, List, ◌∷◌};
+ghost use Rattle.std.specs.Prelude.{◌≡◌, ◌+◌, ◌≤◌, Bool, true, false, List, ◌∷◌, length};
 ghost use Rattle.str_lexer.specs.declared.token.Mark.TheVariants as M;
 ghost use Rattle.str_syntax.specs.Views.{pattern_of, sequence_of, step_of, strategy_of};
 ghost use Rattle.str_parser.specs.Items.{max_level};
 ghost use Rattle.str_parser.specs.Lexemes.{Lexeme as L, mark, strategy_part, first_begins};
 ghost use Rattle.str_parser.specs.Phrases.{step, primary};
-ghost use Rattle.str_parser.specs.Readings.{AtMost, Found, IsReading};
-ghost use Rattle.str_parser.specs.Begun.{inner_strategy, inner_sequence, inner_pattern, boxed_primary_of};
+ghost use Rattle.str_parser.specs.Readings.{AtMost, Found, IsReading, Leads};
+ghost use Rattle.str_parser.specs.Begun.{inner_strategy, inner_sequence, inner_pattern, boxed_primary_of, Written, Continues, Stands, left_in};
+ghost use Rattle.str_parser.specs.declared.begun.Begun.TheVariants as states;
 ghost use Rattle.str_parser.specs.Beyond.{IsBeyondFault};
 
-use crate::begun::{Begun, BegunPattern};
+use crate::begun::{BeforePattern, Begun, BegunPattern};
 use crate::expected::Expected;
 use crate::file::MAX_LEVEL;
 use crate::input::{Input, Lexeme};
@@ -82,8 +83,7 @@ pub(crate) fn strategy<'a>(
     }
     let (first, rest) = sequence(alloc, input, level)?;
     if let Some(following) = rest.after(Mark::LeftChoice) {
-        let (other, rest) = strategy(alloc, following, level + 1)?;
-        return Ok((Strategy::LeftChoice(first, Box::new(alloc, other)?), rest));
+        return left_choice(alloc, first, following, level);
     }
     let Some(following) = rest.after(Mark::Less) else {
         return Ok((Strategy::Sequence(first), rest));
@@ -91,8 +91,25 @@ pub(crate) fn strategy<'a>(
     guarded_choice(alloc, first, following, level)
 }
 
+// Reads the left choice at this level of which the first sequence and `<+` stand before the tokens; also returns the tokens after it.
+#[cycle(phrase)]
+#[inline(never)]
+fn left_choice<'a>(
+    alloc: Global,
+    first: Sequence,
+    input: Input<'a>,
+    level: u32,
+) -> Result<(Strategy, Input<'a>), Refusal>
+    requires { level ≤ max_level }
+    ensures { (ts : List L) → Found (inner_sequence level) (AtMost 1) ts (sequence_of first) (mark M.LeftChoice ∷ input.entry) → IsReading (inner_strategy level) (AtMost 0) strategy_of ts result }
+{
+    let (other, rest) = strategy(alloc, input, level + 1)?;
+    Ok((Strategy::LeftChoice(first, Box::new(alloc, other)?), rest))
+}
+
 // Reads the guarded choice at this level of which the first sequence and `<` stand before the tokens; also returns the tokens after it.
 #[cycle(phrase)]
+#[inline(never)]
 fn guarded_choice<'a>(
     alloc: Global,
     first: Sequence,
@@ -128,7 +145,22 @@ fn sequence<'a>(
     let Some(following) = rest.after(Mark::Semicolon) else {
         return Ok((Sequence::Last(first), rest));
     };
-    let (others, rest) = sequence(alloc, following, level + 1)?;
+    then(alloc, first, following, level)
+}
+
+// Reads the sequence at this level of which the first step and `;` stand before the tokens; also returns the tokens after it.
+#[cycle(phrase)]
+#[inline(never)]
+fn then<'a>(
+    alloc: Global,
+    first: Step,
+    input: Input<'a>,
+    level: u32,
+) -> Result<(Sequence, Input<'a>), Refusal>
+    requires { level ≤ max_level }
+    ensures { (ts : List L) → Found (step level) (AtMost 2) ts (step_of first) (mark M.Semicolon ∷ input.entry) → IsReading (inner_sequence level) (AtMost 1) sequence_of ts result }
+{
+    let (others, rest) = sequence(alloc, input, level + 1)?;
     Ok((Sequence::Then(first, Box::new(alloc, others)?), rest))
 }
 
@@ -142,7 +174,22 @@ fn step<'a>(alloc: Global, input: Input<'a>, level: u32) -> Result<(Step, Input<
     let Some(following) = rest.after(Mark::DoubleArrow) else {
         return Ok((Step::Plain(first), rest));
     };
-    let (matched, rest) = pattern(alloc, following, true, level + 1)?;
+    matching(alloc, first, following, level)
+}
+
+// Reads the step at this level of which the primary and `=>` stand before the tokens; also returns the tokens after it.
+#[cycle(phrase)]
+#[inline(never)]
+fn matching<'a>(
+    alloc: Global,
+    first: Box<Primary>,
+    input: Input<'a>,
+    level: u32,
+) -> Result<(Step, Input<'a>), Refusal>
+    requires { level ≤ max_level }
+    ensures { (ts : List L) → Found (primary level) (AtMost 3) ts (boxed_primary_of first) (mark M.DoubleArrow ∷ input.entry) → IsReading (step level) (AtMost 2) step_of ts result }
+{
+    let (matched, rest) = pattern(alloc, input, true, level + 1)?;
     Ok((Step::Matching(first, Box::new(alloc, matched)?), rest))
 }
 
@@ -156,20 +203,35 @@ fn primary<'a>(
     requires { level ≤ max_level }
     ensures { IsReading (primary level) (AtMost 3) boxed_primary_of input.entry result }
 {
-    let mut begun = primary_begin::begin(alloc, input)?;
+    let mut begun = primary_begin::begin(alloc, input);
     loop {
         begun = match begun {
-            Begun::Whole(made, rest) => return Ok((made, rest)),
-            Begun::ToStrategy(before, rest) => {
-                let (part, rest) = strategy(alloc, rest, level + 1)?;
-                before.with(alloc, part, rest)?
+            Ok(Begun::Whole(made, rest)) => return Ok((made, rest)),
+            Ok(Begun::ToStrategy(before, rest)) => {
+                let part = strategy(alloc, rest, level + 1);
+                before.after(alloc, part)
             }
-            Begun::ToPattern(before, rest) => {
-                let (part, rest) = pattern(alloc, rest, before.in_match(), level + 1)?;
-                before.with(alloc, part, rest)?
-            }
+            Ok(Begun::ToPattern(before, rest)) => with_pattern(alloc, before, rest, level),
+            Err(refusal) => return Err(refusal),
         };
     }
+}
+
+// Reads the pattern that comes next in the primary at this level, which has been read up to there, and goes on to its next part.
+#[cycle(phrase)]
+#[inline(never)]
+fn with_pattern<'a>(
+    alloc: Global,
+    before: BeforePattern,
+    input: Input<'a>,
+    level: u32,
+) -> Result<Begun<'a>, Refusal>
+    requires { level ≤ max_level }
+    ensures stands { (ts : List L) → Leads (Written level) (Continues level (states.ToPattern before input.entry)) ts input.entry → Stands level ts result }
+    ensures fewer { left_in result ≤ length input.entry }
+{
+    let part = pattern(alloc, input, before.in_match(), level + 1);
+    before.after(alloc, part)
 }
 
 // Reads the pattern at this level that the tokens begin with, in a match or in a build; also returns the tokens after it.

@@ -27,6 +27,7 @@ pub(crate) fn whole<'a>(
 }
 
 // The primary that the tokens begin with, up to its first part.
+#[inline(never)]
 pub(crate) fn begin<'a>(alloc: Global, input: Input<'a>) -> Result<Begun<'a>, Refusal>
     ensures { IsNext Written input.entry result }
 {
@@ -203,9 +204,9 @@ pub(crate) fn begin_terms<'a>(
 ) -> Result<Begun<'a>, Refusal>
     ensures { IsNext (GoesBehindBar called strategies) input.entry result }
 {
-    let terms: Vec<Pattern> = Vec::new(alloc);
+    let terms: Box<Vec<Pattern>> = Box::new(alloc, Vec::new(alloc))?;
     if let Some(rest) = input.after(Mark::CloseParenthesis) {
-        let arguments = Arguments::WithTerms(strategies, Box::new(alloc, terms)?);
+        let arguments = Arguments::WithTerms(strategies, terms);
         let made = Primary::Call(called, arguments);
         return whole(alloc, made, rest);
     }

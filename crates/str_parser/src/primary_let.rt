@@ -10,7 +10,7 @@ use crate::primary_begin::whole;
 use crate::refusal::Refusal;
 use std::alloc::Global;
 use str_lexer::{Keyword, Mark};
-use str_syntax::{DefinitionHead, Name, Parameters, Primary, Strategy, StrategyDefinition};
+use str_syntax::{DefinitionHead, Primary, Strategy, StrategyDefinition};
 
 // The next definition of a let, after these. Where none begins, that is what was expected.
 pub(crate) fn begin_definition<'a>(
@@ -21,12 +21,13 @@ pub(crate) fn begin_definition<'a>(
 ) -> Result<Begun<'a>, Refusal>
     ensures { IsNext (GoesToDefinition done) input.entry result }
 {
-    let (defined, rest) = name(alloc, input, expected)?;
+    let (name, rest) = name(alloc, input, expected)?;
     let (parameters, rest) = parameters(alloc, rest)?;
     let Some(following) = rest.after(Mark::Equals) else {
         return Err(rest.syntax(Expected::Equals));
     };
-    let before = BeforeStrategy::Definition(done, defined, parameters);
+    let head = Box::new(alloc, DefinitionHead { name, parameters })?;
+    let before = BeforeStrategy::Definition(done, head);
     Ok(Begun::ToStrategy(before, following))
 }
 
@@ -34,16 +35,15 @@ pub(crate) fn begin_definition<'a>(
 pub(crate) fn definition<'a>(
     alloc: Global,
     done: Vec<StrategyDefinition>,
-    name: Name,
-    parameters: Parameters,
+    head: Box<DefinitionHead>,
     body: Strategy,
     input: Input<'a>,
 ) -> Result<Begun<'a>, Refusal>
-    ensures { IsNext (HasStrategy (BeforeStrategy.Definition done name parameters) (strategy_of body)) input.entry result }
+    ensures { IsNext (HasStrategy (BeforeStrategy.Definition done head) (strategy_of body)) input.entry result }
 {
     let mut definitions = done;
     let body = Box::new(alloc, body)?;
-    let head = DefinitionHead { name, parameters };
+    let head = Box::into_inner(head);
     definitions.push(StrategyDefinition { head, body })?;
     if let Some(following) = input.after_keyword(Keyword::In) {
         return Ok(Begun::ToStrategy(BeforeStrategy::LetBody(definitions), following));

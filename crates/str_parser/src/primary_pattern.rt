@@ -1,7 +1,7 @@
 // The tokens of a primary after a pattern in it.
 ghost use Rattle.std.specs.Prelude.{◌≡◌};
 ghost use Rattle.str_syntax.specs.Views.{pattern_of, primary_of};
-ghost use Rattle.str_parser.specs.Begun.{IsNext, HasPattern, wants_match};
+ghost use Rattle.str_parser.specs.Begun.{IsNext, IsNextAfter, HasPattern, wants_match};
 
 use crate::begun::{BeforePattern, Begun};
 use crate::expected::Expected;
@@ -21,14 +21,24 @@ impl BeforePattern {
         matches!(self, BeforePattern::Match | BeforePattern::RuleLeft)
     }
 
-    // The primary with this pattern after what has been read, up to its next part.
-    #[inline(always)]
-    pub(crate) fn with<'a>(
+    // The same with the pattern that was read, or the refusal of it.
+    #[inline(never)]
+    pub(crate) fn after<'a>(
         self,
         alloc: Global,
-        part: Pattern,
-        input: Input<'a>,
+        read: Result<(Pattern, Input<'a>), Refusal>,
     ) -> Result<Begun<'a>, Refusal>
+        ensures { IsNextAfter (HasPattern self) pattern_of read.entry result }
+    {
+        match read {
+            Ok((part, rest)) => self.with(alloc, part, rest),
+            Err(refusal) => Err(refusal),
+        }
+    }
+
+    // The primary with this pattern after what has been read, up to its next part.
+    #[inline(always)]
+    fn with<'a>(self, alloc: Global, part: Pattern, input: Input<'a>) -> Result<Begun<'a>, Refusal>
         ensures { IsNext (HasPattern self (pattern_of part)) input.entry result }
     {
         match self {
@@ -61,7 +71,7 @@ fn terms<'a>(
     alloc: Global,
     called: Name,
     strategies: Vec<Strategy>,
-    done: Vec<Pattern>,
+    done: Box<Vec<Pattern>>,
     part: Pattern,
     input: Input<'a>,
 ) -> Result<Begun<'a>, Refusal>
@@ -76,7 +86,7 @@ fn terms<'a>(
     let Some(rest) = input.after(Mark::CloseParenthesis) else {
         return Err(input.syntax(Expected::CommaOrParenthesis));
     };
-    let arguments = Arguments::WithTerms(strategies, Box::new(alloc, parts)?);
+    let arguments = Arguments::WithTerms(strategies, parts);
     let made = Primary::Call(called, arguments);
     whole(alloc, made, rest)
 }

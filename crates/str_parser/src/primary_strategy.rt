@@ -1,6 +1,6 @@
 // The tokens of a primary after a strategy in it.
 ghost use Rattle.str_syntax.specs.Views.{strategy_of};
-ghost use Rattle.str_parser.specs.Begun.{IsNext, HasStrategy};
+ghost use Rattle.str_parser.specs.Begun.{IsNext, IsNextAfter, HasStrategy};
 
 use crate::begun::{BeforePattern, BeforeStrategy, Begun};
 use crate::expected::Expected;
@@ -14,14 +14,24 @@ use str_lexer::{Keyword, Mark};
 use str_syntax::{Arguments, Name, Operator, Primary, Strategy};
 
 impl BeforeStrategy {
-    // The primary with this strategy after what has been read, up to its next part.
-    #[inline(always)]
-    pub(crate) fn with<'a>(
+    // The same with the strategy that was read, or the refusal of it.
+    #[inline(never)]
+    pub(crate) fn after<'a>(
         self,
         alloc: Global,
-        part: Strategy,
-        input: Input<'a>,
+        read: Result<(Strategy, Input<'a>), Refusal>,
     ) -> Result<Begun<'a>, Refusal>
+        ensures { IsNextAfter (HasStrategy self) strategy_of read.entry result }
+    {
+        match read {
+            Ok((part, rest)) => self.with(alloc, part, rest),
+            Err(refusal) => Err(refusal),
+        }
+    }
+
+    // The primary with this strategy after what has been read, up to its next part.
+    #[inline(always)]
+    fn with<'a>(self, alloc: Global, part: Strategy, input: Input<'a>) -> Result<Begun<'a>, Refusal>
         ensures { IsNext (HasStrategy self (strategy_of part)) input.entry result }
     {
         match self {
@@ -38,9 +48,7 @@ impl BeforeStrategy {
             BeforeStrategy::Alternative(condition, then) => {
                 alternative(alloc, condition, then, part, input)
             }
-            BeforeStrategy::Definition(done, name, parameters) => {
-                definition(alloc, done, name, parameters, part, input)
-            }
+            BeforeStrategy::Definition(done, head) => definition(alloc, done, head, part, input),
             BeforeStrategy::LetBody(definitions) => let_body(alloc, definitions, part, input),
             BeforeStrategy::RuleCondition(left, right) => {
                 rule_condition(alloc, left, right, part, input)

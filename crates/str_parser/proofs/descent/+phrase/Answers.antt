@@ -5,12 +5,13 @@ use Rattle.std.proofs.lemmas.Result.{err_from_is_err_and}
 use Rattle.str_syntax.specs.Views.{strategy_of, pattern_of}
 use Rattle.str_parser.specs.Phrases.{step, primary}
 use Rattle.str_parser.specs.Readings.{AtMost}
-use Rattle.str_parser.specs.Begun.{inner_strategy, inner_sequence, inner_pattern, Written, WrittenPattern, HasStrategy, HasPattern, HasInner, GoesApplied, GoesAnnotated, wants_match}
+use Rattle.str_parser.specs.Begun.{inner_strategy, inner_sequence, inner_pattern, WrittenPattern, HasInner, GoesApplied, GoesAnnotated}
 use Rattle.str_parser.proofs.FaultLaws.{fault_means}
-use Rattle.str_parser.proofs.DescentFaults.{beyond_fault, syntax_fault, next_fault, next_pattern_fault}
+use Rattle.str_parser.proofs.DescentFaults.{beyond_fault, syntax_fault, next_pattern_fault}
 use Rattle.str_parser.proofs.ChoiceLaws.{strategy_nested, strategy_beyond, missing_sequence, nested_sequence, found_plain, missing_right, nested_right, found_choice, missing_first, nested_first, missing_plus, missing_second, nested_second, found_guarded}
 use Rattle.str_parser.proofs.SequenceLaws.{sequence_nested, sequence_beyond, missing_step, nested_step, found_last, missing_others, nested_others, found_then, missing_primary, nested_primary, found_plain_step, missing_matched, nested_matched, found_matching}
-use Rattle.str_parser.proofs.LoopLaws.{leads_on, found_whole, missing_run, missing_all, leads_strategy, missing_strategy, nested_strategy, leads_pattern, missing_pattern, nested_pattern}
+use Rattle.str_parser.proofs.LoopLaws.{leads_on, found_whole}
+use Rattle.str_parser.proofs.StandingLaws.{begun_stands, strategy_stands, strategy_left, pattern_stands, pattern_left}
 use Rattle.str_parser.proofs.AnnotationLaws.{leads_in_braces, leads_annotated}
 use Rattle.str_parser.proofs.PatternLoopLaws.{pattern_nested, pattern_beyond, found_whole_pattern, missing_pattern_run, missing_all_patterns, leads_applied, missing_applied, nested_applied, leads_inner, missing_inner, nested_inner}
 use Rattle.str_parser.proofs.descent.+phrase.Goals as goal
@@ -113,75 +114,33 @@ pattern-loop-begun-preserved t c =
 
 -- ---- primaries
 
-pub primary-returns-in_err-begun : goal.primary-returns-in_err-begun
-primary-returns-in_err-begun t c =
-    let p = err_from_is_err_and c.from_residual.result c.from_residual.ensures.1 in
-    rw (p.1, p.2) (next_fault Written c.args.input (primary c.args.level) (AtMost 3) c.args.input _ (λ n. missing_all _ _ (n c.args.level)) c.in_err-begun.ensures)
+pub with_pattern-returns-clause-stands : goal.with_pattern-returns-clause-stands
+with_pattern-returns-clause-stands t c =
+    let f = rw c.in_match.ensures at c.pattern-part.ensures in
+    λ ts g. pattern_stands _ _ _ _ _ _ g f c.after.ensures
+
+pub with_pattern-returns-clause-fewer : goal.with_pattern-returns-clause-fewer
+with_pattern-returns-clause-fewer t c =
+    let f = rw c.in_match.ensures at c.pattern-part.ensures in
+    pattern_left c.args.level c.args.before _ _ _ f c.after.ensures
 
 pub primary-loop-begun-init : goal.primary-loop-begun-init
-primary-loop-begun-init t c =
-    c.in_ok-begun.ensures c.args.level
+primary-loop-begun-init t c = begun_stands _ _ _ c.begin-begun.ensures
 
-pub primary-returns-in-Whole : goal.primary-returns-in-Whole
-primary-returns-in-Whole t c =
-    let i = rw c.in-Whole.is at c.loop-begun.invariant in
-    found_whole _ _ _ c.in-Whole.made i
+pub primary-returns-in-Ok-Whole : goal.primary-returns-in-Ok-Whole
+primary-returns-in-Ok-Whole t c =
+    let i = rw (c.in-Ok-Whole.is, c.in-Ok-Whole.field-0-is) at c.loop-begun.invariant in
+    found_whole _ _ _ c.in-Ok-Whole.made i
 
-pub primary-returns-in_err-part-in-ToStrategy : goal.primary-returns-in_err-part-in-ToStrategy
-primary-returns-in_err-part-in-ToStrategy t c =
-    let i = rw c.in-ToStrategy.is at c.loop-begun.invariant in
-    let p = err_from_is_err_and c.from_residual-in_err-part-in-ToStrategy.result c.from_residual-in_err-part-in-ToStrategy.ensures.1 in
-    rw (p.1, p.2) (fault_means (inner_strategy (c.args.level + 1)) (AtMost 0) c.in-ToStrategy.rest (primary c.args.level) (AtMost 3) c.args.input _
-    (missing_strategy _ c.in-ToStrategy.before _ _ i) (nested_strategy _ c.in-ToStrategy.before _ _ i) c.in_err-part-in-ToStrategy.ensures)
+pub primary-loop-begun-smaller-in-Ok-ToStrategy : goal.primary-loop-begun-smaller-in-Ok-ToStrategy
+primary-loop-begun-smaller-in-Ok-ToStrategy t c =
+    let f = strategy_left _ c.in-Ok-ToStrategy.before _ _ _ c.strategy-part.ensures c.after.ensures in
+    rw (c.in-Ok-ToStrategy.is, c.in-Ok-ToStrategy.field-0-is) (omega (arith, f))
 
-pub primary-returns-in_err-begun-in-ToStrategy : goal.primary-returns-in_err-begun-in-ToStrategy
-primary-returns-in_err-begun-in-ToStrategy t c =
-    let i = rw c.in-ToStrategy.is at c.loop-begun.invariant in
-    let p = err_from_is_err_and c.from_residual-in_err-begun-in-ToStrategy.result c.from_residual-in_err-begun-in-ToStrategy.ensures.1 in
-    rw (p.1, p.2) (next_fault (HasStrategy c.in-ToStrategy.before (strategy_of c.in_ok-part-in-ToStrategy.part)) c.in_ok-part-in-ToStrategy.rest (primary c.args.level) (AtMost 3) c.args.input _
-    (λ n. missing_run _ _ _ _ (leads_on i (leads_strategy _ c.in-ToStrategy.before _ _ _ c.in_ok-part-in-ToStrategy.ensures)) (n c.args.level)) c.in_err-begun-in-ToStrategy.ensures)
-
-pub primary-returns-in_err-part-in-ToPattern : goal.primary-returns-in_err-part-in-ToPattern
-primary-returns-in_err-part-in-ToPattern t c =
-    let i = rw c.in-ToPattern.is at c.loop-begun.invariant in
-    let p = err_from_is_err_and c.from_residual-in_err-part-in-ToPattern.result c.from_residual-in_err-part-in-ToPattern.ensures.1 in
-    let e = rw c.in_match.ensures at c.in_err-part-in-ToPattern.ensures in
-    rw (p.1, p.2) (fault_means (inner_pattern (wants_match c.in-ToPattern.before) (c.args.level + 1)) (AtMost 3) c.in-ToPattern.rest (primary c.args.level) (AtMost 3) c.args.input _
-    (missing_pattern _ c.in-ToPattern.before _ _ i) (nested_pattern _ c.in-ToPattern.before _ _ i) e)
-
-pub primary-returns-in_err-begun-in-ToPattern : goal.primary-returns-in_err-begun-in-ToPattern
-primary-returns-in_err-begun-in-ToPattern t c =
-    let i = rw c.in-ToPattern.is at c.loop-begun.invariant in
-    let p = err_from_is_err_and c.from_residual-in_err-begun-in-ToPattern.result c.from_residual-in_err-begun-in-ToPattern.ensures.1 in
-    let f = rw c.in_match.ensures at c.in_ok-part-in-ToPattern.ensures in
-    rw (p.1, p.2) (next_fault (HasPattern c.in-ToPattern.before (pattern_of c.in_ok-part-in-ToPattern.part)) c.in_ok-part-in-ToPattern.rest (primary c.args.level) (AtMost 3) c.args.input _
-    (λ n. missing_run _ _ _ _ (leads_on i (leads_pattern _ c.in-ToPattern.before _ _ _ f)) (n c.args.level)) c.in_err-begun-in-ToPattern.ensures)
-
-pub primary-loop-begun-smaller-in_ok-begun-in-ToStrategy : goal.primary-loop-begun-smaller-in_ok-begun-in-ToStrategy
-primary-loop-begun-smaller-in_ok-begun-in-ToStrategy t c =
-    let a = c.in_ok-begun-in-ToStrategy.ensures c.args.level in
-    let b = c.in_ok-part-in-ToStrategy.ensures in
-    rw c.in-ToStrategy.is (omega (arith, a.no_longer, b.shorter))
-
-pub primary-loop-begun-preserved-in_ok-begun-in-ToStrategy : goal.primary-loop-begun-preserved-in_ok-begun-in-ToStrategy
-primary-loop-begun-preserved-in_ok-begun-in-ToStrategy t c =
-    let i = rw c.in-ToStrategy.is at c.loop-begun.invariant in
-    let a = c.in_ok-begun-in-ToStrategy.ensures c.args.level in
-    let b = c.in_ok-part-in-ToStrategy.ensures in
-    leads_on i (leads_on (leads_strategy _ c.in-ToStrategy.before _ _ _ b) a)
-
-pub primary-loop-begun-smaller : goal.primary-loop-begun-smaller
-primary-loop-begun-smaller t c =
-    let a = c.in_ok-begun-in-ToPattern.ensures c.args.level in
-    let b = c.in_ok-part-in-ToPattern.ensures in
-    rw c.in-ToPattern.is (omega (arith, a.no_longer, b.shorter))
-
-pub primary-loop-begun-preserved : goal.primary-loop-begun-preserved
-primary-loop-begun-preserved t c =
-    let i = rw c.in-ToPattern.is at c.loop-begun.invariant in
-    let a = c.in_ok-begun-in-ToPattern.ensures c.args.level in
-    let f = rw c.in_match.ensures at c.in_ok-part-in-ToPattern.ensures in
-    leads_on i (leads_on (leads_pattern _ c.in-ToPattern.before _ _ _ f) a)
+pub primary-loop-begun-preserved-in-Ok-ToStrategy : goal.primary-loop-begun-preserved-in-Ok-ToStrategy
+primary-loop-begun-preserved-in-Ok-ToStrategy t c =
+    let i = rw (c.in-Ok-ToStrategy.is, c.in-Ok-ToStrategy.field-0-is) at c.loop-begun.invariant in
+    strategy_stands _ c.in-Ok-ToStrategy.before _ _ _ _ i c.strategy-part.ensures c.after.ensures
 
 -- ---- sequences
 
@@ -199,16 +158,17 @@ pub sequence-returns-in_default : goal.sequence-returns-in_default
 sequence-returns-in_default t c =
     rw reads_last (found_last _ _ _ _ (omega arith) c.in_ok-first.ensures c.in_default.ensures)
 
-pub sequence-returns-in_err-others : goal.sequence-returns-in_err-others
-sequence-returns-in_err-others t c =
-    let p = err_from_is_err_and c.from_residual-in_err-others.result c.from_residual-in_err-others.ensures.1 in
-    let f = rw c.in-Some.ensures at c.in_ok-first.ensures in
-    rw (p.1, p.2) (fault_means (inner_sequence (c.args.level + 1)) (AtMost 1) c.in-Some.following (inner_sequence c.args.level) (AtMost 1) c.args.input _ (missing_others _ _ _ _ (omega arith) f) (nested_others _ _ _ _ (omega arith) f) c.in_err-others.ensures)
-
 pub sequence-returns : goal.sequence-returns
-sequence-returns t c =
-    let f = rw c.in-Some.ensures at c.in_ok-first.ensures in
-    rw (reads_then, c.in_ok-new.ensures.ok) (found_then _ _ _ _ _ _ (omega arith) f c.in_ok-others.ensures)
+sequence-returns t c = c.then.ensures _ (rw c.in-Some.ensures at c.in_ok-first.ensures)
+
+pub then-returns-in_err-others : goal.then-returns-in_err-others
+then-returns-in_err-others t c =
+    let p = err_from_is_err_and c.from_residual.result c.from_residual.ensures.1 in
+    rw (p.1, p.2) (λ ts f. fault_means (inner_sequence (c.args.level + 1)) (AtMost 1) c.args.input (inner_sequence c.args.level) (AtMost 1) ts _ (missing_others _ _ _ _ (omega arith) f) (nested_others _ _ _ _ (omega arith) f) c.in_err-others.ensures)
+
+pub then-returns : goal.then-returns
+then-returns t c =
+    λ ts f. rw (reads_then, c.in_ok-new.ensures.ok) (found_then _ _ _ _ _ _ (omega arith) f c.in_ok-others.ensures)
 
 -- ---- steps
 
@@ -221,16 +181,17 @@ pub step-returns-in_default : goal.step-returns-in_default
 step-returns-in_default t c =
     rw reads_plain_step (found_plain_step _ _ _ _ c.in_ok-first.ensures c.in_default.ensures)
 
-pub step-returns-in_err-matched : goal.step-returns-in_err-matched
-step-returns-in_err-matched t c =
-    let p = err_from_is_err_and c.from_residual-in_err-matched.result c.from_residual-in_err-matched.ensures.1 in
-    let f = rw c.in-Some.ensures at c.in_ok-first.ensures in
-    rw (p.1, p.2) (fault_means (inner_pattern true (c.args.level + 1)) (AtMost 3) c.in-Some.following (step c.args.level) (AtMost 2) c.args.input _ (missing_matched _ _ _ _ f) (nested_matched _ _ _ _ f) c.in_err-matched.ensures)
-
 pub step-returns : goal.step-returns
-step-returns t c =
-    let f = rw c.in-Some.ensures at c.in_ok-first.ensures in
-    rw (reads_matching, c.in_ok-new.ensures.ok) (found_matching _ _ _ _ _ _ f c.in_ok-matched.ensures)
+step-returns t c = c.matching.ensures _ (rw c.in-Some.ensures at c.in_ok-first.ensures)
+
+pub matching-returns-in_err-matched : goal.matching-returns-in_err-matched
+matching-returns-in_err-matched t c =
+    let p = err_from_is_err_and c.from_residual.result c.from_residual.ensures.1 in
+    rw (p.1, p.2) (λ ts f. fault_means (inner_pattern true (c.args.level + 1)) (AtMost 3) c.args.input (step c.args.level) (AtMost 2) ts _ (missing_matched _ _ _ _ f) (nested_matched _ _ _ _ f) c.in_err-matched.ensures)
+
+pub matching-returns : goal.matching-returns
+matching-returns t c =
+    λ ts f. rw (reads_matching, c.in_ok-new.ensures.ok) (found_matching _ _ _ _ _ _ f c.in_ok-matched.ensures)
 
 -- ---- strategies
 
@@ -244,16 +205,8 @@ strategy-returns-in_err-first t c =
     let p = err_from_is_err_and c.from_residual.result c.from_residual.ensures.1 in
     rw (p.1, p.2) (fault_means (inner_sequence c.args.level) (AtMost 1) c.args.input (inner_strategy c.args.level) (AtMost 0) c.args.input _ (missing_sequence _ _) (nested_sequence _ _) c.in_err-first.ensures)
 
-pub strategy-returns-in_err-other : goal.strategy-returns-in_err-other
-strategy-returns-in_err-other t c =
-    let p = err_from_is_err_and c.from_residual-in_err-other.result c.from_residual-in_err-other.ensures.1 in
-    let f = rw c.in-Some.ensures at c.in_ok-first.ensures in
-    rw (p.1, p.2) (fault_means (inner_strategy (c.args.level + 1)) (AtMost 0) c.in-Some.following (inner_strategy c.args.level) (AtMost 0) c.args.input _ (missing_right _ _ _ _ f) (nested_right _ _ _ _ f) c.in_err-other.ensures)
-
 pub strategy-returns-in-Some : goal.strategy-returns-in-Some
-strategy-returns-in-Some t c =
-    let f = rw c.in-Some.ensures at c.in_ok-first.ensures in
-    rw (reads_left_choice, c.in_ok-new.ensures.ok) (found_choice _ _ _ _ _ _ f c.in_ok-other.ensures)
+strategy-returns-in-Some t c = c.left_choice.ensures _ (rw c.in-Some.ensures at c.in_ok-first.ensures)
 
 pub strategy-returns-in_default-after : goal.strategy-returns-in_default-after
 strategy-returns-in_default-after t c =
@@ -261,6 +214,17 @@ strategy-returns-in_default-after t c =
 
 pub strategy-returns : goal.strategy-returns
 strategy-returns t c = c.guarded_choice.ensures _ (rw c.in-Some-after.ensures at c.in_ok-first.ensures)
+
+-- ---- left choices
+
+pub left_choice-returns-in_err-other : goal.left_choice-returns-in_err-other
+left_choice-returns-in_err-other t c =
+    let p = err_from_is_err_and c.from_residual.result c.from_residual.ensures.1 in
+    rw (p.1, p.2) (λ ts f. fault_means (inner_strategy (c.args.level + 1)) (AtMost 0) c.args.input (inner_strategy c.args.level) (AtMost 0) ts _ (missing_right _ _ _ _ f) (nested_right _ _ _ _ f) c.in_err-other.ensures)
+
+pub left_choice-returns : goal.left_choice-returns
+left_choice-returns t c =
+    λ ts f. rw (reads_left_choice, c.in_ok-new.ensures.ok) (found_choice _ _ _ _ _ _ f c.in_ok-other.ensures)
 
 -- ---- guarded choices
 
