@@ -169,19 +169,19 @@ elements_empty F (suc n) items e = absurd (omega (arith, e))
 
 -- ---- builds and calls
 
-pub build_made : (k n : ℕ) (up : Bor Scopes) (p : Pattern Name) (items : List NamedStrategy) (made : ResolvedStrategy) (each : List ResolvedStrategy) (built : Pattern Coordinate) →
-    (n ≡ 0 → ⊥) → k ≡ suc n → each ≡ items_at (layers_of (code.Brought k up)) items → built ≡ pattern_at (layers_of (code.Brought k up)) p →
-    made ≡ keeping_here n (each ++ core.build built ∷ []) → made ≡ strategy_at (layers_of up.now) (build_after n items p)
-build_made k n up p items made each built some e is builds h =
+pub build_made : (k n : ℕ) (up : Bor Scopes) (p : Pattern Name) (items : List NamedStrategy) (made last : ResolvedStrategy) (each : List ResolvedStrategy) →
+    (n ≡ 0 → ⊥) → k ≡ suc n → each ≡ items_at (layers_of (code.Brought k up)) items → last ≡ strategy_at (layers_of (code.Brought k up)) (core.build p) →
+    made ≡ keeping_here n (each ++ last ∷ []) → made ≡ strategy_at (layers_of up.now) (build_after n items p)
+build_made k n up p items made last each some e is builds h =
     let same : layers_of (code.Brought k up) ≡ inside (suc n) (layers_of up.now) = reads_brought k up ∙ ap (λ m. inside m (layers_of up.now)) e in
-    h ∙ ap₂ (λ l q. keeping_here n (l ++ core.build q ∷ [])) is builds ∙
+    h ∙ ap₂ (λ l q. keeping_here n (l ++ q ∷ [])) is builds ∙
     ap (λ G. keeping_here n (items_at G items ++ core.build (pattern_at G p) ∷ [])) same ∙
     sym (build_after_at (layers_of up.now) n items p some)
 
-pub build_plain : (F : Frames) (n : ℕ) (p : Pattern Name) (items : List NamedStrategy) (built : Pattern Coordinate) → n ≡ 0 → built ≡ pattern_at F p →
-    core.build built ≡ strategy_at F (build_after n items p)
-build_plain F zero p items built e h = ap (λ q. core.build q) h
-build_plain F (suc n) p items built e h = absurd (omega (arith, e))
+pub build_plain : (F : Frames) (n : ℕ) (p : Pattern Name) (items : List NamedStrategy) (made : ResolvedStrategy) → n ≡ 0 → made ≡ strategy_at F (core.build p) →
+    made ≡ strategy_at F (build_after n items p)
+build_plain F zero p items made e h = h
+build_plain F (suc n) p items made e h = absurd (omega (arith, e))
 
 pub call_made : (k n : ℕ) (up : Bor Scopes) (s : NamedStrategy) (items : List NamedStrategy) (made last : ResolvedStrategy) (each : List ResolvedStrategy) →
     (n ≡ 0 → ⊥) → k ≡ suc n → each ≡ items_at (layers_of (code.Brought k up)) items → last ≡ strategy_at (layers_of (code.Brought k up)) s →
@@ -272,17 +272,17 @@ scoped_plain F (x ∷ xs) s n e h = absurd (omega (arith, e, h))
 
 -- ---- rules
 
-module _ (F : Frames) (declared : Bytes → ℕ → Bool) (r : Rule) (first : Pattern Coordinate) (last : ResolvedStrategy) (matches : first ≡ pattern_at F (matched (pattern_of (out-Rule r).left.value)))
+module _ (F : Frames) (declared : Bytes → ℕ → Bool) (r : Rule) (first last : ResolvedStrategy) (matches : first ≡ strategy_at F (core.match (matched (pattern_of (out-Rule r).left.value))))
     (builds : last ≡ strategy_at F (primary_core declared (build (pattern_of (out-Rule r).right.value)))) where
-  pub rule_plain_made : (out-Rule r).condition ≡ None → core.seq (core.match first) last ≡ strategy_at F (rule_core declared (rule_of r))
+  pub rule_plain_made : (out-Rule r).condition ≡ None → core.seq first last ≡ strategy_at F (rule_core declared (rule_of r))
   rule_plain_made is =
-      ap₂ (λ p s. core.seq (core.match p) s) matches builds ∙
+      ap₂ (λ p s. core.seq p s) matches builds ∙
       sym (ap (λ t. strategy_at F (rule_core declared t)) (reads_rule r ∙ ap (λ o. rewrites (pattern_of (out-Rule r).left.value) (pattern_of (out-Rule r).right.value) (optional_strategy_of o)) is))
 
   pub rule_made : (s : Box StrategySource Global) (middle : ResolvedStrategy) → (out-Rule r).condition ≡ Some s → middle ≡ strategy_at F (where_core (strategy_core declared (strategy_of s.value))) →
-      core.seq (core.match first) (core.seq middle last) ≡ strategy_at F (rule_core declared (rule_of r))
+      core.seq first (core.seq middle last) ≡ strategy_at F (rule_core declared (rule_of r))
   rule_made s middle is where_is =
-      ap₂ (λ p q. core.seq (core.match p) q) matches (ap₂ (λ m b. core.seq m b) where_is builds) ∙
+      ap₂ (λ p q. core.seq p q) matches (ap₂ (λ m b. core.seq m b) where_is builds) ∙
       sym (ap (λ t. strategy_at F (rule_core declared t)) (reads_rule r ∙ ap (λ o. rewrites (pattern_of (out-Rule r).left.value) (pattern_of (out-Rule r).right.value) (optional_strategy_of o)) is))
 
 -- ---- a call or a congruence

@@ -15,115 +15,280 @@ pub(crate) fn here(slot: usize) -> Coordinate
     Coordinate { layers_up: 0, slot }
 }
 
-/// The strategies one after another.
-pub(crate) fn in_turn(
+/// The strategy that leaves each term as it is.
+#[inline(never)]
+pub(crate) fn identity(alloc: Global) -> Result<Box<CoreStrategy>, AllocError>
+    ensures { IfOk result (λ made. views.strategy_of made.value ≡ core.id) }
+{
+    let made = Box::new(alloc, CoreStrategy::Id)?;
+    Ok(made)
+}
+
+/// The strategy that fails on each term.
+#[inline(never)]
+pub(crate) fn failure(alloc: Global) -> Result<Box<CoreStrategy>, AllocError>
+    ensures { IfOk result (λ made. views.strategy_of made.value ≡ core.fail) }
+{
+    let made = Box::new(alloc, CoreStrategy::Fail)?;
+    Ok(made)
+}
+
+/// This number of new variables, and the strategy that sees them.
+#[inline(never)]
+pub(crate) fn scope_of(
     alloc: Global,
-    first: CoreStrategy,
+    count: usize,
+    body: Box<CoreStrategy>,
+) -> Result<Box<CoreStrategy>, AllocError>
+    ensures { IfOk result (λ made. views.strategy_of made.value ≡ core.scope count (views.strategy_of body.value)) }
+{
+    let made = Box::new(alloc, CoreStrategy::Scope(count, body))?;
+    Ok(made)
+}
+
+/// The strategy on each part of the term.
+#[inline(never)]
+pub(crate) fn on_all(
+    alloc: Global,
+    inner: Box<CoreStrategy>,
+) -> Result<Box<CoreStrategy>, AllocError>
+    ensures { IfOk result (λ made. views.strategy_of made.value ≡ core.all (views.strategy_of inner.value)) }
+{
+    let made = Box::new(alloc, CoreStrategy::All(inner))?;
+    Ok(made)
+}
+
+/// The strategy on the first part of the term where it does not fail.
+#[inline(never)]
+pub(crate) fn on_one(
+    alloc: Global,
+    inner: Box<CoreStrategy>,
+) -> Result<Box<CoreStrategy>, AllocError>
+    ensures { IfOk result (λ made. views.strategy_of made.value ≡ core.one (views.strategy_of inner.value)) }
+{
+    let made = Box::new(alloc, CoreStrategy::One(inner))?;
+    Ok(made)
+}
+
+/// The strategy on each part of the term, one at least, where it does not fail.
+#[inline(never)]
+pub(crate) fn on_some(
+    alloc: Global,
+    inner: Box<CoreStrategy>,
+) -> Result<Box<CoreStrategy>, AllocError>
+    ensures { IfOk result (λ made. views.strategy_of made.value ≡ core.some (views.strategy_of inner.value)) }
+{
+    let made = Box::new(alloc, CoreStrategy::Some(inner))?;
+    Ok(made)
+}
+
+// The strategies one after another.
+fn in_turn(
+    alloc: Global,
+    first: Box<CoreStrategy>,
     mut items: Vec<CoreStrategy>,
-) -> Result<CoreStrategy, AllocError>
-    ensures { IfOk result (λ made. views.strategy_of made ≡ views.chain (views.strategy_of first) (map views.strategy_of items.items)) }
+) -> Result<Box<CoreStrategy>, AllocError>
+    ensures { IfOk result (λ made. views.strategy_of made.value ≡ views.chain (views.strategy_of first.value) (map views.strategy_of items.items)) }
 {
     if items.is_empty() {
         return Ok(first);
     }
-    let first = Box::new(alloc, first)?;
-    let second = items.remove(0);
-    Ok(CoreStrategy::Sequence(first, Box::new(alloc, second)?, items))
+    let second = Box::new(alloc, items.remove(0))?;
+    let made = Box::new(alloc, CoreStrategy::Sequence(first, second, items))?;
+    Ok(made)
 }
 
 /// A scope that keeps the current term and has place for this number of results, and these items in it.
+#[inline(never)]
 pub(crate) fn keeping(
     alloc: Global,
     results: usize,
     items: Vec<CoreStrategy>,
-) -> Result<CoreStrategy, AllocError>
-    ensures { IfOk result (λ made. views.strategy_of made ≡ keeping_here results (map views.strategy_of items.items)) }
+) -> Result<Box<CoreStrategy>, AllocError>
+    ensures { IfOk result (λ made. views.strategy_of made.value ≡ keeping_here results (map views.strategy_of items.items)) }
 {
     let count = results.checked_add(1).ok_or(AllocError)?;
     let first = CoreStrategy::Match(CorePattern::Variable(here(0)));
+    let first = Box::new(alloc, first)?;
     let body = in_turn(alloc, first, items)?;
-    Ok(CoreStrategy::Scope(count, Box::new(alloc, body)?))
+    scope_of(alloc, count, body)
 }
 
 /// The strategy on the current term, which it leaves as it is.
-pub(crate) fn where_of(alloc: Global, inner: CoreStrategy) -> Result<CoreStrategy, AllocError>
-    ensures { IfOk result (λ made. views.strategy_of made ≡ where_here (views.strategy_of inner)) }
+#[inline(never)]
+pub(crate) fn where_of(
+    alloc: Global,
+    inner: Box<CoreStrategy>,
+) -> Result<Box<CoreStrategy>, AllocError>
+    ensures { IfOk result (λ made. views.strategy_of made.value ≡ where_here (views.strategy_of inner.value)) }
 {
     let mut items = Vec::new(alloc);
-    items.push(inner)?;
+    items.push(Box::into_inner(inner))?;
     items.push(CoreStrategy::Build(CorePattern::Variable(here(0))))?;
     keeping(alloc, 0, items)
 }
 
 /// The first strategy and then the second, in one chain where the second is a chain.
+#[inline(never)]
 pub(crate) fn seq(
     alloc: Global,
-    first: CoreStrategy,
-    second: CoreStrategy,
-) -> Result<CoreStrategy, AllocError>
-    ensures { IfOk result (λ made. views.strategy_of made ≡ core.seq (views.strategy_of first) (views.strategy_of second)) }
+    first: Box<CoreStrategy>,
+    second: Box<CoreStrategy>,
+) -> Result<Box<CoreStrategy>, AllocError>
+    ensures { IfOk result (λ made. views.strategy_of made.value ≡ core.seq (views.strategy_of first.value) (views.strategy_of second.value)) }
 {
-    let first = Box::new(alloc, first)?;
-    match second {
+    if let CoreStrategy::Sequence(_, _, _) = &*second {
+        return before_chain(alloc, first, Box::into_inner(second));
+    }
+    let made = CoreStrategy::Sequence(first, second, Vec::new(alloc));
+    let made = Box::new(alloc, made)?;
+    Ok(made)
+}
+
+// The strategy before the others of a chain.
+#[inline(never)]
+fn before_chain(
+    alloc: Global,
+    first: Box<CoreStrategy>,
+    others: CoreStrategy,
+) -> Result<Box<CoreStrategy>, AllocError>
+    ensures { IfOk result (λ made. views.strategy_of made.value ≡ core.seq (views.strategy_of first.value) (views.strategy_of others)) }
+{
+    match others {
         CoreStrategy::Sequence(second, third, mut others) => {
             others.insert(0, Box::into_inner(third))?;
-            Ok(CoreStrategy::Sequence(first, second, others))
+            let made = Box::new(alloc, CoreStrategy::Sequence(first, second, others))?;
+            Ok(made)
         }
-        second => {
-            let second = Box::new(alloc, second)?;
-            Ok(CoreStrategy::Sequence(first, second, Vec::new(alloc)))
+        other => {
+            let second = Box::new(alloc, other)?;
+            let made = CoreStrategy::Sequence(first, second, Vec::new(alloc));
+            let made = Box::new(alloc, made)?;
+            Ok(made)
         }
     }
 }
 
 // The choice of one arm.
+#[inline(never)]
 fn one_choice(
     alloc: Global,
     arm: Box<CoreArm>,
-    otherwise: CoreStrategy,
-) -> Result<CoreStrategy, AllocError>
-    ensures { IfOk result (λ made. views.strategy_of made ≡ core.choice (views.arm_of arm.value).guard (views.arm_of arm.value).then (views.strategy_of otherwise)) }
+    otherwise: Box<CoreStrategy>,
+) -> Result<Box<CoreStrategy>, AllocError>
+    ensures { IfOk result (λ made. views.strategy_of made.value ≡ core.choice (views.arm_of arm.value).guard (views.arm_of arm.value).then (views.strategy_of otherwise.value)) }
 {
-    let otherwise = Box::new(alloc, otherwise)?;
-    Ok(CoreStrategy::Choice(arm, Vec::new(alloc), otherwise))
+    let made = CoreStrategy::Choice(arm, Vec::new(alloc), otherwise);
+    let made = Box::new(alloc, made)?;
+    Ok(made)
 }
 
-/// The choice of the guard, what follows where it succeeds, and what follows where it fails, in one chain where that is a chain.
-pub(crate) fn choice(
+// The arm before the others of a chain of choices.
+#[inline(never)]
+fn before_arms(
     alloc: Global,
-    guard: CoreStrategy,
-    then: CoreStrategy,
-    otherwise: CoreStrategy,
-) -> Result<CoreStrategy, AllocError>
-    ensures { IfOk result (λ made. views.strategy_of made ≡ core.choice (views.strategy_of guard) (views.strategy_of then) (views.strategy_of otherwise)) }
+    arm: Box<CoreArm>,
+    others: CoreStrategy,
+) -> Result<Box<CoreStrategy>, AllocError>
+    ensures { IfOk result (λ made. views.strategy_of made.value ≡ core.choice (views.arm_of arm.value).guard (views.arm_of arm.value).then (views.strategy_of others)) }
 {
-    let arm = Box::new(alloc, CoreArm { guard, then })?;
-    match otherwise {
+    match others {
         CoreStrategy::Choice(second, mut others, last) => {
             others.insert(0, Box::into_inner(second))?;
-            Ok(CoreStrategy::Choice(arm, others, last))
+            let made = Box::new(alloc, CoreStrategy::Choice(arm, others, last))?;
+            Ok(made)
         }
-        otherwise => one_choice(alloc, arm, otherwise),
+        other => {
+            let other = Box::new(alloc, other)?;
+            one_choice(alloc, arm, other)
+        }
     }
 }
 
+// The arm, and what follows where its guard fails, in one chain where that is a chain.
+#[inline(never)]
+fn chosen(
+    alloc: Global,
+    arm: Box<CoreArm>,
+    otherwise: Box<CoreStrategy>,
+) -> Result<Box<CoreStrategy>, AllocError>
+    ensures { IfOk result (λ made. views.strategy_of made.value ≡ core.choice (views.arm_of arm.value).guard (views.arm_of arm.value).then (views.strategy_of otherwise.value)) }
+{
+    if let CoreStrategy::Choice(_, _, _) = &*otherwise {
+        return before_arms(alloc, arm, Box::into_inner(otherwise));
+    }
+    one_choice(alloc, arm, otherwise)
+}
+
+// The guard, and what follows where it succeeds.
+fn arm(guard: Box<CoreStrategy>, then: CoreStrategy) -> CoreArm
+    ensures { views.arm_of result ≡ record { guard = views.strategy_of guard.value; then = views.strategy_of then } }
+{
+    CoreArm {
+        guard: Box::into_inner(guard),
+        then,
+    }
+}
+
+/// The choice of the guard, what follows where it succeeds, and what follows where it fails, in one chain where that is a chain.
+#[inline(never)]
+pub(crate) fn choice(
+    alloc: Global,
+    guard: Box<CoreStrategy>,
+    then: Box<CoreStrategy>,
+    otherwise: Box<CoreStrategy>,
+) -> Result<Box<CoreStrategy>, AllocError>
+    ensures { IfOk result (λ made. views.strategy_of made.value ≡ core.choice (views.strategy_of guard.value) (views.strategy_of then.value) (views.strategy_of otherwise.value)) }
+{
+    let arm = Box::new(alloc, arm(guard, Box::into_inner(then)))?;
+    chosen(alloc, arm, otherwise)
+}
+
+/// The choice of the guard and of what follows where it fails.
+#[inline(never)]
+pub(crate) fn left_choice(
+    alloc: Global,
+    guard: Box<CoreStrategy>,
+    otherwise: Box<CoreStrategy>,
+) -> Result<Box<CoreStrategy>, AllocError>
+    ensures { IfOk result (λ made. views.strategy_of made.value ≡ core.choice (views.strategy_of guard.value) core.id (views.strategy_of otherwise.value)) }
+{
+    let arm = Box::new(alloc, arm(guard, CoreStrategy::Id))?;
+    chosen(alloc, arm, otherwise)
+}
+
+/// The strategy that fails where this one succeeds, and leaves the term as it is where this one fails.
+#[inline(never)]
+pub(crate) fn negation(
+    alloc: Global,
+    inner: Box<CoreStrategy>,
+) -> Result<Box<CoreStrategy>, AllocError>
+    ensures { IfOk result (λ made. views.strategy_of made.value ≡ core.choice (views.strategy_of inner.value) core.fail core.id) }
+{
+    let arm = Box::new(alloc, arm(inner, CoreStrategy::Fail))?;
+    let otherwise = identity(alloc)?;
+    one_choice(alloc, arm, otherwise)
+}
+
 /// The congruence of this number of parts: what is matched, the items, and what is built.
+#[inline(never)]
 pub(crate) fn congruence(
     alloc: Global,
     parts: usize,
     pattern: CorePattern,
     mut items: Vec<CoreStrategy>,
     made: CorePattern,
-) -> Result<CoreStrategy, AllocError>
-    ensures { IfOk result (λ made_all. views.strategy_of made_all ≡ congruence_here parts (views.pattern_of pattern) (map views.strategy_of items.items) (views.pattern_of made)) }
+) -> Result<Box<CoreStrategy>, AllocError>
+    ensures { IfOk result (λ made_all. views.strategy_of made_all.value ≡ congruence_here parts (views.pattern_of pattern) (map views.strategy_of items.items) (views.pattern_of made)) }
 {
     let count = names_of_congruence(parts)?;
     let pattern = Box::new(alloc, pattern)?;
     let made = Box::new(alloc, made)?;
     items.push(CoreStrategy::Build(CorePattern::Like(made, here(0))))?;
     let first = CoreStrategy::Match(CorePattern::Alias(here(0), pattern));
+    let first = Box::new(alloc, first)?;
     let body = in_turn(alloc, first, items)?;
-    Ok(CoreStrategy::Scope(count, Box::new(alloc, body)?))
+    scope_of(alloc, count, body)
 }
 
 /// How many names a congruence of this number of parts brings.

@@ -1,8 +1,10 @@
 // What a build makes: the items that give the results of its outermost `<..>`, and then the build.
 ghost use Rattle.std.specs.Prelude.{◌≡◌, ◌+◌, ◌++◌, IfOk, OnOk, map};
+ghost use Rattle.core_lang.specs.Program as core;
 ghost use Rattle.core_lang.specs.Views as views;
 ghost use Rattle.str_syntax.specs.Trees as trees;
 ghost use Rattle.str_syntax.specs.Views.{pattern_of, patterns_of};
+ghost use Rattle.str_desugar.specs.Equations as equations;
 ghost use Rattle.str_desugar.specs.Equations.{applications, applications_among, primary_core, results, results_among};
 ghost use Rattle.str_desugar.specs.Frames.{strategy_at};
 ghost use Rattle.str_desugar.specs.Layers.{items_at, layers_of};
@@ -15,24 +17,40 @@ use crate::scopes::Scopes;
 use crate::strategy::{Context, strategy};
 use crate::symbols::Symbols;
 use core_lang::CoreStrategy;
-use std::alloc::AllocError;
+use std::alloc::{AllocError, Global};
 use str_syntax::Pattern;
+
+// The build of a pattern, whose results stand in the layers.
+#[inline(never)]
+fn build_of(
+    alloc: Global,
+    source: &Pattern,
+    scopes: &Scopes,
+    symbols: &mut Symbols,
+) -> Result<Box<CoreStrategy>, AllocError>
+    ensures { IfOk result (λ made. views.strategy_of made.value ≡ strategy_at (layers_of scopes.now) (core.build (equations.built 0 (pattern_of source.now)))) }
+{
+    let mut next = 0;
+    let pattern = built(alloc, source, scopes, symbols, &mut next)?;
+    let made = Box::new(alloc, CoreStrategy::Build(pattern))?;
+    Ok(made)
+}
 
 /// The core of a build.
 #[cycle(walk)]
+#[inline(never)]
 pub(crate) fn build(
     context: &Context,
     source: &Pattern,
     scopes: &Scopes,
     symbols: &mut Symbols,
-) -> Result<CoreStrategy, AllocError>
-    ensures { IfOk result (λ made. views.strategy_of made ≡ strategy_at (layers_of scopes.now) (primary_core (arity_known context.now.signature.now) (trees.build (pattern_of source.now)))) }
+) -> Result<Box<CoreStrategy>, AllocError>
+    ensures { IfOk result (λ made. views.strategy_of made.value ≡ strategy_at (layers_of scopes.now) (primary_core (arity_known context.now.signature.now) (trees.build (pattern_of source.now)))) }
 {
     let count = applications(source)?;
-    let mut next = 0;
     if count == 0 {
-        let pattern = built(context.alloc, source, scopes, symbols, &mut next)?;
-        return Ok(CoreStrategy::Build(pattern));
+        let plain = build_of(context.alloc, source, scopes, symbols)?;
+        return Ok(plain);
     }
     let names = successor(count)?;
     let inner = Scopes::Brought {
@@ -40,15 +58,16 @@ pub(crate) fn build(
         outer: &*scopes,
     };
     let mut items = Vec::new(context.alloc);
-    results_of(context, source, &inner, symbols, &mut next, &mut items)?;
     let mut next = 0;
-    let pattern = built(context.alloc, source, &inner, symbols, &mut next)?;
-    let made = build_after(context.alloc, count, items, pattern)?;
+    results_of(context, source, &inner, symbols, &mut next, &mut items)?;
+    let last = build_of(context.alloc, source, &inner, symbols)?;
+    let made = build_after(context.alloc, count, items, last)?;
     Ok(made)
 }
 
 // Puts the items that give the results of the outermost `<..>` after the others.
 #[cycle(walk)]
+#[inline(never)]
 fn results_of(
     context: &Context,
     source: &Pattern,
@@ -95,6 +114,7 @@ fn results_of(
 
 /// Puts the items that give the results of the outermost `<..>` in patterns after the others.
 #[cycle(walk)]
+#[inline(never)]
 pub(crate) fn results_in(
     context: &Context,
     sources: &[Pattern],

@@ -14,30 +14,49 @@ ghost use Rattle.signature_core.specs.Signature.{arity_known};
 use crate::build::results_in;
 use crate::built::{applications_among, built_parts};
 use crate::congruence::{number_of, symbol_congruence};
-use crate::items::call_after;
+use crate::items::{call_after, put};
 use crate::parts::successor;
 use crate::scopes::Scopes;
 use crate::strategy::{Context, strategy};
 use crate::symbols::Symbols;
 use core_lang::{CorePattern, CoreStrategy};
-use std::alloc::AllocError;
+use std::alloc::{AllocError, Global};
 use str_syntax::{Arguments, Name, Pattern, Strategy};
 
 // A call by this name, with these arguments.
+#[inline(never)]
 fn call_of(
+    alloc: Global,
     scopes: &Scopes,
     name: &Name,
     strategies: Vec<CoreStrategy>,
     terms: Vec<CorePattern>,
-) -> Result<CoreStrategy, AllocError>
-    ensures { IfOk result (λ made. (ss : NamedStrategies) (ps : core.Patterns named.Name) → views.strategies_of strategies.items ≡ strategies_at (layers_of scopes.now) ss → views.patterns_of terms.items ≡ patterns_at (layers_of scopes.now) ps → views.strategy_of made ≡ strategy_at (layers_of scopes.now) (core.call (written name.now) ss ps)) }
+) -> Result<Box<CoreStrategy>, AllocError>
+    ensures { IfOk result (λ made. (ss : NamedStrategies) (ps : core.Patterns named.Name) → views.strategies_of strategies.items ≡ strategies_at (layers_of scopes.now) ss → views.patterns_of terms.items ≡ patterns_at (layers_of scopes.now) ps → views.strategy_of made.value ≡ strategy_at (layers_of scopes.now) (core.call (written name.now) ss ps)) }
 {
     let at = scopes.callee(name, strategies.len(), terms.len())?;
-    Ok(CoreStrategy::Call(at, strategies, terms))
+    let made = Box::new(alloc, CoreStrategy::Call(at, strategies, terms))?;
+    Ok(made)
+}
+
+/// A call by this name, without arguments.
+#[inline(never)]
+pub(crate) fn plain_call(
+    alloc: Global,
+    scopes: &Scopes,
+    name: &Name,
+) -> Result<Box<CoreStrategy>, AllocError>
+    ensures { IfOk result (λ made. views.strategy_of made.value ≡ strategy_at (layers_of scopes.now) (core.call (written name.now) core.no_strategies core.no_patterns)) }
+{
+    let at = scopes.callee(name, 0, 0)?;
+    let call = CoreStrategy::Call(at, Vec::new(alloc), Vec::new(alloc));
+    let made = Box::new(alloc, call)?;
+    Ok(made)
 }
 
 // The strategies that a call hands on.
 #[cycle(walk)]
+#[inline(never)]
 fn handed(
     context: &Context,
     sources: &[Strategy],
@@ -49,13 +68,14 @@ fn handed(
     let mut made = Vec::with_capacity(context.alloc, sources.len())?;
     for source in sources {
         let argument = strategy(context, source, scopes, symbols)?;
-        made.push(argument)?;
+        put(argument, &mut made)?;
     }
     Ok(made)
 }
 
 // The call itself, in the layers that have the results for its arguments.
 #[cycle(walk)]
+#[inline(never)]
 fn called(
     context: &Context,
     name: &Name,
@@ -63,33 +83,31 @@ fn called(
     terms: &[Pattern],
     scopes: &Scopes,
     symbols: &mut Symbols,
-) -> Result<CoreStrategy, AllocError>
-    ensures { IfOk result (λ made. views.strategy_of made ≡ strategy_at (layers_of scopes.now) (core.call (written name.now) (strategies_core (arity_known context.now.signature.now) (strategies_of sources.now)) (built_parts 0 (patterns_of terms.now)))) }
+) -> Result<Box<CoreStrategy>, AllocError>
+    ensures { IfOk result (λ made. views.strategy_of made.value ≡ strategy_at (layers_of scopes.now) (core.call (written name.now) (strategies_core (arity_known context.now.signature.now) (strategies_of sources.now)) (built_parts 0 (patterns_of terms.now)))) }
 {
     let strategies = handed(context, sources, scopes, symbols)?;
     let mut next = 0;
     let terms = built_parts(context.alloc, terms, scopes, symbols, &mut next)?;
-    let made = call_of(scopes, name, strategies, terms)?;
+    let made = call_of(context.alloc, scopes, name, strategies, terms)?;
     Ok(made)
 }
 
 /// The core of a call. With strategies alone in parentheses it is a congruence where a constructor of this name is declared with
 /// as many sorts.
 #[cycle(walk)]
+#[inline(never)]
 pub(crate) fn call(
     context: &Context,
     name: &Name,
     source: &Arguments,
     scopes: &Scopes,
     symbols: &mut Symbols,
-) -> Result<CoreStrategy, AllocError>
-    ensures { IfOk result (λ made. views.strategy_of made ≡ strategy_at (layers_of scopes.now) (primary_core (arity_known context.now.signature.now) (trees.call name.now (arguments_of source.now)))) }
+) -> Result<Box<CoreStrategy>, AllocError>
+    ensures { IfOk result (λ made. views.strategy_of made.value ≡ strategy_at (layers_of scopes.now) (primary_core (arity_known context.now.signature.now) (trees.call name.now (arguments_of source.now)))) }
 {
     match source {
-        Arguments::Absent => {
-            let at = scopes.callee(name, 0, 0)?;
-            Ok(CoreStrategy::Call(at, Vec::new(context.alloc), Vec::new(context.alloc)))
-        }
+        Arguments::Absent => plain_call(context.alloc, scopes, name),
         Arguments::Strategies(sources) => called_with(context, name, sources, scopes, symbols),
         Arguments::WithTerms(sources, terms) => {
             let count = applications_among(terms)?;
@@ -114,14 +132,15 @@ pub(crate) fn call(
 
 // A call that has no terms, or a congruence.
 #[cycle(walk)]
+#[inline(never)]
 fn called_with(
     context: &Context,
     name: &Name,
     sources: &[Strategy],
     scopes: &Scopes,
     symbols: &mut Symbols,
-) -> Result<CoreStrategy, AllocError>
-    ensures { IfOk result (λ made. views.strategy_of made ≡ strategy_at (layers_of scopes.now) (primary_core (arity_known context.now.signature.now) (trees.call name.now (trees.strategy_arguments (strategies_of sources.now))))) }
+) -> Result<Box<CoreStrategy>, AllocError>
+    ensures { IfOk result (λ made. views.strategy_of made.value ≡ strategy_at (layers_of scopes.now) (primary_core (arity_known context.now.signature.now) (trees.call name.now (trees.strategy_arguments (strategies_of sources.now))))) }
 {
     if context
         .signature
@@ -132,6 +151,12 @@ fn called_with(
         return Ok(each);
     }
     let strategies = handed(context, sources, scopes, symbols)?;
-    let made = call_of(scopes, name, strategies, Vec::new(context.alloc))?;
+    let made = call_of(
+        context.alloc,
+        scopes,
+        name,
+        strategies,
+        Vec::new(context.alloc),
+    )?;
     Ok(made)
 }

@@ -32,15 +32,36 @@ pub(crate) fn number_of(sources: &[Strategy]) -> usize
     sources.len()
 }
 
+// The match of a symbol without parts.
+#[inline(never)]
+fn match_symbol(alloc: Global, symbol: Sym) -> Result<Box<CoreStrategy>, AllocError>
+    ensures { IfOk result (λ made. views.strategy_of made.value ≡ core.match (core.applied symbol core.no_patterns)) }
+{
+    let pattern = CorePattern::Applied(symbol, Vec::new(alloc));
+    let made = Box::new(alloc, CoreStrategy::Match(pattern))?;
+    Ok(made)
+}
+
+// The match of the list without elements.
+#[inline(never)]
+fn match_no_elements(alloc: Global) -> Result<Box<CoreStrategy>, AllocError>
+    ensures { IfOk result (λ made. views.strategy_of made.value ≡ core.match (core.list core.no_elements)) }
+{
+    let pattern = CorePattern::List(Vec::new(alloc), None);
+    let made = Box::new(alloc, CoreStrategy::Match(pattern))?;
+    Ok(made)
+}
+
 // The congruence of a symbol with this number of parts, where these are their items.
+#[inline(never)]
 fn of_symbol(
     alloc: Global,
     scopes: &Scopes,
     symbol: Sym,
     count: usize,
     items: Vec<CoreStrategy>,
-) -> Result<CoreStrategy, AllocError>
-    ensures { IfOk result (λ made. views.strategy_of made ≡ congruence_here count (pattern_at (layers_of scopes.now) (core.applied symbol (patterns_from 1 count))) (map views.strategy_of items.items) (pattern_at (layers_of scopes.now) (core.applied symbol (patterns_from (suc count) count)))) }
+) -> Result<Box<CoreStrategy>, AllocError>
+    ensures { IfOk result (λ made. views.strategy_of made.value ≡ congruence_here count (pattern_at (layers_of scopes.now) (core.applied symbol (patterns_from 1 count))) (map views.strategy_of items.items) (pattern_at (layers_of scopes.now) (core.applied symbol (patterns_from (suc count) count)))) }
 {
     let pattern = applied(alloc, scopes, symbol.clone()?, 1, count)?;
     let made = applied(alloc, scopes, symbol, successor(count)?, count)?;
@@ -48,13 +69,14 @@ fn of_symbol(
 }
 
 // The congruence of a list of this number of elements, where these are their items.
+#[inline(never)]
 fn of_elements(
     alloc: Global,
     scopes: &Scopes,
     count: usize,
     items: Vec<CoreStrategy>,
-) -> Result<CoreStrategy, AllocError>
-    ensures { IfOk result (λ made. views.strategy_of made ≡ congruence_here count (pattern_at (layers_of scopes.now) (core.list (elements_from 1 count))) (map views.strategy_of items.items) (pattern_at (layers_of scopes.now) (core.list (elements_from (suc count) count)))) }
+) -> Result<Box<CoreStrategy>, AllocError>
+    ensures { IfOk result (λ made. views.strategy_of made.value ≡ congruence_here count (pattern_at (layers_of scopes.now) (core.list (elements_from 1 count))) (map views.strategy_of items.items) (pattern_at (layers_of scopes.now) (core.list (elements_from (suc count) count)))) }
 {
     let pattern = list(alloc, scopes, 1, count)?;
     let made = list(alloc, scopes, successor(count)?, count)?;
@@ -62,14 +84,15 @@ fn of_elements(
 }
 
 // The congruence of a list of n elements and a rest, where these are the items of all parts, of which there is one more.
+#[inline(never)]
 fn of_rest(
     alloc: Global,
     scopes: &Scopes,
     elements: usize,
     count: usize,
     items: Vec<CoreStrategy>,
-) -> Result<CoreStrategy, AllocError>
-    ensures { IfOk result (λ made. views.strategy_of made ≡ congruence_here count (pattern_at (layers_of scopes.now) (core.list (elements_and_rest_from 1 elements))) (map views.strategy_of items.items) (pattern_at (layers_of scopes.now) (core.list (elements_and_rest_from (suc count) elements)))) }
+) -> Result<Box<CoreStrategy>, AllocError>
+    ensures { IfOk result (λ made. views.strategy_of made.value ≡ congruence_here count (pattern_at (layers_of scopes.now) (core.list (elements_and_rest_from 1 elements))) (map views.strategy_of items.items) (pattern_at (layers_of scopes.now) (core.list (elements_and_rest_from (suc count) elements)))) }
 {
     let pattern = list_with_rest(alloc, scopes, 1, elements)?;
     let made = list_with_rest(alloc, scopes, successor(count)?, elements)?;
@@ -78,19 +101,21 @@ fn of_rest(
 
 /// The congruence of a symbol with these parts.
 #[cycle(walk)]
+#[inline(never)]
 pub(crate) fn symbol_congruence(
     context: &Context,
     symbol: Sym,
     sources: &[Strategy],
     scopes: &Scopes,
     symbols: &mut Symbols,
-) -> Result<CoreStrategy, AllocError>
-    ensures { IfOk result (λ made. views.strategy_of made ≡ strategy_at (layers_of scopes.now) (symbol_congruence symbol (number_of_strategies (strategies_of sources.now)) (parts (arity_known context.now.signature.now) (number_of_strategies (strategies_of sources.now)) 0 (strategies_of sources.now)))) }
+) -> Result<Box<CoreStrategy>, AllocError>
+    ensures { IfOk result (λ made. views.strategy_of made.value ≡ strategy_at (layers_of scopes.now) (symbol_congruence symbol (number_of_strategies (strategies_of sources.now)) (parts (arity_known context.now.signature.now) (number_of_strategies (strategies_of sources.now)) 0 (strategies_of sources.now)))) }
 {
     let alloc = context.alloc;
     let count = number_of(sources);
     if count == 0 {
-        return Ok(CoreStrategy::Match(CorePattern::Applied(symbol, Vec::new(alloc))));
+        let only = match_symbol(alloc, symbol)?;
+        return Ok(only);
     }
     let names = names_of_congruence(count)?;
     let inner = Scopes::Brought {
@@ -104,18 +129,20 @@ pub(crate) fn symbol_congruence(
 
 /// The congruence of a list of these elements.
 #[cycle(walk)]
+#[inline(never)]
 pub(crate) fn elements_congruence(
     context: &Context,
     sources: &[Strategy],
     scopes: &Scopes,
     symbols: &mut Symbols,
-) -> Result<CoreStrategy, AllocError>
-    ensures { IfOk result (λ made. views.strategy_of made ≡ strategy_at (layers_of scopes.now) (elements_congruence (number_of_strategies (strategies_of sources.now)) (parts (arity_known context.now.signature.now) (number_of_strategies (strategies_of sources.now)) 0 (strategies_of sources.now)))) }
+) -> Result<Box<CoreStrategy>, AllocError>
+    ensures { IfOk result (λ made. views.strategy_of made.value ≡ strategy_at (layers_of scopes.now) (elements_congruence (number_of_strategies (strategies_of sources.now)) (parts (arity_known context.now.signature.now) (number_of_strategies (strategies_of sources.now)) 0 (strategies_of sources.now)))) }
 {
     let alloc = context.alloc;
     let count = number_of(sources);
     if count == 0 {
-        return Ok(CoreStrategy::Match(CorePattern::List(Vec::new(alloc), None)));
+        let only = match_no_elements(alloc)?;
+        return Ok(only);
     }
     let names = names_of_congruence(count)?;
     let inner = Scopes::Brought {
@@ -129,6 +156,7 @@ pub(crate) fn elements_congruence(
 
 /// The items of the elements that stand before the rest of a list.
 #[cycle(walk)]
+#[inline(never)]
 pub(crate) fn items_before_rest(
     context: &Context,
     sources: &[Strategy],
@@ -149,6 +177,7 @@ pub(crate) fn items_before_rest(
 
 /// The congruence of a list of n elements, of which these are the items, and this rest.
 #[cycle(walk)]
+#[inline(never)]
 pub(crate) fn rest_congruence(
     context: &Context,
     source: &Strategy,
@@ -156,8 +185,8 @@ pub(crate) fn rest_congruence(
     mut items: Vec<CoreStrategy>,
     scopes: &Scopes,
     symbols: &mut Symbols,
-) -> Result<CoreStrategy, AllocError>
-    ensures { IfOk result (λ made. (each : List NamedStrategy) → map views.strategy_of items.items ≡ items_at (inside_congruence (suc elements) (layers_of scopes.now)) each → views.strategy_of made ≡ strategy_at (layers_of scopes.now) (equations.rest_congruence elements (each ++ part_of (suc elements) elements (strategy_core (arity_known context.now.signature.now) (strategy_of source.now))))) }
+) -> Result<Box<CoreStrategy>, AllocError>
+    ensures { IfOk result (λ made. (each : List NamedStrategy) → map views.strategy_of items.items ≡ items_at (inside_congruence (suc elements) (layers_of scopes.now)) each → views.strategy_of made.value ≡ strategy_at (layers_of scopes.now) (equations.rest_congruence elements (each ++ part_of (suc elements) elements (strategy_core (arity_known context.now.signature.now) (strategy_of source.now))))) }
 {
     let count = successor(elements)?;
     let names = names_of_congruence(count)?;
@@ -173,6 +202,7 @@ pub(crate) fn rest_congruence(
 
 /// The items of the parts, of this number in all.
 #[cycle(walk)]
+#[inline(never)]
 fn items_of(
     context: &Context,
     sources: &[Strategy],

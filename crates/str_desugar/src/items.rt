@@ -12,7 +12,7 @@ ghost use Rattle.str_desugar.specs.Layers.{layers_of};
 use crate::assembly::keeping;
 use crate::parts::{successor, sum, variable};
 use crate::scopes::Scopes;
-use core_lang::{CorePattern, CoreStrategy};
+use core_lang::CoreStrategy;
 use std::alloc::{AllocError, Global};
 
 // Puts the build of the name that is brought at this index after the others.
@@ -33,18 +33,26 @@ fn put_match(scopes: &Scopes, index: usize, items: &mut Vec<CoreStrategy>) -> Re
     Ok(())
 }
 
+/// Puts the strategy after the others.
+#[inline(never)]
+pub(crate) fn put(only: Box<CoreStrategy>, items: &mut Vec<CoreStrategy>) -> Result<(), AllocError>
+    ensures { OnOk result (items.new.items ≡ items.old.items ++ only.value ∷ []) }
+{
+    items.push(Box::into_inner(only))?;
+    Ok(())
+}
+
 // Puts the strategy after the others, on the build of the name that is brought at this index.
 fn put_on(
     scopes: &Scopes,
     index: usize,
-    only: CoreStrategy,
+    only: Box<CoreStrategy>,
     items: &mut Vec<CoreStrategy>,
 ) -> Result<(), AllocError>
-    ensures { OnOk result (map views.strategy_of items.new.items ≡ map views.strategy_of items.old.items ++ core.build (core.variable (variable_at (layers_of scopes.now) (brought index))) ∷ views.strategy_of only ∷ []) }
+    ensures { OnOk result (map views.strategy_of items.new.items ≡ map views.strategy_of items.old.items ++ core.build (core.variable (variable_at (layers_of scopes.now) (brought index))) ∷ views.strategy_of only.value ∷ []) }
 {
     put_build(scopes, index, items)?;
-    items.push(only)?;
-    Ok(())
+    put(only, items)
 }
 
 // Puts the match of the next result after the others.
@@ -74,13 +82,14 @@ fn put_outcome(
 }
 
 /// Puts the items of the next result after the others: the strategy on the kept term gives it.
+#[inline(never)]
 pub(crate) fn put_result(
     scopes: &Scopes,
-    only: CoreStrategy,
+    only: Box<CoreStrategy>,
     next: &mut usize,
     items: &mut Vec<CoreStrategy>,
 ) -> Result<(), AllocError>
-    ensures items { OnOk result (map views.strategy_of items.new.items ≡ map views.strategy_of items.old.items ++ result_here (layers_of scopes.now) next.old (views.strategy_of only ∷ [])) }
+    ensures items { OnOk result (map views.strategy_of items.new.items ≡ map views.strategy_of items.old.items ++ result_here (layers_of scopes.now) next.old (views.strategy_of only.value ∷ [])) }
     ensures next { OnOk result (next.new ≡ next.old + 1) }
 {
     put_on(scopes, 0, only, items)?;
@@ -88,58 +97,62 @@ pub(crate) fn put_result(
 }
 
 /// Puts the items of the next result after the others: the first strategy on the kept term, and then the second, give it.
+#[inline(never)]
 pub(crate) fn put_result_of(
     scopes: &Scopes,
-    first: CoreStrategy,
-    second: CoreStrategy,
+    first: Box<CoreStrategy>,
+    second: Box<CoreStrategy>,
     next: &mut usize,
     items: &mut Vec<CoreStrategy>,
 ) -> Result<(), AllocError>
-    ensures items { OnOk result (map views.strategy_of items.new.items ≡ map views.strategy_of items.old.items ++ result_here (layers_of scopes.now) next.old (views.strategy_of first ∷ views.strategy_of second ∷ [])) }
+    ensures items { OnOk result (map views.strategy_of items.new.items ≡ map views.strategy_of items.old.items ++ result_here (layers_of scopes.now) next.old (views.strategy_of first.value ∷ views.strategy_of second.value ∷ [])) }
     ensures next { OnOk result (next.new ≡ next.old + 1) }
 {
     put_on(scopes, 0, first, items)?;
-    items.push(second)?;
+    put(second, items)?;
     put_next(scopes, next, items)
 }
 
 /// Puts the items of the part at this index, of this number of parts, after the others: the strategy on the part gives its outcome.
+#[inline(never)]
 pub(crate) fn put_part(
     scopes: &Scopes,
     count: usize,
     index: usize,
-    only: CoreStrategy,
+    only: Box<CoreStrategy>,
     items: &mut Vec<CoreStrategy>,
 ) -> Result<(), AllocError>
-    ensures { OnOk result (map views.strategy_of items.new.items ≡ map views.strategy_of items.old.items ++ part_here (layers_of scopes.now) count index (views.strategy_of only)) }
+    ensures { OnOk result (map views.strategy_of items.new.items ≡ map views.strategy_of items.old.items ++ part_here (layers_of scopes.now) count index (views.strategy_of only.value)) }
 {
     let part = successor(index)?;
     put_on(scopes, part, only, items)?;
     put_outcome(scopes, count, index, items)
 }
 
-/// The build of the pattern after the items for its results.
+/// The build after the items for its results.
+#[inline(never)]
 pub(crate) fn build_after(
     alloc: Global,
     count: usize,
     mut items: Vec<CoreStrategy>,
-    pattern: CorePattern,
-) -> Result<CoreStrategy, AllocError>
-    ensures { IfOk result (λ made. views.strategy_of made ≡ keeping_here count (map views.strategy_of items.items ++ core.build (views.pattern_of pattern) ∷ [])) }
+    last: Box<CoreStrategy>,
+) -> Result<Box<CoreStrategy>, AllocError>
+    ensures { IfOk result (λ made. views.strategy_of made.value ≡ keeping_here count (map views.strategy_of items.items ++ views.strategy_of last.value ∷ [])) }
 {
-    items.push(CoreStrategy::Build(pattern))?;
+    put(last, &mut items)?;
     keeping(alloc, count, items)
 }
 
 /// The call on the kept term after the items for its results.
+#[inline(never)]
 pub(crate) fn call_after(
     alloc: Global,
     scopes: &Scopes,
     count: usize,
     mut items: Vec<CoreStrategy>,
-    last: CoreStrategy,
-) -> Result<CoreStrategy, AllocError>
-    ensures { IfOk result (λ made. views.strategy_of made ≡ keeping_here count (map views.strategy_of items.items ++ core.build (core.variable (variable_at (layers_of scopes.now) kept)) ∷ views.strategy_of last ∷ [])) }
+    last: Box<CoreStrategy>,
+) -> Result<Box<CoreStrategy>, AllocError>
+    ensures { IfOk result (λ made. views.strategy_of made.value ≡ keeping_here count (map views.strategy_of items.items ++ core.build (core.variable (variable_at (layers_of scopes.now) kept)) ∷ views.strategy_of last.value ∷ [])) }
 {
     put_on(scopes, 0, last, &mut items)?;
     keeping(alloc, count, items)

@@ -16,6 +16,8 @@ ghost use Rattle.str_desugar.specs.Variables.{strategy_names, term_names};
 ghost use Rattle.str_syntax.specs.Trees.{Bytes};
 
 use crate::alternatives::Groups;
+use crate::call::plain_call;
+use crate::items::put;
 use crate::names::{Names, names_in};
 use crate::scopes::Scopes;
 use crate::strategy::{Context, strategy};
@@ -25,35 +27,36 @@ use std::alloc::{AllocError, Global};
 use str_syntax::{Name, Parameters, Strategy, StrategyDefinition};
 
 // The definition of this body without parameters, and a call of it.
+#[inline(never)]
 fn called_at_once(
     alloc: Global,
     scopes: &Scopes,
     name: &Name,
-    body: CoreStrategy,
-) -> Result<CoreStrategy, AllocError>
-    ensures { IfOk result (λ made. views.strategy_of made ≡ core.with_definitions (core.more_definitions (here 0) 0 0 (views.strategy_of body) core.no_definitions) (core.call (callee_at (layers_of scopes.now) (written name.now) 0 0) core.no_strategies core.no_patterns)) }
+    body: Box<CoreStrategy>,
+) -> Result<Box<CoreStrategy>, AllocError>
+    ensures { IfOk result (λ made. views.strategy_of made.value ≡ core.with_definitions (core.more_definitions (here 0) 0 0 (views.strategy_of body.value) core.no_definitions) (core.call (callee_at (layers_of scopes.now) (written name.now) 0 0) core.no_strategies core.no_patterns)) }
 {
     let mut definitions = Vec::new(alloc);
     definitions.push(CoreDef {
         strats: 0,
         terms: 0,
-        body,
+        body: Box::into_inner(body),
     })?;
-    let at = scopes.callee(name, 0, 0)?;
-    let call = CoreStrategy::Call(at, Vec::new(alloc), Vec::new(alloc));
-    Ok(CoreStrategy::LetIn(definitions, Box::new(alloc, call)?))
+    let call = plain_call(alloc, scopes, name)?;
+    let_in(alloc, definitions, call)
 }
 
 /// The core of a `rec`: a definition, and a call of it.
 #[cycle(walk)]
+#[inline(never)]
 pub(crate) fn recursive(
     context: &Context,
     name: &Name,
     source: &Strategy,
     scopes: &Scopes,
     symbols: &mut Symbols,
-) -> Result<CoreStrategy, AllocError>
-    ensures { IfOk result (λ made. views.strategy_of made ≡ strategy_at (layers_of scopes.now) (primary_core (arity_known context.now.signature.now) (trees.recursive name.now (strategy_of source.now)))) }
+) -> Result<Box<CoreStrategy>, AllocError>
+    ensures { IfOk result (λ made. views.strategy_of made.value ≡ strategy_at (layers_of scopes.now) (primary_core (arity_known context.now.signature.now) (trees.recursive name.now (strategy_of source.now)))) }
 {
     let layer = Scopes::Recursive {
         name: &*name,
@@ -71,6 +74,7 @@ pub(crate) fn recursive(
 }
 
 // The names of the strategy parameters.
+#[inline(never)]
 fn strategies_of(alloc: Global, parameters: &Parameters) -> Result<Names, AllocError>
     ensures { IfOk result (λ made. made ≡ strategy_names (parameters_of parameters.now)) }
 {
@@ -82,6 +86,7 @@ fn strategies_of(alloc: Global, parameters: &Parameters) -> Result<Names, AllocE
 }
 
 // The names of the term parameters.
+#[inline(never)]
 fn terms_of(alloc: Global, parameters: &Parameters) -> Result<Names, AllocError>
     ensures { IfOk result (λ made. made ≡ term_names (parameters_of parameters.now)) }
 {
@@ -93,6 +98,7 @@ fn terms_of(alloc: Global, parameters: &Parameters) -> Result<Names, AllocError>
 }
 
 /// The alternatives of a `let`, in groups.
+#[inline(never)]
 pub(crate) fn groups_of<'a>(
     alloc: Global,
     sources: &'a [StrategyDefinition],
@@ -109,6 +115,7 @@ pub(crate) fn groups_of<'a>(
 
 /// The definitions of a `let`, where these are the groups of its alternatives.
 #[cycle(walk)]
+#[inline(never)]
 pub(crate) fn let_definitions<'a>(
     context: &Context,
     sources: &'a [StrategyDefinition],
@@ -131,14 +138,15 @@ pub(crate) fn let_definitions<'a>(
 
 /// The body of a `let`, where these are the groups of its alternatives.
 #[cycle(walk)]
+#[inline(never)]
 pub(crate) fn let_body<'a>(
     context: &Context,
     source: &Strategy,
     groups: &Groups<'a>,
     scopes: &Scopes,
     symbols: &mut Symbols,
-) -> Result<CoreStrategy, AllocError>
-    ensures { IfOk result (λ made. (all : List Alternative) → map head_in all ≡ groups.now → views.strategy_of made ≡ strategy_at (within all (layers_of scopes.now)) (strategy_core (arity_known context.now.signature.now) (strategy_of source.now))) }
+) -> Result<Box<CoreStrategy>, AllocError>
+    ensures { IfOk result (λ made. (all : List Alternative) → map head_in all ≡ groups.now → views.strategy_of made.value ≡ strategy_at (within all (layers_of scopes.now)) (strategy_core (arity_known context.now.signature.now) (strategy_of source.now))) }
 {
     let keys = groups.keys(context.alloc)?;
     let inner = Scopes::Defined {
@@ -150,18 +158,21 @@ pub(crate) fn let_body<'a>(
 }
 
 /// The body under the definitions.
+#[inline(never)]
 pub(crate) fn let_in(
     alloc: Global,
     definitions: Vec<CoreDef>,
-    body: CoreStrategy,
-) -> Result<CoreStrategy, AllocError>
-    ensures { IfOk result (λ made. views.strategy_of made ≡ core.with_definitions (views.definitions_of definitions.items) (views.strategy_of body)) }
+    body: Box<CoreStrategy>,
+) -> Result<Box<CoreStrategy>, AllocError>
+    ensures { IfOk result (λ made. views.strategy_of made.value ≡ core.with_definitions (views.definitions_of definitions.items) (views.strategy_of body.value)) }
 {
-    Ok(CoreStrategy::LetIn(definitions, Box::new(alloc, body)?))
+    let made = Box::new(alloc, CoreStrategy::LetIn(definitions, body))?;
+    Ok(made)
 }
 
 // The bodies of the alternatives of a `let`, each with the parameters of the first of its definition.
 #[cycle(walk)]
+#[inline(never)]
 fn bodies<'a>(
     context: &Context,
     sources: &'a [StrategyDefinition],
@@ -175,21 +186,22 @@ fn bodies<'a>(
     let mut made = Vec::with_capacity(context.alloc, sources.len())?;
     for source in sources {
         let body = alternative(context, source, groups, scopes, symbols)?;
-        made.push(body)?;
+        put(body, &mut made)?;
     }
     Ok(made)
 }
 
 // The body of an alternative.
 #[cycle(walk)]
+#[inline(never)]
 fn alternative<'a>(
     context: &Context,
     source: &'a StrategyDefinition,
     groups: &Groups<'a>,
     scopes: &Scopes,
     symbols: &mut Symbols,
-) -> Result<CoreStrategy, AllocError>
-    ensures { IfOk result (λ made. views.strategy_of made ≡ body_among (layers_of scopes.now) groups.now (alternative_core (arity_known context.now.signature.now) (definition_of source.now))) }
+) -> Result<Box<CoreStrategy>, AllocError>
+    ensures { IfOk result (λ made. views.strategy_of made.value ≡ body_among (layers_of scopes.now) groups.now (alternative_core (arity_known context.now.signature.now) (definition_of source.now))) }
 {
     let first = groups.first_of(&source.head);
     let strategies = strategies_of(context.alloc, &first.parameters)?;

@@ -21,31 +21,34 @@ use std::alloc::AllocError;
 use str_syntax::{Pattern, Text};
 
 // The call itself, in the layers that have the results for its arguments.
+#[inline(never)]
 fn called(
     context: &Context,
     name: &Text,
     terms: &[Pattern],
     scopes: &Scopes,
     symbols: &mut Symbols,
-) -> Result<CoreStrategy, AllocError>
-    ensures { IfOk result (λ made. views.strategy_of made ≡ strategy_at (layers_of scopes.now) (core.primitive name.now (built_parts 0 (patterns_of terms.now)))) }
+) -> Result<Box<CoreStrategy>, AllocError>
+    ensures { IfOk result (λ made. views.strategy_of made.value ≡ strategy_at (layers_of scopes.now) (core.primitive name.now (built_parts 0 (patterns_of terms.now)))) }
 {
     let mut next = 0;
     let terms = built_parts(context.alloc, terms, scopes, symbols, &mut next)?;
     let name = Vec::from_slice(context.alloc, name.bytes())?;
-    Ok(CoreStrategy::Primitive(name, terms))
+    let made = Box::new(context.alloc, CoreStrategy::Primitive(name, terms))?;
+    Ok(made)
 }
 
 /// The core of a call of a primitive.
 #[cycle(walk)]
+#[inline(never)]
 pub(crate) fn primitive(
     context: &Context,
     name: &Text,
     terms: &[Pattern],
     scopes: &Scopes,
     symbols: &mut Symbols,
-) -> Result<CoreStrategy, AllocError>
-    ensures { IfOk result (λ made. views.strategy_of made ≡ strategy_at (layers_of scopes.now) (primary_core (arity_known context.now.signature.now) (trees.primitive name.now (patterns_of terms.now)))) }
+) -> Result<Box<CoreStrategy>, AllocError>
+    ensures { IfOk result (λ made. views.strategy_of made.value ≡ strategy_at (layers_of scopes.now) (primary_core (arity_known context.now.signature.now) (trees.primitive name.now (patterns_of terms.now)))) }
 {
     let count = applications_among(terms)?;
     if count == 0 {

@@ -15,7 +15,9 @@ ghost use Rattle.str_desugar.specs.Groups.{bodies_at, body_among, head_in};
 ghost use Rattle.str_desugar.specs.Layers.{layers_of};
 
 use crate::alternatives::Groups;
+use crate::assembly::scope_of;
 use crate::forms::{forms_in, groups_of, head_of};
+use crate::items::put;
 use crate::keys::Keys;
 use crate::names::{Names, names_in};
 use crate::parameters::{strategy_names, term_names};
@@ -115,7 +117,7 @@ fn bodies<'a>(
     let mut made = Vec::with_capacity(context.alloc, forms.len())?;
     for form in forms {
         let body = alternative(context, form, groups, scopes, symbols)?;
-        made.push(body)?;
+        put(body, &mut made)?;
     }
     Ok(made)
 }
@@ -127,8 +129,8 @@ fn alternative<'a>(
     groups: &Groups<'a>,
     scopes: &Scopes,
     symbols: &mut Symbols,
-) -> Result<CoreStrategy, AllocError>
-    ensures { IfOk result (λ made. views.strategy_of made ≡ body_among (layers_of scopes.now) groups.now (top_core (arity_known context.now.signature.now) (form_of form.now))) }
+) -> Result<Box<CoreStrategy>, AllocError>
+    ensures { IfOk result (λ made. views.strategy_of made.value ≡ body_among (layers_of scopes.now) groups.now (top_core (arity_known context.now.signature.now) (form_of form.now))) }
 {
     let first = groups.first_of(head_of(form));
     let strategies = names_in(context.alloc, strategy_names(&first.parameters))?;
@@ -145,8 +147,8 @@ fn under_parameters(
     terms: &[Name],
     scopes: &Scopes,
     symbols: &mut Symbols,
-) -> Result<CoreStrategy, AllocError>
-    ensures { IfOk result (λ made. views.strategy_of made ≡ strategy_at (of_names (map written strategies.now) (map written terms.now) (layers_of scopes.now)) (top_core (arity_known context.now.signature.now) (form_of form.now)).body) }
+) -> Result<Box<CoreStrategy>, AllocError>
+    ensures { IfOk result (λ made. views.strategy_of made.value ≡ strategy_at (of_names (map written strategies.now) (map written terms.now) (layers_of scopes.now)) (top_core (arity_known context.now.signature.now) (form_of form.now)).body) }
 {
     let terms = names_in(context.alloc, terms)?;
     let inner = Scopes::Parameters {
@@ -164,8 +166,8 @@ fn body(
     form: &DefinitionForm,
     scopes: &Scopes,
     symbols: &mut Symbols,
-) -> Result<CoreStrategy, AllocError>
-    ensures { IfOk result (λ made. views.strategy_of made ≡ strategy_at (layers_of scopes.now) (top_core (arity_known context.now.signature.now) (form_of form.now)).body) }
+) -> Result<Box<CoreStrategy>, AllocError>
+    ensures { IfOk result (λ made. views.strategy_of made.value ≡ strategy_at (layers_of scopes.now) (top_core (arity_known context.now.signature.now) (form_of form.now)).body) }
 {
     match form {
         DefinitionForm::Rule(source) => {
@@ -190,8 +192,8 @@ fn scoped_strategy(
     source: &Strategy,
     scopes: &Scopes,
     symbols: &mut Symbols,
-) -> Result<CoreStrategy, AllocError>
-    ensures { IfOk result (λ made. views.strategy_of made ≡ strategy_at (layers_of scopes.now) (scoped names.now (strategy_core (arity_known context.now.signature.now) (strategy_of source.now)))) }
+) -> Result<Box<CoreStrategy>, AllocError>
+    ensures { IfOk result (λ made. views.strategy_of made.value ≡ strategy_at (layers_of scopes.now) (scoped names.now (strategy_core (arity_known context.now.signature.now) (strategy_of source.now)))) }
 {
     let count = names.len();
     if count == 0 {
@@ -203,6 +205,6 @@ fn scoped_strategy(
         outer: &*scopes,
     };
     let body = strategy(context, source, &inner, symbols)?;
-    let body = Box::new(context.alloc, body)?;
-    Ok(CoreStrategy::Scope(count, body))
+    let made = scope_of(context.alloc, count, body)?;
+    Ok(made)
 }

@@ -8,12 +8,11 @@ ghost use Rattle.str_desugar.specs.Frames.{strategy_at};
 ghost use Rattle.str_desugar.specs.Layers.{layers_of};
 ghost use Rattle.signature_core.specs.Signature.{arity_known};
 
-use crate::assembly::seq;
+use crate::assembly::{scope_of, seq};
 use crate::build::build;
-use crate::matched::matched;
 use crate::names::Names;
 use crate::scopes::Scopes;
-use crate::strategy::{Context, where_at};
+use crate::strategy::{Context, match_of, where_at};
 use crate::symbols::Symbols;
 use crate::variables::left_variables;
 use core_lang::CoreStrategy;
@@ -22,26 +21,27 @@ use str_syntax::Rule;
 
 // The core of a rule, whose variables stand in the layers around it.
 #[cycle(walk)]
+#[inline(never)]
 fn rule(
     context: &Context,
     source: &Rule,
     scopes: &Scopes,
     symbols: &mut Symbols,
-) -> Result<CoreStrategy, AllocError>
-    ensures { IfOk result (λ made. views.strategy_of made ≡ strategy_at (layers_of scopes.now) (rule_core (arity_known context.now.signature.now) (rule_of source.now))) }
+) -> Result<Box<CoreStrategy>, AllocError>
+    ensures { IfOk result (λ made. views.strategy_of made.value ≡ strategy_at (layers_of scopes.now) (rule_core (arity_known context.now.signature.now) (rule_of source.now))) }
 {
     let alloc = context.alloc;
-    let first = matched(alloc, &source.left, scopes, symbols)?;
+    let first = match_of(alloc, &source.left, scopes, symbols)?;
     let last = build(context, &source.right, scopes, symbols)?;
     match &source.condition {
         None => {
-            let both = seq(alloc, CoreStrategy::Match(first), last)?;
+            let both = seq(alloc, first, last)?;
             Ok(both)
         }
         Some(condition) => {
             let middle = where_at(context, condition, scopes, symbols)?;
             let others = seq(alloc, middle, last)?;
-            let made = seq(alloc, CoreStrategy::Match(first), others)?;
+            let made = seq(alloc, first, others)?;
             Ok(made)
         }
     }
@@ -49,14 +49,15 @@ fn rule(
 
 /// The core of a rule in a scope of these variables, if there are any.
 #[cycle(walk)]
+#[inline(never)]
 pub(crate) fn scoped_rule(
     context: &Context,
     names: &Names,
     source: &Rule,
     scopes: &Scopes,
     symbols: &mut Symbols,
-) -> Result<CoreStrategy, AllocError>
-    ensures { IfOk result (λ made. views.strategy_of made ≡ strategy_at (layers_of scopes.now) (scoped names.now (rule_core (arity_known context.now.signature.now) (rule_of source.now)))) }
+) -> Result<Box<CoreStrategy>, AllocError>
+    ensures { IfOk result (λ made. views.strategy_of made.value ≡ strategy_at (layers_of scopes.now) (scoped names.now (rule_core (arity_known context.now.signature.now) (rule_of source.now)))) }
 {
     let count = names.len();
     if count == 0 {
@@ -68,19 +69,20 @@ pub(crate) fn scoped_rule(
         outer: &*scopes,
     };
     let body = rule(context, source, &inner, symbols)?;
-    let body = Box::new(context.alloc, body)?;
-    Ok(CoreStrategy::Scope(count, body))
+    let made = scope_of(context.alloc, count, body)?;
+    Ok(made)
 }
 
 /// The core of a rule in backslashes, which binds the variables of its left side.
 #[cycle(walk)]
+#[inline(never)]
 pub(crate) fn lambda(
     context: &Context,
     source: &Rule,
     scopes: &Scopes,
     symbols: &mut Symbols,
-) -> Result<CoreStrategy, AllocError>
-    ensures { IfOk result (λ made. views.strategy_of made ≡ strategy_at (layers_of scopes.now) (primary_core (arity_known context.now.signature.now) (trees.lambda (rule_of source.now)))) }
+) -> Result<Box<CoreStrategy>, AllocError>
+    ensures { IfOk result (λ made. views.strategy_of made.value ≡ strategy_at (layers_of scopes.now) (primary_core (arity_known context.now.signature.now) (trees.lambda (rule_of source.now)))) }
 {
     let names = left_variables(context.alloc, source)?;
     let made = scoped_rule(context, &names, source, scopes, symbols)?;

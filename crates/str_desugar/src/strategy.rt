@@ -1,4 +1,5 @@
-// The walk over strategies, which recurses along the nesting of a file alone.
+// The walk over strategies, which recurses along the nesting of a file alone. So that a level takes little of the call stack, what is
+// made is held in boxes, and neither a function of the walk nor one that makes a form is inlined in another.
 ghost use Rattle.std.specs.Prelude.{◌≡◌, IfOk};
 ghost use Rattle.core_lang.specs.Program as core;
 ghost use Rattle.core_lang.specs.Views as views;
@@ -10,7 +11,10 @@ ghost use Rattle.str_desugar.specs.Frames.{strategy_at};
 ghost use Rattle.str_desugar.specs.Layers.{layers_of};
 ghost use Rattle.signature_core.specs.Signature.{arity_known};
 
-use crate::assembly::{choice, seq, where_of};
+use crate::assembly::{
+    choice, failure, identity, left_choice, negation, on_all, on_one, on_some, scope_of, seq,
+    where_of,
+};
 use crate::build::build;
 use crate::call::call;
 use crate::congruence::{
@@ -43,15 +47,15 @@ pub(crate) fn strategy(
     source: &Strategy,
     scopes: &Scopes,
     symbols: &mut Symbols,
-) -> Result<CoreStrategy, AllocError>
-    ensures { IfOk result (λ made. views.strategy_of made ≡ strategy_at (layers_of scopes.now) (strategy_core (arity_known context.now.signature.now) (strategy_of source.now))) }
+) -> Result<Box<CoreStrategy>, AllocError>
+    ensures { IfOk result (λ made. views.strategy_of made.value ≡ strategy_at (layers_of scopes.now) (strategy_core (arity_known context.now.signature.now) (strategy_of source.now))) }
 {
     match source {
         Strategy::Sequence(only) => sequence(context, only, scopes, symbols),
         Strategy::LeftChoice(first, others) => {
             let guard = sequence(context, first, scopes, symbols)?;
             let otherwise = strategy(context, others, scopes, symbols)?;
-            choice(context.alloc, guard, CoreStrategy::Id, otherwise)
+            left_choice(context.alloc, guard, otherwise)
         }
         Strategy::GuardedChoice(first, second, third) => {
             let guard = sequence(context, first, scopes, symbols)?;
@@ -63,13 +67,14 @@ pub(crate) fn strategy(
 }
 
 #[cycle(walk)]
+#[inline(never)]
 fn sequence(
     context: &Context,
     source: &Sequence,
     scopes: &Scopes,
     symbols: &mut Symbols,
-) -> Result<CoreStrategy, AllocError>
-    ensures { IfOk result (λ made. views.strategy_of made ≡ strategy_at (layers_of scopes.now) (sequence_core (arity_known context.now.signature.now) (sequence_of source.now))) }
+) -> Result<Box<CoreStrategy>, AllocError>
+    ensures { IfOk result (λ made. views.strategy_of made.value ≡ strategy_at (layers_of scopes.now) (sequence_core (arity_known context.now.signature.now) (sequence_of source.now))) }
 {
     match source {
         Sequence::Last(only) => step(context, only, scopes, symbols),
@@ -82,13 +87,14 @@ fn sequence(
 }
 
 #[cycle(walk)]
+#[inline(never)]
 fn step(
     context: &Context,
     source: &Step,
     scopes: &Scopes,
     symbols: &mut Symbols,
-) -> Result<CoreStrategy, AllocError>
-    ensures { IfOk result (λ made. views.strategy_of made ≡ strategy_at (layers_of scopes.now) (step_core (arity_known context.now.signature.now) (step_of source.now))) }
+) -> Result<Box<CoreStrategy>, AllocError>
+    ensures { IfOk result (λ made. views.strategy_of made.value ≡ strategy_at (layers_of scopes.now) (step_core (arity_known context.now.signature.now) (step_of source.now))) }
 {
     match source {
         Step::Plain(only) => primary(context, only, scopes, symbols),
@@ -100,30 +106,34 @@ fn step(
     }
 }
 
-// The core of a match.
-fn match_of(
+/// The core of a match.
+#[inline(never)]
+pub(crate) fn match_of(
     alloc: Global,
     source: &Pattern,
     scopes: &Scopes,
     symbols: &mut Symbols,
-) -> Result<CoreStrategy, AllocError>
-    ensures { IfOk result (λ made. views.strategy_of made ≡ strategy_at (layers_of scopes.now) (core.match (equations.matched (pattern_of source.now)))) }
+) -> Result<Box<CoreStrategy>, AllocError>
+    ensures { IfOk result (λ made. views.strategy_of made.value ≡ strategy_at (layers_of scopes.now) (core.match (equations.matched (pattern_of source.now)))) }
 {
-    Ok(CoreStrategy::Match(matched(alloc, source, scopes, symbols)?))
+    let pattern = matched(alloc, source, scopes, symbols)?;
+    let made = Box::new(alloc, CoreStrategy::Match(pattern))?;
+    Ok(made)
 }
 
 #[cycle(walk)]
+#[inline(never)]
 fn primary(
     context: &Context,
     source: &Primary,
     scopes: &Scopes,
     symbols: &mut Symbols,
-) -> Result<CoreStrategy, AllocError>
-    ensures { IfOk result (λ made. views.strategy_of made ≡ strategy_at (layers_of scopes.now) (primary_core (arity_known context.now.signature.now) (primary_of source.now))) }
+) -> Result<Box<CoreStrategy>, AllocError>
+    ensures { IfOk result (λ made. views.strategy_of made.value ≡ strategy_at (layers_of scopes.now) (primary_core (arity_known context.now.signature.now) (primary_of source.now))) }
 {
     match source {
-        Primary::Id => Ok(CoreStrategy::Id),
-        Primary::Fail => Ok(CoreStrategy::Fail),
+        Primary::Id => identity(context.alloc),
+        Primary::Fail => failure(context.alloc),
         Primary::Match(pattern) => match_of(context.alloc, pattern, scopes, symbols),
         Primary::Build(pattern) => build(context, pattern, scopes, symbols),
         Primary::Apply(after, pattern) => {
@@ -166,14 +176,15 @@ fn primary(
 }
 
 #[cycle(walk)]
+#[inline(never)]
 fn scope(
     context: &Context,
     names: &[Name],
     source: &Strategy,
     scopes: &Scopes,
     symbols: &mut Symbols,
-) -> Result<CoreStrategy, AllocError>
-    ensures { IfOk result (λ made. views.strategy_of made ≡ strategy_at (layers_of scopes.now) (primary_core (arity_known context.now.signature.now) (trees.scope names.now (strategy_of source.now)))) }
+) -> Result<Box<CoreStrategy>, AllocError>
+    ensures { IfOk result (λ made. views.strategy_of made.value ≡ strategy_at (layers_of scopes.now) (primary_core (arity_known context.now.signature.now) (trees.scope names.now (strategy_of source.now)))) }
 {
     let alloc = context.alloc;
     let variables = names_in(alloc, names)?;
@@ -182,18 +193,20 @@ fn scope(
         outer: &*scopes,
     };
     let body = strategy(context, source, &inner, symbols)?;
-    Ok(CoreStrategy::Scope(names.len(), Box::new(alloc, body)?))
+    let made = scope_of(alloc, names.len(), body)?;
+    Ok(made)
 }
 
 #[cycle(walk)]
+#[inline(never)]
 fn operator(
     context: &Context,
     kind: Operator,
     source: &Strategy,
     scopes: &Scopes,
     symbols: &mut Symbols,
-) -> Result<CoreStrategy, AllocError>
-    ensures { IfOk result (λ made. views.strategy_of made ≡ strategy_at (layers_of scopes.now) (primary_core (arity_known context.now.signature.now) (trees.operator kind (strategy_of source.now)))) }
+) -> Result<Box<CoreStrategy>, AllocError>
+    ensures { IfOk result (λ made. views.strategy_of made.value ≡ strategy_at (layers_of scopes.now) (primary_core (arity_known context.now.signature.now) (trees.operator kind (strategy_of source.now)))) }
 {
     if let Operator::Where = kind {
         return where_at(context, source, scopes, symbols);
@@ -202,28 +215,29 @@ fn operator(
     let alloc = context.alloc;
     match kind {
         Operator::Where => where_of(alloc, inner),
-        Operator::Not => choice(alloc, inner, CoreStrategy::Fail, CoreStrategy::Id),
-        Operator::All => Ok(CoreStrategy::All(Box::new(alloc, inner)?)),
-        Operator::One => Ok(CoreStrategy::One(Box::new(alloc, inner)?)),
-        Operator::Some => Ok(CoreStrategy::Some(Box::new(alloc, inner)?)),
+        Operator::Not => negation(alloc, inner),
+        Operator::All => on_all(alloc, inner),
+        Operator::One => on_one(alloc, inner),
+        Operator::Some => on_some(alloc, inner),
     }
 }
 
 /// The strategy on the current term, which it leaves as it is.
 #[cycle(walk)]
+#[inline(never)]
 pub(crate) fn where_at(
     context: &Context,
     source: &Strategy,
     scopes: &Scopes,
     symbols: &mut Symbols,
-) -> Result<CoreStrategy, AllocError>
-    ensures { IfOk result (λ made. views.strategy_of made ≡ strategy_at (layers_of scopes.now) (where_core (strategy_core (arity_known context.now.signature.now) (strategy_of source.now)))) }
+) -> Result<Box<CoreStrategy>, AllocError>
+    ensures { IfOk result (λ made. views.strategy_of made.value ≡ strategy_at (layers_of scopes.now) (where_core (strategy_core (arity_known context.now.signature.now) (strategy_of source.now)))) }
 {
-    let inner = Scopes::Brought {
+    let layer = Scopes::Brought {
         count: 1,
         outer: &*scopes,
     };
-    let body = strategy(context, source, &inner, symbols)?;
+    let body = strategy(context, source, &layer, symbols)?;
     where_of(context.alloc, body)
 }
 
@@ -233,11 +247,11 @@ fn otherwise_of(
     source: &Option<Box<Strategy>>,
     scopes: &Scopes,
     symbols: &mut Symbols,
-) -> Result<CoreStrategy, AllocError>
-    ensures { IfOk result (λ made. views.strategy_of made ≡ strategy_at (layers_of scopes.now) (otherwise_core (arity_known context.now.signature.now) (optional_strategy_of source.now))) }
+) -> Result<Box<CoreStrategy>, AllocError>
+    ensures { IfOk result (λ made. views.strategy_of made.value ≡ strategy_at (layers_of scopes.now) (otherwise_core (arity_known context.now.signature.now) (optional_strategy_of source.now))) }
 {
     match source {
-        None => Ok(CoreStrategy::Id),
+        None => identity(context.alloc),
         Some(other) => strategy(context, other, scopes, symbols),
     }
 }

@@ -2,10 +2,9 @@ use Rattle.std.proofs.Common.{◌∷◌, [], List, map, drop, ◌+◌, ◌≡◌
 use Rattle.std.proofs.lemmas.List.{map-append, take_all}
 use Rattle.std.specs.Result.{IfOk}
 use Rattle.core_lang.specs.Named.{written}
-use Rattle.core_lang.specs.Program.{call, no_patterns, primitive, seq, with_definitions}
+use Rattle.core_lang.specs.Program.{call, match, no_patterns, primitive, seq, with_definitions}
 use Rattle.core_lang.specs.Resolved.{ResolvedStrategy}
 use Rattle.core_lang.specs.Views as views
-use Rattle.core_lang.proofs.ReadLaws as core_reads
 use Rattle.str_syntax.proofs.ReadLaws.{reads_all_arguments, reads_let, reads_list_congruence}
 use Rattle.str_syntax.specs.Arity.{number_of_strategies}
 use Rattle.str_syntax.specs.Trees as trees
@@ -13,7 +12,7 @@ use Rattle.str_syntax.specs.Trees.{PatternTrees, PrimaryTree, StrategyTrees, no_
 use Rattle.str_syntax.specs.Views.{arguments_of, definition_of, definitions_of, optional_strategy_of, pattern_of, primary_of, patterns_of, strategy_of, strategies_of}
 use Rattle.signature_core.specs.Signature.{arity_known}
 use Rattle.str_desugar.specs.Equations.{alternative_core, alternatives, build_after, built, built_parts, call_after, constructor_symbol, elements_congruence, matched, parts, primary_core, results, results_among, strategies_core, strategy_core, symbol_congruence, where_core}
-use Rattle.str_desugar.specs.Frames.{pattern_at, strategy_at}
+use Rattle.str_desugar.specs.Frames.{strategy_at}
 use Rattle.str_desugar.specs.Groups.{body_among}
 use Rattle.str_desugar.specs.Layers.{layers_of}
 use Rattle.str_desugar.proofs.LocalLaws.{bodies_all, bodies_counted, body_made, definitions_made, recursive_made}
@@ -26,7 +25,7 @@ build::build-returns t c =
     let D = arity_known c.args.context.now.signature.now in
     let p = pattern_of c.args.source.now in
     let each = from_none _ _ _ c.new-items.ensures.items c.in_ok-results_of.ensures.items in
-    build_made c.in_ok-names.names c.in_ok-count.count _ (built 0 p) (results D 0 p) _ _ _ c.if-count-eq0.false c.in_ok-names.ensures each c.in_ok-pattern-2.ensures.made c.in_ok-made.ensures ∙
+    build_made c.in_ok-names.names c.in_ok-count.count _ (built 0 p) (results D 0 p) _ _ _ c.if-count-eq0.false c.in_ok-names.ensures each c.in_ok-last.ensures c.in_ok-made.ensures ∙
     ap (λ n. strategy_at F (build_after n (results D 0 p) (built 0 p))) c.in_ok-count.ensures
 
 pub build::results_in-loop-source-preserved : goal.build::results_in-loop-source-preserved
@@ -94,7 +93,7 @@ call::handed-loop-source-preserved t c =
     let D = arity_known c.args.context.now.signature.now in
     let next = next_strategy sources c.loop-source.source-index c.source-item.result c.loop-source-test.true c.source-item.is in
     let P : StrategyTrees → Type 0 = λ rest. Hands F D (strategies_of sources) (map views.strategy_of c.loop-source.made.items) rest in
-    let made = ap (λ ss. map views.strategy_of ss) c.in_ok-push.ensures.items ∙ map-append views.strategy_of c.loop-source.made.items (c.in_ok-argument.argument ∷ []) in
+    let made = ap (λ ss. map views.strategy_of ss) c.in_ok-put.ensures ∙ map-append views.strategy_of c.loop-source.made.items (c.in_ok-argument.argument.value ∷ []) in
     let Q : List _ → Type 0 = λ ss. Hands F D (strategies_of sources) ss (strategies_of (drop (c.loop-source.source-index + 1) sources)) in
     subst Q (sym made) (hands_more _ _ _ _ _ _ _ (subst P next c.loop-source.invariant) c.in_ok-argument.ensures)
 
@@ -179,19 +178,19 @@ pub rules::rule-returns-in_ok-both-in-None : goal.rules::rule-returns-in_ok-both
 rules::rule-returns-in_ok-both-in-None t c =
     let F = layers_of c.args.scopes.now in
     let D = arity_known c.args.context.now.signature.now in
-    let matches = c.in_ok-first.ensures ∙ ap (λ p. pattern_at F (matched (pattern_of p))) c.deref.ensures in
+    let matches = c.in_ok-first.ensures ∙ ap (λ p. strategy_at F (match (matched (pattern_of p)))) c.deref.ensures in
     let builds = c.in_ok-last.ensures ∙ ap (λ p. strategy_at F (primary_core D (trees.build (pattern_of p)))) c.deref-2.ensures in
-    c.in_ok-both-in-None.ensures ∙ ap (λ s. seq s (views.strategy_of c.in_ok-last.last)) (core_reads.reads_match c.in_ok-first.first) ∙
+    c.in_ok-both-in-None.ensures ∙
     rule_plain_made F D c.args.source.now _ _ matches builds c.in-None.is
 
 pub rules::rule-returns-in_ok-made-in-Some : goal.rules::rule-returns-in_ok-made-in-Some
 rules::rule-returns-in_ok-made-in-Some t c =
     let F = layers_of c.args.scopes.now in
     let D = arity_known c.args.context.now.signature.now in
-    let matches = c.in_ok-first.ensures ∙ ap (λ p. pattern_at F (matched (pattern_of p))) c.deref.ensures in
+    let matches = c.in_ok-first.ensures ∙ ap (λ p. strategy_at F (match (matched (pattern_of p)))) c.deref.ensures in
     let builds = c.in_ok-last.ensures ∙ ap (λ p. strategy_at F (primary_core D (trees.build (pattern_of p)))) c.deref-2.ensures in
     let where_is = c.in_ok-middle-in-Some.ensures ∙ ap (λ s. strategy_at F (where_core (strategy_core D (strategy_of s)))) c.deref-in-Some.ensures in
-    c.in_ok-made-in-Some.ensures ∙ ap₂ (λ s r. seq s r) (core_reads.reads_match c.in_ok-first.first) c.in_ok-others-in-Some.ensures ∙
+    c.in_ok-made-in-Some.ensures ∙ ap (λ r. seq (views.strategy_of c.in_ok-first.first.value) r) c.in_ok-others-in-Some.ensures ∙
     rule_made F D c.args.source.now _ _ matches builds c.in-Some.condition _ c.in-Some.is where_is
 
 pub strategy::primary-returns-in_ok-made-in-Some : goal.strategy::primary-returns-in_ok-made-in-Some
@@ -211,7 +210,7 @@ strategy::primary-returns-in-None t c =
     let F = layers_of c.args.scopes.now in
     let D = arity_known c.args.context.now.signature.now in
     let elements = c.in-ListCongruence.elements in
-    let P : PrimaryTree → Type 0 = λ p. IfOk c.elements_congruence.result (λ made. views.strategy_of made ≡ strategy_at F (primary_core D p)) in
+    let P : PrimaryTree → Type 0 = λ p. IfOk c.elements_congruence.result (λ made. views.strategy_of made.value ≡ strategy_at F (primary_core D p)) in
     subst P
     (ap (λ ss. trees.list_congruence (strategies_of ss) no_strategy) c.deref-in-None.ensures.value ∙
     sym (ap primary_of c.in-ListCongruence.is ∙ reads_list_congruence elements c.in-ListCongruence.rest ∙ ap (λ o. trees.list_congruence (strategies_of elements.items) (optional_strategy_of o)) c.in-None.is))
@@ -225,7 +224,7 @@ strategy::primary-returns-in_ok-body-in-Let t c =
     let heads = rw c.deref-in-Let.ensures.value at (c.in_ok-groups-in-Let.ensures D) in
     let defined = rw c.deref-in-Let-2.ensures.value at c.in_ok-made-in-Let.ensures in
     let body = rw c.deref-in-Let-3.ensures at (c.in_ok-body-in-Let.ensures all (sym heads)) in
-    let P : ResolvedStrategy → Type 0 = λ q. IfOk c.let_in.result (λ made. views.strategy_of made ≡ q) in
+    let P : ResolvedStrategy → Type 0 = λ q. IfOk c.let_in.result (λ made. views.strategy_of made.value ≡ q) in
     subst P
     (ap₂ (λ ds s. with_definitions ds s) defined body ∙
     sym (ap (λ p. strategy_at F (primary_core D p)) (ap primary_of c.in-Let.is ∙ reads_let c.in-Let.definitions c.in-Let.body)))
@@ -234,5 +233,5 @@ strategy::primary-returns-in_ok-body-in-Let t c =
 pub strategy::scope-returns : goal.strategy::scope-returns
 strategy::scope-returns t c =
     let s = strategy_core (arity_known c.args.context.now.signature.now) (strategy_of c.args.source.now) in
-    core_reads.reads_scope _ c.in_ok-new.field-0 ∙
-    scope_made _ _ c.args.names.now s _ (views.strategy_of c.in_ok-new.field-0.value) c.in_ok-variables.ensures refl (ap views.strategy_of c.in_ok-new.ensures.ok ∙ c.in_ok-body.ensures)
+    c.in_ok-made.ensures ∙
+    scope_made _ _ c.args.names.now s _ (views.strategy_of c.in_ok-body.body.value) c.in_ok-variables.ensures refl c.in_ok-body.ensures
