@@ -1,5 +1,5 @@
 -- What matching over references comes to, one step after another.
-use Rattle.std.proofs.Common.{◌≡◌, ℕ, ℤ, zero, suc, ◌+◌, ◌<◌, ◌≤◌, Option, Some, None, List, [], ◌∷◌, length, map, drop, get_or, refl, sym, ◌∙◌, ap, subst, arith, add-one}
+use Rattle.std.proofs.Common.{◌≡◌, ℕ, ℤ, zero, suc, ◌+◌, ◌<◌, ◌≤◌, Option, Some, None, List, [], ◌∷◌, length, map, drop, get_or, Box, Global, refl, sym, ◌∙◌, ap, subst, arith, add-one}
 use Rattle.std.specs.Prelude.{Bool, true, false, IsTrue, ◌↔◌, nat_lt, nat_eq, if◌then◌else◌, slice_get}
 use Rattle.std.specs.Option.{option_map}
 use Rattle.std.proofs.lemmas.Option.{slice_get-map}
@@ -17,9 +17,9 @@ use Rattle.core_lang.specs.Program.{Pattern, anything, variable, alias, integer,
 use Rattle.core_lang.specs.Roots.{are_many, count_of_patterns}
 use Rattle.core_lang.specs.Views.{patterns_in, elements_in}
 use Rattle.strat_machine.specs.Binding.{with_term, Attempt, attempt, bind_value, bind, and_go, only_if, attempted, all_attempted, elements_attempted}
-use Rattle.strat_machine.specs.Loaded.{loaded_of, Known, AllKnown}
+use Rattle.strat_machine.specs.Loaded.{loaded_of, rest_loaded_of, Known, AllKnown}
 use Rattle.strat_machine.specs.declared.loaded.LoadedPattern.{LoadedPattern}
-use Rattle.strat_machine.specs.Matches.{Goes, first_attempted, rest_attempted, sees_annotations}
+use Rattle.strat_machine.specs.Matches.{Goes, LeavesSpace, AllLeaveSpace, ElementsLeaveSpace, first_attempted, rest_attempted, sees_annotations}
 use Rattle.strat_machine.specs.PlaceStack.{PlaceStack}
 use Rattle.strat_machine.specs.References.{Places, AllPlaces, Binds, binds_none, binds_one}
 use Rattle.strat_machine.proofs.ReferenceLaws.{all_with}
@@ -299,6 +299,33 @@ module _ {W R M N : Type 0} {stands : W → R → Bool} {term_of : W → R → T
   match_stops {w} {w1} {w2} {f = f} {g = g} {U = U} {V = V} {b = b} ps at i p t test d known keeps here_at within is part x later same_barrier so y =
       let own = subst (λ d. Goes stands term_of d (attempted place d (loaded_of (symbol_of w1) p) t) (attempt test) w1 f U w2 g V) same_barrier y in
       goes_then (one_goes ps at i p t known keeps here_at within is part x) later.standing (goes_not (λ g1 V1. first_attempted place b (drop (suc i) (map (loaded_of (symbol_of w)) ps)) (drop (suc i) (some_of (term_of w at))) g1 V1) test so own)
+
+-- patterns whose matches make no term
+pub applied_leaves : (p : Pattern Coordinate) (s : Symbol) (ps : List (Pattern Coordinate)) → p ≡ applied s (patterns_in ps) → LeavesSpace p → AllLeaveSpace (patterns_in ps)
+applied_leaves p s ps is h = subst LeavesSpace is h
+
+elements_leave : (ps : List (Pattern Coordinate)) (rest : Option (Pattern Coordinate)) → ElementsLeaveSpace (elements_in ps rest) → AllLeaveSpace (patterns_in ps) × (rest ≡ None)
+elements_leave [] None h = (tt, refl)
+elements_leave [] (Some q) h = absurd h
+elements_leave (p ∷ ps) rest h = let others = elements_leave ps rest h.1 in ((h.0, others.0), others.1)
+
+no_rest_loaded : {N : Type 0} (symbol_of : N → Symbol) (rest : Option (Box (LoadedPattern N) Global)) → rest_loaded_of symbol_of rest ≡ None → rest ≡ None
+no_rest_loaded symbol_of None h = refl
+no_rest_loaded symbol_of (Some p) h = absurd (cc)
+
+pub list_leaves : {N : Type 0} (symbol_of : N → Symbol) (p : Pattern Coordinate) (ps : List (Pattern Coordinate)) (rest : Option (Box (LoadedPattern N) Global)) → p ≡ list (elements_in ps (rest_loaded_of symbol_of rest)) → LeavesSpace p →
+    AllLeaveSpace (patterns_in ps) × (rest ≡ None)
+list_leaves symbol_of p ps rest is h = let both = elements_leave ps (rest_loaded_of symbol_of rest) (subst LeavesSpace is h) in (both.0, no_rest_loaded symbol_of rest both.1)
+
+one_leaves : {N : Type 0} (f : N → Pattern Coordinate) (ps : List N) (i : ℕ) (p : N) → AllLeaveSpace (patterns_in (map f ps)) → i < length ps → p ≡ get_or ps i p → LeavesSpace (f p)
+one_leaves f [] i p h k is = absurd (omega arith)
+one_leaves f (q ∷ ps) zero p h k is = subst (λ x. LeavesSpace (f x)) (sym is) h.0
+one_leaves f (q ∷ ps) (suc i) p h k is = one_leaves f ps i p h.1 (omega arith) is
+
+pub part_leaves : {N : Type 0} (knows : N → Bool) (symbol_of symbol_of1 : N → Symbol) (same : (n : N) → IsTrue (knows n) → symbol_of1 n ≡ symbol_of n) (ps : List (LoadedPattern N)) (i : ℕ) (p : LoadedPattern N) → AllKnown knows ps →
+    i < length ps → p ≡ get_or ps i p → AllLeaveSpace (patterns_in (map (loaded_of symbol_of) ps)) → LeavesSpace (loaded_of symbol_of1 p)
+part_leaves knows symbol_of symbol_of1 same ps i p known k is h =
+    subst LeavesSpace (sym (loaded_same knows symbol_of symbol_of1 same p (known_at knows ps i p known k is))) (one_leaves (loaded_of symbol_of) ps i p h k is)
 
 -- a whole pattern
 module _ {W R : Type 0} {stands : W → R → Bool} {term_of : W → R → Tree} (place : Coordinate → Option ℕ) where

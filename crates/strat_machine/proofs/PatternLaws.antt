@@ -15,7 +15,7 @@ use Rattle.strat_code.specs.Code.{Argument, match_term, build_term, call_definit
 use Rattle.strat_machine.specs.State.{Frame, frame, place_at, frames_up, closed, run_oversize}
 use Rattle.strat_machine.specs.Binding.{attempt, attempted}
 use Rattle.strat_machine.specs.SpaceOf.{space_of}
-use Rattle.strat_machine.specs.Matches.{Goes}
+use Rattle.strat_machine.specs.Matches.{Goes, LeavesSpace}
 use Rattle.strat_machine.specs.Builds.{Builds, AreArguments, Puts}
 use Rattle.strat_machine.specs.declared.building.Built.{Built}
 use Rattle.strat_machine.specs.declared.building.Built.TheVariants as built_forms
@@ -28,16 +28,16 @@ use Rattle.strat_machine.proofs.StepLaws.{does_to}
 use Rattle.strat_machine.proofs.BuiltLaws.{build_is_ok, build_fails, build_is_large, arguments_are_ok, arguments_fail, arguments_are_large}
 
 module _ {W R Y N : Type 0} {stands : W → R → Bool} {term_of : W → R → Tree} {is_valid : W → Y → Bool} {knows : W → N → Bool} {symbol_of : W → N → Symbol} (covers : Y → R → Bool) (covers_mark : Y → Y → Bool) {M : Meaning} {w w1 : W}
-    (n : ℕ) {i p b d l : ℕ} {q : Pattern Coordinate} {t : R} {e f : Places R} {F : List Frame} {T U : List ℕ} {K : List (RefRecord R Y)} {y : Bool} (keeps : Keeps stands term_of is_valid knows symbol_of w w1)
+    (n : ℕ) {i p b d l : ℕ} {q : Pattern Coordinate} {t : R} {e f : Places R} {F : List Frame} {T U : List ℕ} {K : List (RefRecord R Y)} {y : Bool} (keeps : Keeps stands term_of is_valid knows symbol_of w w1) (unchanged : LeavesSpace q → w1 ≡ w)
     (goes : Goes stands term_of b (attempted (place_at F p) b q (term_of w t)) (attempt y) w e T w1 f U) (same : d ≡ b) where
   pub matches_so : {next : ℕ} → y ≡ true → next ≡ suc i → Does (space_of stands term_of is_valid covers covers_mark) M w (match_term n q) i p t e F T b K l w1 (ref_running next p t f F U d K l)
   matches_so {next} is at =
-      does_to (matches (keeps_grows covers covers_mark keeps) goes.bound (goes.comes_to ∙ ap (λ v. attempt v (map (option_map (term_of w1)) f) U) is))
+      does_to (matches (keeps_grows covers covers_mark keeps) unchanged goes.bound (goes.comes_to ∙ ap (λ v. attempt v (map (option_map (term_of w1)) f) U) is))
       (ap (λ a. ref_running a p t f F U b K l) (sym at) ∙ ap (λ c. ref_running next p t f F U c K l) (sym same))
 
   pub matches_not_so : y ≡ false → Does (space_of stands term_of is_valid covers covers_mark) M w (match_term n q) i p t e F T b K l w1 (ref_failing f F U d K l)
   matches_not_so is =
-      does_to (matches_not (keeps_grows covers covers_mark keeps) goes.bound (goes.comes_to ∙ ap (λ v. attempt v (map (option_map (term_of w1)) f) U) is)) (ap (λ c. ref_failing f F U c K l) (sym same))
+      does_to (matches_not (keeps_grows covers covers_mark keeps) unchanged goes.bound (goes.comes_to ∙ ap (λ v. attempt v (map (option_map (term_of w1)) f) U) is)) (ap (λ c. ref_failing f F U c K l) (sym same))
 
 built_as : {W R : Type 0} (stands : W → R → Bool) (term_of : W → R → Tree) (w : W) {o v : Option Tree} {made m : Built R} → o ≡ v → made ≡ m → Builds stands term_of w o made → Builds stands term_of w v m
 built_as stands term_of w {o} {v} {made} {m} same is h = subst (λ x. Builds stands term_of w x m) same (subst (λ x. Builds stands term_of w o x) is h)

@@ -306,9 +306,9 @@ module _ {W R Y : Type 0} {S : Space W R Y} where
   does_so counts st safe = (refl, (st, safe))
   does_so gives_up_so st safe = (refl, safe)
   does_so jumps st safe = (refl, (st, safe))
-  does_so {w = w} {i = i} {p} {b} {l} {t} {e} {F} {T} {K} (matches g x h) st safe =
+  does_so {w = w} {i = i} {p} {b} {l} {t} {e} {F} {T} {K} (matches g k x h) st safe =
       (ap (matched F T b (map (record_tree (S.term_of w)) K) l (suc i) p (S.term_of w t)) h ∙ run_same (sym (g.terms t st)) refl (grown_records g K safe.records), (g.stands t st, bound_safe g x safe))
-  does_so {w = w} {i = i} {p} {b} {l} {t} {e} {F} {T} {K} (matches_not g x h) st safe =
+  does_so {w = w} {i = i} {p} {b} {l} {t} {e} {F} {T} {K} (matches_not g k x h) st safe =
       (ap (matched F T b (map (record_tree (S.term_of w)) K) l (suc i) p (S.term_of w t)) h ∙ fail_same refl (grown_records g K safe.records), bound_safe g x safe)
   does_so {w = w} {i = i} {p} {b} {l} {t} {e} {F} {T} {K} (builds g u h) st safe =
       (ap (goes_on F T b (map (record_tree (S.term_of w)) K) l (suc i) p (map (option_map (S.term_of w)) e)) h ∙ run_same refl (grown_places g e safe.places) (grown_records g K safe.records), (u, grown_safe g safe))

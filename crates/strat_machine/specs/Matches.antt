@@ -4,7 +4,7 @@ use Rattle.std.specs.Option.{option_map}
 use Rattle.term_model.specs.declared.term.Head.TheVariants as heads
 use Rattle.term_model.specs.Term.{Tree, term}
 use Rattle.core_lang.specs.Environment.{Bindings}
-use Rattle.core_lang.specs.Program.{Pattern, anything, variable, alias, integer, applied, list, like, annotated}
+use Rattle.core_lang.specs.Program.{Pattern, anything, variable, alias, integer, applied, list, like, annotated, Patterns, no_patterns, more_patterns, Elements, no_elements, the_rest, more_elements}
 use Rattle.strat_machine.specs.Binding.{Attempt, attempt, and_go, attempted}
 use Rattle.strat_machine.specs.References.{Places, AllPlaces, Binds}
 
@@ -37,3 +37,25 @@ sees_annotations (applied f ps) = false
 sees_annotations (list ps) = false
 sees_annotations (like p x) = false
 sees_annotations (annotated p qs) = true
+
+-- the pattern has neither tails nor braces: a match makes no term
+module _ {X : Type 0} where
+  abbrev mutual
+    pub LeavesSpace : Pattern X → Type 0
+    LeavesSpace anything = Unit {0}
+    LeavesSpace (variable x) = Unit {0}
+    LeavesSpace (alias x p) = LeavesSpace p
+    LeavesSpace (integer z) = Unit {0}
+    LeavesSpace (applied f ps) = AllLeaveSpace ps
+    LeavesSpace (list ps) = ElementsLeaveSpace ps
+    LeavesSpace (like p x) = Unit {0}
+    LeavesSpace (annotated p qs) = ⊥
+
+    pub AllLeaveSpace : Patterns X → Type 0
+    AllLeaveSpace no_patterns = Unit {0}
+    AllLeaveSpace (more_patterns p ps) = LeavesSpace p × AllLeaveSpace ps
+
+    pub ElementsLeaveSpace : Elements X → Type 0
+    ElementsLeaveSpace no_elements = Unit {0}
+    ElementsLeaveSpace (the_rest p) = ⊥
+    ElementsLeaveSpace (more_elements p ps) = LeavesSpace p × ElementsLeaveSpace ps

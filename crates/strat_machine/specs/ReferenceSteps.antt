@@ -11,6 +11,7 @@ use Rattle.strat_machine.specs.Step.{in_order, effect}
 use Rattle.strat_code.specs.Code.{Argument, Case, case, all_parts, one_part, some_parts, Instr, select, traverse, part_done, call_definition, count, give_up, match_term, build_term, enter, leave, extend, shrink, try, commit, jump, call_closure, end_definition, end_argument, apply_primitive, finish, Code, At, nodes_of}
 use Rattle.core_lang.specs.Roots.{Root}
 use Rattle.strat_machine.specs.State.{Frame, frame, saved, run_failed, run_oversize, run_spent, stuck, ended, place_at, closure_in, frames_up, closed}
+use Rattle.strat_machine.specs.Matches.{LeavesSpace}
 use Rattle.strat_machine.specs.Binding.{undone, above, down_to, trimmed, attempt, attempted}
 use Rattle.strat_machine.specs.Space.{Space, Grows, IsMark, GoesBack}
 use Rattle.strat_machine.specs.References.{Places, RefRecord, ref_call, ref_choice, ref_all, ref_one, ref_some, RefState, ref_running, ref_failing, ref_rewritten, ref_stopped, trees, record_tree, AllRefs, Binds}
@@ -63,13 +64,13 @@ module _ {W R Y : Type 0} (S : Space W R Y) where
           Does (give_up n) i p t e F T b K l w (ref_failing e F T b K l)
       jumps : {a i p b l : ℕ} {t : R} {e : Places R} {F : List Frame} {T : List ℕ} {K : List (RefRecord R Y)} →
           Does (jump a) i p t e F T b K l w (ref_running a p t e F T b K l)
-      -- a match may make the list of the rest of a list
+      -- a match may make the list of the rest of a list, and a term without its annotations
       matches : {n i p b l : ℕ} {q : _} {t : R} {e f : Places R} {F : List Frame} {T U : List ℕ} {K : List (RefRecord R Y)} {w1 : W} → Grows S w w1 →
-          Binds (S.Stands w1) b e T f U →
+          (LeavesSpace q → w1 ≡ w) → Binds (S.Stands w1) b e T f U →
           attempted (place_at F p) b q (S.term_of w t) (map (option_map (S.term_of w)) e) T ≡ attempt true (map (option_map (S.term_of w1)) f) U →
           Does (match_term n q) i p t e F T b K l w1 (ref_running (suc i) p t f F U b K l)
       matches_not : {n i p b l : ℕ} {q : _} {t : R} {e f : Places R} {F : List Frame} {T U : List ℕ} {K : List (RefRecord R Y)} {w1 : W} →
-          Grows S w w1 → Binds (S.Stands w1) b e T f U →
+          Grows S w w1 → (LeavesSpace q → w1 ≡ w) → Binds (S.Stands w1) b e T f U →
           attempted (place_at F p) b q (S.term_of w t) (map (option_map (S.term_of w)) e) T ≡ attempt false (map (option_map (S.term_of w1)) f) U →
           Does (match_term n q) i p t e F T b K l w1 (ref_failing f F U b K l)
       builds : {n i p b l : ℕ} {q : _} {t u : R} {e : Places R} {F : List Frame} {T : List ℕ} {K : List (RefRecord R Y)} {w1 : W} → Grows S w w1 →

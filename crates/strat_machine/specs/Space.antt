@@ -1,5 +1,5 @@
 -- A space of terms: what its references, its marks and its changes are.
-use Rattle.std.specs.Prelude.{◌≡◌, ℕ, ◌<◌, ◌≤◌, Option, Some, None, List, length, slice_get}
+use Rattle.std.specs.Prelude.{◌≡◌, ◌↔◌, ℕ, ◌<◌, ◌≤◌, Option, Some, None, List, length, slice_get}
 use Rattle.term_model.specs.declared.term.Head.TheVariants as heads
 use Rattle.term_model.specs.Term.{Tree, node, end}
 
@@ -18,6 +18,12 @@ module _ {W R Y : Type 0} (S : Space W R Y) where
     pub stands : (r : R) → S.Stands w r → S.Stands w1 r
     pub terms : (r : R) → S.Stands w r → S.term_of w1 r ≡ S.term_of w r
     pub marks : (m : Y) → S.Valid w m → S.Valid w1 m
+
+  -- names become known: the same references stand, with the same terms, and the same marks are valid
+  pub record Same (w w1 : W) : Type 0 where
+    pub stands : (r : R) → S.Stands w1 r ↔ S.Stands w r
+    pub terms : (r : R) → S.Stands w r → S.term_of w1 r ≡ S.term_of w r
+    pub marks : (m : Y) → S.Valid w1 m ↔ S.Valid w m
 
   -- a new mark
   pub record IsMark (w : W) (m : Y) : Type 0 where

@@ -101,7 +101,7 @@ fn fail_one<S: TermSpace>(
     ensures covered { (r : S.Ref) → MarksCover (space_of S.stands S.term_of S.is_valid S.covers S.covers_mark) r (with_record (Record.One traversed part saved mark) stacks.old.records) → IsTrue (S.stands space.old r) → IsTrue (S.stands space.new r) × (S.term_of space.new r ≡ S.term_of space.old r) }
     ensures step { IfOk result (λ phase. (code : Code) (M : Meaning) → FailsTo (space_of S.stands S.term_of S.is_valid S.covers S.covers_mark) code M space.old stacks.old (with_record (Record.One traversed part saved mark) stacks.old.records) space.new phase stacks.new) }
 {
-    space.back_to(mark);
+    space.back_to(mark); // Gives back what was made of the part that failed.
     stacks.places.go_back(saved.height, saved.barrier);
     stacks.frames.cut(saved.frames);
     let Some(next) = stacks.records.next_part(traversed.left) else {
@@ -129,7 +129,7 @@ fn fail_some<S: TermSpace>(
     ensures covered { (r : S.Ref) → MarksCover (space_of S.stands S.term_of S.is_valid S.covers S.covers_mark) r (with_record (Record.Some traversed part found saved mark) stacks.old.records) → IsTrue (S.stands space.old r) → IsTrue (S.stands space.new r) × (S.term_of space.new r ≡ S.term_of space.old r) }
     ensures step { IfOk result (λ phase. (code : Code) (M : Meaning) → FailsTo (space_of S.stands S.term_of S.is_valid S.covers S.covers_mark) code M space.old stacks.old (with_record (Record.Some traversed part found saved mark) stacks.old.records) space.new phase stacks.new) }
 {
-    space.back_to(mark);
+    space.back_to(mark); // Gives back what was made of it, and of no part before it.
     stacks.places.go_back(saved.height, saved.barrier);
     stacks.frames.cut(saved.frames);
     let Some(next) = stacks.records.next_part(traversed.left) else {

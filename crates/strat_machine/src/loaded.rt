@@ -1,7 +1,7 @@
 // Patterns as a run uses them, with the space's names in place of symbols.
 ghost use Rattle.std.specs.Prelude.{IfOk, map};
 ghost use Rattle.core_lang.specs.Views.{pattern_of, rest_of};
-ghost use Rattle.term_model.specs.Space.{Keeps};
+ghost use Rattle.term_model.specs.Space.{Keeps, MakesNone};
 ghost use Rattle.strat_machine.specs.Loaded.{IsLoaded, AreLoaded, IsLoadedRest};
 
 use core_lang::{Coordinate, CorePattern};
@@ -29,6 +29,7 @@ pub(crate) fn load_pattern<S: TermSpace>(
     pattern: &CorePattern,
 ) -> Result<LoadedPattern<S::Name>, AllocError>
     ensures keeps { Keeps S.stands S.term_of S.is_valid S.knows S.symbol_of space.old space.new }
+    ensures none { MakesNone S.stands S.is_valid space.old space.new }
     ensures loaded { IfOk result (λ p. IsLoaded (S.knows space.new) (S.symbol_of space.new) p (pattern_of pattern.now)) }
 {
     match pattern {
@@ -68,6 +69,7 @@ fn load_boxed<S: TermSpace>(
     pattern: &CorePattern,
 ) -> Result<Box<LoadedPattern<S::Name>>, AllocError>
     ensures keeps { Keeps S.stands S.term_of S.is_valid S.knows S.symbol_of space.old space.new }
+    ensures none { MakesNone S.stands S.is_valid space.old space.new }
     ensures loaded { IfOk result (λ p. IsLoaded (S.knows space.new) (S.symbol_of space.new) p.value (pattern_of pattern.now)) }
 {
     let loaded = load_pattern(space, alloc, pattern)?;
@@ -82,6 +84,7 @@ fn load_rest<S: TermSpace>(
     rest: &Option<Box<CorePattern>>,
 ) -> Result<Option<Box<LoadedPattern<S::Name>>>, AllocError>
     ensures keeps { Keeps S.stands S.term_of S.is_valid S.knows S.symbol_of space.old space.new }
+    ensures none { MakesNone S.stands S.is_valid space.old space.new }
     ensures loaded { IfOk result (λ r. IsLoadedRest (S.knows space.new) (S.symbol_of space.new) r (rest_of rest.now)) }
 {
     match rest {
@@ -101,6 +104,7 @@ pub(crate) fn load_patterns<S: TermSpace>(
     patterns: &[CorePattern],
 ) -> Result<Vec<LoadedPattern<S::Name>>, AllocError>
     ensures keeps { Keeps S.stands S.term_of S.is_valid S.knows S.symbol_of space.old space.new }
+    ensures none { MakesNone S.stands S.is_valid space.old space.new }
     ensures loaded { IfOk result (λ ps. AreLoaded (S.knows space.new) (S.symbol_of space.new) ps.items (map pattern_of patterns.now)) }
 {
     let mut loaded = Vec::new(alloc);

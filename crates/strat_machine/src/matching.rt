@@ -1,5 +1,5 @@
 // Matching a pattern with the term of a reference.
-ghost use Rattle.std.specs.Prelude.{◌≡◌, ◌≤◌, IfOk, IsTrue, true, [], length, map, drop};
+ghost use Rattle.std.specs.Prelude.{◌≡◌, ◌≤◌, IfOk, IsTrue, None, true, [], length, map, drop};
 ghost use Rattle.core_lang.specs.Program.{list};
 ghost use Rattle.term_model.specs.declared.term.Head.TheVariants as heads;
 ghost use Rattle.term_model.specs.Symbol.{Symbol};
@@ -7,8 +7,8 @@ ghost use Rattle.term_model.specs.Term.{annos_of, head_of, parts_of, term};
 ghost use Rattle.term_model.specs.Same.{same_head};
 ghost use Rattle.term_model.specs.Space.{Keeps};
 ghost use Rattle.strat_machine.specs.Binding.{attempt, attempted, bind};
-ghost use Rattle.strat_machine.specs.Loaded.{Known, AllKnown, RestKnown, loaded_of, rest_loaded_of};
-ghost use Rattle.strat_machine.specs.Matches.{Goes, first_attempted, rest_attempted, sees_annotations};
+ghost use Rattle.strat_machine.specs.Loaded.{Known, AllKnown, RestKnown, all_loaded_of, loaded_of, rest_loaded_of};
+ghost use Rattle.strat_machine.specs.Matches.{Goes, LeavesSpace, AllLeaveSpace, first_attempted, rest_attempted, sees_annotations};
 ghost use Rattle.strat_machine.specs.References.{AllPlaces};
 ghost use Rattle.strat_machine.specs.State.{place_at};
 
@@ -21,7 +21,7 @@ use std::alloc::{AllocError, Global};
 use term_model::TermSpace;
 
 /// Whether the pattern matches the term; each of its variables that had no term is then given one. Where it does not,
-/// some of them may be.
+/// some of them may be. A pattern with neither tails nor braces leaves the space as it is.
 #[cycle(matching)]
 pub(crate) fn match_pattern<S: TermSpace>(
     space: &mut S,
@@ -36,6 +36,7 @@ pub(crate) fn match_pattern<S: TermSpace>(
     requires stands { IsTrue (S.stands space.old at.now) }
     requires places { AllPlaces (λ r. IsTrue (S.stands space.old r)) places.old.slots }
     ensures keeps { Keeps S.stands S.term_of S.is_valid S.knows S.symbol_of space.old space.new }
+    ensures unchanged { LeavesSpace (loaded_of (S.symbol_of space.old) pattern.now) → space.new ≡ space.old }
     ensures barrier { IfOk result (λ _. places.new.barrier ≡ places.old.barrier) }
     ensures attempt { IfOk result (λ yes. Goes S.stands S.term_of places.old.barrier (attempted (place_at frames.now here) places.old.barrier (loaded_of (S.symbol_of space.old) pattern.now) (S.term_of space.old at.now)) (attempt yes) space.old places.old.slots places.old.trail space.new places.new.slots places.new.trail) }
 {
@@ -180,6 +181,7 @@ fn match_first<S: TermSpace>(
     requires stands { IsTrue (S.stands space.old at.now) }
     requires places { AllPlaces (λ r. IsTrue (S.stands space.old r)) places.old.slots }
     ensures keeps { Keeps S.stands S.term_of S.is_valid S.knows S.symbol_of space.old space.new }
+    ensures unchanged { AllLeaveSpace (all_loaded_of (S.symbol_of space.old) patterns.now) → space.new ≡ space.old }
     ensures barrier { IfOk result (λ _. places.new.barrier ≡ places.old.barrier) }
     ensures enough { IfOk result (λ yes. yes ≡ true → length patterns.now ≤ length (parts_of (S.term_of space.old at.now))) }
     ensures attempt { IfOk result (λ yes. Goes S.stands S.term_of places.old.barrier (first_attempted (place_at frames.now here) places.old.barrier (map (loaded_of (S.symbol_of space.old)) patterns.now) (parts_of (S.term_of space.old at.now))) (attempt yes) space.old places.old.slots places.old.trail space.new places.new.slots places.new.trail) }
@@ -211,6 +213,7 @@ fn match_part<S: TermSpace>(
     requires stands { IsTrue (S.stands space.old at.now) }
     requires places { AllPlaces (λ r. IsTrue (S.stands space.old r)) places.old.slots }
     ensures keeps { Keeps S.stands S.term_of S.is_valid S.knows S.symbol_of space.old space.new }
+    ensures unchanged { LeavesSpace (loaded_of (S.symbol_of space.old) pattern.now) → space.new ≡ space.old }
     ensures barrier { IfOk result (λ _. places.new.barrier ≡ places.old.barrier) }
     ensures attempt { IfOk result (λ yes. Goes S.stands S.term_of places.old.barrier (attempted (place_at frames.now here) places.old.barrier (loaded_of (S.symbol_of space.old) pattern.now) (S.term_of space.old at.now)) (attempt yes) space.old places.old.slots places.old.trail space.new places.new.slots places.new.trail) }
 {
@@ -240,6 +243,7 @@ fn match_rest<S: TermSpace>(
     requires from { from ≤ length (parts_of (S.term_of space.old at.now)) }
     requires places { AllPlaces (λ r. IsTrue (S.stands space.old r)) places.old.slots }
     ensures keeps { Keeps S.stands S.term_of S.is_valid S.knows S.symbol_of space.old space.new }
+    ensures unchanged { rest.now ≡ None → space.new ≡ space.old }
     ensures barrier { IfOk result (λ _. places.new.barrier ≡ places.old.barrier) }
     ensures attempt { IfOk result (λ yes. Goes S.stands S.term_of places.old.barrier (rest_attempted (place_at frames.now here) places.old.barrier (rest_loaded_of (S.symbol_of space.old) rest.now) (drop from (parts_of (S.term_of space.old at.now)))) (attempt yes) space.old places.old.slots places.old.trail space.new places.new.slots places.new.trail) }
 {

@@ -1,6 +1,6 @@
 // What a run knows of code before its first step.
 ghost use Rattle.std.specs.Prelude.{IfOk};
-ghost use Rattle.term_model.specs.Space.{Keeps};
+ghost use Rattle.term_model.specs.Space.{Keeps, MakesNone};
 ghost use Rattle.prim_registry.specs.Entries.{entries_of};
 ghost use Rattle.strat_machine.specs.Operands.{AreOperands, AreOperandsOf, IsLoadedCode};
 
@@ -36,6 +36,7 @@ pub(crate) fn load_code<S: TermSpace, M: PrimMeaning>(
     registry: &Registry<M>,
 ) -> Result<LoadedCode<S::Name>, AllocError>
     ensures keeps { Keeps S.stands S.term_of S.is_valid S.knows S.symbol_of space.old space.new }
+    ensures none { MakesNone S.stands S.is_valid space.old space.new }
     ensures loaded { IfOk result (λ l. IsLoadedCode (S.knows space.new) (S.symbol_of space.new) S.number_of (entries_of registry.now) l code.now.tables code.now.instrs) }
 {
     let tables = load_tables(space, alloc, code.tables())?;
@@ -51,6 +52,7 @@ fn load_instrs<S: TermSpace, M: PrimMeaning>(
     registry: &Registry<M>,
 ) -> Result<Vec<Operands<S::Name>>, AllocError>
     ensures keeps { Keeps S.stands S.term_of S.is_valid S.knows S.symbol_of space.old space.new }
+    ensures none { MakesNone S.stands S.is_valid space.old space.new }
     ensures loaded { IfOk result (λ os. AreOperands (S.knows space.new) (S.symbol_of space.new) (entries_of registry.now) os.items instrs.now) }
 {
     let mut loaded = Vec::new(alloc);
@@ -68,6 +70,7 @@ fn load_operands<S: TermSpace, M: PrimMeaning>(
     registry: &Registry<M>,
 ) -> Result<Operands<S::Name>, AllocError>
     ensures keeps { Keeps S.stands S.term_of S.is_valid S.knows S.symbol_of space.old space.new }
+    ensures none { MakesNone S.stands S.is_valid space.old space.new }
     ensures loaded { IfOk result (λ o. AreOperandsOf (S.knows space.new) (S.symbol_of space.new) (entries_of registry.now) o instr.now) }
 {
     match instr {

@@ -1,6 +1,6 @@
 // The tables that selections select from, with the space's names in place of symbols.
 ghost use Rattle.std.specs.Prelude.{IfOk, map};
-ghost use Rattle.term_model.specs.Space.{Keeps};
+ghost use Rattle.term_model.specs.Space.{Keeps, MakesNone};
 ghost use Rattle.strat_code.specs.CodeOf.{case_of, root_of};
 ghost use Rattle.strat_machine.specs.Operands.{AreLoadedCases, AreLoadedTables, IsLoadedRoot, IsLoadedTable};
 
@@ -41,6 +41,7 @@ pub(crate) fn load_tables<S: TermSpace>(
     tables: &[Vec<Case>],
 ) -> Result<Vec<LoadedTable<S::Name>>, AllocError>
     ensures keeps { Keeps S.stands S.term_of S.is_valid S.knows S.symbol_of space.old space.new }
+    ensures none { MakesNone S.stands S.is_valid space.old space.new }
     ensures loaded { IfOk result (λ ts. AreLoadedTables (S.knows space.new) (S.symbol_of space.new) S.number_of ts.items tables.now) }
 {
     let mut loaded = Vec::new(alloc);
@@ -58,6 +59,7 @@ fn load_table<S: TermSpace>(
     cases: &[Case],
 ) -> Result<LoadedTable<S::Name>, AllocError>
     ensures keeps { Keeps S.stands S.term_of S.is_valid S.knows S.symbol_of space.old space.new }
+    ensures none { MakesNone S.stands S.is_valid space.old space.new }
     ensures loaded { IfOk result (λ t. IsLoadedTable (S.knows space.new) (S.symbol_of space.new) S.number_of t (map case_of cases.now)) }
 {
     let loaded = load_cases(space, alloc, cases)?;
@@ -75,6 +77,7 @@ fn load_cases<S: TermSpace>(
     cases: &[Case],
 ) -> Result<Vec<LoadedCase<S::Name>>, AllocError>
     ensures keeps { Keeps S.stands S.term_of S.is_valid S.knows S.symbol_of space.old space.new }
+    ensures none { MakesNone S.stands S.is_valid space.old space.new }
     ensures loaded { IfOk result (λ cs. AreLoadedCases (S.knows space.new) (S.symbol_of space.new) cs.items (map case_of cases.now)) }
 {
     let mut loaded = Vec::new(alloc);
@@ -97,6 +100,7 @@ fn load_root<S: TermSpace>(
     root: &Root,
 ) -> Result<LoadedRoot<S::Name>, AllocError>
     ensures keeps { Keeps S.stands S.term_of S.is_valid S.knows S.symbol_of space.old space.new }
+    ensures none { MakesNone S.stands S.is_valid space.old space.new }
     ensures loaded { IfOk result (λ r. IsLoadedRoot (S.knows space.new) (S.symbol_of space.new) r (root_of root.now)) }
 {
     match root {

@@ -1,5 +1,5 @@
 use Rattle.std.proofs.Common.{◌∙◌}
-use Rattle.strat_machine.proofs.SpaceLaws.{keeps_then}
+use Rattle.strat_machine.proofs.SpaceLaws.{keeps_then, none_then}
 use Rattle.strat_machine.proofs.LoadedLaws.{applied_is_loaded, list_is_loaded, annotated_is_loaded, is_loaded_later, are_loaded_later, one_more_loaded}
 use Rattle.strat_machine.proofs.loaded.+load.Goals as goal
 
@@ -28,6 +28,7 @@ load_patterns-loop-p-preserved g t c =
     let keeps = c.in_ok-load_pattern.ensures.keeps in
     let so_far = c.loop-p.invariant in (
       keeps_then so_far.0 keeps,
-      one_more_loaded c.loop-p.loaded.items c.push.new.self.items c.in_ok-load_pattern.field-0 c.args.patterns.now c.loop-p.p-index c.p-item.result (are_loaded_later keeps.known keeps.symbols so_far.1)
+      none_then so_far.1 c.in_ok-load_pattern.ensures.none,
+      one_more_loaded c.loop-p.loaded.items c.push.new.self.items c.in_ok-load_pattern.field-0 c.args.patterns.now c.loop-p.p-index c.p-item.result (are_loaded_later keeps.known keeps.symbols so_far.2)
           c.in_ok-load_pattern.ensures.loaded c.loop-p-test.true c.p-item.is c.in_ok-push.ensures.items,
     )

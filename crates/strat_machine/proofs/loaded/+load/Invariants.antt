@@ -1,5 +1,5 @@
 use Rattle.std.proofs.Common.{map, take}
-use Rattle.term_model.specs.Space.{Keeps}
+use Rattle.term_model.specs.Space.{Keeps, MakesNone}
 use Rattle.core_lang.specs.Views.{pattern_of}
 use Rattle.strat_machine.specs.Loaded.{AreLoaded}
 use Rattle.strat_machine.proofs.loaded.+load.Given as goal
@@ -7,4 +7,4 @@ use Rattle.strat_machine.proofs.loaded.+load.Given as goal
 abbrev pub invariant-load_patterns-loop-p : goal.invariant-load_patterns-loop-p
 invariant-load_patterns-loop-p g l =
     let s = g.S.TermSpace in
-    Keeps s.stands s.term_of s.is_valid s.knows s.symbol_of l.initial.space l.space × AreLoaded (s.knows l.space) (s.symbol_of l.space) l.loaded.items (map pattern_of (take l.p-index l.patterns))
+    Keeps s.stands s.term_of s.is_valid s.knows s.symbol_of l.initial.space l.space × MakesNone s.stands s.is_valid l.initial.space l.space × AreLoaded (s.knows l.space) (s.symbol_of l.space) l.loaded.items (map pattern_of (take l.p-index l.patterns))

@@ -9,13 +9,13 @@ use Rattle.strat_machine.specs.State.{place_at}
 use Rattle.strat_machine.proofs.ReferenceLaws.{all_changed}
 use Rattle.strat_machine.proofs.SpaceLaws.{keeps_same, keeps_then}
 use Rattle.strat_machine.proofs.LoadedLaws.{loaded_as_anything, loaded_as_alias, loaded_as_integer, loaded_as_like, loaded_as_applied, loaded_as_list, loaded_same, all_loaded_same, rest_loaded_same, loaded_as_annotated, known_as_applied, known_as_list, known_as_annotated, known_later, all_known_later, rest_known_later, rest_known_some, rest_loaded_some}
-use Rattle.strat_machine.proofs.MatchingLaws.{goes_at_once, goes_as_pattern, match_lacks, match_stops, match_next, known_at, alias_goes, integer_tested, applied_none, applied_fails, applied_ends, list_none, list_fails, list_goes, no_rest, rest_goes, annotated_none, annotated_fails, annotated_goes, unseen_goes, bare_goes}
+use Rattle.strat_machine.proofs.MatchingLaws.{goes_at_once, goes_as_pattern, match_lacks, match_stops, match_next, known_at, alias_goes, integer_tested, applied_none, applied_fails, applied_ends, list_none, list_fails, list_goes, no_rest, rest_goes, annotated_none, annotated_fails, annotated_goes, unseen_goes, bare_goes, applied_leaves, list_leaves, part_leaves}
 use Rattle.strat_machine.proofs.matching.+matching.Goals as goal
 
 pub match_first-loop-i-init : goal.match_first-loop-i-init
 match_first-loop-i-init g t c =
     let s = g.S.TermSpace in
-    (keeps_same s.stands s.term_of s.is_valid s.knows s.symbol_of c.args.space.now, refl, omega arith, goes_at_once c.requires.places refl)
+    (keeps_same s.stands s.term_of s.is_valid s.knows s.symbol_of c.args.space.now, refl, omega arith, goes_at_once c.requires.places refl, λ h. refl)
 
 pub match_first-returns-then-i-count-clause-attempt : goal.match_first-returns-then-i-count-clause-attempt
 match_first-returns-then-i-count-clause-attempt g t c =
@@ -37,6 +37,10 @@ match_first-loop-i-preserved g t c = (
   (let below = c.if-i-count.false in omega arith),
   match_next (place_at c.args.frames.now c.args.here) parts_of c.args.patterns.now c.args.at.now c.loop-i.i c.index-patterns-i.result (g.S.TermSpace.term_of c.loop-i.space c.in_ok-part.part) c.in_ok-match_part.field-0 c.loop-i.places.barrier
       c.requires.known c.loop-i.invariant.0 c.requires.stands c.loop-i-test.true c.index-patterns-i.is c.in_ok-part.ensures.term c.loop-i.invariant.3 c.in_ok-match_part.ensures.keeps c.loop-i.invariant.1 c.if-not-branch.false c.in_ok-match_part.ensures.attempt,
+  λ h.
+      let s = g.S.TermSpace in
+      c.in_ok-match_part.ensures.unchanged
+      (part_leaves (s.knows c.args.space.now) (s.symbol_of c.args.space.now) (s.symbol_of c.loop-i.space) c.loop-i.invariant.0.symbols c.args.patterns.now c.loop-i.i c.index-patterns-i.result c.requires.known c.loop-i-test.true c.index-patterns-i.is h) ∙ c.loop-i.invariant.4 h,
 )
 
 pub match_pattern-returns-in-Anything-clause-attempt : goal.match_pattern-returns-in-Anything-clause-attempt
@@ -260,3 +264,64 @@ match_pattern-returns-in_ok-yes-in-Annotated-clause-attempt g t c =
     (loaded_as_annotated symbols c.args.pattern.now c.in-Annotated.part c.in-Annotated.annotations part annotations c.in-Annotated.is c.deref-in-Annotated.ensures c.as_slice-annotations.ensures.value) many c.in_ok-match_bare-in-Annotated.ensures.attempt
     (map (loaded_of (s.symbol_of w1)) annotations) (s.term_of w1 c.args.at.now) c.in_ok-yes-in-Annotated.yes c.match_bare.new.places.barrier c.if-not-branch-4.false c.in_ok-yes-in-Annotated.ensures.keeps.standing
     (all_loaded_same (s.knows w) symbols (s.symbol_of w1) keeps.symbols annotations known.1) (keeps.terms c.args.at.now c.requires.stands) c.in_ok-match_bare-in-Annotated.ensures.barrier c.in_ok-yes-in-Annotated.ensures.attempt
+
+pub match_first-returns-in_err-match_part-clause-unchanged : goal.match_first-returns-in_err-match_part-clause-unchanged
+match_first-returns-in_err-match_part-clause-unchanged g t c = λ h.
+    let s = g.S.TermSpace in
+    c.match_part.ensures.unchanged
+    (part_leaves (s.knows c.args.space.now) (s.symbol_of c.args.space.now) (s.symbol_of c.loop-i.space) c.loop-i.invariant.0.symbols c.args.patterns.now c.loop-i.i c.index-patterns-i.result c.requires.known c.loop-i-test.true c.index-patterns-i.is h) ∙ c.loop-i.invariant.4 h
+
+pub match_first-returns-then-not-branch-clause-unchanged : goal.match_first-returns-then-not-branch-clause-unchanged
+match_first-returns-then-not-branch-clause-unchanged g t c = λ h.
+    let s = g.S.TermSpace in
+    c.in_ok-match_part.ensures.unchanged
+    (part_leaves (s.knows c.args.space.now) (s.symbol_of c.args.space.now) (s.symbol_of c.loop-i.space) c.loop-i.invariant.0.symbols c.args.patterns.now c.loop-i.i c.index-patterns-i.result c.requires.known c.loop-i-test.true c.index-patterns-i.is h) ∙ c.loop-i.invariant.4 h
+
+pub match_pattern-returns-in_err-match_first-in-Applied-clause-unchanged : goal.match_pattern-returns-in_err-match_first-in-Applied-clause-unchanged
+match_pattern-returns-in_err-match_first-in-Applied-clause-unchanged g t c = λ h.
+    let symbols = g.S.TermSpace.symbol_of c.args.space.now in
+    let parts = c.as_slice-parts.result.now in
+    c.match_first.ensures.unchanged (applied_leaves (loaded_of symbols c.args.pattern.now) (symbols c.in-Applied.name) (map (loaded_of symbols) parts)
+    (loaded_as_applied symbols c.args.pattern.now c.in-Applied.name c.in-Applied.parts parts c.in-Applied.is c.as_slice-parts.ensures.value) h)
+
+pub match_pattern-returns-then-not-branch-2-clause-unchanged : goal.match_pattern-returns-then-not-branch-2-clause-unchanged
+match_pattern-returns-then-not-branch-2-clause-unchanged g t c = λ h.
+    let symbols = g.S.TermSpace.symbol_of c.args.space.now in
+    let parts = c.as_slice-parts.result.now in
+    c.in_ok-match_first-in-Applied.ensures.unchanged (applied_leaves (loaded_of symbols c.args.pattern.now) (symbols c.in-Applied.name) (map (loaded_of symbols) parts)
+    (loaded_as_applied symbols c.args.pattern.now c.in-Applied.name c.in-Applied.parts parts c.in-Applied.is c.as_slice-parts.ensures.value) h)
+
+pub match_pattern-returns-else-not-branch-2-clause-unchanged : goal.match_pattern-returns-else-not-branch-2-clause-unchanged
+match_pattern-returns-else-not-branch-2-clause-unchanged g t c = λ h.
+    let symbols = g.S.TermSpace.symbol_of c.args.space.now in
+    let parts = c.as_slice-parts.result.now in
+    c.in_ok-match_first-in-Applied.ensures.unchanged (applied_leaves (loaded_of symbols c.args.pattern.now) (symbols c.in-Applied.name) (map (loaded_of symbols) parts)
+    (loaded_as_applied symbols c.args.pattern.now c.in-Applied.name c.in-Applied.parts parts c.in-Applied.is c.as_slice-parts.ensures.value) h)
+
+pub match_pattern-returns-in_err-match_first-in-List-clause-unchanged : goal.match_pattern-returns-in_err-match_first-in-List-clause-unchanged
+match_pattern-returns-in_err-match_first-in-List-clause-unchanged g t c = λ h.
+    let symbols = g.S.TermSpace.symbol_of c.args.space.now in
+    let elements = c.as_slice-elements.result.now in
+    let none = list_leaves symbols (loaded_of symbols c.args.pattern.now) (map (loaded_of symbols) elements) c.in-List.rest (loaded_as_list symbols c.args.pattern.now c.in-List.elements c.in-List.rest elements c.in-List.is c.as_slice-elements.ensures.value) h in
+    c.match_first-in-List.ensures.unchanged none.0
+
+pub match_pattern-returns-then-not-branch-3-clause-unchanged : goal.match_pattern-returns-then-not-branch-3-clause-unchanged
+match_pattern-returns-then-not-branch-3-clause-unchanged g t c = λ h.
+    let symbols = g.S.TermSpace.symbol_of c.args.space.now in
+    let elements = c.as_slice-elements.result.now in
+    let none = list_leaves symbols (loaded_of symbols c.args.pattern.now) (map (loaded_of symbols) elements) c.in-List.rest (loaded_as_list symbols c.args.pattern.now c.in-List.elements c.in-List.rest elements c.in-List.is c.as_slice-elements.ensures.value) h in
+    c.in_ok-match_first-in-List.ensures.unchanged none.0
+
+pub match_pattern-returns-in_err-yes-in-List-clause-unchanged : goal.match_pattern-returns-in_err-yes-in-List-clause-unchanged
+match_pattern-returns-in_err-yes-in-List-clause-unchanged g t c = λ h.
+    let symbols = g.S.TermSpace.symbol_of c.args.space.now in
+    let elements = c.as_slice-elements.result.now in
+    let none = list_leaves symbols (loaded_of symbols c.args.pattern.now) (map (loaded_of symbols) elements) c.in-List.rest (loaded_as_list symbols c.args.pattern.now c.in-List.elements c.in-List.rest elements c.in-List.is c.as_slice-elements.ensures.value) h in
+    c.match_rest.ensures.unchanged none.1 ∙ c.in_ok-match_first-in-List.ensures.unchanged none.0
+
+pub match_pattern-returns-in_ok-yes-in-List-clause-unchanged : goal.match_pattern-returns-in_ok-yes-in-List-clause-unchanged
+match_pattern-returns-in_ok-yes-in-List-clause-unchanged g t c = λ h.
+    let symbols = g.S.TermSpace.symbol_of c.args.space.now in
+    let elements = c.as_slice-elements.result.now in
+    let none = list_leaves symbols (loaded_of symbols c.args.pattern.now) (map (loaded_of symbols) elements) c.in-List.rest (loaded_as_list symbols c.args.pattern.now c.in-List.elements c.in-List.rest elements c.in-List.is c.as_slice-elements.ensures.value) h in
+    c.in_ok-yes-in-List.ensures.unchanged none.1 ∙ c.in_ok-match_first-in-List.ensures.unchanged none.0

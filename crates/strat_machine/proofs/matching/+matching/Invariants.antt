@@ -1,8 +1,9 @@
 use Rattle.std.proofs.Common.{◌≡◌, ◌≤◌, drop, map}
+use Rattle.core_lang.specs.Views.{patterns_in}
 use Rattle.term_model.specs.Space.{Keeps}
 use Rattle.term_model.specs.Term.{parts_of, annos_of}
 use Rattle.strat_machine.specs.Loaded.{loaded_of}
-use Rattle.strat_machine.specs.Matches.{Goes, first_attempted}
+use Rattle.strat_machine.specs.Matches.{Goes, AllLeaveSpace, first_attempted}
 use Rattle.strat_machine.specs.State.{place_at}
 use Rattle.strat_machine.proofs.matching.+matching.Given as goal
 
@@ -15,7 +16,8 @@ invariant-match_first-loop-i g l =
     let ps = map (loaded_of (s.symbol_of w)) l.patterns in
     let ts = parts_of (s.term_of w l.at) in
     Keeps s.stands s.term_of s.is_valid s.knows s.symbol_of w l.space × (l.places.barrier ≡ old.barrier) × (l.i ≤ l.count) ×
-    Goes s.stands s.term_of old.barrier (first_attempted place old.barrier ps ts) (first_attempted place old.barrier (drop l.i ps) (drop l.i ts)) w old.slots old.trail l.space l.places.slots l.places.trail
+    Goes s.stands s.term_of old.barrier (first_attempted place old.barrier ps ts) (first_attempted place old.barrier (drop l.i ps) (drop l.i ts)) w old.slots old.trail l.space l.places.slots l.places.trail ×
+    (AllLeaveSpace (patterns_in ps) → l.space ≡ w)
 
 abbrev pub invariant-match_annos-loop-i : goal.invariant-match_annos-loop-i
 invariant-match_annos-loop-i g l =

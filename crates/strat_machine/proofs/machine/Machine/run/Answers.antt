@@ -1,5 +1,6 @@
 use Rattle.prim_registry.specs.Entries.{entries_of}
 use Rattle.strat_machine.proofs.MachineLaws.{keeps_from, kept_then, names_kept, same_outcome, ran}
+use Rattle.strat_machine.proofs.SpaceLaws.{none_from}
 use Rattle.strat_machine.proofs.OutcomeLaws.{registered_says}
 use Rattle.strat_machine.proofs.machine.Machine.run.Goals as goal
 
@@ -15,7 +16,8 @@ pub returns-clause-steps : goal.returns-clause-steps
 returns-clause-steps g c =
     let s = g.S.TermSpace in
     let keeps = keeps_from s.stands s.term_of s.is_valid s.knows s.symbol_of c.self.view_is c.in_ok-loaded.ensures.keeps in
-    ran keeps s.covers s.covers_mark c.run_code-run.new.stacks.left c.in_ok-run.field-0 c.in_ok-run.ensures.steps
+    let none = none_from s.stands s.is_valid c.self.view_is c.in_ok-loaded.ensures.none in
+    ran keeps s.covers s.covers_mark none c.run_code-run.new.stacks.left c.in_ok-run.field-0 c.in_ok-run.ensures.steps
 
 pub returns-clause-kept : goal.returns-clause-kept
 returns-clause-kept g c =
