@@ -1,5 +1,5 @@
 -- Definitions and the text of a term have at most one line and one status in a setting.
-use Rattle.std.proofs.Common.{◌≡◌, ℕ, ◌<◌, ◌≤◌, Bool, List, length, refl, sym, ◌∙◌, ap, subst, arith, inl, inr, Err, Option, Some, None, IfSome, true, false, ◌++◌, codes}
+use Rattle.std.proofs.Common.{◌≡◌, ℕ, ◌<◌, ◌≤◌, Bool, List, length, refl, sym, ◌∙◌, ap, subst, arith, inl, inr, Err, Option, Some, None, IfSome, IsSomeAnd, true, false, ◌++◌, codes}
 use Rattle.term_model.specs.declared.fault.Fault.{Fault}
 use Rattle.term_model.specs.declared.fault.Fault.TheVariants.{DefsTooLong, Lexical, ReservedWord, Syntax, Nesting, TermTooLong, TermOversize, TermSyntax, TermUndeclared}
 use Rattle.term_model.specs.Fault.{number_of, word_of}
@@ -19,10 +19,12 @@ use Rattle.str_parser.specs.Lexemes.{lexemes}
 use Rattle.str_parser.specs.Phrases.{IsPhrase, TooNested}
 use Rattle.strategy_lib.specs.Library.{with_library}
 use Rattle.scope_check.specs.Complaint.{first_fault}
+use Rattle.str_pipeline.specs.Joined.{IsSplit}
 use Rattle.str_pipeline.specs.Limits.{max_definitions, max_term}
 use Rattle.str_pipeline.specs.Setting.{Setting}
 use Rattle.str_pipeline.specs.Judged.{HasNoTokens, AreTokens, AreTooNested, HasNoPhrase, IsFile, FailsChecks, PassesChecks, AreRefused, AreAccepted, IsTerm, IsUndeclared, IsRefused, IsAccepted}
 use Rattle.str_pipeline.specs.Written.{Rewrites, IsAnswer, AreAlike, IsFirstFault, IsWritten, line_of, refusal_line}
+use Rattle.str_pipeline.proofs.WrittenLaws.{of_split, for_each_told}
 
 -- ---- refusals of definitions
 
@@ -156,6 +158,21 @@ pub none_refused : (S : Setting) (told : Option (List ℕ)) (defs : List ℕ) (f
     AreAccepted S defs f → IfSome told (λ d. (fault : Fault) → AreRefused S d fault → Y)
 none_refused S None defs f Y same accepted = tt
 none_refused S (Some d) defs f Y same accepted = λ fault refused. absurd (no_file (cause_of S defs fault (rw same refused)) accepted)
+
+-- nor those of each split of what a reader told, where these are the definitions of one
+pub none_refused_joined : (S : Setting) (old new : Option (List ℕ)) (defs : List ℕ) (rest : List ℕ → List ℕ) (f : FileTree) (Y : Type 0) →
+    IfSome old (λ told. IsSomeAnd new (λ left. IsSplit told defs (rest left))) → AreAccepted S defs f →
+    IfSome old (λ told. (d t : List ℕ) → IsSplit told d t → (fault : Fault) → AreRefused S d fault → Y)
+none_refused_joined S old new defs rest f Y split accepted =
+    of_split old new defs rest (λ d t. (fault : Fault) → AreRefused S d fault → Y) split
+    (for_each_told new (λ left. (fault : Fault) → AreRefused S defs fault → Y)
+    (λ left fault refused. absurd (no_file (cause_of S defs fault refused) accepted)))
+
+-- what holds of numbers holds whatever the reader told
+pub within_told : (S : Setting) (told : Option (List ℕ)) (n m : ℕ) → n ≤ m →
+    IfSome told (λ bytes. (d t : List ℕ) → IsSplit bytes d t → (fault : Fault) → AreRefused S d fault → n ≤ m)
+within_told S None n m h = tt
+within_told S (Some bytes) n m h = λ d t split fault refused. h
 
 -- they are those of one file
 one_file : {S : Setting} {defs : List ℕ} {f g : FileTree} → AreAccepted S defs f → AreAccepted S defs g → f ≡ g

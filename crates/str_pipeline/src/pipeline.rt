@@ -56,7 +56,7 @@ fn outcome_apart<D: Source, T: Source, M: PrimMeaning>(
 }
 
 /// Does the same over one reader of the joined form.
-#[tactic(auto, using(crate::proofs::FaultLaws::reading_stops, crate::proofs::FaultLaws::reading_apart, crate::proofs::FaultLaws::program_stops, crate::proofs::FaultLaws::program_no_read, crate::proofs::FaultLaws::long_definitions_stop, crate::proofs::FaultLaws::long_term_stops, crate::proofs::FaultLaws::long_term_apart))]
+#[tactic(auto, using(crate::proofs::FaultLaws::reading_stops, crate::proofs::FaultLaws::reading_apart, crate::proofs::FaultLaws::program_stops, crate::proofs::FaultLaws::program_no_read, crate::proofs::FaultLaws::long_definitions_stop, crate::proofs::FaultLaws::long_term_stops, crate::proofs::FaultLaws::long_term_apart, crate::proofs::OneLine::within_told))]
 fn outcome_joined<S: Source, M: PrimMeaning>(
     alloc: Global,
     input: &mut S,
@@ -68,8 +68,11 @@ fn outcome_joined<S: Source, M: PrimMeaning>(
     ensures result { IfSome (S.coming input.old) (λ told. (d t : List ℕ) → IsSplit told d t → IsResult d t (setting_of M.answer registry.now options.now) result) }
     ensures kinds { IfErr result IsStop }
     ensures failed { S.failed_reads input.new ≡ S.failed_reads input.old + (if is_read_fault result then 1 else 0) }
-    ensures bounded { S.reads input.new ≤ S.reads input.old + max_definitions + 17 + max_term + 1 }
-    ensures defs_bounded { IfErr result (λ fault. IsOfDefinitions fault → S.reads input.new ≤ S.reads input.old + max_definitions + 17) }
+    ensures bounded { S.reads input.new ≤ S.reads input.old + max_definitions + 7 + max_term + 1 }
+    ensures defs_bounded { IfErr result (λ fault. IsOfDefinitions fault → S.reads input.new ≤ S.reads input.old + max_definitions + 7) }
+    ensures unread_told { IfSome (S.coming input.old) (λ told. (d t : List ℕ) → IsSplit told d t →
+        (fault : Fault) → AreRefused (setting_of M.answer registry.now options.now) d fault →
+        S.reads input.new ≤ S.reads input.old + max_definitions + 7) }
 {
     let Some(front) = read_front(alloc, input, MAX_DEFINITIONS)? else {
         return Err(Fault::DefsTooLong);
@@ -218,7 +221,9 @@ pub fn transform_with_notes<D: Source, T: Source, M: PrimMeaning, W: Sink>(
 /// Does the same over one reader of the joined form: the definitions are the bytes before the first line
 /// that is `#term`, ended by a line feed, by CR and line feed or by the end of the input, and the
 /// text of the term is what comes after it; where no such line comes, all is definitions and that
-/// text is empty. At most 16 further reads are made for the line.
+/// text is empty. At most 1,048,583 reads are made for the definitions and the line, and 16,777,217 for
+/// the term. The definitions are judged as soon as the line has been read; where they are refused no
+/// further read is made, however the call ends.
 ///
 /// # Errors
 /// As of `transform`.
@@ -241,8 +246,11 @@ pub fn transform_joined<S: Source, M: PrimMeaning, W: Sink>(
     ensures untouched_read { IsErrOf result Fault.Read → out.new ≡ out.old }
     ensures read_failed { S.failed_reads input.new ≡ S.failed_reads input.old + (if is_read_fault result then 1 else 0) }
     ensures write_failed { W.failed_writes out.new ≡ W.failed_writes out.old + (if is_write_fault result then 1 else 0) }
-    ensures bounded { S.reads input.new ≤ S.reads input.old + max_definitions + 17 + max_term + 1 }
-    ensures defs_bounded { IfOk result (λ status. RefusesDefinitions status → S.reads input.new ≤ S.reads input.old + max_definitions + 17) }
+    ensures bounded { S.reads input.new ≤ S.reads input.old + max_definitions + 7 + max_term + 1 }
+    ensures defs_bounded { IfOk result (λ status. RefusesDefinitions status → S.reads input.new ≤ S.reads input.old + max_definitions + 7) }
+    ensures unread_told { IfSome (S.coming input.old) (λ told. (d t : List ℕ) → IsSplit told d t →
+        (fault : Fault) → AreRefused (setting_of M.answer registry.now options.now) d fault →
+        S.reads input.new ≤ S.reads input.old + max_definitions + 7) }
 {
     let mut notes = RunNotes::none();
     transform_joined_with_notes(alloc, input, options, registry, &mut notes, out)
@@ -273,8 +281,11 @@ pub fn transform_joined_with_notes<S: Source, M: PrimMeaning, W: Sink>(
     ensures untouched_read { IsErrOf result Fault.Read → out.new ≡ out.old }
     ensures read_failed { S.failed_reads input.new ≡ S.failed_reads input.old + (if is_read_fault result then 1 else 0) }
     ensures write_failed { W.failed_writes out.new ≡ W.failed_writes out.old + (if is_write_fault result then 1 else 0) }
-    ensures bounded { S.reads input.new ≤ S.reads input.old + max_definitions + 17 + max_term + 1 }
-    ensures defs_bounded { IfOk result (λ status. RefusesDefinitions status → S.reads input.new ≤ S.reads input.old + max_definitions + 17) }
+    ensures bounded { S.reads input.new ≤ S.reads input.old + max_definitions + 7 + max_term + 1 }
+    ensures defs_bounded { IfOk result (λ status. RefusesDefinitions status → S.reads input.new ≤ S.reads input.old + max_definitions + 7) }
+    ensures unread_told { IfSome (S.coming input.old) (λ told. (d t : List ℕ) → IsSplit told d t →
+        (fault : Fault) → AreRefused (setting_of M.answer registry.now options.now) d fault →
+        S.reads input.new ≤ S.reads input.old + max_definitions + 7) }
 {
     *notes = RunNotes::none();
     let outcome = outcome_joined(alloc, input, options, registry, notes);

@@ -62,7 +62,7 @@ pub fn run_standard<P: Paths, I: Source, W: Sink, E: Sink>(
         × Tells fault (E.failed_writes diagnostics.old) (E.failed_writes diagnostics.new) (E.written diagnostics.old) (E.written diagnostics.new) }
     ensures unwritten { result ≡ 4 → W.failed_writes out.new ≡ W.failed_writes out.old → out.new ≡ out.old }
     ensures write_failed { W.failed_writes out.old < W.failed_writes out.new → result ≡ 4 }
-    ensures bounded { I.reads input.new ≤ I.reads input.old + max_definitions + 17 + max_term + 1 }
+    ensures bounded { I.reads input.new ≤ I.reads input.old + max_definitions + 7 + max_term + 1 }
     ensures plain_status { IsOkAnd words.now (λ ws. length ws.items ≤ 1) → result ≤ 4 }
     ensures plain_ended { IsOkAnd words.now (λ ws. length ws.items ≤ 1) → result < 4 → (options : Options) × (status : Status) × ArePlain options × (exit_of status ≡ result) × HoldsRefusal status
         × IfSome (I.coming input.old) (λ told. (d t : List ℕ) → IsSplit told d t → HasWritten d t (standard_setting options) status (W.written out.old) (W.written out.new))

@@ -88,7 +88,7 @@ fn run_joined<I: Source, W: Sink, E: Sink, M: PrimMeaning>(
         IfSome (I.coming input.old) (λ told. (d t : List ℕ) → IsSplit told d t → HasBegun d t (setting_of M.answer registry.now options.now) (W.written out.old) (W.written out.new)) }
     ensures read_failed { I.failed_reads input.old < I.failed_reads input.new → result ≡ 4 }
     ensures write_failed { W.failed_writes out.old < W.failed_writes out.new → result ≡ 4 }
-    ensures bounded { I.reads input.new ≤ I.reads input.old + max_definitions + 17 + max_term + 1 }
+    ensures bounded { I.reads input.new ≤ I.reads input.old + max_definitions + 7 + max_term + 1 }
 {
     let mut notes = RunNotes::none();
     match transform_joined_with_notes(alloc, input, options, registry, &mut notes, out) {
@@ -207,7 +207,7 @@ fn run_texts<P: Paths, I: Source, W: Sink, E: Sink, M: PrimMeaning>(
     ensures unwritten { result ≡ 4 → W.failed_writes out.new ≡ W.failed_writes out.old → out.new ≡ out.old }
     ensures joined_read_failed { texts.entry ≡ Joined → I.failed_reads input.old < I.failed_reads input.new → result ≡ 4 }
     ensures write_failed { W.failed_writes out.old < W.failed_writes out.new → result ≡ 4 }
-    ensures bounded { I.reads input.new ≤ I.reads input.old + max_definitions + 17 + max_term + 1 }
+    ensures bounded { I.reads input.new ≤ I.reads input.old + max_definitions + 7 + max_term + 1 }
 {
     match texts {
         Texts::Joined => {
@@ -306,7 +306,7 @@ pub fn run<P: Paths, I: Source, W: Sink, E: Sink, M: PrimMeaning>(
         × Tells fault (E.failed_writes diagnostics.old) (E.failed_writes diagnostics.new) (E.written diagnostics.old) (E.written diagnostics.new) }
     ensures unwritten { result ≡ 4 → W.failed_writes out.new ≡ W.failed_writes out.old → out.new ≡ out.old }
     ensures write_failed { W.failed_writes out.old < W.failed_writes out.new → result ≡ 4 }
-    ensures bounded { I.reads input.new ≤ I.reads input.old + max_definitions + 17 + max_term + 1 }
+    ensures bounded { I.reads input.new ≤ I.reads input.old + max_definitions + 7 + max_term + 1 }
     ensures plain_status { length words.now ≤ 1 → result ≤ 4 }
     ensures plain_ended { length words.now ≤ 1 → result < 4 → (options : Options) × (status : Status) × ArePlain options × (exit_of status ≡ result) × HoldsRefusal status
         × IfSome (I.coming input.old) (λ told. (d t : List ℕ) → IsSplit told d t → HasWritten d t (setting_of M.answer registry.now options) status (W.written out.old) (W.written out.new))

@@ -9,6 +9,7 @@ use Rattle.str_pipeline.specs.Setting.{Setting, setting_of}
 use Rattle.str_pipeline.specs.Written.{IsFirstFault}
 use Rattle.str_pipeline.specs.Steps.{IsProgram, IsResult}
 use Rattle.str_pipeline.proofs.FaultLaws.{reading_apart}
+use Rattle.str_pipeline.proofs.OneLine.{none_refused_joined}
 use Rattle.str_pipeline.proofs.WrittenLaws.{of_split, for_each_told, told_then, program_fault, reading_result, passed}
 use Rattle.str_pipeline.proofs.pipeline.outcome_joined.Goals as goal
 
@@ -63,3 +64,30 @@ pub returns-in_err-text-clause-defs_bounded : goal.returns-in_err-text-clause-de
 returns-in_err-text-clause-defs_bounded g c =
     rw (passed c.from_residual-in_err-text.result c.in_err-text.field-0.0 c.from_residual-in_err-text.ensures.1)
     (λ of_definitions. absurd (reading_apart c.in_err-text.field-0.0 c.in_err-text.ensures.kinds of_definitions))
+
+pub returns-in_err-text-clause-unread_told : goal.returns-in_err-text-clause-unread_told
+returns-in_err-text-clause-unread_told g c =
+    let S : Setting = setting_of g.M.PrimMeaning.answer c.args.registry.now c.args.options.now in
+    let made = c.in_ok-program.ensures.program in
+    let file : PassesChecks S (definitions_of c.in-Some.front) made.0 = rw c.definitions.ensures at made.1 in
+    let short : length (definitions_of c.in-Some.front) ≤ max_definitions = rw c.in-Some.is at c.in_ok-front.ensures.fits in
+    none_refused_joined S (g.S.Source.coming c.args.input.now) (g.S.Source.coming c.read_front.new.input) (definitions_of c.in-Some.front) (term_of c.in-Some.front)
+    made.0 _ (rw c.in-Some.is at c.in_ok-front.ensures.split) (short, file)
+
+pub returns-in_default-2-clause-unread_told : goal.returns-in_default-2-clause-unread_told
+returns-in_default-2-clause-unread_told g c =
+    let S : Setting = setting_of g.M.PrimMeaning.answer c.args.registry.now c.args.options.now in
+    let made = c.in_ok-program.ensures.program in
+    let file : PassesChecks S (definitions_of c.in-Some.front) made.0 = rw c.definitions.ensures at made.1 in
+    let short : length (definitions_of c.in-Some.front) ≤ max_definitions = rw c.in-Some.is at c.in_ok-front.ensures.fits in
+    none_refused_joined S (g.S.Source.coming c.args.input.now) (g.S.Source.coming c.read_front.new.input) (definitions_of c.in-Some.front) (term_of c.in-Some.front)
+    made.0 _ (rw c.in-Some.is at c.in_ok-front.ensures.split) (short, file)
+
+pub returns-clause-unread_told : goal.returns-clause-unread_told
+returns-clause-unread_told g c =
+    let S : Setting = setting_of g.M.PrimMeaning.answer c.args.registry.now c.args.options.now in
+    let made = c.in_ok-program.ensures.program in
+    let file : PassesChecks S (definitions_of c.in-Some.front) made.0 = rw c.definitions.ensures at made.1 in
+    let short : length (definitions_of c.in-Some.front) ≤ max_definitions = rw c.in-Some.is at c.in_ok-front.ensures.fits in
+    none_refused_joined S (g.S.Source.coming c.args.input.now) (g.S.Source.coming c.read_front.new.input) (definitions_of c.in-Some.front) (term_of c.in-Some.front)
+    made.0 _ (rw c.in-Some.is at c.in_ok-front.ensures.split) (short, file)
