@@ -17,7 +17,7 @@ use crate::evaluator::annotated_matches::{ANNOTATED_MATCHES, MORE_ANNOTATED_MATC
 use crate::evaluator::call_rows::CALLS;
 use crate::evaluator::library_rows::LIBRARY;
 use crate::evaluator::pattern_rows::PATTERNS;
-use crate::evaluator::primitive_rows::PRIMITIVES;
+use crate::evaluator::primitive_rows::{ADD, PRIMITIVES, TWO_AND_THREE};
 use crate::evaluator::rows::{ENDLESS, EVERY_FORM, Ends, FIRST_PART, OTHER_FORMS, RANGES, Row};
 use crate::evaluator::samples::{Word, pattern, program, term};
 use crate::evaluator::traversal_rows::TRAVERSALS;
@@ -26,7 +26,7 @@ use core_lang::{Core, CoreDef, CorePattern, Outcome, Run};
 use prim_registry::{Action, Flat, Prim, PrimMeaning, Registry, STANDARD, Standard};
 use std::alloc::{AllocError, Global};
 use std::test::Fail;
-use term_model::Term;
+use term_model::{Fault, Term};
 
 fn core(alloc: Global, definitions: Vec<CoreDef>) -> Result<Core, Fail> {
     if !Core::in_range(&definitions, 0) {
@@ -42,12 +42,12 @@ fn run(
     term: &Term,
     budget: u32,
     registry: &Registry<Standard>,
-) -> Result<Run<Term>, Fail>
+) -> Result<Run<Term>, Fault>
     requires budget { budget ≤ 2_000 }
     requires honest { IsHonest ⟦<Standard as PrimMeaning>⟧.answer registry.now }
 {
     if !registry.covers(core.prims()) {
-        return Err(Fail::new("a primitive is not there"));
+        return Err(Fault::UnknownPrimitive);
     }
     Ok(eval(alloc, core, term, budget, registry)?)
 }
@@ -184,6 +184,36 @@ fn primitives(rt: HostRuntime) -> Result<(), Fail> {
         registry.register(Prim::new(name, primitive.arity(), action))?;
     }
     check_rows(alloc, PRIMITIVES, &registry)
+}
+
+// Whether the run of the program on the pair of 2 and 3 is refused memory.
+fn is_refused_memory(
+    alloc: Global,
+    words: &[Word],
+    registry: &Registry<Standard>,
+) -> Result<bool, Fail>
+    requires { IsHonest ⟦<Standard as PrimMeaning>⟧.answer registry.now }
+{
+    let core = core(alloc, program(alloc, words)?)?;
+    let term = term(alloc, TWO_AND_THREE)?;
+    let answer = run(alloc, &core, &term, 2000, registry);
+    Ok(matches!(answer, Err(Fault::Memory)))
+}
+
+// A primitive that is refused memory makes the run end with the fault `Memory`.
+#[test]
+fn a_primitive_without_memory(rt: HostRuntime) -> Result<(), Fail> {
+    let alloc = rt.alloc();
+    let mut registry = Registry::<Standard>::new(alloc);
+    let action: Action = Box::new(
+        alloc,
+        |_args: &[Flat]| -> Result<Option<Flat>, AllocError> { Err(AllocError) },
+    )?;
+    registry.register(Prim::new(b"add".to_vec(alloc)?, 2, action))?;
+    if !is_refused_memory(alloc, ADD, &registry)? {
+        return Err(Fail::new("another answer"));
+    }
+    Ok(())
 }
 
 // Whether the program, which has no end, uses up the budget.

@@ -243,6 +243,17 @@ fn adds(alloc: Global, registry: &Registry<Standard>) -> Result<bool, Fault>
     Ok(is_expected(&answer, &Some(Int(5))))
 }
 
+/// Whether the registry, which has `add`, is refused memory where it is to add 2 and 3.
+fn is_refused_memory(alloc: Global, registry: &Registry<Standard>) -> Result<bool, Fault>
+    requires { IsHonest ⟦<Standard as PrimMeaning>⟧.answer registry.now }
+{
+    let args = flats(alloc, &[Int(2), Int(3)])?;
+    if !registry.has(b"add", args.len()) {
+        return Ok(false);
+    }
+    Ok(matches!(registry.call(b"add", &args), Err(Fault::Memory)))
+}
+
 #[test]
 fn a_name_is_registered_once(rt: HostRuntime) -> Result<(), Fail> {
     let alloc = rt.alloc();
@@ -313,6 +324,22 @@ fn a_set_of_names(rt: HostRuntime) -> Result<(), Fail> {
     names.insert(b"add", 2)?;
     if names.is_empty() || !has_add(&names, 1, false) {
         return Err(Fail::new("one name"));
+    }
+    Ok(())
+}
+
+// A primitive that is refused memory makes the call end with the fault `Memory`.
+#[test]
+fn a_call_without_memory(rt: HostRuntime) -> Result<(), Fail> {
+    let alloc = rt.alloc();
+    let mut registry = Registry::<Standard>::new(alloc);
+    let action: Action = Box::new(
+        alloc,
+        |_args: &[Flat]| -> Result<Option<Flat>, AllocError> { Err(AllocError) },
+    )?;
+    registry.register(Prim::new(b"add".to_vec(alloc)?, 2, action))?;
+    if !is_refused_memory(alloc, &registry)? {
+        return Err(Fail::new("another answer"));
     }
     Ok(())
 }

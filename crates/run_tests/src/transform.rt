@@ -1,7 +1,9 @@
 //! What no clause says: outside vectors and whole runs.
 mod annotation_rows;
+mod bombs;
 mod complaints;
 mod devices;
+mod endless;
 mod failures;
 mod forms;
 mod language_rows;

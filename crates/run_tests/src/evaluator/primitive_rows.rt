@@ -3,7 +3,7 @@ use crate::evaluator::rows::{EQUAL_PARTS, Ends, HEAVY, PAIR, Row, THEN, X, Y};
 use crate::evaluator::samples::{Piece as T, Word as W};
 
 // ?(x,y); prim("add",x,y)
-const ADD: &[W] = &[
+pub const ADD: &[W] = &[
     X,
     Y,
     PAIR,
@@ -14,6 +14,9 @@ const ADD: &[W] = &[
     THEN,
     W::Scope(2),
 ];
+
+// (2,3)
+pub const TWO_AND_THREE: &[T] = &[T::Int(2), T::Int(3), T::TupleOf(2)];
 
 // ?x; prim("length",x)
 const LENGTH: &[W] = &[

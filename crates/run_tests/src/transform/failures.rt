@@ -138,25 +138,38 @@ fn refused_definitions_leave_the_term(rt: HostRuntime) -> Result<(), Fail> {
     Ok(())
 }
 
-/// Definitions, the joined form of them and the pair, and the line.
-const SECOND_PART: &[u8] = b"strategies main = ?(_,x); !x";
+/// Definitions, a term, both in the joined form, and the line.
+type Written = (&'static [u8], &'static [u8], &'static [u8], &'static [u8]);
 
-const SECOND_PART_OF_PAIR: &[u8] = b"strategies main = ?(_,x); !x\n#term\n(7,f(1))";
+const WRITTEN: &[Written] = &[
+    (
+        b"strategies main = id",
+        b"F(1)",
+        b"strategies main = id\n#term\nF(1)",
+        b"F(1)\n",
+    ),
+    (
+        b"strategies main = ?(_,x); !x",
+        b"(7,f(1))",
+        b"strategies main = ?(_,x); !x\n#term\n(7,f(1))",
+        b"f(1)\n",
+    ),
+];
 
-const LINE: &[u8] = b"f(1)\n";
-
-/// Whether a run has written the bytes before the bad call, and ended with the fault `Write` exactly if the line has more.
-fn is_write_fault(answer: &Result<Status, Fault>, out: &Faulty, bad: u64) -> bool {
-    let is_bad = bad <= LINE.len() as u64;
-    let count = LINE.len().min((bad as usize).saturating_sub(1));
-    matches!(answer, Err(Fault::Write)) == is_bad && out.written() == &LINE[..count]
+/// Whether a run has written the bytes of the line before the bad call, and ended with the fault `Write` exactly if the line has more.
+fn is_write_fault(answer: &Result<Status, Fault>, out: &Faulty, line: &[u8], bad: u64) -> bool {
+    let is_bad = bad <= line.len() as u64;
+    let count = line.len().min((bad as usize).saturating_sub(1));
+    matches!(answer, Err(Fault::Write)) == is_bad && out.written() == &line[..count]
 }
 
-/// Whether a run ends as it should if its writer is bad from this call on: it fails, or takes nothing if the number is even. Each
-/// call writes a byte.
+/// Whether a run ends as it should if its writer is bad from this call on: it fails or, where it is silent, takes nothing. Each call
+/// writes a byte.
 fn is_cut_apart(
     alloc: Global,
+    row: &Written,
     bad: u64,
+    is_silent: bool,
     options: &Options,
     registry: &Registry<Standard>,
 ) -> Result<bool, AllocError>
@@ -164,16 +177,38 @@ fn is_cut_apart(
     requires budget { options.now.budget ≤ max_budget }
     requires honest { IsHonest ⟦<Standard as PrimMeaning>⟧.answer registry.now }
 {
-    let mut first = Faulty::reader(SECOND_PART.to_vec(alloc)?, 9, None);
-    let mut second = Faulty::reader(PAIR.to_vec(alloc)?, 9, None);
-    let mut out = Faulty::writer(alloc, ROOM, 1, Some(bad), bad % 2 == 0)?;
+    let (definitions, term, _, line) = row;
+    let mut first = Faulty::reader(definitions.to_vec(alloc)?, 9, None);
+    let mut second = Faulty::reader(term.to_vec(alloc)?, 9, None);
+    let mut out = Faulty::writer(alloc, ROOM, 1, Some(bad), is_silent)?;
     let answer = transform(alloc, &mut first, &mut second, options, registry, &mut out);
-    Ok(is_write_fault(&answer, &out, bad))
+    Ok(is_write_fault(&answer, &out, line, bad))
 }
 
 /// The same in the joined form.
 fn is_cut_joined(
     alloc: Global,
+    row: &Written,
+    bad: u64,
+    is_silent: bool,
+    options: &Options,
+    registry: &Registry<Standard>,
+) -> Result<bool, AllocError>
+    requires bad { 1 ≤ bad }
+    requires budget { options.now.budget ≤ max_budget }
+    requires honest { IsHonest ⟦<Standard as PrimMeaning>⟧.answer registry.now }
+{
+    let (_, _, joined, line) = row;
+    let mut input = Faulty::reader(joined.to_vec(alloc)?, 9, None);
+    let mut out = Faulty::writer(alloc, ROOM, 1, Some(bad), is_silent)?;
+    let answer = transform_joined(alloc, &mut input, options, registry, &mut out);
+    Ok(is_write_fault(&answer, &out, line, bad))
+}
+
+/// Whether runs in both forms end as they should if their writers are bad from this call on.
+fn are_cut(
+    alloc: Global,
+    row: &Written,
     bad: u64,
     options: &Options,
     registry: &Registry<Standard>,
@@ -182,21 +217,39 @@ fn is_cut_joined(
     requires budget { options.now.budget ≤ max_budget }
     requires honest { IsHonest ⟦<Standard as PrimMeaning>⟧.answer registry.now }
 {
-    let mut input = Faulty::reader(SECOND_PART_OF_PAIR.to_vec(alloc)?, 9, None);
-    let mut out = Faulty::writer(alloc, ROOM, 1, Some(bad), bad % 2 == 0)?;
-    let answer = transform_joined(alloc, &mut input, options, registry, &mut out);
-    Ok(is_write_fault(&answer, &out, bad))
+    Ok(
+        is_cut_apart(alloc, row, bad, false, options, registry)?
+            && is_cut_apart(alloc, row, bad, true, options, registry)?
+            && is_cut_joined(alloc, row, bad, false, options, registry)?
+            && is_cut_joined(alloc, row, bad, true, options, registry)?,
+    )
+}
+
+/// Whether it is so for each call.
+fn are_cut_at_each(
+    alloc: Global,
+    row: &Written,
+    options: &Options,
+    registry: &Registry<Standard>,
+) -> Result<bool, AllocError>
+    requires budget { options.now.budget ≤ max_budget }
+    requires honest { IsHonest ⟦<Standard as PrimMeaning>⟧.answer registry.now }
+{
+    for bad in 1..8u64 {
+        if !are_cut(alloc, row, bad, options, registry)? {
+            return Ok(false);
+        }
+    }
+    Ok(true)
 }
 
 #[test]
 fn failing_writers(rt: HostRuntime) -> Result<(), Fail> {
     let options = plain_options(rt.alloc(), MAX_BUDGET)?;
     let registry = Registry::<Standard>::new(rt.alloc());
-    for bad in 1..8u64 {
-        if !is_cut_apart(rt.alloc(), bad, &options, &registry)?
-            || !is_cut_joined(rt.alloc(), bad, &options, &registry)?
-        {
-            return Err(Fail::new(bad));
+    for (index, row) in WRITTEN.iter().enumerate() {
+        if !are_cut_at_each(rt.alloc(), row, &options, &registry)? {
+            return Err(Fail::new(index));
         }
     }
     Ok(())

@@ -14,15 +14,15 @@ use term_model::Fault;
 
 /// The status of a run, and what was written.
 #[derive(Drop)]
-struct Answer {
-    status: Status,
-    line: Vec<u8>,
+pub(super) struct Answer {
+    pub(super) status: Status,
+    pub(super) line: Vec<u8>,
 }
 
 /// Transforms texts in memory: the line and the status are those of the definitions, the term, the
 /// options and the primitives of the registry.
 #[tactic(auto, using(str_pipeline::proofs::MemoryLaws::written_whole))]
-fn transformed<M: PrimMeaning>(
+pub(super) fn transformed<M: PrimMeaning>(
     alloc: Global,
     defs: &[u8],
     term: &[u8],

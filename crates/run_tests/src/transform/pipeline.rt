@@ -15,17 +15,19 @@ use crate::transform::term_rows::TERM_ROWS;
 use prim_registry::{PrimMeaning, Registry, Standard};
 use std::alloc::{AllocError, Global};
 use std::test::Fail;
-use str_pipeline::{Faulty, MAX_BUDGET, Options, Status, transform, transform_joined};
+use str_pipeline::{
+    Faulty, MAX_BUDGET, Options, RunNotes, Status, transform_joined, transform_with_notes,
+};
 use term_model::Fault;
 
 /// How much a reader gives and a writer takes in a call.
 pub(super) const PIECE: usize = 65_536;
 
 /// Room for the longest line.
-pub(super) const ROOM: usize = 4_096;
+pub(super) const ROOM: usize = 32_768;
 
 /// The pieces, one after the other.
-fn text_of(alloc: Global, pieces: &[(&str, usize)]) -> Result<Vec<u8>, AllocError> {
+pub(super) fn text_of(alloc: Global, pieces: &[(&str, usize)]) -> Result<Vec<u8>, AllocError> {
     let mut text = Vec::new(alloc);
     for (piece, times) in pieces {
         for _ in 0..*times {
@@ -109,7 +111,16 @@ fn joined_form(alloc: Global, defs: &[u8], term: &[u8]) -> Result<Vec<u8>, Alloc
     Ok(text)
 }
 
-/// Whether definitions and a term, each from a reader of its own, give this line.
+/// Whether the steps of the run, where there was one, are within the bound that its rules give.
+fn is_bounded(notes: &RunNotes) -> bool {
+    let Some(used) = notes.used() else {
+        return true;
+    };
+    let most = u64::from(used.rules).saturating_mul(10).saturating_add(10);
+    used.steps <= most
+}
+
+/// Whether definitions and a term, each from a reader of its own, give this line, by steps within the bound.
 fn gives_apart(
     alloc: Global,
     defs: &[u8],
@@ -124,8 +135,17 @@ fn gives_apart(
     let mut out = Faulty::writer(alloc, ROOM, PIECE, None, false)?;
     let mut first = Faulty::reader(defs.to_vec(alloc)?, PIECE, None);
     let mut second = Faulty::reader(term.to_vec(alloc)?, PIECE, None);
-    let status = transform(alloc, &mut first, &mut second, options, registry, &mut out)?;
-    Ok(fits(&status, line) && out.written() == line)
+    let mut notes = RunNotes::none();
+    let status = transform_with_notes(
+        alloc,
+        &mut first,
+        &mut second,
+        options,
+        registry,
+        &mut notes,
+        &mut out,
+    )?;
+    Ok(fits(&status, line) && out.written() == line && is_bounded(&notes))
 }
 
 /// Whether a text in the joined form, which is read by so many bytes at a time, gives this line.

@@ -205,6 +205,19 @@ pub(super) const ROWS: &[Row] = &[
         rules: None,
     },
     Row {
+        defs: &[("strategies main = ", 1), ("(", 100_000)],
+        term: &[("1", 1)],
+        line: &[("#refused Nesting", 1)],
+        rules: None,
+    },
+    // a congruence with 10,000 parts: 6 rules for each of them, and 5 for the rest
+    Row {
+        defs: &[("strategies main = (id", 1), (",id", 9_999), (")", 1)],
+        term: &[("(1", 1), (",1", 9_999), (")", 1)],
+        line: &[("(1", 1), (",1", 9_999), (")", 1)],
+        rules: Some(60_005),
+    },
+    Row {
         defs: &[("strategies main = ?(x", 1), (",_", 100_000), (")", 1)],
         term: &[("(1,2)", 1)],
         line: &[("#failed", 1)],

@@ -30,6 +30,13 @@ pub(super) const TERM_ROWS: &[Row] = &[
         line: &[("#refused TermOversize", 1)],
         rules: None,
     },
+    // a million brackets
+    Row {
+        defs: &[("strategies main = id", 1)],
+        term: &[("[", 1_000_000)],
+        line: &[("#refused TermOversize", 1)],
+        rules: None,
+    },
     // depth-1000-cut
     Row {
         defs: &[("strategies main = id", 1)],
