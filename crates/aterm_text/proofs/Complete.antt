@@ -13,7 +13,7 @@ use Rattle.aterm_text.specs.Grammar.{Between, Optional, SpellsBare, Spells, Spel
 use Rattle.aterm_text.specs.Depth.{Opening, Applied, Elements, Annotations, Open, begins_term, StartsTerm}
 use Rattle.term_model.proofs.FitsLaws.{both}
 use Rattle.term_model.proofs.TermLemmas.{trees_of-list_of}
-use Rattle.aterm_text.proofs.Machine.{State, Expect, Fresh, Whole, Done, Deep, opened, closer, closed, text, step, after}
+use Rattle.aterm_text.specs.Reading.{State, Expect, Fresh, Whole, Done, Deep, opened, closer, closed, text, step, after}
 use Rattle.aterm_text.proofs.Endings.{OrDeep, weaken, Past, after_deep, through, blanks_keep, Ends, Bare, SymbolEnds, bare_ends, symbol_bare, symbol_blank, bare_blank, ends_next, open_with, ends_close, bare_brace, symbol_bracket, fresh_close, begin_first, fresh_first, at_done, bare_whole}
 use Rattle.aterm_text.proofs.ReadTokens.{digit_no_name, read_integer, read_symbol}
 

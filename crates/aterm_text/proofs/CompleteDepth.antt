@@ -9,7 +9,7 @@ use Rattle.term_model.specs.Term.{Tree, depths}
 use Rattle.aterm_text.specs.Tokens.{Token, Mark, IsSymbolText}
 use Rattle.aterm_text.specs.Grammar.{SpellsAll}
 use Rattle.aterm_text.specs.Depth.{Opening, Applied, Elements, Annotations, Open, SpellsEarlier, IsOpening, Opens, TooDeep, StartsTerm}
-use Rattle.aterm_text.proofs.Machine.{State, Expect, Fresh, Deep, opened, text, step, after}
+use Rattle.aterm_text.specs.Reading.{State, Expect, Fresh, Deep, opened, text, step, after}
 use Rattle.aterm_text.proofs.Endings.{OrDeep, weaken, Past, after_deep, through, blanks_keep, Ends, Bare, SymbolEnds, symbol_blank, ends_next, open_with, bare_brace, symbol_bracket, not_blank, begin_first, fresh_first}
 use Rattle.aterm_text.proofs.ReadTokens.{read_symbol}
 use Rattle.aterm_text.proofs.Complete.{read_mark, token_front, read_bare, starts_front, starts_mark, starts_symbol, starts_bare, starts_term, read_term, read_all}

@@ -14,7 +14,7 @@ use Rattle.aterm_text.specs.Tokens.{AreBlanks}
 use Rattle.aterm_text.specs.Depth.{Opening, Applied, Elements, Annotations, Open, begins_term, StartsTerm}
 use Rattle.term_model.proofs.FitsLaws.{both}
 use Rattle.aterm_text.proofs.Basics.{either_or, test}
-use Rattle.aterm_text.proofs.Machine.{State, Expect, Fresh, InName, InDigits, Named, Whole, Done, Deep, opened, closer, closed, first, next, step, after}
+use Rattle.aterm_text.specs.Reading.{State, Expect, Fresh, InName, InDigits, Named, Whole, Done, Deep, opened, closer, closed, first, next, step, after}
 
 -- the state is such, or it is `Deep`, and then this holds
 abbrev pub OrDeep : Type 0 → (State → Type 0) → State → Type 0

@@ -16,7 +16,7 @@ use Rattle.term_model.proofs.FitsLaws.{both}
 use Rattle.term_model.proofs.Items.{digit_no_letter}
 use Rattle.term_model.proofs.IntegerLaws.{in_limit}
 use Rattle.term_model.proofs.Joins.{append_nil}
-use Rattle.aterm_text.proofs.Machine.{State, Expect, InName, InDigits, InText, Named, Deep, first, text, escape, step, after}
+use Rattle.aterm_text.specs.Reading.{State, Expect, InName, InDigits, InText, Named, Deep, first, text, escape, step, after}
 use Rattle.aterm_text.proofs.Endings.{OrDeep, Past, after_append, after_deep, Bare, SymbolEnds, begin_first, bare_digits, name_here, symbol_before}
 
 -- ---- names and integers

@@ -1,21 +1,18 @@
 -- A term that fits is read back from its canonical text.
 use Rattle.std.specs.Prelude.{Ok, Err}
-use Rattle.std.proofs.Common.{◌≡◌, ℕ, ◌<◌, List, [], ◌⊎◌, inl, inr, refl, ap, sym, arith, subst, Some}
+use Rattle.std.proofs.Common.{◌≡◌, ℕ, ◌<◌, List, [], ◌⊎◌, inl, inr, refl, ap, sym, arith, subst}
 use Rattle.term_model.specs.Limits.{max_depth}
 use Rattle.term_model.specs.declared.fault.Fault.TheVariants as faults
 use Rattle.term_model.specs.Term.{Tree, IsTerm, Fits, depth}
 use Rattle.aterm_text.specs.Grammar.{IsText}
 use Rattle.aterm_text.specs.Depth.{Open, TooDeep}
 use Rattle.aterm_text.specs.Text.{text}
-use Rattle.aterm_text.specs.Reading.{Read, TooDeepText, outcome_of}
 use Rattle.aterm_text.specs.Canonical.{ReadsBack}
-use Rattle.aterm_text.proofs.Machine.{State, Expect, Deep, after}
+use Rattle.aterm_text.specs.Reading.{State, Expect, Deep, after, Read, TooDeepText, outcome_of}
 use Rattle.aterm_text.proofs.Endings.{OrDeep, Ends, at_name, at_digits, at_named, at_whole, at_done}
 use Rattle.aterm_text.proofs.Complete.{text_read}
 use Rattle.aterm_text.proofs.CompleteDepth.{too_deep}
-use Rattle.aterm_text.proofs.Agree.{kept}
-use Rattle.term_model.proofs.FitsLaws.{fits-complete}
-use Rattle.aterm_text.proofs.Meaning.{spelled, deep_is, kept_some}
+use Rattle.aterm_text.proofs.Meaning.{spelled, deep_is}
 use Rattle.aterm_text.proofs.Canonical.{text_spells}
 
 ends_not_deep : {a : State} {t : Tree} {s : List Open} → Ends a t s → a ≡ Deep → ⊥
@@ -36,10 +33,10 @@ not_deep t bs h f d = go (text_read t bs h)
 alone : (t u : Tree) (bs : List ℕ) → Fits t → IsText t bs → IsText u bs → u ≡ t
 alone t u bs f h g = go (spelled bs t h) (spelled bs u g)
   where
-    go : (outcome_of bs ≡ Read (kept t)) ⊎ (outcome_of bs ≡ TooDeepText) → (outcome_of bs ≡ Read (kept u)) ⊎ (outcome_of bs ≡ TooDeepText) → u ≡ t
+    go : (outcome_of bs ≡ Read t) ⊎ (outcome_of bs ≡ TooDeepText) → (outcome_of bs ≡ Read u) ⊎ (outcome_of bs ≡ TooDeepText) → u ≡ t
     go (inr d) e = absurd (not_deep t bs h f (deep_is bs d))
     go (inl d) (inr e) = absurd (not_deep t bs h f (deep_is bs e))
-    go (inl d) (inl e) = let some : kept t ≡ Some t = rw (fits-complete t f) refl in let same : kept u ≡ Some t = cc in (kept_some u t same).0
+    go (inl d) (inl e) = cc
 
 pub reads_back : (t : Tree) → IsTerm t → Fits t → ReadsBack t
 reads_back t i f (Ok u) h = inl (ap Ok (sym (h.only t (text_spells t i))))

@@ -21,7 +21,7 @@ use Rattle.term_model.proofs.IntegerLaws.{in_range}
 use Rattle.term_model.proofs.Joins.{joined, longer, nested, over, ended, begun, append_nil}
 use Rattle.aterm_text.proofs.Basics.{token}
 use Rattle.term_model.proofs.Items.{Unclosed, quoted, unclosed_more}
-use Rattle.aterm_text.proofs.Machine.{State, Expect, Fresh, InName, InSign, InDigits, InText, InEscape, InOctal, InOctals, Named, Whole, Done, Deep, Wrong, closer, closed, digits, first, begin, next, whole, named, text, escape, step, finished, after}
+use Rattle.aterm_text.specs.Reading.{State, Expect, Fresh, InName, InSign, InDigits, InText, InEscape, InOctal, InOctals, Named, Whole, Done, Deep, Wrong, closer, closed, digits, first, begin, next, whole, named, text, escape, step, finished, after}
 
 pub blanks_snoc : (bs : List ℕ) (c : ℕ) → AreBlanks bs → is_blank c ≡ true → AreBlanks (bs ++ c ∷ [])
 blanks_snoc bs c p e = rw (list_all-append is_blank bs (c ∷ []), p, e) refl

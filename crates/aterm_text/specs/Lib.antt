@@ -2,6 +2,7 @@ pub mod Tokens
 pub mod Grammar
 pub mod Depth
 pub mod Reading
+pub mod Brackets
 pub mod Text
 pub mod ReadTerm
 pub mod Canonical

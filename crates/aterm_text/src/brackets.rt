@@ -1,164 +1,166 @@
-// What follows a symbol and a term: brackets that open and close, and commas.
-ghost use Rattle.std.specs.Prelude.{◌≡◌, List, [], ◌∷◌, IfOk, OnOk};
-ghost use Rattle.aterm_text.specs.Reading.{item_of, closed, terms_in, add, closer as closing, stack_of, Gives, next as next_then, whole as whole_then, named as named_then, At, opened, IsCalm};
+// Brackets that open and close.
+ghost use Rattle.std.specs.Prelude.{◌≡◌, ◌==◌, ◌≤◌, ◌<◌, ◌+◌, List, [], ◌∷◌, ◌++◌, length, slice_index, IfOk, OnOk, IsTrue, true, false};
+ghost use Rattle.aterm_text.specs.Brackets.{Closing, Holds, IsAt, IsPushed, IsPut, Keeping, Reached, closing, next_after};
+ghost use Rattle.aterm_text.specs.Depth.{Open};
+ghost use Rattle.aterm_text.specs.Reading.{closed, Named};
+ghost use Rattle.term_model.specs.declared.term.Head.TheVariants.{App};
+ghost use Rattle.term_model.specs.Space.{Keeps};
+ghost use Rattle.term_model.specs.Term.{Tree, node, end};
 
-use crate::place::{Bracket, Level, Levels, Place};
+use crate::open::{Bracket, Enclosing, Next, Reader};
+use crate::scan::blanks_end;
 use std::alloc::{AllocError, Global};
-use term_model::bytes::is_blank_byte;
-use term_model::{Fault, Made, Sym, Term};
+use term_model::{Made, TermSpace};
 
-// The term, if it fits.
-pub(crate) fn item(made: Made<Term>) -> Option<Term>
-    ensures { result ≡ item_of made }
-{
-    match made {
-        Made::Fits(term) => Some(term),
-        Made::Oversize => None,
-    }
-}
-
-// What is read once the bracket closes after these terms.
-pub(crate) fn close(
-    alloc: Global,
-    bracket: Bracket,
-    earlier: Option<Vec<Term>>,
-) -> Result<Place, AllocError>
-    ensures gives { IfOk result (λ place. place ≡ closed bracket (terms_in earlier)) }
-    ensures calm { IfOk result IsCalm }
-{
-    let Some(terms) = earlier else {
-        return match bracket {
-            Bracket::Applied(_) | Bracket::Elements => Ok(Place::Whole(None)),
-            Bracket::Annotations(_) => Ok(Place::Done(None)),
-        };
-    };
-    match bracket {
-        Bracket::Applied(symbol) => Ok(Place::Whole(item(Term::app(alloc, symbol, terms)?))),
-        Bracket::Elements => Ok(Place::Whole(item(Term::list(alloc, terms)?))),
-        Bracket::Annotations(None) => Ok(Place::Done(None)),
-        Bracket::Annotations(Some(term)) => Ok(Place::Done(item(term.annotated(alloc, terms)?))),
-    }
-}
-
-pub(crate) fn closer(bracket: &Bracket) -> u8
-    ensures { result ≡ closing bracket.now }
-{
-    match bracket {
-        Bracket::Applied(_) => b')',
-        Bracket::Elements => b']',
-        Bracket::Annotations(_) => b'}',
-    }
-}
-
-// Puts one more term after these, if all of them fit.
+// The byte that closes the bracket.
 #[inline(always)]
-fn put(earlier: &mut Option<Vec<Term>>, term: Option<Term>) -> Result<(), AllocError>
-    ensures { OnOk result (terms_in earlier.new ≡ add (terms_in earlier.old) term) }
+pub(crate) fn closer<N: Drop>(enclosing: &Enclosing<N>) -> u8
+    ensures { result ≡ closing enclosing.now }
 {
-    let Some(term) = term else {
-        *earlier = None;
-        return Ok(());
-    };
-    if let Some(terms) = earlier {
-        terms.push(term)?;
+    match enclosing {
+        Enclosing::Parts(_) => b')',
+        Enclosing::Elements => b']',
+        Enclosing::Annotations => b'}',
+    }
+}
+
+// Puts a term in place of those from the bottom on, if it fits.
+#[inline(always)]
+pub(crate) fn put<R: Drop, N: Drop>(
+    reader: &mut Reader<R, N>,
+    bottom: usize,
+    made: Made<R>,
+) -> Result<(), AllocError>
+    ensures { OnOk result (IsPut made bottom reader.old reader.new) }
+{
+    reader.terms.truncate(bottom);
+    match made {
+        Made::Fits(term) => reader.terms.push(term)?,
+        Made::Oversize => reader.fits = false,
     }
     Ok(())
 }
 
-// A comma after a term.
+// Opens a bracket.
 #[inline(always)]
-fn comma(term: Option<Term>, levels: &mut Levels, at: u64) -> Result<Place, Fault>
-    ensures gives { Gives result (stack_of levels.new.items) (next_then term (stack_of levels.old.items) 44) }
-    ensures calm { IfOk result IsCalm }
+pub(crate) fn open<R: Drop, N: Drop>(
+    reader: &mut Reader<R, N>,
+    enclosing: Enclosing<N>,
+) -> Result<(), AllocError>
+    ensures { OnOk result (IsPushed enclosing reader.old reader.new) }
 {
-    if levels.is_empty() {
-        return Err(Fault::TermSyntax { at });
-    }
-    let innermost = levels.len() - 1;
-    let Some(level) = levels.get_mut(innermost) else {
-        return Err(Fault::TermSyntax { at });
-    };
-    put(&mut level.earlier, term)?;
-    Ok(Place::Expect)
+    let bottom = reader.terms.len();
+    reader.open.push(Bracket { enclosing, bottom })?;
+    Ok(())
 }
 
-// A byte after a term that takes no annotations.
-#[inline(always)]
-pub(crate) fn next(
+// What may come after a bracket that closes.
+fn after_closing<N: Drop>(enclosing: &Enclosing<N>) -> Next
+    ensures { result ≡ next_after enclosing.now }
+{
+    match enclosing {
+        Enclosing::Parts(_) | Enclosing::Elements => Next::Whole,
+        Enclosing::Annotations => Next::Done,
+    }
+}
+
+// Closes a bracket that was taken off: the terms in it become one, and one that does not fit where any of those so far does not.
+pub(crate) fn close<S: TermSpace>(
+    space: &mut S,
     alloc: Global,
-    term: Option<Term>,
-    levels: &mut Levels,
-    byte: u8,
-    at: u64,
-) -> Result<Place, Fault>
-    ensures gives { Gives result (stack_of levels.new.items) (next_then term (stack_of levels.old.items) byte) }
-    ensures calm { IfOk result IsCalm }
+    reader: &mut Reader<S::Ref, S::Name>,
+    bracket: Bracket<S::Name>,
+) -> Result<Next, AllocError>
+    requires { (o : Open) × (s : List Open) × (ts : List Tree) ×
+        Closing S.stands S.term_of S.knows S.symbol_of space.old reader.old bracket o s ts }
+    ensures keeps { Keeps S.stands S.term_of S.is_valid S.knows S.symbol_of space.old space.new }
+    ensures closed { (o : Open) (s : List Open) (ts : List Tree) →
+        Closing S.stands S.term_of S.knows S.symbol_of space.old reader.old bracket o s ts →
+        IfOk result (λ next. IsAt S.stands S.term_of S.knows S.symbol_of space.new reader.new next
+        (closed o.opening ts s)) }
 {
-    if byte == b',' {
-        return comma(term, levels, at);
+    if !reader.fits {
+        return Ok(after_closing(&bracket.enclosing));
     }
-    let Some(Level { bracket, earlier }) = levels.pop() else {
-        return Err(Fault::TermSyntax { at });
-    };
-    if byte == closer(&bracket) {
-        let mut terms = earlier;
-        put(&mut terms, term)?;
-        return Ok(close(alloc, bracket, terms)?);
+    let bottom = bracket.bottom;
+    match &bracket.enclosing {
+        Enclosing::Parts(name) => {
+            let made = space.app(alloc, name, &reader.terms[bottom..])?;
+            put(reader, bottom, made)?;
+            Ok(Next::Whole)
+        }
+        Enclosing::Elements => {
+            let made = space.list(alloc, &reader.terms[bottom..])?;
+            put(reader, bottom, made)?;
+            Ok(Next::Whole)
+        }
+        Enclosing::Annotations => {
+            let below = bottom - 1;
+            let made = space.with_annos(alloc, &reader.terms[below], &reader.terms[bottom..])?;
+            put(reader, below, made)?;
+            Ok(Next::Done)
+        }
     }
-    Err(Fault::TermSyntax { at })
 }
 
-pub(crate) fn open(levels: &mut Levels, bracket: Bracket, alloc: Global) -> Result<Place, Fault>
-    ensures gives { Gives result (stack_of levels.new.items) (At Place.Fresh (opened bracket ∷ stack_of levels.old.items)) }
-    ensures calm { IfOk result IsCalm }
-{
-    let level = Level {
-        bracket,
-        earlier: Some(Vec::new(alloc)),
-    };
-    levels.push(level)?;
-    Ok(Place::Fresh)
-}
-
-// A byte after a term that may take annotations.
+// A symbol that ends before the index: it is applied where a bracket follows.
 #[inline(always)]
-pub(crate) fn whole(
+pub(crate) fn apply<S: TermSpace>(
+    space: &mut S,
     alloc: Global,
-    term: Option<Term>,
-    levels: &mut Levels,
-    byte: u8,
-    at: u64,
-) -> Result<Place, Fault>
-    ensures gives { Gives result (stack_of levels.new.items) (whole_then term (stack_of levels.old.items) byte) }
-    ensures calm { IfOk result IsCalm }
+    reader: &mut Reader<S::Ref, S::Name>,
+    name: S::Name,
+    text: &[u8],
+    index: usize,
+) -> Result<(Next, usize), AllocError>
+    requires known { IsTrue (S.knows space.old name) }
+    requires at { Holds S.stands S.term_of S.knows S.symbol_of space.old text.now reader.old []
+        (Named (S.symbol_of space.old name)) index }
+    ensures keeps { Keeps S.stands S.term_of S.is_valid S.knows S.symbol_of space.old space.new }
+    ensures low { IfOk result (λ r. index ≤ r.1) }
+    ensures reached { IfOk result (λ r. Reached S.stands S.term_of S.knows S.symbol_of space.new
+        text.now reader.new r.0 r.1) }
 {
-    if is_blank_byte(byte) {
-        return Ok(Place::Whole(term));
+    let index = blanks_end(text, index);
+    if has_byte(text, index, b'(') {
+        open(reader, Enclosing::Parts(name))?;
+        return Ok((Next::First, index + 1));
     }
-    if byte == b'{' {
-        return open(levels, Bracket::Annotations(term), alloc);
-    }
-    next(alloc, term, levels, byte, at)
+    add_symbol(space, alloc, reader, &name)?;
+    Ok((Next::Whole, index))
 }
 
-// A byte after a symbol.
+// Whether this byte is at the index.
 #[inline(always)]
-pub(crate) fn named(
-    alloc: Global,
-    symbol: Sym,
-    levels: &mut Levels,
-    byte: u8,
-    at: u64,
-) -> Result<Place, Fault>
-    ensures gives { Gives result (stack_of levels.new.items) (named_then symbol (stack_of levels.old.items) byte) }
-    ensures calm { IfOk result IsCalm }
+fn has_byte(text: &[u8], index: usize, byte: u8) -> bool
+    ensures yes { result ≡ true → (index < length text.now) × (slice_index text.now index ≡ byte) }
+    ensures no { result ≡ false → index < length text.now →
+        (slice_index text.now index == byte) ≡ false }
 {
-    if is_blank_byte(byte) {
-        return Ok(Place::Named(symbol));
+    index < text.len() && text[index] == byte
+}
+
+// Adds a symbol without parts, if all terms fit.
+#[inline(always)]
+fn add_symbol<S: TermSpace>(
+    space: &mut S,
+    alloc: Global,
+    reader: &mut Reader<S::Ref, S::Name>,
+    name: &S::Name,
+) -> Result<(), AllocError>
+    requires known { IsTrue (S.knows space.old name.now) }
+    requires at { (s : List Open) × Keeping S.stands S.term_of S.knows S.symbol_of space.old
+        reader.old s [] }
+    ensures keeps { Keeps S.stands S.term_of S.is_valid S.knows S.symbol_of space.old space.new }
+    ensures added { (s : List Open) → Keeping S.stands S.term_of S.knows S.symbol_of space.old
+        reader.old s [] → OnOk result (Keeping S.stands S.term_of S.knows S.symbol_of space.new
+        reader.new s (node (App (S.symbol_of space.old name.now)) end end ∷ [])) }
+{
+    if !reader.fits {
+        return Ok(());
     }
-    if byte == b'(' {
-        return open(levels, Bracket::Applied(symbol), alloc);
-    }
-    let term = item(Term::app(alloc, symbol, Vec::new(alloc))?);
-    whole(alloc, term, levels, byte, at)
+    let bottom = reader.terms.len();
+    let made = space.app(alloc, name, &[])?;
+    put(reader, bottom, made)?;
+    Ok(())
 }

@@ -1,136 +1,152 @@
-// Quoted text: raw bytes and escapes.
-ghost use Rattle.std.specs.Prelude.{◌≡◌, ◌≤◌, ◌<◌, ◌+◌, ◌^◌, ℕ, List, [], ◌∷◌, ◌++◌, length, slice_range, IfOk, IsTrue};
-ghost use Rattle.aterm_text.specs.Reading.{Gives, quoted as quoted_then, escape as escape_then, octal as octal_then, octals as octals_then, Inside, IsPlaced};
-ghost use Rattle.term_model.specs.Bytes.{unescaped as escaped_byte};
-ghost use Rattle.term_model.specs.Symbol.{Quoted};
+// Symbols: names and quoted text, of raw bytes and escapes.
+ghost use Rattle.std.specs.Prelude.{◌≡◌, ◌≤◌, ◌<◌, ◌+◌, ◌-◌, ◌^◌, ℕ, List, [], ◌∷◌, ◌++◌, length, slice_index, slice_range, IfOk, IfErr, IsTrue, true};
+ghost use Rattle.aterm_text.specs.Depth.{Open};
+ghost use Rattle.aterm_text.specs.Reading.{InName, InText, InEscape, InOctal, InOctals, Named, Refuses, outcome_from, first};
+ghost use Rattle.term_model.specs.Bytes.{is_between, is_octal};
+ghost use Rattle.term_model.specs.Space.{Keeps};
+ghost use Rattle.term_model.specs.Symbol.{Quoted, begins_name};
 
-use crate::place::Place;
+use crate::scan::{name_end, raw_end};
 use std::alloc::{AllocError, Global};
-use std::marker::Model;
 use term_model::bytes::{is_octal_byte, unescaped};
-use term_model::{Fault, Sym};
+use term_model::symbol::Kind;
+use term_model::{Fault, TermSpace};
 
-// Bytes that a quoted text stands for, copied from the text.
-#[derive(Drop)]
-pub(crate) struct Bytes {
-    bytes: Vec<u8>,
-}
-
-impl Model for Bytes {
-    ghost use Rattle.std.specs.Prelude.{List, ℕ};
-
-    ghost Value = { List ℕ };
-
-    ghost view = { λ b. b.bytes.items };
-}
-
-impl Bytes {
-    pub(crate) fn new(alloc: Global) -> Bytes
-        ensures { result ≡ [] }
-    {
-        Bytes {
-            bytes: Vec::new(alloc),
-        }
-    }
-
-    // These bytes, then those.
-    fn followed_by(self, raw: &[u8]) -> Result<Bytes, AllocError>
-        ensures { IfOk result (λ bytes. bytes ≡ self ++ raw.now) }
-    {
-        let mut bytes = self.bytes;
-        bytes.extend_from_slice(raw)?;
-        Ok(Bytes { bytes })
-    }
-
-    // These bytes and one more.
-    fn with(self, byte: u8) -> Result<Bytes, AllocError>
-        ensures { IfOk result (λ bytes. bytes ≡ self ++ byte ∷ []) }
-    {
-        let mut bytes = self.bytes;
-        bytes.push(byte)?;
-        Ok(Bytes { bytes })
-    }
-
-    // The quoted symbol of these bytes, then those.
-    fn symbol(self, alloc: Global, raw: &[u8]) -> Result<Sym, AllocError>
-        ensures { IfOk result (λ symbol. symbol ≡ Quoted (self ++ raw.now)) }
-    {
-        if self.bytes.is_empty() {
-            return Sym::quoted(alloc, raw);
-        }
-        let bytes = self.followed_by(raw)?;
-        Sym::quoted(alloc, &bytes.bytes)
-    }
-}
-
-// A byte within quoted text: what is copied stands before `raw`.
-pub(crate) fn within(
+// The name that begins at the index, and where it ends.
+#[inline(always)]
+pub(crate) fn plain<S: TermSpace>(
+    space: &mut S,
     alloc: Global,
-    copied: Bytes,
-    from: usize,
-    raw: &[u8],
-    byte: u8,
-    at: u64,
-) -> Result<Place, Fault>
-    ensures gives { (s : List Inside) → Gives result s (quoted_then copied from (copied ++ raw.now) s byte) }
-    ensures placed { (text : List ℕ) (index : ℕ) → from ≤ index → IfOk result (IsPlaced text (index + 1)) }
+    text: &[u8],
+    index: usize,
+) -> Result<(S::Name, usize), AllocError>
+    requires within { index < length text.now }
+    requires begins { begins_name (slice_index text.now index) ≡ true }
+    ensures keeps { Keeps S.stands S.term_of S.is_valid S.knows S.symbol_of space.old space.new }
+    ensures known { IfOk result (λ r. IsTrue (S.knows space.new r.0)) }
+    ensures past { IfOk result (λ r. index < r.1) }
+    ensures within { IfOk result (λ r. r.1 ≤ length text.now) }
+    ensures read { (s : List Open) → IfOk result
+        (λ r. outcome_from text.now (first s (slice_index text.now index)) (index + 1) ≡
+        outcome_from text.now (Named (S.symbol_of space.new r.0) s) r.1) }
 {
-    match byte {
-        b'"' => Ok(Place::Named(copied.symbol(alloc, raw)?)),
-        b'\\' => Ok(Place::Escape(copied.followed_by(raw)?)),
-        b'\n' => Err(Fault::TermSyntax { at }),
-        _ => Ok(Place::Text { copied, from }),
+    let end = name_end(text, index + 1);
+    let name = space.name_spelled(alloc, Kind::Plain, &text[index..end])?;
+    Ok((name, end))
+}
+
+// The symbol of the quoted text that begins at the index, and the index after the closing quote.
+#[inline(always)]
+pub(crate) fn quoted<S: TermSpace>(
+    space: &mut S,
+    alloc: Global,
+    text: &[u8],
+    index: usize,
+) -> Result<(S::Name, usize), Fault>
+    requires within { index ≤ length text.now }
+    ensures keeps { Keeps S.stands S.term_of S.is_valid S.knows S.symbol_of space.old space.new }
+    ensures known { IfOk result (λ r. IsTrue (S.knows space.new r.0)) }
+    ensures past { IfOk result (λ r. index < r.1) }
+    ensures within { IfOk result (λ r. r.1 ≤ length text.now) }
+    ensures read { (s : List Open) → IfOk result
+        (λ r. outcome_from text.now (InText [] s) index ≡
+        outcome_from text.now (Named (S.symbol_of space.new r.0) s) r.1) }
+    ensures err { (s : List Open) → IfErr result
+        (λ e. Refuses e (outcome_from text.now (InText [] s) index)) }
+{
+    let end = raw_end(text, index);
+    if end < text.len() && text[end] == b'"' {
+        let name = space.name_spelled(alloc, Kind::Quoted, &text[index..end])?;
+        return Ok((name, end + 1));
+    }
+    let (bytes, after) = escaped(alloc, text, index)?;
+    let name = space.name_spelled(alloc, Kind::Quoted, &bytes)?;
+    Ok((name, after))
+}
+
+// The bytes that a quoted text stands for, and the index after the closing quote.
+fn escaped(alloc: Global, text: &[u8], index: usize) -> Result<(Vec<u8>, usize), Fault>
+    requires within { index ≤ length text.now }
+    ensures past { IfOk result (λ r. index < r.1) }
+    ensures within { IfOk result (λ r. r.1 ≤ length text.now) }
+    ensures read { (s : List Open) → IfOk result
+        (λ r. outcome_from text.now (InText [] s) index ≡
+        outcome_from text.now (Named (Quoted r.0.items) s) r.1) }
+    ensures err { (s : List Open) → IfErr result
+        (λ e. Refuses e (outcome_from text.now (InText [] s) index)) }
+{
+    let mut bytes = Vec::new(alloc);
+    let mut from = index;
+    loop {
+        let end = raw_end(text, from);
+        bytes.extend_from_slice(&text[from..end])?;
+        if end == text.len() {
+            return Err(Fault::TermSyntax { at: end as u64 });
+        }
+        let byte = text[end];
+        if byte == b'\n' {
+            return Err(Fault::TermSyntax { at: end as u64 });
+        }
+        if byte == b'"' {
+            return Ok((bytes, end + 1));
+        }
+        let (byte, after) = escape(text, end + 1)?;
+        bytes.push(byte)?;
+        from = after;
     }
 }
 
-// A byte after a backslash.
-pub(crate) fn escape(copied: Bytes, byte: u8, index: usize) -> Result<Place, Fault>
-    requires { index + 1 < 2 ^ 64 }
-    ensures gives { (s : List Inside) → Gives result s (escape_then (escaped_byte byte) index copied s byte) }
-    ensures placed { (text : List ℕ) → IfOk result (IsPlaced text (index + 1)) }
+// The byte of an escape, of which the index is after the backslash, and where it ends.
+fn escape(text: &[u8], index: usize) -> Result<(u8, usize), Fault>
+    requires within { index ≤ length text.now }
+    ensures low { IfOk result (λ r. index < r.1) }
+    ensures within { IfOk result (λ r. r.1 ≤ length text.now) }
+    ensures read { (b : List ℕ) (s : List Open) →
+        IfOk result (λ r. outcome_from text.now (InEscape b s) index ≡
+        outcome_from text.now (InText (b ++ r.0 ∷ []) s) r.1) }
+    ensures err { (b : List ℕ) (s : List Open) →
+        IfErr result (λ e. Refuses e (outcome_from text.now (InEscape b s) index)) }
 {
+    if index == text.len() {
+        return Err(Fault::TermSyntax { at: index as u64 });
+    }
+    let byte = text[index];
     if let Some(meant) = unescaped(byte) {
-        return Ok(Place::Text {
-            copied: copied.with(meant)?,
-            from: index + 1,
-        });
+        return Ok((meant, index + 1));
     }
-    if !matches!(byte, b'0'..=b'3') {
+    if !begins_octal(byte) {
         return Err(Fault::TermSyntax { at: index as u64 });
     }
-    Ok(Place::Octal {
-        copied,
-        value: byte - b'0',
-    })
+    let second = octal_digit(text, index + 1)?;
+    let third = octal_digit(text, index + 2)?;
+    Ok((8 * (8 * (byte - b'0') + second) + third, index + 3))
 }
 
-// The second of three octal digits.
-pub(crate) fn octal(copied: Bytes, value: u8, byte: u8, at: u64) -> Result<Place, Fault>
-    requires { value ≤ 3 }
-    ensures gives { (s : List Inside) → Gives result s (octal_then copied value s byte) }
-    ensures placed { (text : List ℕ) (index : ℕ) → IfOk result (IsPlaced text index) }
+// Whether the byte is the first of three octal digits of a byte.
+fn begins_octal(byte: u8) -> bool
+    ensures { result ≡ is_between 48 51 byte }
 {
-    if !is_octal_byte(byte) {
-        return Err(Fault::TermSyntax { at });
+    matches!(byte, b'0'..=b'3')
+}
+
+// The octal digit at the index.
+fn octal_digit(text: &[u8], index: usize) -> Result<u8, Fault>
+    requires within { index ≤ length text.now }
+    ensures within { IfOk result (λ d. index < length text.now) }
+    ensures octal { IfOk result (λ d. is_octal (slice_index text.now index) ≡ true) }
+    ensures value { IfOk result (λ d. d ≡ slice_index text.now index - 48) }
+    ensures small { IfOk result (λ d. d ≤ 7) }
+    ensures err { (b : List ℕ) (v : ℕ) (s : List Open) →
+        IfErr result (λ e. Refuses e (outcome_from text.now (InOctal b v s) index)) }
+    ensures errs { (b : List ℕ) (v : ℕ) (s : List Open) →
+        IfErr result (λ e. Refuses e (outcome_from text.now (InOctals b v s) index)) }
+{
+    if index == text.len() {
+        return Err(Fault::TermSyntax { at: index as u64 });
     }
-    Ok(Place::Octals {
-        copied,
-        value: 8 * value + (byte - b'0'),
-    })
-}
-
-// The third of three octal digits.
-pub(crate) fn octals(copied: Bytes, value: u8, byte: u8, index: usize) -> Result<Place, Fault>
-    requires value { value ≤ 31 }
-    requires index { index + 1 < 2 ^ 64 }
-    ensures gives { (s : List Inside) → Gives result s (octals_then index copied value s byte) }
-    ensures placed { (text : List ℕ) → IfOk result (IsPlaced text (index + 1)) }
-{
+    let byte = text[index];
     if !is_octal_byte(byte) {
         return Err(Fault::TermSyntax { at: index as u64 });
     }
-    Ok(Place::Text {
-        copied: copied.with(8 * value + (byte - b'0'))?,
-        from: index + 1,
-    })
+    Ok(byte - b'0')
 }

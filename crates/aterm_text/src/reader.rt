@@ -1,203 +1,293 @@
-// Reading a term one byte at a time, with a stack of open brackets.
-ghost use Rattle.std.specs.Prelude.{true, ◌==◌, ℕ, ◌≡◌, ◌<◌, ◌+◌, ◌*◌, ◌-◌, ◌^◌, MatchOption, List, [], ◌∷◌, ◌≤◌, IsTrue, ◌↔◌, if◌then◌else◌, Some, IfOk, length, slice_index, slice_range, reverse, map};
-ghost use Rattle.aterm_text.specs.Depth.{begins_term};
-ghost use Rattle.aterm_text.specs.Reading.{stack_of, Gives, digits as counted, begin as begun, fresh as fresh_then, step as stepped, whole as whole_then, At, Inside, IsCalm, IsPlaced, outcome, outcome_of, Answers};
-ghost use Rattle.term_model.specs.Bytes.{is_digit, signed as integer_of};
-ghost use Rattle.term_model.specs.Limits.{max_magnitude};
-ghost use Rattle.term_model.specs.Symbol.{is_name, Plain};
-ghost use Rattle.term_model.specs.Term.{term};
-ghost use Rattle.term_model.specs.declared.term.Head.TheVariants.{Int};
+// Reading a term into a space, in one pass over its text.
+ghost use Rattle.std.specs.Prelude.{false, ◌≡◌, ◌+◌, ◌<◌, List, [], ◌∷◌, reverse, length, slice_index, IfOk, IfErr, IsTrue};
+ghost use Rattle.aterm_text.specs.Brackets.{Holds, Reached, awaits_term, closes_first, closing_state};
+ghost use Rattle.aterm_text.specs.Reading.{Answers, Refuses, first as first_state, next as next_state, outcome_of};
+ghost use Rattle.aterm_text.specs.ReadTerm.{map_ok};
+ghost use Rattle.term_model.specs.Bytes.{is_blank};
+ghost use Rattle.term_model.specs.Space.{Keeps};
+ghost use Rattle.term_model.specs.Term.{Tree};
+ghost use Rattle.aterm_text.specs.declared.open.Next.TheVariants as nexts;
 
-use crate::brackets::{close, closer, item, named, next, open, whole};
-use crate::place::{Bracket, Level, Levels, Place};
-use crate::quoted::{Bytes, escape, octal, octals, within};
-use crate::runs::resume;
-use smallvec::SmallVec;
-use std::alloc::{AllocError, Global};
-use term_model::bytes::{is_blank_byte, is_digit_byte, signed, with_digit};
-use term_model::symbol::{begins, continues};
+use crate::brackets::{apply, close, closer, open};
+use crate::numbers::{negative, number};
+use crate::open::{Bracket, Enclosing, Next, Reader};
+use crate::quoted::{plain, quoted};
+use crate::scan::{blanks_end, is_first};
+use std::alloc::Global;
+use term_model::bytes::is_digit_byte;
+use term_model::symbol::{Kind, begins};
 use term_model::term::MAX_DEPTH;
-use term_model::{Fault, Sym, Term};
+use term_model::{Fault, TermSpace};
 
-// One more digit.
-fn digits(negative: bool, value: u64, byte: u8, at: u64) -> Result<Place, Fault>
-    requires { IsTrue (is_digit byte) }
-    ensures gives { (s : List Inside) → Gives result s (counted negative value byte s) }
-    ensures calm { IfOk result IsCalm }
+// Whether the byte closes the innermost bracket.
+#[inline(always)]
+fn closes<N: Drop>(brackets: &[Bracket<N>], byte: u8) -> bool
+    ensures { result ≡ closes_first (reverse brackets.now) byte }
 {
-    match with_digit(negative, value, byte) {
-        Some(value) => Ok(Place::Digits { negative, value }),
+    match brackets.split_last() {
+        Some((bracket, _)) => byte == closer(&bracket.enclosing),
+        None => false,
+    }
+}
+
+// Closes the innermost bracket at the index, if it is the byte there that closes it.
+fn close_at<S: TermSpace>(
+    space: &mut S,
+    alloc: Global,
+    reader: &mut Reader<S::Ref, S::Name>,
+    text: &[u8],
+    index: usize,
+) -> Result<(Next, usize), Fault>
+    requires within { index < length text.now }
+    requires at { (hand : List Tree) × Holds S.stands S.term_of S.knows S.symbol_of space.old
+        text.now reader.old hand (λ s. closing_state hand s (slice_index text.now index))
+        (index + 1) }
+    ensures keeps { Keeps S.stands S.term_of S.is_valid S.knows S.symbol_of space.old space.new }
+    ensures past { IfOk result (λ r. index < r.1) }
+    ensures reached { IfOk result (λ r. Reached S.stands S.term_of S.knows S.symbol_of space.new
+        text.now reader.new r.0 r.1) }
+    ensures err { IfErr result (λ e. Refuses e (outcome_of text.now)) }
+{
+    let Some(bracket) = reader.open.pop() else {
+        return Err(Fault::TermSyntax { at: index as u64 });
+    };
+    if text[index] != closer(&bracket.enclosing) {
+        return Err(Fault::TermSyntax { at: index as u64 });
+    }
+    let next = close(space, alloc, reader, bracket)?;
+    Ok((next, index + 1))
+}
+
+// The first byte of a term, which may begin here.
+fn first_byte<S: TermSpace>(
+    space: &mut S,
+    alloc: Global,
+    reader: &mut Reader<S::Ref, S::Name>,
+    text: &[u8],
+    index: usize,
+) -> Result<(Next, usize), Fault>
+    requires within { index < length text.now }
+    requires at { Holds S.stands S.term_of S.knows S.symbol_of space.old text.now reader.old []
+        (λ s. first_state s (slice_index text.now index)) (index + 1) }
+    ensures keeps { Keeps S.stands S.term_of S.is_valid S.knows S.symbol_of space.old space.new }
+    ensures past { IfOk result (λ r. index < r.1) }
+    ensures reached { IfOk result (λ r. Reached S.stands S.term_of S.knows S.symbol_of space.new
+        text.now reader.new r.0 r.1) }
+    ensures err { IfErr result (λ e. Refuses e (outcome_of text.now)) }
+{
+    let byte = text[index];
+    if begins(byte) {
+        let (name, end) = plain(space, alloc, text, index)?;
+        return Ok(apply(space, alloc, reader, name, text, end)?);
+    }
+    if is_digit_byte(byte) {
+        return number(space, alloc, reader, false, text, index);
+    }
+    match byte {
+        b'"' => {
+            let (name, end) = quoted(space, alloc, text, index + 1)?;
+            Ok(apply(space, alloc, reader, name, text, end)?)
+        }
+        b'(' => {
+            let name = space.name_spelled(alloc, Kind::Tuple, &[])?;
+            open(reader, Enclosing::Parts(name))?;
+            Ok((Next::First, index + 1))
+        }
+        b'[' => {
+            open(reader, Enclosing::Elements)?;
+            Ok((Next::First, index + 1))
+        }
+        b'-' => negative(space, alloc, reader, text, index + 1),
+        _ => Err(Fault::TermSyntax { at: index as u64 }),
+    }
+}
+
+// A term that begins at the index.
+fn begin<S: TermSpace>(
+    space: &mut S,
+    alloc: Global,
+    reader: &mut Reader<S::Ref, S::Name>,
+    text: &[u8],
+    index: usize,
+) -> Result<(Next, usize), Fault>
+    requires within { index < length text.now }
+    requires mark { is_blank (slice_index text.now index) ≡ false }
+    requires at { Reached S.stands S.term_of S.knows S.symbol_of space.old text.now reader.old
+        nexts.Term index }
+    ensures keeps { Keeps S.stands S.term_of S.is_valid S.knows S.symbol_of space.old space.new }
+    ensures past { IfOk result (λ r. index < r.1) }
+    ensures reached { IfOk result (λ r. Reached S.stands S.term_of S.knows S.symbol_of space.new
+        text.now reader.new r.0 r.1) }
+    ensures err { IfErr result (λ e. Refuses e (outcome_of text.now)) }
+{
+    if !is_first(text[index]) {
+        return Err(Fault::TermSyntax { at: index as u64 });
+    }
+    if reader.open.len() == MAX_DEPTH as usize {
+        return Err(Fault::TermOversize { at: index as u64 });
+    }
+    first_byte(space, alloc, reader, text, index)
+}
+
+// The byte after a bracket that opens.
+fn first<S: TermSpace>(
+    space: &mut S,
+    alloc: Global,
+    reader: &mut Reader<S::Ref, S::Name>,
+    text: &[u8],
+    index: usize,
+) -> Result<(Next, usize), Fault>
+    requires within { index < length text.now }
+    requires mark { is_blank (slice_index text.now index) ≡ false }
+    requires at { Reached S.stands S.term_of S.knows S.symbol_of space.old text.now reader.old
+        nexts.First index }
+    ensures keeps { Keeps S.stands S.term_of S.is_valid S.knows S.symbol_of space.old space.new }
+    ensures past { IfOk result (λ r. index < r.1) }
+    ensures reached { IfOk result (λ r. Reached S.stands S.term_of S.knows S.symbol_of space.new
+        text.now reader.new r.0 r.1) }
+    ensures err { IfErr result (λ e. Refuses e (outcome_of text.now)) }
+{
+    if closes(&reader.open, text[index]) {
+        return close_at(space, alloc, reader, text, index);
+    }
+    begin(space, alloc, reader, text, index)
+}
+
+// A byte after a term that takes no annotations.
+fn follow<S: TermSpace>(
+    space: &mut S,
+    alloc: Global,
+    reader: &mut Reader<S::Ref, S::Name>,
+    text: &[u8],
+    index: usize,
+) -> Result<(Next, usize), Fault>
+    requires within { index < length text.now }
+    requires at { (t : Tree) × Holds S.stands S.term_of S.knows S.symbol_of space.old text.now
+        reader.old (t ∷ []) (λ s. next_state t s (slice_index text.now index)) (index + 1) }
+    ensures keeps { Keeps S.stands S.term_of S.is_valid S.knows S.symbol_of space.old space.new }
+    ensures past { IfOk result (λ r. index < r.1) }
+    ensures reached { IfOk result (λ r. Reached S.stands S.term_of S.knows S.symbol_of space.new
+        text.now reader.new r.0 r.1) }
+    ensures err { IfErr result (λ e. Refuses e (outcome_of text.now)) }
+{
+    if reader.open.is_empty() {
+        return Err(Fault::TermSyntax { at: index as u64 });
+    }
+    if text[index] == b',' {
+        return Ok((Next::Term, index + 1));
+    }
+    close_at(space, alloc, reader, text, index)
+}
+
+// A byte after a term that may take annotations.
+fn whole<S: TermSpace>(
+    space: &mut S,
+    alloc: Global,
+    reader: &mut Reader<S::Ref, S::Name>,
+    text: &[u8],
+    index: usize,
+) -> Result<(Next, usize), Fault>
+    requires within { index < length text.now }
+    requires mark { is_blank (slice_index text.now index) ≡ false }
+    requires at { Reached S.stands S.term_of S.knows S.symbol_of space.old text.now reader.old
+        nexts.Whole index }
+    ensures keeps { Keeps S.stands S.term_of S.is_valid S.knows S.symbol_of space.old space.new }
+    ensures past { IfOk result (λ r. index < r.1) }
+    ensures reached { IfOk result (λ r. Reached S.stands S.term_of S.knows S.symbol_of space.new
+        text.now reader.new r.0 r.1) }
+    ensures err { IfErr result (λ e. Refuses e (outcome_of text.now)) }
+{
+    if text[index] == b'{' {
+        open(reader, Enclosing::Annotations)?;
+        return Ok((Next::First, index + 1));
+    }
+    follow(space, alloc, reader, text, index)
+}
+
+// The byte at the index, which is no blank.
+fn step<S: TermSpace>(
+    space: &mut S,
+    alloc: Global,
+    reader: &mut Reader<S::Ref, S::Name>,
+    next: Next,
+    text: &[u8],
+    index: usize,
+) -> Result<(Next, usize), Fault>
+    requires within { index < length text.now }
+    requires mark { is_blank (slice_index text.now index) ≡ false }
+    requires at { Reached S.stands S.term_of S.knows S.symbol_of space.old text.now reader.old next
+        index }
+    ensures keeps { Keeps S.stands S.term_of S.is_valid S.knows S.symbol_of space.old space.new }
+    ensures past { IfOk result (λ r. index < r.1) }
+    ensures reached { IfOk result (λ r. Reached S.stands S.term_of S.knows S.symbol_of space.new
+        text.now reader.new r.0 r.1) }
+    ensures err { IfErr result (λ e. Refuses e (outcome_of text.now)) }
+{
+    match next {
+        Next::Term => begin(space, alloc, reader, text, index),
+        Next::First => first(space, alloc, reader, text, index),
+        Next::Whole => whole(space, alloc, reader, text, index),
+        Next::Done => follow(space, alloc, reader, text, index),
+    }
+}
+
+// The term that is read at the end of the text; the space is that of the references.
+fn finish<S: TermSpace>(
+    space: &S,
+    reader: Reader<S::Ref, S::Name>,
+    next: Next,
+    text: &[u8],
+) -> Result<S::Ref, Fault>
+    requires at { Reached S.stands S.term_of S.knows S.symbol_of space.now text.now reader next
+        (length text.now) }
+    ensures stands { IfOk result (λ r. IsTrue (S.stands space.now r)) }
+    ensures answers { Answers (map_ok (S.term_of space.now) result) (outcome_of text.now) }
+{
+    let _ = space;
+    let at = text.len() as u64;
+    if !reader.open.is_empty() {
+        return Err(Fault::TermSyntax { at });
+    }
+    if needs_term(next) {
+        return Err(Fault::TermSyntax { at });
+    }
+    if !reader.fits {
+        return Err(Fault::TermOversize { at });
+    }
+    let mut terms = reader.terms;
+    match terms.pop() {
+        Some(term) => Ok(term),
         None => Err(Fault::TermSyntax { at }),
     }
 }
 
-// The first byte of a term.
-#[tactic(auto, using(crate::proofs::Slices::name_begins))]
-#[inline(always)]
-fn begin(alloc: Global, levels: &mut Levels, byte: u8, index: usize) -> Result<Place, Fault>
-    requires { index + 1 < 2 ^ 64 }
-    ensures gives { Gives result (stack_of levels.new.items) (begun index (stack_of levels.old.items) byte) }
-    ensures placed { (text : List ℕ) → slice_index text index ≡ byte → index < length text → IfOk result (IsPlaced text (index + 1)) }
+// Whether no term is whole.
+fn needs_term(next: Next) -> bool
+    ensures { result ≡ awaits_term next }
 {
-    let at = index as u64;
-    if !is_first(byte) {
-        return Err(Fault::TermSyntax { at });
-    }
-    if levels.len() == MAX_DEPTH as usize {
-        return Err(Fault::TermOversize { at });
-    }
-    if begins(byte) {
-        return Ok(Place::Name { from: index });
-    }
-    match byte {
-        b'0'..=b'9' => digits(false, 0, byte, at),
-        b'-' => Ok(Place::Sign),
-        b'"' => Ok(Place::Text {
-            copied: Bytes::new(alloc),
-            from: index + 1,
-        }),
-        b'(' => open(levels, Bracket::Applied(Sym::tuple()), alloc),
-        b'[' => open(levels, Bracket::Elements, alloc),
-        _ => Err(Fault::TermSyntax { at }),
+    match next {
+        Next::Term | Next::First => true,
+        Next::Whole | Next::Done => false,
     }
 }
 
-fn is_first(byte: u8) -> bool
-    ensures { result ≡ begins_term byte }
-{
-    begins(byte) || is_digit_byte(byte) || matches!(byte, b'-' | b'"' | b'(' | b'[')
-}
-
-// A byte after a bracket that opens.
-fn fresh(alloc: Global, levels: &mut Levels, byte: u8, index: usize) -> Result<Place, Fault>
-    requires { index + 1 < 2 ^ 64 }
-    ensures gives { Gives result (stack_of levels.new.items) (fresh_then index (stack_of levels.old.items) byte) }
-    ensures placed { (text : List ℕ) → slice_index text index ≡ byte → index < length text → IfOk result (IsPlaced text (index + 1)) }
-{
-    let at = index as u64;
-    let Some(Level { bracket, earlier }) = levels.pop() else {
-        return Err(Fault::TermSyntax { at });
-    };
-    if byte == closer(&bracket) {
-        return Ok(close(alloc, bracket, earlier)?);
-    }
-    levels.push(Level { bracket, earlier })?;
-    begin(alloc, levels, byte, index)
-}
-
-// The symbol of a name in the text.
-#[inline(always)]
-fn symbol(alloc: Global, text: &[u8], from: usize, to: usize) -> Result<Sym, AllocError>
-    requires low { from ≤ to }
-    requires high { to ≤ length text.now }
-    requires name { is_name (slice_range text.now from to) ≡ true }
-    ensures { IfOk result (λ s. s ≡ Plain (slice_range text.now from to)) }
-{
-    Sym::named(alloc, &text[from..to])
-}
-
-// A byte after a digit: one more digit, or what follows the number.
-#[inline(always)]
-fn number(
-    alloc: Global,
-    negative: bool,
-    value: u64,
-    levels: &mut Levels,
-    byte: u8,
-    at: u64,
-) -> Result<Place, Fault>
-    requires { value ≤ max_magnitude negative }
-    ensures gives { Gives result (stack_of levels.new.items) (if is_digit byte then counted negative value byte (stack_of levels.old.items) else whole_then (Some (term (Int (integer_of negative value)) [] [])) (stack_of levels.old.items) byte) }
-    ensures calm { IfOk result IsCalm }
-{
-    if is_digit_byte(byte) {
-        return digits(negative, value, byte, at);
-    }
-    let term = Term::int(alloc, signed(negative, value))?;
-    whole(alloc, Some(term), levels, byte, at)
-}
-
-// Takes the byte at the index.
-#[tactic(auto, using(crate::proofs::Slices::name_goes_on))]
-#[inline(always)]
-fn step(
+// The term that the text spells, in the space.
+pub(crate) fn read_in<S: TermSpace>(
+    space: &mut S,
     alloc: Global,
     text: &[u8],
-    index: usize,
-    place: Place,
-    levels: &mut Levels,
-) -> Result<Place, Fault>
-    requires bound { index < length text.now }
-    requires placed { IsPlaced text.now index place }
-    ensures gives { Gives result (stack_of levels.new.items) (stepped text.now index place (stack_of levels.old.items) (slice_index text.now index)) }
-    ensures placed { IfOk result (IsPlaced text.now (index + 1)) }
+) -> Result<S::Ref, Fault>
+    ensures keeps { Keeps S.stands S.term_of S.is_valid S.knows S.symbol_of space.old space.new }
+    ensures stands { IfOk result (λ r. IsTrue (S.stands space.new r)) }
+    ensures answers { Answers (map_ok (S.term_of space.new) result) (outcome_of text.now) }
 {
-    let byte = text[index];
-    let at = index as u64;
-    match place {
-        Place::Expect if is_blank_byte(byte) => Ok(Place::Expect),
-        Place::Expect => begin(alloc, levels, byte, index),
-        Place::Fresh if is_blank_byte(byte) => Ok(Place::Fresh),
-        Place::Fresh => fresh(alloc, levels, byte, index),
-        Place::Name { from } if continues(byte) => Ok(Place::Name { from }),
-        Place::Name { from } => {
-            named(alloc, symbol(alloc, text, from, index)?, levels, byte, at)
-        }
-        Place::Sign if is_digit_byte(byte) => digits(true, 0, byte, at),
-        Place::Sign => Err(Fault::TermSyntax { at }),
-        Place::Digits { negative, value } => number(alloc, negative, value, levels, byte, at),
-        Place::Text { copied, from } => within(alloc, copied, from, &text[from..index], byte, at),
-        Place::Escape(copied) => escape(copied, byte, index),
-        Place::Octal { copied, value } => octal(copied, value, byte, at),
-        Place::Octals { copied, value } => octals(copied, value, byte, index),
-        Place::Named(symbol) => named(alloc, symbol, levels, byte, at),
-        Place::Whole(term) => whole(alloc, term, levels, byte, at),
-        Place::Done(term) if is_blank_byte(byte) => Ok(Place::Done(term)),
-        Place::Done(term) => next(alloc, term, levels, byte, at),
-    }
-}
-
-// The outcome at the end of the text.
-fn finish(alloc: Global, text: &[u8], place: Place, is_closed: bool) -> Result<Term, Fault>
-    requires { IsPlaced text.now (length text.now) place }
-    ensures { (s : List Inside) → is_closed ≡ (length s == 0) → Answers result (outcome text.now (At place s)) }
-{
-    let at = text.len() as u64;
-    if !is_closed {
-        return Err(Fault::TermSyntax { at });
-    }
-    let term = match place {
-        Place::Name { from } => {
-            let symbol = symbol(alloc, text, from, text.len())?;
-            item(Term::app(alloc, symbol, Vec::new(alloc))?)
-        }
-        Place::Digits { negative, value } => Some(Term::int(alloc, signed(negative, value))?),
-        Place::Named(symbol) => item(Term::app(alloc, symbol, Vec::new(alloc))?),
-        Place::Whole(term) | Place::Done(term) => term,
-        Place::Expect
-        | Place::Fresh
-        | Place::Sign
-        | Place::Text { .. }
-        | Place::Escape(_)
-        | Place::Octal { .. }
-        | Place::Octals { .. } => return Err(Fault::TermSyntax { at }),
-    };
-    match term {
-        Some(term) => Ok(term),
-        None => Err(Fault::TermOversize { at }),
-    }
-}
-
-// The term that the text spells.
-pub(crate) fn read(alloc: Global, text: &[u8]) -> Result<Term, Fault>
-    ensures { Answers result (outcome_of text.now) }
-{
-    let mut levels = SmallVec::new(alloc);
-    let mut place = Place::Expect;
-    let mut index = 0;
+    let mut reader = Reader::new(alloc);
+    let mut next = Next::Term;
+    let mut index = blanks_end(text, 0);
     while index < text.len() {
-        place = step(alloc, text, index, place, &mut levels)?;
-        index = resume(text, index + 1, &mut place);
+        let (then, end) = step(space, alloc, &mut reader, next, text, index)?;
+        next = then;
+        index = blanks_end(text, end);
     }
-    finish(alloc, text, place, levels.is_empty())
+    finish(space, reader, next, text)
 }

@@ -195,7 +195,7 @@ fn a_file_without_a_fault(rt: HostRuntime) -> Result<(), Fail> {
 }
 
 // Definitions in front of the library's, the word of their fault, the name that is noted, and the name as it stands there: where this
-// first stands in the text is the place that is noted, and no place is where it stands in the library alone.
+// first stands in the text is the place that is noted.
 const PLACES: &[(&str, &str, &str, &str)] = &[
     // The first place of the least fault.
     (
@@ -204,11 +204,12 @@ const PLACES: &[(&str, &str, &str, &str)] = &[
         "a",
         "a) = id",
     ),
+    ("strategies f = id try(s) = id", "Clash", "try", "try(s)"),
     (
         "signature constructors map : A -> A strategies try(s) = id",
         "Clash",
-        "try",
-        "try(s)",
+        "map",
+        "map :",
     ),
     (
         "signature constructors map : A -> A strategies try(t) = id",
@@ -217,10 +218,10 @@ const PLACES: &[(&str, &str, &str, &str)] = &[
         "try(t)",
     ),
     (
-        "signature constructors map : A -> A strategies g(s, t) = id",
+        "signature constructors C : A -> A map : A -> A strategies g(s, t) = id",
         "Clash",
         "map",
-        "map(s)",
+        "map :",
     ),
 ];
 

@@ -279,7 +279,7 @@ fn a_name_is_registered_once(rt: HostRuntime) -> Result<(), Fail> {
     Ok(())
 }
 
-/// Whether the set has so many names, among them `add` with 2 arguments, and with 1 where it should.
+/// Whether the set has this many names, among them `add` with 2 arguments, and with 1 where it should.
 fn has_add(names: &PrimNames, count: usize, with_one: bool) -> bool {
     names.len() == count && names.has(b"add", 2) && names.has(b"add", 1) == with_one
 }
@@ -324,6 +324,97 @@ fn a_set_of_names(rt: HostRuntime) -> Result<(), Fail> {
     names.insert(b"add", 2)?;
     if names.is_empty() || !has_add(&names, 1, false) {
         return Err(Fail::new("one name"));
+    }
+    Ok(())
+}
+
+/// Names with numbers of arguments.
+const NAMES: &[(&[u8], usize)] = &[
+    (b"add", 2),
+    (b"add", 1),
+    (b"", 0),
+    (b"a_name_of_more_than_some_bytes", 2),
+    (b"ad", 2),
+    (b"add", 0),
+    (b"sub", 2),
+    (b"mul", 2),
+    (b"div", 2),
+];
+
+/// Whether these are the first of the names, as many as this, in their order.
+fn are_first(names: &PrimNames, count: usize) -> bool {
+    for index in 0..names.len() {
+        let (name, arity) = names.at(index);
+        if NAMES.get(index) != Some(&(name, arity)) {
+            return false;
+        }
+    }
+    names.len() == count
+}
+
+/// Inserts a name after this many others, once more where memory is refused. Whether the set is as it was after the refusal, and has one more in
+/// the end.
+fn is_inserted(
+    names: &mut PrimNames,
+    index: usize,
+    name: &[u8],
+    arity: usize,
+) -> Result<bool, AllocError> {
+    if names.insert(name, arity).is_err() {
+        if !are_first(names, index) {
+            return Ok(false);
+        }
+        names.insert(name, arity)?;
+    }
+    Ok(are_first(names, index.saturating_add(1)))
+}
+
+#[test]
+fn names_one_by_one(rt: HostRuntime) -> Result<(), Fail> {
+    let mut names = PrimNames::new(rt.alloc());
+    for (index, (name, arity)) in NAMES.iter().enumerate() {
+        if !is_inserted(&mut names, index, name, *arity)? {
+            return Err(Fail::new(index));
+        }
+    }
+    Ok(())
+}
+
+/// Whether the registry has exactly the first standard primitives, as many as this, each at its place.
+fn has_first(registry: &Registry<Standard>, count: usize) -> bool {
+    for (index, primitive) in STANDARD.iter().enumerate() {
+        let place = registry.position(primitive.name(), primitive.arity());
+        if place != (if index < count { Some(index) } else { None }) {
+            return false;
+        }
+    }
+    registry.len() == count
+}
+
+// A primitive that cannot be registered since memory is out leaves the registry as it was.
+#[test]
+fn primitives_one_by_one(rt: HostRuntime) -> Result<(), Fail> {
+    let alloc = rt.alloc();
+    let mut registry = Registry::<Standard>::new(alloc);
+    for (index, primitive) in STANDARD.iter().enumerate() {
+        let primitive = *primitive;
+        let action: Action = Box::new(
+            alloc,
+            move |args: &[Flat]| -> Result<Option<Flat>, AllocError> {
+                primitive.answer(alloc, args)
+            },
+        )?;
+        let name = primitive.name().to_vec(alloc)?;
+        let registered = registry.register(Prim::new(name, primitive.arity(), action));
+        let count = if registered.is_ok() {
+            index.saturating_add(1)
+        } else {
+            index
+        };
+        if !has_first(&registry, count) {
+            return Err(Fail::new(index));
+        }
+        registered?;
     }
     Ok(())
 }

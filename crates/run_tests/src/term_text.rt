@@ -26,11 +26,22 @@ const SPELLINGS: &[(&[u8], &[u8])] = &[
     (b"_(_,[[]]){a,b(c){d}}", b"_(_,[[]]){a,b(c){d}}"),
 ];
 
+/// Whether this is what is written of the term after a first byte. A vector that is refused memory stays as it was, and is written to once
+/// more.
+fn is_appended(term: &Term, out: &mut Vec<u8>, canonical: &[u8]) -> Result<bool, AllocError> {
+    if write_term(term, out).is_err() {
+        if out[..] != b">"[..] {
+            return Ok(false);
+        }
+        write_term(term, out)?;
+    }
+    Ok(out.strip_prefix(b">") == Some(canonical))
+}
+
 /// Whether this is what is written of the term after what was written before, and the length is known without writing.
 fn is_written(alloc: Global, term: &Term, canonical: &[u8]) -> Result<bool, AllocError> {
     let mut out = b">".to_vec(alloc)?;
-    write_term(term, &mut out)?;
-    Ok(out.strip_prefix(b">") == Some(canonical) && text_len(term) == canonical.len() as u64)
+    Ok(is_appended(term, &mut out, canonical)? && text_len(term) == canonical.len() as u64)
 }
 
 /// Whether the text spells a term with this canonical text.

@@ -15,4 +15,5 @@ mod pipeline;
 mod primitive_rows;
 mod primitives;
 mod rows;
+mod std_devices;
 mod term_rows;

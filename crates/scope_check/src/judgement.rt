@@ -9,6 +9,7 @@ ghost use Rattle.scope_check.specs.Tables.{heads_of, known_of};
 ghost use Rattle.str_syntax.specs.Views.{file_of};
 ghost use Rattle.term_model.specs.declared.fault.Fault.TheVariants.{Memory};
 
+use crate::clashes::note_clashes;
 use crate::declarations::signature_of;
 use crate::file::with_heads;
 use crate::findings::Findings;
@@ -150,7 +151,9 @@ fn fault_found(
     let has_main = has_main(&heads, main, notes);
     let redefined = redefinition(alloc, file, notes)?;
     let inside = with_heads(alloc, known, &heads, &file.sections, notes)?;
-    Ok(least_fault(redefined.or(inside), has_main))
+    let found = redefined.or(inside);
+    note_clashes(&found, &file.sections, &heads, notes);
+    Ok(least_fault(found, has_main))
 }
 
 // Whether one of the heads has the name of main and no parameters.

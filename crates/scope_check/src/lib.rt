@@ -3,6 +3,7 @@
 
 mod alternatives;
 mod calls;
+mod clashes;
 mod declarations;
 mod file;
 mod findings;

@@ -1,6 +1,6 @@
 //! Signatures: the constructors that are declared.
-ghost use Rattle.std.specs.Prelude.{◌≡◌, ◌↔◌, ◌⊎◌, ◌++◌, ◌∷◌, [], length, Err, IsOk, IsTrue, IfErr, OnErr, OnOk};
-ghost use Rattle.signature_core.specs.DeclaredTerm.{all_are_declared, head_is_declared, term_is_declared};
+ghost use Rattle.std.specs.Prelude.{◌≡◌, ◌↔◌, ◌⊎◌, ◌++◌, ◌∷◌, [], map, All, Err, IsOk, IsTrue, IfErr, OnErr, OnOk};
+ghost use Rattle.signature_core.specs.DeclaredTerm.{all_are_declared, root_is_declared, term_is_declared};
 ghost use Rattle.signature_core.specs.Signature.{arity_known, first_arity, is_declared, is_declared_name};
 ghost use Rattle.signature_core.specs.Views.{declaration};
 ghost use Rattle.term_model.specs.declared.fault.Fault.TheVariants.{DuplicateDeclaration, Memory, TermUndeclared};
@@ -12,7 +12,7 @@ use indexmap::IndexSet;
 use std::alloc::Global;
 use std::marker::Model;
 use str_syntax::{Name, Sort};
-use term_model::{Fault, Head, Kind, Term};
+use term_model::{Fault, Kind, Parts, RcSpace, Term, TermSpace, Top};
 
 /// The declared constructors, in the order in which they were declared.
 #[derive(Drop)]
@@ -101,7 +101,18 @@ impl Signature {
         ensures declared { IsOk result ↔ IsTrue (term_is_declared self.now term.now) }
         ensures fault { IfErr result (λ fault. fault ≡ TermUndeclared) }
     {
-        if !self.covers(term) {
+        self.check_in(&RcSpace, term)
+    }
+
+    /// The same of a term of a space, which stays in the space: `Ok` exactly where each application in it is declared, at any
+    /// depth and in annotations; else `TermUndeclared`. Calls itself no deeper than the term is deep, and takes no memory.
+    pub fn check_in<S: TermSpace>(&self, space: &S, at: &S::Ref) -> Result<(), Fault>
+        requires { IsTrue (S.stands space.now at.now) }
+        ensures declared { IsOk result ↔ IsTrue
+            (term_is_declared self.now (S.term_of space.now at.now)) }
+        ensures fault { IfErr result (λ fault. fault ≡ TermUndeclared) }
+    {
+        if !self.covers(space, at) {
             return Err(Fault::TermUndeclared);
         }
         Ok(())
@@ -110,35 +121,40 @@ impl Signature {
     // Whether each application in the term is declared.
     #[cycle(covers)]
     #[tactic(auto, using(crate::proofs::TermLaws::parts))]
-    fn covers(&self, term: &Term) -> bool
-        ensures { result ≡ term_is_declared self.now term.now }
+    fn covers<S: TermSpace>(&self, space: &S, at: &S::Ref) -> bool
+        requires { IsTrue (S.stands space.now at.now) }
+        ensures { result ≡ term_is_declared self.now (S.term_of space.now at.now) }
     {
-        self.covers_head(term.head(), term.children().len())
-            && self.covers_all(term.children())
-            && self.covers_all(term.annos())
+        self.covers_root(space, at)
+            && self.covers_all(space, &space.parts(at))
+            && self.covers_all(space, &space.annos(at))
     }
 
     // Whether each application in the terms is declared.
     #[cycle(covers)]
     #[tactic(auto, using(crate::proofs::TermLaws::parts))]
-    fn covers_all(&self, terms: &[Term]) -> bool
-        ensures { result ≡ all_are_declared self.now (trees_of terms.now) }
+    fn covers_all<S: TermSpace>(&self, space: &S, terms: &Parts<'_, S::Ref>) -> bool
+        requires { All (λ r. IsTrue (S.stands space.now r)) terms.now }
+        ensures { result ≡ all_are_declared self.now
+            (trees_of (map (S.term_of space.now) terms.now)) }
     {
-        for term in terms {
-            if !self.covers(term) {
+        for term in terms.walk() {
+            if !self.covers(space, term) {
                 return false;
             }
         }
         true
     }
 
-    // Whether a node of this head may have this number of parts.
-    fn covers_head(&self, head: &Head, number: usize) -> bool
-        ensures { result ≡ head_is_declared self.now head.now number }
+    // Whether the root of the term may have as many parts as it has.
+    fn covers_root<S: TermSpace>(&self, space: &S, at: &S::Ref) -> bool
+        requires { IsTrue (S.stands space.now at.now) }
+        ensures { result ≡ root_is_declared self.now (S.term_of space.now at.now) }
     {
-        let Head::App(symbol) = head else {
+        let Top::App(symbol) = space.head(at) else {
             return true;
         };
+        let number = space.count(at);
         match symbol.kind() {
             Kind::Plain => self.arity_known(symbol.bytes(), number),
             Kind::Quoted => number == 0,

@@ -13,7 +13,7 @@ use std::hash::BuildHasherDefault;
 use std::test::Fail;
 use strat_code::Code;
 use strat_machine::Machine;
-use term_model::{Head, Made, Shape, Sym, Term, TermSpace, Top};
+use term_model::{Head, Kind, Made, Parts, Shape, Sym, Term, TermSpace, Top};
 use term_store::StoreSpace;
 
 // Definitions and a term; what the run writes, which is nothing where it fails, and by how many rules; how many shapes the
@@ -79,6 +79,14 @@ impl<S: TermSpace + Drop> TermSpace for Counting<S> {
         self.space.head(at)
     }
 
+    fn parts<'a>(&'a self, at: &'a S::Ref) -> Parts<'a, S::Ref> {
+        self.space.parts(at)
+    }
+
+    fn annos<'a>(&'a self, at: &'a S::Ref) -> Parts<'a, S::Ref> {
+        self.space.annos(at)
+    }
+
     fn same(&self, one: &S::Ref, other: &S::Ref) -> bool {
         self.space.same(one, other)
     }
@@ -125,6 +133,15 @@ impl<S: TermSpace + Drop> TermSpace for Counting<S> {
 
     fn name(&mut self, alloc: Global, symbol: &Sym) -> Result<S::Name, AllocError> {
         self.space.name(alloc, symbol)
+    }
+
+    fn name_spelled(
+        &mut self,
+        alloc: Global,
+        kind: Kind,
+        bytes: &[u8],
+    ) -> Result<S::Name, AllocError> {
+        self.space.name_spelled(alloc, kind, bytes)
     }
 
     fn int(&mut self, alloc: Global, value: i64) -> Result<S::Ref, AllocError> {

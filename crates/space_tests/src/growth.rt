@@ -11,7 +11,7 @@ use std::hash::BuildHasherDefault;
 use std::test::Fail;
 use strat_code::Code;
 use strat_machine::Machine;
-use term_model::{Fault, Head, Made, Sym, Term, TermSpace};
+use term_model::{Fault, Head, Made, RcSpace, Sym, Term, TermSpace};
 use term_store::StoreSpace;
 
 // How many steps a row has.
@@ -39,6 +39,8 @@ enum Row {
     Prepend,
     Leave,
 }
+
+const ROWS: &[Row] = &[Row::Enter, Row::Make, Row::Rest, Row::Prepend, Row::Leave];
 
 // Whether the reference has this term; looks twice where memory is refused.
 fn has_term<S: TermSpace>(
@@ -228,6 +230,14 @@ fn growth_leave(rt: HostRuntime) -> Result<(), Fail> {
     run_in_store(rt.alloc(), Row::Leave)
 }
 
+#[test]
+fn growth_of_terms(rt: HostRuntime) -> Result<(), Fail> {
+    for row in ROWS {
+        run_row(rt.alloc(), RcSpace, *row)?;
+    }
+    Ok(())
+}
+
 // The weight of what the code rewrites the term to; 0 where it does not.
 fn weight_after<S: TermSpace + Drop>(
     alloc: Global,
@@ -268,18 +278,33 @@ fn run_again<S: TermSpace + Drop>(
     weight_after(alloc, &mut machine, code, term)
 }
 
-// The weight of what the definitions rewrite the term to over a store, in a run that is taken again where memory is refused.
-fn weight_in_store(alloc: Global, definitions: &[u8], text: &[u8]) -> Result<u32, Fail> {
+// The weight of what the definitions rewrite the term to over the space, in a run that is taken again where memory is refused.
+fn weight_over<S: TermSpace + Drop>(
+    alloc: Global,
+    space: S,
+    definitions: &[u8],
+    text: &[u8],
+) -> Result<u32, Fault> {
     let code = code_of(alloc, definitions)?;
     let term = read_term(alloc, text)?;
-    let store = StoreSpace::new(alloc, BuildHasherDefault::new());
-    Ok(run_again(alloc, store, &code, &term)?)
+    run_again(alloc, space, &code, &term)
 }
 
 #[test]
 fn growth_run(rt: HostRuntime) -> Result<(), Fail> {
     for (definitions, text, weight) in RUNS {
-        if weight_in_store(rt.alloc(), definitions, text)? != *weight {
+        let store = StoreSpace::new(rt.alloc(), BuildHasherDefault::new());
+        if weight_over(rt.alloc(), store, definitions, text)? != *weight {
+            return Err(Fail::new("another term"));
+        }
+    }
+    Ok(())
+}
+
+#[test]
+fn growth_run_of_terms(rt: HostRuntime) -> Result<(), Fail> {
+    for (definitions, text, weight) in RUNS {
+        if weight_over(rt.alloc(), RcSpace, definitions, text)? != *weight {
             return Err(Fail::new("another term"));
         }
     }

@@ -8,6 +8,8 @@ mod bare_terms;
 #[cfg(test)]
 mod compiled;
 #[cfg(test)]
+mod declared;
+#[cfg(test)]
 mod going_back;
 #[cfg(test)]
 mod growth;
@@ -17,3 +19,5 @@ mod selecting;
 mod single_calls;
 #[cfg(test)]
 mod spaces;
+#[cfg(test)]
+mod texts;

@@ -6,35 +6,46 @@ use aterm_text::{read_term, write_term};
 use core_eval::eval;
 use core_lang::{Core, Outcome};
 use prim_registry::{Registry, Standard};
-use scope_check::check;
+use scope_check::{Checked, check};
 use std::alloc::Global;
 use std::hash::BuildHasherDefault;
 use std::test::Fail;
 use str_desugar::to_core;
 use str_lexer::lex;
 use str_parser::parse;
+use str_syntax::{File, Section};
 use strat_code::Code;
 use strat_compile::compile;
 use strat_machine::Machine;
 use strategy_lib::with_library;
-use term_model::{PrimNames, RcSpace, Term, TermSpace};
+use term_model::{Fault, PrimNames, RcSpace, Term, TermSpace};
 use term_store::StoreSpace;
 
 const DEFINITIONS: &[u8] = b"strategies main = ?(x,_); !x";
 
-// The core of the definitions with the library.
-fn core_of(alloc: Global, definitions: &[u8]) -> Result<Core, Fail> {
+// The definitions with the library, where these are the primitives.
+fn checked(alloc: Global, definitions: &[u8], primitives: &PrimNames) -> Result<Checked, Fault> {
     let tokens = lex(alloc, definitions)?;
     let file = parse(alloc, definitions, &tokens)?;
     let file = with_library(alloc, file)?;
-    let checked = check(alloc, file, &PrimNames::new(alloc), b"main")?;
+    check(alloc, file, primitives, b"main")
+}
+
+// Their core.
+fn core_of(alloc: Global, definitions: &[u8], primitives: &PrimNames) -> Result<Core, Fault> {
+    let checked = checked(alloc, definitions, primitives)?;
     Ok(to_core(alloc, &checked)?)
 }
 
-// The code of the definitions with the library.
-pub(crate) fn code_of(alloc: Global, definitions: &[u8]) -> Result<Code, Fail> {
-    let core = core_of(alloc, definitions)?;
+// Their code.
+fn code_with(alloc: Global, definitions: &[u8], primitives: &PrimNames) -> Result<Code, Fault> {
+    let core = core_of(alloc, definitions, primitives)?;
     Ok(compile(alloc, &core)?)
+}
+
+// The code of definitions that call no primitive.
+pub(crate) fn code_of(alloc: Global, definitions: &[u8]) -> Result<Code, Fault> {
+    code_with(alloc, definitions, &PrimNames::new(alloc))
 }
 
 // The text of the term that the core rewrites to within the budget, and the rules; no text where the budget is spent.
@@ -59,7 +70,7 @@ fn run(alloc: Global, core: &Core, text: &[u8], budget: u32) -> Result<(Vec<u8>,
 #[test]
 fn from_bytes_to_a_run(rt: HostRuntime) -> Result<(), Fail> {
     let alloc = rt.alloc();
-    let core = core_of(alloc, DEFINITIONS)?;
+    let core = core_of(alloc, DEFINITIONS, &PrimNames::new(alloc))?;
     let (written, rules) = run(alloc, &core, b"(7,f(1))", 5)?;
     if written[..] != b"7"[..] || rules != 5 {
         return Err(Fail::new("within its five rules"));
@@ -71,21 +82,22 @@ fn from_bytes_to_a_run(rt: HostRuntime) -> Result<(), Fail> {
     Ok(())
 }
 
-// Whether the machine takes the term that was entered to 7 within five rules, by five rules.
+// Whether the machine takes the term of the reference to 7 within five rules, by five rules.
 fn takes_five<S: TermSpace + Drop>(
     alloc: Global,
     machine: &mut Machine<S>,
     code: &Code,
-    entered: S::Ref,
-) -> Result<bool, Fail>
-    requires { IsTrue (S.stands machine.old entered) }
+    entered: &S::Ref,
+) -> Result<bool, Fault>
+    requires { IsTrue (S.stands machine.old entered.now) }
     ensures { (r : S.Ref) → IsTrue (S.stands machine.old r) → IsTrue (S.stands machine.new r) }
 {
     let registry = Registry::<Standard>::new(alloc);
     if !registry.covers(code.prims()) {
-        return Err(Fail::new("a primitive"));
+        return Err(Fault::UnknownPrimitive);
     }
-    let run = machine.run(code, entered, 5, &registry)?;
+    let term = machine.space().dup(entered)?;
+    let run = machine.run(code, term, 5, &registry)?;
     let Outcome::Rewritten(found) = &run.outcome else {
         return Ok(false);
     };
@@ -94,20 +106,49 @@ fn takes_five<S: TermSpace + Drop>(
     Ok(written[..] == b"7"[..] && run.rules == 5 && run.steps <= 60)
 }
 
-// Whether a machine over the space does so with the same term twice.
+// Whether the machine does so. A run that is refused memory is taken once more from the same reference, which must have its term.
+fn takes_five_at_last<S: TermSpace + Drop>(
+    alloc: Global,
+    machine: &mut Machine<S>,
+    code: &Code,
+    entered: &S::Ref,
+    term: &Term,
+) -> Result<bool, Fault>
+    requires { IsTrue (S.stands machine.old entered.now) }
+    ensures { (r : S.Ref) → IsTrue (S.stands machine.old r) → IsTrue (S.stands machine.new r) }
+{
+    if let Ok(is_seven) = takes_five(alloc, machine, code, entered) {
+        return Ok(is_seven);
+    }
+    if machine.leave(entered)? != *term {
+        return Ok(false);
+    }
+    takes_five(alloc, machine, code, entered)
+}
+
+// Whether the machine does so twice with the same reference.
 fn takes_five_twice<S: TermSpace + Drop>(
+    alloc: Global,
+    machine: &mut Machine<S>,
+    code: &Code,
+    term: &Term,
+) -> Result<bool, Fault> {
+    let entered = machine.enter(term)?;
+    if !takes_five_at_last(alloc, machine, code, &entered, term)? {
+        return Ok(false);
+    }
+    takes_five_at_last(alloc, machine, code, &entered, term)
+}
+
+// Whether a machine over the space does so.
+fn runs_over<S: TermSpace + Drop>(
     alloc: Global,
     space: S,
     code: &Code,
     term: &Term,
-) -> Result<bool, Fail> {
+) -> Result<bool, Fault> {
     let mut machine = Machine::new(alloc, space);
-    let entered = machine.enter(term)?;
-    let once_more = machine.space().dup(&entered)?;
-    if !takes_five(alloc, &mut machine, code, entered)? {
-        return Ok(false);
-    }
-    takes_five(alloc, &mut machine, code, once_more)
+    takes_five_twice(alloc, &mut machine, code, term)
 }
 
 #[test]
@@ -115,12 +156,40 @@ fn from_bytes_to_runs_of_the_machine(rt: HostRuntime) -> Result<(), Fail> {
     let alloc = rt.alloc();
     let code = code_of(alloc, DEFINITIONS)?;
     let term = read_term(alloc, b"(7,f(1))")?;
-    if !takes_five_twice(alloc, RcSpace, &code, &term)? {
+    if !runs_over(alloc, RcSpace, &code, &term)? {
         return Err(Fail::new("over terms"));
     }
     let store = StoreSpace::new(alloc, BuildHasherDefault::new());
-    if !takes_five_twice(alloc, store, &code, &term)? {
+    if !runs_over(alloc, store, &code, &term)? {
         return Err(Fail::new("over a store"));
     }
     Ok(())
+}
+
+// How many definitions the file has, which has one section, of strategies.
+fn count_of_definitions(file: &File) -> usize {
+    match file.sections.as_slice() {
+        [Section::Strategies(definitions)] => definitions.len(),
+        _ => 0,
+    }
+}
+
+// What the check of the file, which calls no primitive, returns.
+fn judgement(alloc: Global, file: File) -> Result<(), Fault> {
+    let _checked = check(alloc, file, &PrimNames::new(alloc), b"main")?;
+    Ok(())
+}
+
+#[test]
+fn the_library_alone(rt: HostRuntime) -> Result<(), Fail> {
+    let sections = Vec::new(rt.alloc());
+    let file = with_library(rt.alloc(), File { sections })?;
+    if count_of_definitions(&file) != 9 {
+        return Err(Fail::new("another number of definitions"));
+    }
+    match judgement(rt.alloc(), file) {
+        Err(Fault::NoMain) => Ok(()),
+        Err(fault) => Err(Fail::from(fault)),
+        Ok(()) => Err(Fail::new("no fault")),
+    }
 }

@@ -1,5 +1,5 @@
 -- What is written follows from the run of a program.
-use Rattle.std.proofs.Common.{◌≡◌, ℕ, List, length, ◌<◌, ◌≤◌, refl, Ok, inl, inr, ap, subst, arith}
+use Rattle.std.proofs.Common.{◌≡◌, ℕ, List, length, Vec, Global, ◌<◌, ◌≤◌, refl, Ok, inl, inr, ap, subst, arith}
 use Rattle.term_model.specs.Term.{Tree}
 use Rattle.core_lang.specs.declared.run.Outcome.{Outcome}
 use Rattle.core_lang.specs.declared.run.Outcome.TheVariants.{Rewritten, Failed, Oversize, Spent}
@@ -19,7 +19,7 @@ use Rattle.str_pipeline.specs.Limits.{max_definitions, max_term}
 use Rattle.str_pipeline.specs.Setting.{Setting}
 use Rattle.str_pipeline.specs.Judged.{AreAccepted, IsAccepted}
 use Rattle.str_pipeline.specs.Faults.{IsReadingFault, IsRefusal, is_read_fault}
-use Rattle.str_pipeline.specs.Steps.{IsProgram, IsProgramOf, IsOutcomeOf, IsTermRead, IsResult, status_of, outcome_line}
+use Rattle.str_pipeline.specs.Steps.{IsProgram, IsProgramOf, IsTextOfRun, IsTermRead, IsResult, IsTextResult, status_of, outcome_line, text_line}
 use Rattle.str_pipeline.specs.declared.program.Program.{Program}
 use Rattle.str_pipeline.specs.declared.status.Status.{Status}
 use Rattle.std.specs.Prelude.{IfOk, OnOk, IsErrOf}
@@ -40,17 +40,17 @@ run_written defs term S f t Oversize rules file spelled ending = (f, t, file, sp
 run_written defs term S f t Spent rules file spelled (none, all) = (f, t, file, spelled, (none, refl))
 
 -- what a run says of each file that the program is of
-pub run_result : (S : Setting) (program : Program) (term : List ℕ) (t : Tree) (outcome : Outcome Tree) → length term ≤ max_term
+pub run_result : (S : Setting) (program : Program) (term : List ℕ) (t : Tree) (told : Outcome (Vec ℕ Global)) → length term ≤ max_term
     → IsTermRead S.options.strict program.checked.declarations term (Ok t)
-    → IsOutcomeOf S.meaning program.code t S.options.budget outcome
+    → IsTextOfRun S.meaning program.code t S.options.budget told
     → (defs : List ℕ) (f : FileTree) → AreAccepted S defs f → IsProgramOf S f program
-    → IsResult defs term S (Ok outcome)
-run_result S program term t outcome short (reading, declared) run defs f file of_file =
+    → IsTextResult defs term S (Ok told)
+run_result S program term t told short (reading, declared) run defs f file of_file =
     let known : S.options.strict ≡ true → term_is_declared (declarations_of f) t ≡ true =
     λ strict. subst (λ (ds : List Declared). term_is_declared ds t ≡ true) of_file.declared (declared strict) in
     let code = of_file.code in
-    let ended = run.each (program_of_file f) (written S.options.main.items) code.core code.main code.stands code.occurring code.resolved in
-    run_written defs term S f t outcome ended.0 file ((short, reading), known) ended.1
+    let ended = run.is_outcome.each (program_of_file f) (written S.options.main.items) code.core code.main code.stands code.occurring code.resolved in
+    rw (run.is_text.status, run.is_text.line) (run_written defs term S f t run.outcome ended.0 file ((short, reading), known) ended.1)
 
 -- what a term that is refused says of each file that the program is of
 pub term_fault : (S : Setting) (program : Program) (term : List ℕ) (fault : Fault) → length term ≤ max_term
@@ -65,13 +65,13 @@ term_fault S program term faults.TermUndeclared short (strict, (t, reading, unde
     inr (f, file, (strict, record { tree = t; is_term = (short, reading); undeclared = missing }))
 term_fault S program term _ short reading defs f file of_file = absurd reading
 
-pub outcome_has_written : (old new : Option (List ℕ)) (o : Outcome Tree) (d t : List ℕ) (S : Setting) → Gains old new (outcome_line o) → IsResult d t S (Ok o)
-    → HasWritten d t S (status_of o) old new
-outcome_has_written old new o d t S gained result = record { line = outcome_line o; gained = gained; is_written = result }
+pub outcome_has_written : (old new : Option (List ℕ)) (o : Outcome (Vec ℕ Global)) (d t : List ℕ) (S : Setting) → Gains old new (text_line o)
+    → IsTextResult d t S (Ok o) → HasWritten d t S (status_of o) old new
+outcome_has_written old new o d t S gained result = record { line = text_line o; gained = gained; is_written = result }
 
-pub outcome_has_begun : (old new : Option (List ℕ)) (o : Outcome Tree) (d t : List ℕ) (S : Setting) → GainsPrefix old new (outcome_line o) → IsResult d t S (Ok o)
-    → HasBegun d t S old new
-outcome_has_begun old new o d t S gained result = record { status = status_of o; line = outcome_line o; gained = gained; is_written = result }
+pub outcome_has_begun : (old new : Option (List ℕ)) (o : Outcome (Vec ℕ Global)) (d t : List ℕ) (S : Setting) → GainsPrefix old new (text_line o)
+    → IsTextResult d t S (Ok o) → HasBegun d t S old new
+outcome_has_begun old new o d t S gained result = record { status = status_of o; line = text_line o; gained = gained; is_written = result }
 
 first_fault : (d t : List ℕ) (S : Setting) (fault : Fault) → IsRefusal fault → IsResult d t S (Err fault) → IsFirstFault d t S fault
 first_fault d t S faults.Memory refusal result = absurd (no_low_refusal faults.Memory refusal (omega arith))

@@ -1,5 +1,6 @@
 -- What the steps of a transformation return.
-use Rattle.std.specs.Prelude.{◌≡◌, ◌⊎◌, ℕ, Bool, true, false, List, codes, Result, Ok, Err}
+use Rattle.std.specs.Prelude.{◌≡◌, ◌⊎◌, ℕ, Bool, true, false, List, codes, Result, Ok, Err, Vec}
+use Rattle.std.specs.Global.{Global}
 use Rattle.term_model.specs.declared.fault.Fault.{Fault}
 use Rattle.term_model.specs.declared.fault.Fault.TheVariants.{Memory, Read, Lexical, ReservedWord, Syntax, Nesting, TermUndeclared}
 use Rattle.term_model.specs.Flat.{Meaning}
@@ -68,7 +69,7 @@ pub record IsOutcomeOf (M : Meaning) (code : CodeParts) (t : Tree) (budget : ℕ
   pub each : (P : Definitions Name (List Name)) (main : Name) (C : ResolvedDefinitions) (i : ℕ) → StandsFor (code_of code.tables code.instrs) C i →
       AreOccurring code.prims C → ResolvesProgram P main C i → (n : ℕ) × IsOutcome M P main t budget outcome n
 
-abbrev pub status_of : Outcome Tree → Status
+abbrev pub status_of : {R : Type 0} → Outcome R → Status
 status_of (outcomes.Rewritten u) = Rewritten
 status_of outcomes.Failed = Failed
 status_of outcomes.Oversize = Oversize
@@ -80,9 +81,32 @@ outcome_line outcomes.Failed = line_of (codes "#failed")
 outcome_line outcomes.Oversize = line_of (codes "#oversize")
 outcome_line outcomes.Spent = line_of (codes "#spent")
 
+-- the line of an outcome that has the text of the term
+abbrev pub text_line : Outcome (Vec ℕ Global) → List ℕ
+text_line (outcomes.Rewritten bytes) = line_of bytes.items
+text_line outcomes.Failed = line_of (codes "#failed")
+text_line outcomes.Oversize = line_of (codes "#oversize")
+text_line outcomes.Spent = line_of (codes "#spent")
+
+-- the outcome has the text of the term in place of the term
+pub record IsTextOf (told : Outcome (Vec ℕ Global)) (outcome : Outcome Tree) : Type 0 where
+  pub status : status_of told ≡ status_of outcome
+  pub line : text_line told ≡ outcome_line outcome
+
+-- the outcome of each program that the code stands for, with the text of the term
+pub record IsTextOfRun (M : Meaning) (code : CodeParts) (t : Tree) (budget : ℕ) (told : Outcome (Vec ℕ Global)) : Type 0 where
+  pub outcome : Outcome Tree
+  pub is_outcome : IsOutcomeOf M code t budget outcome
+  pub is_text : IsTextOf told outcome
+
 -- what is known of the definitions and the term by the outcome of a run, or by the fault in place of one
 abbrev pub IsResult : List ℕ → List ℕ → Setting → Result (Outcome Tree) Fault → Type 0
 IsResult defs term S (Ok outcome) = IsWritten defs term S (status_of outcome) (outcome_line outcome)
 IsResult defs term S (Err Memory) = Unit {0}
 IsResult defs term S (Err Read) = Unit {0}
 IsResult defs term S (Err fault) = IsFirstFault defs term S fault
+
+-- the same by an outcome that has the text of the term
+abbrev pub IsTextResult : List ℕ → List ℕ → Setting → Result (Outcome (Vec ℕ Global)) Fault → Type 0
+IsTextResult defs term S (Ok told) = IsWritten defs term S (status_of told) (text_line told)
+IsTextResult defs term S (Err fault) = IsResult defs term S (Err fault)

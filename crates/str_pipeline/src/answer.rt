@@ -1,5 +1,6 @@
 //! What a file does with a term, and the line that says so.
-ghost use Rattle.std.specs.Prelude.{◌≡◌, ◌+◌, ◌≤◌, ◌++◌, ℕ, List, vec_len, false, if◌then◌else◌, IfOk, IfErr, OnOk, IsErrOf};
+ghost use Rattle.std.specs.Prelude.{◌≡◌, ◌+◌, ◌≤◌, ◌++◌, ℕ, List, vec_len, false, if◌then◌else◌, IfOk, IfErr, OnOk, IsErrOf, IsTrue};
+ghost use Rattle.aterm_text.specs.ReadTerm.{map_ok};
 ghost use Rattle.str_syntax.specs.Trees.{FileTree};
 ghost use Rattle.str_pipeline.specs.Device.{Gains, GainsPrefix};
 ghost use Rattle.prim_registry.specs.Entries.{Covers, IsHonest};
@@ -7,23 +8,21 @@ ghost use Rattle.str_pipeline.specs.Limits.{max_term};
 ghost use Rattle.str_pipeline.specs.Setting.{setting_of};
 ghost use Rattle.str_pipeline.specs.Judged.{AreAccepted};
 ghost use Rattle.str_pipeline.specs.Written.{line_of, refusal_line};
-ghost use Rattle.str_pipeline.specs.Steps.{IsStop, IsProgramOf, IsTermRead, IsResult, status_of, outcome_line};
+ghost use Rattle.str_pipeline.specs.Steps.{IsStop, IsProgramOf, IsTermRead, IsTextResult, status_of, text_line};
 ghost use Rattle.str_pipeline.specs.Faults.{IsOfDefinitions, IsTransferFault, is_read_fault, is_write_fault};
 
 use crate::notes::RunNotes;
 use crate::program::Program;
-use crate::runs::run_code;
+use crate::runs::{Holds, run_code};
 use crate::sink::{Sink, write_all};
 use crate::status::{Options, Status};
-use aterm_text::{read_term, write_term};
+use aterm_text::read_in;
 use core_lang::Outcome;
 use prim_registry::{PrimMeaning, Registry};
 use scope_check::Checked;
 use signature_core::Signature;
 use std::alloc::{AllocError, Global};
-use std::hash::BuildHasherDefault;
-use term_model::{Fault, Term};
-use term_store::StoreSpace;
+use term_model::{Fault, TermSpace};
 
 /// The most bytes of definitions.
 pub const MAX_DEFINITIONS: usize = 1_048_576;
@@ -37,33 +36,39 @@ pub const MAX_BUDGET: u32 = 1_000_000_000;
 /// The budget of a run for which none is asked, in rules.
 pub const DEFAULT_BUDGET: u32 = 1_000_000;
 
-/// Reads a term, and in strict mode asks that the signature declares each application in it.
-fn term_of(
+/// Reads a term into a space, and in strict mode asks that the signature declares each application in it.
+fn term_of<S: TermSpace>(
     alloc: Global,
+    space: &mut S,
     signature: &Signature,
     text: &[u8],
     is_strict: bool,
-) -> Result<Term, Fault>
-    ensures { IsTermRead is_strict signature.now text.now result }
+) -> Result<S::Ref, Fault>
+    ensures stands { IfOk result (λ r. IsTrue (S.stands space.new r)) }
+    ensures read { IsTermRead is_strict signature.now text.now
+        (map_ok (S.term_of space.new) result) }
 {
-    let term = read_term(alloc, text)?;
+    let term = read_in(space, alloc, text)?;
     if is_strict {
-        signature.check_term(&term)?;
+        signature.check_in(space, &term)?;
     }
     Ok(term)
 }
 
 /// Reads a term as `term_of` does, and notes why it is refused where it is.
-fn noted_term(
+fn noted_term<S: TermSpace>(
     alloc: Global,
+    space: &mut S,
     signature: &Signature,
     text: &[u8],
     is_strict: bool,
     notes: &mut RunNotes,
-) -> Result<Term, Fault>
-    ensures { IsTermRead is_strict signature.now text.now result }
+) -> Result<S::Ref, Fault>
+    ensures stands { IfOk result (λ r. IsTrue (S.stands space.new r)) }
+    ensures read { IsTermRead is_strict signature.now text.now
+        (map_ok (S.term_of space.new) result) }
 {
-    let term = term_of(alloc, signature, text, is_strict);
+    let term = term_of(alloc, space, signature, text, is_strict);
     if let Err(fault) = &term {
         notes.note_term(text, fault);
     }
@@ -71,49 +76,54 @@ fn noted_term(
 }
 
 /// Reads a term by the signature of the file, as `noted_term` does, and drops the text and the file.
-fn term_alone(
+fn term_alone<S: TermSpace>(
     alloc: Global,
+    space: &mut S,
     checked: Checked,
     text: Vec<u8>,
     is_strict: bool,
     notes: &mut RunNotes,
-) -> Result<Term, Fault>
-    ensures { IsTermRead is_strict checked.declarations text.items result }
+) -> Result<S::Ref, Fault>
+    ensures stands { IfOk result (λ r. IsTrue (S.stands space.new r)) }
+    ensures read { IsTermRead is_strict checked.declarations text.items
+        (map_ok (S.term_of space.new) result) }
 {
-    let term = noted_term(alloc, checked.signature(), &text, is_strict, notes)?;
+    let term = noted_term(alloc, space, checked.signature(), &text, is_strict, notes)?;
     Ok(term)
 }
 
-/// Returns what the program does with the term of this text, with the primitives of the registry: the run takes place in a store of its
-/// own, in which equal terms are one. The fault is one of the term's, or `Memory`.
+/// Returns what the program does with the term of this text, with the primitives of the registry, and the canonical text of the
+/// result in place of the result. The term is read into the space, and the run takes place there. The fault is one of the term's, or
+/// `Memory`.
 #[tactic(auto, using(crate::proofs::WrittenLaws::run_written, crate::proofs::FaultLaws::text_stops, crate::proofs::FaultLaws::text_apart, crate::proofs::FaultLaws::text_no_read))]
-pub(crate) fn outcome_of<M: PrimMeaning>(
+pub(crate) fn outcome_of<S: TermSpace + Holds + Drop, M: PrimMeaning>(
     alloc: Global,
+    space: S,
     program: Program,
     text: Vec<u8>,
     options: &Options,
     registry: &Registry<M>,
     notes: &mut RunNotes,
-) -> Result<Outcome<Term>, Fault>
+) -> Result<Outcome<Vec<u8>>, Fault>
     requires fits { vec_len text ≤ max_term }
     requires honest { IsHonest M.answer registry.now }
     requires covers { Covers registry.now program.code.prims }
     ensures result { (defs : List ℕ) (f : FileTree) → AreAccepted (setting_of M.answer registry.now options.now) defs f →
         IsProgramOf (setting_of M.answer registry.now options.now) f program →
-        IsResult defs text.items (setting_of M.answer registry.now options.now) result }
+        IsTextResult defs text.items (setting_of M.answer registry.now options.now) result }
     ensures kinds { IfErr result IsStop }
     ensures apart { IfErr result (λ fault. IsOfDefinitions fault → ⊥) }
     ensures read { is_read_fault result ≡ false }
 {
     let Program { checked, code } = program;
-    let term = term_alone(alloc, checked, text, options.strict, notes)?;
-    let space = StoreSpace::new(alloc, BuildHasherDefault::new());
+    let mut space = space;
+    let term = term_alone(alloc, &mut space, checked, text, options.strict, notes)?;
     let outcome = run_code(alloc, space, &code, term, options.budget, registry, notes)?;
     Ok(outcome)
 }
 
 /// Returns the status of an outcome.
-fn status_of(outcome: &Outcome<Term>) -> Status
+fn status_of(outcome: &Outcome<Vec<u8>>) -> Status
     ensures { result ≡ status_of outcome.now }
 {
     match outcome {
@@ -124,16 +134,12 @@ fn status_of(outcome: &Outcome<Term>) -> Status
     }
 }
 
-/// Makes the line of an outcome, without the line feed that ends it.
-fn outcome_text(alloc: Global, outcome: &Outcome<Term>) -> Result<Vec<u8>, AllocError>
-    ensures { IfOk result (λ bytes. outcome_line outcome.now ≡ line_of bytes.items) }
+/// Returns the line of an outcome, without the line feed that ends it. The text of a result is moved, and not copied.
+fn outcome_text(alloc: Global, outcome: Outcome<Vec<u8>>) -> Result<Vec<u8>, AllocError>
+    ensures { IfOk result (λ bytes. text_line outcome ≡ line_of bytes.items) }
 {
     match outcome {
-        Outcome::Rewritten(term) => {
-            let mut text = Vec::new(alloc);
-            write_term(term, &mut text)?;
-            Ok(text)
-        }
+        Outcome::Rewritten(text) => Ok(text),
         Outcome::Failed => b"#failed".to_vec(alloc),
         Outcome::Oversize => b"#oversize".to_vec(alloc),
         Outcome::Spent => b"#spent".to_vec(alloc),
@@ -143,21 +149,24 @@ fn outcome_text(alloc: Global, outcome: &Outcome<Term>) -> Result<Vec<u8>, Alloc
 /// Writes the line of an outcome.
 pub(crate) fn write_outcome<W: Sink>(
     alloc: Global,
-    outcome: &Outcome<Term>,
+    outcome: Outcome<Vec<u8>>,
     out: &mut W,
 ) -> Result<Status, Fault>
-    ensures status { IfOk result (λ status. status ≡ status_of outcome.now) }
-    ensures whole { OnOk result (Gains (W.written out.old) (W.written out.new) (outcome_line outcome.now)) }
-    ensures prefix { IsErrOf result Fault.Write → GainsPrefix (W.written out.old) (W.written out.new) (outcome_line outcome.now) }
+    ensures status { IfOk result (λ status. status ≡ status_of outcome) }
+    ensures whole { OnOk result
+        (Gains (W.written out.old) (W.written out.new) (text_line outcome)) }
+    ensures prefix { IsErrOf result Fault.Write →
+        GainsPrefix (W.written out.old) (W.written out.new) (text_line outcome) }
     ensures untouched { IsErrOf result Fault.Memory → out.new ≡ out.old }
     ensures failed { W.failed_writes out.new ≡ W.failed_writes out.old + (if is_write_fault result then 1 else 0) }
     ensures kinds { IfErr result IsTransferFault }
     ensures read { is_read_fault result ≡ false }
 {
+    let status = status_of(&outcome);
     let mut line = outcome_text(alloc, outcome)?;
     line.push(b'\n')?;
     write_all(out, &line)?;
-    Ok(status_of(outcome))
+    Ok(status)
 }
 
 /// Writes the line of a refusal.

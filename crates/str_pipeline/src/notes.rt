@@ -7,8 +7,8 @@ use crate::reason::{
 use core_lang::Outcome;
 use scope_check::Notes;
 use str_parser::Expected;
+use term_model::Fault;
 use term_model::bytes::{is_blank_byte, is_digit_byte};
-use term_model::{Fault, Term};
 
 /// One of the two texts that a transformation reads.
 #[derive(Clone, Copy, Debug, PartialEq, Eq)]
@@ -174,7 +174,7 @@ impl RunNotes {
     }
 
     // Notes why a text was refused of which no place is known.
-    pub(crate) fn note_outcome(&mut self, outcome: &Result<Outcome<Term>, Fault>) {
+    pub(crate) fn note_outcome(&mut self, outcome: &Result<Outcome<Vec<u8>>, Fault>) {
         match outcome {
             Err(Fault::DefsTooLong) => self.reason = Some(Reason::DefinitionsTooLong),
             Err(Fault::TermTooLong) => {

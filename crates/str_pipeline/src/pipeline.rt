@@ -9,7 +9,7 @@ ghost use Rattle.term_model.specs.Limits.{max_budget};
 ghost use Rattle.str_pipeline.specs.Setting.{Setting, setting_of};
 ghost use Rattle.str_pipeline.specs.Judged.{AreRefused};
 ghost use Rattle.str_pipeline.specs.Written.{HasWritten, HasBegun};
-ghost use Rattle.str_pipeline.specs.Steps.{IsStop, IsResult};
+ghost use Rattle.str_pipeline.specs.Steps.{IsStop, IsResult, IsTextResult};
 ghost use Rattle.str_pipeline.specs.Faults.{HoldsRefusal, IsRefusal, IsTransferFault, IsOfDefinitions, RefusesDefinitions, is_read, is_read_fault, is_write_fault};
 
 use crate::answer::{MAX_DEFINITIONS, MAX_TERM, outcome_of, write_outcome, write_refusal};
@@ -22,9 +22,12 @@ use crate::status::{Options, Status};
 use core_lang::Outcome;
 use prim_registry::{PrimMeaning, Registry};
 use std::alloc::Global;
-use term_model::{Fault, Term};
+use std::hash::BuildHasherDefault;
+use term_model::Fault;
+use term_store::StoreSpace;
 
-/// Returns what the definitions do with the term. The fault is the first refusal, or `Memory` or `Read`.
+/// Returns what the definitions do with the term, which is read into a store of its own, in which equal terms are one, and rewritten
+/// there. The outcome has the text of the result. The fault is the first refusal, or `Memory` or `Read`.
 #[tactic(auto, using(crate::proofs::FaultLaws::reading_stops, crate::proofs::FaultLaws::reading_apart, crate::proofs::FaultLaws::program_stops, crate::proofs::FaultLaws::program_no_read, crate::proofs::FaultLaws::long_definitions_stop, crate::proofs::FaultLaws::long_term_stops, crate::proofs::FaultLaws::long_term_apart))]
 fn outcome_apart<D: Source, T: Source, M: PrimMeaning>(
     alloc: Global,
@@ -33,9 +36,11 @@ fn outcome_apart<D: Source, T: Source, M: PrimMeaning>(
     options: &Options,
     registry: &Registry<M>,
     notes: &mut RunNotes,
-) -> Result<Outcome<Term>, Fault>
+) -> Result<Outcome<Vec<u8>>, Fault>
     requires honest { IsHonest M.answer registry.now }
-    ensures result { IfSome (D.coming defs.old) (λ d. IfSome (T.coming term.old) (λ t. IsResult d t (setting_of M.answer registry.now options.now) result)) }
+    ensures result { IfSome (D.coming defs.old)
+        (λ d. IfSome (T.coming term.old) (λ t.
+        IsTextResult d t (setting_of M.answer registry.now options.now) result)) }
     ensures kinds { IfErr result IsStop }
     ensures failed { D.failed_reads defs.new + T.failed_reads term.new
         ≡ D.failed_reads defs.old + T.failed_reads term.old + (if is_read_fault result then 1 else 0) }
@@ -52,7 +57,15 @@ fn outcome_apart<D: Source, T: Source, M: PrimMeaning>(
     let Some(text) = read_all(alloc, term, MAX_TERM)? else {
         return Err(Fault::TermTooLong);
     };
-    outcome_of(alloc, program, text, options, registry, notes)
+    outcome_of(
+        alloc,
+        StoreSpace::new(alloc, BuildHasherDefault::new()),
+        program,
+        text,
+        options,
+        registry,
+        notes,
+    )
 }
 
 /// Does the same over one reader of the joined form.
@@ -63,9 +76,11 @@ fn outcome_joined<S: Source, M: PrimMeaning>(
     options: &Options,
     registry: &Registry<M>,
     notes: &mut RunNotes,
-) -> Result<Outcome<Term>, Fault>
+) -> Result<Outcome<Vec<u8>>, Fault>
     requires honest { IsHonest M.answer registry.now }
-    ensures result { IfSome (S.coming input.old) (λ told. (d t : List ℕ) → IsSplit told d t → IsResult d t (setting_of M.answer registry.now options.now) result) }
+    ensures result { IfSome (S.coming input.old)
+        (λ told. (d t : List ℕ) → IsSplit told d t →
+        IsTextResult d t (setting_of M.answer registry.now options.now) result) }
     ensures kinds { IfErr result IsStop }
     ensures failed { S.failed_reads input.new ≡ S.failed_reads input.old + (if is_read_fault result then 1 else 0) }
     ensures bounded { S.reads input.new ≤ S.reads input.old + max_definitions + 7 + max_term + 1 }
@@ -83,7 +98,15 @@ fn outcome_joined<S: Source, M: PrimMeaning>(
         return Err(Fault::TermTooLong);
     };
     drop(front);
-    outcome_of(alloc, program, text, options, registry, notes)
+    outcome_of(
+        alloc,
+        StoreSpace::new(alloc, BuildHasherDefault::new()),
+        program,
+        text,
+        options,
+        registry,
+        notes,
+    )
 }
 
 /// Writes the line of the outcome, or of the refusal that came in place of it, and returns its
@@ -91,12 +114,15 @@ fn outcome_joined<S: Source, M: PrimMeaning>(
 #[tactic(auto, using(crate::proofs::WrittenLaws::outcome_has_written, crate::proofs::WrittenLaws::outcome_has_begun))]
 fn finish<W: Sink>(
     alloc: Global,
-    outcome: Result<Outcome<Term>, Fault>,
+    outcome: Result<Outcome<Vec<u8>>, Fault>,
     out: &mut W,
 ) -> Result<Status, Fault>
     requires { IfErr outcome IsStop }
-    ensures written { IfOk result (λ status. (d t : List ℕ) (S : Setting) → IsResult d t S outcome → HasWritten d t S status (W.written out.old) (W.written out.new)) }
-    ensures begun { IsErrOf result Fault.Write → (d t : List ℕ) (S : Setting) → IsResult d t S outcome → HasBegun d t S (W.written out.old) (W.written out.new) }
+    ensures written { IfOk result (λ status. (d t : List ℕ) (S : Setting) →
+        IsTextResult d t S outcome → HasWritten d t S status (W.written out.old)
+        (W.written out.new)) }
+    ensures begun { IsErrOf result Fault.Write → (d t : List ℕ) (S : Setting) →
+        IsTextResult d t S outcome → HasBegun d t S (W.written out.old) (W.written out.new) }
     ensures status { IfOk result HoldsRefusal }
     ensures definitions { IfOk result (λ status. RefusesDefinitions status → IsErrAnd outcome IsOfDefinitions) }
     ensures read { is_read_fault result ≡ is_read_fault outcome }
@@ -106,7 +132,7 @@ fn finish<W: Sink>(
     ensures kinds { IfErr result IsTransferFault }
 {
     match outcome {
-        Ok(outcome) => write_outcome(alloc, &outcome, out),
+        Ok(outcome) => write_outcome(alloc, outcome, out),
         Err(fault) => write_fault(alloc, fault, out),
     }
 }

@@ -1,5 +1,5 @@
 -- What matching over references comes to, one step after another.
-use Rattle.std.proofs.Common.{◌≡◌, ℕ, ℤ, zero, suc, ◌+◌, ◌<◌, ◌≤◌, Option, Some, None, List, [], ◌∷◌, length, map, drop, get_or, Box, Global, refl, sym, ◌∙◌, ap, subst, arith, add-one}
+use Rattle.std.proofs.Common.{◌≡◌, ℕ, ℤ, zero, suc, ◌+◌, ◌<◌, ◌≤◌, Option, Some, None, List, [], ◌∷◌, ◌++◌, length, map, drop, get_or, Box, Global, refl, sym, ◌∙◌, ap, subst, arith, add-one}
 use Rattle.std.specs.Prelude.{Bool, true, false, IsTrue, ◌↔◌, nat_lt, nat_eq, if◌then◌else◌, slice_get}
 use Rattle.std.specs.Option.{option_map}
 use Rattle.std.proofs.lemmas.Option.{slice_get-map}
@@ -9,7 +9,7 @@ use Rattle.term_model.specs.Symbol.{Symbol}
 use Rattle.term_model.specs.declared.term.Head.TheVariants as heads
 use Rattle.term_model.specs.Term.{Tree, node, Trees, end, more, term, head_of, parts_of, annos_of, list_of, trees_of}
 use Rattle.term_model.specs.Same.{same, same_head, same-refl, same-true}
-use Rattle.term_model.specs.Space.{Keeps}
+use Rattle.term_model.specs.Space.{Keeps, Pushes}
 use Rattle.term_model.proofs.TermLemmas.{trees_of-list_of}
 use Rattle.core_lang.specs.declared.coordinate.Coordinate.{Coordinate}
 use Rattle.core_lang.specs.Environment.{Bindings}
@@ -21,10 +21,11 @@ use Rattle.strat_machine.specs.Loaded.{loaded_of, rest_loaded_of, Known, AllKnow
 use Rattle.strat_machine.specs.declared.loaded.LoadedPattern.{LoadedPattern}
 use Rattle.strat_machine.specs.Matches.{Goes, LeavesSpace, AllLeaveSpace, ElementsLeaveSpace, first_attempted, rest_attempted, sees_annotations}
 use Rattle.strat_machine.specs.PlaceStack.{PlaceStack}
-use Rattle.strat_machine.specs.References.{Places, AllPlaces, Binds, binds_none, binds_one}
+use Rattle.strat_machine.specs.References.{Places, AllPlaces, AllRefs, Binds, binds_none, binds_one}
 use Rattle.strat_machine.proofs.ReferenceLaws.{all_with}
 use Rattle.strat_machine.proofs.ReferenceSteps.{places_same}
 use Rattle.strat_machine.proofs.LoadedLaws.{loaded_same}
+use Rattle.strat_machine.proofs.TraversalLaws.{refs_of_all}
 
 -- places that are bound, and then others
 binds_later : {R : Type 0} {P Q : R → Type 0} {b : ℕ} {e f : Places R} {T U : List ℕ} → ((r : R) → P r → Q r) → Binds P b e T f U → Binds Q b e T f U
@@ -265,40 +266,74 @@ known_at knows [] i p h k is = absurd (omega arith)
 known_at knows (q ∷ ps) zero p h k is = subst (λ x. Known knows x) (sym is) h.0
 known_at knows (q ∷ ps) (suc i) p h k is = known_at knows ps i p h.1 (omega arith) is
 
+ref_at : {R : Type 0} (P : R → Type 0) (rs : List R) (i : ℕ) (r : R) → AllRefs P rs → i < length rs → r ≡ get_or rs i r → P r
+ref_at P [] i r h k is = absurd (omega arith)
+ref_at P (u ∷ rs) zero r h k is = subst P (sym is) h.0
+ref_at P (u ∷ rs) (suc i) r h k is = ref_at P rs i r h.1 (omega arith) is
+
 mapped_at : {A B : Type 0} (f : A → B) (xs : List A) (i : ℕ) (x : A) → i < length xs → x ≡ get_or xs i x → slice_get (map f xs) i ≡ Some (f x)
 mapped_at f [] i x h is = absurd (omega arith)
 mapped_at f (y ∷ xs) zero x h is = ap (λ z. Some (f z)) (sym is)
 mapped_at f (y ∷ xs) (suc i) x h is = mapped_at f xs i x (omega arith) is
 
-module _ {W R M N : Type 0} {stands : W → R → Bool} {term_of : W → R → Tree} {is_valid : W → M → Bool} {knows : W → N → Bool} {symbol_of : W → N → Symbol} (place : Coordinate → Option ℕ) (some_of : Tree → List Tree) where
-  -- one pattern of several, and the others after it, with the parts of a term or with its annotations
-  one_goes : {w w1 : W} {e f : Places R} {T U : List ℕ} {b : ℕ} (ps : List (LoadedPattern N)) (at : R) (i : ℕ) (p : LoadedPattern N) (t : Tree) → AllKnown (knows w) ps → Keeps stands term_of is_valid knows symbol_of w w1 → IsTrue (stands w at) →
-      i < length ps → p ≡ get_or ps i p → slice_get (some_of (term_of w1 at)) i ≡ Some t →
-      Goes stands term_of b (first_attempted place b (map (loaded_of (symbol_of w)) ps) (some_of (term_of w at))) (first_attempted place b (drop i (map (loaded_of (symbol_of w)) ps)) (drop i (some_of (term_of w at)))) w e T w1 f U →
-      Goes stands term_of b (first_attempted place b (map (loaded_of (symbol_of w)) ps) (some_of (term_of w at)))
-      (λ g V. and_go (attempted place b (loaded_of (symbol_of w1) p) t g V) (λ g1 V1. first_attempted place b (drop (suc i) (map (loaded_of (symbol_of w)) ps)) (drop (suc i) (some_of (term_of w at))) g1 V1)) w e T w1 f U
-  one_goes {w} {w1} {b = b} ps at i p t known keeps here_at within is part x =
+module _ {W R M N : Type 0} {stands : W → R → Bool} {term_of : W → R → Tree} {is_valid : W → M → Bool} {knows : W → N → Bool} {symbol_of : W → N → Symbol} where
+  -- a part of a term, or an annotation, is that of the term as it was
+  pub part_was : {w w1 : W} {t : Tree} (some_of : Tree → List Tree) (at : R) (i : ℕ) → Keeps stands term_of is_valid knows symbol_of w w1 → IsTrue (stands w at) → slice_get (some_of (term_of w1 at)) i ≡ Some t → slice_get (some_of (term_of w at)) i ≡ Some t
+  part_was some_of at i keeps here_at part = ap (λ u. slice_get (some_of u) i) (sym (keeps.terms at here_at)) ∙ part
+
+  -- a reference of several stands, and its term is as it was
+  pub ref_stands : {w w1 : W} (rs : List R) (i : ℕ) (r : R) → Keeps stands term_of is_valid knows symbol_of w w1 → AllRefs (λ u. IsTrue (stands w u)) rs → i < length rs → r ≡ get_or rs i r → IsTrue (stands w1 r)
+  ref_stands {w} rs i r keeps all within is = keeps.standing r (ref_at (λ u. IsTrue (stands w u)) rs i r all within is)
+
+  pub ref_was : {w w1 : W} (rs : List R) (i : ℕ) (r : R) → Keeps stands term_of is_valid knows symbol_of w w1 → AllRefs (λ u. IsTrue (stands w u)) rs → i < length rs → r ≡ get_or rs i r → slice_get (map (term_of w) rs) i ≡ Some (term_of w1 r)
+  ref_was {w} rs i r keeps all within is = mapped_at (term_of w) rs i r within is ∙ ap (λ t. Some t) (sym (keeps.terms r (ref_at (λ u. IsTrue (stands w u)) rs i r all within is)))
+
+module _ {W R M N : Type 0} {stands : W → R → Bool} {term_of : W → R → Tree} {is_valid : W → M → Bool} {knows : W → N → Bool} {symbol_of : W → N → Symbol} (place : Coordinate → Option ℕ) where
+  -- one pattern of several, and the others after it, with several terms
+  one_goes : {w w1 : W} {e f : Places R} {T U : List ℕ} {b : ℕ} (ps : List (LoadedPattern N)) (ts : List Tree) (i : ℕ) (p : LoadedPattern N) (t : Tree) → AllKnown (knows w) ps → Keeps stands term_of is_valid knows symbol_of w w1 →
+      i < length ps → p ≡ get_or ps i p → slice_get ts i ≡ Some t →
+      Goes stands term_of b (first_attempted place b (map (loaded_of (symbol_of w)) ps) ts) (first_attempted place b (drop i (map (loaded_of (symbol_of w)) ps)) (drop i ts)) w e T w1 f U →
+      Goes stands term_of b (first_attempted place b (map (loaded_of (symbol_of w)) ps) ts)
+      (λ g V. and_go (attempted place b (loaded_of (symbol_of w1) p) t g V) (λ g1 V1. first_attempted place b (drop (suc i) (map (loaded_of (symbol_of w)) ps)) (drop (suc i) ts) g1 V1)) w e T w1 f U
+  one_goes {w} {w1} {b = b} ps ts i p t known keeps within is part x =
       let pattern = mapped_at (loaded_of (symbol_of w)) ps i p within is ∙ ap (λ q. Some q) (sym (loaded_same (knows w) (symbol_of w) (symbol_of w1) keeps.symbols p (known_at (knows w) ps i p known within is))) in
-      let own = ap (λ u. slice_get (some_of u) i) (sym (keeps.terms at here_at)) ∙ part in
-      goes_as (λ g V. refl) (λ g V. first_step place b (map (loaded_of (symbol_of w)) ps) (some_of (term_of w at)) i (loaded_of (symbol_of w1) p) t g V pattern own) x
+      goes_as (λ g V. refl) (λ g V. first_step place b (map (loaded_of (symbol_of w)) ps) ts i (loaded_of (symbol_of w1) p) t g V pattern part) x
 
-  pub match_next : {w w1 w2 : W} {e f g : Places R} {T U V : List ℕ} {b : ℕ} (ps : List (LoadedPattern N)) (at : R) (i : ℕ) (p : LoadedPattern N) (t : Tree) (test : Bool) (d : ℕ) → AllKnown (knows w) ps → Keeps stands term_of is_valid knows symbol_of w w1 → IsTrue (stands w at) →
-      i < length ps → p ≡ get_or ps i p → slice_get (some_of (term_of w1 at)) i ≡ Some t →
-      Goes stands term_of b (first_attempted place b (map (loaded_of (symbol_of w)) ps) (some_of (term_of w at))) (first_attempted place b (drop i (map (loaded_of (symbol_of w)) ps)) (drop i (some_of (term_of w at)))) w e T w1 f U →
+  pub match_next : {w w1 w2 : W} {e f g : Places R} {T U V : List ℕ} {b : ℕ} (ps : List (LoadedPattern N)) (ts : List Tree) (i : ℕ) (p : LoadedPattern N) (t : Tree) (test : Bool) (d : ℕ) → AllKnown (knows w) ps → Keeps stands term_of is_valid knows symbol_of w w1 →
+      i < length ps → p ≡ get_or ps i p → slice_get ts i ≡ Some t →
+      Goes stands term_of b (first_attempted place b (map (loaded_of (symbol_of w)) ps) ts) (first_attempted place b (drop i (map (loaded_of (symbol_of w)) ps)) (drop i ts)) w e T w1 f U →
       Keeps stands term_of is_valid knows symbol_of w1 w2 → d ≡ b → test ≡ true → Goes stands term_of d (attempted place d (loaded_of (symbol_of w1) p) t) (attempt test) w1 f U w2 g V →
-      Goes stands term_of b (first_attempted place b (map (loaded_of (symbol_of w)) ps) (some_of (term_of w at))) (first_attempted place b (drop (i + 1) (map (loaded_of (symbol_of w)) ps)) (drop (i + 1) (some_of (term_of w at)))) w e T w2 g V
-  match_next {w} {w1} {w2} {f = f} {g = g} {U = U} {V = V} {b = b} ps at i p t test d known keeps here_at within is part x later same_barrier so y =
+      Goes stands term_of b (first_attempted place b (map (loaded_of (symbol_of w)) ps) ts) (first_attempted place b (drop (i + 1) (map (loaded_of (symbol_of w)) ps)) (drop (i + 1) ts)) w e T w2 g V
+  match_next {w} {w1} {w2} {f = f} {g = g} {U = U} {V = V} {b = b} ps ts i p t test d known keeps within is part x later same_barrier so y =
       let own = subst (λ d. Goes stands term_of d (attempted place d (loaded_of (symbol_of w1) p) t) (attempt test) w1 f U w2 g V) same_barrier y in
-      rw add-one (goes_then (one_goes ps at i p t known keeps here_at within is part x) later.standing (goes_and (λ g1 V1. first_attempted place b (drop (suc i) (map (loaded_of (symbol_of w)) ps)) (drop (suc i) (some_of (term_of w at))) g1 V1) test so own))
+      rw add-one (goes_then (one_goes ps ts i p t known keeps within is part x) later.standing (goes_and (λ g1 V1. first_attempted place b (drop (suc i) (map (loaded_of (symbol_of w)) ps)) (drop (suc i) ts) g1 V1) test so own))
 
-  pub match_stops : {w w1 w2 : W} {e f g : Places R} {T U V : List ℕ} {b : ℕ} (ps : List (LoadedPattern N)) (at : R) (i : ℕ) (p : LoadedPattern N) (t : Tree) (test : Bool) (d : ℕ) → AllKnown (knows w) ps → Keeps stands term_of is_valid knows symbol_of w w1 → IsTrue (stands w at) →
-      i < length ps → p ≡ get_or ps i p → slice_get (some_of (term_of w1 at)) i ≡ Some t →
-      Goes stands term_of b (first_attempted place b (map (loaded_of (symbol_of w)) ps) (some_of (term_of w at))) (first_attempted place b (drop i (map (loaded_of (symbol_of w)) ps)) (drop i (some_of (term_of w at)))) w e T w1 f U →
+  pub match_stops : {w w1 w2 : W} {e f g : Places R} {T U V : List ℕ} {b : ℕ} (ps : List (LoadedPattern N)) (ts : List Tree) (i : ℕ) (p : LoadedPattern N) (t : Tree) (test : Bool) (d : ℕ) → AllKnown (knows w) ps → Keeps stands term_of is_valid knows symbol_of w w1 →
+      i < length ps → p ≡ get_or ps i p → slice_get ts i ≡ Some t →
+      Goes stands term_of b (first_attempted place b (map (loaded_of (symbol_of w)) ps) ts) (first_attempted place b (drop i (map (loaded_of (symbol_of w)) ps)) (drop i ts)) w e T w1 f U →
       Keeps stands term_of is_valid knows symbol_of w1 w2 → d ≡ b → test ≡ false → Goes stands term_of d (attempted place d (loaded_of (symbol_of w1) p) t) (attempt test) w1 f U w2 g V →
-      Goes stands term_of b (first_attempted place b (map (loaded_of (symbol_of w)) ps) (some_of (term_of w at))) (attempt false) w e T w2 g V
-  match_stops {w} {w1} {w2} {f = f} {g = g} {U = U} {V = V} {b = b} ps at i p t test d known keeps here_at within is part x later same_barrier so y =
+      Goes stands term_of b (first_attempted place b (map (loaded_of (symbol_of w)) ps) ts) (attempt false) w e T w2 g V
+  match_stops {w} {w1} {w2} {f = f} {g = g} {U = U} {V = V} {b = b} ps ts i p t test d known keeps within is part x later same_barrier so y =
       let own = subst (λ d. Goes stands term_of d (attempted place d (loaded_of (symbol_of w1) p) t) (attempt test) w1 f U w2 g V) same_barrier y in
-      goes_then (one_goes ps at i p t known keeps here_at within is part x) later.standing (goes_not (λ g1 V1. first_attempted place b (drop (suc i) (map (loaded_of (symbol_of w)) ps)) (drop (suc i) (some_of (term_of w at))) g1 V1) test so own)
+      goes_then (one_goes ps ts i p t known keeps within is part x) later.standing (goes_not (λ g1 V1. first_attempted place b (drop (suc i) (map (loaded_of (symbol_of w)) ps)) (drop (suc i) ts) g1 V1) test so own)
+
+-- several patterns with references that were pushed
+module _ {W R : Type 0} {stands : W → R → Bool} {term_of : W → R → Tree} {w : W} {ts : List Tree} {old new rs : List R} (pushed : Pushes stands term_of w ts old new) (none : old ≡ []) (same : rs ≡ new) where
+  pushed_is : rs ≡ pushed.pushed
+  pushed_is = same ∙ (pushed.after ∙ ap (λ us. us ++ pushed.pushed) none)
+
+  pushed_are : map (term_of w) rs ≡ ts
+  pushed_are = ap (λ us. map (term_of w) us) pushed_is ∙ pushed.are
+
+  pub pushed_stand : AllRefs (λ r. IsTrue (stands w r)) rs
+  pushed_stand = subst (λ us. AllRefs (λ r. IsTrue (stands w r)) us) (sym pushed_is) (refs_of_all (λ r. IsTrue (stands w r)) pushed.pushed pushed.standing)
+
+  pub as_many_pushed : length rs ≡ length ts
+  as_many_pushed = sym (length-map rs (term_of w)) ∙ ap length pushed_are
+
+  pub pushed_goes : {w1 : W} {e f : Places R} {T U : List ℕ} {b : ℕ} (place : Coordinate → Option ℕ) (ps : List (Pattern Coordinate)) (test : Bool) → Goes stands term_of b (first_attempted place b ps (map (term_of w) rs)) (attempt test) w e T w1 f U →
+      Goes stands term_of b (first_attempted place b ps ts) (attempt test) w e T w1 f U
+  pushed_goes {w1} {e} {f} {T} {U} {b} place ps test x = subst (λ us. Goes stands term_of b (first_attempted place b ps us) (attempt test) w e T w1 f U) pushed_are x
 
 -- patterns whose matches make no term
 pub applied_leaves : (p : Pattern Coordinate) (s : Symbol) (ps : List (Pattern Coordinate)) → p ≡ applied s (patterns_in ps) → LeavesSpace p → AllLeaveSpace (patterns_in ps)

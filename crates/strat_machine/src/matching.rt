@@ -9,7 +9,7 @@ ghost use Rattle.term_model.specs.Space.{Keeps};
 ghost use Rattle.strat_machine.specs.Binding.{attempt, attempted, bind};
 ghost use Rattle.strat_machine.specs.Loaded.{Known, AllKnown, RestKnown, all_loaded_of, loaded_of, rest_loaded_of};
 ghost use Rattle.strat_machine.specs.Matches.{Goes, LeavesSpace, AllLeaveSpace, first_attempted, rest_attempted, sees_annotations};
-ghost use Rattle.strat_machine.specs.References.{AllPlaces};
+ghost use Rattle.strat_machine.specs.References.{AllPlaces, AllRefs};
 ghost use Rattle.strat_machine.specs.State.{place_at};
 
 use crate::annotations::{anno, anno_count, bare};
@@ -19,6 +19,9 @@ use crate::places::Places;
 use core_lang::Coordinate;
 use std::alloc::{AllocError, Global};
 use term_model::TermSpace;
+
+// So few parts are asked for one by one, and the space walks to each; more are put on a vector first.
+const FEW: usize = 8;
 
 /// Whether the pattern matches the term; each of its variables that had no term is then given one. Where it does not,
 /// some of them may be. A pattern with neither tails nor braces leaves the space as it is.
@@ -139,6 +142,12 @@ fn match_annos<S: TermSpace>(
     ensures barrier { IfOk result (λ _. places.new.barrier ≡ places.old.barrier) }
     ensures attempt { IfOk result (λ yes. Goes S.stands S.term_of places.old.barrier (first_attempted (place_at frames.now here) places.old.barrier (map (loaded_of (S.symbol_of space.old)) patterns.now) (annos_of (S.term_of space.old at.now))) (attempt yes) space.old places.old.slots places.old.trail space.new places.new.slots places.new.trail) }
 {
+    if is_walk_longer(patterns.len(), patterns.len()) {
+        let mut annos = Vec::new(alloc);
+        space.push_annos(at, &mut annos)?;
+        let yes = match_each(space, alloc, frames, here, patterns, &annos, places)?;
+        return Ok(yes);
+    }
     for (i, pattern) in patterns.iter().enumerate() {
         let anno = anno(space, at, i)?;
         if !match_part(space, alloc, frames, here, pattern, &anno, places)? {
@@ -186,12 +195,63 @@ fn match_first<S: TermSpace>(
     ensures enough { IfOk result (λ yes. yes ≡ true → length patterns.now ≤ length (parts_of (S.term_of space.old at.now))) }
     ensures attempt { IfOk result (λ yes. Goes S.stands S.term_of places.old.barrier (first_attempted (place_at frames.now here) places.old.barrier (map (loaded_of (S.symbol_of space.old)) patterns.now) (parts_of (S.term_of space.old at.now))) (attempt yes) space.old places.old.slots places.old.trail space.new places.new.slots places.new.trail) }
 {
+    if is_walk_longer(patterns.len(), count) {
+        let mut parts = Vec::new(alloc);
+        space.push_parts(at, &mut parts)?;
+        let yes = match_each(space, alloc, frames, here, patterns, &parts, places)?;
+        return Ok(yes);
+    }
     for (i, pattern) in patterns.iter().enumerate() {
         if i >= count {
             return Ok(false);
         }
         let part = space.part(at, i)?;
         if !match_part(space, alloc, frames, here, pattern, &part, places)? {
+            return Ok(false);
+        }
+    }
+    Ok(true)
+}
+
+// Whether walks to each of the first `asked` parts, of which there are `count`, are longer in all than one walk along all parts. A walk
+// to a part takes up to a third of its index in steps.
+fn is_walk_longer(asked: usize, count: usize) -> bool {
+    asked > FEW && count / asked <= asked / FEW
+}
+
+// Whether there are at least as many terms, and each pattern matches its own.
+#[cycle(matching)]
+fn match_each<S: TermSpace>(
+    space: &mut S,
+    alloc: Global,
+    frames: &Frames,
+    here: usize,
+    patterns: &[LoadedPattern<S::Name>],
+    terms: &[S::Ref],
+    places: &mut Places<S::Ref>,
+) -> Result<bool, AllocError>
+    requires known { AllKnown (S.knows space.old) patterns.now }
+    requires stand { AllRefs (λ r. IsTrue (S.stands space.old r)) terms.now }
+    requires places { AllPlaces (λ r. IsTrue (S.stands space.old r)) places.old.slots }
+    ensures keeps { Keeps S.stands S.term_of S.is_valid S.knows S.symbol_of space.old space.new }
+    ensures unchanged { AllLeaveSpace (all_loaded_of (S.symbol_of space.old) patterns.now) →
+        space.new ≡ space.old }
+    ensures barrier { IfOk result (λ _. places.new.barrier ≡ places.old.barrier) }
+    ensures enough { IfOk result (λ yes. yes ≡ true → length patterns.now ≤ length terms.now) }
+    ensures attempt { IfOk result (λ yes.
+        Goes S.stands S.term_of places.old.barrier
+        (first_attempted (place_at frames.now here) places.old.barrier
+        (map (loaded_of (S.symbol_of space.old)) patterns.now)
+        (map (S.term_of space.old) terms.now)) (attempt yes) space.old places.old.slots
+        places.old.trail space.new places.new.slots places.new.trail) }
+{
+    let count = terms.len();
+    for (i, pattern) in patterns.iter().enumerate() {
+        if i >= count {
+            return Ok(false);
+        }
+        let term = &terms[i];
+        if !match_part(space, alloc, frames, here, pattern, term, places)? {
             return Ok(false);
         }
     }

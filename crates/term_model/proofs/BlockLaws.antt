@@ -5,7 +5,9 @@ use Rattle.std.proofs.lemmas.List.{take-append-drop, length-take-le}
 use Rattle.term_model.specs.declared.parts.Block.{Block}
 use Rattle.std.specs.Borrow.{Bor}
 use Rattle.std.specs.Prelude.{slice_get, Option, Some, None}
-use Rattle.term_model.specs.Blocks.{front_list, list_in, lists_from, lists_of, AreLinked, IsAt}
+use Rattle.term_model.specs.declared.parts.Front.{Front}
+use Rattle.term_model.specs.declared.parts.Front.TheVariants as fronts
+use Rattle.term_model.specs.Blocks.{front_list, list_in, lists_from, lists_of, lent, to_come, AreLinked, IsAt}
 
 module _ {R : Type 0} where
   lists_from-append : (before : List (List R)) (xs ys : List (Block R)) → lists_from before (xs ++ ys) ≡ lists_from (lists_from before xs) ys
@@ -102,4 +104,44 @@ module _ {R : Type 0} where
   pub zero_numbered : (blocks : List (Block R)) (n : ℕ) → n ≡ 0 → get_or (lists_of blocks) n [] ≡ []
   zero_numbered blocks n e = rw e (list_zero blocks)
 
+  -- at the beginning all are to come
+  pub all_to_come : (values : List R) (o : Option (Bor (Block R))) (blocks : List (Block R)) → to_come values o 0 blocks ≡ lent values o blocks
+  all_to_come values None blocks = refl
+  all_to_come values (Some b) blocks = refl
+
+  -- what is at an index comes first from there on
+  comes_next : (xs : List R) (i : ℕ) (x : R) → slice_get xs i ≡ Some x → drop i xs ≡ x ∷ drop (suc i) xs
+  comes_next [] i x e = absurd (cc)
+  comes_next (y ∷ xs) zero x e = cc
+  comes_next (y ∷ xs) (suc i) x e = comes_next xs i x e
+
+  pub comes_first : (f : Front R) (others : List R) (i : ℕ) (x : R) → slice_get (front_list f) i ≡ Some x → drop i (front_list f) ++ others ≡ x ∷ (drop (i + 1) (front_list f) ++ others)
+  comes_first f others i x e =
+      let one : i + 1 ≡ suc i = omega arith in
+      ap (λ xs. xs ++ others) (comes_next (front_list f) i x e ∙ ap (λ n. x ∷ drop n (front_list f)) (sym one))
+
+  -- there are at most three first values
+  pub few_first : (f : Front R) → length (front_list f) ≤ 3
+  few_first fronts.Zero = omega arith
+  few_first (fronts.One a) = omega arith
+  few_first (fronts.Two a b) = omega arith
+  few_first (fronts.Three a b c) = omega arith
+
+  pub within : (xs : List R) (i : ℕ) (x : R) → slice_get xs i ≡ Some x → i < length xs
+  within [] i x e = absurd (cc)
+  within (y ∷ xs) zero x e = omega arith
+  within (y ∷ xs) (suc i) x e = let h = within xs i x e in omega arith
+
+  drop_all : (xs : List R) (i : ℕ) → length xs ≤ i → drop i xs ≡ []
+  drop_all [] zero h = refl
+  drop_all [] (suc i) h = refl
+  drop_all (x ∷ xs) zero h = absurd (omega arith)
+  drop_all (x ∷ xs) (suc i) h = drop_all xs i (omega arith)
+
+  -- where all the first values have come, the rest is to come
+  pub rest_to_come : (f : Front R) (others : List R) (i : ℕ) → length (front_list f) ≤ i → drop i (front_list f) ++ others ≡ others
+  rest_to_come f others i h = ap (λ xs. xs ++ others) (drop_all (front_list f) i h)
+
   pub ruleset numbering = (numbered_is, none_numbered, zero_numbered)
+
+  pub ruleset walks = (all_to_come, comes_first, few_first, within, rest_to_come)

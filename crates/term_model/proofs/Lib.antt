@@ -8,3 +8,4 @@ pub mod Items
 pub mod PrimNameLaws
 pub mod SpaceLemmas
 pub mod BlockLaws
+pub mod DepthLaws

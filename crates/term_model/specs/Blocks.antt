@@ -1,5 +1,5 @@
 -- What blocks are seen as: a block is at most three values before a list that is kept under a number.
-use Rattle.std.specs.Prelude.{◌≡◌, ◌<◌, ◌≤◌, ℕ, List, [], ◌∷◌, ◌++◌, length, slice_get, slice_index_or, Option, Some, None}
+use Rattle.std.specs.Prelude.{◌≡◌, ◌<◌, ◌≤◌, ℕ, List, [], ◌∷◌, ◌++◌, drop, length, slice_get, slice_index_or, Option, Some, None}
 use Rattle.std.specs.Borrow.{Bor}
 use Rattle.term_model.specs.declared.parts.Front.{Front}
 use Rattle.term_model.specs.declared.parts.Front.TheVariants as fronts
@@ -33,6 +33,11 @@ abbrev pub lent : {R : Type 0} → List R → Option (Bor (Block R)) → List (B
 lent values None blocks = values
 lent values (Some b) blocks = list_in (lists_of blocks) b.now
 
+-- what comes from an index of the first values of a block on, or these values where there is no block
+abbrev pub to_come : {R : Type 0} → List R → Option (Bor (Block R)) → ℕ → List (Block R) → List R
+to_come values None i blocks = values
+to_come values (Some b) i blocks = drop i (front_list b.now.front) ++ slice_index_or (lists_of blocks) b.now.rest []
+
 -- what is at an index, or that the list is not so long
 abbrev pub IsAt : {R : Type 0} → Option (Bor R) → List R → ℕ → Type 0
 IsAt None xs i = length xs ≤ i
@@ -42,3 +47,8 @@ IsAt (Some r) xs i = slice_get xs i ≡ Some r.now
 abbrev pub IsNumbered : {R : Type 0} → Option (Bor (Block R)) → List (Block R) → ℕ → Type 0
 IsNumbered None blocks n = slice_index_or (lists_of blocks) n [] ≡ []
 IsNumbered (Some b) blocks n = (slice_index_or (lists_of blocks) n [] ≡ list_in (lists_of blocks) b.now) × (b.now.rest < n)
+
+-- the block with some first values that the list of a number begins with, or that the list is empty
+abbrev pub BeginsWith : {R : Type 0} → Option (Bor (Block R)) → List (Block R) → ℕ → Type 0
+BeginsWith None blocks n = slice_index_or (lists_of blocks) n [] ≡ []
+BeginsWith (Some b) blocks n = (slice_index_or (lists_of blocks) n [] ≡ list_in (lists_of blocks) b.now) × (0 < length (front_list b.now.front))

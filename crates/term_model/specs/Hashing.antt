@@ -1,22 +1,15 @@
 -- What symbols and heads feed to a hasher.
-use Rattle.std.specs.Prelude.{◌≡◌, ℕ, true, ◌++◌}
+use Rattle.std.specs.Prelude.{◌≡◌, true, [], ◌∷◌, ◌++◌}
 use Rattle.std.specs.Hash as fed
 use Rattle.std.proofs.Common.{ap}
-use Rattle.term_model.specs.declared.symbol.Kind.{Kind}
-use Rattle.term_model.specs.declared.symbol.Kind.TheVariants as kinds
 use Rattle.term_model.specs.declared.term.Head.{Head}
 use Rattle.term_model.specs.declared.term.Head.TheVariants as heads
 use Rattle.term_model.specs.Same.{same_symbol, same_symbol-true, same_head, same_head-true}
-use Rattle.term_model.specs.Symbol.{Symbol, kind_of, bytes_of}
+use Rattle.term_model.specs.Symbol.{Symbol, bytes_of}
 
-abbrev pub kind_number : Kind → ℕ
-kind_number kinds.Plain = 0
-kind_number kinds.Quoted = 1
-kind_number kinds.Tuple = 2
-
--- the kind and the bytes
+-- the bytes alone, in one write: symbols of two kinds seldom have the same bytes
 abbrev pub symbol_writes : Symbol → fed.HashWrites
-symbol_writes s = fed.u8 (kind_number (kind_of s)) ++ fed.slice fed.u8 (bytes_of s)
+symbol_writes s = bytes_of s ∷ []
 
 -- the variant, and what it holds
 abbrev pub head_writes : Head → fed.HashWrites

@@ -1,5 +1,5 @@
 -- Symbols: a plain name, quoted bytes, or the empty symbol of tuples.
-use Rattle.std.specs.Prelude.{ℕ, Bool, false, ◌||◌, ◌&&◌, ◌==◌, List, [], ◌∷◌, IsTrue}
+use Rattle.std.specs.Prelude.{◌≡◌, ℕ, Bool, true, false, ◌||◌, ◌&&◌, ◌==◌, List, [], ◌∷◌, IsTrue}
 use Rattle.std.specs.List.{list_all}
 use Rattle.term_model.specs.Bytes.{is_byte, is_between, is_digit}
 use Rattle.term_model.specs.declared.symbol.Kind.{Kind}
@@ -41,3 +41,15 @@ abbrev pub IsSymbol : Symbol → Type 0
 IsSymbol (Plain bs) = IsTrue (is_name bs)
 IsSymbol (Quoted bs) = IsTrue (list_all is_byte bs)
 IsSymbol Tuple = Unit {0}
+
+-- the symbol of this kind and these bytes
+abbrev pub symbol_spelled : Kind → List ℕ → Symbol
+symbol_spelled kinds.Plain bs = Plain bs
+symbol_spelled kinds.Quoted bs = Quoted bs
+symbol_spelled kinds.Tuple bs = Tuple
+
+-- some symbol has this kind and these bytes: a plain one has a name, the symbol of tuples has no bytes
+abbrev pub IsSpelling : Kind → List ℕ → Type 0
+IsSpelling kinds.Plain bs = is_name bs ≡ true
+IsSpelling kinds.Quoted bs = Unit {0}
+IsSpelling kinds.Tuple bs = bs ≡ []

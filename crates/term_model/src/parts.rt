@@ -1,9 +1,9 @@
 //! A term as it is lent: its head, its parts and its annotations.
-ghost use Rattle.std.specs.Prelude.{◌≡◌, ◌≤◌, length};
+ghost use Rattle.std.specs.Prelude.{◌≡◌, ◌≤◌, ◌<◌, ◌↔◌, ◌∷◌, [], length, IsTrue, MatchOption};
 ghost use Rattle.std.specs.Hash as fed;
 ghost use Rattle.std.proofs.Common.{rules};
 ghost use Rattle.std.specs.Cmp.Rules.{comparing, hashing};
-ghost use Rattle.term_model.specs.Blocks.{front_list, list_in, lists_of, AreLinked, IsAt, IsNumbered};
+ghost use Rattle.term_model.specs.Blocks.{front_list, list_in, lists_of, AreLinked, BeginsWith, IsAt, IsNumbered};
 
 use crate::symbol::Sym;
 use std::hash::{Hash, Hasher};
@@ -156,6 +156,29 @@ impl<'a, R> Parts<'a, R> {
         }
     }
 
+    /// Whether there are none.
+    pub fn is_empty(&self) -> bool
+        ensures { IsTrue result ↔ (self.now ≡ []) }
+    {
+        match self.block {
+            None => self.slice.is_empty(),
+            Some(block) => block.front.len() == 0 && len_in(block, self.blocks) == 0,
+        }
+    }
+
+    /// The references in order, one at a time.
+    #[tactic(auto, using(crate::proofs::BlockLaws::walks))]
+    pub fn walk(&self) -> Walk<'a, R>
+        ensures { result ≡ self.now }
+    {
+        Walk {
+            slice: self.slice,
+            block: self.block,
+            index: 0,
+            blocks: self.blocks,
+        }
+    }
+
     /// The reference at an index: at once in a slice, and along the blocks before it otherwise.
     pub fn get(&self, index: usize) -> Option<&'a R>
         ensures { IsAt result self.now index }
@@ -165,6 +188,70 @@ impl<'a, R> Parts<'a, R> {
             Some(block) => get_in(block, self.blocks, index),
         }
     }
+}
+
+/// The references that are still to come, of those that were lent.
+#[derive(Drop)]
+pub struct Walk<'a, R> {
+    slice: &'a [R],
+    block: Option<&'a Block<R>>,
+    // How many of the block's first values have come.
+    index: usize,
+    blocks: &'a [Block<R>],
+}
+
+impl<'a, R> Model for Walk<'a, R> {
+    ghost use Rattle.std.specs.Prelude.{List};
+    ghost use Rattle.term_model.specs.Blocks.{to_come, AreLinked};
+
+    ghost Value = { List R };
+
+    ghost view = { λ w. to_come w.slice.now w.block w.index w.blocks.now };
+
+    ghost invariant = { λ w. AreLinked w.blocks.now };
+}
+
+impl<'a, R> Iterator for Walk<'a, R> {
+    ghost use Rattle.std.specs.Iterator.{YieldsFirstRef, item_count};
+
+    type Item = &'a R;
+
+    ghost next_gives = { YieldsFirstRef (λ w. w) };
+
+    ghost remaining = { item_count (λ w. w) };
+
+    /// The next reference; `None` where all have come.
+    #[tactic(auto, using(crate::proofs::BlockLaws::walks))]
+    fn next(&mut self) -> Option<&'a R> {
+        let Some(block) = self.block else {
+            let (first, others) = self.slice.split_first()?;
+            self.slice = others;
+            return Some(first);
+        };
+        if let Some(at) = block.front.get(self.index) {
+            self.index += 1;
+            return Some(at);
+        }
+        let after = first_of(self.blocks, block.rest)?;
+        self.block = Some(after);
+        self.index = 1;
+        after.front.get(0)
+    }
+}
+
+// The block that the list of this number begins with.
+fn first_of<R>(blocks: &[Block<R>], number: u32) -> Option<&Block<R>>
+    requires { AreLinked blocks.now }
+    ensures { BeginsWith result blocks.now number }
+{
+    let mut rest = number;
+    while let Some(next) = numbered(blocks, rest) {
+        if next.front.len() > 0 {
+            return Some(next);
+        }
+        rest = next.rest;
+    }
+    None
 }
 
 // The block whose list has this number.

@@ -8,7 +8,7 @@ ghost use Rattle.term_model.specs.Symbol.{bytes_of};
 use crate::made::Made;
 use crate::parts::{Parts, Shape, Top};
 use crate::space::TermSpace;
-use crate::symbol::Sym;
+use crate::symbol::{Kind, Sym};
 use crate::term::{Head, Term};
 use std::alloc::{AllocError, Global};
 
@@ -47,8 +47,8 @@ impl TermSpace for RcSpace {
     fn shape<'a>(&'a self, at: &'a Term) -> Shape<'a, Term> {
         Shape {
             head: self.head(at),
-            parts: Parts::of_slice(at.children()),
-            annos: Parts::of_slice(at.annos()),
+            parts: self.parts(at),
+            annos: self.annos(at),
         }
     }
 
@@ -58,6 +58,14 @@ impl TermSpace for RcSpace {
             Head::App(symbol) => Top::App(symbol),
             Head::List => Top::List,
         }
+    }
+
+    fn parts<'a>(&'a self, at: &'a Term) -> Parts<'a, Term> {
+        Parts::of_slice(at.children())
+    }
+
+    fn annos<'a>(&'a self, at: &'a Term) -> Parts<'a, Term> {
+        Parts::of_slice(at.annos())
     }
 
     fn same(&self, one: &Term, other: &Term) -> bool {
@@ -121,6 +129,10 @@ impl TermSpace for RcSpace {
     fn name(&mut self, alloc: Global, symbol: &Sym) -> Result<Sym, AllocError> {
         let _ = alloc;
         symbol.clone()
+    }
+
+    fn name_spelled(&mut self, alloc: Global, kind: Kind, bytes: &[u8]) -> Result<Sym, AllocError> {
+        Sym::of_spelling(alloc, kind, bytes)
     }
 
     fn int(&mut self, alloc: Global, value: i64) -> Result<Term, AllocError> {

@@ -1,14 +1,14 @@
 //! Spaces: where the terms of a run are kept, each under a reference.
 ghost use Rattle.std.specs.Prelude.{◌≡◌, ◌↔◌, ◌<◌, ◌≤◌, Bool, ℕ, All, map, drop, ◌++◌, length, IfOk, IsTrue, MatchOption, [], slice_get, Some, OnOk, OnErr};
-ghost use Rattle.term_model.specs.Symbol.{Symbol};
+ghost use Rattle.term_model.specs.Symbol.{Symbol, symbol_spelled, IsSpelling};
 ghost use Rattle.term_model.specs.Term.{Tree, term, head_of, parts_of, annos_of, Fits};
 ghost use Rattle.term_model.specs.declared.term.Head.TheVariants as heads;
 ghost use Rattle.term_model.specs.declared.made.Made.TheVariants as made;
 ghost use Rattle.term_model.specs.Space.{Keeps, MakesNone, GoesBack, IsMarkOf, Makes, Pushes, IsApplied, IsList, MayHave, IsTop};
 
 use crate::made::Made;
-use crate::parts::{Shape, Top};
-use crate::symbol::Sym;
+use crate::parts::{Parts, Shape, Top};
+use crate::symbol::{Kind, Sym};
 use crate::term::{Head, Term};
 use std::alloc::{AllocError, Global};
 
@@ -70,6 +70,18 @@ pub trait TermSpace {
     fn head<'a>(&'a self, at: &'a Self::Ref) -> Top<'a>
         requires { IsTrue (stands self.now at.now) }
         ensures { IsTop result (head_of (term_of self.now at.now)) };
+
+    /// The term's parts, lent.
+    fn parts<'a>(&'a self, at: &'a Self::Ref) -> Parts<'a, Self::Ref>
+        requires { IsTrue (stands self.now at.now) }
+        ensures stand { All (λ r. IsTrue (stands self.now r)) result }
+        ensures parts { map (term_of self.now) result ≡ parts_of (term_of self.now at.now) };
+
+    /// The term's annotations, lent.
+    fn annos<'a>(&'a self, at: &'a Self::Ref) -> Parts<'a, Self::Ref>
+        requires { IsTrue (stands self.now at.now) }
+        ensures stand { All (λ r. IsTrue (stands self.now r)) result }
+        ensures annos { map (term_of self.now) result ≡ annos_of (term_of self.now at.now) };
 
     /// Whether two references have the same term.
     fn same(&self, one: &Self::Ref, other: &Self::Ref) -> bool
@@ -140,6 +152,20 @@ pub trait TermSpace {
         ensures keeps { Keeps stands term_of is_valid knows symbol_of self.old self.new }
         ensures known { IfOk result (λ n. IsTrue (knows self.new n)) }
         ensures symbol { IfOk result (λ n. symbol_of self.new n ≡ symbol.now) }
+        ensures none { MakesNone stands is_valid self.old self.new };
+
+    /// The name of the symbol of this kind and these bytes: a plain name, a quoted text without escapes, or, with no
+    /// bytes, the symbol of tuples. It is known for as long as the space is there. No term is made, as for `name`.
+    fn name_spelled(
+        &mut self,
+        alloc: Global,
+        kind: Kind,
+        bytes: &[u8],
+    ) -> Result<Self::Name, AllocError>
+        requires { IsSpelling kind bytes.now }
+        ensures keeps { Keeps stands term_of is_valid knows symbol_of self.old self.new }
+        ensures known { IfOk result (λ n. IsTrue (knows self.new n)) }
+        ensures symbol { IfOk result (λ n. symbol_of self.new n ≡ symbol_spelled kind bytes.now) }
         ensures none { MakesNone stands is_valid self.old self.new };
 
     /// The integer, with no annotations.

@@ -1,7 +1,7 @@
 // Symbols: plain names, quoted bytes, and the empty symbol of tuples.
 ghost use Rattle.std.specs.Prelude.{true, false, ◌≡◌, ◌↔◌, IsTrue, IfOk, MatchOption};
 ghost use Rattle.std.specs.List.{list_all};
-ghost use Rattle.term_model.specs.Symbol.{Plain, Quoted, Tuple, kind_of, bytes_of, is_name, begins_name, continues_name, IsSymbol};
+ghost use Rattle.term_model.specs.Symbol.{Plain, Quoted, Tuple, kind_of, bytes_of, is_name, begins_name, continues_name, symbol_spelled, IsSymbol, IsSpelling};
 
 use crate::short_text::ShortText;
 use std::alloc::{AllocError, Global};
@@ -134,6 +134,20 @@ impl Sym {
         }
     }
 
+    /// The symbol of this kind and these bytes: a plain name, a quoted text without escapes, or,
+    /// with no bytes, the symbol of tuples. Copies the bytes; `AllocError` where there is no memory
+    /// for them.
+    pub fn of_spelling(alloc: Global, kind: Kind, bytes: &[u8]) -> Result<Sym, AllocError>
+        requires { IsSpelling kind bytes.now }
+        ensures { IfOk result (λ s. s ≡ symbol_spelled kind bytes.now) }
+    {
+        match kind {
+            Kind::Plain => Sym::named(alloc, bytes),
+            Kind::Quoted => Sym::quoted(alloc, bytes),
+            Kind::Tuple => Ok(Sym::tuple()),
+        }
+    }
+
     /// Which kind of symbol it is.
     pub fn kind(&self) -> Kind
         ensures kind { result ≡ kind_of self.now }
@@ -195,7 +209,7 @@ impl Eq for Sym {
     ghost laws = { same_symbol_equiv };
 }
 
-// Hashes the kind and the bytes.
+// Hashes the bytes alone, in one write: symbols of two kinds seldom have the same bytes.
 impl Hash for Sym {
     ghost use Rattle.term_model.specs.Hashing.{symbol_writes, symbol_writes-same};
 
@@ -204,13 +218,7 @@ impl Hash for Sym {
     ghost respects_eq = { symbol_writes-same };
 
     fn hash<H: Hasher>(&self, state: &mut H) {
-        let kind: u8 = match self.kind() {
-            Kind::Plain => 0,
-            Kind::Quoted => 1,
-            Kind::Tuple => 2,
-        };
-        kind.hash(state);
-        self.bytes().hash(state);
+        state.write(self.bytes());
     }
 }
 

@@ -9,6 +9,7 @@ pub mod LawsOfSpace
 pub mod MadeShapes
 pub mod MakingLemmas
 pub mod SymbolLaws
+pub mod SpellingLaws
 pub mod WalkLaws
 pub mod EnteringLemmas
 pub mod LeavingLemmas

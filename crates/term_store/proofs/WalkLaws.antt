@@ -5,9 +5,10 @@ use Rattle.term_model.specs.Term.{Tree, weights, trees_of}
 use Rattle.term_model.specs.Limits.{max_weight}
 use Rattle.term_model.specs.Blocks.{front_list, list_in}
 use Rattle.term_model.specs.declared.parts.Block.{Block}
-use Rattle.term_store.specs.Chains.{IsBlockIn, IsBlockOf}
+use Rattle.term_model.specs.declared.parts.Front.TheVariants as fronts
+use Rattle.term_store.specs.Chains.{IsBlockIn, IsBlockOf, IsChainIn, IsWhole}
 use Rattle.term_store.specs.Space.{Stand, KeepsChains, AreHeavy, term_of}
-use Rattle.term_store.specs.Walks.{IsAfter, IsPushing, IsBuilding}
+use Rattle.term_store.specs.Walks.{IsAfter, IsPushing, IsBuilding, IsLinking}
 use Rattle.term_store.specs.declared.store.StoreSpace.{StoreSpace}
 use Rattle.term_store.proofs.PlainLemmas.{map_same}
 
@@ -64,6 +65,11 @@ weights-drop-append f [] ys (suc n) = omega arith
 weights-drop-append f (x ∷ xs) ys zero = omega arith
 weights-drop-append f (x ∷ xs) ys (suc n) = let h = weights-drop-append f xs ys n in omega (arith, h)
 
+weights-drop : (f : ℕ → Tree) (xs : List ℕ) (n : ℕ) → weights (trees_of (map f (drop n xs))) ≤ weights (trees_of (map f xs))
+weights-drop f xs zero = omega arith
+weights-drop f [] (suc n) = omega arith
+weights-drop f (x ∷ xs) (suc n) = let h = weights-drop f xs n in omega (arith, h)
+
 -- where the terms of a part are too heavy together, those of all are
 pub heavy_whole : (old new : StoreSpace) (places others : List ℕ) (b : Block ℕ) (n : ℕ) → IsBuilding old new places others b n → AreHeavy new (list_in new.chains b) → AreHeavy old (places ++ others)
 heavy_whole old new places others b n is heavy =
@@ -112,3 +118,71 @@ one_before old now new places others b longer end_ is some stand keeps made =
     one_stands : (x : ℕ) (xs : List ℕ) → x < length now.shapes.keys → Stand now xs → Stand now (x ∷ xs)
     one_stands x xs h hs zero d within = h
     one_stands x xs h hs (suc k) d within = hs k d (omega (arith, within))
+
+-- three places more than some blocks of three
+whole_more : (x y z : ℕ) (xs : List ℕ) → IsWhole xs → IsWhole (x ∷ y ∷ z ∷ xs)
+whole_more x y z xs is = let long = is.long in record { long = omega (arith, long) }
+
+three_stand : (s : StoreSpace) (x y z : ℕ) (xs : List ℕ) → x < length s.shapes.keys → y < length s.shapes.keys → z < length s.shapes.keys → Stand s xs → Stand s (x ∷ y ∷ z ∷ xs)
+three_stand s x y z xs hx hy hz hs zero d h = hx
+three_stand s x y z xs hx hy hz hs (suc zero) d h = hy
+three_stand s x y z xs hx hy hz hs (suc (suc zero)) d h = hz
+three_stand s x y z xs hx hy hz hs (suc (suc (suc k))) d h = hs k d (omega (arith, h))
+
+-- a chain that is built by three places at a time
+module _ (old now : StoreSpace) (places : List ℕ) (rest_ end_ : ℕ) (is : IsLinking old now places rest_ end_) (more : 3 < end_) (stand : Stand old places) where
+  abbrev front_place : ℕ
+  front_place = get_or places (end_ - 3) 0
+
+  abbrev middle_place : ℕ
+  middle_place = get_or places (end_ - 2) 0
+
+  abbrev last_place : ℕ
+  last_place = get_or places (end_ - 1) 0
+
+  abbrev pub three : Block ℕ
+  three = record { front = fronts.Three (get_or places (end_ - 3) 0) (get_or places (end_ - 2) 0) (get_or places (end_ - 1) 0); rest = rest_ }
+
+  three_more : drop (end_ - 3) places ≡ front_place ∷ middle_place ∷ last_place ∷ drop end_ places
+  three_more =
+      let within = is.within in
+      let one : suc (end_ - 1) ≡ end_ = omega arith in
+      let two : suc (end_ - 2) ≡ end_ - 1 = omega arith in
+      let three_ : suc (end_ - 3) ≡ end_ - 2 = omega arith in
+      let last : drop (end_ - 1) places ≡ last_place ∷ drop end_ places = subst (λ n. drop (end_ - 1) places ≡ last_place ∷ drop n places) one (drop-cons places (end_ - 1) 0 (omega (arith, within))) in
+      let middle : drop (end_ - 2) places ≡ middle_place ∷ drop (end_ - 1) places = subst (λ n. drop (end_ - 2) places ≡ middle_place ∷ drop n places) two (drop-cons places (end_ - 2) 0 (omega (arith, within))) in
+      let first : drop (end_ - 3) places ≡ front_place ∷ drop (end_ - 2) places = subst (λ n. drop (end_ - 3) places ≡ front_place ∷ drop n places) three_ (drop-cons places (end_ - 3) 0 (omega (arith, within))) in
+      first ∙ ap (λ xs. front_place ∷ xs) (middle ∙ ap (λ xs. middle_place ∷ xs) last)
+
+  three_list : list_in now.chains three ≡ drop (end_ - 3) places
+  three_list = ap (λ xs. front_place ∷ middle_place ∷ last_place ∷ xs) is.list ∙ sym three_more
+
+  standing : (i : ℕ) → i < length places → get_or places i 0 < length now.shapes.keys
+  standing i h = stand_kept old now places is.keeps stand i 0 h
+
+  stand_more : Stand now (drop (end_ - 3) places)
+  stand_more =
+      let within = is.within in
+      subst (Stand now) (sym three_more) (three_stand now front_place middle_place last_place (drop end_ places) (standing (end_ - 3) (omega (arith, within))) (standing (end_ - 2) (omega (arith, within))) (standing (end_ - 1) (omega (arith, within))) is.stand)
+
+  pub three_linked : (new : StoreSpace) (n : ℕ) → KeepsChains now new → IsChainIn new.chains n (list_in now.chains three) → IsLinking old new places n (end_ - 3)
+  three_linked new n keeps chain =
+      let within = is.within in
+      record {
+        keeps = keeps_then old now new is.keeps keeps;
+        within = omega (arith, within);
+        some = omega arith;
+        rest = chain.within;
+        list = chain.list ∙ three_list;
+        whole = subst IsWhole (sym three_more) (whole_more front_place middle_place last_place (drop end_ places) is.whole);
+        stand = stand_kept now new (drop (end_ - 3) places) keeps stand_more;
+      }
+
+  pub three_heavy : AreHeavy now (list_in now.chains three) → AreHeavy old places
+  three_heavy heavy =
+      let part : List ℕ = drop (end_ - 3) places in
+      let there : max_weight < weights (trees_of (map (term_of now) part)) = subst (λ xs. max_weight < weights (trees_of (map (term_of now) xs))) three_list heavy in
+      let same : map (term_of now) part ≡ map (term_of old) part = map_same (term_of now) (term_of old) part (λ k d h. is.keeps.terms _) in
+      let before : max_weight < weights (trees_of (map (term_of old) part)) = subst (λ ts. max_weight < weights (trees_of ts)) same there in
+      let less = weights-drop (term_of old) places (end_ - 3) in
+      omega (arith, before, less)

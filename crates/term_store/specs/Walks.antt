@@ -2,7 +2,7 @@
 use Rattle.std.specs.Prelude.{◌≡◌, ◌<◌, ◌≤◌, ◌+◌, ◌↔◌, ℕ, List, [], ◌++◌, length, drop, slice_index_or}
 use Rattle.term_model.specs.Blocks.{list_in}
 use Rattle.term_model.specs.declared.parts.Block.{Block}
-use Rattle.term_store.specs.Chains.{IsBlockIn}
+use Rattle.term_store.specs.Chains.{IsBlockIn, IsWhole}
 use Rattle.term_store.specs.Space.{Stand, KeepsChains}
 use Rattle.term_store.specs.declared.store.StoreSpace.{StoreSpace}
 
@@ -33,3 +33,13 @@ pub record IsBuilding (old new : StoreSpace) (places others : List ℕ) (b : Blo
   pub within : end_ ≤ length places
   pub block : IsBlockIn new.chains b (drop end_ places ++ others)
   pub stand : Stand new (drop end_ places ++ others)
+
+-- a chain that is built from its end has the places from an index on, which are as long as some blocks of three, and others are before it
+pub record IsLinking (old new : StoreSpace) (places : List ℕ) (rest_ end_ : ℕ) : Type 0 where
+  pub keeps : KeepsChains old new
+  pub within : end_ ≤ length places
+  pub some : 0 < end_
+  pub rest : rest_ < length new.chains
+  pub list : slice_index_or new.chains rest_ [] ≡ drop end_ places
+  pub whole : IsWhole (drop end_ places)
+  pub stand : Stand new (drop end_ places)

@@ -96,6 +96,13 @@ impl Chains {
         Ok(((at + 1) as u32, added))
     }
 
+    // Makes room for this many further chains.
+    pub(crate) fn reserve(&mut self, count: usize) -> Result<(), AllocError>
+        ensures { self.new ≡ self.old }
+    {
+        self.blocks.reserve(count)
+    }
+
     // Keeps the first chains, besides the empty one.
     #[tactic(auto, using(crate::proofs::ChainLemmas::chains))]
     pub(crate) fn truncate(&mut self, count: u32)

@@ -1,5 +1,5 @@
 // Making terms: each shape and each chain is put in where it is new.
-ghost use Rattle.std.specs.Prelude.{◌≡◌, ◌<◌, ◌∷◌, ◌++◌, length, map, slice_index_or, IfOk, MatchOption};
+ghost use Rattle.std.specs.Prelude.{◌≡◌, ◌<◌, ◌≤◌, [], ◌∷◌, ◌++◌, length, map, slice_index_or, IfOk, MatchOption};
 ghost use Rattle.term_model.specs.Term.{term};
 ghost use Rattle.term_model.specs.Blocks.{front_list, list_in};
 ghost use Rattle.term_store.specs.Store.{head_in, IsAmong, MayHave};
@@ -7,13 +7,16 @@ ghost use Rattle.term_store.specs.Chains.{IsBlockIn, IsChainIn};
 ghost use Rattle.term_store.specs.Space.{count, term_of, shape_term, Stand, MayStand, IsBlockOver, Keeps, KeepsChains, IsMade, AreHeavy};
 
 use crate::store::StoreSpace;
-use crate::stored::{EMPTY, Extent, Span, StoredHead, StoredShape};
+use crate::stored::{Extent, Span, StoredHead, StoredShape};
 use std::alloc::AllocError;
 use term_model::term::{MAX_DEPTH, MAX_WEIGHT};
 use term_model::{Block, Front, Made};
 
 // The most shapes that there are.
 const MAX_SHAPES: usize = 4_294_967_295;
+
+// For more chains than these, room is made at once.
+const FEW_LINKS: usize = 1_000;
 
 impl StoreSpace {
     // The place of the term of this shape.
@@ -136,14 +139,52 @@ impl StoreSpace {
         ensures keeps { KeepsChains self.old self.new }
         ensures made { IfOk result (λ found. MatchOption found (AreHeavy self.old places.now) (λ b. IsBlockIn self.new.chains b places.now)) }
     {
-        let front = match places {
-            [] => Front::Zero,
-            [a] => Front::One(*a),
-            [a, b] => Front::Two(*a, *b),
-            [a, b, c] => Front::Three(*a, *b, *c),
-            _ => return self.before(places, EMPTY),
-        };
-        Ok(Some(Block { front, rest: 0 }))
+        if places.len() > 3 {
+            return self.long_block_of(places);
+        }
+        Ok(Some(Block {
+            front: front_of(places),
+            rest: 0,
+        }))
+    }
+
+    // The block of more places than three; `None` where their terms are too heavy together. The places after the first
+    // ones are linked from the end, three at a time.
+    fn long_block_of(&mut self, places: &[u32]) -> Result<Option<Block<u32>>, AllocError>
+        requires stand { Stand self.old places.now }
+        requires long { 3 < length places.now }
+        ensures keeps { KeepsChains self.old self.new }
+        ensures made { IfOk result (λ found.
+            MatchOption found (AreHeavy self.old places.now)
+            (λ b. IsBlockIn self.new.chains b places.now)) }
+    {
+        let links = places.len() / 3;
+        if links > FEW_LINKS {
+            self.reserve_chains(links)?;
+        }
+        let mut rest = 0;
+        let mut end = places.len();
+        while end > 3 {
+            let front = Front::Three(places[end - 3], places[end - 2], places[end - 1]);
+            let Some(longer) = self.link(Block { front, rest })? else {
+                return Ok(None);
+            };
+            rest = longer;
+            end -= 3;
+        }
+        Ok(Some(Block {
+            front: front_of(&places[..end]),
+            rest,
+        }))
+    }
+
+    // Makes room for this many further chains at once, since to grow little by little costs more.
+    #[inline(never)]
+    fn reserve_chains(&mut self, count: usize) -> Result<(), AllocError>
+        ensures { KeepsChains self.old self.new }
+    {
+        self.chains.reserve(count)?;
+        self.spans.reserve(count)
     }
 
     // The number of the chain of these places; `None` where their terms are too heavy together.
@@ -160,6 +201,26 @@ impl StoreSpace {
         };
         let found = self.link(block)?;
         Ok(found)
+    }
+
+    // The place of the term of a head and parts, without annotations.
+    pub(crate) fn make_plain(
+        &mut self,
+        head: StoredHead,
+        parts: &[u32],
+    ) -> Result<Made<u32>, AllocError>
+        requires head { IsAmong (length self.old.symbols.keys) head }
+        requires bare { MayHave head parts.now }
+        requires parts { Stand self.old parts.now }
+        ensures keeps { Keeps self.old self.new }
+        ensures made { IfOk result (IsMade self.new
+            (term (head_in self.old.symbols.keys head) (map (term_of self.old) parts.now) [])) }
+    {
+        let Some(block) = self.block_of(parts)? else {
+            return Ok(Made::Oversize);
+        };
+        let made = self.intern(StoredShape::new(head, block, 0))?;
+        Ok(made)
     }
 
     // The place of the term of a head, parts and annotations.
@@ -184,5 +245,19 @@ impl StoreSpace {
         };
         let made = self.intern(StoredShape::new(head, block, chain))?;
         Ok(made)
+    }
+}
+
+// The front of at most three places.
+#[inline]
+fn front_of(places: &[u32]) -> Front<u32>
+    requires { length places.now ≤ 3 }
+    ensures { front_list result ≡ places.now }
+{
+    match places {
+        [] => Front::Zero,
+        [a] => Front::One(*a),
+        [a, b] => Front::Two(*a, *b),
+        [a, b, c, ..] => Front::Three(*a, *b, *c),
     }
 }

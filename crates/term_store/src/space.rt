@@ -10,7 +10,7 @@ use crate::stored::{StoredHead, StoredShape};
 use indexmap::IndexSet;
 use std::alloc::{AllocError, Global};
 use std::hash::{BuildHasherDefault, FoldHasher};
-use term_model::{Head, Made, Shape, Sym, Term, TermSpace, Top};
+use term_model::{Head, Kind, Made, Parts, Shape, Sym, Term, TermSpace, Top};
 
 impl StoreSpace {
     /// A store that holds nothing, which hashes by this hasher.
@@ -69,11 +69,10 @@ impl TermSpace for StoreSpace {
 
     #[tactic(auto, using(crate::proofs::LawsOfSpace::reading))]
     fn shape<'a>(&'a self, at: &'a u32) -> Shape<'a, u32> {
-        let shape = self.shape_ref(*at);
         Shape {
-            head: self.top(shape.head()),
-            parts: self.places(shape),
-            annos: self.chain_places(shape.annos()),
+            head: self.head(at),
+            parts: self.parts(at),
+            annos: self.annos(at),
         }
     }
 
@@ -81,6 +80,17 @@ impl TermSpace for StoreSpace {
     fn head<'a>(&'a self, at: &'a u32) -> Top<'a> {
         let shape = self.shape_at(*at);
         self.top(shape.head())
+    }
+
+    #[tactic(auto, using(crate::proofs::LawsOfSpace::reading))]
+    fn parts<'a>(&'a self, at: &'a u32) -> Parts<'a, u32> {
+        self.places(self.shape_ref(*at))
+    }
+
+    #[tactic(auto, using(crate::proofs::LawsOfSpace::reading))]
+    fn annos<'a>(&'a self, at: &'a u32) -> Parts<'a, u32> {
+        let shape = self.shape_ref(*at);
+        self.chain_places(shape.annos())
     }
 
     #[tactic(auto, using(crate::proofs::LawsOfSpace::reading))]
@@ -154,10 +164,15 @@ impl TermSpace for StoreSpace {
         self.name_of(symbol)
     }
 
+    #[tactic(auto, using(crate::proofs::LawsOfSpace::makes_none))]
+    fn name_spelled(&mut self, alloc: Global, kind: Kind, bytes: &[u8]) -> Result<u32, AllocError> {
+        self.name_of_spelling(alloc, kind, bytes)
+    }
+
     #[tactic(auto, using(crate::proofs::LawsOfSpace::making))]
     fn int(&mut self, alloc: Global, value: i64) -> Result<u32, AllocError> {
         let _ = alloc;
-        let made = self.make_over(StoredHead::Int(value), &[], &[])?;
+        let made = self.make_plain(StoredHead::Int(value), &[])?;
         match made {
             Made::Fits(place) => Ok(place),
             Made::Oversize => unreachable!(),
@@ -167,13 +182,13 @@ impl TermSpace for StoreSpace {
     #[tactic(auto, using(crate::proofs::LawsOfSpace::making))]
     fn app(&mut self, alloc: Global, name: &u32, parts: &[u32]) -> Result<Made<u32>, AllocError> {
         let _ = alloc;
-        self.make_over(StoredHead::Symbol(*name), parts, &[])
+        self.make_plain(StoredHead::Symbol(*name), parts)
     }
 
     #[tactic(auto, using(crate::proofs::LawsOfSpace::making))]
     fn list(&mut self, alloc: Global, elements: &[u32]) -> Result<Made<u32>, AllocError> {
         let _ = alloc;
-        self.make_over(StoredHead::List, elements, &[])
+        self.make_plain(StoredHead::List, elements)
     }
 
     #[tactic(auto, using(crate::proofs::LawsOfSpace::making))]

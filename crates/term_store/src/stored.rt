@@ -13,7 +13,7 @@ use term_model::{Block, Front};
 const HIGH: u64 = 4_294_967_296;
 
 // The block of no places.
-pub(crate) const EMPTY: Block<u32> = Block {
+const EMPTY: Block<u32> = Block {
     front: Front::Zero,
     rest: 0,
 };

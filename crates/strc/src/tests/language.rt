@@ -183,7 +183,7 @@ const REFUSALS: &[(&str, &str)] = &[
     ),
     (
         "signature constructors map : T strategies main = id",
-        "strc: Clash\nstdin: name map is that of a declared constructor and of a strategy\n",
+        "strc: Clash\nstdin:1:24: name map is that of a declared constructor and of a strategy\n    signature constructors map : T strategies main = id\n                           ^\n",
     ),
 ];
 

@@ -103,6 +103,11 @@ const CHECKS: &[(&str, &str, &str)] = &[
         "stdin:1:41: name C is that of a declared constructor and of a strategy\n",
     ),
     (
+        "signature constructors A : T try : T * T -> T strategies main = id",
+        "Clash",
+        "stdin:1:30: name try is that of a declared constructor and of a strategy\n",
+    ),
+    (
         "strategies try(s) = s main = id",
         "Clash",
         "stdin:1:12: strategy try is a definition of the library\n",

@@ -1,14 +1,29 @@
-use Rattle.std.proofs.Common.{◌+◌}
+use Rattle.std.proofs.Common.{subst}
+use Rattle.aterm_text.specs.declared.open.Next.{Next}
+use Rattle.aterm_text.specs.Brackets.{Reached}
+use Rattle.aterm_text.proofs.StepLaws.{done_follows}
 use Rattle.aterm_text.proofs.reader.step.Goals as goal
 
-pub returns-in-Text-clause-placed : goal.returns-in-Text-clause-placed
-returns-in-Text-clause-placed c = c.within.ensures.placed c.args.text.now c.args.index (rw c.in-Text.is at c.requires.placed)
+pub begin-requires-clause-at : goal.begin-requires-clause-at
+begin-requires-clause-at g c =
+    let w = g.S.TermSpace in
+    let P : Next → Type 0 = λ n. Reached w.stands w.term_of w.knows w.symbol_of c.args.space.now c.args.text.now c.args.reader.now n c.args.index in
+    subst P c.in-Term.is c.requires.at
 
-pub returns-in-Escape-clause-placed : goal.returns-in-Escape-clause-placed
-returns-in-Escape-clause-placed c = c.escape.ensures.placed c.args.text.now
+pub first-requires-clause-at : goal.first-requires-clause-at
+first-requires-clause-at g c =
+    let w = g.S.TermSpace in
+    let P : Next → Type 0 = λ n. Reached w.stands w.term_of w.knows w.symbol_of c.args.space.now c.args.text.now c.args.reader.now n c.args.index in
+    subst P c.in-First.is c.requires.at
 
-pub returns-in-Octal-clause-placed : goal.returns-in-Octal-clause-placed
-returns-in-Octal-clause-placed c = c.octal.ensures.placed c.args.text.now (c.args.index + 1)
+pub whole-requires-clause-at : goal.whole-requires-clause-at
+whole-requires-clause-at g c =
+    let w = g.S.TermSpace in
+    let P : Next → Type 0 = λ n. Reached w.stands w.term_of w.knows w.symbol_of c.args.space.now c.args.text.now c.args.reader.now n c.args.index in
+    subst P c.in-Whole.is c.requires.at
 
-pub returns-in-Octals-clause-placed : goal.returns-in-Octals-clause-placed
-returns-in-Octals-clause-placed c = c.octals.ensures.placed c.args.text.now
+pub follow-requires-clause-at : goal.follow-requires-clause-at
+follow-requires-clause-at g c =
+    let w = g.S.TermSpace in
+    let P : Next → Type 0 = λ n. Reached w.stands w.term_of w.knows w.symbol_of c.args.space.now c.args.text.now c.args.reader.now n c.args.index in
+    done_follows w.stands w.term_of w.knows w.symbol_of c.args.space.now c.args.text.now c.args.reader.now c.args.index c.requires.within (subst P c.in-Done.is c.requires.at) c.requires.mark

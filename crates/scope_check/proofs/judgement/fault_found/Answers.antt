@@ -19,8 +19,8 @@ returns c =
     ap (λ (hs : List HeadTree). joined (found_group hs) (found_in_tops (known_of c.args.known.now) (inner (among (map key_of hs)) nothing) (tops_in (map section_of c.deref-4.result.now)))) heads ∙
     ap (λ ss. joined (found_group (top_heads file)) (found_in_tops (known_of c.args.known.now) (inner (among (map key_of (top_heads file))) nothing) (tops_in (map section_of ss)))) c.deref-4.ensures.value ∙
     file_found (known_of c.args.known.now) file in
-    let found : c.or.result ≡ found_in_file (known_of c.args.known.now) file =
-    c.or.ensures ∙ ap (λ f. joined f c.in_ok-inside.inside) c.in_ok-redefined.ensures ∙ ap (joined (found_redefinition file)) inside in
+    let found : c.or-found.result ≡ found_in_file (known_of c.args.known.now) file =
+    c.or-found.ensures ∙ ap (λ f. joined f c.in_ok-inside.inside) c.in_ok-redefined.ensures ∙ ap (joined (found_redefinition file)) inside in
     let main : c.has_main-has_main.result ≡ at_top file (plain_key c.args.main.now) =
     c.has_main-has_main.ensures ∙ ap (λ hs. among (map key_of (heads_of hs)) (plain_key c.args.main.now)) c.deref-2.ensures.value ∙
     ap (λ (hs : List HeadTree). among (map key_of hs) (plain_key c.args.main.now)) heads in

@@ -6,7 +6,7 @@ use Rattle.str_pipeline.specs.Judged.{PassesChecks}
 use Rattle.str_pipeline.specs.Limits.{max_definitions, max_term}
 use Rattle.str_pipeline.specs.Setting.{Setting, setting_of}
 use Rattle.str_pipeline.specs.Written.{IsFirstFault}
-use Rattle.str_pipeline.specs.Steps.{IsProgram, IsResult}
+use Rattle.str_pipeline.specs.Steps.{IsProgram, IsTextResult}
 use Rattle.str_pipeline.proofs.FaultLaws.{reading_apart}
 use Rattle.str_pipeline.proofs.OneLine.{none_refused}
 use Rattle.str_pipeline.proofs.WrittenLaws.{of_told, of_told_each, of_told_long, for_each_told, passed, program_fault, reading_result}
@@ -17,7 +17,7 @@ returns-in_err-program-clause-result g c =
     let S : Setting = setting_of g.M.PrimMeaning.answer c.args.registry.now c.args.options.now in
     let short : length c.in-Some.text.items ≤ max_definitions = rw (← c.deref.ensures.value, c.deref.ensures.len) (rw c.in-Some.is at c.in_ok-text.ensures.fits) in
     of_told_each (g.D.Source.coming c.args.defs.now) (g.T.Source.coming c.args.term.now) c.in-Some.text.items
-    (λ d t. IsResult d t S c.from_residual-in_err-program.result)
+    (λ d t. IsTextResult d t S c.from_residual-in_err-program.result)
     (rw c.in-Some.is at c.in_ok-text.ensures.whole)
     (λ t. rw (passed c.from_residual-in_err-program.result c.in_err-program.field-0.0 c.from_residual-in_err-program.ensures.1)
     (program_fault c.in-Some.text.items t S c.in_err-program.field-0.0 short
@@ -64,7 +64,7 @@ returns-clause-result g c =
     let made = c.in_ok-program.ensures.program in
     let file : PassesChecks S c.in-Some.text.items made.0 = rw c.deref.ensures.value at made.1 in
     of_told (g.D.Source.coming c.args.defs.now) (g.T.Source.coming c.args.term.now) c.in-Some.text.items c.in-Some-2.text.items
-    (λ d t. IsResult d t S c.outcome_of.result)
+    (λ d t. IsTextResult d t S c.outcome_of.result)
     (rw c.in-Some.is at c.in_ok-text.ensures.whole)
     (rw c.in-Some-2.is at c.in_ok-text-2.ensures.whole)
     (c.outcome_of.ensures.result c.in-Some.text.items made.0 (rw (← c.deref.ensures.value, c.deref.ensures.len) (rw c.in-Some.is at c.in_ok-text.ensures.fits), file) made.2)
@@ -73,8 +73,8 @@ pub returns-in_err-text-2-clause-result : goal.returns-in_err-text-2-clause-resu
 returns-in_err-text-2-clause-result g c =
     let S : Setting = setting_of g.M.PrimMeaning.answer c.args.registry.now c.args.options.now in
     rw (passed c.from_residual-in_err-text-2.result c.in_err-text-2.field-0.0 c.from_residual-in_err-text-2.ensures.1)
-    (for_each_told (g.D.Source.coming c.args.defs.now) (λ d. IfSome (g.T.Source.coming c.args.term.now) (λ t. IsResult d t S (Err c.in_err-text-2.field-0.0)))
-    (λ d. for_each_told (g.T.Source.coming c.args.term.now) (λ t. IsResult d t S (Err c.in_err-text-2.field-0.0))
+    (for_each_told (g.D.Source.coming c.args.defs.now) (λ d. IfSome (g.T.Source.coming c.args.term.now) (λ t. IsTextResult d t S (Err c.in_err-text-2.field-0.0)))
+    (λ d. for_each_told (g.T.Source.coming c.args.term.now) (λ t. IsTextResult d t S (Err c.in_err-text-2.field-0.0))
     (λ t. reading_result d t S c.in_err-text-2.field-0.0 c.in_err-text-2.ensures.kinds)))
 
 pub returns-clause-unread : goal.returns-clause-unread

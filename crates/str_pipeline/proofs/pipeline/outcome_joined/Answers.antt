@@ -7,7 +7,7 @@ use Rattle.str_pipeline.specs.Judged.{PassesChecks}
 use Rattle.str_pipeline.specs.Limits.{max_definitions, max_term}
 use Rattle.str_pipeline.specs.Setting.{Setting, setting_of}
 use Rattle.str_pipeline.specs.Written.{IsFirstFault}
-use Rattle.str_pipeline.specs.Steps.{IsProgram, IsResult}
+use Rattle.str_pipeline.specs.Steps.{IsProgram, IsTextResult}
 use Rattle.str_pipeline.proofs.FaultLaws.{reading_apart}
 use Rattle.str_pipeline.proofs.OneLine.{none_refused_joined}
 use Rattle.str_pipeline.proofs.WrittenLaws.{of_split, for_each_told, told_then, program_fault, reading_result, passed}
@@ -17,9 +17,9 @@ pub returns-in_err-program-clause-result : goal.returns-in_err-program-clause-re
 returns-in_err-program-clause-result g c =
     let S : Setting = setting_of g.M.PrimMeaning.answer c.args.registry.now c.args.options.now in
     of_split (g.S.Source.coming c.args.input.now) (g.S.Source.coming c.read_front.new.input) (definitions_of c.in-Some.front) (term_of c.in-Some.front)
-    (λ d t. IsResult d t S c.from_residual-in_err-program.result)
+    (λ d t. IsTextResult d t S c.from_residual-in_err-program.result)
     (rw c.in-Some.is at c.in_ok-front.ensures.split)
-    (for_each_told (g.S.Source.coming c.read_front.new.input) (λ left. IsResult (definitions_of c.in-Some.front) (term_of c.in-Some.front left) S c.from_residual-in_err-program.result)
+    (for_each_told (g.S.Source.coming c.read_front.new.input) (λ left. IsTextResult (definitions_of c.in-Some.front) (term_of c.in-Some.front left) S c.from_residual-in_err-program.result)
     (λ left. rw (passed c.from_residual-in_err-program.result c.in_err-program.field-0.0 c.from_residual-in_err-program.ensures.1)
     (program_fault (definitions_of c.in-Some.front) (term_of c.in-Some.front left) S c.in_err-program.field-0.0
     (rw c.in-Some.is at c.in_ok-front.ensures.fits)
@@ -44,7 +44,7 @@ returns-clause-result g c =
     let file : PassesChecks S (definitions_of c.in-Some.front) made.0 = rw c.definitions.ensures at made.1 in
     let short : length (definitions_of c.in-Some.front) ≤ max_definitions = rw c.in-Some.is at c.in_ok-front.ensures.fits in
     of_split (g.S.Source.coming c.args.input.now) (g.S.Source.coming c.read_front.new.input) (definitions_of c.in-Some.front) (term_of c.in-Some.front)
-    (λ d t. IsResult d t S c.outcome_of.result)
+    (λ d t. IsTextResult d t S c.outcome_of.result)
     (rw c.in-Some.is at c.in_ok-front.ensures.split)
     (told_then _ (λ left. c.in-Some-2.text.items ≡ term_of c.in-Some.front left) _ (rw c.in-Some-2.is at c.in_ok-text.ensures.whole)
     (λ left same. rw (← same)
@@ -54,7 +54,7 @@ pub returns-in_err-text-clause-result : goal.returns-in_err-text-clause-result
 returns-in_err-text-clause-result g c =
     let S : Setting = setting_of g.M.PrimMeaning.answer c.args.registry.now c.args.options.now in
     rw (passed c.from_residual-in_err-text.result c.in_err-text.field-0.0 c.from_residual-in_err-text.ensures.1)
-    (for_each_told (g.S.Source.coming c.args.input.now) (λ told. (d t : List ℕ) → IsSplit told d t → IsResult d t S (Err c.in_err-text.field-0.0))
+    (for_each_told (g.S.Source.coming c.args.input.now) (λ told. (d t : List ℕ) → IsSplit told d t → IsTextResult d t S (Err c.in_err-text.field-0.0))
     (λ told d t split. reading_result d t S c.in_err-text.field-0.0 c.in_err-text.ensures.kinds))
 
 pub returns-clause-defs_bounded : goal.returns-clause-defs_bounded

@@ -2,8 +2,12 @@ use Rattle.str_pipeline.proofs.runs.run_code.Goals as goal
 
 pub returns-clause-outcome : goal.returns-clause-outcome
 returns-clause-outcome g c = record {
-  each = λ P main C i stands occurring resolved. (
-    c.in_ok-run.run'.rules,
-    rw (c.in_ok-outcome.ensures, ← c.in_ok-reference.ensures.term) (c.in_ok-run.ensures.run P main C i stands occurring resolved),
-  );
+  outcome = _;
+  is_outcome = record {
+    each = λ P main C i stands occurring resolved. (
+      c.in_ok-run.run'.rules,
+      rw c.new-machine.ensures at c.in_ok-run.ensures.run P main C i stands occurring resolved,
+    );
+  };
+  is_text = rw c.space-2.ensures at c.in_ok-outcome.ensures;
 }

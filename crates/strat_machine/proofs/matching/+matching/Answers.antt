@@ -9,7 +9,7 @@ use Rattle.strat_machine.specs.State.{place_at}
 use Rattle.strat_machine.proofs.ReferenceLaws.{all_changed}
 use Rattle.strat_machine.proofs.SpaceLaws.{keeps_same, keeps_then}
 use Rattle.strat_machine.proofs.LoadedLaws.{loaded_as_anything, loaded_as_alias, loaded_as_integer, loaded_as_like, loaded_as_applied, loaded_as_list, loaded_same, all_loaded_same, rest_loaded_same, loaded_as_annotated, known_as_applied, known_as_list, known_as_annotated, known_later, all_known_later, rest_known_later, rest_known_some, rest_loaded_some}
-use Rattle.strat_machine.proofs.MatchingLaws.{goes_at_once, goes_as_pattern, match_lacks, match_stops, match_next, known_at, alias_goes, integer_tested, applied_none, applied_fails, applied_ends, list_none, list_fails, list_goes, no_rest, rest_goes, annotated_none, annotated_fails, annotated_goes, unseen_goes, bare_goes, applied_leaves, list_leaves, part_leaves}
+use Rattle.strat_machine.proofs.MatchingLaws.{goes_at_once, goes_as_pattern, match_lacks, match_stops, match_next, known_at, part_was, ref_stands, ref_was, pushed_stand, as_many_pushed, pushed_goes, alias_goes, integer_tested, applied_none, applied_fails, applied_ends, list_none, list_fails, list_goes, no_rest, rest_goes, annotated_none, annotated_fails, annotated_goes, unseen_goes, bare_goes, applied_leaves, list_leaves, part_leaves}
 use Rattle.strat_machine.proofs.matching.+matching.Goals as goal
 
 pub match_first-loop-i-init : goal.match_first-loop-i-init
@@ -27,16 +27,16 @@ match_first-returns-then-not-branch-clause-keeps g t c = keeps_then c.loop-i.inv
 
 pub match_first-returns-then-not-branch-clause-attempt : goal.match_first-returns-then-not-branch-clause-attempt
 match_first-returns-then-not-branch-clause-attempt g t c =
-    match_stops (place_at c.args.frames.now c.args.here) parts_of c.args.patterns.now c.args.at.now c.loop-i.i c.index-patterns-i.result (g.S.TermSpace.term_of c.loop-i.space c.in_ok-part.part) c.in_ok-match_part.field-0 c.loop-i.places.barrier
-    c.requires.known c.loop-i.invariant.0 c.requires.stands c.loop-i-test.true c.index-patterns-i.is c.in_ok-part.ensures.term c.loop-i.invariant.3 c.in_ok-match_part.ensures.keeps c.loop-i.invariant.1 c.if-not-branch.true c.in_ok-match_part.ensures.attempt
+    match_stops (place_at c.args.frames.now c.args.here) c.args.patterns.now (parts_of (g.S.TermSpace.term_of c.args.space.now c.args.at.now)) c.loop-i.i c.index-patterns-i.result (g.S.TermSpace.term_of c.loop-i.space c.in_ok-part.part) c.in_ok-match_part.field-0 c.loop-i.places.barrier
+    c.requires.known c.loop-i.invariant.0 c.loop-i-test.true c.index-patterns-i.is (part_was parts_of c.args.at.now c.loop-i.i c.loop-i.invariant.0 c.requires.stands c.in_ok-part.ensures.term) c.loop-i.invariant.3 c.in_ok-match_part.ensures.keeps c.loop-i.invariant.1 c.if-not-branch.true c.in_ok-match_part.ensures.attempt
 
 pub match_first-loop-i-preserved : goal.match_first-loop-i-preserved
 match_first-loop-i-preserved g t c = (
   keeps_then c.loop-i.invariant.0 c.in_ok-match_part.ensures.keeps,
   c.in_ok-match_part.ensures.barrier ∙ c.loop-i.invariant.1,
   (let below = c.if-i-count.false in omega arith),
-  match_next (place_at c.args.frames.now c.args.here) parts_of c.args.patterns.now c.args.at.now c.loop-i.i c.index-patterns-i.result (g.S.TermSpace.term_of c.loop-i.space c.in_ok-part.part) c.in_ok-match_part.field-0 c.loop-i.places.barrier
-      c.requires.known c.loop-i.invariant.0 c.requires.stands c.loop-i-test.true c.index-patterns-i.is c.in_ok-part.ensures.term c.loop-i.invariant.3 c.in_ok-match_part.ensures.keeps c.loop-i.invariant.1 c.if-not-branch.false c.in_ok-match_part.ensures.attempt,
+  match_next (place_at c.args.frames.now c.args.here) c.args.patterns.now (parts_of (g.S.TermSpace.term_of c.args.space.now c.args.at.now)) c.loop-i.i c.index-patterns-i.result (g.S.TermSpace.term_of c.loop-i.space c.in_ok-part.part) c.in_ok-match_part.field-0 c.loop-i.places.barrier
+      c.requires.known c.loop-i.invariant.0 c.loop-i-test.true c.index-patterns-i.is (part_was parts_of c.args.at.now c.loop-i.i c.loop-i.invariant.0 c.requires.stands c.in_ok-part.ensures.term) c.loop-i.invariant.3 c.in_ok-match_part.ensures.keeps c.loop-i.invariant.1 c.if-not-branch.false c.in_ok-match_part.ensures.attempt,
   λ h.
       let s = g.S.TermSpace in
       c.in_ok-match_part.ensures.unchanged
@@ -207,15 +207,15 @@ match_annos-returns-then-not-branch-clause-keeps g t c = keeps_then c.loop-i.inv
 
 pub match_annos-returns-then-not-branch-clause-attempt : goal.match_annos-returns-then-not-branch-clause-attempt
 match_annos-returns-then-not-branch-clause-attempt g t c =
-    match_stops (place_at c.args.frames.now c.args.here) annos_of c.args.patterns.now c.args.at.now c.loop-i.i c.index-patterns-i.result (g.S.TermSpace.term_of c.loop-i.space c.in_ok-anno.anno) c.in_ok-match_part.field-0 c.loop-i.places.barrier
-    c.requires.known c.loop-i.invariant.0 c.requires.stands c.loop-i-test.true c.index-patterns-i.is c.in_ok-anno.ensures.term c.loop-i.invariant.2 c.in_ok-match_part.ensures.keeps c.loop-i.invariant.1 c.if-not-branch.true c.in_ok-match_part.ensures.attempt
+    match_stops (place_at c.args.frames.now c.args.here) c.args.patterns.now (annos_of (g.S.TermSpace.term_of c.args.space.now c.args.at.now)) c.loop-i.i c.index-patterns-i.result (g.S.TermSpace.term_of c.loop-i.space c.in_ok-anno.anno) c.in_ok-match_part.field-0 c.loop-i.places.barrier
+    c.requires.known c.loop-i.invariant.0 c.loop-i-test.true c.index-patterns-i.is (part_was annos_of c.args.at.now c.loop-i.i c.loop-i.invariant.0 c.requires.stands c.in_ok-anno.ensures.term) c.loop-i.invariant.2 c.in_ok-match_part.ensures.keeps c.loop-i.invariant.1 c.if-not-branch.true c.in_ok-match_part.ensures.attempt
 
 pub match_annos-loop-i-preserved : goal.match_annos-loop-i-preserved
 match_annos-loop-i-preserved g t c = (
   keeps_then c.loop-i.invariant.0 c.in_ok-match_part.ensures.keeps,
   c.in_ok-match_part.ensures.barrier ∙ c.loop-i.invariant.1,
-  match_next (place_at c.args.frames.now c.args.here) annos_of c.args.patterns.now c.args.at.now c.loop-i.i c.index-patterns-i.result (g.S.TermSpace.term_of c.loop-i.space c.in_ok-anno.anno) c.in_ok-match_part.field-0 c.loop-i.places.barrier
-      c.requires.known c.loop-i.invariant.0 c.requires.stands c.loop-i-test.true c.index-patterns-i.is c.in_ok-anno.ensures.term c.loop-i.invariant.2 c.in_ok-match_part.ensures.keeps c.loop-i.invariant.1 c.if-not-branch.false c.in_ok-match_part.ensures.attempt,
+  match_next (place_at c.args.frames.now c.args.here) c.args.patterns.now (annos_of (g.S.TermSpace.term_of c.args.space.now c.args.at.now)) c.loop-i.i c.index-patterns-i.result (g.S.TermSpace.term_of c.loop-i.space c.in_ok-anno.anno) c.in_ok-match_part.field-0 c.loop-i.places.barrier
+      c.requires.known c.loop-i.invariant.0 c.loop-i-test.true c.index-patterns-i.is (part_was annos_of c.args.at.now c.loop-i.i c.loop-i.invariant.0 c.requires.stands c.in_ok-anno.ensures.term) c.loop-i.invariant.2 c.in_ok-match_part.ensures.keeps c.loop-i.invariant.1 c.if-not-branch.false c.in_ok-match_part.ensures.attempt,
 )
 
 pub match_pattern-returns-then-anno_count-annotations-clause-attempt : goal.match_pattern-returns-then-anno_count-annotations-clause-attempt
@@ -325,3 +325,80 @@ match_pattern-returns-in_ok-yes-in-List-clause-unchanged g t c = λ h.
     let elements = c.as_slice-elements.result.now in
     let none = list_leaves symbols (loaded_of symbols c.args.pattern.now) (map (loaded_of symbols) elements) c.in-List.rest (loaded_as_list symbols c.args.pattern.now c.in-List.elements c.in-List.rest elements c.in-List.is c.as_slice-elements.ensures.value) h in
     c.in_ok-yes-in-List.ensures.unchanged none.1 ∙ c.in_ok-match_first-in-List.ensures.unchanged none.0
+
+-- many parts, which were pushed
+pub match_each-loop-i-init : goal.match_each-loop-i-init
+match_each-loop-i-init g t c =
+    let s = g.S.TermSpace in
+    (keeps_same s.stands s.term_of s.is_valid s.knows s.symbol_of c.args.space.now, refl, omega arith, goes_at_once c.requires.places refl, λ h. refl)
+
+pub match_each-returns-then-i-count-clause-attempt : goal.match_each-returns-then-i-count-clause-attempt
+match_each-returns-then-i-count-clause-attempt g t c =
+    let s = g.S.TermSpace in
+    let terms = c.args.terms.now in
+    match_lacks (place_at c.args.frames.now c.args.here) (loaded_of (s.symbol_of c.args.space.now)) c.args.patterns.now (map (s.term_of c.args.space.now) terms) c.loop-i.i (length terms) c.loop-i-test.true (sym (length-map terms (s.term_of c.args.space.now))) c.if-i-count.true c.loop-i.invariant.3
+
+pub match_each-match_part-requires : goal.match_each-match_part-requires
+match_each-match_part-requires g t c κs within =
+    let s = g.S.TermSpace in
+    let known = known_at (s.knows c.args.space.now) c.args.patterns.now c.loop-i.i c.index-patterns-i.result c.requires.known c.loop-i-test.true c.index-patterns-i.is in
+    let stands = ref_stands c.args.terms.now c.loop-i.i c.index-terms-i.result c.loop-i.invariant.0 c.requires.stand c.if-i-count.false c.index-terms-i.is in
+    (search (rules, the_lemmas), (within.0, (within.1.0, (within.1.1.0, (within.1.1.1, (known_later c.loop-i.invariant.0.known c.index-patterns-i.result known, (stands, c.loop-i.invariant.3.standing)))))))
+
+pub match_each-returns-then-not-branch-clause-keeps : goal.match_each-returns-then-not-branch-clause-keeps
+match_each-returns-then-not-branch-clause-keeps g t c = keeps_then c.loop-i.invariant.0 c.in_ok-match_part.ensures.keeps
+
+pub match_each-returns-then-not-branch-clause-attempt : goal.match_each-returns-then-not-branch-clause-attempt
+match_each-returns-then-not-branch-clause-attempt g t c =
+    let s = g.S.TermSpace in
+    let terms = c.args.terms.now in
+    let was = ref_was terms c.loop-i.i c.index-terms-i.result c.loop-i.invariant.0 c.requires.stand c.if-i-count.false c.index-terms-i.is in
+    match_stops (place_at c.args.frames.now c.args.here) c.args.patterns.now (map (s.term_of c.args.space.now) terms) c.loop-i.i c.index-patterns-i.result (s.term_of c.loop-i.space c.index-terms-i.result) c.in_ok-match_part.field-0 c.loop-i.places.barrier
+    c.requires.known c.loop-i.invariant.0 c.loop-i-test.true c.index-patterns-i.is was c.loop-i.invariant.3 c.in_ok-match_part.ensures.keeps c.loop-i.invariant.1 c.if-not-branch.true c.in_ok-match_part.ensures.attempt
+
+pub match_each-loop-i-preserved : goal.match_each-loop-i-preserved
+match_each-loop-i-preserved g t c =
+    let s = g.S.TermSpace in
+    let terms = c.args.terms.now in
+    let was = ref_was terms c.loop-i.i c.index-terms-i.result c.loop-i.invariant.0 c.requires.stand c.if-i-count.false c.index-terms-i.is in (
+      keeps_then c.loop-i.invariant.0 c.in_ok-match_part.ensures.keeps,
+      c.in_ok-match_part.ensures.barrier ∙ c.loop-i.invariant.1,
+      (let below = c.if-i-count.false in omega arith),
+      match_next (place_at c.args.frames.now c.args.here) c.args.patterns.now (map (s.term_of c.args.space.now) terms) c.loop-i.i c.index-patterns-i.result (s.term_of c.loop-i.space c.index-terms-i.result) c.in_ok-match_part.field-0 c.loop-i.places.barrier
+          c.requires.known c.loop-i.invariant.0 c.loop-i-test.true c.index-patterns-i.is was c.loop-i.invariant.3 c.in_ok-match_part.ensures.keeps c.loop-i.invariant.1 c.if-not-branch.false c.in_ok-match_part.ensures.attempt,
+      λ h.
+          c.in_ok-match_part.ensures.unchanged
+          (part_leaves (s.knows c.args.space.now) (s.symbol_of c.args.space.now) (s.symbol_of c.loop-i.space) c.loop-i.invariant.0.symbols c.args.patterns.now c.loop-i.i c.index-patterns-i.result c.requires.known c.loop-i-test.true c.index-patterns-i.is h) ∙ c.loop-i.invariant.4 h,
+    )
+
+pub match_each-returns-in_err-match_part-clause-unchanged : goal.match_each-returns-in_err-match_part-clause-unchanged
+match_each-returns-in_err-match_part-clause-unchanged g t c = λ h.
+    let s = g.S.TermSpace in
+    c.match_part.ensures.unchanged
+    (part_leaves (s.knows c.args.space.now) (s.symbol_of c.args.space.now) (s.symbol_of c.loop-i.space) c.loop-i.invariant.0.symbols c.args.patterns.now c.loop-i.i c.index-patterns-i.result c.requires.known c.loop-i-test.true c.index-patterns-i.is h) ∙ c.loop-i.invariant.4 h
+
+pub match_each-returns-then-not-branch-clause-unchanged : goal.match_each-returns-then-not-branch-clause-unchanged
+match_each-returns-then-not-branch-clause-unchanged g t c = λ h.
+    let s = g.S.TermSpace in
+    c.in_ok-match_part.ensures.unchanged
+    (part_leaves (s.knows c.args.space.now) (s.symbol_of c.args.space.now) (s.symbol_of c.loop-i.space) c.loop-i.invariant.0.symbols c.args.patterns.now c.loop-i.i c.index-patterns-i.result c.requires.known c.loop-i-test.true c.index-patterns-i.is h) ∙ c.loop-i.invariant.4 h
+
+pub match_first-match_each-requires : goal.match_first-match_each-requires
+match_first-match_each-requires g t c κs within =
+    (search (rules, the_lemmas), (within.0, (within.1.0, (within.1.1.0, (within.1.1.1, (c.requires.known, (pushed_stand c.in_ok-push_parts.ensures.pushed c.new-parts.ensures.items c.deref.ensures.value, c.requires.places)))))))
+
+pub match_first-returns-then-is_walk_longer-clause-attempt : goal.match_first-returns-then-is_walk_longer-clause-attempt
+match_first-returns-then-is_walk_longer-clause-attempt g t c =
+    pushed_goes c.in_ok-push_parts.ensures.pushed c.new-parts.ensures.items c.deref.ensures.value (place_at c.args.frames.now c.args.here) (map (loaded_of (g.S.TermSpace.symbol_of c.args.space.now)) c.args.patterns.now) c.in_ok-yes.yes c.in_ok-yes.ensures.attempt
+
+pub match_first-returns-then-is_walk_longer-clause-enough : goal.match_first-returns-then-is_walk_longer-clause-enough
+match_first-returns-then-is_walk_longer-clause-enough g t c = λ so.
+    subst (λ n. length c.args.patterns.now ≤ n) (as_many_pushed c.in_ok-push_parts.ensures.pushed c.new-parts.ensures.items c.deref.ensures.value) (c.in_ok-yes.ensures.enough so)
+
+pub match_annos-match_each-requires : goal.match_annos-match_each-requires
+match_annos-match_each-requires g t c κs within =
+    (search (rules, the_lemmas), (within.0, (within.1.0, (within.1.1.0, (within.1.1.1, (c.requires.known, (pushed_stand c.in_ok-push_annos.ensures.pushed c.new-annos.ensures.items c.deref.ensures.value, c.requires.places)))))))
+
+pub match_annos-returns-then-is_walk_longer-clause-attempt : goal.match_annos-returns-then-is_walk_longer-clause-attempt
+match_annos-returns-then-is_walk_longer-clause-attempt g t c =
+    pushed_goes c.in_ok-push_annos.ensures.pushed c.new-annos.ensures.items c.deref.ensures.value (place_at c.args.frames.now c.args.here) (map (loaded_of (g.S.TermSpace.symbol_of c.args.space.now)) c.args.patterns.now) c.in_ok-yes.yes c.in_ok-yes.ensures.attempt
