@@ -14,6 +14,8 @@ mod going_back;
 #[cfg(test)]
 mod growth;
 #[cfg(test)]
+mod refusals;
+#[cfg(test)]
 mod selecting;
 #[cfg(test)]
 mod single_calls;

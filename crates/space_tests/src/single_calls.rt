@@ -21,7 +21,7 @@ use strategy_lib::with_library;
 use term_model::{Fault, PrimNames, RcSpace, Term, TermSpace};
 use term_store::StoreSpace;
 
-const DEFINITIONS: &[u8] = b"strategies main = ?(x,_); !x";
+pub(crate) const DEFINITIONS: &[u8] = b"strategies main = ?(x,_); !x";
 
 // The definitions with the library, where these are the primitives.
 fn checked(alloc: Global, definitions: &[u8], primitives: &PrimNames) -> Result<Checked, Fault> {
@@ -38,7 +38,11 @@ fn core_of(alloc: Global, definitions: &[u8], primitives: &PrimNames) -> Result<
 }
 
 // Their code.
-fn code_with(alloc: Global, definitions: &[u8], primitives: &PrimNames) -> Result<Code, Fault> {
+pub(crate) fn code_with(
+    alloc: Global,
+    definitions: &[u8],
+    primitives: &PrimNames,
+) -> Result<Code, Fault> {
     let core = core_of(alloc, definitions, primitives)?;
     Ok(compile(alloc, &core)?)
 }
@@ -107,7 +111,7 @@ fn takes_five<S: TermSpace + Drop>(
 }
 
 // Whether the machine does so. A run that is refused memory is taken once more from the same reference, which must have its term.
-fn takes_five_at_last<S: TermSpace + Drop>(
+pub(crate) fn takes_five_at_last<S: TermSpace + Drop>(
     alloc: Global,
     machine: &mut Machine<S>,
     code: &Code,

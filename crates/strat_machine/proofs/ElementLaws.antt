@@ -24,7 +24,7 @@ use Rattle.strat_machine.specs.declared.building.Elements.TheVariants as element
 use Rattle.strat_machine.specs.References.{Places, AllPlaces, AllRefs}
 use Rattle.strat_machine.proofs.BuildingLaws.{slice_is}
 use Rattle.strat_machine.proofs.ReferenceSteps.{places_same}
-use Rattle.strat_machine.proofs.TraversalLaws.{refs_of_all}
+use Rattle.strat_machine.proofs.TraversalLaws.{refs_append, refs_of_all}
 
 -- what was put on a stack
 drop_put : {X : Type 0} (xs ys : List X) → drop (length xs) (xs ++ ys) ≡ ys
@@ -75,10 +75,6 @@ puts_as g p = record { put = p.put; after = p.after; standing = p.standing; are 
 pub refs_later : {R : Type 0} {P Q : R → Type 0} → ((r : R) → P r → Q r) → (rs : List R) → AllRefs P rs → AllRefs Q rs
 refs_later later [] h = tt
 refs_later later (r ∷ rs) h = (later r h.0, refs_later later rs h.1)
-
-refs_append : {R : Type 0} (P : R → Type 0) (rs us : List R) → AllRefs P rs → AllRefs P us → AllRefs P (rs ++ us)
-refs_append P [] us h k = k
-refs_append P (r ∷ rs) us h k = (h.0, refs_append P rs us h.1 k)
 
 pub refs_same : {R : Type 0} {P : R → Type 0} {f g : R → Tree} → ((r : R) → P r → g r ≡ f r) → (rs : List R) → AllRefs P rs → map g rs ≡ map f rs
 refs_same same [] h = refl

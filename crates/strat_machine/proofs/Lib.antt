@@ -42,3 +42,4 @@ pub mod PrimitiveLaws
 pub mod SelectingLaws
 pub mod IndexLaws
 pub mod NumberLaws
+pub mod FirstPartLaws

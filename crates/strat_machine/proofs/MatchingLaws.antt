@@ -1,9 +1,9 @@
 -- What matching over references comes to, one step after another.
-use Rattle.std.proofs.Common.{◌≡◌, ℕ, ℤ, zero, suc, ◌+◌, ◌<◌, ◌≤◌, Option, Some, None, List, [], ◌∷◌, ◌++◌, length, map, drop, get_or, Box, Global, refl, sym, ◌∙◌, ap, subst, arith, add-one}
+use Rattle.std.proofs.Common.{◌≡◌, ℕ, ℤ, zero, suc, ◌+◌, ◌<◌, ◌≤◌, Option, Some, None, List, [], ◌∷◌, ◌++◌, length, map, drop, take, min, get_or, Box, Global, refl, sym, ◌∙◌, ap, subst, arith, add-one}
 use Rattle.std.specs.Prelude.{Bool, true, false, IsTrue, ◌↔◌, nat_lt, nat_eq, if◌then◌else◌, slice_get}
 use Rattle.std.specs.Option.{option_map}
 use Rattle.std.proofs.lemmas.Option.{slice_get-map}
-use Rattle.std.proofs.lemmas.List.{drop_all, length-map}
+use Rattle.std.proofs.lemmas.List.{drop_all, length-map, length-take}
 use Rattle.std.proofs.lemmas.Bool.{eq-eqb, eqb-true}
 use Rattle.term_model.specs.Symbol.{Symbol}
 use Rattle.term_model.specs.declared.term.Head.TheVariants as heads
@@ -19,7 +19,7 @@ use Rattle.core_lang.specs.Views.{patterns_in, elements_in}
 use Rattle.strat_machine.specs.Binding.{with_term, Attempt, attempt, bind_value, bind, and_go, only_if, attempted, all_attempted, elements_attempted}
 use Rattle.strat_machine.specs.Loaded.{loaded_of, rest_loaded_of, Known, AllKnown}
 use Rattle.strat_machine.specs.declared.loaded.LoadedPattern.{LoadedPattern}
-use Rattle.strat_machine.specs.Matches.{Goes, LeavesSpace, AllLeaveSpace, ElementsLeaveSpace, first_attempted, rest_attempted, sees_annotations}
+use Rattle.strat_machine.specs.Matches.{AreFirst, Goes, LeavesSpace, AllLeaveSpace, ElementsLeaveSpace, first_attempted, rest_attempted, sees_annotations}
 use Rattle.strat_machine.specs.PlaceStack.{PlaceStack}
 use Rattle.strat_machine.specs.References.{Places, AllPlaces, AllRefs, Binds, binds_none, binds_one}
 use Rattle.strat_machine.proofs.ReferenceLaws.{all_with}
@@ -192,6 +192,13 @@ module _ (place : Coordinate → Option ℕ) (b : ℕ) where
   go_with (attempt false e T) go other h = refl
   go_with (attempt true e T) go other h = h e T
 
+  -- patterns look at no more terms than there are patterns
+  pub first_of_first : (ps : List (Pattern Coordinate)) (ts : List Tree) (e : Bindings) (T : List ℕ) → first_attempted place b ps (take (length ps) ts) e T ≡ first_attempted place b ps ts e T
+  first_of_first [] ts e T = refl
+  first_of_first (p ∷ ps) [] e T = refl
+  first_of_first (p ∷ ps) (t ∷ ts) e T =
+      go_with (attempted place b p t e T) (λ f U. first_attempted place b ps (take (length ps) ts) f U) (λ f U. first_attempted place b ps ts f U) (λ f U. first_of_first ps ts f U)
+
   -- as many patterns as terms
   all_as_first : (ps : List (Pattern Coordinate)) (ts : Trees) → length (list_of ts) ≡ length ps → (e : Bindings) (T : List ℕ) → all_attempted place b (patterns_in ps) ts e T ≡ first_attempted place b ps (list_of ts) e T
   all_as_first [] end h e T = refl
@@ -328,12 +335,29 @@ module _ {W R : Type 0} {stands : W → R → Bool} {term_of : W → R → Tree}
   pub pushed_stand : AllRefs (λ r. IsTrue (stands w r)) rs
   pushed_stand = subst (λ us. AllRefs (λ r. IsTrue (stands w r)) us) (sym pushed_is) (refs_of_all (λ r. IsTrue (stands w r)) pushed.pushed pushed.standing)
 
-  pub as_many_pushed : length rs ≡ length ts
-  as_many_pushed = sym (length-map rs (term_of w)) ∙ ap length pushed_are
-
   pub pushed_goes : {w1 : W} {e f : Places R} {T U : List ℕ} {b : ℕ} (place : Coordinate → Option ℕ) (ps : List (Pattern Coordinate)) (test : Bool) → Goes stands term_of b (first_attempted place b ps (map (term_of w) rs)) (attempt test) w e T w1 f U →
       Goes stands term_of b (first_attempted place b ps ts) (attempt test) w e T w1 f U
   pushed_goes {w1} {e} {f} {T} {U} {b} place ps test x = subst (λ us. Goes stands term_of b (first_attempted place b ps us) (attempt test) w e T w1 f U) pushed_are x
+
+-- several patterns with references to the first terms, as many as there are patterns
+module _ {W R : Type 0} {stands : W → R → Bool} {term_of : W → R → Tree} {w : W} {ts : List Tree} {n : ℕ} {us rs : List R} (first : AreFirst stands term_of w ts n rs) (same : us ≡ rs) where
+  pub first_stand : AllRefs (λ r. IsTrue (stands w r)) us
+  first_stand = subst (λ vs. AllRefs (λ r. IsTrue (stands w r)) vs) (sym same) first.standing
+
+  pub first_goes : {w1 : W} {e f : Places R} {T U : List ℕ} {b : ℕ} (place : Coordinate → Option ℕ) (ps : List (Pattern Coordinate)) (test : Bool) → length ps ≡ n → Goes stands term_of b (first_attempted place b ps (map (term_of w) us)) (attempt test) w e T w1 f U →
+      Goes stands term_of b (first_attempted place b ps ts) (attempt test) w e T w1 f U
+  first_goes {e = e} {T = T} {b = b} place ps test many x = record {
+    bound = x.bound;
+    standing = x.standing;
+    comes_to =
+        let e1 = map (option_map (term_of w)) e in
+        sym (first_of_first place b ps ts e1 T) ∙ ap (λ k. first_attempted place b ps (take k ts) e1 T) many ∙ ap (λ vs. first_attempted place b ps vs e1 T) (sym first.are) ∙ ap (λ vs. first_attempted place b ps (map (term_of w) vs) e1 T) (sym same) ∙ x.comes_to;
+  }
+
+  pub first_enough : n ≤ length us → n ≤ length ts
+  first_enough enough =
+      let many : length us ≡ min n (length ts) = ap length same ∙ sym (length-map rs (term_of w)) ∙ ap length first.are ∙ length-take n ts in
+      omega (arith, many, enough)
 
 -- patterns whose matches make no term
 pub applied_leaves : (p : Pattern Coordinate) (s : Symbol) (ps : List (Pattern Coordinate)) → p ≡ applied s (patterns_in ps) → LeavesSpace p → AllLeaveSpace (patterns_in ps)

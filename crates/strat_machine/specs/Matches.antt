@@ -1,12 +1,12 @@
 -- Attempts to match over references into a space.
-use Rattle.std.specs.Prelude.{◌≡◌, ℕ, Bool, true, false, IsTrue, Option, Some, None, List, [], ◌∷◌, map}
+use Rattle.std.specs.Prelude.{◌≡◌, ℕ, Bool, true, false, IsTrue, Option, Some, None, List, [], ◌∷◌, map, take}
 use Rattle.std.specs.Option.{option_map}
 use Rattle.term_model.specs.declared.term.Head.TheVariants as heads
 use Rattle.term_model.specs.Term.{Tree, term}
 use Rattle.core_lang.specs.Environment.{Bindings}
 use Rattle.core_lang.specs.Program.{Pattern, anything, variable, alias, integer, applied, list, like, annotated, Patterns, no_patterns, more_patterns, Elements, no_elements, the_rest, more_elements}
 use Rattle.strat_machine.specs.Binding.{Attempt, attempt, and_go, attempted}
-use Rattle.strat_machine.specs.References.{Places, AllPlaces, Binds}
+use Rattle.strat_machine.specs.References.{Places, AllPlaces, AllRefs, Binds}
 
 -- From the references e in the state w on, it came to the references f in the state w1. Over the trees that they are, the
 -- attempt comes to what the rest of it comes to from there
@@ -14,6 +14,11 @@ pub record Goes {W R : Type 0} (stands : W → R → Bool) (term_of : W → R �
   pub bound : Binds (λ r. IsTrue (stands w1 r)) b e T f U
   pub standing : AllPlaces (λ r. IsTrue (stands w1 r)) f
   pub comes_to : whole (map (option_map (term_of w)) e) T ≡ rest (map (option_map (term_of w1)) f) U
+
+-- the references stand for the first of the terms, but for at most so many
+pub record AreFirst {W R : Type 0} (stands : W → R → Bool) (term_of : W → R → Tree) (w : W) (terms : List Tree) (count : ℕ) (rs : List R) : Type 0 where
+  pub standing : AllRefs (λ r. IsTrue (stands w r)) rs
+  pub are : map (term_of w) rs ≡ take count terms
 
 -- several patterns with the first n of several terms
 abbrev pub first_attempted : {X : Type 0} → (X → Option ℕ) → ℕ → List (Pattern X) → List Tree → Bindings → List ℕ → Attempt

@@ -6,6 +6,7 @@ mod building;
 mod calls;
 mod control;
 mod failing;
+mod first_parts;
 mod flat_values;
 mod frames;
 mod index;

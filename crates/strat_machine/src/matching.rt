@@ -13,6 +13,7 @@ ghost use Rattle.strat_machine.specs.References.{AllPlaces, AllRefs};
 ghost use Rattle.strat_machine.specs.State.{place_at};
 
 use crate::annotations::{anno, anno_count, bare};
+use crate::first_parts::first_parts;
 use crate::frames::Frames;
 use crate::loaded::LoadedPattern;
 use crate::places::Places;
@@ -20,7 +21,7 @@ use core_lang::Coordinate;
 use std::alloc::{AllocError, Global};
 use term_model::TermSpace;
 
-// So few parts are asked for one by one, and the space walks to each; more are put on a vector first.
+// At most as many parts are asked for one by one, and the space walks to each; more are put on a vector by one walk.
 const FEW: usize = 8;
 
 /// Whether the pattern matches the term; each of its variables that had no term is then given one. Where it does not,
@@ -142,7 +143,7 @@ fn match_annos<S: TermSpace>(
     ensures barrier { IfOk result (λ _. places.new.barrier ≡ places.old.barrier) }
     ensures attempt { IfOk result (λ yes. Goes S.stands S.term_of places.old.barrier (first_attempted (place_at frames.now here) places.old.barrier (map (loaded_of (S.symbol_of space.old)) patterns.now) (annos_of (S.term_of space.old at.now))) (attempt yes) space.old places.old.slots places.old.trail space.new places.new.slots places.new.trail) }
 {
-    if is_walk_longer(patterns.len(), patterns.len()) {
+    if patterns.len() > FEW {
         let mut annos = Vec::new(alloc);
         space.push_annos(at, &mut annos)?;
         let yes = match_each(space, alloc, frames, here, patterns, &annos, places)?;
@@ -195,9 +196,8 @@ fn match_first<S: TermSpace>(
     ensures enough { IfOk result (λ yes. yes ≡ true → length patterns.now ≤ length (parts_of (S.term_of space.old at.now))) }
     ensures attempt { IfOk result (λ yes. Goes S.stands S.term_of places.old.barrier (first_attempted (place_at frames.now here) places.old.barrier (map (loaded_of (S.symbol_of space.old)) patterns.now) (parts_of (S.term_of space.old at.now))) (attempt yes) space.old places.old.slots places.old.trail space.new places.new.slots places.new.trail) }
 {
-    if is_walk_longer(patterns.len(), count) {
-        let mut parts = Vec::new(alloc);
-        space.push_parts(at, &mut parts)?;
+    if patterns.len() > FEW {
+        let parts = first_parts(space, alloc, at, patterns.len())?;
         let yes = match_each(space, alloc, frames, here, patterns, &parts, places)?;
         return Ok(yes);
     }
@@ -211,12 +211,6 @@ fn match_first<S: TermSpace>(
         }
     }
     Ok(true)
-}
-
-// Whether walks to each of the first `asked` parts, of which there are `count`, are longer in all than one walk along all parts. A walk
-// to a part takes up to a third of its index in steps.
-fn is_walk_longer(asked: usize, count: usize) -> bool {
-    asked > FEW && count / asked <= asked / FEW
 }
 
 // Whether there are at least as many terms, and each pattern matches its own.

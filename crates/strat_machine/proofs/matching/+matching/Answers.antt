@@ -9,7 +9,7 @@ use Rattle.strat_machine.specs.State.{place_at}
 use Rattle.strat_machine.proofs.ReferenceLaws.{all_changed}
 use Rattle.strat_machine.proofs.SpaceLaws.{keeps_same, keeps_then}
 use Rattle.strat_machine.proofs.LoadedLaws.{loaded_as_anything, loaded_as_alias, loaded_as_integer, loaded_as_like, loaded_as_applied, loaded_as_list, loaded_same, all_loaded_same, rest_loaded_same, loaded_as_annotated, known_as_applied, known_as_list, known_as_annotated, known_later, all_known_later, rest_known_later, rest_known_some, rest_loaded_some}
-use Rattle.strat_machine.proofs.MatchingLaws.{goes_at_once, goes_as_pattern, match_lacks, match_stops, match_next, known_at, part_was, ref_stands, ref_was, pushed_stand, as_many_pushed, pushed_goes, alias_goes, integer_tested, applied_none, applied_fails, applied_ends, list_none, list_fails, list_goes, no_rest, rest_goes, annotated_none, annotated_fails, annotated_goes, unseen_goes, bare_goes, applied_leaves, list_leaves, part_leaves}
+use Rattle.strat_machine.proofs.MatchingLaws.{goes_at_once, goes_as_pattern, match_lacks, match_stops, match_next, known_at, part_was, ref_stands, ref_was, pushed_stand, pushed_goes, first_stand, first_goes, first_enough, alias_goes, integer_tested, applied_none, applied_fails, applied_ends, list_none, list_fails, list_goes, no_rest, rest_goes, annotated_none, annotated_fails, annotated_goes, unseen_goes, bare_goes, applied_leaves, list_leaves, part_leaves}
 use Rattle.strat_machine.proofs.matching.+matching.Goals as goal
 
 pub match_first-loop-i-init : goal.match_first-loop-i-init
@@ -385,20 +385,21 @@ match_each-returns-then-not-branch-clause-unchanged g t c = λ h.
 
 pub match_first-match_each-requires : goal.match_first-match_each-requires
 match_first-match_each-requires g t c κs within =
-    (search (rules, the_lemmas), (within.0, (within.1.0, (within.1.1.0, (within.1.1.1, (c.requires.known, (pushed_stand c.in_ok-push_parts.ensures.pushed c.new-parts.ensures.items c.deref.ensures.value, c.requires.places)))))))
+    (search (rules, the_lemmas), (within.0, (within.1.0, (within.1.1.0, (within.1.1.1, (c.requires.known, (first_stand c.in_ok-parts.ensures c.deref.ensures.value, c.requires.places)))))))
 
-pub match_first-returns-then-is_walk_longer-clause-attempt : goal.match_first-returns-then-is_walk_longer-clause-attempt
-match_first-returns-then-is_walk_longer-clause-attempt g t c =
-    pushed_goes c.in_ok-push_parts.ensures.pushed c.new-parts.ensures.items c.deref.ensures.value (place_at c.args.frames.now c.args.here) (map (loaded_of (g.S.TermSpace.symbol_of c.args.space.now)) c.args.patterns.now) c.in_ok-yes.yes c.in_ok-yes.ensures.attempt
+pub match_first-returns-then-patterns-gt-FEW-clause-attempt : goal.match_first-returns-then-patterns-gt-FEW-clause-attempt
+match_first-returns-then-patterns-gt-FEW-clause-attempt g t c =
+    let ps = c.args.patterns.now in
+    let symbols = g.S.TermSpace.symbol_of c.args.space.now in
+    first_goes c.in_ok-parts.ensures c.deref.ensures.value (place_at c.args.frames.now c.args.here) (map (loaded_of symbols) ps) c.in_ok-yes.yes (length-map ps (loaded_of symbols)) c.in_ok-yes.ensures.attempt
 
-pub match_first-returns-then-is_walk_longer-clause-enough : goal.match_first-returns-then-is_walk_longer-clause-enough
-match_first-returns-then-is_walk_longer-clause-enough g t c = λ so.
-    subst (λ n. length c.args.patterns.now ≤ n) (as_many_pushed c.in_ok-push_parts.ensures.pushed c.new-parts.ensures.items c.deref.ensures.value) (c.in_ok-yes.ensures.enough so)
+pub match_first-returns-then-patterns-gt-FEW-clause-enough : goal.match_first-returns-then-patterns-gt-FEW-clause-enough
+match_first-returns-then-patterns-gt-FEW-clause-enough g t c = λ so. first_enough c.in_ok-parts.ensures c.deref.ensures.value (c.in_ok-yes.ensures.enough so)
 
 pub match_annos-match_each-requires : goal.match_annos-match_each-requires
 match_annos-match_each-requires g t c κs within =
     (search (rules, the_lemmas), (within.0, (within.1.0, (within.1.1.0, (within.1.1.1, (c.requires.known, (pushed_stand c.in_ok-push_annos.ensures.pushed c.new-annos.ensures.items c.deref.ensures.value, c.requires.places)))))))
 
-pub match_annos-returns-then-is_walk_longer-clause-attempt : goal.match_annos-returns-then-is_walk_longer-clause-attempt
-match_annos-returns-then-is_walk_longer-clause-attempt g t c =
+pub match_annos-returns-then-patterns-gt-FEW-clause-attempt : goal.match_annos-returns-then-patterns-gt-FEW-clause-attempt
+match_annos-returns-then-patterns-gt-FEW-clause-attempt g t c =
     pushed_goes c.in_ok-push_annos.ensures.pushed c.new-annos.ensures.items c.deref.ensures.value (place_at c.args.frames.now c.args.here) (map (loaded_of (g.S.TermSpace.symbol_of c.args.space.now)) c.args.patterns.now) c.in_ok-yes.yes c.in_ok-yes.ensures.attempt
