@@ -1,10 +1,12 @@
--- A small program and its code.
-use Rattle.std.specs.Prelude.{ℕ, [], ◌∷◌}
+-- Two small programs and their code.
+use Rattle.std.specs.Prelude.{ℕ, List, [], ◌∷◌}
 use Rattle.term_model.specs.Symbol.{Plain}
 use Rattle.core_lang.specs.declared.coordinate.Coordinate.{Coordinate}
-use Rattle.core_lang.specs.Program.{variable, applied, no_patterns, more_patterns, id, seq, match, build, scope, call, no_strategies, more_strategies, no_definitions, more_definitions}
-use Rattle.core_lang.specs.Resolved.{ResolvedDefinitions, here}
-use Rattle.strat_code.specs.Code.{Instr, code_at, match_term, build_term, count, call_definition, call_closure, end_definition, end_argument, finish, Code}
+use Rattle.core_lang.specs.Program.{variable, applied, no_patterns, more_patterns, id, seq, choice, match, build, scope, all, call, no_strategies, more_strategies, no_definitions, more_definitions}
+use Rattle.core_lang.specs.Resolved.{ResolvedStrategy, ResolvedDefinitions, here}
+use Rattle.core_lang.specs.Roots.{Root, symbol_root}
+use Rattle.strat_code.specs.Code.{Instr, Entry, entry_at, case, all_parts, code_at, parameter_at, match_term, build_term, extend, shrink, count, try, commit, select, traverse, part_done, call_definition, call_closure, end_definition, end_argument, finish, Code}
+use Rattle.strat_code.specs.Context.{Context, top, defining, hidden, Knowns, no_knowns, more_knowns, Instance, instance_at}
 
 -- a coordinate
 abbrev pub far : ℕ → ℕ → Coordinate
@@ -35,4 +37,99 @@ small_code =
     match_of_small ∷
     build_term 2 (variable (here 0)) ∷
     call_closure 1 (here 0) ∷
+    end_definition ∷ []
+
+-- {x: ?F(x); !x}, where F has this number
+abbrev pub unwraps : ℕ → ResolvedStrategy
+unwraps f = scope 1 (seq (match (applied (Plain (f ∷ [])) (more_patterns (variable (here 0)) no_patterns))) (build (variable (here 0))))
+
+-- a call without arguments
+abbrev pub call_of : Coordinate → ResolvedStrategy
+call_of y = call y no_strategies no_patterns
+
+-- the argument of main's call: try(rules)
+abbrev pub tries_rules : ResolvedStrategy
+tries_rules = call (far 1 2) (more_strategies (call_of (far 1 1)) no_strategies) no_patterns
+
+-- bottomup(s) = all(bottomup(s)); s, rules = F(x) -> x <+ G(x) -> x, try(s) = s <+ id, main = bottomup(try(rules))
+abbrev pub walking_program : ResolvedDefinitions
+walking_program =
+    more_definitions (here 0) 1 0 (seq (all (call (far 1 0) (more_strategies (call_of (here 0)) no_strategies) no_patterns)) (call_of (here 0)))
+    (more_definitions (here 0) 0 0 (choice (unwraps 70) id (unwraps 71))
+    (more_definitions (here 0) 1 0 (choice (call_of (here 0)) id id)
+    (more_definitions (here 0) 0 0 (call (far 1 0) (more_strategies tries_rules no_strategies) no_patterns) no_definitions)))
+
+abbrev pub walking_entries : List Entry
+walking_entries = entry_at 4 0 ∷ entry_at 26 0 ∷ entry_at 37 0 ∷ entry_at 2 0 ∷ []
+
+abbrev pub of_walking : Context
+of_walking = defining walking_program walking_entries top
+
+-- the strategy argument of bottomup in main: it looks at no frame, so it is known in the definitions alone
+abbrev pub tries_known : Knowns
+tries_known = more_knowns tries_rules (hidden no_knowns of_walking) no_knowns
+
+-- the instance of bottomup for try(rules)
+abbrev pub walking_instances : List Instance
+walking_instances = instance_at of_walking 0 tries_known 9 0 ∷ []
+
+-- ?F(x) after extend, charged the sequence too, where F has this number
+abbrev pub match_in_rule : ℕ → Instr
+match_in_rule f = match_term 2 (applied (Plain (f ∷ [])) (more_patterns (variable (here 0)) no_patterns))
+
+-- the root F(_), and G(_)
+abbrev pub root_f : Root
+root_f = symbol_root (Plain (70 ∷ [])) 1
+
+abbrev pub root_g : Root
+root_g = symbol_root (Plain (71 ∷ [])) 1
+
+abbrev pub walking_code : Code
+walking_code =
+    call_definition 1 0 2 0 1 [] no_patterns ∷
+    finish ∷
+    -- 2: the body of main, which calls the instance
+    call_definition 1 1 9 0 3 [] no_patterns ∷
+    end_definition ∷
+    -- 4: the body of bottomup
+    traverse 2 all_parts 7 ∷
+    call_definition 1 1 4 0 6 (parameter_at (here 0) ∷ []) no_patterns ∷
+    part_done ∷
+    call_closure 1 (here 0) ∷
+    end_definition ∷
+    -- 9: the instance of bottomup for try(rules), which calls itself; from 12 on try in place, from 13 on rules in place
+    traverse 2 all_parts 12 ∷
+    call_definition 1 1 9 0 11 [] no_patterns ∷
+    part_done ∷
+    select 3 (case root_f 0 13 24 ∷ case root_g 9 13 24 ∷ []) 24 ∷
+    select 3 (case root_f 3 14 19 ∷ []) 19 ∷
+    extend 1 1 ∷
+    match_in_rule 70 ∷
+    build_term 1 (variable (here 0)) ∷
+    shrink 1 ∷
+    commit 1 23 ∷
+    extend 1 1 ∷
+    match_in_rule 71 ∷
+    build_term 1 (variable (here 0)) ∷
+    shrink 1 ∷
+    commit 1 25 ∷
+    count 1 ∷
+    end_definition ∷
+    -- 26: the body of rules
+    select 1 (case root_f 3 27 32 ∷ []) 32 ∷
+    extend 1 1 ∷
+    match_in_rule 70 ∷
+    build_term 1 (variable (here 0)) ∷
+    shrink 1 ∷
+    commit 1 36 ∷
+    extend 1 1 ∷
+    match_in_rule 71 ∷
+    build_term 1 (variable (here 0)) ∷
+    shrink 1 ∷
+    end_definition ∷
+    -- 37: the body of try
+    try 1 40 ∷
+    call_closure 1 (here 0) ∷
+    commit 1 41 ∷
+    count 1 ∷
     end_definition ∷ []

@@ -4,12 +4,17 @@ ghost use Rattle.core_lang.specs.Resolved.{ResolvedDefinitions};
 ghost use Rattle.strat_code.specs.Code.{Instr, Code};
 ghost use Rattle.strat_code.specs.CodeOf.{IsCode};
 ghost use Rattle.strat_code.specs.StandsFor.{StandsFor};
-ghost use Rattle.strat_code.specs.Worked.{small_code, small_program};
+ghost use Rattle.strat_code.specs.Worked.{small_code, small_program, walking_code, walking_program};
 
 /// A small program, whose main calls a definition with a strategy argument, has code.
 pub fn small_code_stands()
     ensures stands { StandsFor small_code small_program 1 }
     ensures is_code { IsCode small_code [] }
+{}
+
+/// A small program, whose main is bottomup(try(rules)), has code with an instance of bottomup.
+pub fn walking_code_stands()
+    ensures stands { StandsFor walking_code walking_program 3 }
 {}
 
 /// Code that stands for a program does so with further instructions at its end.

@@ -6,7 +6,7 @@ use Rattle.core_lang.specs.Program.{id, fail, seq, choice, match, build, scope, 
 use Rattle.core_lang.specs.Resolved.{ResolvedStrategy, ResolvedDefinitions}
 use Rattle.core_lang.specs.InRange.{layer_of, layer_of_definitions, outside, IsDefinition, IsCallee}
 use Rattle.strat_code.specs.Code.{Entry, entry_at}
-use Rattle.strat_code.specs.Context.{Context, top, framed, within, defining, layers_of, outer, frames_in, slot_in, by_frames, size, HasParameter, HasDefinitions, HasOwnCode}
+use Rattle.strat_code.specs.Context.{Context, top, framed, within, defining, known, hidden, Knowns, no_knowns, more_knowns, layers_of, outer, frames_in, slot_in, by_frames, size, HasParameter, HasDefinitions, HasOwnCode}
 use Rattle.strat_compile.specs.Layers.{labelled, entry_in, entries_of}
 use Rattle.strat_compile.specs.Located.{address_if}
 
@@ -15,6 +15,8 @@ abbrev pub IsLabelled : Context → Type 0
 IsLabelled top = Unit {0}
 IsLabelled (framed m k C) = IsLabelled C
 IsLabelled (within k offset C) = IsLabelled C
+IsLabelled (known k ks C) = IsLabelled C
+IsLabelled (hidden ks C) = IsLabelled C
 IsLabelled (defining ds es C) = ((label : ℕ) × (es ≡ labelled label ds)) × IsLabelled C
 
 pub labelled_outer : (C : Context) (i : ℕ) → IsLabelled C → IsLabelled (outer C i)
@@ -23,6 +25,8 @@ labelled_outer top (suc i) h = h
 labelled_outer (framed m k C) (suc i) h = labelled_outer C i h
 labelled_outer (within k offset C) (suc i) h = labelled_outer C i h
 labelled_outer (defining ds es C) (suc i) h = labelled_outer C i h.1
+labelled_outer (known k ks C) (suc i) h = labelled_outer C i h
+labelled_outer (hidden ks C) (suc i) h = labelled_outer C i h
 
 pub outer_layers : (C : Context) (i : ℕ) → outside (layers_of C) i ≡ layers_of (outer C i)
 outer_layers C zero = refl
@@ -30,6 +34,8 @@ outer_layers top (suc i) = refl
 outer_layers (framed m k C) (suc i) = outer_layers C i
 outer_layers (within k offset C) (suc i) = outer_layers C i
 outer_layers (defining ds es C) (suc i) = outer_layers C i
+outer_layers (known k ks C) (suc i) = outer_layers C i
+outer_layers (hidden ks C) (suc i) = outer_layers C i
 
 -- what is called where there are no definitions is a strategy parameter
 pub is_parameter : (D : Context) (i m k : ℕ) → ¬ (HasDefinitions D) → IsCallee (layers_of D) i m k → HasParameter D i
@@ -37,22 +43,33 @@ is_parameter top i m k none h = h
 is_parameter (framed m' k' D) i m k none h = h.0
 is_parameter (within k' offset D) i m k none h = absurd (omega (arith, h.0))
 is_parameter (defining ds es D) i m k none h = absurd (none tt)
+is_parameter (known k' ks D) i m k none h = absurd (omega (arith, h.0))
+is_parameter (hidden ks D) i m k none h = absurd (omega (arith, h.0))
 
 module _ (n : ℕ) (A : List ℕ) where
   abbrev pub placed_entry : Entry → Entry
   placed_entry (entry_at label room) = entry_at (address_if n (slice_get A label)) room
 
-  abbrev pub placed : Context → Context
-  placed top = top
-  placed (framed m k C) = framed m k (placed C)
-  placed (within k offset C) = within k offset (placed C)
-  placed (defining ds es C) = defining ds (map placed_entry es) (placed C)
+  abbrev mutual
+    pub placed : Context → Context
+    placed top = top
+    placed (framed m k C) = framed m k (placed C)
+    placed (within k offset C) = within k offset (placed C)
+    placed (defining ds es C) = defining ds (map placed_entry es) (placed C)
+    placed (known k ks C) = known k (placed_knowns ks) (placed C)
+    placed (hidden ks C) = hidden (placed_knowns ks) (placed C)
+
+    pub placed_knowns : Knowns → Knowns
+    placed_knowns no_knowns = no_knowns
+    placed_knowns (more_knowns s D ks) = more_knowns s (placed D) (placed_knowns ks)
 
   pub placed_layers : (C : Context) → layers_of (placed C) ≡ layers_of C
   placed_layers top = refl
   placed_layers (framed m k C) = ap (λ L. layer_of m k L) (placed_layers C)
   placed_layers (within k offset C) = ap (λ L. layer_of 0 k L) (placed_layers C)
   placed_layers (defining ds es C) = ap (λ L. layer_of_definitions ds L) (placed_layers C)
+  placed_layers (known k ks C) = ap (λ L. layer_of 0 k L) (placed_layers C)
+  placed_layers (hidden ks C) = ap (λ L. layer_of 0 0 L) (placed_layers C)
 
   pub placed_outer : (C : Context) (i : ℕ) → outer (placed C) i ≡ placed (outer C i)
   placed_outer C zero = refl
@@ -60,6 +77,8 @@ module _ (n : ℕ) (A : List ℕ) where
   placed_outer (framed m k C) (suc i) = placed_outer C i
   placed_outer (within k offset C) (suc i) = placed_outer C i
   placed_outer (defining ds es C) (suc i) = placed_outer C i
+  placed_outer (known k ks C) (suc i) = placed_outer C i
+  placed_outer (hidden ks C) (suc i) = placed_outer C i
 
   pub placed_frames : (C : Context) (i : ℕ) → frames_in (placed C) i ≡ frames_in C i
   placed_frames C zero = refl
@@ -67,12 +86,16 @@ module _ (n : ℕ) (A : List ℕ) where
   placed_frames (framed m k C) (suc i) = ap suc (placed_frames C i)
   placed_frames (within k offset C) (suc i) = placed_frames C i
   placed_frames (defining ds es C) (suc i) = placed_frames C i
+  placed_frames (known k ks C) (suc i) = ap suc (placed_frames C i)
+  placed_frames (hidden ks C) (suc i) = placed_frames C i
 
   placed_slot : (C : Context) (i : ℕ) → slot_in (placed C) i ≡ slot_in C i
   placed_slot top i = refl
   placed_slot (framed m k C) i = refl
   placed_slot (within k offset C) i = refl
   placed_slot (defining ds es C) i = refl
+  placed_slot (known k ks C) i = refl
+  placed_slot (hidden ks C) i = refl
 
   placed_coordinate : (C : Context) (y : Coordinate) → by_frames (placed C) y ≡ by_frames C y
   placed_coordinate C y =
@@ -86,12 +109,16 @@ module _ (n : ℕ) (A : List ℕ) where
   placed_size (framed m k C) = refl
   placed_size (within k offset C) = refl
   placed_size (defining ds es C) = placed_size C
+  placed_size (known k ks C) = refl
+  placed_size (hidden ks C) = placed_size C
 
   placed_parameter_here : (D : Context) (i : ℕ) → HasParameter D i → HasParameter (placed D) i
   placed_parameter_here top i h = h
   placed_parameter_here (framed m k D) i h = h
   placed_parameter_here (within k offset D) i h = h
   placed_parameter_here (defining ds es D) i h = h
+  placed_parameter_here (known k ks D) i h = h
+  placed_parameter_here (hidden ks D) i h = h
 
   pub placed_parameter : (C : Context) (y : Coordinate) (m k : ℕ) → ¬ (HasDefinitions (outer C y.layers_up)) → IsCallee (outside (layers_of C) y.layers_up) y.slot m k →
       HasParameter (outer (placed C) y.layers_up) y.slot
@@ -104,6 +131,8 @@ module _ (n : ℕ) (A : List ℕ) where
   placed_definitions (framed m k D) h = h
   placed_definitions (within k offset D) h = h
   placed_definitions (defining ds es D) h = h
+  placed_definitions (known k ks D) h = h
+  placed_definitions (hidden ks D) h = h
 
   pub placed_own_code : (C : Context) (s : ResolvedStrategy) → HasOwnCode C s → HasOwnCode (placed C) s
   placed_own_code C id h = tt
@@ -138,6 +167,8 @@ module _ (n : ℕ) (A : List ℕ) where
   callee_here top i m k has h callee = elim has [ ]
   callee_here (framed m' k' D) i m k has h callee = elim has [ ]
   callee_here (within k' offset D) i m k has h callee = elim has [ ]
+  callee_here (known k' ks D) i m k has h callee = elim has [ ]
+  callee_here (hidden ks D) i m k has h callee = elim has [ ]
   callee_here (defining ds es D) i m k has h callee =
       record {
         ds = ds;

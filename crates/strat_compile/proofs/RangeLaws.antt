@@ -1,15 +1,16 @@
 -- What is emitted stands for what it is emitted for, when its places and labels have become addresses.
-use Rattle.std.proofs.Common.{◌≡◌, ◌+◌, ◌-◌, ◌<◌, ◌≤◌, inl, inr, ℕ, suc, Bool, true, Some, List, [], ◌∷◌, map, length, drop, replicate, refl, ap, sym, ◌∙◌, subst, arith}
+use Rattle.std.proofs.Common.{◌≡◌, ◌+◌, ◌-◌, ◌<◌, ◌≤◌, inl, inr, ℕ, suc, Bool, true, false, Option, Some, None, List, [], ◌∷◌, map, length, drop, replicate, refl, ap, sym, ◌∙◌, subst, arith}
 use Rattle.std.specs.Prelude.{slice_get}
 use Rattle.std.proofs.lemmas.List.{length-append, length-replicate}
 use Rattle.core_lang.specs.declared.coordinate.Coordinate.{Coordinate}
 use Rattle.core_lang.specs.Program.{Pattern, Patterns, id, fail, seq, choice, match, build, scope, all, one, some, with_definitions, call, primitive, more_strategies, more_definitions, strategies_count, patterns_count}
 use Rattle.core_lang.specs.Resolved.{ResolvedStrategy, ResolvedStrategies, ResolvedDefinitions}
+use Rattle.core_lang.specs.Roots.{Root, Begins, begins_match, begins_seq, begins_scope}
 use Rattle.core_lang.specs.InRange.{layer_of, PatternInRange, PatternsInRange, StrategyInRange, StrategiesInRange, DefinitionsInRange}
 use Rattle.strat_code.specs.Code.{Argument, parameter_at, Entry, entry_at, all_parts, one_part, some_parts, Instr, match_term, build_term, Case, extend, shrink, try, commit, select, jump, traverse, call_definition, call_closure, apply_primitive, Code, At}
-use Rattle.strat_code.specs.Context.{Context, within, layers_of, frames_in, by_frames}
+use Rattle.strat_code.specs.Context.{Context, within, defining, size, layers_of, frames_in, by_frames}
 use Rattle.strat_code.specs.Renamed.{renamed, all_renamed}
-use Rattle.strat_code.specs.Ranges.{Ranges, id_range, fail_range, seq_range, choice_range, else_range, select_range, Selects, select_last, select_more, match_range, build_range, scope_range, inner_range, all_range, one_range, some_range, let_jump_range, call_range, parameter_range, primitive_range, Bodies, no_bodies, more_bodies, roomy_bodies, Arguments, no_arguments, code_argument, parameter_argument}
+use Rattle.strat_code.specs.Ranges.{AsksFor, asks_match, asks_seq, asks_scope, one_case, Ranges, id_range, fail_range, seq_range, choice_range, else_range, select_range, Selects, select_last, select_more, match_range, build_range, scope_range, inner_range, all_range, one_range, some_range, let_jump_range, call_range, parameter_range, primitive_range, Bodies, no_bodies, more_bodies, roomy_bodies, Arguments, no_arguments, code_argument, parameter_argument}
 use Rattle.strat_compile.specs.Emission.{IsNoScope, Emits, emits_id, emits_fail, emits_seq, emits_choice, emits_select, emits_match, emits_build, emits_scope, emits_inner, emits_all, emits_one, emits_some, emits_let, emits_call, emits_parameter, emits_primitive, EmitsChain, chain_end, chain_more, EmitsArm, emits_arm, EmitsThen, then_id, then_code, EmitsDefinitions, emits_definitions, EmitsBodies, emits_no_bodies, emits_more_bodies, EmitsBody, emits_body, emits_scope_body, EmitsArguments, emits_no_arguments, emits_code_argument, emits_parameter_argument}
 use Rattle.strat_compile.specs.Chains.{Body, cases_between, selects}
 use Rattle.strat_compile.specs.Layers.{labelled, room_for}
@@ -35,6 +36,21 @@ no_room (with_definitions ds s) h = refl
 no_room (call y ss ps) h = refl
 no_room (primitive f ps) h = refl
 
+-- how many places the innermost frame has, where they are the last ones
+abbrev last_of : Bool → Context → Option ℕ
+last_of true C = Some (size C)
+last_of false C = None
+
+last_in : (w : Bool) (ds : ResolvedDefinitions) (es : List Entry) (C : Context) → last_of w (defining ds es C) ≡ last_of w C
+last_in true ds es C = refl
+last_in false ds es C = refl
+
+-- what begins with a match asks for its root
+asks_root : {C : Context} {s : ResolvedStrategy} {r : Root} {n : ℕ} → Begins s r n → AsksFor C s (r ∷ []) n
+asks_root begins_match = asks_match
+asks_root (begins_seq h) = asks_seq (asks_root h)
+asks_root (begins_scope h) = asks_scope (asks_root h)
+
 -- the labels between these two are in the end where they are in the second
 pub record Agrees (last old new : List ℕ) : Type 0 where
   pub same : (l : ℕ) → length old ≤ l → l < length new → slice_get last l ≡ slice_get new l
@@ -56,11 +72,11 @@ module _ (whole : Emitted) where
   abbrev in_place : Context → Context
   in_place C = placed (length whole.code) whole.starts C
 
-  begins_at : {w : Bool} {C : Context} {x i j k : ℕ} {s : ResolvedStrategy} → i ≡ k → Ranges final w C k x s j → Ranges final w C i x s j
-  begins_at {w} {C} {x} {i} {j} {k} {s} is r = subst (λ a. Ranges final w C a x s j) (sym is) r
+  begins_at : {w : Option ℕ} {C : Context} {x i j k : ℕ} {s : ResolvedStrategy} → i ≡ k → Ranges final [] w C k x s j → Ranges final [] w C i x s j
+  begins_at {w} {C} {x} {i} {j} {k} {s} is r = subst (λ a. Ranges final [] w C a x s j) (sym is) r
 
-  ends_at : {w : Bool} {C : Context} {x i j k : ℕ} {s : ResolvedStrategy} → j ≡ k → Ranges final w C i x s j → Ranges final w C i x s k
-  ends_at {w} {C} {x} {i} {j} {k} {s} is r = subst (λ a. Ranges final w C i x s a) is r
+  ends_at : {w : Option ℕ} {C : Context} {x i j k : ℕ} {s : ResolvedStrategy} → j ≡ k → Ranges final [] w C i x s j → Ranges final [] w C i x s k
+  ends_at {w} {C} {x} {i} {j} {k} {s} is r = subst (λ a. Ranges final [] w C i x s a) is r
 
   at_as : (i : ℕ) {v u : Instr} → v ≡ u → At final i v → At final i u
   at_as i {v} {u} is at = subst (λ r. At final i r) is at
@@ -82,12 +98,12 @@ module _ (whole : Emitted) where
       (subst (λ k. At final i (call_definition (suc x) k entry room to us (all_renamed (by_frames C) ps))) (sym (placed_frames (length whole.code) whole.starts C y.layers_up)) here)
 
   -- what the code of a chain stands for: the strategy, where no alternative is left, or the cases of its select
-  abbrev Chained : Bool → Context → ResolvedStrategy → List Body → (base last to : ℕ) → Type 0
-  Chained w C s [] base last to = Ranges final w C (address (length whole.code) last) 0 s to
-  Chained w C s (b ∷ bs) base last to = Selects final w C s (map (case_located (length whole.code)) (cases_between (b ∷ bs) base last)) (address (length whole.code) last) to
+  abbrev Chained : Option ℕ → Context → ResolvedStrategy → List Body → (base last to : ℕ) → Type 0
+  Chained w C s [] base last to = Ranges final [] w C (address (length whole.code) last) 0 s to
+  Chained w C s (b ∷ bs) base last to = Selects final [] w C s (map (case_located (length whole.code)) (cases_between (b ∷ bs) base last)) (address (length whole.code) last) to
 
-  selected : {w : Bool} {C D : Context} {i x a last to : ℕ} {b : Body} {bs : List Body} {cs : List Case} {s : ResolvedStrategy} {o o1 : Emitted} → EmitsChain w C s (b ∷ bs) last o o1 →
-      At final i (select (suc x) cs a) → Selects final w D s cs a to → Ranges final w D i x s to
+  selected : {w : Bool} {z : Option ℕ} {C D : Context} {i x a last to : ℕ} {b : Body} {bs : List Body} {cs : List Case} {s : ResolvedStrategy} {o o1 : Emitted} → EmitsChain w C s (b ∷ bs) last o o1 →
+      At final i (select (suc x) cs a) → Selects final [] z D s cs a to → Ranges final [] z D i x s to
   selected (chain_more begins a b) at cases = select_range at cases
 
   -- the select for the cases from one on, which stands after those for more cases
@@ -102,7 +118,7 @@ module _ (whole : Emitted) where
 
   mutual
     pub ranged : {w : Bool} {C : Context} {x : ℕ} {s : ResolvedStrategy} {o o1 : Emitted} → Emits w C x s o o1 → IsEnd whole.code o1.code → Agrees whole.starts o.starts o1.starts →
-        IsLabelled C → StrategyInRange (layers_of C) s → Ranges final w (in_place C) (addr o1) x s (addr o)
+        IsLabelled C → StrategyInRange (layers_of C) s → Ranges final [] (last_of w (in_place C)) (in_place C) (addr o1) x s (addr o)
     ranged emits_id h agree labels range = ends_at (next_address h) (id_range (located_at whole.code (length whole.code) whole.starts h))
     ranged emits_fail h agree labels range = ends_at (next_address h) (fail_range (located_at whole.code (length whole.code) whole.starts h))
     ranged (emits_seq a b) h agree labels range =
@@ -129,7 +145,7 @@ module _ (whole : Emitted) where
         let body = begins_at (next_address h) (ranged a (later_end h) agree labels range) in
         ends_at (next_address inner)
         (inner_range (located_at whole.code (length whole.code) whole.starts h)
-        (subst (λ z. Ranges final true (within k z (in_place C)) (suc (addr (onto (extend (suc x) k) o1))) 0 s (addr (onto (shrink k) o))) (sym (placed_size (length whole.code) whole.starts C)) body)
+        (subst (λ z. Ranges final [] (Some (z + k)) (within k z (in_place C)) (suc (addr (onto (extend (suc x) k) o1))) 0 s (addr (onto (shrink k) o))) (sym (placed_size (length whole.code) whole.starts C)) body)
         (located_at whole.code (length whole.code) whole.starts inner))
     ranged (emits_all {x = x} {o = o} a) h agree labels range =
         let inner = end_emitted whole.code a (later_end h) in
@@ -146,10 +162,12 @@ module _ (whole : Emitted) where
         ends_at (next_address inner)
         (some_range (at_as _ (ap (λ j. traverse (suc x) some_parts j) (sym (next_address inner))) (located_at whole.code (length whole.code) whole.starts h))
         (begins_at (next_address h) (ranged a (later_end h) agree labels range)) (located_at whole.code (length whole.code) whole.starts inner))
-    ranged (emits_let {o = o} a b) h agree labels range =
+    ranged (emits_let {w = w} {C = C} {x = x} {ds = ds} {s = s} {o = o} {o1 = o1} {o2 = o2} a b) h agree labels range =
         let middle = end_emitted whole.code b h in
         let defined = ranged_definitions a refl middle (agrees_first (kept b) agree) ((length o.starts, refl), labels) range.0 in
-        let_jump_range defined.0 (ranged b h (agrees_later (kept_definitions refl a) agree) ((length o.starts, refl), labels) range.1) defined.1
+        let_jump_range defined.0
+        (subst (λ z. Ranges final [] z (in_place (defining ds (labelled (length o.starts) ds) C)) (addr o2) (suc x) s (addr o1)) (last_in w ds (map (placed_entry (length whole.code) whole.starts) (labelled (length o.starts) ds)) (in_place C))
+        (ranged b h (agrees_later (kept_definitions refl a) agree) ((length o.starts, refl), labels) range.1)) defined.1
     ranged (emits_call {C = C} {x = x} {label = label} {room = room} {y = y} {ss = ss} {ps = ps} {us = us} {o = o} {o1 = o1} has entry a) h agree labels range =
         let found = callee (length whole.code) whole.starts C y (strategies_count ss) (patterns_count ps) has labels range.0 in
         let here = located_at whole.code (length whole.code) whole.starts h in
@@ -167,21 +185,21 @@ module _ (whole : Emitted) where
     -- in front of the code d of the chain stand the selects for the cases after the first
     ranged_chain : {w : Bool} {C : Context} {last : ℕ} {bs : List Body} {s : ResolvedStrategy} {o o1 : Emitted} (d : Emitted) → EmitsChain w C s bs last o o1 →
         IsEnd whole.code (selects (drop 1 (cases_between bs (place d) last)) last d.code) → IsEnd whole.code o1.code → Agrees whole.starts o.starts o1.starts →
-        IsLabelled C → StrategyInRange (layers_of C) s → Chained w (in_place C) s bs (place d) last (addr o)
+        IsLabelled C → StrategyInRange (layers_of C) s → Chained (last_of w (in_place C)) (in_place C) s bs (place d) last (addr o)
     ranged_chain d (chain_end a) block h agree labels range = ranged a h agree labels range
     ranged_chain d (chain_more {bs = []} begins a b) block h agree labels range =
         let middle = end_emitted whole.code b h in
-        select_last begins (ranged b h (agrees_later (kept_chain a) agree) labels range.0) (located_at whole.code (length whole.code) whole.starts middle)
+        select_last (asks_root begins) one_case (ranged b h (agrees_later (kept_chain a) agree) labels range.0) (located_at whole.code (length whole.code) whole.starts middle)
         (ranged_chain d a block (later_end middle) (agrees_first (kept b) agree) labels range.2)
     ranged_chain d (chain_more {last = last} {bs = c ∷ bs} begins a b) block h agree labels range =
         let middle = end_emitted whole.code b h in
         let rest = ranged_chain d a (later_end block) (later_end middle) (agrees_first (kept b) agree) labels range.2 in
-        select_more begins (ranged b h (agrees_later (kept_chain a) agree) labels range.0) (located_at whole.code (length whole.code) whole.starts middle)
+        select_more (asks_root begins) one_case (ranged b h (agrees_later (kept_chain a) agree) labels range.0) (located_at whole.code (length whole.code) whole.starts middle)
         (selected a (select_at c bs last d block) rest) rest
 
     ranged_arm : {w : Bool} {C : Context} {x to : ℕ} {s1 s2 s3 : ResolvedStrategy} {o o1 : Emitted} (j : ℕ) → EmitsArm w C x s1 s2 to o o1 → address (length whole.code) to ≡ j →
         IsEnd whole.code o1.code → Agrees whole.starts o.starts o1.starts → IsLabelled C → StrategyInRange (layers_of C) s1 → StrategyInRange (layers_of C) s2 →
-        (IsEnd whole.code o.code → Ranges final w (in_place C) (addr o) 0 s3 j) → Ranges final w (in_place C) (addr o1) x (choice s1 s2 s3) j
+        (IsEnd whole.code o.code → Ranges final [] (last_of w (in_place C)) (in_place C) (addr o) 0 s3 j) → Ranges final [] (last_of w (in_place C)) (in_place C) (addr o1) x (choice s1 s2 s3) j
     ranged_arm j (emits_arm a b) is h agree labels range1 range2 otherwise =
         let middle = end_emitted whole.code b (later_end h) in
         ranged_then _ j a is middle (agrees_first (kept b) agree) labels range2 (located_at whole.code (length whole.code) whole.starts h)
@@ -189,7 +207,7 @@ module _ (whole : Emitted) where
 
     ranged_then : {w : Bool} {C : Context} {to x : ℕ} {s1 s2 s3 : ResolvedStrategy} {o o1 : Emitted} (i j : ℕ) → EmitsThen w C s2 to o o1 → address (length whole.code) to ≡ j →
         IsEnd whole.code o1.code → Agrees whole.starts o.starts o1.starts → IsLabelled C → StrategyInRange (layers_of C) s2 → At final i (try (suc x) (addr o)) →
-        Ranges final w (in_place C) (suc i) 0 s1 (addr o1) → (IsEnd whole.code o.code → Ranges final w (in_place C) (addr o) 0 s3 j) → Ranges final w (in_place C) i x (choice s1 s2 s3) j
+        Ranges final [] (last_of w (in_place C)) (in_place C) (suc i) 0 s1 (addr o1) → (IsEnd whole.code o.code → Ranges final [] (last_of w (in_place C)) (in_place C) (addr o) 0 s3 j) → Ranges final [] (last_of w (in_place C)) (in_place C) i x (choice s1 s2 s3) j
     ranged_then {x = x} i j then_id is h agree labels range at guard otherwise =
         else_range (subst (λ a. At final i (try (suc x) a)) (sym (next_address h)) at) guard (at_as _ (ap (λ a. commit 1 a) is) (located_at whole.code (length whole.code) whole.starts h))
         (begins_at (next_address h) (otherwise (later_end h)))
@@ -203,7 +221,7 @@ module _ (whole : Emitted) where
 
     ranged_definitions : {C : Context} {label to : ℕ} {ds : ResolvedDefinitions} {o o1 : Emitted} → EmitsDefinitions C label ds to o o1 → label ≡ length o.starts →
         IsEnd whole.code o1.code → Agrees whole.starts o.starts o1.starts → IsLabelled C → DefinitionsInRange (layers_of C) ds →
-        Bodies final (in_place C) ds (map (placed_entry (length whole.code) whole.starts) (labelled label ds)) × At final (addr o1) (jump (address (length whole.code) to))
+        Bodies final [] (in_place C) ds (map (placed_entry (length whole.code) whole.starts) (labelled label ds)) × At final (addr o1) (jump (address (length whole.code) to))
     ranged_definitions (emits_definitions {label = label} {ds = ds} {o = o} a) is h agree labels range =
         let more = length-append o.starts (replicate (count_of ds) 1) ∙ ap (λ n. length o.starts + n) (length-replicate (count_of ds) 1) in (
           ranged_bodies a (omega (arith, is, more)) (later_end h) (λ l from below. agree.same l (omega (arith, is, from)) below) labels range,
@@ -212,7 +230,7 @@ module _ (whole : Emitted) where
 
     pub ranged_bodies : {C : Context} {label : ℕ} {ds : ResolvedDefinitions} {o o1 : Emitted} → EmitsBodies C label ds o o1 → label + count_of ds ≤ length o.starts →
         IsEnd whole.code o1.code → ((l : ℕ) → label ≤ l → l < length o1.starts → slice_get whole.starts l ≡ slice_get o1.starts l) → IsLabelled C → DefinitionsInRange (layers_of C) ds →
-        Bodies final (in_place C) ds (map (placed_entry (length whole.code) whole.starts) (labelled label ds))
+        Bodies final [] (in_place C) ds (map (placed_entry (length whole.code) whole.starts) (labelled label ds))
     ranged_bodies emits_no_bodies room h agree labels range = no_bodies
     ranged_bodies (emits_more_bodies {C} {label} {m} {k} {y} {s} {ds} {o} {o1} {o2} a b) room h agree labels range =
         let mine = kept_body a in
@@ -228,18 +246,18 @@ module _ (whole : Emitted) where
         ranged_body _ (ap (λ p. address_if (length whole.code) p) (sym start)) a (end_bodies whole.code b h) own labels range.0 rest
 
     ranged_body : {C : Context} {m k : ℕ} {s : ResolvedStrategy} {o o1 : Emitted} {y : Coordinate} {ds : ResolvedDefinitions} {es : List Entry} (entry : ℕ) → addr o1 ≡ entry → EmitsBody C m k s o o1 →
-        IsEnd whole.code o1.code → Agrees whole.starts o.starts o1.starts → IsLabelled C → StrategyInRange (layer_of m k (layers_of C)) s → Bodies final (in_place C) ds es →
-        Bodies final (in_place C) (more_definitions y m k s ds) (entry_at entry (room_for s) ∷ es)
+        IsEnd whole.code o1.code → Agrees whole.starts o.starts o1.starts → IsLabelled C → StrategyInRange (layer_of m k (layers_of C)) s → Bodies final [] (in_place C) ds es →
+        Bodies final [] (in_place C) (more_definitions y m k s ds) (entry_at entry (room_for s) ∷ es)
     ranged_body {y = y} {ds = ds} {es = es} entry is (emits_body {C} {m} {k} {s} none a) h agree labels range rest =
         let last = end_emitted whole.code a h in
-        subst (λ r. Bodies final (in_place C) (more_definitions y m k s ds) (entry_at entry r ∷ es)) (sym (no_room s none))
+        subst (λ r. Bodies final [] (in_place C) (more_definitions y m k s ds) (entry_at entry r ∷ es)) (sym (no_room s none))
         (more_bodies (begins_at (sym is) (ranged a h agree labels range)) (located_at whole.code (length whole.code) whole.starts last) rest)
     ranged_body entry is (emits_scope_body a) h agree labels range rest =
         let last = end_emitted whole.code a h in
         roomy_bodies (begins_at (sym is) (ranged a h agree labels range)) (located_at whole.code (length whole.code) whole.starts last) rest
 
     ranged_arguments : {C : Context} {ss : ResolvedStrategies} {us : List Argument} {o o1 : Emitted} → EmitsArguments C ss o o1 us → IsEnd whole.code o1.code →
-        Agrees whole.starts o.starts o1.starts → IsLabelled C → StrategiesInRange (layers_of C) ss → Arguments final (in_place C) ss (map (argument_located (length whole.code)) us)
+        Agrees whole.starts o.starts o1.starts → IsLabelled C → StrategiesInRange (layers_of C) ss → Arguments final [] (in_place C) ss (map (argument_located (length whole.code)) us)
     ranged_arguments emits_no_arguments h agree labels range = no_arguments
     ranged_arguments (emits_code_argument {C} {s} own a b) h agree labels range =
         let middle = end_arguments whole.code b h in
@@ -247,5 +265,5 @@ module _ (whole : Emitted) where
         code_argument (placed_own_code (length whole.code) whole.starts C s own) (ranged a middle (agrees_first (kept_arguments b) agree) labels range.0)
         (located_at whole.code (length whole.code) whole.starts last) (ranged_arguments b h (agrees_later (kept a) agree) labels range.1)
     ranged_arguments (emits_parameter_argument {C} {y} {vs} {ss} {ps} {us} none b) h agree labels range =
-        subst (λ f. Arguments final (in_place C) (more_strategies (call y vs ps) ss) (parameter_at (f y) ∷ map (argument_located (length whole.code)) us)) (sym (same_frames C))
+        subst (λ f. Arguments final [] (in_place C) (more_strategies (call y vs ps) ss) (parameter_at (f y) ∷ map (argument_located (length whole.code)) us)) (sym (same_frames C))
         (parameter_argument (placed_parameter (length whole.code) whole.starts C y (strategies_count vs) (patterns_count ps) none range.0.0) (ranged_arguments b h agree labels range.1))

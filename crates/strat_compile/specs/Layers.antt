@@ -6,7 +6,7 @@ use Rattle.core_lang.specs.Resolved.{ResolvedStrategy, ResolvedDefinitions}
 use Rattle.core_lang.specs.Views.{definitions_of}
 use Rattle.strat_code.specs.Code as code
 use Rattle.strat_code.specs.Code.{entry_at}
-use Rattle.strat_code.specs.Context.{Context, top, framed, within, defining, outer, by_frames, HasDefinitions}
+use Rattle.strat_code.specs.Context.{Context, top, framed, within, defining, known, hidden, outer, by_frames, HasDefinitions}
 use Rattle.strat_code.specs.Renamed.{renamed}
 use Rattle.strat_compile.specs.declared.layers.Entry.{Entry}
 use Rattle.strat_compile.specs.declared.layers.Layers.{Layers}
@@ -45,6 +45,8 @@ entries_of top = []
 entries_of (framed m k C) = []
 entries_of (within k offset C) = []
 entries_of (defining ds es C) = es
+entries_of (known k ks C) = []
+entries_of (hidden ks C) = []
 
 abbrev pub entry_of : Entry → code.Entry
 entry_of e = entry_at e.label e.room

@@ -9,6 +9,7 @@ use Rattle.core_lang.specs.Resolved.{ResolvedStrategy, ResolvedEnvironment, by_c
 use Rattle.core_lang.specs.Settled.{Verdict, ends, spent}
 use Rattle.strat_code.specs.Code.{commit, Code, At}
 use Rattle.strat_code.specs.Ranges.{choice_range, else_range, select_range}
+use Rattle.strat_code.specs.Context.{Instance}
 use Rattle.strat_machine.specs.State.{Frame, saved, Record, choice_record, State, running, failing}
 use Rattle.strat_machine.specs.Binding.{trimmed}
 use Rattle.core_lang.specs.Going.{IsHalt, Goes, go_spent, go_id}
@@ -46,9 +47,9 @@ module _ {code : Code} {M : Meaning} where
   id_chosen {to = to} {p = p} {f = f} {F = F} {bar = bar} {K = K} {u = u} {r = r} y at low (go_id {c = c}) =
       wider r (omega arith) (chosen 1 c 0 y at (omega arith) low (λ U h. here_lands to p u f F U bar K c) (omega arith))
 
-module _ (code : Code) (M : Meaning) where
+module _ (code : Code) (I : List Instance) (M : Meaning) where
   pub choice_halt_row : {V : ResolvedEnvironment} {s1 s2 s3 : ResolvedStrategy} {t : Tree} {e : Bindings} {c : ℕ} {q : Verdict Tree} (b : ℕ) →
-      Simulates code M V s1 t e b q c → IsHalt q → SimulatesChain code M V (choice s1 s2 s3) t e (suc b) q c → Simulates code M V (choice s1 s2 s3) t e (suc b) q c
+      Simulates code I M V s1 t e b q c → IsHalt q → SimulatesChain code I M V (choice s1 s2 s3) t e (suc b) q c → Simulates code I M V (choice s1 s2 s3) t e (suc b) q c
   choice_halt_row {t = t} {e = e} b g1 h gs w C i x to p F T bar K l (choice_range {j = j} {k = k} at r1 at1 r2 at2 r3) rep on_top low is =
       wider (10 * suc b) (omega arith) (step_on (paid_step b at (omega arith))
       (halt_lands h (g1 w C (suc i) 0 j p F T (length e) (choice_record (suc k) t (saved p (length F) (length T) bar) ∷ K) b r1 rep on_top (omega arith) (omega arith))))
@@ -59,7 +60,7 @@ module _ (code : Code) (M : Meaning) where
       wider (10 * suc b) (omega arith) (step_on (paid_step b at (omega arith)) (gs w C cs last to p F T bar K b choices rep on_top low refl))
 
   pub else_row : {V : ResolvedEnvironment} {s1 s2 s3 : ResolvedStrategy} {t : Tree} {e : Bindings} {c : ℕ} {q : Verdict Tree} (b d : ℕ) →
-      Simulates code M V s1 t e b (ends (stop failure)) d → Simulates code M V s3 t e d q c → SimulatesChain code M V (choice s1 s2 s3) t e (suc b) q c → Simulates code M V (choice s1 s2 s3) t e (suc b) q c
+      Simulates code I M V s1 t e b (ends (stop failure)) d → Simulates code I M V s3 t e d q c → SimulatesChain code I M V (choice s1 s2 s3) t e (suc b) q c → Simulates code I M V (choice s1 s2 s3) t e (suc b) q c
   else_row {t = t} {e = e} b d g1 g3 gs w C i x to p F T bar K l (choice_range {j = j} {k = k} at r1 at1 r2 at2 r3) rep on_top low is =
       wider (10 * suc b) (omega arith) (step_on (paid_step b at (omega arith))
       (otherwise_lands 0 (g1 w C (suc i) 0 j p F T (length e) (choice_record (suc k) t (saved p (length F) (length T) bar) ∷ K) b r1 rep on_top (omega arith) (omega arith))
@@ -72,11 +73,11 @@ module _ (code : Code) (M : Meaning) where
       wider (10 * suc b) (omega arith) (step_on (paid_step b at (omega arith)) (gs w C cs last to p F T bar K b choices rep on_top low refl))
 
   pub then_row : {V : ResolvedEnvironment} {s1 s2 s3 : ResolvedStrategy} {t u : Tree} {e f : Bindings} {c : ℕ} {q : Verdict Tree} (b d : ℕ) →
-      Simulates code M V s1 t e b (ends (ok u f)) d → Goes by_coordinates M V s2 u f d q c → Simulates code M V s2 u f d q c → SimulatesChain code M V (choice s1 s2 s3) t e (suc b) q c → Simulates code M V (choice s1 s2 s3) t e (suc b) q c
+      Simulates code I M V s1 t e b (ends (ok u f)) d → Goes by_coordinates M V s2 u f d q c → Simulates code I M V s2 u f d q c → SimulatesChain code I M V (choice s1 s2 s3) t e (suc b) q c → Simulates code I M V (choice s1 s2 s3) t e (suc b) q c
   then_row {t = t} {e = e} {f = f} b d g1 y g2 gs w C i x to p F T bar K l (choice_range {j = j} {k = k} at r1 at1 r2 at2 r3) rep on_top low is =
       wider (10 * suc b) (omega arith) (step_on (paid_step b at (omega arith))
       (chosen 0 d 1 (g1 w C (suc i) 0 j p F T (length e) (choice_record (suc k) t (saved p (length F) (length T) bar) ∷ K) b r1 rep on_top (omega arith) (omega arith)) at1 (omega arith) low
-      (λ U same. jumped (g2 w C (suc j) 0 k p F U bar K d r2 rep (on_top_same C e f same on_top) (omega arith) (omega arith)) at2) (omega arith)))
+      (λ U same. jumped (g2 w C (suc j) 0 k p F U bar K d r2 rep (on_top_same e f same on_top) (omega arith) (omega arith)) at2) (omega arith)))
   then_row {t = t} {e = e} {f = f} b d g1 y g2 gs w C i x to p F T bar K l (else_range {j = j} at r1 at1 r3) rep on_top low is =
       wider (10 * suc b) (omega arith) (step_on (paid_step b at (omega arith))
       (id_chosen (g1 w C (suc i) 0 j p F T (length e) (choice_record (suc j) t (saved p (length F) (length T) bar) ∷ K) b r1 rep on_top (omega arith) (omega arith)) at1 low y))

@@ -5,6 +5,7 @@ pub mod Landing
 pub mod Simulates
 pub mod PlainRows
 pub mod ChoiceRows
+pub mod AskLaws
 pub mod SelectRows
 pub mod ScopeRows
 pub mod CallRows

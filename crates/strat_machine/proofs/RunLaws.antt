@@ -1,6 +1,6 @@
 -- A run of the code of a program ends as the program does, and in no other way.
 use Rattle.std.proofs.Common.{◌≡◌, ℕ, suc, ◌+◌, ◌*◌, ◌≤◌, ◌<◌, [], refl, sym, ◌∙◌, arith, subst}
-use Rattle.std.specs.Prelude.{false}
+use Rattle.std.specs.Prelude.{None}
 use Rattle.term_model.specs.Term.{Tree}
 use Rattle.term_model.specs.Flat.{Meaning}
 use Rattle.core_lang.specs.Program.{call, no_strategies, no_patterns}
@@ -16,6 +16,7 @@ use Rattle.strat_code.specs.StandsFor.{StandsFor}
 use Rattle.strat_machine.specs.Run.{start, EndsSo, Says}
 use Rattle.strat_machine.proofs.Representation.{of_top, of_definitions}
 use Rattle.strat_machine.proofs.Landing.{Lands, lands_ok, lands_failed, lands_oversize, lands_spent, steps_then, one_step, paid_step}
+use Rattle.strat_machine.proofs.Simulates.{never_on_top}
 use Rattle.strat_machine.proofs.Simulation.{simulates}
 use Rattle.core_lang.proofs.GoingLaws.{settled_so, goes}
 
@@ -50,7 +51,7 @@ module _ {code : Code} {M : Meaning} {P : ResolvedDefinitions} {i : ℕ} {t : Tr
 pub runs : (code : Code) (M : Meaning) (P : ResolvedDefinitions) (i : ℕ) → StandsFor code P i → (t : Tree) (budget : ℕ) → Runs code M P i t budget
 runs code M P i stands t budget =
     let going = goes budget (definitions P outermost) (call (here i) no_strategies no_patterns) t [] in
-    of_landing stands (simulates code M going.fact false (defining P stands.entries top) 0 0 1 0 [] [] 0 [] budget stands.begins (of_definitions stands.bodies of_top) (λ no. absurd (cc)) (omega arith) (omega arith)) (settled_so going.fact)
+    of_landing stands (simulates code stands.instances stands.instance_bodies M going.fact None (defining P stands.entries top) 0 0 1 0 [] [] 0 [] budget stands.begins (of_definitions stands.bodies of_top) never_on_top (omega arith) (omega arith)) (settled_so going.fact)
 
 -- where some steps lead from the beginning, as many less lead to the end
 pub record Ahead (code : Code) (M : Meaning) (k j : ℕ) (m : State) (r : Result) (left : ℕ) : Type 0 where

@@ -10,7 +10,7 @@ use Rattle.core_lang.specs.Ending.{Ending, ok, failure, excess, stop, keeping, i
 use Rattle.core_lang.specs.Resolved.{ResolvedStrategy, ResolvedEnvironment}
 use Rattle.core_lang.specs.Settled.{Verdict, ends}
 use Rattle.strat_code.specs.Code.{Case, jump, Code, At}
-use Rattle.strat_code.specs.Context.{Context, within, size}
+use Rattle.strat_code.specs.Context.{Instance, Context, within}
 use Rattle.strat_code.specs.Ranges.{Selects, Ranges}
 use Rattle.strat_machine.specs.State.{Frame, frame, Record, State, running, failing}
 use Rattle.strat_machine.specs.Binding.{undone, above, down_to}
@@ -51,11 +51,21 @@ pub data Last (F : List Frame) (p k n : ℕ) : Type 0 where
   ends_at : {base up : ℕ} {cs : List (ℕ × ℕ)} → slice_get F p ≡ Some (frame base up cs) → n ≡ base + k → Last F p k n
 
 -- where the innermost frame can be given more places, it ends where the places end
-abbrev pub OnTop : Bool → Context → List Frame → ℕ → ℕ → Type 0
-OnTop w C F p n = w ≡ true → Last F p (size C) n
+abbrev pub OnTop : Option ℕ → List Frame → ℕ → ℕ → Type 0
+OnTop w F p n = (k : ℕ) → w ≡ Some k → Last F p k n
 
-pub on_top_same : {w : Bool} (C : Context) {F : List Frame} {p : ℕ} (e f : Bindings) → length f ≡ length e → OnTop w C F p (length e) → OnTop w C F p (length f)
-on_top_same C {F} {p} e f h on_top = λ is. subst (λ n. Last F p (size C) n) (sym h) (on_top is)
+pub on_top_same : {w : Option ℕ} {F : List Frame} {p : ℕ} (e f : Bindings) → length f ≡ length e → OnTop w F p (length e) → OnTop w F p (length f)
+on_top_same {F = F} {p = p} e f h on_top = λ k is. subst (λ n. Last F p k n) (sym h) (on_top k is)
+
+-- the frame has its last k places at the end of n
+pub on_top_at : {F : List Frame} {p k n : ℕ} → Last F p k n → OnTop (Some k) F p n
+on_top_at {F} {p} {k} {n} h = λ i is. subst (λ j. Last F p j n) (same_number k i is) h
+  where
+    same_number : (k i : ℕ) → Some k ≡ Some i → k ≡ i
+    same_number k i h = cc
+
+pub never_on_top : {F : List Frame} {p n : ℕ} → OnTop None F p n
+never_on_top = λ i is. absurd (cc)
 
 pub on_top_of_frame : (F : List Frame) (f : Frame) (base up k : ℕ) (cs : List (ℕ × ℕ)) (n : ℕ) → f ≡ frame base up cs → n ≡ base + k → Last (F ++ f ∷ []) (length F) k n
 on_top_of_frame F f base up k cs n is h = ends_at (got_last F f ∙ ap Some is) h
@@ -75,19 +85,19 @@ built_leaves (Some u) e = fits_leaves (fits u) u e
 
 -- From the first address of each range for the strategy, in frames that represent the environment and with a budget of b over the x
 -- nodes around, the machine lands at the range's end as the strategy goes from b, in at most 10 steps for each node
-abbrev pub Simulates : Code → Meaning → ResolvedEnvironment → ResolvedStrategy → Tree → Bindings → ℕ → Verdict Tree → ℕ → Type 0
-Simulates code M V s t e b q c = (w : Bool) (C : Context) (i x to p : ℕ) (F : List Frame) (T : List ℕ) (bar : ℕ) (K : List Record) (l : ℕ) →
-    Ranges code w C i x s to → Represents code F C V p → OnTop w C F p (length e) → bar ≤ length e → l ≡ x + b → Lands code M to p e F T bar K (running i p t e F T bar K l) (10 * b) q c
+abbrev pub Simulates : Code → List Instance → Meaning → ResolvedEnvironment → ResolvedStrategy → Tree → Bindings → ℕ → Verdict Tree → ℕ → Type 0
+Simulates code I M V s t e b q c = (w : Option ℕ) (C : Context) (i x to p : ℕ) (F : List Frame) (T : List ℕ) (bar : ℕ) (K : List Record) (l : ℕ) →
+    Ranges code I w C i x s to → Represents code I F C V p → OnTop w F p (length e) → bar ≤ length e → l ≡ x + b → Lands code M to p e F T bar K (running i p t e F T bar K l) (10 * b) q c
 
 -- so it does from the cases of a chain of alternatives, where the node of the choice is paid for
-abbrev pub SimulatesChain : Code → Meaning → ResolvedEnvironment → ResolvedStrategy → Tree → Bindings → ℕ → Verdict Tree → ℕ → Type 0
-SimulatesChain code M V s t e b q c = (w : Bool) (C : Context) (cs : List Case) (last to p : ℕ) (F : List Frame) (T : List ℕ) (bar : ℕ) (K : List Record) (l : ℕ) →
-    Selects code w C s cs last to → Represents code F C V p → OnTop w C F p (length e) → bar ≤ length e → b ≡ suc l → Lands code M to p e F T bar K (selected cs last p t e F T bar K l) (10 * l) q c
+abbrev pub SimulatesChain : Code → List Instance → Meaning → ResolvedEnvironment → ResolvedStrategy → Tree → Bindings → ℕ → Verdict Tree → ℕ → Type 0
+SimulatesChain code I M V s t e b q c = (w : Option ℕ) (C : Context) (cs : List Case) (last to p : ℕ) (F : List Frame) (T : List ℕ) (bar : ℕ) (K : List Record) (l : ℕ) →
+    Selects code I w C s cs last to → Represents code I F C V p → OnTop w F p (length e) → bar ≤ length e → b ≡ suc l → Lands code M to p e F T bar K (selected cs last p t e F T bar K l) (10 * l) q c
 
 -- so it does from a range for what is inside a scope, where the places of the scope are there and its node is not paid for yet
-abbrev pub SimulatesBody : Code → Meaning → ResolvedEnvironment → ResolvedStrategy → Tree → Bindings → ℕ → Verdict Tree → ℕ → Type 0
-SimulatesBody code M V s t e b q c = (C : Context) (n i x to p : ℕ) (F : List Frame) (T : List ℕ) (bar : ℕ) (K : List Record) (l : ℕ) (offset : ℕ) (r : ResolvedStrategy) → s ≡ scope n r →
-    Ranges code true (within n offset C) i (suc x) r to → Represents code F C V p → Last F p offset (length e) → bar ≤ length e → l ≡ x + b →
+abbrev pub SimulatesBody : Code → List Instance → Meaning → ResolvedEnvironment → ResolvedStrategy → Tree → Bindings → ℕ → Verdict Tree → ℕ → Type 0
+SimulatesBody code I M V s t e b q c = (C : Context) (n i x to p : ℕ) (F : List Frame) (T : List ℕ) (bar : ℕ) (K : List Record) (l : ℕ) (offset : ℕ) (r : ResolvedStrategy) → s ≡ scope n r →
+    Ranges code I (Some (offset + n)) (within n offset C) i (suc x) r to → Represents code I F C V p → Last F p offset (length e) → bar ≤ length e → l ≡ x + b →
     (o : Verdict Tree) × (q ≡ with_ending (keeping (length e)) o) × Lands code M to p (e ++ empty_places n) F T bar K (running i p t (e ++ empty_places n) F T bar K l) (10 * b) o c
 
 module _ {code : Code} {M : Meaning} where

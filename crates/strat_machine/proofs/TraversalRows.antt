@@ -1,6 +1,6 @@
 -- Ranges of all, one and some.
 use Rattle.std.proofs.Common.{◌≡◌, ℕ, suc, ◌+◌, ◌*◌, ◌-◌, ◌≤◌, Some, List, [], ◌∷◌, length, ◌++◌, refl, ◌∙◌, ap, arith, subst}
-use Rattle.std.specs.Prelude.{Bool, true, false}
+use Rattle.std.specs.Prelude.{Option, Some, Bool, true, false}
 use Rattle.term_model.specs.Term.{Tree, Trees, end, more}
 use Rattle.term_model.specs.Flat.{Meaning}
 use Rattle.core_lang.specs.Program.{all, one, some}
@@ -10,7 +10,7 @@ use Rattle.core_lang.specs.Resolved.{ResolvedStrategy, ResolvedEnvironment}
 use Rattle.core_lang.specs.Derivation.{parts}
 use Rattle.core_lang.specs.Settled.{Verdict, ends, spent, verdict_in_front}
 use Rattle.strat_code.specs.Code.{part_done, Code, At}
-use Rattle.strat_code.specs.Context.{Context}
+use Rattle.strat_code.specs.Context.{Instance, Context}
 use Rattle.strat_code.specs.Ranges.{Ranges, all_range, one_range, some_range}
 use Rattle.strat_machine.specs.State.{Frame, saved, Record, all_record, one_record, some_record, State, running, failing}
 use Rattle.strat_machine.specs.Binding.{trimmed}
@@ -21,7 +21,7 @@ use Rattle.strat_machine.proofs.Representation.{Represents}
 use Rattle.strat_machine.proofs.Landing.{Lands, lands_ok, lands_failed, lands_oversize, lands_spent, steps_then, one_step, paid_step, wider, onward, step_on}
 use Rattle.strat_machine.proofs.Simulates.{restored, OnTop, on_top_same, Leaves, built_leaves, Simulates, fails_here, goes_on_lands}
 
-module _ (code : Code) (M : Meaning) where
+module _ (code : Code) (I : List Instance) (M : Meaning) where
   -- parts that are done, in front of an ending over parts
   abbrev pub onto : Trees → Ending Trees → Ending Trees
   onto done (ok us f) = ok (in_order done us) f
@@ -47,16 +47,16 @@ module _ (code : Code) (M : Meaning) where
 
   -- the code for each part, and its end
   pub record Body (C : Context) (V : ResolvedEnvironment) (s : ResolvedStrategy) (body after p : ℕ) (F : List Frame) (n : ℕ) : Type 0 where
-    when : Bool
+    when : Option ℕ
     exit : ℕ
-    range : Ranges code when C body 0 s exit
+    range : Ranges code I when C body 0 s exit
     at : At code exit part_done
     ends : after ≡ suc exit
-    represents : Represents code F C V p
-    on_top : OnTop when C F p n
+    represents : Represents code I F C V p
+    on_top : OnTop when F p n
 
   pub same_body : {C : Context} {V : ResolvedEnvironment} {s : ResolvedStrategy} {body after p : ℕ} {F : List Frame} (e f : Bindings) → length f ≡ length e → Body C V s body after p F (length e) → Body C V s body after p F (length f)
-  same_body {C} e f h loop = record { when = loop.when; exit = loop.exit; range = loop.range; at = loop.at; ends = loop.ends; represents = loop.represents; on_top = on_top_same C e f h loop.on_top }
+  same_body {C} e f h loop = record { when = loop.when; exit = loop.exit; range = loop.range; at = loop.at; ends = loop.ends; represents = loop.represents; on_top = on_top_same e f h loop.on_top }
 
   abbrev pub SimulatesAll : ResolvedEnvironment → ResolvedStrategy → Trees → Bindings → ℕ → Verdict Trees → ℕ → Type 0
   SimulatesAll V s ts e b q c = (C : Context) (body after p : ℕ) (F : List Frame) (T : List ℕ) (bar : ℕ) (K : List Record) (t : Tree) (done : Trees) → Body C V s body after p F (length e) → bar ≤ length e →
@@ -98,18 +98,18 @@ module _ (code : Code) (M : Meaning) where
   all_end_row {e = e} b C body after p F T bar K t done loop low =
       goes_on_lands after p e F T bar K b (rebuilt t (ok (in_order done end) e)) (rebuilt_leaves t (in_order done end) e)
 
-  pub all_next_row : {V : ResolvedEnvironment} {s : ResolvedStrategy} {v u : Tree} {ts : Trees} {e f : Bindings} {c : ℕ} (b d : ℕ) (q : Verdict Trees) → Simulates code M V s v e b (ends (ok u f)) d → SimulatesAll V s ts f d q c →
+  pub all_next_row : {V : ResolvedEnvironment} {s : ResolvedStrategy} {v u : Tree} {ts : Trees} {e f : Bindings} {c : ℕ} (b d : ℕ) (q : Verdict Trees) → Simulates code I M V s v e b (ends (ok u f)) d → SimulatesAll V s ts f d q c →
       SimulatesAll V s (more v ts) e b (verdict_in_front u q) c
   all_next_row {v = v} {u} {ts} {e} {f} {c} b d q g1 g2 C body after p F T bar K t done loop low =
       subst (λ w. Lands code M after p e F T bar K (running body p v e F T bar (all_record body after t done ts ∷ K) b) (1 + 10 * b) w c) (whole_next t done u q)
       (all_part (g1 loop.when C body 0 loop.exit p F T bar (all_record body after t done ts ∷ K) b loop.range loop.represents loop.on_top low (omega arith)) loop.at
       (λ U same. g2 C body after p F U bar K t (more u done) (same_body e f same loop) (omega arith)) (omega arith))
 
-  pub all_stop_row : {V : ResolvedEnvironment} {s : ResolvedStrategy} {v : Tree} {ts : Trees} {e : Bindings} {c : ℕ} {q : Verdict Tree} (b : ℕ) → Simulates code M V s v e b q c → IsEnd q → SimulatesAll V s (more v ts) e b (row_ended q) c
+  pub all_stop_row : {V : ResolvedEnvironment} {s : ResolvedStrategy} {v : Tree} {ts : Trees} {e : Bindings} {c : ℕ} {q : Verdict Tree} (b : ℕ) → Simulates code I M V s v e b q c → IsEnd q → SimulatesAll V s (more v ts) e b (row_ended q) c
   all_stop_row {ts = ts} b g h C body after p F T bar K t done loop low =
       all_stops h (g loop.when C body 0 loop.exit p F T bar (all_record body after t done ts ∷ K) b loop.range loop.represents loop.on_top low (omega arith))
 
-  pub all_row : {V : ResolvedEnvironment} {s : ResolvedStrategy} {t : Tree} {e : Bindings} {c : ℕ} (b : ℕ) (q : Verdict Trees) → SimulatesAll V s (parts t) e b q c → Simulates code M V (all s) t e (suc b) (with_ending (rebuilt t) q) c
+  pub all_row : {V : ResolvedEnvironment} {s : ResolvedStrategy} {t : Tree} {e : Bindings} {c : ℕ} (b : ℕ) (q : Verdict Trees) → SimulatesAll V s (parts t) e b q c → Simulates code I M V (all s) t e (suc b) (with_ending (rebuilt t) q) c
   all_row {V} {s} {t} {e} {c} b q g w C i x to p F T bar K l (all_range {j = j} at r at1) rep on_top low is =
       subst (λ w. Lands code M (suc j) p e F T bar K (running i p t e F T bar K l) (10 * suc b) w c) (whole_first t q)
       (wider (10 * suc b) (omega arith) (step_on (paid_step b at (omega arith)) (g C (suc i) (suc j) p F T bar K t end (record { when = w; exit = j; range = r; at = at1; ends = refl; represents = rep; on_top = on_top }) low)))
@@ -141,22 +141,22 @@ module _ (code : Code) (M : Meaning) where
   pub one_end_row : {V : ResolvedEnvironment} {s : ResolvedStrategy} {e : Bindings} (b : ℕ) → SimulatesOne V s end e b (ends (stop failure)) b
   one_end_row {e = e} b C body after p F T bar K t done loop low = fails_here after p e F T bar K b
 
-  pub one_found_row : {V : ResolvedEnvironment} {s : ResolvedStrategy} {v u : Tree} {ts : Trees} {e f : Bindings} {c : ℕ} (b : ℕ) → Simulates code M V s v e b (ends (ok u f)) c → SimulatesOne V s (more v ts) e b (ends (ok (more u ts) f)) c
+  pub one_found_row : {V : ResolvedEnvironment} {s : ResolvedStrategy} {v u : Tree} {ts : Trees} {e f : Bindings} {c : ℕ} (b : ℕ) → Simulates code I M V s v e b (ends (ok u f)) c → SimulatesOne V s (more v ts) e b (ends (ok (more u ts) f)) c
   one_found_row {v = v} {ts = ts} {e} b g C body after p F T bar K t done loop low =
       one_part low (g loop.when C body 0 loop.exit p F T (length e) (one_record body after t done v ts (saved p (length F) (length T) bar) ∷ K) b loop.range loop.represents loop.on_top (omega arith) (omega arith)) loop.at
 
-  pub one_halt_row : {V : ResolvedEnvironment} {s : ResolvedStrategy} {v : Tree} {ts : Trees} {e : Bindings} {c : ℕ} {q : Verdict Tree} (b : ℕ) → Simulates code M V s v e b q c → IsHalt q → SimulatesOne V s (more v ts) e b (row_ended q) c
+  pub one_halt_row : {V : ResolvedEnvironment} {s : ResolvedStrategy} {v : Tree} {ts : Trees} {e : Bindings} {c : ℕ} {q : Verdict Tree} (b : ℕ) → Simulates code I M V s v e b q c → IsHalt q → SimulatesOne V s (more v ts) e b (row_ended q) c
   one_halt_row {v = v} {ts = ts} {e} b g h C body after p F T bar K t done loop low =
       part_halts t done h (g loop.when C body 0 loop.exit p F T (length e) (one_record body after t done v ts (saved p (length F) (length T) bar) ∷ K) b loop.range loop.represents loop.on_top (omega arith) (omega arith))
 
-  pub one_next_row : {V : ResolvedEnvironment} {s : ResolvedStrategy} {v : Tree} {ts : Trees} {e : Bindings} {c : ℕ} (b d : ℕ) (q : Verdict Trees) → Simulates code M V s v e b (ends (stop failure)) d → SimulatesOne V s ts e d q c →
+  pub one_next_row : {V : ResolvedEnvironment} {s : ResolvedStrategy} {v : Tree} {ts : Trees} {e : Bindings} {c : ℕ} (b d : ℕ) (q : Verdict Trees) → Simulates code I M V s v e b (ends (stop failure)) d → SimulatesOne V s ts e d q c →
       SimulatesOne V s (more v ts) e b (verdict_in_front v q) c
   one_next_row {v = v} {ts} {e} {c} b d q g1 g2 C body after p F T bar K t done loop low =
       subst (λ w. Lands code M after p e F T bar K (running body p v e F T (length e) (one_record body after t done v ts (saved p (length F) (length T) bar) ∷ K) b) (1 + 10 * b) w c) (whole_next t done v q)
       (one_fails (g1 loop.when C body 0 loop.exit p F T (length e) (one_record body after t done v ts (saved p (length F) (length T) bar) ∷ K) b loop.range loop.represents loop.on_top (omega arith) (omega arith))
       (g2 C body after p F T bar K t (more v done) loop low) (omega arith))
 
-  pub one_row : {V : ResolvedEnvironment} {s : ResolvedStrategy} {t : Tree} {e : Bindings} {c : ℕ} (b : ℕ) (q : Verdict Trees) → SimulatesOne V s (parts t) e b q c → Simulates code M V (one s) t e (suc b) (with_ending (rebuilt t) q) c
+  pub one_row : {V : ResolvedEnvironment} {s : ResolvedStrategy} {t : Tree} {e : Bindings} {c : ℕ} (b : ℕ) (q : Verdict Trees) → SimulatesOne V s (parts t) e b q c → Simulates code I M V (one s) t e (suc b) (with_ending (rebuilt t) q) c
   one_row {V} {s} {t} {e} {c} b q g w C i x to p F T bar K l (one_range {j = j} at r at1) rep on_top low is =
       subst (λ w. Lands code M (suc j) p e F T bar K (running i p t e F T bar K l) (10 * suc b) w c) (whole_first t q)
       (wider (10 * suc b) (omega arith) (step_on (paid_step b at (omega arith)) (g C (suc i) (suc j) p F T bar K t end (record { when = w; exit = j; range = r; at = at1; ends = refl; represents = rep; on_top = on_top }) low)))
@@ -194,7 +194,7 @@ module _ (code : Code) (M : Meaning) where
   pub some_none_row : {V : ResolvedEnvironment} {s : ResolvedStrategy} {e : Bindings} (b : ℕ) → SimulatesSome V s end e false b (ends (stop failure)) b
   some_none_row {e = e} b C body after p F T bar K t done loop low = fails_here after p e F T bar K b
 
-  pub some_found_row : {V : ResolvedEnvironment} {s : ResolvedStrategy} {v u : Tree} {ts : Trees} {e f : Bindings} {found : Bool} {c : ℕ} (b d : ℕ) (q : Verdict Trees) → Simulates code M V s v e b (ends (ok u f)) d → SimulatesSome V s ts f true d q c →
+  pub some_found_row : {V : ResolvedEnvironment} {s : ResolvedStrategy} {v u : Tree} {ts : Trees} {e f : Bindings} {found : Bool} {c : ℕ} (b d : ℕ) (q : Verdict Trees) → Simulates code I M V s v e b (ends (ok u f)) d → SimulatesSome V s ts f true d q c →
       SimulatesSome V s (more v ts) e found b (verdict_in_front u q) c
   some_found_row {v = v} {u} {ts} {e} {f} {found} {c} b d q g1 g2 C body after p F T bar K t done loop low =
       let most = some_room_most ts in
@@ -202,18 +202,18 @@ module _ (code : Code) (M : Meaning) where
       (some_part low (g1 loop.when C body 0 loop.exit p F T (length e) (some_record body after t done v ts found (saved p (length F) (length T) bar) ∷ K) b loop.range loop.represents loop.on_top (omega arith) (omega arith)) loop.at
       (λ U same. g2 C body after p F U bar K t (more u done) (same_body e f same loop) (omega arith)) (omega arith))
 
-  pub some_stays_row : {V : ResolvedEnvironment} {s : ResolvedStrategy} {v : Tree} {ts : Trees} {e : Bindings} {found : Bool} {c : ℕ} (b d : ℕ) (q : Verdict Trees) → Simulates code M V s v e b (ends (stop failure)) d → SimulatesSome V s ts e found d q c →
+  pub some_stays_row : {V : ResolvedEnvironment} {s : ResolvedStrategy} {v : Tree} {ts : Trees} {e : Bindings} {found : Bool} {c : ℕ} (b d : ℕ) (q : Verdict Trees) → Simulates code I M V s v e b (ends (stop failure)) d → SimulatesSome V s ts e found d q c →
       SimulatesSome V s (more v ts) e found b (verdict_in_front v q) c
   some_stays_row {v = v} {ts} {e} {found} {c} b d q g1 g2 C body after p F T bar K t done loop low =
       subst (λ w. Lands code M after p e F T bar K (running body p v e F T (length e) (some_record body after t done v ts found (saved p (length F) (length T) bar) ∷ K) b) (2 + 10 * b) w c) (whole_next t done v q)
       (some_fails (g1 loop.when C body 0 loop.exit p F T (length e) (some_record body after t done v ts found (saved p (length F) (length T) bar) ∷ K) b loop.range loop.represents loop.on_top (omega arith) (omega arith))
       (some_unchanged body t done v ts found d loop.at loop.ends (g2 C body after p F T bar K t (more v done) loop low)) (omega arith))
 
-  pub some_halt_row : {V : ResolvedEnvironment} {s : ResolvedStrategy} {v : Tree} {ts : Trees} {e : Bindings} {found : Bool} {c : ℕ} {q : Verdict Tree} (b : ℕ) → Simulates code M V s v e b q c → IsHalt q → SimulatesSome V s (more v ts) e found b (row_ended q) c
+  pub some_halt_row : {V : ResolvedEnvironment} {s : ResolvedStrategy} {v : Tree} {ts : Trees} {e : Bindings} {found : Bool} {c : ℕ} {q : Verdict Tree} (b : ℕ) → Simulates code I M V s v e b q c → IsHalt q → SimulatesSome V s (more v ts) e found b (row_ended q) c
   some_halt_row {v = v} {ts = ts} {e} {found} b g h C body after p F T bar K t done loop low =
       wider (2 + 10 * b) (omega arith) (part_halts t done h (g loop.when C body 0 loop.exit p F T (length e) (some_record body after t done v ts found (saved p (length F) (length T) bar) ∷ K) b loop.range loop.represents loop.on_top (omega arith) (omega arith)))
 
-  pub some_row : {V : ResolvedEnvironment} {s : ResolvedStrategy} {t : Tree} {e : Bindings} {c : ℕ} (b : ℕ) (q : Verdict Trees) → SimulatesSome V s (parts t) e false b q c → Simulates code M V (some s) t e (suc b) (with_ending (rebuilt t) q) c
+  pub some_row : {V : ResolvedEnvironment} {s : ResolvedStrategy} {t : Tree} {e : Bindings} {c : ℕ} (b : ℕ) (q : Verdict Trees) → SimulatesSome V s (parts t) e false b q c → Simulates code I M V (some s) t e (suc b) (with_ending (rebuilt t) q) c
   some_row {V} {s} {t} {e} {c} b q g w C i x to p F T bar K l (some_range {j = j} at r at1) rep on_top low is =
       let most = some_room_most (parts t) in
       subst (λ w. Lands code M (suc j) p e F T bar K (running i p t e F T bar K l) (10 * suc b) w c) (whole_first t q)
