@@ -17,7 +17,7 @@ use term_model::{Fault, Made, TermSpace};
 
 // The integer of the digits from the index on.
 #[inline(always)]
-pub(crate) fn number<S: TermSpace>(
+pub(crate) fn read_number<S: TermSpace>(
     space: &mut S,
     alloc: Global,
     reader: &mut Reader<S::Ref, S::Name>,
@@ -66,7 +66,7 @@ fn add_int<S: TermSpace>(
 
 // The integer of the digits from the index on, which comes after a minus.
 #[inline(always)]
-pub(crate) fn negative<S: TermSpace>(
+pub(crate) fn read_negative<S: TermSpace>(
     space: &mut S,
     alloc: Global,
     reader: &mut Reader<S::Ref, S::Name>,
@@ -87,7 +87,7 @@ pub(crate) fn negative<S: TermSpace>(
     if !is_digit_byte(text[index]) {
         return Err(Fault::TermSyntax { at: index as u64 });
     }
-    number(space, alloc, reader, true, text, index)
+    read_number(space, alloc, reader, true, text, index)
 }
 
 // The number of the digits from the index on, and where they end.

@@ -14,7 +14,7 @@ use term_model::{Fault, TermSpace};
 
 // The name that begins at the index, and where it ends.
 #[inline(always)]
-pub(crate) fn plain<S: TermSpace>(
+pub(crate) fn read_plain<S: TermSpace>(
     space: &mut S,
     alloc: Global,
     text: &[u8],
@@ -37,7 +37,7 @@ pub(crate) fn plain<S: TermSpace>(
 
 // The symbol of the quoted text that begins at the index, and the index after the closing quote.
 #[inline(always)]
-pub(crate) fn quoted<S: TermSpace>(
+pub(crate) fn read_quoted<S: TermSpace>(
     space: &mut S,
     alloc: Global,
     text: &[u8],
@@ -59,13 +59,13 @@ pub(crate) fn quoted<S: TermSpace>(
         let name = space.name_spelled(alloc, Kind::Quoted, &text[index..end])?;
         return Ok((name, end + 1));
     }
-    let (bytes, after) = escaped(alloc, text, index)?;
+    let (bytes, after) = read_escaped(alloc, text, index)?;
     let name = space.name_spelled(alloc, Kind::Quoted, &bytes)?;
     Ok((name, after))
 }
 
 // The bytes that a quoted text stands for, and the index after the closing quote.
-fn escaped(alloc: Global, text: &[u8], index: usize) -> Result<(Vec<u8>, usize), Fault>
+fn read_escaped(alloc: Global, text: &[u8], index: usize) -> Result<(Vec<u8>, usize), Fault>
     requires within { index ≤ length text.now }
     ensures past { IfOk result (λ r. index < r.1) }
     ensures within { IfOk result (λ r. r.1 ≤ length text.now) }
@@ -90,14 +90,14 @@ fn escaped(alloc: Global, text: &[u8], index: usize) -> Result<(Vec<u8>, usize),
         if byte == b'"' {
             return Ok((bytes, end + 1));
         }
-        let (byte, after) = escape(text, end + 1)?;
+        let (byte, after) = read_escape(text, end + 1)?;
         bytes.push(byte)?;
         from = after;
     }
 }
 
 // The byte of an escape, of which the index is after the backslash, and where it ends.
-fn escape(text: &[u8], index: usize) -> Result<(u8, usize), Fault>
+fn read_escape(text: &[u8], index: usize) -> Result<(u8, usize), Fault>
     requires within { index ≤ length text.now }
     ensures low { IfOk result (λ r. index < r.1) }
     ensures within { IfOk result (λ r. r.1 ≤ length text.now) }

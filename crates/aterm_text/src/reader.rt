@@ -9,9 +9,9 @@ ghost use Rattle.term_model.specs.Term.{Tree};
 ghost use Rattle.aterm_text.specs.declared.open.Next.TheVariants as nexts;
 
 use crate::brackets::{apply, close, closer, open};
-use crate::numbers::{negative, number};
+use crate::numbers::{read_negative, read_number};
 use crate::open::{Bracket, Enclosing, Next, Reader};
-use crate::quoted::{plain, quoted};
+use crate::quoted::{read_plain, read_quoted};
 use crate::scan::{blanks_end, is_first};
 use std::alloc::Global;
 use term_model::bytes::is_digit_byte;
@@ -59,7 +59,7 @@ fn close_at<S: TermSpace>(
 }
 
 // The first byte of a term, which may begin here.
-fn first_byte<S: TermSpace>(
+fn read_first_byte<S: TermSpace>(
     space: &mut S,
     alloc: Global,
     reader: &mut Reader<S::Ref, S::Name>,
@@ -77,15 +77,15 @@ fn first_byte<S: TermSpace>(
 {
     let byte = text[index];
     if begins(byte) {
-        let (name, end) = plain(space, alloc, text, index)?;
+        let (name, end) = read_plain(space, alloc, text, index)?;
         return Ok(apply(space, alloc, reader, name, text, end)?);
     }
     if is_digit_byte(byte) {
-        return number(space, alloc, reader, false, text, index);
+        return read_number(space, alloc, reader, false, text, index);
     }
     match byte {
         b'"' => {
-            let (name, end) = quoted(space, alloc, text, index + 1)?;
+            let (name, end) = read_quoted(space, alloc, text, index + 1)?;
             Ok(apply(space, alloc, reader, name, text, end)?)
         }
         b'(' => {
@@ -97,13 +97,13 @@ fn first_byte<S: TermSpace>(
             open(reader, Enclosing::Elements)?;
             Ok((Next::First, index + 1))
         }
-        b'-' => negative(space, alloc, reader, text, index + 1),
+        b'-' => read_negative(space, alloc, reader, text, index + 1),
         _ => Err(Fault::TermSyntax { at: index as u64 }),
     }
 }
 
 // A term that begins at the index.
-fn begin<S: TermSpace>(
+fn begin_term<S: TermSpace>(
     space: &mut S,
     alloc: Global,
     reader: &mut Reader<S::Ref, S::Name>,
@@ -126,11 +126,11 @@ fn begin<S: TermSpace>(
     if reader.open.len() == MAX_DEPTH as usize {
         return Err(Fault::TermOversize { at: index as u64 });
     }
-    first_byte(space, alloc, reader, text, index)
+    read_first_byte(space, alloc, reader, text, index)
 }
 
 // The byte after a bracket that opens.
-fn first<S: TermSpace>(
+fn begin_or_close<S: TermSpace>(
     space: &mut S,
     alloc: Global,
     reader: &mut Reader<S::Ref, S::Name>,
@@ -150,7 +150,7 @@ fn first<S: TermSpace>(
     if closes(&reader.open, text[index]) {
         return close_at(space, alloc, reader, text, index);
     }
-    begin(space, alloc, reader, text, index)
+    begin_term(space, alloc, reader, text, index)
 }
 
 // A byte after a term that takes no annotations.
@@ -180,7 +180,7 @@ fn follow<S: TermSpace>(
 }
 
 // A byte after a term that may take annotations.
-fn whole<S: TermSpace>(
+fn annotate_or_follow<S: TermSpace>(
     space: &mut S,
     alloc: Global,
     reader: &mut Reader<S::Ref, S::Name>,
@@ -224,9 +224,9 @@ fn step<S: TermSpace>(
     ensures err { IfErr result (λ e. Refuses e (outcome_of text.now)) }
 {
     match next {
-        Next::Term => begin(space, alloc, reader, text, index),
-        Next::First => first(space, alloc, reader, text, index),
-        Next::Whole => whole(space, alloc, reader, text, index),
+        Next::Term => begin_term(space, alloc, reader, text, index),
+        Next::First => begin_or_close(space, alloc, reader, text, index),
+        Next::Whole => annotate_or_follow(space, alloc, reader, text, index),
         Next::Done => follow(space, alloc, reader, text, index),
     }
 }

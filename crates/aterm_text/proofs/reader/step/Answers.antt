@@ -4,20 +4,20 @@ use Rattle.aterm_text.specs.Brackets.{Reached}
 use Rattle.aterm_text.proofs.StepLaws.{done_follows}
 use Rattle.aterm_text.proofs.reader.step.Goals as goal
 
-pub begin-requires-clause-at : goal.begin-requires-clause-at
-begin-requires-clause-at g c =
+pub begin_term-requires-clause-at : goal.begin_term-requires-clause-at
+begin_term-requires-clause-at g c =
     let w = g.S.TermSpace in
     let P : Next → Type 0 = λ n. Reached w.stands w.term_of w.knows w.symbol_of c.args.space.now c.args.text.now c.args.reader.now n c.args.index in
     subst P c.in-Term.is c.requires.at
 
-pub first-requires-clause-at : goal.first-requires-clause-at
-first-requires-clause-at g c =
+pub begin_or_close-requires-clause-at : goal.begin_or_close-requires-clause-at
+begin_or_close-requires-clause-at g c =
     let w = g.S.TermSpace in
     let P : Next → Type 0 = λ n. Reached w.stands w.term_of w.knows w.symbol_of c.args.space.now c.args.text.now c.args.reader.now n c.args.index in
     subst P c.in-First.is c.requires.at
 
-pub whole-requires-clause-at : goal.whole-requires-clause-at
-whole-requires-clause-at g c =
+pub annotate_or_follow-requires-clause-at : goal.annotate_or_follow-requires-clause-at
+annotate_or_follow-requires-clause-at g c =
     let w = g.S.TermSpace in
     let P : Next → Type 0 = λ n. Reached w.stands w.term_of w.knows w.symbol_of c.args.space.now c.args.text.now c.args.reader.now n c.args.index in
     subst P c.in-Whole.is c.requires.at

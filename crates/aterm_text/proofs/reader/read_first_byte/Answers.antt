@@ -8,7 +8,7 @@ use Rattle.aterm_text.specs.Reading.{Fresh, InText, Wrong, first, opened, outcom
 use Rattle.aterm_text.proofs.BracketLaws.{keeping_kept, opens}
 use Rattle.aterm_text.proofs.Outcomes.{digit_begins, wrong_from}
 use Rattle.aterm_text.proofs.StepLaws.{begins_nothing}
-use Rattle.aterm_text.proofs.reader.first_byte.Goals as goal
+use Rattle.aterm_text.proofs.reader.read_first_byte.Goals as goal
 
 pub apply-requires-clause-at : goal.apply-requires-clause-at
 apply-requires-clause-at g c =
@@ -16,13 +16,13 @@ apply-requires-clause-at g c =
     let at = c.requires.at in
     record {
       brackets = at.brackets;
-      keeping = keeping_kept w.stands w.term_of w.is_valid w.knows w.symbol_of c.plain.ensures.keeps c.args.reader.now at.brackets [] at.keeping;
+      keeping = keeping_kept w.stands w.term_of w.is_valid w.knows w.symbol_of c.read_plain.ensures.keeps c.args.reader.now at.brackets [] at.keeping;
       outcome = at.outcome ∙ c.in_ok-name.ensures.read at.brackets;
       within = c.in_ok-name.ensures.within;
     }
 
-pub number-requires : goal.number-requires
-number-requires g c =
+pub read_number-requires : goal.read_number-requires
+read_number-requires g c =
     let at = c.requires.at in
     let no_name : begins_name (slice_index c.args.text.now c.args.index) ≡ false = search rules in
     let digit : is_digit (slice_index c.args.text.now c.args.index) ≡ true = search rules in
@@ -44,7 +44,7 @@ apply-requires-in-34-clause-at g c =
     let here : first at.brackets (slice_index c.args.text.now c.args.index) ≡ InText [] at.brackets = ap (first at.brackets) c.in-34.is in
     record {
       brackets = at.brackets;
-      keeping = keeping_kept w.stands w.term_of w.is_valid w.knows w.symbol_of c.quoted.ensures.keeps c.args.reader.now at.brackets [] at.keeping;
+      keeping = keeping_kept w.stands w.term_of w.is_valid w.knows w.symbol_of c.read_quoted.ensures.keeps c.args.reader.now at.brackets [] at.keeping;
       outcome = at.outcome ∙ ap (λ a. outcome_from c.args.text.now a (c.args.index + 1)) here ∙ c.in_ok-name-in-34.ensures.read at.brackets;
       within = c.in_ok-name-in-34.ensures.within;
     }

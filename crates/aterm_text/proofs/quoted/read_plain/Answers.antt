@@ -1,7 +1,7 @@
 use Rattle.std.proofs.Common.{◌∙◌, ap, sym}
 use Rattle.aterm_text.specs.Reading.{Named, outcome_from}
 use Rattle.aterm_text.proofs.Outcomes.{name_to, name_read}
-use Rattle.aterm_text.proofs.quoted.plain.Goals as goal
+use Rattle.aterm_text.proofs.quoted.read_plain.Goals as goal
 
 pub name_spelled-requires : goal.name_spelled-requires
 name_spelled-requires g c =

@@ -3,7 +3,7 @@ use Rattle.std.specs.Prelude.{slice_index}
 use Rattle.std.proofs.lemmas.Result.{err_from_is_err_and}
 use Rattle.term_model.specs.Bytes.{unescaped, is_between}
 use Rattle.aterm_text.proofs.Outcomes.{escape_ends, escaped_letter, no_escape, first_octal, second_octal, octals_read}
-use Rattle.aterm_text.proofs.quoted.escape.Goals as goal
+use Rattle.aterm_text.proofs.quoted.read_escape.Goals as goal
 
 pub returns-then-index-text-clause-err : goal.returns-then-index-text-clause-err
 returns-then-index-text-clause-err c b s = escape_ends c.args.text.now b s c.args.index (omega (arith, c.if-index-text.true))

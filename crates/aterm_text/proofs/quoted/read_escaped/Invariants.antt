@@ -1,7 +1,7 @@
 use Rattle.std.proofs.Common.{◌≡◌, ◌≤◌, ◌-◌, List, [], length}
 use Rattle.aterm_text.specs.Depth.{Open}
 use Rattle.aterm_text.specs.Reading.{InText, outcome_from}
-use Rattle.aterm_text.proofs.quoted.escaped.Given as goal
+use Rattle.aterm_text.proofs.quoted.read_escaped.Given as goal
 
 abbrev pub invariant-loop-bytes : goal.invariant-loop-bytes
 invariant-loop-bytes l = record {

@@ -5,7 +5,7 @@ use Rattle.term_model.specs.Term.{end}
 use Rattle.aterm_text.specs.Brackets.{at_whole}
 use Rattle.aterm_text.specs.Reading.{Whole, outcome_from}
 use Rattle.aterm_text.proofs.Outcomes.{digits_stop, beyond_digit}
-use Rattle.aterm_text.proofs.numbers.number.Goals as goal
+use Rattle.aterm_text.proofs.numbers.read_number.Goals as goal
 
 pub returns-clause-reached : goal.returns-clause-reached
 returns-clause-reached g c =

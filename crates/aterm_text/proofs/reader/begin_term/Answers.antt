@@ -2,7 +2,7 @@ use Rattle.std.proofs.Common.{◌≡◌, ◌∙◌, sym, rules, inr}
 use Rattle.std.specs.Prelude.{length}
 use Rattle.term_model.specs.Limits.{max_depth}
 use Rattle.aterm_text.proofs.StepLaws.{awaits, begins_not, begins_deep, begins}
-use Rattle.aterm_text.proofs.reader.begin.Goals as goal
+use Rattle.aterm_text.proofs.reader.begin_term.Goals as goal
 
 pub returns-then-not-is_first-clause-err : goal.returns-then-not-is_first-clause-err
 returns-then-not-is_first-clause-err g c =
@@ -17,8 +17,8 @@ returns-then-len-clause-err g c =
     let full : length c.args.reader.now.open.items ≡ max_depth = search rules in
     inr (begins_deep w.stands w.term_of w.knows w.symbol_of c.args.space.now c.args.text.now c.args.reader.now c.args.index c.requires.within s k o c.requires.mark (sym c.is_first.ensures ∙ c.if-not-is_first.false) full)
 
-pub first_byte-requires-clause-at : goal.first_byte-requires-clause-at
-first_byte-requires-clause-at g c =
+pub read_first_byte-requires-clause-at : goal.read_first_byte-requires-clause-at
+read_first_byte-requires-clause-at g c =
     let w = g.S.TermSpace in
     let (s, k, o) = awaits w.stands w.term_of w.knows w.symbol_of c.args.space.now c.args.text.now c.args.reader.now c.args.index c.requires.within c.requires.at in
     begins w.stands w.term_of w.knows w.symbol_of c.args.space.now c.args.text.now c.args.reader.now c.args.index c.requires.within s k o c.requires.mark (sym c.is_first.ensures ∙ c.if-not-is_first.false) (search rules)

@@ -1,6 +1,6 @@
 use Rattle.std.proofs.Common.{arith}
 use Rattle.aterm_text.proofs.StepLaws.{whole_annotated, whole_follows}
-use Rattle.aterm_text.proofs.reader.whole.Goals as goal
+use Rattle.aterm_text.proofs.reader.annotate_or_follow.Goals as goal
 
 pub returns-then-text-index-eq123-clause-reached : goal.returns-then-text-index-eq123-clause-reached
 returns-then-text-index-eq123-clause-reached g c =

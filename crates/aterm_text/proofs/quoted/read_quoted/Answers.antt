@@ -1,7 +1,7 @@
 use Rattle.std.proofs.Common.{◌∙◌, ◌+◌, [], sym, ap}
 use Rattle.aterm_text.specs.Reading.{Named, outcome_from}
 use Rattle.aterm_text.proofs.Outcomes.{quote_read}
-use Rattle.aterm_text.proofs.quoted.quoted.Goals as goal
+use Rattle.aterm_text.proofs.quoted.read_quoted.Goals as goal
 
 pub returns-then-text-end-eq34-clause-read : goal.returns-then-text-end-eq34-clause-read
 returns-then-text-end-eq34-clause-read g c s =

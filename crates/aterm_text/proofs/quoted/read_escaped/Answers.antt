@@ -4,7 +4,7 @@ use Rattle.std.specs.Prelude.{slice_index, slice_range, length}
 use Rattle.term_model.specs.Symbol.{Quoted}
 use Rattle.aterm_text.specs.Reading.{InText, Named, outcome_from}
 use Rattle.aterm_text.proofs.Outcomes.{quote_read, unclosed, backslash_read, backslash_is}
-use Rattle.aterm_text.proofs.quoted.escaped.Goals as goal
+use Rattle.aterm_text.proofs.quoted.read_escaped.Goals as goal
 
 pub returns-then-end-text-clause-err : goal.returns-then-end-text-clause-err
 returns-then-end-text-clause-err c s =
