@@ -1,10 +1,8 @@
--- Look-ups one layer further out.
-use Rattle.std.proofs.Common.{◌≡◌, ℕ, zero, suc, ◌+◌, ◌<◌, Some, None, List, [], ◌∷◌, ◌++◌, map, refl, sym, ◌∙◌, ap, ap₂, arith, add-one}
-use Rattle.std.specs.Prelude.{Result, Ok, Err, IfOk}
+-- Look-ups further out, what the layers of the code stand for, and the variables of brought names.
+use Rattle.std.proofs.Common.{◌≡◌, ℕ, zero, suc, ◌+◌, Some, None, List, [], ◌∷◌, ◌++◌, map, refl, sym, ◌∙◌, ap, ap₂, arith, add-one}
 use Rattle.std.specs.Borrow.{Bor}
 use Rattle.core_lang.specs.declared.coordinate.Coordinate.{Coordinate}
 use Rattle.core_lang.specs.Named.{written, brought}
-use Rattle.core_lang.specs.Resolution.{here, one_layer_up}
 use Rattle.str_desugar.specs.Brought.{first_names, patterns_from, elements_from, elements_and_rest_from}
 use Rattle.str_desugar.specs.declared.scopes.Scopes.{Scopes}
 use Rattle.str_desugar.specs.declared.scopes.Scopes.TheViews as code
@@ -14,29 +12,11 @@ use Rattle.term_model.specs.Symbol.{Symbol}
 use Rattle.core_lang.specs.Views as views
 use Rattle.core_lang.specs.Program.{Pattern, variable, applied, list, more_patterns, more_elements, the_rest}
 use Rattle.str_desugar.specs.Layers.{brought_from, layers_of, scopes_step}
-use Rattle.str_desugar.specs.Frames.{Frames, here_or_up, variable_at, of_names, pattern_at, patterns_at, elements_at}
-use Rattle.str_desugar.proofs.BroughtLaws.{no_written, no_brought, brought_at, brought_past}
+use Rattle.str_desugar.specs.Frames.{Frames, variable_at, of_names, pattern_at, patterns_at, elements_at}
 
-pub written_past : (F : Frames) (k : ℕ) (x : List ℕ) → variable_at (of_names [] (first_names k) F) (written x) ≡ one_layer_up (variable_at F (written x))
-written_past F k x = ap (λ o. here_or_up o (variable_at F (written x))) (no_written x k)
-
-pub brought_here : (F : Frames) (j k : ℕ) → j < k → variable_at (of_names [] (first_names k) F) (brought j) ≡ here j
-brought_here F j k h = ap (λ o. here_or_up o (variable_at F (brought j))) (brought_at j k h)
-
-pub brought_out : (F : Frames) (j k : ℕ) → k < suc j → variable_at (of_names [] (first_names k) F) (brought j) ≡ one_layer_up (variable_at F (brought j))
-brought_out F j k h = ap (λ o. here_or_up o (variable_at F (brought j))) (brought_past j k h)
-
-pub brought_under : (F : Frames) (fs xs : List (List ℕ)) (j : ℕ) → variable_at (of_names (map written fs) (map written xs) F) (brought j) ≡ one_layer_up (variable_at F (brought j))
-brought_under F fs xs j = ap (λ o. here_or_up o (variable_at F (brought j))) (no_brought j xs)
-
-pub brought_under_variables : (F : Frames) (xs : List (List ℕ)) (j : ℕ) → variable_at (of_names [] (map written xs) F) (brought j) ≡ one_layer_up (variable_at F (brought j))
-brought_under_variables F xs j = ap (λ o. here_or_up o (variable_at F (brought j))) (no_brought j xs)
-
--- what was found one layer further out
-pub found_out : {E : Type 0} (out : Result Coordinate E) (y z : Coordinate) (w : Coordinate) → IfOk out (λ made. made ≡ one_layer_up y) → y ≡ w → z ≡ one_layer_up w →
-    IfOk out (λ made. made ≡ z)
-found_out (Ok c) y z w e h k = e ∙ ap one_layer_up h ∙ sym k
-found_out (Err c) y z w e h k = tt
+-- the same coordinate, seen from n layers further in
+abbrev pub further_out : ℕ → Coordinate → Coordinate
+further_out n y = record { layers_up = n + y.layers_up; slot = y.slot }
 
 -- what each layer of the code stands for
 pub reads_brought : (k : ℕ) (up : Bor Scopes) → layers_of (code.Brought k up) ≡ of_names [] (first_names k) (layers_of up.now)

@@ -55,6 +55,24 @@ callee_at outermost f m k = here 0
 callee_at (of_names fs xs F) f m k = here_or_up (parameter_position fs f m k) (callee_at F f m k)
 callee_at (of_definitions ds F) f m k = here_or_up (key_position ds f m k) (callee_at F f m k)
 
+-- the layers around the innermost one
+abbrev pub around : Frames → Option Frames
+around outermost = None
+around (of_names fs xs F) = Some F
+around (of_definitions ds F) = Some F
+
+-- the slot of a variable in the innermost layer
+abbrev pub variable_slot : Frames → Name → Option ℕ
+variable_slot outermost x = None
+variable_slot (of_names fs xs F) x = position_of x xs
+variable_slot (of_definitions ds F) x = None
+
+-- the slot in the innermost layer of what a call with m strategies and k terms is of
+abbrev pub callee_slot : Frames → Name → ℕ → ℕ → Option ℕ
+callee_slot outermost f m k = None
+callee_slot (of_names fs xs F) f m k = parameter_position fs f m k
+callee_slot (of_definitions ds F) f m k = key_position ds f m k
+
 -- ---- each form over coordinates
 
 abbrev mutual

@@ -1,9 +1,11 @@
 // The layers around a part of a file, and where an identifier stands in them.
-ghost use Rattle.std.specs.Prelude.{◌≡◌, [], ◌∷◌, map, IfOk};
+ghost use Rattle.std.specs.Prelude.{◌≡◌, ◌+◌, ◌<◌, [], ◌∷◌, map, IfOk, IfSome};
+ghost use Rattle.std.specs.Option.{option_map};
 ghost use Rattle.core_lang.specs.Named.{brought, parameter_position, written};
-ghost use Rattle.core_lang.specs.Resolution as resolution;
-ghost use Rattle.str_desugar.specs.Frames.{variable_at, callee_at, key_position};
+ghost use Rattle.str_desugar.specs.Frames.{around, key_position};
+ghost use Rattle.str_desugar.specs.Frames.{callee_at, callee_slot, variable_at, variable_slot};
 ghost use Rattle.str_desugar.specs.Layers.{layers_of};
+ghost use Rattle.str_desugar.specs.declared.scopes.Scopes.{size-Scopes};
 
 use crate::keys::Keys;
 use crate::names::Names;
@@ -44,22 +46,11 @@ pub(crate) enum Scopes<'a> {
     },
 }
 
-// One layer further out. `Err` where that leaves 64 bits, which as many layers as memory has bytes do not.
-fn one_layer_up(at: Coordinate) -> Result<Coordinate, AllocError>
-    ensures { IfOk result (λ made. made ≡ resolution.one_layer_up at) }
+// One more layer. `AllocError` where that leaves 64 bits; memory has no room for so many layers.
+fn one_more(layers_up: usize) -> Result<usize, AllocError>
+    ensures { IfOk result (λ more. more ≡ layers_up + 1) }
 {
-    let layers_up = at.layers_up.checked_add(1).ok_or(AllocError)?;
-    Ok(Coordinate {
-        layers_up,
-        slot: at.slot,
-    })
-}
-
-// This slot of the innermost layer.
-fn here(slot: usize) -> Coordinate
-    ensures { result ≡ resolution.here slot }
-{
-    Coordinate { layers_up: 0, slot }
+    layers_up.checked_add(1).ok_or(AllocError)
 }
 
 // The slot of the strategy parameter that is called by this name with these numbers of strategies and terms.
@@ -83,43 +74,98 @@ fn only_definition(defined: &Name, name: &Name, strategies: usize, terms: usize)
 }
 
 impl<'a> Scopes<'a> {
+    // The layers around the innermost one. `None` where there is no layer.
+    fn outer(&self) -> Option<&'a Scopes<'a>>
+        ensures layers { option_map (λ s. layers_of s.now) result ≡ around (layers_of self.now) }
+        ensures fewer { IfSome result (λ outer. size-Scopes outer.now < size-Scopes self.now) }
+    {
+        match self {
+            Scopes::Outermost => None,
+            Scopes::Brought { outer, .. } => Some(outer),
+            Scopes::Variables { outer, .. } => Some(outer),
+            Scopes::Parameters { outer, .. } => Some(outer),
+            Scopes::Recursive { outer, .. } => Some(outer),
+            Scopes::Defined { outer, .. } => Some(outer),
+        }
+    }
+
+    // The slot of the variable of this name in the innermost layer.
+    fn own_variable(&self, name: &Name) -> Option<usize>
+        ensures { result ≡ variable_slot (layers_of self.now) (written name.now) }
+    {
+        match self {
+            Scopes::Outermost => None,
+            Scopes::Brought { .. } => None,
+            Scopes::Variables { names, .. } => names.position(name),
+            Scopes::Parameters { terms, .. } => terms.position(name),
+            Scopes::Recursive { .. } | Scopes::Defined { .. } => None,
+        }
+    }
+
+    // The slot of the ith name that the equations bring in the innermost layer.
+    fn own_brought(&self, index: usize) -> Option<usize>
+        ensures { result ≡ variable_slot (layers_of self.now) (brought index) }
+    {
+        match self {
+            Scopes::Outermost => None,
+            Scopes::Brought { count, .. } => {
+                if index < *count {
+                    return Some(index);
+                }
+                None
+            }
+            Scopes::Variables { .. } => None,
+            Scopes::Parameters { .. } => None,
+            Scopes::Recursive { .. } | Scopes::Defined { .. } => None,
+        }
+    }
+
+    // The slot in the innermost layer of what is called by this name with these numbers of
+    // strategies and terms.
+    fn own_callee(&self, name: &Name, strategies: usize, terms: usize) -> Option<usize>
+        ensures { result ≡ callee_slot (layers_of self.now) (written name.now) strategies terms }
+    {
+        match self {
+            Scopes::Outermost | Scopes::Brought { .. } | Scopes::Variables { .. } => None,
+            Scopes::Parameters {
+                strategies: parameters,
+                ..
+            } => parameter(parameters, name, strategies, terms),
+            Scopes::Recursive { name: only, .. } => only_definition(only, name, strategies, terms),
+            Scopes::Defined { keys, .. } => keys.position(name, strategies, terms),
+        }
+    }
+
     /// Where the variable of this name stands.
     pub(crate) fn variable(&self, name: &Name) -> Result<Coordinate, AllocError>
         ensures { IfOk result (λ made. made ≡ variable_at (layers_of self.now) (written name.now)) }
     {
-        match self {
-            Scopes::Outermost => Ok(here(0)),
-            Scopes::Brought { outer, .. } => one_layer_up(outer.variable(name)?),
-            Scopes::Variables { names, outer } => match names.position(name) {
-                Some(slot) => Ok(here(slot)),
-                None => one_layer_up(outer.variable(name)?),
-            },
-            Scopes::Parameters { terms, outer, .. } => match terms.position(name) {
-                Some(slot) => Ok(here(slot)),
-                None => one_layer_up(outer.variable(name)?),
-            },
-            Scopes::Recursive { outer, .. } => one_layer_up(outer.variable(name)?),
-            Scopes::Defined { outer, .. } => one_layer_up(outer.variable(name)?),
+        let mut layers_up = 0;
+        let mut layer = *self;
+        while let Some(outer) = layer.outer() {
+            if let Some(slot) = layer.own_variable(name) {
+                return Ok(Coordinate { layers_up, slot });
+            }
+            layers_up = one_more(layers_up)?;
+            layer = *outer;
         }
+        Ok(Coordinate { layers_up, slot: 0 })
     }
 
     /// Where the ith name that the equations bring stands.
     pub(crate) fn brought(&self, index: usize) -> Result<Coordinate, AllocError>
         ensures { IfOk result (λ made. made ≡ variable_at (layers_of self.now) (brought index)) }
     {
-        match self {
-            Scopes::Outermost => Ok(here(0)),
-            Scopes::Brought { count, outer } => {
-                if index < *count {
-                    return Ok(here(index));
-                }
-                one_layer_up(outer.brought(index)?)
+        let mut layers_up = 0;
+        let mut layer = *self;
+        while let Some(outer) = layer.outer() {
+            if let Some(slot) = layer.own_brought(index) {
+                return Ok(Coordinate { layers_up, slot });
             }
-            Scopes::Variables { outer, .. } => one_layer_up(outer.brought(index)?),
-            Scopes::Parameters { outer, .. } => one_layer_up(outer.brought(index)?),
-            Scopes::Recursive { outer, .. } => one_layer_up(outer.brought(index)?),
-            Scopes::Defined { outer, .. } => one_layer_up(outer.brought(index)?),
+            layers_up = one_more(layers_up)?;
+            layer = *outer;
         }
+        Ok(Coordinate { layers_up, slot: 0 })
     }
 
     /// Where that stands which is called by this name with these numbers of strategies and terms.
@@ -131,32 +177,15 @@ impl<'a> Scopes<'a> {
     ) -> Result<Coordinate, AllocError>
         ensures { IfOk result (λ made. made ≡ callee_at (layers_of self.now) (written name.now) strategies terms) }
     {
-        match self {
-            Scopes::Outermost => Ok(here(0)),
-            Scopes::Brought { outer, .. } => {
-                one_layer_up(outer.callee(name, strategies, terms)?)
+        let mut layers_up = 0;
+        let mut layer = *self;
+        while let Some(outer) = layer.outer() {
+            if let Some(slot) = layer.own_callee(name, strategies, terms) {
+                return Ok(Coordinate { layers_up, slot });
             }
-            Scopes::Variables { outer, .. } => one_layer_up(outer.callee(name, strategies, terms)?),
-            Scopes::Parameters {
-                strategies: parameters,
-                outer,
-                ..
-            } => {
-                match parameter(parameters, name, strategies, terms) {
-                    Some(slot) => Ok(here(slot)),
-                    None => one_layer_up(outer.callee(name, strategies, terms)?),
-                }
-            }
-            Scopes::Recursive { name: other, outer } => {
-                match only_definition(other, name, strategies, terms) {
-                    Some(slot) => Ok(here(slot)),
-                    None => one_layer_up(outer.callee(name, strategies, terms)?),
-                }
-            }
-            Scopes::Defined { keys, outer } => match keys.position(name, strategies, terms) {
-                Some(slot) => Ok(here(slot)),
-                None => one_layer_up(outer.callee(name, strategies, terms)?),
-            },
+            layers_up = one_more(layers_up)?;
+            layer = *outer;
         }
+        Ok(Coordinate { layers_up, slot: 0 })
     }
 }
