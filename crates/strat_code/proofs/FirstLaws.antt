@@ -3,8 +3,8 @@ use Rattle.std.proofs.Common.{ℕ, suc, ◌<◌, arith}
 use Rattle.std.specs.Prelude.{Option, List}
 use Rattle.core_lang.specs.Resolved.{ResolvedStrategy}
 use Rattle.strat_code.specs.Code.{Instr, nodes_of, Code, At}
-use Rattle.strat_code.specs.Context.{Context, Instance}
-use Rattle.strat_code.specs.Ranges.{Ranges, id_range, fail_range, seq_range, choice_range, else_range, select_range, match_range, build_range, scope_range, inner_range, all_range, one_range, some_range, let_range, let_jump_range, call_range, instance_range, inline_range, known_call_range, known_range, parameter_range, primitive_range}
+use Rattle.strat_code.specs.Context.{Context, Specialization}
+use Rattle.strat_code.specs.Ranges.{Ranges, id_range, fail_range, seq_range, choice_range, else_range, select_range, match_range, build_range, scope_range, inner_range, all_range, one_range, some_range, let_range, let_jump_range, call_range, specialization_range, inline_range, known_call_range, known_range, parameter_range, primitive_range}
 
 -- the first instruction of a range
 pub data StandsFirst (code : Code) (i x : ℕ) : Type 0 where
@@ -13,7 +13,7 @@ pub data StandsFirst (code : Code) (i x : ℕ) : Type 0 where
 first_less : {code : Code} {i x : ℕ} → StandsFirst code i (suc x) → StandsFirst code i x
 first_less (stands_first v at h) = stands_first v at (omega arith)
 
-pub first_of_range : {code : Code} {I : List Instance} {w : Option ℕ} {C : Context} {i x j : ℕ} {s : ResolvedStrategy} → Ranges code I w C i x s j → StandsFirst code i x
+pub first_of_range : {code : Code} {I : List Specialization} {w : Option ℕ} {C : Context} {i x j : ℕ} {s : ResolvedStrategy} → Ranges code I w C i x s j → StandsFirst code i x
 first_of_range (id_range at) = stands_first _ at (omega arith)
 first_of_range (fail_range at) = stands_first _ at (omega arith)
 first_of_range (seq_range r q) = first_less (first_of_range r)
@@ -30,7 +30,7 @@ first_of_range (some_range at r a1) = stands_first _ at (omega arith)
 first_of_range (let_range bs r) = first_less (first_of_range r)
 first_of_range (let_jump_range bs r a1) = first_less (first_of_range r)
 first_of_range (call_range is h k args ps at) = stands_first _ at (omega arith)
-first_of_range (instance_range n is h has args ps at) = stands_first _ at (omega arith)
+first_of_range (specialization_range n is h has args ps at) = stands_first _ at (omega arith)
 first_of_range (inline_range hides h is args r) = first_less (first_of_range r)
 first_of_range (known_call_range h r a at) = stands_first _ at (omega arith)
 first_of_range (known_range h r) = first_less (first_of_range r)

@@ -3,8 +3,8 @@ use Rattle.std.proofs.Common.{◌≡◌, ℕ, zero, suc, Some, List, [], ◌∷�
 use Rattle.std.specs.Prelude.{Option, slice_get}
 use Rattle.core_lang.specs.Resolved.{ResolvedStrategy, ResolvedStrategies, ResolvedDefinitions}
 use Rattle.strat_code.specs.Code.{Argument, Case, Entry, Instr, Code, At}
-use Rattle.strat_code.specs.Context.{Context, Instance}
-use Rattle.strat_code.specs.Ranges.{Ranges, id_range, fail_range, seq_range, choice_range, else_range, select_range, match_range, build_range, scope_range, inner_range, all_range, one_range, some_range, let_range, let_jump_range, call_range, instance_range, inline_range, known_call_range, known_range, parameter_range, primitive_range, Bodies, no_bodies, more_bodies, roomy_bodies, Arguments, no_arguments, code_argument, known_argument, parameter_argument, Selects, select_last, select_more, Instances, no_instances, more_instances, roomy_instances}
+use Rattle.strat_code.specs.Context.{Context, Specialization}
+use Rattle.strat_code.specs.Ranges.{Ranges, id_range, fail_range, seq_range, choice_range, else_range, select_range, match_range, build_range, scope_range, inner_range, all_range, one_range, some_range, let_range, let_jump_range, call_range, specialization_range, inline_range, known_call_range, known_range, parameter_range, primitive_range, Bodies, no_bodies, more_bodies, roomy_bodies, Arguments, no_arguments, code_argument, known_argument, parameter_argument, Selects, select_last, select_more, Specializations, no_specializations, more_specializations, roomy_specializations}
 
 pub got_in_front : {A : Type 0} (F G : List A) (p : ℕ) (f : A) → slice_get F p ≡ Some f → slice_get (F ++ G) p ≡ Some f
 got_in_front [] G p f h = absurd (cc)
@@ -15,7 +15,7 @@ module _ (code more : Code) where
   pub at_grown : (i : ℕ) {v : Instr} → At code i v → At (code ++ more) i v
   at_grown i {v} h = got_in_front code more i v h
 
-module _ (code more : Code) {I : List Instance} where
+module _ (code more : Code) {I : List Specialization} where
   mutual
     pub ranges_grown : {w : Option ℕ} {C : Context} {i x j : ℕ} {s : ResolvedStrategy} → Ranges code I w C i x s j → Ranges (code ++ more) I w C i x s j
     ranges_grown (id_range a) = id_range (at_grown code more _ a)
@@ -34,7 +34,7 @@ module _ (code more : Code) {I : List Instance} where
     ranges_grown (let_range bs r) = let_range (bodies_grown bs) (ranges_grown r)
     ranges_grown (let_jump_range bs r a) = let_jump_range (bodies_grown bs) (ranges_grown r) (at_grown code more _ a)
     ranges_grown (call_range is def has us ps a) = call_range is def has (arguments_grown us) ps (at_grown code more _ a)
-    ranges_grown (instance_range n is def has ks ps a) = instance_range n is def has ks ps (at_grown code more _ a)
+    ranges_grown (specialization_range n is def has ks ps a) = specialization_range n is def has ks ps (at_grown code more _ a)
     ranges_grown (inline_range hides h is args r) = inline_range hides h is args (ranges_grown r)
     ranges_grown (known_call_range h r a b) = known_call_range h (ranges_grown r) (at_grown code more _ a) (at_grown code more _ b)
     ranges_grown (known_range h r) = known_range h (ranges_grown r)
@@ -56,7 +56,7 @@ module _ (code more : Code) {I : List Instance} where
     selects_grown (select_last b cs r a o) = select_last b cs (ranges_grown r) (at_grown code more _ a) (ranges_grown o)
     selects_grown (select_more b cs r a o others) = select_more b cs (ranges_grown r) (at_grown code more _ a) (ranges_grown o) (selects_grown others)
 
-  pub instances_grown : {vs : List Instance} → Instances code I vs → Instances (code ++ more) I vs
-  instances_grown no_instances = no_instances
-  instances_grown (more_instances is r a vs) = more_instances is (ranges_grown r) (at_grown code more _ a) (instances_grown vs)
-  instances_grown (roomy_instances is r a vs) = roomy_instances is (ranges_grown r) (at_grown code more _ a) (instances_grown vs)
+  pub specializations_grown : {vs : List Specialization} → Specializations code I vs → Specializations (code ++ more) I vs
+  specializations_grown no_specializations = no_specializations
+  specializations_grown (more_specializations is r a vs) = more_specializations is (ranges_grown r) (at_grown code more _ a) (specializations_grown vs)
+  specializations_grown (roomy_specializations is r a vs) = roomy_specializations is (ranges_grown r) (at_grown code more _ a) (specializations_grown vs)

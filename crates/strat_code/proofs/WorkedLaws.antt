@@ -6,16 +6,16 @@ use Rattle.core_lang.specs.Primitives.{OccursInDefinitions}
 use Rattle.core_lang.specs.Resolved.{here}
 use Rattle.strat_code.specs.Code.{At, entry_at, extend, shrink, build_term}
 use Rattle.strat_code.specs.Context.{Context, hides_top, hides_framed, hides_hidden, keeps_definitions}
-use Rattle.strat_code.specs.Ranges.{Ranges, id_range, seq_range, else_range, select_range, match_range, build_range, inner_range, all_range, call_range, instance_range, inline_range, known_range, parameter_range, no_bodies, more_bodies, roomy_bodies, no_arguments, code_argument, parameter_argument, none_known, own_known, parameter_known, first_body, later_body, asks_match, asks_seq, asks_choice, asks_scope, asks_known, asks_inline, one_case, more_cases, select_last, no_instances, more_instances}
+use Rattle.strat_code.specs.Ranges.{Ranges, id_range, seq_range, else_range, select_range, match_range, build_range, inner_range, all_range, call_range, specialization_range, inline_range, known_range, parameter_range, no_bodies, more_bodies, roomy_bodies, no_arguments, code_argument, parameter_argument, none_known, own_known, parameter_known, first_body, later_body, asks_match, asks_seq, asks_choice, asks_scope, asks_known, asks_inline, one_case, more_cases, select_last, no_specializations, more_specializations}
 use Rattle.strat_code.specs.StandsFor.{StandsFor}
 use Rattle.strat_code.specs.CodeOf.{IsCode}
-use Rattle.strat_code.specs.Worked.{small_program, small_code, unwraps, match_in_rule, walking_program, walking_entries, walking_instances, walking_code}
+use Rattle.strat_code.specs.Worked.{small_program, small_code, unwraps, match_in_rule, walking_program, walking_entries, walking_specializations, walking_code}
 
 pub small_stands : StandsFor small_code small_program 1
 small_stands = record {
   entries = entry_at 6 1 ∷ entry_at 2 0 ∷ [];
-  instances = [];
-  instance_bodies = no_instances;
+  specializations = [];
+  specialization_bodies = no_specializations;
   bodies = roomy_bodies (seq_range (match_range (omega arith, tt) refl) (seq_range (build_range (omega arith) refl) (parameter_range (omega arith) refl))) refl
       (more_bodies (call_range refl (refl, refl) refl (code_argument tt (id_range refl) refl no_arguments) tt refl) refl no_bodies);
   begins = call_range refl (refl, refl) refl no_arguments tt refl;
@@ -47,20 +47,20 @@ small_is_code = record {
 
 -- a rule, from extend to shrink
 rule_range : {C : Context} (f i : ℕ) → At walking_code i (extend 1 1) → At walking_code (suc i) (match_in_rule f) → At walking_code (suc (suc i)) (build_term 1 (variable (here 0))) →
-    At walking_code (suc (suc (suc i))) (shrink 1) → Ranges walking_code walking_instances (Some 0) C i 0 (unwraps f) (suc (suc (suc (suc i))))
+    At walking_code (suc (suc (suc i))) (shrink 1) → Ranges walking_code walking_specializations (Some 0) C i 0 (unwraps f) (suc (suc (suc (suc i))))
 rule_range f i a b c d = inner_range a (seq_range (match_range (omega arith, tt) b) (build_range (omega arith) c)) d
 
 pub walking_stands : StandsFor walking_code walking_program 3
 walking_stands = record {
   entries = walking_entries;
-  instances = walking_instances;
+  specializations = walking_specializations;
   bodies = more_bodies (seq_range (all_range refl (call_range refl (refl, refl) refl (parameter_argument (omega arith) no_arguments) tt refl) refl) (parameter_range (omega arith) refl)) refl
       (more_bodies (select_range refl (select_last (asks_scope (asks_seq asks_match)) one_case (rule_range 70 27 refl refl refl refl) refl (rule_range 71 32 refl refl refl refl))) refl
       (more_bodies (else_range refl (parameter_range (omega arith) refl) refl (id_range refl)) refl
-      (more_bodies (instance_range 0 refl (refl, refl) refl (own_known tt (hides_framed (keeps_definitions hides_top)) none_known) tt refl) refl no_bodies)));
-  instance_bodies = more_instances first_body
+      (more_bodies (specialization_range 0 refl (refl, refl) refl (own_known tt (hides_framed (keeps_definitions hides_top)) none_known) tt refl) refl no_bodies)));
+  specialization_bodies = more_specializations first_body
       (seq_range
-      (all_range refl (instance_range 0 refl (refl, refl) refl (parameter_known (refl, refl) none_known) tt refl) refl)
+      (all_range refl (specialization_range 0 refl (refl, refl) refl (parameter_known (refl, refl) none_known) tt refl) refl)
       (known_range (refl, refl) (inline_range (keeps_definitions hides_top) (refl, refl) (later_body (later_body first_body)) (own_known tt (hides_hidden (keeps_definitions hides_top)) none_known)
       (select_range refl (select_last
       (asks_known (refl, refl) (asks_inline (keeps_definitions hides_top) (later_body first_body) none_known (asks_choice (asks_scope (asks_seq asks_match)) (asks_scope (asks_seq asks_match)))))
@@ -68,7 +68,7 @@ walking_stands = record {
       (known_range (refl, refl) (inline_range (keeps_definitions hides_top) (refl, refl) (later_body first_body) none_known
       (select_range refl (select_last (asks_scope (asks_seq asks_match)) one_case (rule_range 70 14 refl refl refl refl) refl (rule_range 71 19 refl refl refl refl)))))
       refl (id_range refl))))))
-      refl no_instances;
+      refl no_specializations;
   begins = call_range refl (refl, refl) refl no_arguments tt refl;
   ends = refl;
 }

@@ -27,10 +27,10 @@ mutual
     no_knowns : Knowns
     more_knowns : ResolvedStrategy → Context → Knowns → Knowns
 
--- An instance of a definition, which stands at a position in the definitions of a context: its code, for these strategies as
+-- A specialization of a definition, which stands at a position in the definitions of a context: its code, for these strategies as
 -- parameters, has an entry
-pub data Instance : Type 0 where
-  instance_at : Context → (slot : ℕ) → Knowns → (entry room : ℕ) → Instance
+pub data Specialization : Type 0 where
+  specialization_at : Context → (slot : ℕ) → Knowns → (entry room : ℕ) → Specialization
 
 abbrev pub layers_of : Context → Layers
 layers_of top = no_layers

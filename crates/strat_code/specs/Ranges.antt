@@ -6,7 +6,7 @@ use Rattle.core_lang.specs.Resolved.{ResolvedStrategy, ResolvedStrategies, Resol
 use Rattle.core_lang.specs.InRange.{PatternInRange, PatternsInRange, IsDefinition}
 use Rattle.core_lang.specs.Roots.{Root, root_of}
 use Rattle.strat_code.specs.Code.{Argument, code_at, parameter_at, Entry, entry_at, Case, case, all_parts, one_part, some_parts, count, give_up, match_term, build_term, enter, leave, extend, shrink, try, commit, select, jump, traverse, part_done, call_definition, call_closure, end_definition, end_argument, apply_primitive, Code, At}
-use Rattle.strat_code.specs.Context.{Context, framed, within, defining, known, hidden, Knowns, no_knowns, more_knowns, Instance, instance_at, Hides, KnowsParameter, layers_of, outer, frames_in, by_frames, HasParameter, HasOwnCode}
+use Rattle.strat_code.specs.Context.{Context, framed, within, defining, known, hidden, Knowns, no_knowns, more_knowns, Specialization, specialization_at, Hides, KnowsParameter, layers_of, outer, frames_in, by_frames, HasParameter, HasOwnCode}
 use Rattle.strat_code.specs.Renamed.{renamed, all_renamed}
 
 -- The strategy arguments of a call are known: each is a strategy that looks at no frame, or a strategy parameter that is known.
@@ -46,7 +46,7 @@ mutual
   -- In this context the instructions from the address i up to the address j stand for the strategy. The first of them is
   -- charged x further nodes, those of the strategies around this one that begin with it. Where the places of the innermost
   -- frame are the last ones that there are, so that the frame can be given more, w says how many these are.
-  pub data Ranges (code : Code) (I : List Instance) : Option ℕ → Context → ℕ → ℕ → ResolvedStrategy → ℕ → Type 0 where
+  pub data Ranges (code : Code) (I : List Specialization) : Option ℕ → Context → ℕ → ℕ → ResolvedStrategy → ℕ → Type 0 where
     -- id, fail: one instruction
     id_range : {w : Option ℕ} {C : Context} {i x : ℕ} → At code i (count (suc x)) → Ranges code I w C i x id (suc i)
     fail_range : {w : Option ℕ} {C : Context} {i x : ℕ} → At code i (give_up (suc x)) → Ranges code I w C i x fail (suc i)
@@ -95,10 +95,10 @@ mutual
         outer C y.layers_up ≡ defining ds es D → IsDefinition ds y.slot (strategies_count ss) (patterns_count ps) →
         slice_get es y.slot ≡ Some (entry_at entry room) → Arguments code I C ss us → PatternsInRange (layers_of C) ps →
         At code i (call_definition (suc x) (frames_in C y.layers_up) entry room to us (all_renamed (by_frames C) ps)) → Ranges code I w C i x (call y ss ps) to
-    -- a call of a definition with arguments that are known: one instruction, with the entry of the instance and no arguments
-    instance_range : {w : Option ℕ} {C D : Context} {i x entry room to : ℕ} {y : Coordinate} {ss : ResolvedStrategies} {ps : Patterns Coordinate} {ds : ResolvedDefinitions} {es : List Entry} {ks : Knowns} (n : ℕ) →
+    -- a call of a definition with arguments that are known: one instruction, with the entry of the specialization and no arguments
+    specialization_range : {w : Option ℕ} {C D : Context} {i x entry room to : ℕ} {y : Coordinate} {ss : ResolvedStrategies} {ps : Patterns Coordinate} {ds : ResolvedDefinitions} {es : List Entry} {ks : Knowns} (n : ℕ) →
         outer C y.layers_up ≡ defining ds es D → IsDefinition ds y.slot (strategies_count ss) (patterns_count ps) →
-        slice_get I n ≡ Some (instance_at (defining ds es D) y.slot ks entry room) → AreKnown C ss ks → PatternsInRange (layers_of C) ps →
+        slice_get I n ≡ Some (specialization_at (defining ds es D) y.slot ks entry room) → AreKnown C ss ks → PatternsInRange (layers_of C) ps →
         At code i (call_definition (suc x) (frames_in C y.layers_up) entry room to [] (all_renamed (by_frames C) ps)) → Ranges code I w C i x (call y ss ps) to
     -- a call of a definition in place, with arguments that are known and without term arguments: the range of its body, whose first
     -- instruction is charged the node
@@ -120,7 +120,7 @@ mutual
         PatternsInRange (layers_of C) ps → At code i (apply_primitive (suc x) f (all_renamed (by_frames C) ps)) → Ranges code I w C i x (primitive f ps) (suc i)
 
   -- Each definition has an entry: from its address on a range for its body, and then the end of a definition.
-  pub data Bodies (code : Code) (I : List Instance) : Context → ResolvedDefinitions → List Entry → Type 0 where
+  pub data Bodies (code : Code) (I : List Specialization) : Context → ResolvedDefinitions → List Entry → Type 0 where
     no_bodies : {C : Context} → Bodies code I C no_definitions []
     more_bodies : {C : Context} {y : Coordinate} {m k entry j : ℕ} {s : ResolvedStrategy} {ds : ResolvedDefinitions} {es : List Entry} →
         Ranges code I (Some k) (framed m k C) entry 0 s j → At code j end_definition → Bodies code I C ds es → Bodies code I C (more_definitions y m k s ds) (entry_at entry 0 ∷ es)
@@ -130,7 +130,7 @@ mutual
         Ranges code I (Some (k + n)) (within n k (framed m k C)) entry 1 s j → At code j end_definition → Bodies code I C ds es → Bodies code I C (more_definitions y m k (scope n s) ds) (entry_at entry n ∷ es)
 
   -- Each strategy argument has code of its own, from an address on with the end of an argument, or is a strategy parameter.
-  pub data Arguments (code : Code) (I : List Instance) : Context → ResolvedStrategies → List Argument → Type 0 where
+  pub data Arguments (code : Code) (I : List Specialization) : Context → ResolvedStrategies → List Argument → Type 0 where
     no_arguments : {C : Context} → Arguments code I C no_strategies []
     code_argument : {C : Context} {entry j : ℕ} {s : ResolvedStrategy} {ss : ResolvedStrategies} {us : List Argument} →
         HasOwnCode C s → Ranges code I None C entry 0 s j → At code j end_argument → Arguments code I C ss us → Arguments code I C (more_strategies s ss) (code_at entry ∷ us)
@@ -143,7 +143,7 @@ mutual
   -- The cases of a chain s1 <+ (s2 <+ .. sn): for each alternative but the last, one for each root that it asks for. They have
   -- the range of the alternative and a range for the rest of the chain, where a failure goes on; the nodes are those of the
   -- alternative where a term has another root and, but for the last one, that of the next choice
-  pub data Selects (code : Code) (I : List Instance) : Option ℕ → Context → ResolvedStrategy → List Case → ℕ → ℕ → Type 0 where
+  pub data Selects (code : Code) (I : List Specialization) : Option ℕ → Context → ResolvedStrategy → List Case → ℕ → ℕ → Type 0 where
     select_last : {w : Option ℕ} {C : Context} {body j last to n : ℕ} {rs : List Root} {cs : List Case} {s1 s3 : ResolvedStrategy} →
         AsksFor C s1 rs n → Cases n body last [] rs cs → Ranges code I w C body 0 s1 j → At code j (commit 1 to) → Ranges code I w C last 0 s3 to →
         Selects code I w C (choice s1 id s3) cs last to
@@ -151,13 +151,13 @@ mutual
         AsksFor C s1 rs n → Cases (suc n) body otherwise others rs cs → Ranges code I w C body 0 s1 j → At code j (commit 1 to) → Ranges code I w C otherwise 0 s3 to →
         Selects code I w C s3 others last to → Selects code I w C (choice s1 id s3) cs last to
 
--- Each instance has, from its address on, a range for the definition's body, and then the end of a definition. As with
+-- Each specialization has, from its address on, a range for the definition's body, and then the end of a definition. As with
 -- Bodies, the frame of a body that is a scope has room for its places.
-pub data Instances (code : Code) (I : List Instance) : List Instance → Type 0 where
-  no_instances : Instances code I []
-  more_instances : {C : Context} {ds : ResolvedDefinitions} {es : List Entry} {ks : Knowns} {slot m k entry j : ℕ} {s : ResolvedStrategy} {vs : List Instance} →
-      IsBody ds slot m k s → Ranges code I (Some k) (known k ks (defining ds es C)) entry 0 s j → At code j end_definition → Instances code I vs →
-      Instances code I (instance_at (defining ds es C) slot ks entry 0 ∷ vs)
-  roomy_instances : {C : Context} {ds : ResolvedDefinitions} {es : List Entry} {ks : Knowns} {slot m k n entry j : ℕ} {s : ResolvedStrategy} {vs : List Instance} →
-      IsBody ds slot m k (scope n s) → Ranges code I (Some (k + n)) (within n k (known k ks (defining ds es C))) entry 1 s j → At code j end_definition → Instances code I vs →
-      Instances code I (instance_at (defining ds es C) slot ks entry n ∷ vs)
+pub data Specializations (code : Code) (I : List Specialization) : List Specialization → Type 0 where
+  no_specializations : Specializations code I []
+  more_specializations : {C : Context} {ds : ResolvedDefinitions} {es : List Entry} {ks : Knowns} {slot m k entry j : ℕ} {s : ResolvedStrategy} {vs : List Specialization} →
+      IsBody ds slot m k s → Ranges code I (Some k) (known k ks (defining ds es C)) entry 0 s j → At code j end_definition → Specializations code I vs →
+      Specializations code I (specialization_at (defining ds es C) slot ks entry 0 ∷ vs)
+  roomy_specializations : {C : Context} {ds : ResolvedDefinitions} {es : List Entry} {ks : Knowns} {slot m k n entry j : ℕ} {s : ResolvedStrategy} {vs : List Specialization} →
+      IsBody ds slot m k (scope n s) → Ranges code I (Some (k + n)) (within n k (known k ks (defining ds es C))) entry 1 s j → At code j end_definition → Specializations code I vs →
+      Specializations code I (specialization_at (defining ds es C) slot ks entry n ∷ vs)

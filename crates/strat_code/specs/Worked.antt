@@ -6,7 +6,7 @@ use Rattle.core_lang.specs.Program.{variable, applied, no_patterns, more_pattern
 use Rattle.core_lang.specs.Resolved.{ResolvedStrategy, ResolvedDefinitions, here}
 use Rattle.core_lang.specs.Roots.{Root, symbol_root}
 use Rattle.strat_code.specs.Code.{Instr, Entry, entry_at, case, all_parts, code_at, parameter_at, match_term, build_term, extend, shrink, count, try, commit, select, traverse, part_done, call_definition, call_closure, end_definition, end_argument, finish, Code}
-use Rattle.strat_code.specs.Context.{Context, top, defining, hidden, Knowns, no_knowns, more_knowns, Instance, instance_at}
+use Rattle.strat_code.specs.Context.{Context, top, defining, hidden, Knowns, no_knowns, more_knowns, Specialization, specialization_at}
 
 -- a coordinate
 abbrev pub far : ℕ → ℕ → Coordinate
@@ -69,9 +69,9 @@ of_walking = defining walking_program walking_entries top
 abbrev pub tries_known : Knowns
 tries_known = more_knowns tries_rules (hidden no_knowns of_walking) no_knowns
 
--- the instance of bottomup for try(rules)
-abbrev pub walking_instances : List Instance
-walking_instances = instance_at of_walking 0 tries_known 9 0 ∷ []
+-- the specialization of bottomup for try(rules)
+abbrev pub walking_specializations : List Specialization
+walking_specializations = specialization_at of_walking 0 tries_known 9 0 ∷ []
 
 -- ?F(x) after extend, charged the sequence too, where F has this number
 abbrev pub match_in_rule : ℕ → Instr
@@ -88,7 +88,7 @@ abbrev pub walking_code : Code
 walking_code =
     call_definition 1 0 2 0 1 [] no_patterns ∷
     finish ∷
-    -- 2: the body of main, which calls the instance
+    -- 2: the body of main, which calls the specialization
     call_definition 1 1 9 0 3 [] no_patterns ∷
     end_definition ∷
     -- 4: the body of bottomup
@@ -97,7 +97,7 @@ walking_code =
     part_done ∷
     call_closure 1 (here 0) ∷
     end_definition ∷
-    -- 9: the instance of bottomup for try(rules), which calls itself; from 12 on try in place, from 13 on rules in place
+    -- 9: the specialization of bottomup for try(rules), which calls itself; from 12 on try in place, from 13 on rules in place
     traverse 2 all_parts 12 ∷
     call_definition 1 1 9 0 11 [] no_patterns ∷
     part_done ∷

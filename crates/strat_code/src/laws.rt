@@ -12,7 +12,7 @@ pub fn small_code_stands()
     ensures is_code { IsCode small_code [] }
 {}
 
-/// A small program, whose main is bottomup(try(rules)), has code with an instance of bottomup.
+/// A small program, whose main is bottomup(try(rules)), has code with a specialization of bottomup.
 pub fn walking_code_stands()
     ensures stands { StandsFor walking_code walking_program 3 }
 {}

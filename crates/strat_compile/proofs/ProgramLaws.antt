@@ -11,7 +11,7 @@ use Rattle.core_lang.specs.Views.{definitions_of}
 use Rattle.strat_code.specs.Code.{At, finish}
 use Rattle.strat_code.specs.CodeOf.{AllInRange, IsCode}
 use Rattle.strat_code.specs.Context.{Context, top, defining}
-use Rattle.strat_code.specs.Ranges.{Ranges, no_instances}
+use Rattle.strat_code.specs.Ranges.{Ranges, no_specializations}
 use Rattle.strat_code.specs.StandsFor.{StandsFor}
 use Rattle.strat_compile.specs.Emission.{Emits, emits_id, emits_fail, emits_seq, emits_choice, emits_select, emits_match, emits_build, emits_scope, emits_inner, emits_all, emits_one, emits_some, emits_let, emits_call, emits_parameter, emits_primitive, emits_no_arguments, emits_code_argument, emits_parameter_argument, chain_more, EmitsBodies, EmitsProgram}
 use Rattle.strat_compile.specs.Layers.{labelled}
@@ -72,8 +72,8 @@ program_stands P i o p range =
     let empty : Agrees o.starts p.bodies_only.starts o.starts = record { same = λ l from below. refl } in
     record {
       entries = map (placed_entry n o.starts) (labelled 0 P);
-      instances = [];
-      instance_bodies = no_instances;
+      specializations = [];
+      specialization_bodies = no_specializations;
       bodies = ranged_bodies o p.bodies (omega (arith, length-replicate {A = ℕ} (count_of P) 1)) (later_end end) (λ l from below. (kept p.begins).same l below) ((0, refl), tt) range.each;
       begins = subst (λ a. Ranges (code_in o) [] None (placed n o.starts C) a 0 (call (here i) no_strategies no_patterns) 1) first
           (subst (λ a. Ranges (code_in o) [] None (placed n o.starts C) (n - n) 0 (call (here i) no_strategies no_patterns) a) second

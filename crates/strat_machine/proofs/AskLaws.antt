@@ -16,7 +16,7 @@ use Rattle.core_lang.proofs.RootLaws.{FailsBy, begins_fails}
 use Rattle.core_lang.proofs.GoingLaws.{settled_so}
 use Rattle.core_lang.proofs.Unique.{unique}
 use Rattle.strat_code.specs.Code.{Code}
-use Rattle.strat_code.specs.Context.{Context, Instance}
+use Rattle.strat_code.specs.Context.{Context, Specialization}
 use Rattle.strat_code.specs.Ranges.{AsksFor, asks_fail, asks_match, asks_seq, asks_choice, asks_scope, asks_let, asks_known, asks_inline}
 use Rattle.strat_machine.specs.State.{Frame}
 use Rattle.strat_machine.proofs.Representation.{Represents, of_hidden, of_no_definitions, Fits, nothing_known, fitting, ParameterIs, parameter_is, same_parameter, BodyIs, body_of, same_body_of, arguments_known}
@@ -34,7 +34,7 @@ lacks_others : (rs qs : List Root) (t : Tree) → Lacks (rs ++ qs) t → Lacks q
 lacks_others [] qs t h = h
 lacks_others (r ∷ rs) qs t h = lacks_others rs qs t h.1
 
-module _ (code : Code) (I : List Instance) (M : Meaning) where
+module _ (code : Code) (I : List Specialization) (M : Meaning) where
   known_fails : {V : ResolvedEnvironment} {D : Context} {y : Coordinate} {ss : ResolvedStrategies} {ps : Patterns Coordinate} {s : ResolvedStrategy} {t : Tree} {e : Bindings} {n : ℕ} {v : Option ResolvedCallee} →
       called by_coordinates V y ss ps ≡ v → ParameterIs code I s D v → ((W : ResolvedEnvironment) → Fits code I D W → Derives by_coordinates M W s t e failed n) → Derives by_coordinates M V (call y ss ps) t e failed (suc n)
   known_fails callee (parameter_is {W = W} fit) inside = by_parameter callee (inside W fit) (omega arith)

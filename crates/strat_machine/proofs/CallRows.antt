@@ -12,18 +12,18 @@ use Rattle.core_lang.specs.Resolved.{ResolvedStrategy, ResolvedStrategies, Resol
 use Rattle.core_lang.specs.Derivation.{called}
 use Rattle.core_lang.specs.Settled.{Verdict, ends, spent}
 use Rattle.strat_code.specs.Code.{Argument, end_definition, end_argument, Code, At}
-use Rattle.strat_code.specs.Context.{Instance, instance_at, Knowns, Context, framed, known, hidden, defining, layers_of, outer, frames_in, by_frames}
-use Rattle.strat_code.specs.Ranges.{Instances, Ranges, call_range, instance_range, inline_range, known_call_range, known_range, parameter_range}
+use Rattle.strat_code.specs.Context.{Specialization, specialization_at, Knowns, Context, framed, known, hidden, defining, layers_of, outer, frames_in, by_frames}
+use Rattle.strat_code.specs.Ranges.{Specializations, Ranges, call_range, specialization_range, inline_range, known_call_range, known_range, parameter_range}
 use Rattle.strat_machine.specs.State.{Frame, frame, Record, call_record, stuck, State, running, failing, ended, frames_up, place_at, closure_in, closed}
 use Rattle.strat_machine.specs.Step.{called_with, in_closure, returned, no_step}
 use Rattle.core_lang.specs.Going.{with_ending}
 use Rattle.strat_machine.proofs.TrailLaws.{if_more, take_less, take_whole, take_front, restores_grown, restores_taken}
 use Rattle.strat_machine.proofs.BindingLaws.{same_instances}
-use Rattle.strat_machine.proofs.Representation.{Represents, of_frame, of_known, fitting, ParameterIs, parameter_is, BodyIs, body_of, same_body_of, AllKnown, of_hidden, same_parameter, instance_of, same_instance_of, arguments_known, got_last, represents_grown, closed_grown, outwards, same_place, ClosureIs, closure_is, ClosureFound, closure_found, same_closure, DefinitionIs, definition_is, definition_begins, same_definition, arguments_closed, arguments_count}
+use Rattle.strat_machine.proofs.Representation.{Represents, of_frame, of_known, fitting, ParameterIs, parameter_is, BodyIs, body_of, same_body_of, AllKnown, of_hidden, same_parameter, specialization_of, same_specialization_of, arguments_known, got_last, represents_grown, closed_grown, outwards, same_place, ClosureIs, closure_is, ClosureFound, closure_found, same_closure, DefinitionIs, definition_is, definition_begins, same_definition, arguments_closed, arguments_count}
 use Rattle.strat_machine.proofs.Landing.{append_assoc, Lands, lands_ok, lands_failed, lands_oversize, lands_spent, steps_then, one_step, paid_step, wider, step_on}
 use Rattle.strat_machine.proofs.Simulates.{shorter, less_frames, append_none, OnTop, on_top_at, never_on_top, Simulates, SimulatesBody, fails_here, same_state, ends_at}
 
-module _ (code : Code) (I : List Instance) (vs : Instances code I I) (M : Meaning) where
+module _ (code : Code) (I : List Specialization) (vs : Specializations code I I) (M : Meaning) where
   -- the end of a call
   pub call_ends : {a j p : ℕ} (up : ℕ) (cl : List (ℕ × ℕ)) (e g : Bindings) {F : List Frame} {T : List ℕ} {bar : ℕ} {K : List Record} {start : State} {r c : ℕ} {q : Verdict Tree} → bar ≤ length e → At code j end_definition →
       Lands code M j (length F) (e ++ g) (F ++ frame (length e) up cl ∷ []) T bar (call_record a p ∷ K) start r q c → Lands code M a p e F T bar K start (1 + r) (with_ending (keeping (length e)) q) c
@@ -162,9 +162,9 @@ module _ (code : Code) (I : List Instance) (vs : Instances code I I) (M : Meanin
       ∙ ap (called_with F T bar K b to p t e (frames_in C y.layers_up) entry room us) given)))
       (body_lands (frames_up F p (frames_in C y.layers_up)) (closed F p us) ts b body (filled_count (by_coordinates.place_of V) ps e ts (given_are (instances (by_coordinates.place_of V) ps e) ts e given))
       (of_frame (got_last F (frame (length e) (frames_up F p (frames_in C y.layers_up)) (closed F p us))) (omega arith) (closed_grown added (arguments_closed rep args)) (represents_grown added (outwards rep y.layers_up))) low g h))
-  call_row {V} {W} {y} {ss} {ps} {m} {n} {s} {ts} {t} {e} {c} {q} b callee given g h w C i x to p F T bar K l (instance_range {D = D} {entry = entry} {room = room} {ds = ds} {es = es} {ks = ks} j is def has args pr at) rep on_top low cost =
+  call_row {V} {W} {y} {ss} {ps} {m} {n} {s} {ts} {t} {e} {c} {q} b callee given g h w C i x to p F T bar K l (specialization_range {D = D} {entry = entry} {room = room} {ds = ds} {es = es} {ks = ks} j is def has args pr at) rep on_top low cost =
       let body = subst (λ v. DefinitionIs code I (λ m k. known k ks (defining ds es D)) (layers_up V y.layers_up) entry room (strategies_count ss) (patterns_count ps) v) callee
-      (same_instance_of rep y is entry room def (instance_of vs j (instance_at (defining ds es D) y.slot ks entry room) has)) in
+      (same_specialization_of rep y is entry room def (specialization_of vs j (specialization_at (defining ds es D) y.slot ks entry room) has)) in
       let added = frame (length e) (frames_up F p (frames_in C y.layers_up)) [] ∷ [] in
       wider (10 * suc b) (omega arith) (step_on (steps_then (paid_step b at (omega arith))
       (same_state (ap (λ v. called_with F T bar K b to p t e (frames_in C y.layers_up) entry room [] (arguments v e)) (same_instances (layers_of C) (by_frames C) (by_coordinates.place_of V) (place_at F p) (same_place rep) ps e pr)
@@ -194,7 +194,7 @@ module _ (code : Code) (I : List Instance) (vs : Instances code I I) (M : Meanin
       (same_state (ap (λ v. called_with F T bar K c to p t e (frames_in C y.layers_up) entry room us (arguments v e)) (same_instances (layers_of C) (by_frames C) (by_coordinates.place_of V) (place_at F p) (same_place rep) ps e pr)
       ∙ ap (called_with F T bar K c to p t e (frames_in C y.layers_up) entry room us) given)))
       (stop_lands entry room to p t e (frames_in C y.layers_up) us F T bar K c o))
-  call_stop_row {V} {y = y} {ps = ps} {t = t} {e = e} {o = o} c callee given w C i x to p F T bar K l (instance_range {entry = entry} {room = room} j is def has args pr at) rep on_top low cost =
+  call_stop_row {V} {y = y} {ps = ps} {t = t} {e = e} {o = o} c callee given w C i x to p F T bar K l (specialization_range {entry = entry} {room = room} j is def has args pr at) rep on_top low cost =
       wider (10 * suc c) (omega arith) (step_on (steps_then (paid_step c at (omega arith))
       (same_state (ap (λ v. called_with F T bar K c to p t e (frames_in C y.layers_up) entry room [] (arguments v e)) (same_instances (layers_of C) (by_frames C) (by_coordinates.place_of V) (place_at F p) (same_place rep) ps e pr)
       ∙ ap (called_with F T bar K c to p t e (frames_in C y.layers_up) entry room []) given)))
@@ -246,13 +246,13 @@ module _ (code : Code) (I : List Instance) (vs : Instances code I I) (M : Meanin
   parameter_row {y = y} {ps = ps} b callee g w C i x to p F T bar K l (call_range {entry = entry} {room = room} is def has args pr at) rep on_top low cost =
       absurd (no_closure (same_definition rep y is entry room def has) callee)
   parameter_row {y = y} b callee g w C i x to p F T bar K l (inline_range {D = D} {s = z} hides def is args r) rep on_top low cost = absurd (no_closure_body (same_body_of rep y hides is) callee)
-  parameter_row {y = y} {ps = ps} b callee g w C i x to p F T bar K l (instance_range {D = D} {entry = entry} {room = room} {ds = ds} {es = es} {ks = ks} j is def has args pr at) rep on_top low cost =
-      absurd (no_closure (same_instance_of rep y is entry room def (instance_of vs j (instance_at (defining ds es D) y.slot ks entry room) has)) callee)
+  parameter_row {y = y} {ps = ps} b callee g w C i x to p F T bar K l (specialization_range {D = D} {entry = entry} {room = room} {ds = ds} {es = es} {ks = ks} j is def has args pr at) rep on_top low cost =
+      absurd (no_closure (same_specialization_of rep y is entry room def (specialization_of vs j (specialization_at (defining ds es D) y.slot ks entry room) has)) callee)
 
   pub nowhere_row : {V : ResolvedEnvironment} {y : Coordinate} {ss : ResolvedStrategies} {ps : Patterns Coordinate} {t : Tree} {e : Bindings} (b : ℕ) → called by_coordinates V y ss ps ≡ None → Simulates code I M V (call y ss ps) t e b spent 0
   nowhere_row {y = y} {ps = ps} b callee w C i x to p F T bar K l (call_range {entry = entry} {room = room} is def has args pr at) rep on_top low cost = absurd (definition_exists (same_definition rep y is entry room def has) callee)
-  nowhere_row {y = y} {ps = ps} b callee w C i x to p F T bar K l (instance_range {D = D} {entry = entry} {room = room} {ds = ds} {es = es} {ks = ks} j is def has args pr at) rep on_top low cost =
-      absurd (definition_exists (same_instance_of rep y is entry room def (instance_of vs j (instance_at (defining ds es D) y.slot ks entry room) has)) callee)
+  nowhere_row {y = y} {ps = ps} b callee w C i x to p F T bar K l (specialization_range {D = D} {entry = entry} {room = room} {ds = ds} {es = es} {ks = ks} j is def has args pr at) rep on_top low cost =
+      absurd (definition_exists (same_specialization_of rep y is entry room def (specialization_of vs j (specialization_at (defining ds es D) y.slot ks entry room) has)) callee)
   nowhere_row {y = y} b callee w C i x to p F T bar K l (inline_range hides def is args r) rep on_top low cost = absurd (body_exists (same_body_of rep y hides is) callee)
   nowhere_row {y = y} b callee w C i x to p F T bar K l (known_call_range {D = D} {s = z} k r at1 at) rep on_top low cost = absurd (known_exists (same_parameter rep y z D k) callee)
   nowhere_row {y = y} b callee w C i x to p F T bar K l (known_range {D = D} {s = z} k r) rep on_top low cost = absurd (known_exists (same_parameter rep y z D k) callee)

@@ -9,7 +9,7 @@ use Rattle.core_lang.specs.Resolved.{ResolvedStrategy, ResolvedEnvironment, by_c
 use Rattle.core_lang.specs.Settled.{Verdict, ends, spent}
 use Rattle.strat_code.specs.Code.{commit, Code, At}
 use Rattle.strat_code.specs.Ranges.{choice_range, else_range, select_range}
-use Rattle.strat_code.specs.Context.{Instance}
+use Rattle.strat_code.specs.Context.{Specialization}
 use Rattle.strat_machine.specs.State.{Frame, saved, Record, choice_record, State, running, failing}
 use Rattle.strat_machine.specs.Binding.{trimmed}
 use Rattle.core_lang.specs.Going.{IsHalt, Goes, go_spent, go_id}
@@ -47,7 +47,7 @@ module _ {code : Code} {M : Meaning} where
   id_chosen {to = to} {p = p} {f = f} {F = F} {bar = bar} {K = K} {u = u} {r = r} y at low (go_id {c = c}) =
       wider r (omega arith) (chosen 1 c 0 y at (omega arith) low (λ U h. here_lands to p u f F U bar K c) (omega arith))
 
-module _ (code : Code) (I : List Instance) (M : Meaning) where
+module _ (code : Code) (I : List Specialization) (M : Meaning) where
   pub choice_halt_row : {V : ResolvedEnvironment} {s1 s2 s3 : ResolvedStrategy} {t : Tree} {e : Bindings} {c : ℕ} {q : Verdict Tree} (b : ℕ) →
       Simulates code I M V s1 t e b q c → IsHalt q → SimulatesChain code I M V (choice s1 s2 s3) t e (suc b) q c → Simulates code I M V (choice s1 s2 s3) t e (suc b) q c
   choice_halt_row {t = t} {e = e} b g1 h gs w C i x to p F T bar K l (choice_range {j = j} {k = k} at r1 at1 r2 at2 r3) rep on_top low is =

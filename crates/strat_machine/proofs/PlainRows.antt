@@ -15,7 +15,7 @@ use Rattle.core_lang.specs.Resolved.{ResolvedStrategy, ResolvedDefinitions, Reso
 use Rattle.core_lang.specs.Settled.{Verdict, ends, spent}
 use Rattle.core_lang.proofs.TriedLaws.{matches_tried, tried_matches}
 use Rattle.strat_code.specs.Code.{Code}
-use Rattle.strat_code.specs.Context.{Instance, defining, layers_of, by_frames}
+use Rattle.strat_code.specs.Context.{Specialization, defining, layers_of, by_frames}
 use Rattle.strat_code.specs.Ranges.{id_range, fail_range, seq_range, match_range, build_range, let_range, let_jump_range, primitive_range}
 use Rattle.strat_machine.specs.State.{Frame, Record, running, place_at}
 use Rattle.strat_machine.specs.Binding.{Attempt}
@@ -28,7 +28,7 @@ use Rattle.strat_code.proofs.FirstLaws.{StandsFirst, stands_first, first_of_rang
 use Rattle.strat_machine.proofs.Landing.{Lands, lands_ok, lands_failed, lands_spent, paid_step, spent_step, wider, step_on, end_lands}
 use Rattle.strat_machine.proofs.Simulates.{on_top_same, Leaves, built_leaves, Simulates, here_lands, fails_here, through, jumped, goes_on_lands}
 
-module _ (code : Code) (I : List Instance) (M : Meaning) where
+module _ (code : Code) (I : List Specialization) (M : Meaning) where
   -- the budget is spent at once
   pub spent_row : (V : ResolvedEnvironment) (s : ResolvedStrategy) (t : Tree) (e : Bindings) → Simulates code I M V s t e 0 spent 0
   spent_row V s t e w C i x to p F T bar K l r rep on_top low is = at_once (first_of_range r)

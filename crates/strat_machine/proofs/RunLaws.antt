@@ -51,7 +51,7 @@ module _ {code : Code} {M : Meaning} {P : ResolvedDefinitions} {i : ℕ} {t : Tr
 pub runs : (code : Code) (M : Meaning) (P : ResolvedDefinitions) (i : ℕ) → StandsFor code P i → (t : Tree) (budget : ℕ) → Runs code M P i t budget
 runs code M P i stands t budget =
     let going = goes budget (definitions P outermost) (call (here i) no_strategies no_patterns) t [] in
-    of_landing stands (simulates code stands.instances stands.instance_bodies M going.fact None (defining P stands.entries top) 0 0 1 0 [] [] 0 [] budget stands.begins (of_definitions stands.bodies of_top) never_on_top (omega arith) (omega arith)) (settled_so going.fact)
+    of_landing stands (simulates code stands.specializations stands.specialization_bodies M going.fact None (defining P stands.entries top) 0 0 1 0 [] [] 0 [] budget stands.begins (of_definitions stands.bodies of_top) never_on_top (omega arith) (omega arith)) (settled_so going.fact)
 
 -- where some steps lead from the beginning, as many less lead to the end
 pub record Ahead (code : Code) (M : Meaning) (k j : ℕ) (m : State) (r : Result) (left : ℕ) : Type 0 where

@@ -9,7 +9,7 @@ use Rattle.core_lang.specs.Ending.{keeping}
 use Rattle.core_lang.specs.Resolved.{ResolvedStrategy, ResolvedEnvironment}
 use Rattle.core_lang.specs.Settled.{Verdict, spent}
 use Rattle.strat_code.specs.Code.{leave, shrink, Code, At}
-use Rattle.strat_code.specs.Context.{Instance, framed, within}
+use Rattle.strat_code.specs.Context.{Specialization, framed, within}
 use Rattle.strat_code.specs.Ranges.{Ranges, scope_range, inner_range}
 use Rattle.strat_machine.specs.State.{Frame, frame, Record, stuck, State, running, ended}
 use Rattle.strat_machine.specs.Step.{cut_to, left}
@@ -20,7 +20,7 @@ use Rattle.strat_code.proofs.FirstLaws.{StandsFirst, stands_first, first_of_rang
 use Rattle.strat_machine.proofs.Landing.{Lands, lands_ok, lands_failed, lands_oversize, lands_spent, steps_then, paid_step, spent_step, wider, step_on}
 use Rattle.strat_machine.proofs.Simulates.{shorter, less_frames, more_places, Last, on_top_at, Simulates, SimulatesBody, same_state, ends_at}
 
-module _ (code : Code) (I : List Instance) (M : Meaning) where
+module _ (code : Code) (I : List Specialization) (M : Meaning) where
   pub scope_ends : (k : ℕ) {j p : ℕ} {e : Bindings} {F : List Frame} {T : List ℕ} {bar : ℕ} {K : List Record} {start : State} {r c : ℕ} {q : Verdict Tree} → bar ≤ length e → At code j leave →
       Lands code M j (length F) (e ++ empty_places k) (F ++ frame (length e) p [] ∷ []) T bar K start r q c → Lands code M (suc j) p e F T bar K start (1 + r) (with_ending (keeping (length e)) q) c
   scope_ends k {j = j} {p = p} {e = e} {F = F} {bar = bar} {K = K} low at (lands_ok {c = c} {u = u} {f = f} {U = U} new x is back same bound) =

@@ -12,7 +12,7 @@ use Rattle.core_lang.proofs.SettledLaws.{has_node}
 use Rattle.core_lang.proofs.GoingLaws.{settled_so}
 use Rattle.strat_code.specs.Code.{Case, case, Code}
 use Rattle.core_lang.specs.Roots.{Root}
-use Rattle.strat_code.specs.Context.{Instance, Context}
+use Rattle.strat_code.specs.Context.{Specialization, Context}
 use Rattle.strat_code.specs.Ranges.{Cases, one_case, more_cases, Selects, select_last, select_more}
 use Rattle.strat_machine.specs.State.{Frame, saved, Record, choice_record, run_spent, State, running, ended}
 use Rattle.strat_machine.specs.Step.{selected, no_step}
@@ -29,7 +29,7 @@ pub not_ok : {n b : ℕ} {u : Tree} {f : Bindings} (c : ℕ) → FailsBy n b (en
 not_ok c (inl h) = let k = h.0 in cc
 not_ok c (inr h) = let k = h.0 in cc
 
-module _ (code : Code) (I : List Instance) (M : Meaning) where
+module _ (code : Code) (I : List Specialization) (M : Meaning) where
   -- whether the first alternative can have the root
   pub roots : (r : Root) (t : Tree) → (has_root r t ≡ true) ⊎ (has_root r t ≡ false)
   roots r t = by_value (has_root r t) refl

@@ -10,7 +10,7 @@ use Rattle.core_lang.specs.Ending.{Ending, ok, failure, excess, stop, keeping, i
 use Rattle.core_lang.specs.Resolved.{ResolvedStrategy, ResolvedEnvironment}
 use Rattle.core_lang.specs.Settled.{Verdict, ends}
 use Rattle.strat_code.specs.Code.{Case, jump, Code, At}
-use Rattle.strat_code.specs.Context.{Instance, Context, within}
+use Rattle.strat_code.specs.Context.{Specialization, Context, within}
 use Rattle.strat_code.specs.Ranges.{Selects, Ranges}
 use Rattle.strat_machine.specs.State.{Frame, frame, Record, State, running, failing}
 use Rattle.strat_machine.specs.Binding.{undone, above, down_to}
@@ -85,17 +85,17 @@ built_leaves (Some u) e = fits_leaves (fits u) u e
 
 -- From the first address of each range for the strategy, in frames that represent the environment and with a budget of b over the x
 -- nodes around, the machine lands at the range's end as the strategy goes from b, in at most 10 steps for each node
-abbrev pub Simulates : Code → List Instance → Meaning → ResolvedEnvironment → ResolvedStrategy → Tree → Bindings → ℕ → Verdict Tree → ℕ → Type 0
+abbrev pub Simulates : Code → List Specialization → Meaning → ResolvedEnvironment → ResolvedStrategy → Tree → Bindings → ℕ → Verdict Tree → ℕ → Type 0
 Simulates code I M V s t e b q c = (w : Option ℕ) (C : Context) (i x to p : ℕ) (F : List Frame) (T : List ℕ) (bar : ℕ) (K : List Record) (l : ℕ) →
     Ranges code I w C i x s to → Represents code I F C V p → OnTop w F p (length e) → bar ≤ length e → l ≡ x + b → Lands code M to p e F T bar K (running i p t e F T bar K l) (10 * b) q c
 
 -- so it does from the cases of a chain of alternatives, where the node of the choice is paid for
-abbrev pub SimulatesChain : Code → List Instance → Meaning → ResolvedEnvironment → ResolvedStrategy → Tree → Bindings → ℕ → Verdict Tree → ℕ → Type 0
+abbrev pub SimulatesChain : Code → List Specialization → Meaning → ResolvedEnvironment → ResolvedStrategy → Tree → Bindings → ℕ → Verdict Tree → ℕ → Type 0
 SimulatesChain code I M V s t e b q c = (w : Option ℕ) (C : Context) (cs : List Case) (last to p : ℕ) (F : List Frame) (T : List ℕ) (bar : ℕ) (K : List Record) (l : ℕ) →
     Selects code I w C s cs last to → Represents code I F C V p → OnTop w F p (length e) → bar ≤ length e → b ≡ suc l → Lands code M to p e F T bar K (selected cs last p t e F T bar K l) (10 * l) q c
 
 -- so it does from a range for what is inside a scope, where the places of the scope are there and its node is not paid for yet
-abbrev pub SimulatesBody : Code → List Instance → Meaning → ResolvedEnvironment → ResolvedStrategy → Tree → Bindings → ℕ → Verdict Tree → ℕ → Type 0
+abbrev pub SimulatesBody : Code → List Specialization → Meaning → ResolvedEnvironment → ResolvedStrategy → Tree → Bindings → ℕ → Verdict Tree → ℕ → Type 0
 SimulatesBody code I M V s t e b q c = (C : Context) (n i x to p : ℕ) (F : List Frame) (T : List ℕ) (bar : ℕ) (K : List Record) (l : ℕ) (offset : ℕ) (r : ResolvedStrategy) → s ≡ scope n r →
     Ranges code I (Some (offset + n)) (within n offset C) i (suc x) r to → Represents code I F C V p → Last F p offset (length e) → bar ≤ length e → l ≡ x + b →
     (o : Verdict Tree) × (q ≡ with_ending (keeping (length e)) o) × Lands code M to p (e ++ empty_places n) F T bar K (running i p t (e ++ empty_places n) F T bar K l) (10 * b) o c

@@ -8,9 +8,9 @@ use Rattle.core_lang.specs.Tried.{tried}
 use Rattle.core_lang.specs.Resolved.{ResolvedStrategy, ResolvedEnvironment, by_coordinates}
 use Rattle.core_lang.specs.Settled.{Verdict}
 use Rattle.strat_code.specs.Code.{Code}
-use Rattle.strat_code.specs.Context.{Instance}
+use Rattle.strat_code.specs.Context.{Specialization}
 use Rattle.core_lang.specs.Going.{Goes, go_spent, go_id, go_fail, go_seq, go_seq_end, go_then, go_else, go_choice_halt, go_match, go_no_match, go_build, go_scope, go_all, go_one, go_some, go_let, go_call, go_call_stop, go_parameter, go_nowhere, go_primitive, GoesAll, go_all_end, go_all_next, go_all_stop, GoesOne, go_one_end, go_one_found, go_one_halt, go_one_next, GoesSome, go_some_end, go_some_none, go_some_found, go_some_stays, go_some_halt}
-use Rattle.strat_code.specs.Ranges.{Instances}
+use Rattle.strat_code.specs.Ranges.{Specializations}
 use Rattle.strat_machine.proofs.Simulates.{Simulates, SimulatesChain, SimulatesBody}
 use Rattle.strat_machine.proofs.PlainRows.{spent_row, id_row, fail_row, seq_row, seq_end_row, let_row, match_row, no_match_row, none_tried, build_row, primitive_row}
 use Rattle.strat_machine.proofs.ChoiceRows.{choice_halt_row, else_row, then_row}
@@ -19,7 +19,7 @@ use Rattle.strat_machine.proofs.ScopeRows.{scope_row, none_inside, spent_inside,
 use Rattle.strat_machine.proofs.CallRows.{call_row, call_stop_row, parameter_row, nowhere_row}
 use Rattle.strat_machine.proofs.TraversalRows.{SimulatesAll, SimulatesOne, SimulatesSome, all_end_row, all_next_row, all_stop_row, all_row, one_end_row, one_found_row, one_halt_row, one_next_row, one_row, some_end_row, some_none_row, some_found_row, some_stays_row, some_halt_row, some_row}
 
-module _ (code : Code) (I : List Instance) (vs : Instances code I I) (M : Meaning) where
+module _ (code : Code) (I : List Specialization) (vs : Specializations code I I) (M : Meaning) where
   mutual
     -- each range goes as its strategy does
     pub simulates : {V : ResolvedEnvironment} {s : ResolvedStrategy} {t : Tree} {e : Bindings} {b c : ℕ} {q : Verdict Tree} → Goes by_coordinates M V s t e b q c → Simulates code I M V s t e b q c

@@ -10,7 +10,7 @@ use Rattle.core_lang.specs.Resolved.{ResolvedStrategy, ResolvedEnvironment}
 use Rattle.core_lang.specs.Derivation.{parts}
 use Rattle.core_lang.specs.Settled.{Verdict, ends, spent, verdict_in_front}
 use Rattle.strat_code.specs.Code.{part_done, Code, At}
-use Rattle.strat_code.specs.Context.{Instance, Context}
+use Rattle.strat_code.specs.Context.{Specialization, Context}
 use Rattle.strat_code.specs.Ranges.{Ranges, all_range, one_range, some_range}
 use Rattle.strat_machine.specs.State.{Frame, saved, Record, all_record, one_record, some_record, State, running, failing}
 use Rattle.strat_machine.specs.Binding.{trimmed}
@@ -21,7 +21,7 @@ use Rattle.strat_machine.proofs.Representation.{Represents}
 use Rattle.strat_machine.proofs.Landing.{Lands, lands_ok, lands_failed, lands_oversize, lands_spent, steps_then, one_step, paid_step, wider, onward, step_on}
 use Rattle.strat_machine.proofs.Simulates.{restored, OnTop, on_top_same, Leaves, built_leaves, Simulates, fails_here, goes_on_lands}
 
-module _ (code : Code) (I : List Instance) (M : Meaning) where
+module _ (code : Code) (I : List Specialization) (M : Meaning) where
   -- parts that are done, in front of an ending over parts
   abbrev pub onto : Trees → Ending Trees → Ending Trees
   onto done (ok us f) = ok (in_order done us) f
