@@ -6,7 +6,8 @@ use Rattle.strat_code.specs.Code.{Argument, code_at, parameter_at, Case, case, I
 use Rattle.strat_code.specs.CodeOf.{ArgumentsInRange, CasesInRange, AddressesInRange, AllInRange}
 use Rattle.strat_code.specs.Context.{Context}
 use Rattle.strat_compile.specs.Emission.{Emits, emits_id, emits_fail, emits_seq, emits_choice, emits_select, emits_match, emits_build, emits_scope, emits_inner, emits_all, emits_one, emits_some, emits_let, emits_call, emits_parameter, emits_primitive, EmitsChain, chain_end, chain_more, EmitsArm, emits_arm, EmitsThen, then_id, then_code, EmitsDefinitions, emits_definitions, EmitsBodies, emits_no_bodies, emits_more_bodies, EmitsBody, emits_body, emits_scope_body, EmitsArguments, emits_no_arguments, emits_code_argument, emits_parameter_argument}
-use Rattle.strat_compile.specs.Chains.{Body, cases_between, selects}
+use Rattle.core_lang.specs.Roots.{Root}
+use Rattle.strat_compile.specs.Chains.{Body, place_passed, nodes_passed, cases_onto, cases_between, selects}
 use Rattle.strat_compile.specs.Located.{located, address_if, argument_located, case_located}
 use Rattle.strat_compile.specs.Output.{Emitted, place, count_of}
 use Rattle.strat_compile.proofs.ChainLaws.{selects_long}
@@ -77,14 +78,22 @@ abbrev BodiesHavePlaces : List Body → Type 0
 BodiesHavePlaces [] = Unit {0}
 BodiesHavePlaces (b ∷ bs) = (1 ≤ b.start) × BodiesHavePlaces bs
 
+each_sound : (rs : List Root) (n start otherwise : ℕ) (cs : List Case) → 1 ≤ start → 1 ≤ otherwise → CasesHavePlaces cs → CasesHavePlaces (cases_onto rs n start otherwise cs)
+each_sound [] n start otherwise cs h k s = s
+each_sound (r ∷ rs) n start otherwise cs h k s = (h, k, each_sound rs n start otherwise cs h k s)
+
+passed_sound : (left base last : ℕ) → 1 ≤ base → 1 ≤ last → 1 ≤ place_passed left base last
+passed_sound zero base last h k = k
+passed_sound (suc left) base last h k = omega (arith, h)
+
 cases_sound : (bs : List Body) (base last : ℕ) → 1 ≤ base → 1 ≤ last → BodiesHavePlaces bs → CasesHavePlaces (cases_between bs base last)
 cases_sound [] base last h k s = tt
-cases_sound (b ∷ []) base last h k s = (s.0, k, tt)
-cases_sound (b ∷ d ∷ bs) base last h k s = (s.0, omega (arith, h), cases_sound (d ∷ bs) base last h k s.1)
+cases_sound (b ∷ bs) base last h k s =
+    each_sound b.roots (nodes_passed (length bs) b.nodes) b.start (place_passed (length bs) base last) (cases_between bs base last) s.0 (passed_sound (length bs) base last h k) (cases_sound bs base last h k s.1)
 
-selects_sound : (cs : List Case) (last : ℕ) (c : Code) → 1 ≤ last → CasesHavePlaces cs → AllHavePlaces c → AllHavePlaces (selects cs last c)
-selects_sound [] last c k h s = s
-selects_sound (case r n body otherwise ∷ cs) last c k h s = ((h, k), selects_sound cs last c k h.2 s)
+selects_sound : (bs : List Body) (base last : ℕ) (c : Code) → 1 ≤ base → 1 ≤ last → BodiesHavePlaces bs → AllHavePlaces c → AllHavePlaces (selects bs base last c)
+selects_sound [] base last c h k p s = s
+selects_sound (b ∷ bs) base last c h k p s = ((cases_sound (b ∷ bs) base last h k p, k), selects_sound bs base last c h k p.1 s)
 
 mutual
   pub longer : {w : Bool} {C : Context} {x : ℕ} {s : ResolvedStrategy} {o o1 : Emitted} → Emits w C x s o o1 → length o.code ≤ length o1.code
@@ -92,7 +101,7 @@ mutual
   longer emits_fail = omega arith
   longer (emits_seq a b) = let one = longer a in let two = longer b in omega (arith, one, two)
   longer (emits_choice a b) = let one = longer a in let two = longer_arm b in omega (arith, one, two)
-  longer (emits_select {last = last} {bs = bs} {o1 = o1} a) = let one = longer_chain a in let more = selects_long (cases_between bs (place o1) last) last o1.code in omega (arith, one, more)
+  longer (emits_select {last = last} {bs = bs} {o1 = o1} a) = let one = longer_chain a in let more = selects_long bs (place o1) last o1.code in omega (arith, one, more)
   longer emits_match = omega arith
   longer emits_build = omega arith
   longer (emits_scope a) = let one = longer a in omega (arith, one)
@@ -107,7 +116,7 @@ mutual
 
   longer_chain : {w : Bool} {C : Context} {last : ℕ} {bs : List Body} {s : ResolvedStrategy} {o o1 : Emitted} → EmitsChain w C s bs last o o1 → length o.code ≤ length o1.code
   longer_chain (chain_end a) = longer a
-  longer_chain (chain_more begins a b) = let one = longer_chain a in let two = longer b in omega (arith, one, two)
+  longer_chain (chain_more asks rooted a b) = let one = longer_chain a in let two = longer b in omega (arith, one, two)
 
   longer_arm : {w : Bool} {C : Context} {x to : ℕ} {s1 s2 : ResolvedStrategy} {o o1 : Emitted} → EmitsArm w C x s1 s2 to o o1 → length o.code ≤ length o1.code
   longer_arm (emits_arm a b) = let one = longer_then a in let two = longer b in omega (arith, one, two)
@@ -143,7 +152,7 @@ mutual
       let made = sound_chain a h s in
       let base : 1 ≤ place o1 = omega (arith, h, more) in
       let cases = cases_sound (b ∷ bs) (place o1) last base made.1 made.0 in
-      record { code = ((cases, made.1), selects_sound (cases_between bs (place o1) last) last o1.code made.1 (cases_sound bs (place o1) last base made.1 made.0.1) made.2.code); starts = made.2.starts }
+      record { code = ((cases, made.1), selects_sound bs (place o1) last o1.code base made.1 made.0.1 made.2.code); starts = made.2.starts }
   sound emits_match h s = in_front tt s
   sound emits_build h s = in_front tt s
   sound (emits_scope a) h s = in_front tt (sound a (omega (arith, h)) (in_front tt s))
@@ -159,7 +168,7 @@ mutual
   sound_chain : {w : Bool} {C : Context} {last : ℕ} {bs : List Body} {s : ResolvedStrategy} {o o1 : Emitted} → EmitsChain w C s bs last o o1 → 1 ≤ length o.code → Sound o →
       BodiesHavePlaces bs × (1 ≤ last) × Sound o1
   sound_chain (chain_end a) h s = let more = longer a in (tt, omega (arith, h, more), sound a h s)
-  sound_chain (chain_more begins a b) h s =
+  sound_chain (chain_more asks rooted a b) h s =
       let one = longer_chain a in
       let two = longer b in
       let made = sound_chain a h s in

@@ -11,7 +11,7 @@ use Rattle.core_lang.specs.Views.{Arm, first_of, strategy_of, arm_of}
 use Rattle.core_lang.proofs.ReadLaws.{reads_choice, reads_arm}
 use Rattle.strat_code.specs.Code.{commit}
 use Rattle.strat_code.specs.Context.{Context}
-use Rattle.strat_compile.specs.Chains.{Body, cases_between, selects_onto}
+use Rattle.strat_compile.specs.Chains.{Body, selects_onto}
 use Rattle.strat_compile.specs.Emission.{Emits, emits_choice, emits_select, EmitsChain, chain_end, chain_more, EmitsArm, Closes, Joins, PutsArm, PutsArms, PutsJoined, PutsFirst}
 use Rattle.strat_compile.specs.Output.{Emitted, onto, place}
 
@@ -23,54 +23,57 @@ pub closes_none : (bs : List Body) (last : ℕ) (o1 o2 : Emitted) → length bs 
 closes_none [] last o1 o2 none same = record { close = λ w C s o chain. subst (λ z. Emits w C 0 s o z) (sym same) (none_closes chain) }
 closes_none (b ∷ bs) last o1 o2 none same = absurd (omega arith)
 
-pub selects_close : (bs : List Body) (last : ℕ) (o1 o2 : Emitted) → (length bs ≡ 0 → ⊥) → o2 ≡ selects_onto 1 (cases_between bs (place o1) last) last o1 → Closes bs last o1 o2
+pub selects_close : (bs : List Body) (last : ℕ) (o1 o2 : Emitted) → (length bs ≡ 0 → ⊥) → o2 ≡ selects_onto 1 bs (place o1) last o1 → Closes bs last o1 o2
 selects_close [] last o1 o2 some is = absurd (some refl)
 selects_close (b ∷ bs) last o1 o2 some is = record { close = λ w C s o chain. subst (λ z. Emits w C 0 s o z) (sym is) (emits_select chain) }
 
 -- an alternative more
-pub joined_row : (w : Bool) (C : Context) (arm : Arm) (r : Root) (n p to last last1 : ℕ) (b : Body) (bs bs1 : List Body) (o1 o2 o3 : Emitted) → Joins arm r n → o2 ≡ onto (commit 1 to) o1 →
-    Emits w C 0 arm.guard o2 o3 → p ≡ place o3 → b ≡ record { root = r; nodes = n; start = p } → bs1 ≡ b ∷ bs → last1 ≡ last → PutsJoined w C arm r n to bs last o1 bs1 last1 o3
-joined_row w C arm r n p to last last1 b bs bs1 o1 o2 o3 joins first guard here body more same =
-    let all : bs1 ≡ record { root = r; nodes = n; start = place o3 } ∷ bs = more ∙ ap (λ d. d ∷ bs) (body ∙ ap (λ q. record { root = r; nodes = n; start = q }) here) in
+pub joined_row : (w : Bool) (C : Context) (arm : Arm) (rs : List Root) (n p to last last1 : ℕ) (b : Body) (bs bs1 : List Body) (o1 o2 o3 : Emitted) → Joins C arm rs n → o2 ≡ onto (commit 1 to) o1 →
+    Emits w C 0 arm.guard o2 o3 → p ≡ place o3 → b ≡ record { roots = rs; nodes = n; start = p } → bs1 ≡ b ∷ bs → last1 ≡ last → PutsJoined w C arm rs n to bs last o1 bs1 last1 o3
+joined_row w C arm rs n p to last last1 b bs bs1 o1 o2 o3 joins first guard here body more same =
+    let all : bs1 ≡ record { roots = rs; nodes = n; start = place o3 } ∷ bs = more ∙ ap (λ d. d ∷ bs) (body ∙ ap (λ q. record { roots = rs; nodes = n; start = q }) here) in
     record {
       bodies = all;
       puts = record {
         put = λ s o is chain. subst (λ k. EmitsChain w C (choice arm.guard arm.then s) bs1 k o o3) (sym same)
             (subst (λ ds. EmitsChain w C (choice arm.guard arm.then s) ds last o o3) (sym all)
-            (subst (λ t. EmitsChain w C (choice arm.guard t s) (record { root = r; nodes = n; start = place o3 } ∷ bs) last o o3) (sym joins.then)
-            (chain_more joins.begins chain (subst (λ z. Emits w C 0 arm.guard z o3) (first ∙ ap (λ q. onto (commit 1 q) o1) is) guard))));
+            (subst (λ t. EmitsChain w C (choice arm.guard t s) (record { roots = rs; nodes = n; start = place o3 } ∷ bs) last o o3) (sym joins.then)
+            (chain_more joins.asks joins.some chain (subst (λ z. Emits w C 0 arm.guard z o3) (first ∙ ap (λ q. onto (commit 1 q) o1) is) guard))));
       };
     }
 
-pub joined_puts : (w : Bool) (C : Context) (arm : Arm) (r : Root) (n to last last1 : ℕ) (bs bs1 : List Body) (o1 o2 : Emitted) → PutsJoined w C arm r n to bs last o1 bs1 last1 o2 →
-    PutsArm w C arm to bs last o1 bs1 last1 o2
-joined_puts w C arm r n to last last1 bs bs1 o1 o2 h = h.puts
+pub joined_puts : (w : Bool) (C : Context) (arm : Arm) (rs : List Root) (n to last last1 : ℕ) (bs bs1 : List Body) (o o1 o2 : Emitted) → o1 ≡ o → PutsJoined w C arm rs n to bs last o1 bs1 last1 o2 →
+    PutsArm w C arm to bs last o bs1 last1 o2
+joined_puts w C arm rs n to last last1 bs bs1 o o1 o2 same h = subst (λ z. PutsArm w C arm to bs last z bs1 last1 o2) same h.puts
 
 -- an arm that joins no chain, after the code of the chain there is
-pub plain_row : (w : Bool) (C : Context) (arm : Arm) (to last p : ℕ) (bs bs1 bs2 : List Body) (o1 o2 o3 : Emitted) → Closes bs last o1 o2 → bs1 ≡ [] → EmitsArm w C 0 arm.guard arm.then to o2 o3 →
-    p ≡ place o3 → bs2 ≡ bs1 → PutsArm w C arm to bs last o1 bs2 p o3
-plain_row w C arm to last p bs bs1 bs2 o1 o2 o3 closes none emitted here same =
-    record {
+pub plain_row : (w : Bool) (C : Context) (arm : Arm) (to last p : ℕ) (bs bs1 bs2 : List Body) (o' o1 o2 o3 : Emitted) → o1 ≡ o' → Closes bs last o1 o2 → bs1 ≡ [] → EmitsArm w C 0 arm.guard arm.then to o2 o3 →
+    p ≡ place o3 → bs2 ≡ bs1 → PutsArm w C arm to bs last o' bs2 p o3
+plain_row w C arm to last p bs bs1 bs2 o' o1 o2 o3 as_it_was closes none emitted here same =
+    subst (λ z. PutsArm w C arm to bs last z bs2 p o3) as_it_was
+    (record {
       put = λ s o is chain. subst (λ ds. EmitsChain w C (choice arm.guard arm.then s) ds p o o3) (sym (same ∙ none))
           (subst (λ q. EmitsChain w C (choice arm.guard arm.then s) [] q o o3) (sym here)
           (chain_end (emits_choice (closes.close w C s o chain) (subst (λ q. EmitsArm w C 0 arm.guard arm.then q o2 o3) is emitted))));
-    }
+    })
 
-pub first_plain : (w : Bool) (C : Context) (x : ℕ) (arm : Arm) (to last : ℕ) (bs : List Body) (o1 o2 o3 : Emitted) → Closes bs last o1 o2 → EmitsArm w C x arm.guard arm.then to o2 o3 →
-    PutsFirst w C x arm to bs last o1 o3
-first_plain w C x arm to last bs o1 o2 o3 closes emitted =
-    record { put = λ s o is chain. emits_choice (closes.close w C s o chain) (subst (λ q. EmitsArm w C x arm.guard arm.then q o2 o3) is emitted) }
+pub first_plain : (w : Bool) (C : Context) (x : ℕ) (arm : Arm) (to last : ℕ) (bs : List Body) (o' o1 o2 o3 : Emitted) → o1 ≡ o' → Closes bs last o1 o2 → EmitsArm w C x arm.guard arm.then to o2 o3 →
+    PutsFirst w C x arm to bs last o' o3
+first_plain w C x arm to last bs o' o1 o2 o3 as_it_was closes emitted =
+    subst (λ z. PutsFirst w C x arm to bs last z o3) as_it_was
+    (record { put = λ s o is chain. emits_choice (closes.close w C s o chain) (subst (λ q. EmitsArm w C x arm.guard arm.then q o2 o3) is emitted) })
 
-pub first_joined : (w : Bool) (C : Context) (x m : ℕ) (arm : Arm) (r : Root) (n to last last1 : ℕ) (bs bs1 : List Body) (o1 o2 o3 : Emitted) → m ≡ suc x → PutsJoined w C arm r n to bs last o1 bs1 last1 o2 →
-    o3 ≡ selects_onto m (cases_between bs1 (place o2) last1) last1 o2 → PutsFirst w C x arm to bs last o1 o3
-first_joined w C x m arm r n to last last1 bs bs1 o1 o2 o3 nodes joined block =
-    let b : Body = record { root = r; nodes = n; start = place o2 } in
+pub first_joined : (w : Bool) (C : Context) (x m : ℕ) (arm : Arm) (rs : List Root) (n to last last1 : ℕ) (bs bs1 : List Body) (o' o1 o2 o3 : Emitted) → o1 ≡ o' → m ≡ suc x → PutsJoined w C arm rs n to bs last o1 bs1 last1 o2 →
+    o3 ≡ selects_onto m bs1 (place o2) last1 o2 → PutsFirst w C x arm to bs last o' o3
+first_joined w C x m arm rs n to last last1 bs bs1 o' o1 o2 o3 as_it_was nodes joined block =
+    let b : Body = record { roots = rs; nodes = n; start = place o2 } in
     let all : bs1 ≡ b ∷ bs = joined.bodies in
-    let is : o3 ≡ selects_onto (suc x) (cases_between (b ∷ bs) (place o2) last1) last1 o2 = block ∙ ap₂ (λ k ds. selects_onto k (cases_between ds (place o2) last1) last1 o2) nodes all in
-    record {
+    let is : o3 ≡ selects_onto (suc x) (b ∷ bs) (place o2) last1 o2 = block ∙ ap₂ (λ k ds. selects_onto k ds (place o2) last1 o2) nodes all in
+    subst (λ z. PutsFirst w C x arm to bs last z o3) as_it_was
+    (record {
       put = λ s o same chain. subst (λ z. Emits w C x (choice arm.guard arm.then s) o z) (sym is)
           (emits_select (subst (λ ds. EmitsChain w C (choice arm.guard arm.then s) ds last1 o o2) all (joined.puts.put s o same chain)));
-    }
+    })
 
 choice_as : (s z' : CoreStrategy) (a' : CoreArm) (a : Box CoreArm Global) (more : Vec CoreArm Global) (z : Box CoreStrategy Global) (arms : List CoreArm) (w : Bool) (C : Context) (x : ℕ) (o o1 : Emitted) →
     s ≡ strategies.Choice a more z → arms ≡ more.items → z' ≡ z.value → a' ≡ a.value →

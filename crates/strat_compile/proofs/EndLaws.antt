@@ -5,10 +5,10 @@ use Rattle.std.specs.Option.{option_map}
 use Rattle.std.proofs.lemmas.List.{append_assoc, length-append}
 use Rattle.std.proofs.lemmas.Option.{slice_get-map}
 use Rattle.core_lang.specs.Resolved.{ResolvedStrategy, ResolvedStrategies, ResolvedDefinitions}
-use Rattle.strat_code.specs.Code.{Argument, Case, Instr, Code, At}
+use Rattle.strat_code.specs.Code.{Argument, Instr, Code, At}
 use Rattle.strat_code.specs.Context.{Context}
 use Rattle.strat_compile.specs.Emission.{Emits, emits_id, emits_fail, emits_seq, emits_choice, emits_select, emits_match, emits_build, emits_scope, emits_inner, emits_all, emits_one, emits_some, emits_let, emits_call, emits_parameter, emits_primitive, EmitsChain, chain_end, chain_more, EmitsArm, emits_arm, EmitsThen, then_id, then_code, EmitsDefinitions, emits_definitions, EmitsBodies, emits_no_bodies, emits_more_bodies, EmitsBody, emits_body, emits_scope_body, EmitsArguments, emits_no_arguments, emits_code_argument, emits_parameter_argument}
-use Rattle.strat_compile.specs.Chains.{Body, cases_between, selects}
+use Rattle.strat_compile.specs.Chains.{Body, selects}
 use Rattle.strat_compile.specs.Located.{located}
 use Rattle.strat_compile.specs.Output.{Emitted, place}
 
@@ -42,9 +42,9 @@ next_address {c} {d} {v} h = let enough = long_enough h in omega (arith, enough)
 pub located_at : (c : Code) (n : ℕ) (A : List ℕ) {d : Code} {v : Instr} → IsEnd c (v ∷ d) → At (map (located n A) c) (length c - length (v ∷ d)) (located n A v)
 located_at c n A {d} {v} h = slice_get-map (located n A) c _ ∙ ap (λ r. option_map (located n A) r) (at_end h)
 
-pub end_selects : {c : Code} (ks : List Case) (last : ℕ) (d : Code) → IsEnd c (selects ks last d) → IsEnd c d
-end_selects [] last d h = h
-end_selects (k ∷ ks) last d h = end_selects ks last d (later_end h)
+pub end_selects : {c : Code} (bs : List Body) (base last : ℕ) (d : Code) → IsEnd c (selects bs base last d) → IsEnd c d
+end_selects [] base last d h = h
+end_selects (b ∷ bs) base last d h = end_selects bs base last d (later_end h)
 
 module _ (c : Code) where
   mutual
@@ -53,7 +53,7 @@ module _ (c : Code) where
     end_emitted emits_fail h = later_end h
     end_emitted (emits_seq a b) h = end_emitted a (end_emitted b h)
     end_emitted (emits_choice a b) h = end_emitted a (end_arm b h)
-    end_emitted (emits_select {last = last} {bs = bs} {o1 = o1} a) h = end_chain a (end_selects (cases_between bs (place o1) last) last o1.code (later_end h))
+    end_emitted (emits_select {last = last} {bs = bs} {o1 = o1} a) h = end_chain a (end_selects bs (place o1) last o1.code (later_end h))
     end_emitted emits_match h = later_end h
     end_emitted emits_build h = later_end h
     end_emitted (emits_scope a) h = later_end (end_emitted a (later_end h))
@@ -68,7 +68,7 @@ module _ (c : Code) where
 
     pub end_chain : {w : Bool} {C : Context} {last : ℕ} {bs : List Body} {s : ResolvedStrategy} {o o1 : Emitted} → EmitsChain w C s bs last o o1 → IsEnd c o1.code → IsEnd c o.code
     end_chain (chain_end a) h = end_emitted a h
-    end_chain (chain_more begins a b) h = end_chain a (later_end (end_emitted b h))
+    end_chain (chain_more asks rooted a b) h = end_chain a (later_end (end_emitted b h))
 
     pub end_arm : {w : Bool} {C : Context} {x to : ℕ} {s1 s2 : ResolvedStrategy} {o o1 : Emitted} → EmitsArm w C x s1 s2 to o o1 → IsEnd c o1.code → IsEnd c o.code
     end_arm (emits_arm a b) h = end_then a (end_emitted b (later_end h))

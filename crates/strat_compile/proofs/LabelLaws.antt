@@ -89,7 +89,7 @@ mutual
 
   pub kept_chain : {w : Bool} {C : Context} {last : ℕ} {bs : List Body} {s : ResolvedStrategy} {o o1 : Emitted} → EmitsChain w C s bs last o o1 → Keeps o.starts o1.starts
   kept_chain (chain_end a) = kept a
-  kept_chain (chain_more begins a b) = then_keeps (kept_chain a) (kept b)
+  kept_chain (chain_more asks rooted a b) = then_keeps (kept_chain a) (kept b)
 
   pub kept_arm : {w : Bool} {C : Context} {x to : ℕ} {s1 s2 : ResolvedStrategy} {o o1 : Emitted} → EmitsArm w C x s1 s2 to o o1 → Keeps o.starts o1.starts
   kept_arm (emits_arm a b) = then_keeps (kept_then a) (kept b)

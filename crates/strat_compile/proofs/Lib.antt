@@ -8,6 +8,7 @@ pub mod NameLaws
 pub mod RenamedLaws
 pub mod ChoiceLaws
 pub mod BeginningLaws
+pub mod AskLaws
 pub mod ChainLaws
 pub mod EndLaws
 pub mod LabelLaws

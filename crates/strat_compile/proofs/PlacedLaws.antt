@@ -3,10 +3,12 @@ use Rattle.std.proofs.Common.{◌≡◌, ℕ, zero, suc, Some, List, map, refl, 
 use Rattle.std.specs.Prelude.{slice_get}
 use Rattle.core_lang.specs.declared.coordinate.Coordinate.{Coordinate}
 use Rattle.core_lang.specs.Program.{id, fail, seq, choice, match, build, scope, all, one, some, with_definitions, call, primitive, no_definitions, more_definitions}
-use Rattle.core_lang.specs.Resolved.{ResolvedStrategy, ResolvedDefinitions}
+use Rattle.core_lang.specs.Resolved.{ResolvedStrategy, ResolvedStrategies, ResolvedDefinitions}
 use Rattle.core_lang.specs.InRange.{layer_of, layer_of_definitions, outside, IsDefinition, IsCallee}
 use Rattle.strat_code.specs.Code.{Entry, entry_at}
-use Rattle.strat_code.specs.Context.{Context, top, framed, within, defining, known, hidden, Knowns, no_knowns, more_knowns, layers_of, outer, frames_in, slot_in, by_frames, size, HasParameter, HasDefinitions, HasOwnCode}
+use Rattle.strat_code.specs.Context.{Context, top, framed, within, defining, known, hidden, Knowns, no_knowns, more_knowns, IsKnown, KnowsParameter, Hides, hides_top, hides_framed, hides_within, hides_definitions, keeps_definitions, hides_known, keeps_known, hides_hidden, keeps_hidden, layers_of, outer, frames_in, slot_in, by_frames, size, HasParameter, HasDefinitions, HasOwnCode}
+use Rattle.core_lang.specs.Roots.{Root}
+use Rattle.strat_code.specs.Ranges.{AreKnown, none_known, own_known, parameter_known, AsksFor, asks_fail, asks_match, asks_seq, asks_choice, asks_scope, asks_let, asks_known, asks_inline}
 use Rattle.strat_compile.specs.Layers.{labelled, entry_in, entries_of}
 use Rattle.strat_compile.specs.Located.{address_if}
 
@@ -148,6 +150,50 @@ module _ (n : ℕ) (A : List ℕ) where
   placed_own_code C (with_definitions ds s) h = tt
   placed_own_code C (call y ss ps) h = subst HasDefinitions (sym (placed_outer C y.layers_up)) (placed_definitions (outer C y.layers_up) h)
   placed_own_code C (primitive f ps) h = tt
+
+  -- what a strategy asks for, it asks for with addresses, too
+  placed_hides : {C D : Context} → Hides C D → Hides (placed C) (placed D)
+  placed_hides hides_top = hides_top
+  placed_hides (hides_framed h) = hides_framed (placed_hides h)
+  placed_hides (hides_within h) = hides_within (placed_hides h)
+  placed_hides (hides_definitions h) = hides_definitions (placed_hides h)
+  placed_hides (keeps_definitions h) = keeps_definitions (placed_hides h)
+  placed_hides (hides_known h) = hides_known (placed_hides h)
+  placed_hides (keeps_known h) = keeps_known (placed_hides h)
+  placed_hides (hides_hidden h) = hides_hidden (placed_hides h)
+  placed_hides (keeps_hidden h) = keeps_hidden (placed_hides h)
+
+  placed_is_known : (ks : Knowns) (i : ℕ) (s : ResolvedStrategy) (D : Context) → IsKnown ks i s D → IsKnown (placed_knowns ks) i s (placed D)
+  placed_is_known no_knowns i s D h = h
+  placed_is_known (more_knowns s1 D1 ks) zero s D h = (h.0, ap placed h.1)
+  placed_is_known (more_knowns s1 D1 ks) (suc i) s D h = placed_is_known ks i s D h
+
+  placed_knows_here : (C : Context) (i : ℕ) (s : ResolvedStrategy) (D : Context) → KnowsParameter C i s D → KnowsParameter (placed C) i s (placed D)
+  placed_knows_here top i s D h = h
+  placed_knows_here (framed m k C) i s D h = h
+  placed_knows_here (within k offset C) i s D h = h
+  placed_knows_here (defining ds es C) i s D h = h
+  placed_knows_here (known k ks C) i s D h = placed_is_known ks i s D h
+  placed_knows_here (hidden ks C) i s D h = placed_is_known ks i s D h
+
+  placed_knows : (C : Context) (y : Coordinate) (s : ResolvedStrategy) (D : Context) → KnowsParameter (outer C y.layers_up) y.slot s D → KnowsParameter (outer (placed C) y.layers_up) y.slot s (placed D)
+  placed_knows C y s D h = subst (λ E. KnowsParameter E y.slot s (placed D)) (sym (placed_outer C y.layers_up)) (placed_knows_here (outer C y.layers_up) y.slot s D h)
+
+  placed_are_known : {C : Context} {ss : ResolvedStrategies} {ks : Knowns} → AreKnown C ss ks → AreKnown (placed C) ss (placed_knowns ks)
+  placed_are_known none_known = none_known
+  placed_are_known (own_known {C = C} {s = s} own h rest) = own_known (placed_own_code C s own) (placed_hides h) (placed_are_known rest)
+  placed_are_known (parameter_known {C = C} {D = D} {y = y} {s = s} h rest) = parameter_known (placed_knows C y s D h) (placed_are_known rest)
+
+  pub placed_asks : {C : Context} {s : ResolvedStrategy} {rs : List Root} {n : ℕ} → AsksFor C s rs n → AsksFor (placed C) s rs n
+  placed_asks asks_fail = asks_fail
+  placed_asks asks_match = asks_match
+  placed_asks (asks_seq a) = asks_seq (placed_asks a)
+  placed_asks (asks_choice a b) = asks_choice (placed_asks a) (placed_asks b)
+  placed_asks (asks_scope a) = asks_scope (placed_asks a)
+  placed_asks (asks_let a) = asks_let (placed_asks a)
+  placed_asks (asks_known {C = C} {D = D} {y = y} {s = s} h a) = asks_known (placed_knows C y s D h) (placed_asks a)
+  placed_asks (asks_inline {C = C} {D = D} {y = y} {ds = ds} {es = es} h body knowns a) =
+      asks_inline (subst (λ E. Hides E (placed (defining ds es D))) (sym (placed_outer C y.layers_up)) (placed_hides h)) body (placed_are_known knowns) (placed_asks a)
 
   got_entry : (ds : ResolvedDefinitions) (label i m k : ℕ) → IsDefinition ds i m k → slice_get (map placed_entry (labelled label ds)) i ≡ Some (placed_entry (entry_in (labelled label ds) i))
   got_entry no_definitions label i m k h = elim h [ ]

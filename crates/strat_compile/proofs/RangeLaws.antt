@@ -5,21 +5,21 @@ use Rattle.std.proofs.lemmas.List.{length-append, length-replicate}
 use Rattle.core_lang.specs.declared.coordinate.Coordinate.{Coordinate}
 use Rattle.core_lang.specs.Program.{Pattern, Patterns, id, fail, seq, choice, match, build, scope, all, one, some, with_definitions, call, primitive, more_strategies, more_definitions, strategies_count, patterns_count}
 use Rattle.core_lang.specs.Resolved.{ResolvedStrategy, ResolvedStrategies, ResolvedDefinitions}
-use Rattle.core_lang.specs.Roots.{Root, Begins, begins_match, begins_seq, begins_scope}
+use Rattle.core_lang.specs.Roots.{Root}
 use Rattle.core_lang.specs.InRange.{layer_of, PatternInRange, PatternsInRange, StrategyInRange, StrategiesInRange, DefinitionsInRange}
 use Rattle.strat_code.specs.Code.{Argument, parameter_at, Entry, entry_at, all_parts, one_part, some_parts, Instr, match_term, build_term, Case, extend, shrink, try, commit, select, jump, traverse, call_definition, call_closure, apply_primitive, Code, At}
 use Rattle.strat_code.specs.Context.{Context, within, defining, size, layers_of, frames_in, by_frames}
 use Rattle.strat_code.specs.Renamed.{renamed, all_renamed}
-use Rattle.strat_code.specs.Ranges.{AsksFor, asks_match, asks_seq, asks_scope, one_case, Ranges, id_range, fail_range, seq_range, choice_range, else_range, select_range, Selects, select_last, select_more, match_range, build_range, scope_range, inner_range, all_range, one_range, some_range, let_jump_range, call_range, parameter_range, primitive_range, Bodies, no_bodies, more_bodies, roomy_bodies, Arguments, no_arguments, code_argument, parameter_argument}
+use Rattle.strat_code.specs.Ranges.{Cases, one_case, more_cases, Ranges, id_range, fail_range, seq_range, choice_range, else_range, select_range, Selects, select_last, select_more, match_range, build_range, scope_range, inner_range, all_range, one_range, some_range, let_jump_range, call_range, parameter_range, primitive_range, Bodies, no_bodies, more_bodies, roomy_bodies, Arguments, no_arguments, code_argument, parameter_argument}
 use Rattle.strat_compile.specs.Emission.{IsNoScope, Emits, emits_id, emits_fail, emits_seq, emits_choice, emits_select, emits_match, emits_build, emits_scope, emits_inner, emits_all, emits_one, emits_some, emits_let, emits_call, emits_parameter, emits_primitive, EmitsChain, chain_end, chain_more, EmitsArm, emits_arm, EmitsThen, then_id, then_code, EmitsDefinitions, emits_definitions, EmitsBodies, emits_no_bodies, emits_more_bodies, EmitsBody, emits_body, emits_scope_body, EmitsArguments, emits_no_arguments, emits_code_argument, emits_parameter_argument}
-use Rattle.strat_compile.specs.Chains.{Body, cases_between, selects}
+use Rattle.strat_compile.specs.Chains.{Body, cases_onto, cases_between, selects}
 use Rattle.strat_compile.specs.Layers.{labelled, room_for}
 use Rattle.strat_compile.specs.Located.{located, address, address_if, argument_located, case_located}
 use Rattle.strat_compile.specs.Output.{Emitted, onto, place, count_of}
-use Rattle.strat_compile.proofs.ChainLaws.{selects_long, cases_long}
+use Rattle.strat_compile.proofs.ChainLaws.{selects_long}
 use Rattle.strat_compile.proofs.EndLaws.{IsEnd, later_end, next_address, located_at, end_emitted, end_selects, end_bodies, end_arguments}
 use Rattle.strat_compile.proofs.LabelLaws.{Keeps, kept, kept_chain, kept_arm, kept_then, kept_definitions, kept_bodies, kept_body, kept_arguments, set_long, set_other, set_here}
-use Rattle.strat_compile.proofs.PlacedLaws.{IsLabelled, placed, placed_entry, placed_layers, placed_outer, placed_frames, placed_by_frames, placed_size, placed_parameter, placed_own_code, callee}
+use Rattle.strat_compile.proofs.PlacedLaws.{IsLabelled, placed, placed_entry, placed_layers, placed_outer, placed_frames, placed_by_frames, placed_size, placed_parameter, placed_own_code, placed_asks, callee}
 
 no_room : (s : ResolvedStrategy) → IsNoScope s → room_for s ≡ 0
 no_room id h = refl
@@ -45,11 +45,12 @@ last_in : (w : Bool) (ds : ResolvedDefinitions) (es : List Entry) (C : Context) 
 last_in true ds es C = refl
 last_in false ds es C = refl
 
--- what begins with a match asks for its root
-asks_root : {C : Context} {s : ResolvedStrategy} {r : Root} {n : ℕ} → Begins s r n → AsksFor C s (r ∷ []) n
-asks_root begins_match = asks_match
-asks_root (begins_seq h) = asks_seq (asks_root h)
-asks_root (begins_scope h) = asks_scope (asks_root h)
+-- the cases of an alternative, with addresses
+located_cases : (count : ℕ) (rs : List Root) (n start otherwise : ℕ) (others : List Case) → 0 < length rs →
+    Cases n (address count start) (address count otherwise) (map (case_located count) others) rs (map (case_located count) (cases_onto rs n start otherwise others))
+located_cases count [] n start otherwise others rooted = absurd (omega (arith, rooted))
+located_cases count (r ∷ []) n start otherwise others rooted = one_case
+located_cases count (r ∷ q ∷ rs) n start otherwise others rooted = more_cases (located_cases count (q ∷ rs) n start otherwise others (omega arith))
 
 -- the labels between these two are in the end where they are in the second
 pub record Agrees (last old new : List ℕ) : Type 0 where
@@ -104,15 +105,14 @@ module _ (whole : Emitted) where
 
   selected : {w : Bool} {z : Option ℕ} {C D : Context} {i x a last to : ℕ} {b : Body} {bs : List Body} {cs : List Case} {s : ResolvedStrategy} {o o1 : Emitted} → EmitsChain w C s (b ∷ bs) last o o1 →
       At final i (select (suc x) cs a) → Selects final [] z D s cs a to → Ranges final [] z D i x s to
-  selected (chain_more begins a b) at cases = select_range at cases
+  selected (chain_more asks rooted a b) at cases = select_range at cases
 
   -- the select for the cases from one on, which stands after those for more cases
-  select_at : (b : Body) (bs : List Body) (last : ℕ) (d : Emitted) → IsEnd whole.code (selects (cases_between (b ∷ bs) (place d) last) last d.code) →
+  select_at : (b : Body) (bs : List Body) (last : ℕ) (d : Emitted) → IsEnd whole.code (selects (b ∷ bs) (place d) last d.code) →
       At final (address (length whole.code) (place d + suc (length bs))) (select 1 (map (case_located (length whole.code)) (cases_between (b ∷ bs) (place d) last)) (address (length whole.code) last))
   select_at b bs last d h =
-      let many = selects_long (cases_between bs (place d) last) last d.code in
-      let each = cases_long bs (place d) last in
-      let here : suc (length (selects (cases_between bs (place d) last) last d.code)) ≡ place d + suc (length bs) = omega (arith, many, each) in
+      let many = selects_long bs (place d) last d.code in
+      let here : suc (length (selects bs (place d) last d.code)) ≡ place d + suc (length bs) = omega (arith, many) in
       subst (λ p. At final (address (length whole.code) p) (select 1 (map (case_located (length whole.code)) (cases_between (b ∷ bs) (place d) last)) (address (length whole.code) last))) here
       (located_at whole.code (length whole.code) whole.starts h)
 
@@ -128,7 +128,7 @@ module _ (whole : Emitted) where
         (λ end. ranged a end (agrees_first (kept_arm b) agree) labels range.2)
     ranged (emits_select {last = last} {bs = bs} {o1 = o1} a) h agree labels range =
         selected a (located_at whole.code (length whole.code) whole.starts h)
-        (ranged_chain o1 a (later_end h) (end_selects (cases_between bs (place o1) last) last o1.code (later_end h)) agree labels range)
+        (ranged_chain o1 a (later_end h) (end_selects bs (place o1) last o1.code (later_end h)) agree labels range)
     ranged (emits_match {C = C} {x = x} {p = p} {o = o}) h agree labels range =
         ends_at (next_address h)
         (match_range (pattern_placed C p range) (at_as _ (ap (λ f. match_term (suc x) (renamed f p)) (same_frames C)) (located_at whole.code (length whole.code) whole.starts h)))
@@ -184,17 +184,18 @@ module _ (whole : Emitted) where
 
     -- in front of the code d of the chain stand the selects for the cases after the first
     ranged_chain : {w : Bool} {C : Context} {last : ℕ} {bs : List Body} {s : ResolvedStrategy} {o o1 : Emitted} (d : Emitted) → EmitsChain w C s bs last o o1 →
-        IsEnd whole.code (selects (drop 1 (cases_between bs (place d) last)) last d.code) → IsEnd whole.code o1.code → Agrees whole.starts o.starts o1.starts →
+        IsEnd whole.code (selects (drop 1 bs) (place d) last d.code) → IsEnd whole.code o1.code → Agrees whole.starts o.starts o1.starts →
         IsLabelled C → StrategyInRange (layers_of C) s → Chained (last_of w (in_place C)) (in_place C) s bs (place d) last (addr o)
     ranged_chain d (chain_end a) block h agree labels range = ranged a h agree labels range
-    ranged_chain d (chain_more {bs = []} begins a b) block h agree labels range =
+    ranged_chain d (chain_more {C = C} {n = n} {last = last} {rs = rs} {bs = []} {o2 = o2} asks rooted a b) block h agree labels range =
         let middle = end_emitted whole.code b h in
-        select_last (asks_root begins) one_case (ranged b h (agrees_later (kept_chain a) agree) labels range.0) (located_at whole.code (length whole.code) whole.starts middle)
+        select_last (placed_asks (length whole.code) whole.starts asks) (located_cases (length whole.code) rs n (place o2) last [] rooted) (ranged b h (agrees_later (kept_chain a) agree) labels range.0) (located_at whole.code (length whole.code) whole.starts middle)
         (ranged_chain d a block (later_end middle) (agrees_first (kept b) agree) labels range.2)
-    ranged_chain d (chain_more {last = last} {bs = c ∷ bs} begins a b) block h agree labels range =
+    ranged_chain d (chain_more {C = C} {n = n} {last = last} {rs = rs} {bs = c ∷ bs} {o2 = o2} asks rooted a b) block h agree labels range =
         let middle = end_emitted whole.code b h in
         let rest = ranged_chain d a (later_end block) (later_end middle) (agrees_first (kept b) agree) labels range.2 in
-        select_more (asks_root begins) one_case (ranged b h (agrees_later (kept_chain a) agree) labels range.0) (located_at whole.code (length whole.code) whole.starts middle)
+        select_more (placed_asks (length whole.code) whole.starts asks)
+        (located_cases (length whole.code) rs (suc n) (place o2) (place d + suc (length bs)) (cases_between (c ∷ bs) (place d) last) rooted) (ranged b h (agrees_later (kept_chain a) agree) labels range.0) (located_at whole.code (length whole.code) whole.starts middle)
         (selected a (select_at c bs last d block) rest) rest
 
     ranged_arm : {w : Bool} {C : Context} {x to : ℕ} {s1 s2 s3 : ResolvedStrategy} {o o1 : Emitted} (j : ℕ) → EmitsArm w C x s1 s2 to o o1 → address (length whole.code) to ≡ j →

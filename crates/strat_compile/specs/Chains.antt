@@ -11,32 +11,61 @@ asks (integer_root z) = true
 asks (symbol_root f n) = true
 asks (list_root n o) = true
 
--- an alternative whose code has been emitted: what it asks of a term's root, the nodes of its derivation where the term has
--- another root, and the place of its code
+-- an alternative whose code has been emitted: the roots that it asks for, the nodes of its derivation where the term has none
+-- of them, and the place of its code
 pub record Body : Type 0 where
-  pub root : Root
+  pub roots : List Root
   pub nodes : ℕ
   pub start : ℕ
 
--- The case of an alternative after which `left` others come. A failure in the last one goes on at the place `last`, and
--- is the end of the choice; a failure in another goes on at the select for those after it, and the next choice has a node.
--- The code without the selects begins at the place `base`
-abbrev pub case_between : Body → (left base last : ℕ) → Case
-case_between b zero base last = case b.root b.nodes b.start last
-case_between b (suc left) base last = case b.root (suc b.nodes) b.start (base + suc left)
+-- the nodes of a case after which so many others of its alternative come: the last one has them
+abbrev pub nodes_of_case : (others nodes : ℕ) → ℕ
+nodes_of_case zero nodes = nodes
+nodes_of_case (suc others) nodes = 0
+
+-- a case for each root, in front of others
+abbrev pub cases_onto : List Root → (nodes start otherwise : ℕ) → List Case → List Case
+cases_onto [] nodes start otherwise cs = cs
+cases_onto (r ∷ rs) nodes start otherwise cs =
+    case r (nodes_of_case (length rs) nodes) start otherwise ∷ cases_onto rs nodes start otherwise cs
+
+-- the nodes of an alternative after which `left` others come, where the term has another root: with that of the next choice
+abbrev pub nodes_passed : (left nodes : ℕ) → ℕ
+nodes_passed zero nodes = nodes
+nodes_passed (suc left) nodes = suc nodes
+
+-- Where a failure in an alternative goes on after which `left` others come. After the last one it is the place `last`, and the
+-- end of the choice; after another it is the select for those that are left. The code without the selects begins at the
+-- place `base`
+abbrev pub place_passed : (left base last : ℕ) → ℕ
+place_passed zero base last = last
+place_passed (suc left) base last = base + suc left
 
 abbrev pub cases_between : List Body → (base last : ℕ) → List Case
 cases_between [] base last = []
-cases_between (b ∷ bs) base last = case_between b (length bs) base last ∷ cases_between bs base last
+cases_between (b ∷ bs) base last =
+    cases_onto b.roots (nodes_passed (length bs) b.nodes) b.start (place_passed (length bs) base last)
+    (cases_between bs base last)
 
--- a select for the cases from each on, one node each, in front of the code
-abbrev pub selects : List Case → (last : ℕ) → Code → Code
-selects [] last c = c
-selects (k ∷ ks) last c = select 1 (k ∷ ks) last ∷ selects ks last c
+-- for each alternative, how many cases come before its own, where so many come before those of the first
+abbrev pub skipped_from : ℕ → List Body → List ℕ
+skipped_from k [] = []
+skipped_from k (b ∷ bs) = k ∷ skipped_from (k + length b.roots) bs
 
-abbrev pub selects_from : List Case → (last : ℕ) → Emitted → Emitted
-selects_from ks last o = record { code = selects ks last o.code; starts = o.starts }
+-- a select for the cases from each of these positions on, one node each, in front of the code
+abbrev pub selects_at : List ℕ → List Case → (last : ℕ) → Code → Code
+selects_at [] ks last c = c
+selects_at (j ∷ js) ks last c = select 1 (drop j ks) last ∷ selects_at js ks last c
+
+abbrev pub selects_from : List ℕ → List Case → (last : ℕ) → Emitted → Emitted
+selects_from js ks last o = record { code = selects_at js ks last o.code; starts = o.starts }
+
+-- a select for the cases of each alternative and those after it, one node each, in front of the code
+abbrev pub selects : List Body → (base last : ℕ) → Code → Code
+selects [] base last c = c
+selects (b ∷ bs) base last c = select 1 (cases_between (b ∷ bs) base last) last ∷ selects bs base last c
 
 -- the same, but for the first select, which is charged n nodes
-abbrev pub selects_onto : (n : ℕ) → List Case → (last : ℕ) → Emitted → Emitted
-selects_onto n ks last o = onto (select n ks last) (selects_from (drop 1 ks) last o)
+abbrev pub selects_onto : (n : ℕ) → List Body → (base last : ℕ) → Emitted → Emitted
+selects_onto n bs base last o =
+    onto (select n (cases_between bs base last) last) (record { code = selects (drop 1 bs) base last o.code; starts = o.starts })

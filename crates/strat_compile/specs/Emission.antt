@@ -1,5 +1,5 @@
 -- What is emitted for a strategy: one row for each form of code.
-use Rattle.std.specs.Prelude.{◌≡◌, ℕ, suc, Bool, true, false, List, [], ◌∷◌, length}
+use Rattle.std.specs.Prelude.{◌≡◌, ◌<◌, ℕ, suc, Bool, true, false, List, [], ◌∷◌, length}
 use Rattle.core_lang.specs.declared.coordinate.Coordinate.{Coordinate}
 use Rattle.core_lang.specs.Program.{Pattern, Patterns, id, fail, seq, choice, match, build, scope, all, one, some, with_definitions, call, primitive, no_strategies, more_strategies, no_patterns, no_definitions, more_definitions}
 use Rattle.core_lang.specs.Resolved.{ResolvedStrategy, ResolvedStrategies, ResolvedDefinitions, here}
@@ -7,8 +7,9 @@ use Rattle.core_lang.specs.Roots.{Root, Begins}
 use Rattle.core_lang.specs.Views.{Arm, chain, first_of}
 use Rattle.strat_code.specs.Code.{Argument, code_at, parameter_at, entry_at, Traversal, all_parts, one_part, some_parts, count, give_up, match_term, build_term, enter, leave, extend, shrink, try, commit, jump, traverse, part_done, call_definition, call_closure, end_definition, end_argument, apply_primitive, finish}
 use Rattle.strat_code.specs.Context.{Context, top, framed, within, defining, outer, frames_in, by_frames, size, HasDefinitions, HasOwnCode}
+use Rattle.strat_code.specs.Ranges.{AsksFor}
 use Rattle.strat_code.specs.Renamed.{renamed, all_renamed}
-use Rattle.strat_compile.specs.Chains.{Body, cases_between, selects_onto}
+use Rattle.strat_compile.specs.Chains.{Body, selects_onto}
 use Rattle.strat_compile.specs.Layers.{labelled, entry_in, entries_of}
 use Rattle.strat_compile.specs.Output.{Emitted, nothing, place, onto, with_labels, starting, count_of}
 
@@ -40,7 +41,7 @@ mutual
         Emits w C 0 s3 o o1 → EmitsArm w C x s1 s2 (place o) o1 o2 → Emits w C x (choice s1 s2 s3) o o2
     -- alternatives with selects in front of their code
     emits_select : {w : Bool} {C : Context} {x last : ℕ} {b : Body} {bs : List Body} {s : ResolvedStrategy} {o o1 : Emitted} →
-        EmitsChain w C s (b ∷ bs) last o o1 → Emits w C x s o (selects_onto (suc x) (cases_between (b ∷ bs) (place o1) last) last o1)
+        EmitsChain w C s (b ∷ bs) last o o1 → Emits w C x s o (selects_onto (suc x) (b ∷ bs) (place o1) last o1)
     emits_match : {w : Bool} {C : Context} {x : ℕ} {p : Pattern Coordinate} {o : Emitted} →
         Emits w C x (match p) o (onto (match_term (suc x) (renamed (by_frames C) p)) o)
     emits_build : {w : Bool} {C : Context} {x : ℕ} {p : Pattern Coordinate} {o : Emitted} →
@@ -67,13 +68,14 @@ mutual
     emits_primitive : {w : Bool} {C : Context} {x : ℕ} {f : List ℕ} {ps : Patterns Coordinate} {o : Emitted} →
         Emits w C x (primitive f ps) o (onto (apply_primitive (suc x) f (all_renamed (by_frames C) ps)) o)
 
-  -- The code of a strategy that begins with these alternatives, but for the selects in front of it: each of them with an
-  -- instruction after it that takes the choice record off; and at the place `last` what is done when none is left
+  -- The code of a strategy that begins with these alternatives, but for the selects in front of it: each of them asks for a root
+  -- at least, and has an instruction after it that takes the choice record off; and at the place `last` stands what is done when
+  -- none is left
   pub data EmitsChain : Bool → Context → ResolvedStrategy → List Body → (last : ℕ) → Emitted → Emitted → Type 0 where
     chain_end : {w : Bool} {C : Context} {s : ResolvedStrategy} {o o1 : Emitted} → Emits w C 0 s o o1 → EmitsChain w C s [] (place o1) o o1
-    chain_more : {w : Bool} {C : Context} {n last : ℕ} {r : Root} {bs : List Body} {s1 s : ResolvedStrategy} {o o1 o2 : Emitted} →
-        Begins s1 r n → EmitsChain w C s bs last o o1 → Emits w C 0 s1 (onto (commit 1 (place o)) o1) o2 →
-        EmitsChain w C (choice s1 id s) (record { root = r; nodes = n; start = place o2 } ∷ bs) last o o2
+    chain_more : {w : Bool} {C : Context} {n last : ℕ} {rs : List Root} {bs : List Body} {s1 s : ResolvedStrategy} {o o1 o2 : Emitted} →
+        AsksFor C s1 rs n → 0 < length rs → EmitsChain w C s bs last o o1 → Emits w C 0 s1 (onto (commit 1 (place o)) o1) o2 →
+        EmitsChain w C (choice s1 id s) (record { roots = rs; nodes = n; start = place o2 } ∷ bs) last o o2
 
   -- a guard and what follows it, in front of what is done where the guard fails; then the code goes on at the place `to`
   pub data EmitsArm : Bool → Context → (x : ℕ) → ResolvedStrategy → ResolvedStrategy → (to : ℕ) → Emitted → Emitted → Type 0 where
@@ -127,10 +129,11 @@ pub record Closes (bs : List Body) (last : ℕ) (o1 o2 : Emitted) : Type 0 where
 pub record BeginsNot (s : ResolvedStrategy) : Type 0 where
   pub never : (r : Root) (n : ℕ) → Begins s r n → ⊥
 
--- an alternative that joins a chain: nothing follows its guard, which begins with a match
-pub record Joins (arm : Arm) (r : Root) (nodes : ℕ) : Type 0 where
+-- an alternative that joins a chain: nothing follows its guard, which asks for these roots, one at least
+pub record Joins (C : Context) (arm : Arm) (rs : List Root) (nodes : ℕ) : Type 0 where
   pub then : arm.then ≡ id
-  pub begins : Begins arm.guard r nodes
+  pub asks : AsksFor C arm.guard rs nodes
+  pub some : 0 < length rs
 
 -- an arm, in front of whatever chain there is: the chain with the arm among its alternatives, or another with the arm as its end
 pub record PutsArm (w : Bool) (C : Context) (arm : Arm) (to : ℕ) (bs : List Body) (last : ℕ) (o1 : Emitted) (bs1 : List Body) (last1 : ℕ) (o2 : Emitted) : Type 0 where
@@ -141,8 +144,8 @@ pub record PutsArms (w : Bool) (C : Context) (arms : List Arm) (to : ℕ) (bs : 
   pub put : (s : ResolvedStrategy) (o : Emitted) → to ≡ place o → EmitsChain w C s bs last o o1 → EmitsChain w C (first_of arms s) bs1 last1 o o2
 
 -- an arm that joins whatever chain there is, as this alternative
-pub record PutsJoined (w : Bool) (C : Context) (arm : Arm) (r : Root) (nodes to : ℕ) (bs : List Body) (last : ℕ) (o1 : Emitted) (bs1 : List Body) (last1 : ℕ) (o2 : Emitted) : Type 0 where
-  pub bodies : bs1 ≡ record { root = r; nodes = nodes; start = place o2 } ∷ bs
+pub record PutsJoined (w : Bool) (C : Context) (arm : Arm) (rs : List Root) (nodes to : ℕ) (bs : List Body) (last : ℕ) (o1 : Emitted) (bs1 : List Body) (last1 : ℕ) (o2 : Emitted) : Type 0 where
+  pub bodies : bs1 ≡ record { roots = rs; nodes = nodes; start = place o2 } ∷ bs
   pub puts : PutsArm w C arm to bs last o1 bs1 last1 o2
 
 -- a first arm, in front of whatever chain there is

@@ -6,11 +6,12 @@ use Rattle.core_lang.specs.Resolved.{ResolvedStrategy, ResolvedDefinitions}
 use Rattle.core_lang.specs.Views.{definitions_of}
 use Rattle.strat_code.specs.Code as code
 use Rattle.strat_code.specs.Code.{entry_at}
-use Rattle.strat_code.specs.Context.{Context, top, framed, within, defining, known, hidden, outer, by_frames, HasDefinitions}
+use Rattle.strat_code.specs.Context.{Context, top, framed, within, defining, known, hidden, no_knowns, Hides, outer, by_frames, HasDefinitions}
+use Rattle.strat_code.specs.Ranges.{IsBody}
 use Rattle.strat_code.specs.Renamed.{renamed}
 use Rattle.strat_compile.specs.declared.layers.Entry.{Entry}
 use Rattle.strat_compile.specs.declared.layers.Layers.{Layers}
-use Rattle.strat_compile.specs.declared.layers.Layers.TheOpen.{Layers-F, Outermost, Framed, Within, Defining}
+use Rattle.strat_compile.specs.declared.layers.Layers.TheOpen.{Layers-F, Outermost, Framed, Within, Defining, Hidden}
 use Rattle.strat_compile.specs.declared.layers.Layers.TheFolds.{fold-Layers}
 
 -- for how many places more than the parameters the frame of a definition with this body has room: those of the scope that it is
@@ -56,6 +57,7 @@ layers_step Outermost = top
 layers_step (Framed m k up) = framed m k up.now
 layers_step (Within k offset up) = within k offset up.now
 layers_step (Defining ds label up) = defining (definitions_of ds.now) (labelled label (definitions_of ds.now)) up.now
+layers_step (Hidden up) = hidden no_knowns up.now
 
 -- the layers, where each definition's entry has its label in place of its address
 abbrev pub context_of : Layers → Context
@@ -81,3 +83,13 @@ HandsOn C (some s) z = ⊥
 HandsOn C (with_definitions ds s) z = ⊥
 HandsOn C (call y ss ps) z = ¬ (HasDefinitions (outer C y.layers_up)) × (z ≡ by_frames C y)
 HandsOn C (primitive f ps) z = ⊥
+
+-- the innermost layer has definitions that no frame is around, and that at this position has no term parameters and this body
+pub record IsCalled (C : Context) (i : ℕ) (s : ResolvedStrategy) : Type 0 where
+  pub definitions : ResolvedDefinitions
+  pub entries : List code.Entry
+  pub around : Context
+  pub strategies : ℕ
+  pub is : C ≡ defining definitions entries around
+  pub frames : Hides C C
+  pub body : IsBody definitions i strategies 0 s

@@ -1,19 +1,20 @@
 // Chains of alternatives whose code has been emitted, but for the selects in front of it.
-ghost use Rattle.std.specs.Prelude.{◌≡◌, ◌∷◌, [], ◌↔◌, IfOk, IsTrue, OnOk, length, map};
+ghost use Rattle.std.specs.Prelude.{◌≡◌, ◌∷◌, ◌++◌, [], ◌↔◌, IfOk, IsTrue, OnOk, length, map};
 ghost use Rattle.strat_code.specs.CodeOf.{case_of};
-ghost use Rattle.strat_compile.specs.ChainOf.{bodies_of, body_of};
+ghost use Rattle.strat_compile.specs.ChainOf.{bodies_of, body_of, roots_of};
 ghost use Rattle.strat_compile.specs.Chains as spec;
-ghost use Rattle.strat_compile.specs.Chains.{cases_between};
+ghost use Rattle.strat_compile.specs.Chains.{cases_between, cases_onto, skipped_from};
 
 use crate::layers::{successor, sum};
 use std::alloc::{AllocError, Global};
 use strat_code::{Case, Root};
 
-/// An alternative whose code has been emitted: what it asks of a term's root, the nodes of its derivation where the term has
-/// another root, and the place of its code.
+/// An alternative whose code has been emitted: the roots that it asks for, the nodes of its derivation where the term has none
+/// of them, and the place of its code.
 #[derive(Drop)]
 pub(crate) struct Body {
-    pub(crate) root: Root,
+    /// The last one first.
+    pub(crate) roots: Vec<Root>,
     pub(crate) nodes: usize,
     pub(crate) start: usize,
 }
@@ -25,6 +26,13 @@ pub(crate) struct Chain {
     pub(crate) bodies: Vec<Body>,
     /// The place of what is done when no alternative is left.
     pub(crate) last: usize,
+}
+
+/// The cases of alternatives, and for each alternative how many of them come before its own.
+#[derive(Drop)]
+pub(crate) struct Cases {
+    pub(crate) cases: Vec<Case>,
+    pub(crate) skipped: Vec<usize>,
 }
 
 impl Chain {
@@ -56,39 +64,79 @@ impl Chain {
     }
 
     /// The cases of the alternatives, which leave the chain. Their code begins at `base`, without the selects in front.
-    pub(crate) fn cases(&mut self, alloc: Global, base: usize) -> Result<Vec<Case>, AllocError>
-        ensures cases { IfOk result (λ made. map case_of made.items ≡ cases_between (bodies_of self.old) base self.old.last) }
+    pub(crate) fn cases(&mut self, alloc: Global, base: usize) -> Result<Cases, AllocError>
+        ensures cases { IfOk result (λ made.
+            map case_of made.cases.items ≡
+            cases_between (bodies_of self.old) base self.old.last) }
+        ensures skipped { IfOk result (λ made. made.skipped.items ≡
+            skipped_from 0 (bodies_of self.old)) }
         ensures empty { OnOk result (bodies_of self.new ≡ []) }
     {
-        let mut cases = Vec::with_capacity(alloc, self.bodies.len())?;
+        let mut cases = Vec::new(alloc);
+        let mut skipped = Vec::new(alloc);
         while let Some(body) = self.bodies.pop() {
-            let case = case_between(body, self.bodies.len(), base, self.last)?;
-            cases.push(case)?;
+            skipped.push(cases.len())?;
+            push_cases(&mut cases, body, self.bodies.len(), base, self.last)?;
         }
-        Ok(cases)
+        Ok(Cases { cases, skipped })
     }
 }
 
-// The case of an alternative after which `left` others come.
-#[tactic(auto, using(crate::proofs::ChainLaws::case_more, crate::proofs::ChainLaws::case_last))]
-fn case_between(body: Body, left: usize, base: usize, last: usize) -> Result<Case, AllocError>
-    ensures { IfOk result (λ made. case_of made ≡ spec.case_between (body_of body) left base last) }
+// Adds the cases of an alternative after which `left` others come, one for each of its roots.
+fn push_cases(
+    cases: &mut Vec<Case>,
+    body: Body,
+    left: usize,
+    base: usize,
+    last: usize,
+) -> Result<(), AllocError>
+    ensures { OnOk result (map case_of cases.new.items ≡ map case_of cases.old.items ++
+        (let b = body_of body in
+        cases_onto b.roots (spec.nodes_passed left b.nodes) b.start (spec.place_passed left base last) [])) }
 {
-    let Body { root, nodes, start } = body;
-    if left == 0 {
-        return Ok(Case {
+    let Body {
+        mut roots,
+        nodes,
+        start,
+    } = body;
+    let nodes = nodes_passed(nodes, left)?;
+    let otherwise = place_passed(left, base, last)?;
+    while let Some(root) = roots.pop() {
+        cases.push(Case {
             root,
-            nodes,
+            nodes: nodes_of_case(roots.len(), nodes),
             body: start,
-            otherwise: last,
-        });
+            otherwise,
+        })?;
+    }
+    Ok(())
+}
+
+// The nodes of an alternative after which `left` others come, where the term has another root.
+fn nodes_passed(nodes: usize, left: usize) -> Result<usize, AllocError>
+    ensures { IfOk result (λ made. made ≡ spec.nodes_passed left nodes) }
+{
+    if left == 0 {
+        return Ok(nodes);
     }
     let nodes = successor(nodes)?;
+    Ok(nodes)
+}
+
+// Where a failure in an alternative goes on after which `left` others come.
+fn place_passed(left: usize, base: usize, last: usize) -> Result<usize, AllocError>
+    ensures { IfOk result (λ made. made ≡ spec.place_passed left base last) }
+{
+    if left == 0 {
+        return Ok(last);
+    }
     let otherwise = sum(base, left)?;
-    Ok(Case {
-        root,
-        nodes,
-        body: start,
-        otherwise,
-    })
+    Ok(otherwise)
+}
+
+// The nodes of a case after which so many others of its alternative come.
+fn nodes_of_case(others: usize, nodes: usize) -> usize
+    ensures { result ≡ spec.nodes_of_case others nodes }
+{
+    if others == 0 { nodes } else { 0 }
 }

@@ -1,9 +1,8 @@
-// What is emitted for a choice. An alternative that begins with a match joins a chain, whose selects find the first alternative
-// that has the term's root; any other arm stands alone, after a try.
+// What is emitted for a choice. An alternative that asks for roots joins a chain, whose selects find the first alternative that
+// asks for the term's root; any other arm stands alone, after a try.
 ghost use Rattle.std.specs.Prelude.{OnOk, map};
 ghost use Rattle.core_lang.specs.Views.{arm_of, strategy_of};
-ghost use Rattle.strat_code.specs.CodeOf.{root_of};
-ghost use Rattle.strat_compile.specs.ChainOf.{bodies_of};
+ghost use Rattle.strat_compile.specs.ChainOf.{bodies_of, roots_of};
 ghost use Rattle.strat_compile.specs.Emission.{EmitsArm, EmitsThen, Joins, PutsArm, PutsArms, PutsFirst, PutsJoined};
 ghost use Rattle.strat_compile.specs.Layers.{context_of};
 ghost use Rattle.strat_compile.specs.Output.{emitted_of};
@@ -13,7 +12,7 @@ use crate::emit::emit;
 use crate::layers::{Layers, successor};
 use crate::leaves::emit_commit;
 use crate::output::Output;
-use crate::roots::{Beginning, joining};
+use crate::roots::{Asked, joining};
 use crate::selects::{close, emit_chain};
 use core_lang::{CoreArm, CoreStrategy};
 use std::alloc::{AllocError, Global};
@@ -54,7 +53,7 @@ fn emit_next(
 ) -> Result<(), AllocError>
     ensures { OnOk result (PutsArm is_last (context_of layers.now) (arm_of arm.now) end (bodies_of chain.old) chain.old.last (emitted_of out.old) (bodies_of chain.new) chain.new.last (emitted_of out.new)) }
 {
-    let Some(found) = joining(arm, !chain.is_empty())? else {
+    let Some(found) = joining(alloc, out, layers, arm, !chain.is_empty())? else {
         close(alloc, out, chain)?;
         emit_arm(alloc, out, layers, is_last, 0, arm, end)?;
         chain.last = out.place();
@@ -78,7 +77,7 @@ pub(crate) fn emit_first(
 ) -> Result<(), AllocError>
     ensures { OnOk result (PutsFirst is_last (context_of layers.now) charged (arm_of arm.now) end (bodies_of chain.old) chain.old.last (emitted_of out.old) (emitted_of out.new)) }
 {
-    let Some(found) = joining(arm, !chain.is_empty())? else {
+    let Some(found) = joining(alloc, out, layers, arm, !chain.is_empty())? else {
         close(alloc, out, chain)?;
         return emit_arm(alloc, out, layers, is_last, charged, arm, end);
     };
@@ -96,18 +95,25 @@ fn emit_joined(
     layers: &Layers,
     is_last: bool,
     arm: &CoreArm,
-    found: Beginning,
+    found: Asked,
     end: usize,
     chain: &mut Chain,
 ) -> Result<(), AllocError>
-    requires { Joins (arm_of arm.now) (root_of found.root) found.nodes }
-    ensures { OnOk result (PutsJoined is_last (context_of layers.now) (arm_of arm.now) (root_of found.root) found.nodes end (bodies_of chain.old) chain.old.last (emitted_of out.old) (bodies_of chain.new) chain.new.last (emitted_of out.new)) }
+    requires { Joins (context_of layers.now) (arm_of arm.now) (roots_of found.roots.items)
+        found.nodes }
+    ensures { OnOk result (PutsJoined is_last (context_of layers.now) (arm_of arm.now)
+        (roots_of found.roots.items) found.nodes end (bodies_of chain.old) chain.old.last
+        (emitted_of out.old) (bodies_of chain.new) chain.new.last (emitted_of out.new)) }
 {
     emit_commit(out, end)?;
     emit(alloc, out, layers, is_last, 0, &arm.guard)?;
     let start = out.place();
-    let Beginning { root, nodes } = found;
-    chain.push(Body { root, nodes, start })
+    let Asked { roots, nodes } = found;
+    chain.push(Body {
+        roots,
+        nodes,
+        start,
+    })
 }
 
 // An arm alone, in front of what is done where its guard fails.

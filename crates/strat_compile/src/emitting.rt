@@ -10,6 +10,14 @@ use crate::output::{Finished, Output};
 use std::alloc::{AllocError, Global};
 use strat_code::Instr;
 
+/// How many strategies are looked at in one alternative at most. One that needs more joins no chain, and the walk ends where
+/// definitions call themselves.
+const VISITS_OF_ALTERNATIVE: usize = 500;
+
+/// How many strategies are looked at in all alternatives together, so that tables stay small, and making them quick, however
+/// often a short program calls a long definition.
+const VISITS: usize = 200_000;
+
 impl Output {
     /// No code.
     #[tactic(auto, unfolding(crate::specs::Output::emitted_of))]
@@ -20,6 +28,7 @@ impl Output {
             instrs: Vec::new(alloc),
             tables: Vec::new(alloc),
             starts: Vec::new(alloc),
+            visits: VISITS,
         }
     }
 
@@ -47,6 +56,23 @@ impl Output {
     {
         self.instrs.push(instr)?;
         Ok(())
+    }
+
+    /// How many strategies may be looked at in one alternative.
+    pub(crate) fn visits_left(&self) -> usize {
+        if self.visits < VISITS_OF_ALTERNATIVE {
+            self.visits
+        } else {
+            VISITS_OF_ALTERNATIVE
+        }
+    }
+
+    /// Counts strategies that have been looked at.
+    #[tactic(auto, unfolding(crate::specs::Output::emitted_of))]
+    pub(crate) fn count_visits(&mut self, visits: usize)
+        ensures { emitted_of self.new ≡ emitted_of self.old }
+    {
+        self.visits = self.visits.saturating_sub(visits);
     }
 
     /// Adds labels. Where they start will be known later.
@@ -80,6 +106,7 @@ impl Output {
             mut instrs,
             tables,
             starts,
+            ..
         } = self;
         let count = instrs.len();
         let tables = located_tables(alloc, tables, count)?;

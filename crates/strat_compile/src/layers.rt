@@ -1,8 +1,9 @@
 // The layers that a strategy stands in, as far as they are known when its code is made.
-ghost use Rattle.std.specs.Prelude.{◌≡◌, ◌+◌, ◌≤◌, suc, IfOk, MatchOption};
+ghost use Rattle.std.specs.Prelude.{◌≡◌, ◌+◌, ◌≤◌, suc, IfOk, IfSome, MatchOption};
 ghost use Rattle.core_lang.specs.Views.{definitions_of, strategy_of};
 ghost use Rattle.strat_code.specs.Context.{HasDefinitions, HasOwnCode, by_frames, frames_in, outer, size, slot_in};
-ghost use Rattle.strat_compile.specs.Layers.{HandsOn, context_of, entries_of, entry_in, entry_of, labelled, room_for};
+ghost use Rattle.strat_code.specs.Ranges.{IsBody};
+ghost use Rattle.strat_compile.specs.Layers.{HandsOn, IsCalled, context_of, entries_of, entry_in, entry_of, labelled, room_for};
 
 use core_lang::{Coordinate, CoreDef, CoreStrategy};
 use std::alloc::AllocError;
@@ -37,6 +38,10 @@ pub(crate) enum Layers<'a> {
         first_label: usize,
         outer: &'a Layers<'a>,
     },
+    /// Of a scope, a definition or definitions of which nothing is looked at; it has no frame.
+    Hidden {
+        outer: &'a Layers<'a>,
+    },
 }
 
 /// The number after this one. `Err` where that leaves 64 bits, since no memory holds as many instructions or places.
@@ -65,6 +70,7 @@ pub(crate) fn outside<'a>(layers: &'a Layers<'a>, layers_up: usize) -> &'a Layer
         Layers::Framed { outer, .. } => outside(outer, layers_up - 1),
         Layers::Within { outer, .. } => outside(outer, layers_up - 1),
         Layers::Defining { outer, .. } => outside(outer, layers_up - 1),
+        Layers::Hidden { outer } => outside(outer, layers_up - 1),
     }
 }
 
@@ -81,6 +87,7 @@ pub(crate) fn frames_among(layers: &Layers, layers_up: usize) -> usize
         Layers::Framed { outer, .. } => frames_among(outer, layers_up - 1) + 1,
         Layers::Within { outer, .. } => frames_among(outer, layers_up - 1),
         Layers::Defining { outer, .. } => frames_among(outer, layers_up - 1),
+        Layers::Hidden { outer } => frames_among(outer, layers_up - 1),
     }
 }
 
@@ -93,6 +100,7 @@ fn position_in(layers: &Layers, slot: usize) -> Result<usize, AllocError>
         Layers::Framed { .. } => Ok(slot),
         Layers::Within { offset, .. } => sum(*offset, slot),
         Layers::Defining { .. } => Ok(slot),
+        Layers::Hidden { .. } => Ok(slot),
     }
 }
 
@@ -118,6 +126,7 @@ pub(crate) fn frame_size(layers: &Layers) -> Result<usize, AllocError>
             ..
         } => sum(*offset, *variables),
         Layers::Defining { outer, .. } => frame_size(outer),
+        Layers::Hidden { outer } => frame_size(outer),
     }
 }
 
@@ -162,6 +171,7 @@ pub(crate) fn entry_called(layers: &Layers, at: Coordinate) -> Result<Option<Ent
         Layers::Outermost => Ok(None),
         Layers::Framed { .. } => Ok(None),
         Layers::Within { .. } => Ok(None),
+        Layers::Hidden { .. } => Ok(None),
     }
 }
 
@@ -183,4 +193,31 @@ pub(crate) fn parameter_handed(
             Ok(Some(parameter))
         }
     }
+}
+
+/// The body of the definition at a position of the innermost layer, where that has definitions that no frame is around, and
+/// the definition has no term parameters.
+pub(crate) fn body_called<'a>(layers: &'a Layers<'a>, position: usize) -> Option<&'a CoreStrategy>
+    ensures { IfSome result (λ body. IsCalled (context_of layers.now) position
+        (strategy_of body.now)) }
+{
+    let Layers::Defining { defs, outer, .. } = layers else {
+        return None;
+    };
+    let Layers::Outermost = outer else {
+        return None;
+    };
+    body_at(defs, position)
+}
+
+// The body of the definition at a position, if it has no term parameters.
+fn body_at<'a>(defs: &'a [CoreDef], position: usize) -> Option<&'a CoreStrategy>
+    ensures { IfSome result (λ body. (m : _) ×
+        IsBody (definitions_of defs.now) position m 0 (strategy_of body.now)) }
+{
+    let def = defs.get(position)?;
+    if def.terms > 0 {
+        return None;
+    }
+    Some(&def.body)
 }

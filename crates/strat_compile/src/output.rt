@@ -14,6 +14,8 @@ pub(crate) struct Output {
     pub(crate) tables: Vec<Vec<Case>>,
     /// For each label where the code of its definition starts.
     pub(crate) starts: Vec<usize>,
+    /// How many strategies may still be looked at in alternatives.
+    pub(crate) visits: usize,
     ghost tidy: { HaveTables tables.items instrs.items },
 }
 

@@ -19,7 +19,8 @@ use strat_code::{Code, Instr};
 /// the core.
 ///
 /// The code begins with the call of main and the end of the run; then come the bodies of the definitions. Compiling takes
-/// one step for each part of the core, and recurses where parts are nested, not along sequences, alternatives or arguments.
+/// one step for each part of the core, and a number of further steps that is the same for all programs at most, to look through
+/// alternatives. It recurses where parts are nested, not along sequences, alternatives or arguments.
 /// `AllocError` where memory is refused.
 pub fn compile(alloc: Global, core: &Core) -> Result<Code, AllocError>
     ensures stands { IfOk result (λ code. StandsFor (code_of code.tables code.instrs) (program_of core.now) core.now.main) }

@@ -1,23 +1,35 @@
-// How strategies begin: what a match at their beginning asks of a term's root.
-ghost use Rattle.std.specs.Prelude.{◌≡◌, IfOk, IfSome, IsTrue, MatchOption};
-ghost use Rattle.core_lang.specs.Program.{id};
+// What strategies ask of a term's root, by the matches with which they and their alternatives begin.
+ghost use Rattle.std.specs.Prelude.{◌≡◌, ◌+◌, ◌∷◌, ◌≤◌, IfOk, IfSome, IsTrue, MatchOption, OnOk, map, suc};
+ghost use Rattle.core_lang.specs.Program.{call, id, no_patterns, no_strategies};
 ghost use Rattle.core_lang.specs.Roots as spec;
 ghost use Rattle.core_lang.specs.Roots.{Begins};
-ghost use Rattle.core_lang.specs.Views.{arm_of, pattern_of, strategy_of};
+ghost use Rattle.core_lang.specs.Views.{arm_of, first_of, pattern_of, strategy_of};
 ghost use Rattle.strat_code.specs.CodeOf.{root_of};
+ghost use Rattle.strat_compile.specs.ChainOf.{Finds, FindsInside, roots_of};
 ghost use Rattle.strat_compile.specs.Chains as chains;
 ghost use Rattle.strat_compile.specs.Emission.{BeginsNot, Joins};
+ghost use Rattle.strat_compile.specs.Layers.{context_of};
+ghost use Rattle.strat_compile.specs.Output.{emitted_of};
 
-use crate::layers::successor;
-use core_lang::{CoreArm, CorePattern, CoreStrategy};
-use std::alloc::AllocError;
+use crate::layers::{Layers, body_called, outside, successor, sum};
+use crate::output::Output;
+use core_lang::{Coordinate, CoreArm, CorePattern, CoreStrategy};
+use std::alloc::{AllocError, Global};
 use strat_code::Root;
 
-/// A match at the beginning of a strategy: what it asks of a term's root, and the nodes of the strategy's derivation where
-/// the term has another root.
+// A match at the beginning of a strategy: what it asks of a term's root, and the nodes of the strategy's derivation where
+// the term has another root.
 #[derive(Drop)]
-pub(crate) struct Beginning {
-    pub(crate) root: Root,
+struct Beginning {
+    root: Root,
+    nodes: usize,
+}
+
+/// The roots that a strategy asks for, one at least, and the nodes of its derivation where the term has none of them.
+#[derive(Drop)]
+pub(crate) struct Asked {
+    /// The last one first.
+    pub(crate) roots: Vec<Root>,
     pub(crate) nodes: usize,
 }
 
@@ -75,21 +87,197 @@ fn begins_with(strategy: &CoreStrategy) -> Result<Option<Beginning>, AllocError>
     }
 }
 
-/// The match at the beginning of an arm that joins a chain of alternatives: nothing follows its guard, which begins with
-/// that match. One that matches every term joins no empty chain, since a table of it alone would find nothing out.
-pub(crate) fn joining(arm: &CoreArm, is_chain: bool) -> Result<Option<Beginning>, AllocError>
-    ensures { IfOk result (λ found. IfSome found (λ b. Joins (arm_of arm.now) (root_of b.root) b.nodes)) }
+// The roots that a strategy asks for come in front of the others, each that of a match with which one of its alternatives begins.
+// The nodes are those of its derivation where the term has none of them; `None` where no such roots are found.
+#[cycle(asking)]
+#[tactic(auto, using(crate::proofs::AskLaws::fail_asks, crate::proofs::AskLaws::match_asks, crate::proofs::AskLaws::sequence_asks, crate::proofs::AskLaws::call_as))]
+fn roots_asked(
+    layers: &Layers,
+    strategy: &CoreStrategy,
+    limit: &mut usize,
+    roots: &mut Vec<Root>,
+) -> Result<Option<usize>, AllocError>
+    ensures asks { IfOk result (Finds (context_of layers.now)
+        (strategy_of strategy.now) roots.old roots.new) }
+    ensures limit { limit.new ≤ limit.old }
+{
+    if *limit == 0 {
+        return Ok(None);
+    }
+    *limit -= 1;
+    match strategy {
+        CoreStrategy::Fail => Ok(Some(1)),
+        CoreStrategy::Match(pattern) => {
+            let root = root_asked(pattern)?;
+            if !asks(&root) {
+                return Ok(None);
+            }
+            roots.push(root)?;
+            Ok(Some(1))
+        }
+        CoreStrategy::Sequence(first, _, _) => {
+            let Some(nodes) = roots_asked(layers, first, limit, roots)? else {
+                return Ok(None);
+            };
+            let nodes = successor(nodes)?;
+            Ok(Some(nodes))
+        }
+        CoreStrategy::Choice(arm, more, otherwise) => {
+            let more = more.as_slice();
+            choice_asked(layers, arm, more, otherwise, limit, roots)
+        }
+        CoreStrategy::Scope(_, body) => inside_asked(layers, body, limit, roots),
+        CoreStrategy::LetIn(_, body) => inside_asked(layers, body, limit, roots),
+        CoreStrategy::Call(at, strategies, terms) => {
+            if !strategies.is_empty() || !terms.is_empty() {
+                return Ok(None);
+            }
+            let Some(nodes) = called_asked(layers, *at, limit, roots)? else {
+                return Ok(None);
+            };
+            Ok(Some(nodes))
+        }
+        _ => Ok(None),
+    }
+}
+
+// The same of a choice: of its guards, and of what is done where none of them succeeds.
+#[cycle(asking)]
+fn choice_asked(
+    layers: &Layers,
+    first: &CoreArm,
+    more: &[CoreArm],
+    otherwise: &CoreStrategy,
+    limit: &mut usize,
+    roots: &mut Vec<Root>,
+) -> Result<Option<usize>, AllocError>
+    ensures asks { IfOk result (Finds (context_of layers.now)
+        (first_of (arm_of first.now ∷ map arm_of more.now) (strategy_of otherwise.now)) roots.old roots.new) }
+    ensures limit { limit.new ≤ limit.old }
+{
+    let Some(others) = arms_asked(layers, more, otherwise, limit, roots)? else {
+        return Ok(None);
+    };
+    let Some(nodes) = roots_asked(layers, &first.guard, limit, roots)? else {
+        return Ok(None);
+    };
+    let nodes = choice_nodes(nodes, others)?;
+    Ok(Some(nodes))
+}
+
+// The same of the further arms of a choice and what is done where none of their guards succeeds.
+#[cycle(asking)]
+#[tactic(auto, using(crate::proofs::AskLaws::no_arm_asks, crate::proofs::AskLaws::arm_asks))]
+fn arms_asked(
+    layers: &Layers,
+    arms: &[CoreArm],
+    otherwise: &CoreStrategy,
+    limit: &mut usize,
+    roots: &mut Vec<Root>,
+) -> Result<Option<usize>, AllocError>
+    ensures asks { IfOk result (Finds (context_of layers.now)
+        (first_of (map arm_of arms.now) (strategy_of otherwise.now)) roots.old roots.new) }
+    ensures limit { limit.new ≤ limit.old }
+{
+    let Some(mut nodes) = roots_asked(layers, otherwise, limit, roots)? else {
+        return Ok(None);
+    };
+    for index in (0..arms.len()).rev() {
+        let Some(first) = roots_asked(layers, &arms[index].guard, limit, roots)? else {
+            return Ok(None);
+        };
+        nodes = choice_nodes(first, nodes)?;
+    }
+    Ok(Some(nodes))
+}
+
+// The same of what is around a strategy, by one node and one layer of which nothing is looked at.
+#[cycle(asking)]
+#[tactic(auto, using(crate::proofs::LayerLaws::reads_hidden, crate::proofs::AskLaws::inside_asks))]
+fn inside_asked(
+    layers: &Layers,
+    body: &CoreStrategy,
+    limit: &mut usize,
+    roots: &mut Vec<Root>,
+) -> Result<Option<usize>, AllocError>
+    ensures asks { IfOk result (FindsInside (context_of layers.now)
+        (strategy_of body.now) roots.old roots.new) }
+    ensures limit { limit.new ≤ limit.old }
+{
+    let inner = Layers::Hidden { outer: &*layers };
+    let Some(nodes) = roots_asked(&inner, body, limit, roots)? else {
+        return Ok(None);
+    };
+    let nodes = successor(nodes)?;
+    Ok(Some(nodes))
+}
+
+// The same of a call without arguments of a definition of the program.
+#[cycle(asking)]
+#[tactic(auto, using(crate::proofs::AskLaws::call_asks))]
+fn called_asked(
+    layers: &Layers,
+    at: Coordinate,
+    limit: &mut usize,
+    roots: &mut Vec<Root>,
+) -> Result<Option<usize>, AllocError>
+    ensures asks { IfOk result (Finds (context_of layers.now)
+        (call at no_strategies no_patterns) roots.old roots.new) }
+    ensures limit { limit.new ≤ limit.old }
+{
+    let definitions = outside(&*layers, at.layers_up);
+    let Some(body) = body_called(definitions, at.slot) else {
+        return Ok(None);
+    };
+    let Some(nodes) = inside_asked(definitions, body, limit, roots)? else {
+        return Ok(None);
+    };
+    Ok(Some(nodes))
+}
+
+// The nodes of a choice of which both sides fail.
+fn choice_nodes(first: usize, others: usize) -> Result<usize, AllocError>
+    ensures { IfOk result (λ made. made ≡ suc (first + others)) }
+{
+    let both = sum(first, others)?;
+    successor(both)
+}
+
+/// What an arm asks for that joins a chain of alternatives: nothing follows its guard, and the guard begins with a match or is
+/// looked through. A match that fits every term joins no empty chain, since a table of it alone would find nothing out.
+pub(crate) fn joining(
+    alloc: Global,
+    out: &mut Output,
+    layers: &Layers,
+    arm: &CoreArm,
+    is_chain: bool,
+) -> Result<Option<Asked>, AllocError>
+    ensures joins { IfOk result (λ found. IfSome found (λ asked.
+        Joins (context_of layers.now) (arm_of arm.now) (roots_of asked.roots.items) asked.nodes)) }
+    ensures view { OnOk result (emitted_of out.new ≡ emitted_of out.old) }
 {
     if !does_nothing(&arm.then) {
         return Ok(None);
     }
-    let Some(found) = begins_with(&arm.guard)? else {
+    let mut roots = Vec::new(alloc);
+    if let Some(Beginning { root, nodes }) = begins_with(&arm.guard)? {
+        if !is_chain && !asks(&root) {
+            return Ok(None);
+        }
+        roots.push(root)?;
+        return Ok(Some(Asked { roots, nodes }));
+    }
+    let most = out.visits_left();
+    let mut limit = most;
+    let found = roots_asked(layers, &arm.guard, &mut limit, &mut roots)?;
+    out.count_visits(most - limit);
+    let Some(nodes) = found else {
         return Ok(None);
     };
-    if is_chain || asks(&found.root) {
-        return Ok(Some(found));
+    if roots.len() == 0 {
+        return Ok(None);
     }
-    Ok(None)
+    Ok(Some(Asked { roots, nodes }))
 }
 
 // Whether the strategy is the one that does nothing.

@@ -1,14 +1,14 @@
 // The selects of a chain of alternatives, which share a table.
-ghost use Rattle.std.specs.Prelude.{◌≡◌, ◌<◌, [], IfOk, OnOk, length, map};
+ghost use Rattle.std.specs.Prelude.{◌≡◌, ◌<◌, [], IfOk, OnOk, drop, length, map};
 ghost use Rattle.strat_code.specs.Code.{select};
 ghost use Rattle.strat_code.specs.CodeOf.{case_of, cases_of};
 ghost use Rattle.strat_compile.specs.ChainOf.{bodies_of};
-ghost use Rattle.strat_compile.specs.Chains.{cases_between, selects_onto};
+ghost use Rattle.strat_compile.specs.Chains.{selects_from, selects_onto};
 ghost use Rattle.strat_compile.specs.Emission.{Closes};
 ghost use Rattle.strat_compile.specs.Output.{emitted_of, onto, place};
 ghost use Rattle.strat_compile.specs.Tables.{IsTable};
 
-use crate::chain::Chain;
+use crate::chain::{Cases, Chain};
 use crate::output::Output;
 use std::alloc::{AllocError, Global};
 use strat_code::{Case, Instr};
@@ -47,20 +47,22 @@ impl Output {
         Ok(())
     }
 
-    /// Puts a select of these cases in front, which is charged `nodes` nodes, and after it one for the cases from each of
-    /// the others on, one node each. They share one table.
+    /// Puts a select of these cases in front, which is charged `nodes` nodes, and after it one for the cases of each alternative
+    /// but the first and those after them, one node each. They share one table.
     pub(crate) fn emit_selects(
         &mut self,
         nodes: usize,
         cases: Vec<Case>,
+        skipped: &[usize],
         last: usize,
     ) -> Result<(), AllocError>
-        ensures { OnOk result (emitted_of self.new ≡ selects_onto nodes (map case_of cases.items) last (emitted_of self.old)) }
+        ensures { OnOk result (emitted_of self.new ≡ (let cs = map case_of cases.items in
+            onto (select nodes cs last) (selects_from (drop 1 skipped.now) cs last (emitted_of self.old)))) }
     {
-        let others = cases.len().saturating_sub(1);
+        let others = skipped.len().saturating_sub(1);
         let table = self.add_table(cases)?;
         for index in (0..others).rev() {
-            self.emit_select(1, table, index + 1, last)?;
+            self.emit_select(1, table, skipped[index + 1], last)?;
         }
         self.emit_select(nodes, table, 0, last)
     }
@@ -73,12 +75,13 @@ pub(crate) fn emit_chain(
     nodes: usize,
     chain: &mut Chain,
 ) -> Result<(), AllocError>
-    ensures view { OnOk result (emitted_of out.new ≡ selects_onto nodes (cases_between (bodies_of chain.old) (place (emitted_of out.old)) chain.old.last) chain.old.last (emitted_of out.old)) }
+    ensures view { OnOk result (emitted_of out.new ≡ (let o = emitted_of out.old in
+        selects_onto nodes (bodies_of chain.old) (place o) chain.old.last o)) }
     ensures empty { OnOk result (bodies_of chain.new ≡ []) }
 {
     let last = chain.last;
-    let cases = chain.cases(alloc, out.place())?;
-    out.emit_selects(nodes, cases, last)
+    let Cases { cases, skipped } = chain.cases(alloc, out.place())?;
+    out.emit_selects(nodes, cases, skipped.as_slice(), last)
 }
 
 /// Puts selects in front where the chain has alternatives, which leave it: an arm that joins no chain comes in front of them.
