@@ -1,4 +1,5 @@
 //! A primitive that is refused memory, in runs of the machine.
+ghost use Rattle.std.specs.Prelude.{IsTrue};
 ghost use Rattle.prim_registry.specs.Entries.{IsHonest};
 
 use crate::single_calls::{DEFINITIONS, code_of, code_with, takes_five_at_last};
