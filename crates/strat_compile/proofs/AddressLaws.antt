@@ -1,14 +1,16 @@
 -- Each address in what is emitted is one of its instructions.
-use Rattle.std.proofs.Common.{◌-◌, ◌<◌, ◌≤◌, ◌++◌, ℕ, zero, suc, Bool, List, [], ◌∷◌, map, length, set, replicate, arith}
+use Rattle.std.proofs.Common.{◌-◌, ◌<◌, ◌≤◌, ◌++◌, ℕ, zero, suc, Option, List, [], ◌∷◌, map, length, set, replicate, arith}
 use Rattle.std.specs.Prelude.{slice_get}
+use Rattle.core_lang.specs.declared.coordinate.Coordinate.{Coordinate}
+use Rattle.core_lang.specs.Program.{Patterns}
 use Rattle.core_lang.specs.Resolved.{ResolvedStrategy, ResolvedStrategies, ResolvedDefinitions}
 use Rattle.strat_code.specs.Code.{Argument, code_at, parameter_at, Case, case, Instr, count, give_up, match_term, build_term, enter, leave, extend, shrink, try, commit, select, jump, traverse, part_done, call_definition, call_closure, end_definition, end_argument, apply_primitive, finish, Code}
 use Rattle.strat_code.specs.CodeOf.{ArgumentsInRange, CasesInRange, AddressesInRange, AllInRange}
-use Rattle.strat_code.specs.Context.{Context}
-use Rattle.strat_compile.specs.Emission.{Emits, emits_id, emits_fail, emits_seq, emits_choice, emits_select, emits_match, emits_build, emits_scope, emits_inner, emits_all, emits_one, emits_some, emits_let, emits_call, emits_parameter, emits_primitive, EmitsChain, chain_end, chain_more, EmitsArm, emits_arm, EmitsThen, then_id, then_code, EmitsDefinitions, emits_definitions, EmitsBodies, emits_no_bodies, emits_more_bodies, EmitsBody, emits_body, emits_scope_body, EmitsArguments, emits_no_arguments, emits_code_argument, emits_parameter_argument}
+use Rattle.strat_compile.specs.Emission.{Emits, emits_id, emits_fail, emits_seq, emits_choice, emits_select, emits_match, emits_build, emits_scope, emits_inner, emits_all, emits_one, emits_some, emits_let, emits_call, emits_inline, emits_known, emits_specialization, emits_same, emits_parameter, emits_primitive, EmitsCall, calls, EmitsChain, chain_end, chain_more, EmitsArm, emits_arm, EmitsThen, then_id, then_code, EmitsDefinitions, emits_definitions, EmitsBodies, emits_no_bodies, emits_more_bodies, EmitsBody, emits_body, emits_scope_body, EmitsArguments, emits_no_arguments, emits_code_argument, emits_parameter_argument, emits_known_argument}
 use Rattle.core_lang.specs.Roots.{Root}
 use Rattle.strat_compile.specs.Chains.{Body, place_passed, nodes_passed, cases_onto, cases_between, selects}
 use Rattle.strat_compile.specs.Located.{located, address_if, argument_located, case_located}
+use Rattle.strat_compile.specs.Sites.{Site}
 use Rattle.strat_compile.specs.Output.{Emitted, place, count_of}
 use Rattle.strat_compile.proofs.ChainLaws.{selects_long}
 
@@ -96,7 +98,7 @@ selects_sound [] base last c h k p s = s
 selects_sound (b ∷ bs) base last c h k p s = ((cases_sound (b ∷ bs) base last h k p, k), selects_sound bs base last c h k p.1 s)
 
 mutual
-  pub longer : {w : Bool} {C : Context} {x : ℕ} {s : ResolvedStrategy} {o o1 : Emitted} → Emits w C x s o o1 → length o.code ≤ length o1.code
+  pub longer : {w : Option ℕ} {S : Site} {x : ℕ} {s : ResolvedStrategy} {o o1 : Emitted} → Emits w S x s o o1 → length o.code ≤ length o1.code
   longer emits_id = omega arith
   longer emits_fail = omega arith
   longer (emits_seq a b) = let one = longer a in let two = longer b in omega (arith, one, two)
@@ -110,39 +112,47 @@ mutual
   longer (emits_one a) = let one = longer a in omega (arith, one)
   longer (emits_some a) = let one = longer a in omega (arith, one)
   longer (emits_let a b) = let one = longer_definitions a in let two = longer b in omega (arith, one, two)
-  longer (emits_call has entry a) = let one = longer_arguments a in omega (arith, one)
+  longer (emits_call a) = longer_call a
+  longer (emits_inline at body given a) = longer a
+  longer (emits_known given a) = longer a
+  longer (emits_specialization at body given a) = let one = longer_body a in omega (arith, one)
+  longer (emits_same n label at given is) = omega arith
   longer (emits_parameter none) = omega arith
   longer emits_primitive = omega arith
 
-  longer_chain : {w : Bool} {C : Context} {last : ℕ} {bs : List Body} {s : ResolvedStrategy} {o o1 : Emitted} → EmitsChain w C s bs last o o1 → length o.code ≤ length o1.code
+  longer_call : {S : Site} {x : ℕ} {y : Coordinate} {ss : ResolvedStrategies} {ps : Patterns Coordinate} {o o1 : Emitted} → EmitsCall S x y ss ps o o1 → length o.code ≤ length o1.code
+  longer_call (calls has entry a) = let one = longer_arguments a in omega (arith, one)
+
+  longer_chain : {w : Option ℕ} {S : Site} {last : ℕ} {bs : List Body} {s : ResolvedStrategy} {o o1 : Emitted} → EmitsChain w S s bs last o o1 → length o.code ≤ length o1.code
   longer_chain (chain_end a) = longer a
   longer_chain (chain_more asks rooted a b) = let one = longer_chain a in let two = longer b in omega (arith, one, two)
 
-  longer_arm : {w : Bool} {C : Context} {x to : ℕ} {s1 s2 : ResolvedStrategy} {o o1 : Emitted} → EmitsArm w C x s1 s2 to o o1 → length o.code ≤ length o1.code
+  longer_arm : {w : Option ℕ} {S : Site} {x to : ℕ} {s1 s2 : ResolvedStrategy} {o o1 : Emitted} → EmitsArm w S x s1 s2 to o o1 → length o.code ≤ length o1.code
   longer_arm (emits_arm a b) = let one = longer_then a in let two = longer b in omega (arith, one, two)
 
-  longer_then : {w : Bool} {C : Context} {to : ℕ} {s : ResolvedStrategy} {o o1 : Emitted} → EmitsThen w C s to o o1 → length o.code ≤ length o1.code
+  longer_then : {w : Option ℕ} {S : Site} {to : ℕ} {s : ResolvedStrategy} {o o1 : Emitted} → EmitsThen w S s to o o1 → length o.code ≤ length o1.code
   longer_then then_id = omega arith
   longer_then (then_code a) = let one = longer a in omega (arith, one)
 
-  longer_definitions : {C : Context} {label to : ℕ} {ds : ResolvedDefinitions} {o o1 : Emitted} → EmitsDefinitions C label ds to o o1 → length o.code ≤ length o1.code
+  longer_definitions : {S : Site} {label to : ℕ} {ds : ResolvedDefinitions} {o o1 : Emitted} → EmitsDefinitions S label ds to o o1 → length o.code ≤ length o1.code
   longer_definitions (emits_definitions a) = let one = longer_bodies a in omega (arith, one)
 
-  pub longer_bodies : {C : Context} {label : ℕ} {ds : ResolvedDefinitions} {o o1 : Emitted} → EmitsBodies C label ds o o1 → length o.code ≤ length o1.code
+  pub longer_bodies : {S : Site} {label : ℕ} {ds : ResolvedDefinitions} {o o1 : Emitted} → EmitsBodies S label ds o o1 → length o.code ≤ length o1.code
   longer_bodies emits_no_bodies = omega arith
   longer_bodies (emits_more_bodies a b) = let one = longer_body a in let two = longer_bodies b in omega (arith, one, two)
 
-  longer_body : {C : Context} {m k : ℕ} {s : ResolvedStrategy} {o o1 : Emitted} → EmitsBody C m k s o o1 → length o.code < length o1.code
+  longer_body : {S : Site} {k : ℕ} {s : ResolvedStrategy} {o o1 : Emitted} → EmitsBody S k s o o1 → length o.code < length o1.code
   longer_body (emits_body none a) = let one = longer a in omega (arith, one)
   longer_body (emits_scope_body a) = let one = longer a in omega (arith, one)
 
-  longer_arguments : {C : Context} {ss : ResolvedStrategies} {us : List Argument} {o o1 : Emitted} → EmitsArguments C ss o o1 us → length o.code ≤ length o1.code
+  longer_arguments : {S : Site} {ss : ResolvedStrategies} {us : List Argument} {o o1 : Emitted} → EmitsArguments S ss o o1 us → length o.code ≤ length o1.code
   longer_arguments emits_no_arguments = omega arith
   longer_arguments (emits_code_argument own a b) = let one = longer a in let two = longer_arguments b in omega (arith, one, two)
   longer_arguments (emits_parameter_argument none b) = longer_arguments b
+  longer_arguments (emits_known_argument given a b) = let one = longer a in let two = longer_arguments b in omega (arith, one, two)
 
 mutual
-  pub sound : {w : Bool} {C : Context} {x : ℕ} {s : ResolvedStrategy} {o o1 : Emitted} → Emits w C x s o o1 → 1 ≤ length o.code → Sound o → Sound o1
+  pub sound : {w : Option ℕ} {S : Site} {x : ℕ} {s : ResolvedStrategy} {o o1 : Emitted} → Emits w S x s o o1 → 1 ≤ length o.code → Sound o → Sound o1
   sound emits_id h s = in_front tt s
   sound emits_fail h s = in_front tt s
   sound (emits_seq a b) h s = let more = longer a in sound b (omega (arith, h, more)) (sound a h s)
@@ -161,11 +171,21 @@ mutual
   sound (emits_one a) h s = in_front h (sound a (omega (arith, h)) (in_front tt s))
   sound (emits_some a) h s = in_front h (sound a (omega (arith, h)) (in_front tt s))
   sound (emits_let a b) h s = let more = longer_definitions a in sound b (omega (arith, h, more)) (sound_definitions a h s)
-  sound (emits_call has entry a) h s = let made = sound_arguments a h s in in_front (h, made.0) made.1
+  sound (emits_call a) h s = sound_call a h s
+  sound (emits_inline at body given a) h s = sound a h s
+  sound (emits_known given a) h s = sound a h s
+  sound (emits_specialization {o = o} {o1 = o1} at body given a) h s =
+      let more = longer_body a in
+      let made = sound_body a (record { code = s.code; starts = more_start o.starts (replicate 1 1) s.starts (ones_start 1) }) in
+      in_front (h, tt) (record { code = made.code; starts = set_start o1.starts (length o.starts) (length o1.code) (omega (arith, h, more)) made.starts })
+  sound (emits_same n label at given is) h s = in_front (h, tt) s
   sound (emits_parameter none) h s = in_front tt s
   sound emits_primitive h s = in_front tt s
 
-  sound_chain : {w : Bool} {C : Context} {last : ℕ} {bs : List Body} {s : ResolvedStrategy} {o o1 : Emitted} → EmitsChain w C s bs last o o1 → 1 ≤ length o.code → Sound o →
+  pub sound_call : {S : Site} {x : ℕ} {y : Coordinate} {ss : ResolvedStrategies} {ps : Patterns Coordinate} {o o1 : Emitted} → EmitsCall S x y ss ps o o1 → 1 ≤ length o.code → Sound o → Sound o1
+  sound_call (calls has entry a) h s = let made = sound_arguments a h s in in_front (h, made.0) made.1
+
+  sound_chain : {w : Option ℕ} {S : Site} {last : ℕ} {bs : List Body} {s : ResolvedStrategy} {o o1 : Emitted} → EmitsChain w S s bs last o o1 → 1 ≤ length o.code → Sound o →
       BodiesHavePlaces bs × (1 ≤ last) × Sound o1
   sound_chain (chain_end a) h s = let more = longer a in (tt, omega (arith, h, more), sound a h s)
   sound_chain (chain_more asks rooted a b) h s =
@@ -174,34 +194,38 @@ mutual
       let made = sound_chain a h s in
       ((omega (arith, h, one, two), made.0), made.1, sound b (omega (arith, h, one)) (in_front h made.2))
 
-  sound_arm : {w : Bool} {C : Context} {x to : ℕ} {s1 s2 : ResolvedStrategy} {o o1 : Emitted} → EmitsArm w C x s1 s2 to o o1 → 1 ≤ to → 1 ≤ length o.code → Sound o → Sound o1
+  sound_arm : {w : Option ℕ} {S : Site} {x to : ℕ} {s1 s2 : ResolvedStrategy} {o o1 : Emitted} → EmitsArm w S x s1 s2 to o o1 → 1 ≤ to → 1 ≤ length o.code → Sound o → Sound o1
   sound_arm (emits_arm a b) to h s = let more = longer_then a in in_front h (sound b (omega (arith, h, more)) (sound_then a to h s))
 
-  sound_then : {w : Bool} {C : Context} {to : ℕ} {s : ResolvedStrategy} {o o1 : Emitted} → EmitsThen w C s to o o1 → 1 ≤ to → 1 ≤ length o.code → Sound o → Sound o1
+  sound_then : {w : Option ℕ} {S : Site} {to : ℕ} {s : ResolvedStrategy} {o o1 : Emitted} → EmitsThen w S s to o o1 → 1 ≤ to → 1 ≤ length o.code → Sound o → Sound o1
   sound_then then_id to h s = in_front to s
   sound_then (then_code a) to h s = let more = longer a in in_front (omega (arith, h, more)) (sound a (omega (arith, h)) (in_front to s))
 
-  sound_definitions : {C : Context} {label to : ℕ} {ds : ResolvedDefinitions} {o o1 : Emitted} → EmitsDefinitions C label ds to o o1 → 1 ≤ to → Sound o → Sound o1
+  sound_definitions : {S : Site} {label to : ℕ} {ds : ResolvedDefinitions} {o o1 : Emitted} → EmitsDefinitions S label ds to o o1 → 1 ≤ to → Sound o → Sound o1
   sound_definitions (emits_definitions {ds = ds} {o = o} a) to s =
       in_front to (sound_bodies a (record { code = s.code; starts = more_start o.starts (replicate (count_of ds) 1) s.starts (ones_start (count_of ds)) }))
 
-  pub sound_bodies : {C : Context} {label : ℕ} {ds : ResolvedDefinitions} {o o1 : Emitted} → EmitsBodies C label ds o o1 → Sound o → Sound o1
+  pub sound_bodies : {S : Site} {label : ℕ} {ds : ResolvedDefinitions} {o o1 : Emitted} → EmitsBodies S label ds o o1 → Sound o → Sound o1
   sound_bodies emits_no_bodies s = s
   sound_bodies (emits_more_bodies {label = label} {o1 = o1} a b) s =
       let more = longer_body a in let made = sound_body a s in
       sound_bodies b (record { code = made.code; starts = set_start o1.starts label (length o1.code) (omega (arith, more)) made.starts })
 
-  sound_body : {C : Context} {m k : ℕ} {s : ResolvedStrategy} {o o1 : Emitted} → EmitsBody C m k s o o1 → Sound o → Sound o1
+  sound_body : {S : Site} {k : ℕ} {s : ResolvedStrategy} {o o1 : Emitted} → EmitsBody S k s o o1 → Sound o → Sound o1
   sound_body (emits_body none a) s = sound a (omega arith) (in_front tt s)
   sound_body (emits_scope_body a) s = sound a (omega arith) (in_front tt s)
 
-  sound_arguments : {C : Context} {ss : ResolvedStrategies} {us : List Argument} {o o1 : Emitted} → EmitsArguments C ss o o1 us → 1 ≤ length o.code → Sound o → ArgumentsHavePlaces us × Sound o1
+  sound_arguments : {S : Site} {ss : ResolvedStrategies} {us : List Argument} {o o1 : Emitted} → EmitsArguments S ss o o1 us → 1 ≤ length o.code → Sound o → ArgumentsHavePlaces us × Sound o1
   sound_arguments emits_no_arguments h s = (tt, s)
   sound_arguments (emits_code_argument own a b) h s =
       let more = longer a in
       let rest = sound_arguments b (omega (arith, h, more)) (sound a (omega (arith, h)) (in_front tt s)) in
       ((omega (arith, h, more), rest.0), rest.1)
   sound_arguments (emits_parameter_argument none b) h s = sound_arguments b h s
+  sound_arguments (emits_known_argument given a b) h s =
+      let more = longer a in
+      let rest = sound_arguments b (omega (arith, h, more)) (sound a (omega (arith, h)) (in_front tt s)) in
+      ((omega (arith, h, more), rest.0), rest.1)
 
 -- in code of n instructions, one at least
 module _ (n : ℕ) (some_code : 1 ≤ n) where

@@ -1,5 +1,5 @@
 -- What each form of the code asks of a term's root.
-use Rattle.std.proofs.Common.{◌≡◌, ◌+◌, ◌<◌, ◌++◌, ℕ, zero, suc, List, [], ◌∷◌, map, length, reverse, Option, Some, None, Result, Ok, Err, get_or, drop, refl, ap, ap₂, sym, ◌∙◌, subst, arith, Box, Vec, Global}
+use Rattle.std.proofs.Common.{◌≡◌, ◌+◌, ◌<◌, ◌≤◌, ◌++◌, ℕ, zero, suc, List, [], ◌∷◌, map, length, reverse, Option, Some, None, Result, Ok, Err, get_or, drop, refl, ap, ap₂, sym, ◌∙◌, subst, arith, Box, Vec, Global}
 use Rattle.std.specs.Prelude.{IfSome, IfOk, MatchOption}
 use Rattle.std.proofs.Math.Seq.{drop-length}
 use Rattle.std.proofs.lemmas.List.{append_assoc, append-nil, drop_more, map-append, reverse-append, length-map, length-reverse}
@@ -9,21 +9,27 @@ use Rattle.core_lang.specs.declared.program.CoreDef.{CoreDef}
 use Rattle.core_lang.specs.declared.program.CorePattern.{CorePattern}
 use Rattle.core_lang.specs.declared.program.CoreStrategy.{CoreStrategy}
 use Rattle.core_lang.specs.declared.program.CoreStrategy.TheVariants as strategies
-use Rattle.core_lang.specs.declared.program.CoreStrategy.TheViews.{out-CoreArm}
-use Rattle.core_lang.specs.Program.{id, choice, call, no_strategies, no_patterns}
-use Rattle.core_lang.specs.Resolved.{ResolvedStrategy}
+use Rattle.core_lang.specs.declared.program.CoreStrategy.TheViews.{out-CoreArm, out-CoreDef}
+use Rattle.core_lang.specs.Program.{id, choice, call, no_patterns}
+use Rattle.core_lang.specs.Resolved.{ResolvedStrategy, ResolvedStrategies}
 use Rattle.core_lang.specs.Roots.{Root, root_of, Begins, begins_match, begins_seq, begins_scope}
-use Rattle.core_lang.specs.Views.{first_of, strategy_of, strategies_of, pattern_of, patterns_of, arm_of}
-use Rattle.core_lang.proofs.ReadLaws.{reads_fail, reads_sequence, reads_choice, reads_arm, reads_match, reads_scope, reads_let, reads_call}
-use Rattle.strat_code.specs.Context.{Context, defining, hidden, no_knowns, outer, Hides}
-use Rattle.strat_code.specs.Ranges.{AsksFor, asks_fail, asks_match, asks_seq, asks_choice, asks_scope, asks_let, asks_inline, none_known}
+use Rattle.core_lang.specs.Views.{first_of, strategy_of, strategies_of, pattern_of, patterns_of, arm_of, def_of, definitions_of}
+use Rattle.core_lang.proofs.ReadLaws.{reads_fail, reads_sequence, reads_choice, reads_arm, reads_match, reads_scope, reads_let, reads_call, reads_def}
+use Rattle.strat_code.specs.Context.{Context, hidden, no_knowns, outer, Hides, hides_top, keeps_definitions}
+use Rattle.strat_code.specs.Ranges.{AsksFor, asks_fail, asks_match, asks_seq, asks_choice, asks_scope, asks_let, asks_known, asks_inline, IsBody}
 use Rattle.strat_code.specs.CodeOf as code_of
 use Rattle.strat_code.specs.declared.instr.Root as declared
 use Rattle.strat_compile.specs.Asking.{AsksOnto, AsksInside}
 use Rattle.strat_compile.specs.ChainOf.{roots_of}
 use Rattle.strat_compile.specs.Emission.{BeginsNot, Joins}
 use Rattle.strat_compile.specs.declared.roots.Beginning.{Beginning}
-use Rattle.strat_compile.specs.Layers.{IsCalled}
+use Rattle.strat_compile.specs.declared.layers.Known.{Known}
+use Rattle.strat_compile.specs.declared.layers.Layers.TheViews.{out-Known}
+use Rattle.strat_compile.specs.declared.layers.ProgramDefinition.{ProgramDefinition}
+use Rattle.strat_compile.specs.Layers.{IsDefined, arguments_of, known_of, site_of}
+use Rattle.strat_compile.specs.Sites.{Site, KnownArguments, AreGiven, IsGiven, context, in_call, in_definitions, outermost, outside_of}
+use Rattle.strat_compile.proofs.LayerLaws.{known_reads}
+use Rattle.strat_compile.proofs.SiteLaws.{are_known, given_outside}
 
 asks_as : {C : Context} {s t : ResolvedStrategy} {qs rs : List Root} {n m : ℕ} → t ≡ s → m ≡ n → AsksOnto C s qs rs n → AsksOnto C t qs rs m
 asks_as {C} {s} {t} {qs} {rs} {n} {m} is nodes h = subst (λ u. AsksOnto C u qs rs m) (sym is) (subst (λ k. AsksOnto C s qs rs k) (sym nodes) h)
@@ -49,6 +55,10 @@ sequence_asks C s a' a b more qs rs n m is first h nodes =
 
 pub inside_asks : (C D : Context) (s : ResolvedStrategy) (qs rs : List Root) (n m : ℕ) → D ≡ hidden no_knowns C → AsksOnto D s qs rs n → m ≡ suc n → AsksInside C s qs rs m
 inside_asks C D s qs rs n m layer h nodes = record { inner = n; asks = subst (λ E. AsksOnto E s qs rs n) layer h; around = nodes }
+
+pub inside_found : (C D : Context) (s : ResolvedStrategy) (qs rs : List Root) (found : Option ℕ) (n m : ℕ) → D ≡ hidden no_knowns C → found ≡ Some n → IfSome found (λ k. AsksOnto D s qs rs k) → m ≡ suc n →
+    AsksInside C s qs rs m
+inside_found C D s qs rs found n m layer is h nodes = inside_asks C D s qs rs n m layer (subst (λ f. IfSome f (λ k. AsksOnto D s qs rs k)) is h) nodes
 
 pub scope_asks : (C : Context) (s a' : CoreStrategy) (k : ℕ) (a : Box CoreStrategy Global) (qs rs : List Root) (m : ℕ) → s ≡ strategies.Scope k a → a' ≡ a.value →
     AsksInside C (strategy_of a') qs rs m → AsksOnto C (strategy_of s) qs rs m
@@ -113,31 +123,51 @@ arm_found C arms i j d z qs ps rs found n k m next h others is guard nodes =
     arm_asks C arms i d z qs ps rs n k m h (subst (λ x. AsksOnto C (first_of (map arm_of (drop x arms)) z) qs ps k) next others) (guard_asks C a ps rs n asked) nodes
 
 -- a call without arguments
-no_more : (ss : List CoreStrategy) → length ss ≡ 0 → strategies_of ss ≡ no_strategies
-no_more [] h = refl
-no_more (s ∷ ss) h = absurd (omega (arith, h))
 
-no_terms : (ps : List CorePattern) → length ps ≡ 0 → patterns_of ps ≡ no_patterns
+pub no_terms : (ps : List CorePattern) → length ps ≡ 0 → patterns_of ps ≡ no_patterns
 no_terms [] h = refl
 no_terms (p ∷ ps) h = absurd (omega (arith, h))
 
-pub call_as : (C : Context) (s : CoreStrategy) (y : Coordinate) (ss : Vec CoreStrategy Global) (ps : Vec CorePattern Global) (qs rs : List Root) (n : ℕ) → s ≡ strategies.Call y ss ps →
-    length ss.items ≡ 0 → length ps.items ≡ 0 → AsksOnto C (call y no_strategies no_patterns) qs rs n → AsksOnto C (strategy_of s) qs rs n
-call_as C s y ss ps qs rs n is no_argument no_term h =
-    asks_as (ap strategy_of is ∙ reads_call y ss ps ∙ ap₂ (λ a b. call y a b) (no_more ss.items no_argument) (no_terms ps.items no_term)) refl h
+pub call_as : (C : Context) (s : CoreStrategy) (y : Coordinate) (ss : Vec CoreStrategy Global) (ps : Vec CorePattern Global) (xs : List CoreStrategy) (qs rs : List Root) (n : ℕ) → s ≡ strategies.Call y ss ps →
+    xs ≡ ss.items → length ps.items ≡ 0 → AsksOnto C (call y (strategies_of xs) no_patterns) qs rs n → AsksOnto C (strategy_of s) qs rs n
+call_as C s y ss ps xs qs rs n is items no_term h =
+    asks_as (ap strategy_of is ∙ reads_call y ss ps ∙ ap₂ (λ a b. call y a b) (ap strategies_of (sym items)) (no_terms ps.items no_term)) refl h
 
-pub call_asks : (C D : Context) (y : Coordinate) (s : ResolvedStrategy) (qs rs : List Root) (m : ℕ) → D ≡ outer C y.layers_up → IsCalled D y.slot s → AsksInside D s qs rs m →
-    AsksOnto C (call y no_strategies no_patterns) qs rs m
-call_asks C D y s qs rs m around called inside =
-    let h = inside.asks in
-    let definitions : Context = defining called.definitions called.entries called.around in
-    let is : outer C y.layers_up ≡ definitions = sym around ∙ called.is in
-    let frames : Hides definitions definitions = subst (λ E. Hides E E) called.is called.frames in
-    asks_as refl inside.around (record {
-      roots = h.roots;
-      are = h.are;
-      asks = asks_inline (subst (λ E. Hides E definitions) (sym is) frames) called.body none_known (subst (λ E. AsksFor (hidden no_knowns E) s h.roots inside.inner) called.is h.asks);
+-- a call of a strategy parameter that is known
+pub known_asks : (S : Site) (y : Coordinate) (ss : ResolvedStrategies) (k : Known) (qs rs : List Root) (n m : ℕ) → IsGiven (outside_of S y.layers_up) y.slot (known_of k).strategy (known_of k).site →
+    AsksOnto (context (site_of (out-Known k).layers.now)) (strategy_of (out-Known k).strategy.now) qs rs n → m ≡ suc n → AsksOnto (context S) (call y ss no_patterns) qs rs m
+known_asks S y ss k qs rs n m given h nodes =
+    let reads = known_reads k in
+    let asked = subst (λ a. AsksOnto (context a.site) a.strategy qs rs n) (sym reads) h in
+    asks_as refl nodes (record {
+      roots = asked.roots;
+      are = asked.are;
+      asks = asks_known (given_outside S y.layers_up y.slot (known_of k).strategy (known_of k).site given) asked.asks;
     })
+
+-- a call of a definition of the program whose arguments are known
+pub defined_asks : (S T : Site) (y : Coordinate) (ss : ResolvedStrategies) (p : ProgramDefinition) (ks : KnownArguments) (qs rs : List Root) (n m : ℕ) → IsDefined (outer (context S) y.layers_up) y.slot p →
+    (out-CoreDef p.def.now).terms ≤ 0 → AreGiven S ss ks → T ≡ in_call ks (site_of p.layer.now) → AsksOnto (context T) (strategy_of (out-CoreDef p.def.now).body) qs rs n → m ≡ suc n →
+    AsksOnto (context S) (call y ss no_patterns) qs rs m
+defined_asks S T y ss p ks qs rs n m defined none given layer h nodes =
+    let reads = reads_def p.def.now in
+    let D = in_definitions (definitions_of p.defs.now) p.first_label outermost in
+    let body = subst (λ k. IsBody (definitions_of p.defs.now) y.slot (def_of p.def.now).strats k (def_of p.def.now).body) (ap (λ d. d.terms) reads ∙ omega (arith, none)) defined.body in
+    let asked = subst (λ d. AsksOnto (context (in_call ks D)) d.body qs rs n) (sym reads)
+        (subst (λ U. AsksOnto (context U) (strategy_of (out-CoreDef p.def.now).body) qs rs n) (layer ∙ ap (λ U. in_call ks U) defined.layer) h) in
+    asks_as refl nodes (record {
+      roots = asked.roots;
+      are = asked.are;
+      asks = asks_inline (subst (λ E. Hides E (context D)) (sym defined.is) (keeps_definitions hides_top)) body (are_known given) asked.asks;
+    })
+
+pub defined_found : (S T : Site) (y : Coordinate) (ss : ResolvedStrategies) (p : ProgramDefinition) (found : Option (Vec Known Global)) (ks : Vec Known Global) (qs rs : List Root) (asked : Option ℕ) (n m : ℕ) →
+    IsDefined (outer (context S) y.layers_up) y.slot p → (out-CoreDef p.def.now).terms ≤ 0 → found ≡ Some ks → IfSome found (λ made. AreGiven S ss (arguments_of made.items)) →
+    T ≡ in_call (arguments_of ks.items) (site_of p.layer.now) → asked ≡ Some n → IfSome asked (λ k. AsksOnto (context T) (strategy_of (out-CoreDef p.def.now).body) qs rs k) → m ≡ suc n →
+    AsksOnto (context S) (call y ss no_patterns) qs rs m
+defined_found S T y ss p found ks qs rs asked n m defined none known given layer is h nodes =
+    defined_asks S T y ss p (arguments_of ks.items) qs rs n m defined none (subst (λ f. IfSome f (λ made. AreGiven S ss (arguments_of made.items))) known given) layer
+    (subst (λ f. IfSome f (λ k. AsksOnto (context T) (strategy_of (out-CoreDef p.def.now).body) qs rs k)) is h) nodes
 
 -- what begins with a match asks for its root
 asks_root : {C : Context} {s : ResolvedStrategy} {r : Root} {n : ℕ} → Begins s r n → AsksFor C s (r ∷ []) n

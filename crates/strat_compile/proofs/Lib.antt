@@ -3,7 +3,10 @@ pub mod EmissionLaws
 pub mod RowLaws
 pub mod FormLaws
 pub mod ScopeLaws
+pub mod SiteLaws
 pub mod LayerLaws
+pub mod ClosedLaws
+pub mod KnownLaws
 pub mod NameLaws
 pub mod RenamedLaws
 pub mod ChoiceLaws
@@ -13,6 +16,7 @@ pub mod ChainLaws
 pub mod EndLaws
 pub mod LabelLaws
 pub mod PlacedLaws
+pub mod SpecializationLaws
 pub mod RangeLaws
 pub mod AddressLaws
 pub mod ProgramLaws

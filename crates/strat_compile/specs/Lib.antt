@@ -1,5 +1,8 @@
+pub mod Sites
 pub mod Tables
 pub mod Layers
+pub mod Known
+pub mod Ways
 pub mod Output
 pub mod Chains
 pub mod Asking

@@ -4,7 +4,7 @@ ghost use Rattle.std.specs.Prelude.{OnOk, map};
 ghost use Rattle.core_lang.specs.Views.{arm_of, strategy_of};
 ghost use Rattle.strat_compile.specs.ChainOf.{bodies_of, roots_of};
 ghost use Rattle.strat_compile.specs.Emission.{EmitsArm, EmitsThen, Joins, PutsArm, PutsArms, PutsFirst, PutsJoined};
-ghost use Rattle.strat_compile.specs.Layers.{context_of};
+ghost use Rattle.strat_compile.specs.Layers.{context_of, site_of};
 ghost use Rattle.strat_compile.specs.Output.{emitted_of};
 
 use crate::chain::{Body, Chain};
@@ -26,15 +26,16 @@ pub(crate) fn emit_arms(
     alloc: Global,
     out: &mut Output,
     layers: &Layers,
-    is_last: bool,
+    places: Option<usize>,
     arms: &[CoreArm],
     end: usize,
     chain: &mut Chain,
+    depth: usize,
 ) -> Result<(), AllocError>
-    ensures { OnOk result (PutsArms is_last (context_of layers.now) (map arm_of arms.now) end (bodies_of chain.old) chain.old.last (emitted_of out.old) (bodies_of chain.new) chain.new.last (emitted_of out.new)) }
+    ensures { OnOk result (PutsArms places (site_of layers.now) (map arm_of arms.now) end (bodies_of chain.old) chain.old.last (emitted_of out.old) (bodies_of chain.new) chain.new.last (emitted_of out.new)) }
 {
     for index in (0..arms.len()).rev() {
-        emit_next(alloc, out, layers, is_last, &arms[index], end, chain)?;
+        emit_next(alloc, out, layers, places, &arms[index], end, chain, depth)?;
     }
     Ok(())
 }
@@ -46,20 +47,21 @@ fn emit_next(
     alloc: Global,
     out: &mut Output,
     layers: &Layers,
-    is_last: bool,
+    places: Option<usize>,
     arm: &CoreArm,
     end: usize,
     chain: &mut Chain,
+    depth: usize,
 ) -> Result<(), AllocError>
-    ensures { OnOk result (PutsArm is_last (context_of layers.now) (arm_of arm.now) end (bodies_of chain.old) chain.old.last (emitted_of out.old) (bodies_of chain.new) chain.new.last (emitted_of out.new)) }
+    ensures { OnOk result (PutsArm places (site_of layers.now) (arm_of arm.now) end (bodies_of chain.old) chain.old.last (emitted_of out.old) (bodies_of chain.new) chain.new.last (emitted_of out.new)) }
 {
     let Some(found) = joining(alloc, out, layers, arm, !chain.is_empty())? else {
         close(alloc, out, chain)?;
-        emit_arm(alloc, out, layers, is_last, 0, arm, end)?;
+        emit_arm(alloc, out, layers, places, 0, arm, end, depth)?;
         chain.last = out.place();
         return Ok(());
     };
-    emit_joined(alloc, out, layers, is_last, arm, found, end, chain)
+    emit_joined(alloc, out, layers, places, arm, found, end, chain, depth)
 }
 
 /// Emits the first arm of a choice in front of a chain, and the selects of the chain.
@@ -69,20 +71,21 @@ pub(crate) fn emit_first(
     alloc: Global,
     out: &mut Output,
     layers: &Layers,
-    is_last: bool,
+    places: Option<usize>,
     charged: usize,
     arm: &CoreArm,
     end: usize,
     chain: &mut Chain,
+    depth: usize,
 ) -> Result<(), AllocError>
-    ensures { OnOk result (PutsFirst is_last (context_of layers.now) charged (arm_of arm.now) end (bodies_of chain.old) chain.old.last (emitted_of out.old) (emitted_of out.new)) }
+    ensures { OnOk result (PutsFirst places (site_of layers.now) charged (arm_of arm.now) end (bodies_of chain.old) chain.old.last (emitted_of out.old) (emitted_of out.new)) }
 {
     let Some(found) = joining(alloc, out, layers, arm, !chain.is_empty())? else {
         close(alloc, out, chain)?;
-        return emit_arm(alloc, out, layers, is_last, charged, arm, end);
+        return emit_arm(alloc, out, layers, places, charged, arm, end, depth);
     };
     let nodes = successor(charged)?;
-    emit_joined(alloc, out, layers, is_last, arm, found, end, chain)?;
+    emit_joined(alloc, out, layers, places, arm, found, end, chain, depth)?;
     emit_chain(alloc, out, nodes, chain)
 }
 
@@ -93,20 +96,21 @@ fn emit_joined(
     alloc: Global,
     out: &mut Output,
     layers: &Layers,
-    is_last: bool,
+    places: Option<usize>,
     arm: &CoreArm,
     found: Asked,
     end: usize,
     chain: &mut Chain,
+    depth: usize,
 ) -> Result<(), AllocError>
     requires { Joins (context_of layers.now) (arm_of arm.now) (roots_of found.roots.items)
         found.nodes }
-    ensures { OnOk result (PutsJoined is_last (context_of layers.now) (arm_of arm.now)
+    ensures { OnOk result (PutsJoined places (site_of layers.now) (arm_of arm.now)
         (roots_of found.roots.items) found.nodes end (bodies_of chain.old) chain.old.last
         (emitted_of out.old) (bodies_of chain.new) chain.new.last (emitted_of out.new)) }
 {
     emit_commit(out, end)?;
-    emit(alloc, out, layers, is_last, 0, &arm.guard)?;
+    emit(alloc, out, layers, places, 0, &arm.guard, depth)?;
     let start = out.place();
     let Asked { roots, nodes } = found;
     chain.push(Body {
@@ -123,17 +127,18 @@ fn emit_arm(
     alloc: Global,
     out: &mut Output,
     layers: &Layers,
-    is_last: bool,
+    places: Option<usize>,
     charged: usize,
     arm: &CoreArm,
     end: usize,
+    depth: usize,
 ) -> Result<(), AllocError>
-    ensures { OnOk result (EmitsArm is_last (context_of layers.now) charged (arm_of arm.now).guard (arm_of arm.now).then end (emitted_of out.old) (emitted_of out.new)) }
+    ensures { OnOk result (EmitsArm places (site_of layers.now) charged (arm_of arm.now).guard (arm_of arm.now).then end (emitted_of out.old) (emitted_of out.new)) }
 {
     let otherwise = out.place();
     let nodes = successor(charged)?;
-    emit_then(alloc, out, layers, is_last, &arm.then, end)?;
-    emit(alloc, out, layers, is_last, 0, &arm.guard)?;
+    emit_then(alloc, out, layers, places, &arm.then, end, depth)?;
+    emit(alloc, out, layers, places, 0, &arm.guard, depth)?;
     out.emit(Instr::Try { nodes, otherwise })
 }
 
@@ -144,17 +149,18 @@ fn emit_then(
     alloc: Global,
     out: &mut Output,
     layers: &Layers,
-    is_last: bool,
+    places: Option<usize>,
     then: &CoreStrategy,
     end: usize,
+    depth: usize,
 ) -> Result<(), AllocError>
-    ensures { OnOk result (EmitsThen is_last (context_of layers.now) (strategy_of then.now) end (emitted_of out.old) (emitted_of out.new)) }
+    ensures { OnOk result (EmitsThen places (site_of layers.now) (strategy_of then.now) end (emitted_of out.old) (emitted_of out.new)) }
 {
     match then {
         CoreStrategy::Id => emit_commit(out, end),
         _ => {
             out.emit(Instr::Jump { next_address: end })?;
-            emit(alloc, out, layers, is_last, 0, then)?;
+            emit(alloc, out, layers, places, 0, then, depth)?;
             let next_address = out.place();
             out.emit(Instr::Commit {
                 nodes: 0,

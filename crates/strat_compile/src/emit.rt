@@ -1,75 +1,83 @@
-// What is emitted for a strategy: each row of `specs/Emission`, from the end of the code to its beginning.
-ghost use Rattle.std.specs.Prelude.{IfOk, OnOk, map, true};
-ghost use Rattle.core_lang.specs.Program.{call, scope};
-ghost use Rattle.core_lang.specs.Views.{def_of, definitions_of, patterns_of, strategies_of, strategy_of};
+// What is emitted for a strategy: each row of `specs/Emission`, from the end of the code to its beginning. What is emitted in
+// place stands elsewhere in the core, so each function is given a depth, which falls from strategy to strategy.
+ghost use Rattle.std.specs.Prelude.{◌≡◌, suc, IfOk, OnOk, Some, map};
+ghost use Rattle.core_lang.specs.Program.{scope};
+ghost use Rattle.core_lang.specs.Views.{def_of, definitions_of, strategy_of};
 ghost use Rattle.strat_code.specs.Code.{end_definition};
-ghost use Rattle.strat_code.specs.CodeOf.{argument_of, traversal_of};
-ghost use Rattle.strat_compile.specs.Emission.{Emits, EmitsArguments, EmitsBodies, EmitsBody, EmitsDefinitions, EmitsRest, PutsArgument, traversed};
-ghost use Rattle.strat_compile.specs.Layers.{context_of};
+ghost use Rattle.strat_code.specs.CodeOf.{traversal_of};
+ghost use Rattle.strat_compile.specs.Emission.{Emits, EmitsBodies, EmitsBody, EmitsDefinitions, EmitsRest, traversed};
+ghost use Rattle.strat_compile.specs.Layers.{site_of};
 ghost use Rattle.strat_compile.specs.Output.{emitted_of, onto};
+ghost use Rattle.strat_compile.specs.Sites.{in_frame};
 
+use crate::calls::emit_call;
 use crate::chain::Chain;
 use crate::choices::{emit_arms, emit_first};
-use crate::layers::{
-    Entry, Layers, entry_called, frame_size, frames_among, parameter_handed, successor,
-};
-use crate::leaves::{
-    emit_build, emit_closure_call, emit_fail, emit_id, emit_match, emit_primitive,
-};
+use crate::layers::{Layers, successor, sum};
+use crate::leaves::{emit_build, emit_fail, emit_id, emit_match, emit_primitive};
 use crate::output::Output;
-use crate::patterns::by_frames_patterns;
-use core_lang::{Coordinate, CoreDef, CorePattern, CoreStrategy};
+use core_lang::{CoreDef, CoreStrategy};
 use std::alloc::{AllocError, Global};
-use strat_code::{Argument, Instr, Traversal};
+use strat_code::{Instr, Traversal};
 
-/// Emits the code for a strategy in these layers. `is_last` says that the places of the innermost frame are the last ones
-/// that there are, so that the frame can be given more; the first instruction is charged `charged` further nodes.
+/// How deep strategies may be nested: deeper than any that memory holds.
+pub(crate) const DEEPEST: usize = usize::MAX;
+
+// The depth of a part. `Err` where there is none, since no memory holds strategies that are nested so deep.
+fn inner_depth(depth: usize) -> Result<usize, AllocError>
+    ensures { IfOk result (λ inner. suc inner ≡ depth) }
+{
+    depth.checked_sub(1).ok_or(AllocError)
+}
+
+/// Emits the code for a strategy in these layers. `places` says how many places the innermost frame has, where they are the
+/// last ones that there are, so that it can be given more; the first instruction is charged `charged` further nodes.
 #[cycle(emission)]
 pub(crate) fn emit(
     alloc: Global,
     out: &mut Output,
     layers: &Layers,
-    is_last: bool,
+    places: Option<usize>,
     charged: usize,
     s: &CoreStrategy,
+    depth: usize,
 ) -> Result<(), AllocError>
-    ensures { OnOk result (Emits is_last (context_of layers.now) charged (strategy_of s.now) (emitted_of out.old) (emitted_of out.new)) }
+    ensures { OnOk result (Emits places (site_of layers.now) charged
+        (strategy_of s.now) (emitted_of out.old) (emitted_of out.new)) }
 {
+    let depth = inner_depth(depth)?;
     match s {
         CoreStrategy::Id => emit_id(out, charged),
         CoreStrategy::Fail => emit_fail(out, charged),
         CoreStrategy::Sequence(first, second, rest) => {
-            let following = emit_rest(alloc, out, layers, is_last, rest.as_slice())?;
-            emit(alloc, out, layers, is_last, following, second)?;
+            let following = emit_rest(alloc, out, layers, places, rest.as_slice(), depth)?;
+            emit(alloc, out, layers, places, following, second, depth)?;
             let nodes = successor(charged)?;
-            emit(alloc, out, layers, is_last, nodes, first)
+            emit(alloc, out, layers, places, nodes, first, depth)
         }
         CoreStrategy::Choice(arm, more, otherwise) => {
             let end = out.place();
-            emit(alloc, out, layers, is_last, 0, otherwise)?;
+            emit(alloc, out, layers, places, 0, otherwise, depth)?;
             let last = out.place();
             let mut chain = Chain::new(alloc, last);
             let more = more.as_slice();
-            emit_arms(alloc, out, layers, is_last, more, end, &mut chain)?;
-            emit_first(alloc, out, layers, is_last, charged, arm, end, &mut chain)
+            emit_arms(alloc, out, layers, places, more, end, &mut chain, depth)?;
+            emit_first(alloc, out, layers, places, charged, arm, end, &mut chain, depth)
         }
         CoreStrategy::Match(p) => emit_match(alloc, out, layers, charged, p),
         CoreStrategy::Build(p) => emit_build(alloc, out, layers, charged, p),
-        CoreStrategy::Scope(places, body) => {
-            if is_last {
-                emit_inner_scope(alloc, out, layers, charged, *places, body)
-            } else {
-                emit_scope(alloc, out, layers, charged, *places, body)
-            }
-        }
+        CoreStrategy::Scope(more, body) => match places {
+            Some(size) => emit_inner_scope(alloc, out, layers, size, charged, *more, body, depth),
+            None => emit_scope(alloc, out, layers, charged, *more, body, depth),
+        },
         CoreStrategy::All(body) => {
-            emit_traversal(alloc, out, layers, is_last, charged, Traversal::All, body)
+            emit_traversal(alloc, out, layers, places, charged, Traversal::All, body, depth)
         }
         CoreStrategy::One(body) => {
-            emit_traversal(alloc, out, layers, is_last, charged, Traversal::One, body)
+            emit_traversal(alloc, out, layers, places, charged, Traversal::One, body, depth)
         }
         CoreStrategy::Some(body) => {
-            emit_traversal(alloc, out, layers, is_last, charged, Traversal::Some, body)
+            emit_traversal(alloc, out, layers, places, charged, Traversal::Some, body, depth)
         }
         CoreStrategy::LetIn(defs, body) => {
             let end = out.place();
@@ -79,31 +87,18 @@ pub(crate) fn emit(
                 first_label,
                 outer: &*layers,
             };
-            emit_definitions(alloc, out, &inner, first_label, defs.as_slice(), end)?;
+            emit_definitions(alloc, out, &inner, first_label, defs.as_slice(), end, depth)?;
             let nodes = successor(charged)?;
-            emit(alloc, out, &inner, is_last, nodes, body)
+            emit(alloc, out, &inner, places, nodes, body, depth)
         }
         CoreStrategy::Call(at, strategies, terms) => {
             let strategies = strategies.as_slice();
-            emit_call(
-                alloc,
-                out,
-                layers,
-                charged,
-                *at,
-                strategies,
-                terms.as_slice(),
-            )
+            let terms = terms.as_slice();
+            emit_call(alloc, out, layers, places, charged, *at, strategies, terms, depth)
         }
         CoreStrategy::Primitive(name, terms) => {
-            emit_primitive(
-                alloc,
-                out,
-                layers,
-                charged,
-                name.as_slice(),
-                terms.as_slice(),
-            )
+            let name = name.as_slice();
+            emit_primitive(alloc, out, layers, charged, name, terms.as_slice())
         }
     }
 }
@@ -115,14 +110,16 @@ fn emit_rest(
     alloc: Global,
     out: &mut Output,
     layers: &Layers,
-    is_last: bool,
+    places: Option<usize>,
     rest: &[CoreStrategy],
+    depth: usize,
 ) -> Result<usize, AllocError>
-    ensures { IfOk result (λ charged. EmitsRest is_last (context_of layers.now) charged (map strategy_of rest.now) (emitted_of out.old) (emitted_of out.new)) }
+    ensures { IfOk result (λ charged. EmitsRest places (site_of layers.now) charged
+        (map strategy_of rest.now) (emitted_of out.old) (emitted_of out.new)) }
 {
     let mut charged = 0;
     for index in (0..rest.len()).rev() {
-        emit(alloc, out, layers, is_last, charged, &rest[index])?;
+        emit(alloc, out, layers, places, charged, &rest[index], depth)?;
         charged = 1;
     }
     Ok(charged)
@@ -135,44 +132,56 @@ fn emit_scope(
     out: &mut Output,
     layers: &Layers,
     charged: usize,
-    places: usize,
+    variables: usize,
     body: &CoreStrategy,
+    depth: usize,
 ) -> Result<(), AllocError>
-    ensures { OnOk result ((w : _) → Emits w (context_of layers.now) charged (scope places (strategy_of body.now)) (emitted_of out.old) (emitted_of out.new)) }
+    ensures { OnOk result ((w : _) → Emits w (site_of layers.now) charged
+        (scope variables (strategy_of body.now)) (emitted_of out.old) (emitted_of out.new)) }
 {
     let nodes = successor(charged)?;
     let inner = Layers::Framed {
         parameters: 0,
-        variables: places,
+        variables,
         outer: &*layers,
     };
     out.emit(Instr::Leave)?;
-    emit(alloc, out, &inner, true, 0, body)?;
-    out.emit(Instr::Enter { nodes, places })
+    emit(alloc, out, &inner, Some(variables), 0, body, depth)?;
+    out.emit(Instr::Enter {
+        nodes,
+        places: variables,
+    })
 }
 
-// A scope whose places are in the innermost frame.
+// A scope whose places are in the innermost frame, which has `size` places without them.
 #[cycle(emission)]
 #[tactic(auto, using(crate::proofs::RowLaws::inner_row))]
 fn emit_inner_scope(
     alloc: Global,
     out: &mut Output,
     layers: &Layers,
+    size: usize,
     charged: usize,
-    places: usize,
+    variables: usize,
     body: &CoreStrategy,
+    depth: usize,
 ) -> Result<(), AllocError>
-    ensures { OnOk result (Emits true (context_of layers.now) charged (scope places (strategy_of body.now)) (emitted_of out.old) (emitted_of out.new)) }
+    ensures { OnOk result (Emits (Some size) (site_of layers.now) charged
+        (scope variables (strategy_of body.now)) (emitted_of out.old) (emitted_of out.new)) }
 {
     let nodes = successor(charged)?;
+    let places = sum(size, variables)?;
     let inner = Layers::Within {
-        variables: places,
-        offset: frame_size(layers)?,
+        variables,
+        offset: size,
         outer: &*layers,
     };
-    out.emit(Instr::Shrink { places })?;
-    emit(alloc, out, &inner, true, 0, body)?;
-    out.emit(Instr::Extend { nodes, places })
+    out.emit(Instr::Shrink { places: variables })?;
+    emit(alloc, out, &inner, Some(places), 0, body, depth)?;
+    out.emit(Instr::Extend {
+        nodes,
+        places: variables,
+    })
 }
 
 #[cycle(emission)]
@@ -181,17 +190,20 @@ fn emit_traversal(
     alloc: Global,
     out: &mut Output,
     layers: &Layers,
-    is_last: bool,
+    places: Option<usize>,
     charged: usize,
     traversal: Traversal,
     body: &CoreStrategy,
+    depth: usize,
 ) -> Result<(), AllocError>
-    ensures { OnOk result (Emits is_last (context_of layers.now) charged (traversed (traversal_of traversal) (strategy_of body.now)) (emitted_of out.old) (emitted_of out.new)) }
+    ensures { OnOk result (Emits places (site_of layers.now) charged
+        (traversed (traversal_of traversal) (strategy_of body.now))
+        (emitted_of out.old) (emitted_of out.new)) }
 {
     let nodes = successor(charged)?;
     let next_address = out.place();
     out.emit(Instr::PartDone)?;
-    emit(alloc, out, layers, is_last, 0, body)?;
+    emit(alloc, out, layers, places, 0, body, depth)?;
     out.emit(Instr::Traverse {
         nodes,
         traversal,
@@ -209,11 +221,13 @@ fn emit_definitions(
     first_label: usize,
     defs: &[CoreDef],
     end: usize,
+    depth: usize,
 ) -> Result<(), AllocError>
-    ensures { OnOk result (EmitsDefinitions (context_of layers.now) first_label (definitions_of defs.now) end (emitted_of out.old) (emitted_of out.new)) }
+    ensures { OnOk result (EmitsDefinitions (site_of layers.now) first_label
+        (definitions_of defs.now) end (emitted_of out.old) (emitted_of out.new)) }
 {
     out.add_labels(defs.len())?;
-    emit_bodies(alloc, out, layers, first_label, defs)?;
+    emit_bodies(alloc, out, layers, first_label, defs, depth)?;
     out.emit(Instr::Jump { next_address: end })
 }
 
@@ -226,12 +240,14 @@ pub(crate) fn emit_bodies(
     layers: &Layers,
     first_label: usize,
     defs: &[CoreDef],
+    depth: usize,
 ) -> Result<(), AllocError>
-    ensures { OnOk result (EmitsBodies (context_of layers.now) first_label (definitions_of defs.now) (emitted_of out.old) (emitted_of out.new)) }
+    ensures { OnOk result (EmitsBodies (site_of layers.now) first_label
+        (definitions_of defs.now) (emitted_of out.old) (emitted_of out.new)) }
 {
     let mut label = first_label;
     for def in defs {
-        emit_body(alloc, out, layers, def)?;
+        emit_definition(alloc, out, layers, def, depth)?;
         out.start(label);
         label = successor(label)?;
     }
@@ -239,30 +255,50 @@ pub(crate) fn emit_bodies(
 }
 
 #[cycle(emission)]
-#[tactic(auto, using(crate::proofs::FormLaws::of_def, crate::proofs::RowLaws::plain_body))]
-fn emit_body(
+fn emit_definition(
     alloc: Global,
     out: &mut Output,
     layers: &Layers,
     def: &CoreDef,
+    depth: usize,
 ) -> Result<(), AllocError>
-    ensures { OnOk result (EmitsBody (context_of layers.now) (def_of def.now).strats (def_of def.now).terms (def_of def.now).body (emitted_of out.old) (emitted_of out.new)) }
+    ensures { OnOk result (EmitsBody
+        (in_frame (def_of def.now).strats (def_of def.now).terms (site_of layers.now))
+        (def_of def.now).terms (def_of def.now).body (emitted_of out.old) (emitted_of out.new)) }
 {
     let frame = Layers::Framed {
         parameters: def.strats,
         variables: def.terms,
         outer: &*layers,
     };
-    match &def.body {
-        CoreStrategy::Scope(places, body) => {
+    emit_body(alloc, out, &frame, def.terms, &def.body, depth)
+}
+
+/// Emits the body of a definition and its end, in a frame with this number of term parameters.
+#[cycle(emission)]
+#[tactic(auto, using(crate::proofs::RowLaws::plain_body))]
+pub(crate) fn emit_body(
+    alloc: Global,
+    out: &mut Output,
+    frame: &Layers,
+    variables: usize,
+    body: &CoreStrategy,
+    depth: usize,
+) -> Result<(), AllocError>
+    ensures { OnOk result (EmitsBody (site_of frame.now) variables
+        (strategy_of body.now) (emitted_of out.old) (emitted_of out.new)) }
+{
+    match body {
+        CoreStrategy::Scope(more, inside) => {
             let inner = Layers::Within {
-                variables: *places,
-                offset: def.terms,
-                outer: &frame,
+                variables: *more,
+                offset: variables,
+                outer: &*frame,
             };
-            emit_ended(alloc, out, &inner, 1, body)
+            let places = sum(variables, *more)?;
+            emit_ended(alloc, out, &inner, places, 1, inside, depth)
         }
-        body => emit_ended(alloc, out, &frame, 0, body),
+        body => emit_ended(alloc, out, frame, variables, 0, body, depth),
     }
 }
 
@@ -273,80 +309,14 @@ fn emit_ended(
     alloc: Global,
     out: &mut Output,
     layers: &Layers,
+    places: usize,
     charged: usize,
     body: &CoreStrategy,
+    depth: usize,
 ) -> Result<(), AllocError>
-    ensures { OnOk result (Emits true (context_of layers.now) charged (strategy_of body.now) (onto end_definition (emitted_of out.old)) (emitted_of out.new)) }
+    ensures { OnOk result (Emits (Some places) (site_of layers.now) charged
+        (strategy_of body.now) (onto end_definition (emitted_of out.old)) (emitted_of out.new)) }
 {
     out.emit(Instr::EndDefinition)?;
-    emit(alloc, out, layers, true, charged, body)
-}
-
-/// Emits a call with strategy and term arguments.
-#[cycle(emission)]
-#[tactic(auto, using(crate::proofs::RowLaws::call_row))]
-pub(crate) fn emit_call(
-    alloc: Global,
-    out: &mut Output,
-    layers: &Layers,
-    charged: usize,
-    at: Coordinate,
-    strategies: &[CoreStrategy],
-    terms: &[CorePattern],
-) -> Result<(), AllocError>
-    ensures { OnOk result ((w : _) → Emits w (context_of layers.now) charged (call at (strategies_of strategies.now) (patterns_of terms.now)) (emitted_of out.old) (emitted_of out.new)) }
-{
-    let nodes = successor(charged)?;
-    let next_address = out.place();
-    let Some(Entry { label, room }) = entry_called(layers, at)? else {
-        return emit_closure_call(out, layers, charged, at);
-    };
-    let arguments = emit_arguments(alloc, out, layers, strategies)?;
-    let terms = by_frames_patterns(alloc, layers, terms)?;
-    out.emit(Instr::CallDefinition {
-        nodes,
-        frames: frames_among(layers, at.layers_up),
-        entry: label,
-        room,
-        next_address,
-        arguments,
-        terms,
-    })
-}
-
-// The code of strategy arguments, and the arguments.
-#[cycle(emission)]
-#[tactic(auto, using(crate::proofs::EmissionLaws::argument_next, crate::proofs::RowLaws::arguments_done))]
-fn emit_arguments(
-    alloc: Global,
-    out: &mut Output,
-    layers: &Layers,
-    strategies: &[CoreStrategy],
-) -> Result<Vec<Argument>, AllocError>
-    ensures { IfOk result (λ made. EmitsArguments (context_of layers.now) (strategies_of strategies.now) (emitted_of out.old) (emitted_of out.new) (map argument_of made.items)) }
-{
-    let mut made = Vec::with_capacity(alloc, strategies.len())?;
-    for s in strategies {
-        let argument = emit_argument(alloc, out, layers, s)?;
-        made.push(argument)?;
-    }
-    Ok(made)
-}
-
-#[cycle(emission)]
-#[tactic(auto, using(crate::proofs::RowLaws::own_code, crate::proofs::EmissionLaws::handed_on))]
-fn emit_argument(
-    alloc: Global,
-    out: &mut Output,
-    layers: &Layers,
-    s: &CoreStrategy,
-) -> Result<Argument, AllocError>
-    ensures { IfOk result (λ made. PutsArgument (context_of layers.now) (strategy_of s.now) (emitted_of out.old) (emitted_of out.new) (argument_of made)) }
-{
-    let Some(parameter) = parameter_handed(layers, s)? else {
-        out.emit(Instr::EndArgument)?;
-        emit(alloc, out, layers, false, 0, s)?;
-        return Ok(Argument::Code(out.place()));
-    };
-    Ok(Argument::Parameter(parameter))
+    emit(alloc, out, layers, Some(places), charged, body, depth)
 }

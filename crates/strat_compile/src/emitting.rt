@@ -19,9 +19,9 @@ const VISITS_OF_ALTERNATIVE: usize = 500;
 const VISITS: usize = 200_000;
 
 impl Output {
-    /// No code.
+    /// No code. `recursive` says for each definition of the program whether it may call itself.
     #[tactic(auto, unfolding(crate::specs::Output::emitted_of))]
-    pub(crate) fn new(alloc: Global) -> Output
+    pub(crate) fn new(alloc: Global, recursive: Vec<bool>) -> Output
         ensures { emitted_of result ≡ nothing }
     {
         Output {
@@ -29,6 +29,8 @@ impl Output {
             tables: Vec::new(alloc),
             starts: Vec::new(alloc),
             visits: VISITS,
+            recursive,
+            is_expanding: false,
         }
     }
 
@@ -73,6 +75,24 @@ impl Output {
         ensures { emitted_of self.new ≡ emitted_of self.old }
     {
         self.visits = self.visits.saturating_sub(visits);
+    }
+
+    /// Says that the code of a call in place or of a specialization begins. Returns whether one is under way.
+    #[tactic(auto, unfolding(crate::specs::Output::emitted_of))]
+    pub(crate) fn begin_expansion(&mut self) -> bool
+        ensures { emitted_of self.new ≡ emitted_of self.old }
+    {
+        let was_expanding = self.is_expanding;
+        self.is_expanding = true;
+        was_expanding
+    }
+
+    /// Says that it has ended, and whether another one is under way.
+    #[tactic(auto, unfolding(crate::specs::Output::emitted_of))]
+    pub(crate) fn end_expansion(&mut self, was_expanding: bool)
+        ensures { emitted_of self.new ≡ emitted_of self.old }
+    {
+        self.is_expanding = was_expanding;
     }
 
     /// Adds labels. Where they start will be known later.

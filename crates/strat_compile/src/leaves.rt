@@ -3,10 +3,11 @@ ghost use Rattle.std.specs.Prelude.{◌≡◌, OnOk};
 ghost use Rattle.core_lang.specs.Program.{build, call, fail, id, match, primitive};
 ghost use Rattle.core_lang.specs.Views.{pattern_of, patterns_of};
 ghost use Rattle.strat_code.specs.Code.{commit};
-ghost use Rattle.strat_code.specs.Context.{HasDefinitions, outer};
+ghost use Rattle.strat_code.specs.Context.{outer};
 ghost use Rattle.strat_compile.specs.Emission.{Emits};
-ghost use Rattle.strat_compile.specs.Layers.{context_of};
+ghost use Rattle.strat_compile.specs.Layers.{context_of, site_of};
 ghost use Rattle.strat_compile.specs.Output.{emitted_of, onto};
+ghost use Rattle.strat_compile.specs.Sites.{IsUnknown};
 
 use crate::layers::{Layers, frame_coordinate, successor};
 use crate::names::copied_name;
@@ -18,7 +19,7 @@ use strat_code::Instr;
 
 #[tactic(auto, using(crate::proofs::RowLaws::id_row))]
 pub(crate) fn emit_id(out: &mut Output, charged: usize) -> Result<(), AllocError>
-    ensures { OnOk result ((w : _) (C : _) → Emits w C charged id (emitted_of out.old) (emitted_of out.new)) }
+    ensures { OnOk result ((w : _) (S : _) → Emits w S charged id (emitted_of out.old) (emitted_of out.new)) }
 {
     let nodes = successor(charged)?;
     out.emit(Instr::Count { nodes })
@@ -26,7 +27,7 @@ pub(crate) fn emit_id(out: &mut Output, charged: usize) -> Result<(), AllocError
 
 #[tactic(auto, using(crate::proofs::RowLaws::fail_row))]
 pub(crate) fn emit_fail(out: &mut Output, charged: usize) -> Result<(), AllocError>
-    ensures { OnOk result ((w : _) (C : _) → Emits w C charged fail (emitted_of out.old) (emitted_of out.new)) }
+    ensures { OnOk result ((w : _) (S : _) → Emits w S charged fail (emitted_of out.old) (emitted_of out.new)) }
 {
     let nodes = successor(charged)?;
     out.emit(Instr::GiveUp { nodes })
@@ -50,10 +51,10 @@ pub(crate) fn emit_match(
     charged: usize,
     p: &CorePattern,
 ) -> Result<(), AllocError>
-    ensures { OnOk result ((w : _) → Emits w (context_of layers.now) charged (match (pattern_of p.now)) (emitted_of out.old) (emitted_of out.new)) }
+    ensures { OnOk result ((w : _) → Emits w (site_of layers.now) charged (match (pattern_of p.now)) (emitted_of out.old) (emitted_of out.new)) }
 {
     let nodes = successor(charged)?;
-    let pattern = by_frames_pattern(alloc, layers, p)?;
+    let pattern = by_frames_pattern(alloc, p, layers)?;
     out.emit(Instr::Match { nodes, pattern })
 }
 
@@ -65,10 +66,10 @@ pub(crate) fn emit_build(
     charged: usize,
     p: &CorePattern,
 ) -> Result<(), AllocError>
-    ensures { OnOk result ((w : _) → Emits w (context_of layers.now) charged (build (pattern_of p.now)) (emitted_of out.old) (emitted_of out.new)) }
+    ensures { OnOk result ((w : _) → Emits w (site_of layers.now) charged (build (pattern_of p.now)) (emitted_of out.old) (emitted_of out.new)) }
 {
     let nodes = successor(charged)?;
-    let pattern = by_frames_pattern(alloc, layers, p)?;
+    let pattern = by_frames_pattern(alloc, p, layers)?;
     out.emit(Instr::Build { nodes, pattern })
 }
 
@@ -81,11 +82,11 @@ pub(crate) fn emit_primitive(
     name: &[u8],
     terms: &[CorePattern],
 ) -> Result<(), AllocError>
-    ensures { OnOk result ((w : _) → Emits w (context_of layers.now) charged (primitive name.now (patterns_of terms.now)) (emitted_of out.old) (emitted_of out.new)) }
+    ensures { OnOk result ((w : _) → Emits w (site_of layers.now) charged (primitive name.now (patterns_of terms.now)) (emitted_of out.old) (emitted_of out.new)) }
 {
     let nodes = successor(charged)?;
     let name = copied_name(alloc, name)?;
-    let terms = by_frames_patterns(alloc, layers, terms)?;
+    let terms = by_frames_patterns(alloc, terms, layers)?;
     out.emit(Instr::ApplyPrimitive { nodes, name, terms })
 }
 
@@ -97,8 +98,8 @@ pub(crate) fn emit_closure_call(
     charged: usize,
     at: Coordinate,
 ) -> Result<(), AllocError>
-    requires { ¬ (HasDefinitions (outer (context_of layers.now) at.layers_up)) }
-    ensures { OnOk result ((w : _) (ss : _) (ps : _) → Emits w (context_of layers.now) charged (call at ss ps) (emitted_of out.old) (emitted_of out.new)) }
+    requires { IsUnknown (outer (context_of layers.now) at.layers_up) at.slot }
+    ensures { OnOk result ((w : _) (ss : _) (ps : _) → Emits w (site_of layers.now) charged (call at ss ps) (emitted_of out.old) (emitted_of out.new)) }
 {
     let nodes = successor(charged)?;
     let closure = frame_coordinate(layers, at)?;

@@ -1,10 +1,15 @@
 //! The compiler from cores to code.
 #![tactic(auto)]
 
+mod callee;
+mod calls;
 mod chain;
 mod choices;
+mod closed;
 mod emit;
 mod emitting;
+mod expansion;
+mod known;
 mod layers;
 mod leaves;
 mod located;
@@ -12,7 +17,9 @@ mod names;
 mod output;
 mod patterns;
 mod program;
+mod recursion;
 mod roots;
 mod selects;
+mod ways;
 
 pub use program::compile;

@@ -16,6 +16,10 @@ pub(crate) struct Output {
     pub(crate) starts: Vec<usize>,
     /// How many strategies may still be looked at in alternatives.
     pub(crate) visits: usize,
+    /// For each definition of the program whether it may call itself.
+    pub(crate) recursive: Vec<bool>,
+    /// Whether the code that is emitted is that of a call in place or of a specialization.
+    pub(crate) is_expanding: bool,
     ghost tidy: { HaveTables tables.items instrs.items },
 }
 

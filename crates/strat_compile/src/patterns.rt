@@ -13,8 +13,8 @@ use std::alloc::{AllocError, Global};
 #[cycle(patterns)]
 pub(crate) fn by_frames_pattern(
     alloc: Global,
-    layers: &Layers,
     source: &CorePattern,
+    layers: &Layers,
 ) -> Result<CorePattern, AllocError>
     ensures { IfOk result (λ made. pattern_of made ≡ renamed (by_frames (context_of layers.now)) (pattern_of source.now)) }
 {
@@ -23,24 +23,24 @@ pub(crate) fn by_frames_pattern(
         CorePattern::Variable(x) => Ok(CorePattern::Variable(frame_coordinate(layers, *x)?)),
         CorePattern::Alias(x, part) => {
             let x = frame_coordinate(layers, *x)?;
-            Ok(CorePattern::Alias(x, boxed(alloc, layers, part)?))
+            Ok(CorePattern::Alias(x, boxed(alloc, part, layers)?))
         }
         CorePattern::Integer(value) => Ok(CorePattern::Integer(*value)),
         CorePattern::Applied(symbol, parts) => {
-            let parts = by_frames_patterns(alloc, layers, parts)?;
+            let parts = by_frames_patterns(alloc, parts, layers)?;
             Ok(CorePattern::Applied(symbol.clone()?, parts))
         }
         CorePattern::List(elements, rest) => {
-            let elements = by_frames_patterns(alloc, layers, elements)?;
-            Ok(CorePattern::List(elements, optional(alloc, layers, rest)?))
+            let elements = by_frames_patterns(alloc, elements, layers)?;
+            Ok(CorePattern::List(elements, optional(alloc, rest, layers)?))
         }
         CorePattern::Like(part, x) => {
             let x = frame_coordinate(layers, *x)?;
-            Ok(CorePattern::Like(boxed(alloc, layers, part)?, x))
+            Ok(CorePattern::Like(boxed(alloc, part, layers)?, x))
         }
         CorePattern::Annotated(part, annotations) => {
-            let annotations = by_frames_patterns(alloc, layers, annotations)?;
-            Ok(CorePattern::Annotated(boxed(alloc, layers, part)?, annotations))
+            let annotations = by_frames_patterns(alloc, annotations, layers)?;
+            Ok(CorePattern::Annotated(boxed(alloc, part, layers)?, annotations))
         }
     }
 }
@@ -48,26 +48,26 @@ pub(crate) fn by_frames_pattern(
 #[cycle(patterns)]
 fn boxed(
     alloc: Global,
-    layers: &Layers,
     source: &CorePattern,
+    layers: &Layers,
 ) -> Result<Box<CorePattern>, AllocError>
     ensures { IfOk result (λ made. pattern_of made.value ≡ renamed (by_frames (context_of layers.now)) (pattern_of source.now)) }
 {
-    let made = Box::new(alloc, by_frames_pattern(alloc, layers, source)?)?;
+    let made = Box::new(alloc, by_frames_pattern(alloc, source, layers)?)?;
     Ok(made)
 }
 
 #[cycle(patterns)]
 fn optional(
     alloc: Global,
-    layers: &Layers,
     source: &Option<Box<CorePattern>>,
+    layers: &Layers,
 ) -> Result<Option<Box<CorePattern>>, AllocError>
     ensures { IfOk result (λ made. rest_of made ≡ renamed_rest (context_of layers.now) (rest_of source.now)) }
 {
     match source {
         None => Ok(None),
-        Some(p) => Ok(Some(boxed(alloc, layers, p)?)),
+        Some(p) => Ok(Some(boxed(alloc, p, layers)?)),
     }
 }
 
@@ -75,15 +75,15 @@ fn optional(
 #[cycle(patterns)]
 pub(crate) fn by_frames_patterns(
     alloc: Global,
-    layers: &Layers,
     source: &[CorePattern],
+    layers: &Layers,
 ) -> Result<Vec<CorePattern>, AllocError>
     ensures each { IfOk result (λ made. map pattern_of made.items ≡ map (renamed (by_frames (context_of layers.now))) (map pattern_of source.now)) }
     ensures patterns { IfOk result (λ made. patterns_of made.items ≡ all_renamed (by_frames (context_of layers.now)) (patterns_of source.now)) }
 {
     let mut made = Vec::with_capacity(alloc, source.len())?;
     for p in source {
-        let pattern = by_frames_pattern(alloc, layers, p)?;
+        let pattern = by_frames_pattern(alloc, p, layers)?;
         made.push(pattern)?;
     }
     Ok(made)

@@ -7,10 +7,13 @@ ghost use Rattle.strat_code.specs.StandsFor.{StandsFor};
 ghost use Rattle.strat_compile.specs.Emission.{EmitsProgram};
 ghost use Rattle.strat_compile.specs.Output.{emitted_of};
 
-use crate::emit::{emit_bodies, emit_call};
+use crate::calls::emit_ordinary_call;
+use crate::callee::entry_at;
+use crate::emit::{DEEPEST, emit_bodies};
 use crate::layers::Layers;
 use crate::names::copied;
 use crate::output::Output;
+use crate::recursion::recursive_definitions;
 use core_lang::{Coordinate, Core, CoreDef};
 use std::alloc::{AllocError, Global};
 use strat_code::{Code, Instr};
@@ -35,7 +38,8 @@ pub fn compile(alloc: Global, core: &Core) -> Result<Code, AllocError>
 fn emit_program(alloc: Global, defs: &[CoreDef], main: usize) -> Result<Output, AllocError>
     ensures { IfOk result (λ made. EmitsProgram (definitions_of defs.now) main (emitted_of made)) }
 {
-    let mut out = Output::new(alloc);
+    let recursive = recursive_definitions(alloc, defs)?;
+    let mut out = Output::new(alloc, recursive);
     let outermost = Layers::Outermost;
     let program = Layers::Defining {
         defs: &*defs,
@@ -47,8 +51,9 @@ fn emit_program(alloc: Global, defs: &[CoreDef], main: usize) -> Result<Output, 
         slot: main,
     };
     out.add_labels(defs.len())?;
-    emit_bodies(alloc, &mut out, &program, 0, defs)?;
+    let entry = entry_at(defs, 0, main.slot)?;
+    emit_bodies(alloc, &mut out, &program, 0, defs, DEEPEST)?;
     out.emit(Instr::Finish)?;
-    emit_call(alloc, &mut out, &program, 0, main, &[], &[])?;
+    emit_ordinary_call(alloc, &mut out, &program, 0, main, &[], &[], entry, DEEPEST)?;
     Ok(out)
 }

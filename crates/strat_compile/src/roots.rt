@@ -1,9 +1,9 @@
 // What strategies ask of a term's root, by the matches with which they and their alternatives begin.
 ghost use Rattle.std.specs.Prelude.{◌≡◌, ◌+◌, ◌∷◌, ◌≤◌, IfOk, IfSome, IsTrue, MatchOption, OnOk, map, suc};
-ghost use Rattle.core_lang.specs.Program.{call, id, no_patterns, no_strategies};
+ghost use Rattle.core_lang.specs.Program.{call, id, no_patterns};
 ghost use Rattle.core_lang.specs.Roots as spec;
 ghost use Rattle.core_lang.specs.Roots.{Begins};
-ghost use Rattle.core_lang.specs.Views.{arm_of, first_of, pattern_of, strategy_of};
+ghost use Rattle.core_lang.specs.Views.{arm_of, first_of, pattern_of, strategies_of, strategy_of};
 ghost use Rattle.strat_code.specs.CodeOf.{root_of};
 ghost use Rattle.strat_compile.specs.ChainOf.{Finds, FindsInside, roots_of};
 ghost use Rattle.strat_compile.specs.Chains as chains;
@@ -11,7 +11,9 @@ ghost use Rattle.strat_compile.specs.Emission.{BeginsNot, Joins};
 ghost use Rattle.strat_compile.specs.Layers.{context_of};
 ghost use Rattle.strat_compile.specs.Output.{emitted_of};
 
-use crate::layers::{Layers, body_called, outside, successor, sum};
+use crate::callee::{callee, program_definition};
+use crate::known::known_arguments;
+use crate::layers::{Callee, Layers, successor, sum};
 use crate::output::Output;
 use core_lang::{Coordinate, CoreArm, CorePattern, CoreStrategy};
 use std::alloc::{AllocError, Global};
@@ -90,8 +92,9 @@ fn begins_with(strategy: &CoreStrategy) -> Result<Option<Beginning>, AllocError>
 // The roots that a strategy asks for come in front of the others, each that of a match with which one of its alternatives begins.
 // The nodes are those of its derivation where the term has none of them; `None` where no such roots are found.
 #[cycle(asking)]
-#[tactic(auto, using(crate::proofs::AskLaws::fail_asks, crate::proofs::AskLaws::match_asks, crate::proofs::AskLaws::sequence_asks, crate::proofs::AskLaws::call_as))]
+#[tactic(auto, using(crate::proofs::AskLaws::fail_asks, crate::proofs::AskLaws::match_asks, crate::proofs::AskLaws::sequence_asks))]
 fn roots_asked(
+    alloc: Global,
     layers: &Layers,
     strategy: &CoreStrategy,
     limit: &mut usize,
@@ -116,7 +119,7 @@ fn roots_asked(
             Ok(Some(1))
         }
         CoreStrategy::Sequence(first, _, _) => {
-            let Some(nodes) = roots_asked(layers, first, limit, roots)? else {
+            let Some(nodes) = roots_asked(alloc, layers, first, limit, roots)? else {
                 return Ok(None);
             };
             let nodes = successor(nodes)?;
@@ -124,18 +127,15 @@ fn roots_asked(
         }
         CoreStrategy::Choice(arm, more, otherwise) => {
             let more = more.as_slice();
-            choice_asked(layers, arm, more, otherwise, limit, roots)
+            choice_asked(alloc, layers, arm, more, otherwise, limit, roots)
         }
-        CoreStrategy::Scope(_, body) => inside_asked(layers, body, limit, roots),
-        CoreStrategy::LetIn(_, body) => inside_asked(layers, body, limit, roots),
+        CoreStrategy::Scope(_, body) => inside_asked(alloc, layers, body, limit, roots),
+        CoreStrategy::LetIn(_, body) => inside_asked(alloc, layers, body, limit, roots),
         CoreStrategy::Call(at, strategies, terms) => {
-            if !strategies.is_empty() || !terms.is_empty() {
+            if !terms.is_empty() {
                 return Ok(None);
             }
-            let Some(nodes) = called_asked(layers, *at, limit, roots)? else {
-                return Ok(None);
-            };
-            Ok(Some(nodes))
+            call_asked(alloc, layers, *at, strategies.as_slice(), limit, roots)
         }
         _ => Ok(None),
     }
@@ -144,6 +144,7 @@ fn roots_asked(
 // The same of a choice: of its guards, and of what is done where none of them succeeds.
 #[cycle(asking)]
 fn choice_asked(
+    alloc: Global,
     layers: &Layers,
     first: &CoreArm,
     more: &[CoreArm],
@@ -155,10 +156,10 @@ fn choice_asked(
         (first_of (arm_of first.now ∷ map arm_of more.now) (strategy_of otherwise.now)) roots.old roots.new) }
     ensures limit { limit.new ≤ limit.old }
 {
-    let Some(others) = arms_asked(layers, more, otherwise, limit, roots)? else {
+    let Some(others) = arms_asked(alloc, layers, more, otherwise, limit, roots)? else {
         return Ok(None);
     };
-    let Some(nodes) = roots_asked(layers, &first.guard, limit, roots)? else {
+    let Some(nodes) = roots_asked(alloc, layers, &first.guard, limit, roots)? else {
         return Ok(None);
     };
     let nodes = choice_nodes(nodes, others)?;
@@ -169,6 +170,7 @@ fn choice_asked(
 #[cycle(asking)]
 #[tactic(auto, using(crate::proofs::AskLaws::no_arm_asks, crate::proofs::AskLaws::arm_asks))]
 fn arms_asked(
+    alloc: Global,
     layers: &Layers,
     arms: &[CoreArm],
     otherwise: &CoreStrategy,
@@ -179,11 +181,11 @@ fn arms_asked(
         (first_of (map arm_of arms.now) (strategy_of otherwise.now)) roots.old roots.new) }
     ensures limit { limit.new ≤ limit.old }
 {
-    let Some(mut nodes) = roots_asked(layers, otherwise, limit, roots)? else {
+    let Some(mut nodes) = roots_asked(alloc, layers, otherwise, limit, roots)? else {
         return Ok(None);
     };
     for index in (0..arms.len()).rev() {
-        let Some(first) = roots_asked(layers, &arms[index].guard, limit, roots)? else {
+        let Some(first) = roots_asked(alloc, layers, &arms[index].guard, limit, roots)? else {
             return Ok(None);
         };
         nodes = choice_nodes(first, nodes)?;
@@ -193,8 +195,9 @@ fn arms_asked(
 
 // The same of what is around a strategy, by one node and one layer of which nothing is looked at.
 #[cycle(asking)]
-#[tactic(auto, using(crate::proofs::LayerLaws::reads_hidden, crate::proofs::AskLaws::inside_asks))]
+#[tactic(auto, using(crate::proofs::LayerLaws::context_hidden, crate::proofs::AskLaws::inside_asks))]
 fn inside_asked(
+    alloc: Global,
     layers: &Layers,
     body: &CoreStrategy,
     limit: &mut usize,
@@ -204,34 +207,79 @@ fn inside_asked(
         (strategy_of body.now) roots.old roots.new) }
     ensures limit { limit.new ≤ limit.old }
 {
-    let inner = Layers::Hidden { outer: &*layers };
-    let Some(nodes) = roots_asked(&inner, body, limit, roots)? else {
+    let inner = Layers::Called {
+        arguments: &[],
+        outer: &*layers,
+    };
+    let Some(nodes) = roots_asked(alloc, &inner, body, limit, roots)? else {
         return Ok(None);
     };
     let nodes = successor(nodes)?;
     Ok(Some(nodes))
 }
 
-// The same of a call without arguments of a definition of the program.
+// The same of a call without term arguments.
 #[cycle(asking)]
-#[tactic(auto, using(crate::proofs::AskLaws::call_asks))]
-fn called_asked(
+#[tactic(auto, using(crate::proofs::AskLaws::known_asks))]
+fn call_asked(
+    alloc: Global,
     layers: &Layers,
     at: Coordinate,
+    strategies: &[CoreStrategy],
     limit: &mut usize,
     roots: &mut Vec<Root>,
 ) -> Result<Option<usize>, AllocError>
     ensures asks { IfOk result (Finds (context_of layers.now)
-        (call at no_strategies no_patterns) roots.old roots.new) }
+        (call at (strategies_of strategies.now) no_patterns) roots.old roots.new) }
     ensures limit { limit.new ≤ limit.old }
 {
-    let definitions = outside(&*layers, at.layers_up);
-    let Some(body) = body_called(definitions, at.slot) else {
+    match callee(&*layers, at)? {
+        Callee::Unknown => Ok(None),
+        Callee::Definition(_) => defined_asked(alloc, layers, at, strategies, limit, roots),
+        Callee::Given(known) => {
+            let found = roots_asked(alloc, known.layers, known.strategy, limit, roots)?;
+            let Some(nodes) = found else {
+                return Ok(None);
+            };
+            let nodes = successor(nodes)?;
+            Ok(Some(nodes))
+        }
+    }
+}
+
+// The same of a call of a definition of the program whose strategy arguments are known.
+#[cycle(asking)]
+#[tactic(auto, using(crate::proofs::AskLaws::defined_asks))]
+fn defined_asked(
+    alloc: Global,
+    layers: &Layers,
+    at: Coordinate,
+    strategies: &[CoreStrategy],
+    limit: &mut usize,
+    roots: &mut Vec<Root>,
+) -> Result<Option<usize>, AllocError>
+    ensures asks { IfOk result (Finds (context_of layers.now)
+        (call at (strategies_of strategies.now) no_patterns) roots.old roots.new) }
+    ensures limit { limit.new ≤ limit.old }
+{
+    let Some(definition) = program_definition(&*layers, at) else {
         return Ok(None);
     };
-    let Some(nodes) = inside_asked(definitions, body, limit, roots)? else {
+    if definition.def.terms > 0 {
+        return Ok(None);
+    }
+    let frameless = Layers::Frameless { inner: &*layers };
+    let Some(arguments) = known_arguments(alloc, &*layers, &frameless, strategies, limit)? else {
         return Ok(None);
     };
+    let inner = Layers::Called {
+        arguments: arguments.as_slice(),
+        outer: definition.layer,
+    };
+    let Some(nodes) = roots_asked(alloc, &inner, &definition.def.body, limit, roots)? else {
+        return Ok(None);
+    };
+    let nodes = successor(nodes)?;
     Ok(Some(nodes))
 }
 
@@ -269,7 +317,7 @@ pub(crate) fn joining(
     }
     let most = out.visits_left();
     let mut limit = most;
-    let found = roots_asked(layers, &arm.guard, &mut limit, &mut roots)?;
+    let found = roots_asked(alloc, layers, &arm.guard, &mut limit, &mut roots)?;
     out.count_visits(most - limit);
     let Some(nodes) = found else {
         return Ok(None);

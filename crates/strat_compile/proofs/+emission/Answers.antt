@@ -1,11 +1,12 @@
 use Rattle.std.proofs.Common.{ap, ◌∙◌, refl}
 use Rattle.core_lang.specs.Views.{strategy_of}
 use Rattle.core_lang.proofs.ReadLaws.{reads_id}
+use Rattle.strat_compile.specs.Layers.{site_of}
 use Rattle.strat_compile.proofs.ChoiceLaws.{choice_row, joined_row, of_guard}
-use Rattle.strat_compile.proofs.FormLaws.{on_ok, sequence_row, let_row, called_row, of_arm, of_def, bodies_next, no_rest_yet, scope_body}
-use Rattle.strat_compile.proofs.LayerLaws.{reads_framed, reads_within, reads_defining}
+use Rattle.strat_compile.proofs.FormLaws.{on_ok, sequence_row, let_row, called_row, of_arm, of_framed, bodies_next, no_rest_yet, scope_body}
+use Rattle.strat_compile.proofs.LayerLaws.{site_framed, site_within, site_defining, site_specialized}
 use Rattle.strat_compile.proofs.ScopeLaws.{no_scope}
-use Rattle.strat_compile.proofs.RowLaws.{plain_body, arm_row, bodies_done, id_then, inner_row, scope_row}
+use Rattle.strat_compile.proofs.RowLaws.{apart_row, inline_row, own_row, plain_body, arm_row, bodies_done, id_then, inner_row, scope_row}
 use Rattle.strat_compile.proofs.+emission.Goals as goal
 
 pub emit::emit-returns-in_ok-nodes-in-Sequence : goal.emit::emit-returns-in_ok-nodes-in-Sequence
@@ -29,13 +30,13 @@ choices::emit_joined-returns t c =
 pub emit::emit-returns-in_ok-nodes-in-LetIn : goal.emit::emit-returns-in_ok-nodes-in-LetIn
 emit::emit-returns-in_ok-nodes-in-LetIn t c =
     on_ok c.emit-in-LetIn.result
-    (λ h. let_row c.args.s.now _ _ _ _ _ _ _ _ _ _ _ _ _ _ _ c.in-LetIn.is c.as_slice-in-LetIn-2.ensures.value c.as_slice-in-LetIn.ensures.value (reads_defining _ _ _) c.deref-in-LetIn.ensures
+    (λ h. let_row c.args.s.now _ _ _ _ _ _ _ _ _ _ _ _ _ _ _ c.in-LetIn.is c.as_slice-in-LetIn-2.ensures.value c.as_slice-in-LetIn.ensures.value (site_defining _ _ _) c.deref-in-LetIn.ensures
     c.labels-first_label.ensures c.place-end-in-LetIn.ensures c.in_ok-nodes-in-LetIn.ensures c.in_ok-emit_definitions-in-LetIn.ensures h) c.emit-in-LetIn.ensures
 
 pub emit::emit-returns-in-Call : goal.emit::emit-returns-in-Call
 emit::emit-returns-in-Call t c =
     on_ok c.emit_call.result
-    (λ h. called_row c.args.s.now _ _ _ _ _ c.args.is_last _ _ _ _ c.in-Call.is c.as_slice-strategies.ensures.value c.as_slice-in-Call.ensures.value (h c.args.is_last)) c.emit_call.ensures
+    (λ h. called_row c.args.s.now _ _ _ _ _ c.args.places _ _ _ _ c.in-Call.is c.as_slice-strategies.ensures.value c.as_slice-terms.ensures.value h) c.emit_call.ensures
 
 pub choices::emit_arm-returns : goal.choices::emit_arm-returns
 choices::emit_arm-returns t c =
@@ -45,15 +46,10 @@ choices::emit_arm-returns t c =
 pub emit::emit_bodies-returns : goal.emit::emit_bodies-returns
 emit::emit_bodies-returns t c = bodies_done _ _ _ _ c.loop-def.def-index _ _ c.loop-def-test.false c.loop-def.invariant
 
-pub emit::emit_body-returns-in-Scope : goal.emit::emit_body-returns-in-Scope
-emit::emit_body-returns-in-Scope t c =
-    on_ok c.emit_ended.result
-    (λ h. of_def c.args.def.now _ _ _ (scope_body _ _ _ _ _ _ _ _ _ _ _ c.in-Scope.is c.deref.ensures (reads_within _ _ _) (reads_framed _ _ _) h)) c.emit_ended.ensures
-
 pub emit::emit_inner_scope-returns : goal.emit::emit_inner_scope-returns
 emit::emit_inner_scope-returns t c =
     on_ok c.emit-3.result
-    (λ last. inner_row _ _ _ _ _ _ _ _ _ _ _ (reads_within _ _ _) c.in_ok-frame_size.ensures c.in_ok-nodes.ensures c.in_ok-emit.ensures c.in_ok-emit-2.ensures last) c.emit-3.ensures
+    (λ last. inner_row _ _ _ _ _ _ _ _ _ _ _ _ (site_within _ _ _) c.in_ok-places.ensures c.in_ok-nodes.ensures c.in_ok-emit.ensures c.in_ok-emit-2.ensures last) c.emit-3.ensures
 
 pub emit::emit_rest-loop-index-init : goal.emit::emit_rest-loop-index-init
 emit::emit_rest-loop-index-init t c = no_rest_yet c.args.rest.now _ _ _
@@ -61,7 +57,7 @@ emit::emit_rest-loop-index-init t c = no_rest_yet c.args.rest.now _ _ _
 pub emit::emit_scope-returns : goal.emit::emit_scope-returns
 emit::emit_scope-returns t c =
     on_ok c.emit-3.result
-    (λ last. scope_row _ _ _ _ _ _ _ _ _ _ (reads_framed _ _ _) c.in_ok-nodes.ensures c.in_ok-emit.ensures c.in_ok-emit-2.ensures last) c.emit-3.ensures
+    (λ last. scope_row _ _ _ _ _ _ _ _ _ _ (site_framed _ _ _) c.in_ok-nodes.ensures c.in_ok-emit.ensures c.in_ok-emit-2.ensures last) c.emit-3.ensures
 
 pub choices::emit_then-returns-in-Id : goal.choices::emit_then-returns-in-Id
 choices::emit_then-returns-in-Id t c = on_ok c.emit_commit.result (λ last. id_then _ _ _ _ _ _ (ap strategy_of c.in-Id.is ∙ reads_id) last) c.emit_commit.ensures
@@ -69,10 +65,33 @@ choices::emit_then-returns-in-Id t c = on_ok c.emit_commit.result (λ last. id_t
 pub emit::emit_bodies-loop-def-preserved : goal.emit::emit_bodies-loop-def-preserved
 emit::emit_bodies-loop-def-preserved t c =
     bodies_next _ _ _ _ _ _ _ _ c.args.defs.now c.loop-def.def-index c.def-item.result c.loop-def-test.true c.in_ok-label.ensures c.start.ensures c.loop-def.invariant
-    c.def-item.is c.in_ok-emit_body.ensures
+    c.def-item.is c.in_ok-emit_definition.ensures
 
 pub emit::emit_body-returns-in_default : goal.emit::emit_body-returns-in_default
 emit::emit_body-returns-in_default t c =
-    let none = no_scope c.args.def.now.body c.in_default.not-Scope in
-    on_ok c.emit_ended-in_default.result
-    (λ h. of_def c.args.def.now _ _ _ (plain_body _ _ _ _ _ _ _ (reads_framed _ _ _) none h)) c.emit_ended-in_default.ensures
+    let none = no_scope c.args.body.now c.in_default.not-Scope in on_ok c.emit_ended-in_default.result (λ h. plain_body _ _ _ _ _ none h) c.emit_ended-in_default.ensures
+
+pub emit::emit_definition-returns : goal.emit::emit_definition-returns
+emit::emit_definition-returns t c = on_ok c.emit_body.result (λ h. of_framed c.args.def.now _ _ _ _ (site_framed _ _ _) h) c.emit_body.ensures
+
+pub emit::emit_body-returns-in_ok-places-in-Scope : goal.emit::emit_body-returns-in_ok-places-in-Scope
+emit::emit_body-returns-in_ok-places-in-Scope t c =
+    on_ok c.emit_ended.result
+    (λ h. scope_body c.args.body.now _ _ _ _ _ _ _ _ _ c.in-Scope.is c.deref.ensures (site_within _ _ _) c.in_ok-places-in-Scope.ensures h) c.emit_ended.ensures
+
+pub calls::emit_defined-returns-in-Some-own_specialization : goal.calls::emit_defined-returns-in-Some-own_specialization
+calls::emit_defined-returns-in-Some-own_specialization t c =
+    on_ok c.emit_code_call.result
+    (λ last. own_row _ c.args.at _ _ _ _ c.in-Some-own_specialization.own _ _ c.in-Some-own_specialization.ensures c.place-end.ensures last c.args.places) c.emit_code_call.ensures
+
+pub calls::emit_defined-returns-in-InPlace : goal.calls::emit_defined-returns-in-InPlace
+calls::emit_defined-returns-in-InPlace t c =
+    on_ok c.emit_in_place.result
+    (λ h. inline_row (site_of c.args.layers.now) c.args.at _ c.args.terms.now c.in-Some.definition _ _ _ _ _ _ _ c.args.places c.in-Some.ensures c.in-InPlace.is c.in_ok-way.ensures c.in-Some-found.is
+    c.in_ok-found.ensures.given c.as_slice-arguments.ensures.value h) c.emit_in_place.ensures
+
+pub calls::emit_specialization-returns : goal.calls::emit_specialization-returns
+calls::emit_specialization-returns t c =
+    on_ok c.emit_code_call.result
+    (λ last. apart_row _ _ c.args.at _ c.args.definition _ _ _ _ _ _ _ _ _ _ _ _ c.requires (site_specialized _ _ _ _ _ _) c.labels-label.ensures c.room_of-room.ensures c.place-end.ensures
+    c.in_ok-add_labels.ensures c.begin_expansion-was_expanding.ensures c.in_ok-emit_body.ensures c.end_expansion.ensures c.start.ensures last) c.emit_code_call.ensures

@@ -1,24 +1,96 @@
-use Rattle.std.proofs.Common.{map, drop}
+use Rattle.std.proofs.Common.{◌+◌, ◌*◌, map, drop}
 use Rattle.core_lang.specs.Views.{arm_of, strategy_of}
 use Rattle.strat_code.specs.CodeOf.{argument_of}
 use Rattle.strat_compile.specs.Emission.{EmitsRest, PutsArms}
 use Rattle.strat_compile.specs.ChainOf.{bodies_of}
-use Rattle.strat_compile.specs.Layers.{context_of}
+use Rattle.strat_compile.specs.Layers.{site_of}
 use Rattle.strat_compile.specs.Output.{emitted_of}
 use Rattle.strat_compile.proofs.EmissionLaws.{ArgumentsLeft, BodiesLeft}
 use Rattle.strat_compile.proofs.+emission.Given as goal
 
 abbrev pub invariant-choices::emit_arms-loop-index : goal.invariant-choices::emit_arms-loop-index
 invariant-choices::emit_arms-loop-index l =
-    PutsArms l.is_last (context_of l.layers) (map arm_of (drop l.index l.arms)) l.end (bodies_of l.fn.chain) l.fn.chain.last (emitted_of l.fn.out) (bodies_of l.chain) l.chain.last (emitted_of l.out)
+    PutsArms l.places (site_of l.layers) (map arm_of (drop l.index l.arms)) l.end (bodies_of l.fn.chain) l.fn.chain.last (emitted_of l.fn.out) (bodies_of l.chain) l.chain.last (emitted_of l.out)
 
-abbrev pub invariant-emit::emit_arguments-loop-s : goal.invariant-emit::emit_arguments-loop-s
-invariant-emit::emit_arguments-loop-s l =
-    ArgumentsLeft (context_of l.layers) l.strategies (drop l.s-index l.strategies) (map argument_of l.made.items) (emitted_of l.fn.out) (emitted_of l.out)
+abbrev pub invariant-calls::emit_arguments-loop-s : goal.invariant-calls::emit_arguments-loop-s
+invariant-calls::emit_arguments-loop-s l =
+    ArgumentsLeft (site_of l.layers) l.strategies (drop l.s-index l.strategies) (map argument_of l.made.items) (emitted_of l.fn.out) (emitted_of l.out)
 
 abbrev pub invariant-emit::emit_bodies-loop-def : goal.invariant-emit::emit_bodies-loop-def
 invariant-emit::emit_bodies-loop-def l =
-    BodiesLeft (context_of l.layers) l.first_label l.label l.defs (drop l.def-index l.defs) (emitted_of l.fn.out) (emitted_of l.out)
+    BodiesLeft (site_of l.layers) l.first_label l.label l.defs (drop l.def-index l.defs) (emitted_of l.fn.out) (emitted_of l.out)
 
 abbrev pub invariant-emit::emit_rest-loop-index : goal.invariant-emit::emit_rest-loop-index
-invariant-emit::emit_rest-loop-index l = EmitsRest l.is_last (context_of l.layers) l.charged (map strategy_of (drop l.index l.rest)) (emitted_of l.fn.out) (emitted_of l.out)
+invariant-emit::emit_rest-loop-index l = EmitsRest l.places (site_of l.layers) l.charged (map strategy_of (drop l.index l.rest)) (emitted_of l.fn.out) (emitted_of l.out)
+
+abbrev pub decreases-emit::emit : goal.decreases-emit::emit
+decreases-emit::emit l = 7 * l.depth
+
+abbrev pub decreases-emit::emit_ended : goal.decreases-emit::emit_ended
+decreases-emit::emit_ended l = 7 * l.depth + 1
+
+abbrev pub decreases-emit::emit_body : goal.decreases-emit::emit_body
+decreases-emit::emit_body l = 7 * l.depth + 2
+
+abbrev pub decreases-emit::emit_definition : goal.decreases-emit::emit_definition
+decreases-emit::emit_definition l = 7 * l.depth + 3
+
+abbrev pub decreases-emit::emit_bodies : goal.decreases-emit::emit_bodies
+decreases-emit::emit_bodies l = 7 * l.depth + 4
+
+abbrev pub decreases-emit::emit_definitions : goal.decreases-emit::emit_definitions
+decreases-emit::emit_definitions l = 7 * l.depth + 5
+
+abbrev pub decreases-emit::emit_rest : goal.decreases-emit::emit_rest
+decreases-emit::emit_rest l = 7 * l.depth + 1
+
+abbrev pub decreases-emit::emit_scope : goal.decreases-emit::emit_scope
+decreases-emit::emit_scope l = 7 * l.depth + 1
+
+abbrev pub decreases-emit::emit_inner_scope : goal.decreases-emit::emit_inner_scope
+decreases-emit::emit_inner_scope l = 7 * l.depth + 1
+
+abbrev pub decreases-emit::emit_traversal : goal.decreases-emit::emit_traversal
+decreases-emit::emit_traversal l = 7 * l.depth + 1
+
+abbrev pub decreases-calls::emit_argument : goal.decreases-calls::emit_argument
+decreases-calls::emit_argument l = 7 * l.depth + 1
+
+abbrev pub decreases-calls::emit_arguments : goal.decreases-calls::emit_arguments
+decreases-calls::emit_arguments l = 7 * l.depth + 2
+
+abbrev pub decreases-calls::emit_ordinary_call : goal.decreases-calls::emit_ordinary_call
+decreases-calls::emit_ordinary_call l = 7 * l.depth + 3
+
+abbrev pub decreases-calls::emit_any_call : goal.decreases-calls::emit_any_call
+decreases-calls::emit_any_call l = 7 * l.depth + 4
+
+abbrev pub decreases-calls::emit_in_place : goal.decreases-calls::emit_in_place
+decreases-calls::emit_in_place l = 7 * l.depth + 1
+
+abbrev pub decreases-calls::emit_specialization : goal.decreases-calls::emit_specialization
+decreases-calls::emit_specialization l = 7 * l.depth + 3
+
+abbrev pub decreases-calls::emit_defined : goal.decreases-calls::emit_defined
+decreases-calls::emit_defined l = 7 * l.depth + 5
+
+abbrev pub decreases-calls::emit_call : goal.decreases-calls::emit_call
+decreases-calls::emit_call l = 7 * l.depth + 6
+
+abbrev pub decreases-choices::emit_then : goal.decreases-choices::emit_then
+decreases-choices::emit_then l = 7 * l.depth + 1
+
+abbrev pub decreases-choices::emit_arm : goal.decreases-choices::emit_arm
+decreases-choices::emit_arm l = 7 * l.depth + 2
+
+abbrev pub decreases-choices::emit_joined : goal.decreases-choices::emit_joined
+decreases-choices::emit_joined l = 7 * l.depth + 1
+
+abbrev pub decreases-choices::emit_next : goal.decreases-choices::emit_next
+decreases-choices::emit_next l = 7 * l.depth + 3
+
+abbrev pub decreases-choices::emit_first : goal.decreases-choices::emit_first
+decreases-choices::emit_first l = 7 * l.depth + 3
+
+abbrev pub decreases-choices::emit_arms : goal.decreases-choices::emit_arms
+decreases-choices::emit_arms l = 7 * l.depth + 4

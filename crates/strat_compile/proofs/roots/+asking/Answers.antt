@@ -1,7 +1,9 @@
-use Rattle.std.proofs.Common.{◌≡◌, ◌+◌, ◌-◌, ◌<◌, length, ap, ◌∙◌, arith}
+use Rattle.std.proofs.Common.{◌≡◌, ◌+◌, ◌-◌, ◌<◌, length, refl, ap, ◌∙◌, arith}
 use Rattle.core_lang.specs.Views.{strategy_of}
 use Rattle.strat_compile.specs.ChainOf.{roots_of}
-use Rattle.strat_compile.proofs.AskLaws.{roots_pushed, match_asks, each_found, scope_asks, let_asks, choice_asks, arms_ask, arm_found}
+use Rattle.strat_compile.specs.Layers.{site_of}
+use Rattle.strat_compile.proofs.LayerLaws.{context_hidden, site_in_call}
+use Rattle.strat_compile.proofs.AskLaws.{defined_found, inside_found, roots_pushed, match_asks, each_found, scope_asks, let_asks, choice_asks, arms_ask, arm_found}
 use Rattle.strat_compile.proofs.roots.+asking.Goals as goal
 
 pub roots_asked-returns-in_ok-push-in-Match-clause-asks : goal.roots_asked-returns-in_ok-push-in-Match-clause-asks
@@ -31,3 +33,11 @@ arms_asked-loop-index-preserved t c =
       asks = arm_found _ c.args.arms.now i _ c.index-arms-index.result _ _ _ _ _ _ _ _ next below c.loop-index.invariant.asks c.in-Some-2.is c.in_ok-first.ensures.asks c.in_ok-nodes-2.ensures;
       limit = omega (arith, c.roots_asked-in-loop-index.ensures.limit, c.loop-index.invariant.limit);
     }
+
+pub inside_asked-returns-clause-asks : goal.inside_asked-returns-clause-asks
+inside_asked-returns-clause-asks t c = inside_found _ _ _ _ _ _ _ _ (context_hidden _ _ refl) c.in-Some.is c.in_ok-nodes.ensures.asks c.in_ok-nodes-2.ensures
+
+pub defined_asked-returns-clause-asks : goal.defined_asked-returns-clause-asks
+defined_asked-returns-clause-asks t c =
+    defined_found (site_of c.args.layers.now) _ c.args.at _ c.in-Some.definition _ _ _ _ _ _ _ c.in-Some.ensures c.if-definition-gt0.false c.in-Some-2.is c.in_ok-arguments.ensures.given
+    (site_in_call _ _ _ c.as_slice.ensures.value) c.in-Some-3.is c.in_ok-nodes.ensures.asks c.in_ok-nodes-2.ensures

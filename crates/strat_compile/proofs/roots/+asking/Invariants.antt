@@ -17,8 +17,11 @@ decreases-choice_asked l = 3 * l.limit.now + 2
 abbrev pub decreases-inside_asked : goal.decreases-inside_asked
 decreases-inside_asked l = 3 * l.limit.now + 1
 
-abbrev pub decreases-called_asked : goal.decreases-called_asked
-decreases-called_asked l = 3 * l.limit.now + 2
+abbrev pub decreases-call_asked : goal.decreases-call_asked
+decreases-call_asked l = 3 * l.limit.now + 2
+
+abbrev pub decreases-defined_asked : goal.decreases-defined_asked
+decreases-defined_asked l = 3 * l.limit.now + 1
 
 abbrev pub invariant-arms_asked-loop-index : goal.invariant-arms_asked-loop-index
 invariant-arms_asked-loop-index l = record {

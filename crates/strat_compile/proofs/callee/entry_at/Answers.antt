@@ -2,9 +2,9 @@ use Rattle.std.proofs.Common.{sym, ◌∙◌, ap, ap₂}
 use Rattle.core_lang.specs.Views.{def_of}
 use Rattle.core_lang.proofs.ReadLaws.{reads_def}
 use Rattle.strat_code.specs.Code as code
-use Rattle.strat_compile.specs.Layers.{room_for}
+use Rattle.strat_compile.specs.Sites.{room_for}
 use Rattle.strat_compile.proofs.LayerLaws.{entry_within, entry_past}
-use Rattle.strat_compile.proofs.layers.entry_at.Goals as goal
+use Rattle.strat_compile.proofs.callee.entry_at.Goals as goal
 
 pub returns-in_ok-label-in-Some : goal.returns-in_ok-label-in-Some
 returns-in_ok-label-in-Some c =

@@ -1,0 +1,5 @@
+use Rattle.strat_compile.proofs.KnownLaws.{known_done}
+use Rattle.strat_compile.proofs.known.known_arguments.Goals as goal
+
+pub returns-clause-given : goal.returns-clause-given
+returns-clause-given c = known_done _ c.args.strategies.now c.loop-strategy.strategy-index _ c.loop-strategy-test.false c.loop-strategy.invariant.1

@@ -1,0 +1,279 @@
+// How large what is emitted for a strategy would be, with calls in place and specializations.
+ghost use Rattle.std.specs.Prelude.{◌≤◌};
+
+use crate::callee::{callee, handing, program_definition};
+use crate::known::{known_arguments, own_specialization};
+use crate::layers::{Callee, Handing, Known, Layers, ProgramDefinition};
+use crate::recursion::may_recurse;
+use core_lang::{Coordinate, CoreArm, CoreDef, CoreStrategy};
+use std::alloc::{AllocError, Global};
+
+/// Returns whether no more strategies than the limit would be emitted for this one, with calls in place and specializations, and
+/// none deeper than this. One is taken off the limit for each.
+#[cycle(fitting)]
+pub(crate) fn fits(
+    alloc: Global,
+    layers: &Layers,
+    s: &CoreStrategy,
+    recursive: &[bool],
+    depth: usize,
+    limit: &mut usize,
+) -> Result<bool, AllocError>
+    ensures { limit.new ≤ limit.old }
+{
+    if *limit == 0 || depth == 0 {
+        return Ok(false);
+    }
+    *limit -= 1;
+    let depth = depth - 1;
+    match s {
+        CoreStrategy::Sequence(first, second, rest) => {
+            if !fits(alloc, layers, first, recursive, depth, limit)? {
+                return Ok(false);
+            }
+            if !fits(alloc, layers, second, recursive, depth, limit)? {
+                return Ok(false);
+            }
+            all_fit(alloc, layers, rest.as_slice(), recursive, depth, limit)
+        }
+        CoreStrategy::Choice(arm, more, otherwise) => {
+            if !arm_fits(alloc, layers, arm, recursive, depth, limit)? {
+                return Ok(false);
+            }
+            if !arms_fit(alloc, layers, more.as_slice(), recursive, depth, limit)? {
+                return Ok(false);
+            }
+            fits(alloc, layers, otherwise, recursive, depth, limit)
+        }
+        CoreStrategy::Scope(count, body) => {
+            framed_fits(alloc, layers, 0, *count, body, recursive, depth, limit)
+        }
+        CoreStrategy::All(body) => fits(alloc, layers, body, recursive, depth, limit),
+        CoreStrategy::One(body) => fits(alloc, layers, body, recursive, depth, limit),
+        CoreStrategy::Some(body) => fits(alloc, layers, body, recursive, depth, limit),
+        CoreStrategy::LetIn(defs, body) => {
+            let_fits(alloc, layers, defs.as_slice(), body, recursive, depth, limit)
+        }
+        CoreStrategy::Call(at, strategies, terms) => {
+            let has_terms = !terms.is_empty();
+            call_fits(
+                alloc,
+                layers,
+                *at,
+                strategies.as_slice(),
+                has_terms,
+                recursive,
+                depth,
+                limit,
+            )
+        }
+        _ => Ok(true),
+    }
+}
+
+#[cycle(fitting)]
+fn all_fit(
+    alloc: Global,
+    layers: &Layers,
+    strategies: &[CoreStrategy],
+    recursive: &[bool],
+    depth: usize,
+    limit: &mut usize,
+) -> Result<bool, AllocError>
+    ensures { limit.new ≤ limit.old }
+{
+    for s in strategies {
+        if !fits(alloc, layers, s, recursive, depth, limit)? {
+            return Ok(false);
+        }
+    }
+    Ok(true)
+}
+
+#[cycle(fitting)]
+fn arm_fits(
+    alloc: Global,
+    layers: &Layers,
+    arm: &CoreArm,
+    recursive: &[bool],
+    depth: usize,
+    limit: &mut usize,
+) -> Result<bool, AllocError>
+    ensures { limit.new ≤ limit.old }
+{
+    if !fits(alloc, layers, &arm.guard, recursive, depth, limit)? {
+        return Ok(false);
+    }
+    fits(alloc, layers, &arm.then, recursive, depth, limit)
+}
+
+#[cycle(fitting)]
+fn arms_fit(
+    alloc: Global,
+    layers: &Layers,
+    arms: &[CoreArm],
+    recursive: &[bool],
+    depth: usize,
+    limit: &mut usize,
+) -> Result<bool, AllocError>
+    ensures { limit.new ≤ limit.old }
+{
+    for arm in arms {
+        if !arm_fits(alloc, layers, arm, recursive, depth, limit)? {
+            return Ok(false);
+        }
+    }
+    Ok(true)
+}
+
+// The same of the body of a definition or of a scope.
+#[cycle(fitting)]
+fn framed_fits(
+    alloc: Global,
+    layers: &Layers,
+    parameters: usize,
+    variables: usize,
+    body: &CoreStrategy,
+    recursive: &[bool],
+    depth: usize,
+    limit: &mut usize,
+) -> Result<bool, AllocError>
+    ensures { limit.new ≤ limit.old }
+{
+    let inner = Layers::Framed {
+        parameters,
+        variables,
+        outer: &*layers,
+    };
+    fits(alloc, &inner, body, recursive, depth, limit)
+}
+
+// The same of the definitions and the body of a let.
+#[cycle(fitting)]
+fn let_fits(
+    alloc: Global,
+    layers: &Layers,
+    defs: &[CoreDef],
+    body: &CoreStrategy,
+    recursive: &[bool],
+    depth: usize,
+    limit: &mut usize,
+) -> Result<bool, AllocError>
+    ensures { limit.new ≤ limit.old }
+{
+    let inner = Layers::Defining {
+        defs: &*defs,
+        first_label: 0,
+        outer: &*layers,
+    };
+    for def in defs {
+        if !framed_fits(
+            alloc, &inner, def.strats, def.terms, &def.body, recursive, depth, limit,
+        )? {
+            return Ok(false);
+        }
+    }
+    fits(alloc, &inner, body, recursive, depth, limit)
+}
+
+// The same of a call.
+#[cycle(fitting)]
+fn call_fits(
+    alloc: Global,
+    layers: &Layers,
+    at: Coordinate,
+    strategies: &[CoreStrategy],
+    has_terms: bool,
+    recursive: &[bool],
+    depth: usize,
+    limit: &mut usize,
+) -> Result<bool, AllocError>
+    ensures { limit.new ≤ limit.old }
+{
+    if let Callee::Given(known) = callee(&*layers, at)? {
+        return fits(alloc, known.layers, known.strategy, recursive, depth, limit);
+    }
+    let Some(definition) = program_definition(&*layers, at) else {
+        return arguments_fit(alloc, layers, strategies, recursive, depth, limit);
+    };
+    if own_specialization(layers, at, strategies).is_some() {
+        return Ok(true);
+    }
+    let frameless = Layers::Frameless { inner: &*layers };
+    let Some(arguments) = known_arguments(alloc, &*layers, &frameless, &*strategies, limit)? else {
+        return arguments_fit(alloc, layers, strategies, recursive, depth, limit);
+    };
+    body_fits(
+        alloc,
+        definition,
+        at.slot,
+        arguments.as_slice(),
+        has_terms,
+        recursive,
+        depth,
+        limit,
+    )
+}
+
+/// The same of the body of a definition whose strategy parameters are known, in place or as a specialization.
+#[cycle(fitting)]
+pub(crate) fn body_fits(
+    alloc: Global,
+    definition: ProgramDefinition,
+    slot: usize,
+    arguments: &[Known],
+    has_terms: bool,
+    recursive: &[bool],
+    depth: usize,
+    limit: &mut usize,
+) -> Result<bool, AllocError>
+    ensures { limit.new ≤ limit.old }
+{
+    let body = &definition.def.body;
+    let variables = definition.def.terms;
+    let outer = definition.layer;
+    if !has_terms && variables == 0 && !may_recurse(recursive, slot) {
+        let inner = Layers::Called {
+            arguments: &*arguments,
+            outer: &*outer,
+        };
+        return fits(alloc, &inner, body, recursive, depth, limit);
+    }
+    if arguments.is_empty() {
+        return Ok(true);
+    }
+    let inner = Layers::Specialized {
+        slot,
+        label: 0,
+        room: 0,
+        variables,
+        arguments: &*arguments,
+        outer: &*outer,
+    };
+    fits(alloc, &inner, body, recursive, depth, limit)
+}
+
+// The same of the strategy arguments of a call, as they are handed over.
+#[cycle(fitting)]
+fn arguments_fit(
+    alloc: Global,
+    layers: &Layers,
+    strategies: &[CoreStrategy],
+    recursive: &[bool],
+    depth: usize,
+    limit: &mut usize,
+) -> Result<bool, AllocError>
+    ensures { limit.new ≤ limit.old }
+{
+    for strategy in strategies {
+        let is_within = match handing(&*layers, strategy)? {
+            Handing::OwnCode => fits(alloc, layers, strategy, recursive, depth, limit)?,
+            Handing::Inlined(known) => fits(alloc, known.layers, known.strategy, recursive, depth, limit)?,
+            Handing::Parameter(_) => true,
+        };
+        if !is_within {
+            return Ok(false);
+        }
+    }
+    Ok(true)
+}
