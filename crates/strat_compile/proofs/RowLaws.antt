@@ -156,14 +156,14 @@ known_row S y k n x o o1 w given nodes h ss ps =
 
 -- a call in place
 pub inline_row : (S : Site) (y : Coordinate) (ss : ResolvedStrategies) (ts : List CorePattern) (p : ProgramDefinition) (found : Option (Vec Known Global)) (ks : Vec Known Global) (vs : List Known) (way : Way) (x : ℕ)
-    (o o1 : Emitted) (w : Option ℕ) → IsDefined (outer (context S) y.layers_up) y.slot p → way ≡ InPlace → AllowsWay way p ts → found ≡ Some ks → IfSome found (λ made. AreGiven S ss (arguments_of made.items)) → vs ≡ ks.items →
-    ((n : ℕ) → n ≡ suc x → Emits w (in_call (arguments_of vs) (site_of p.layer.now)) n (def_of p.def.now).body o o1) → Emits w S x (call y ss (patterns_of ts)) o o1
-inline_row S y ss ts p found ks vs way x o o1 w defined in_place allows was given items h =
+    (o o1 o2 : Emitted) (w : Option ℕ) → o1 ≡ o → IsDefined (outer (context S) y.layers_up) y.slot p → way ≡ InPlace → AllowsWay way p ts → found ≡ Some ks → IfSome found (λ made. AreGiven S ss (arguments_of made.items)) → vs ≡ ks.items →
+    ((n : ℕ) → n ≡ suc x → Emits w (in_call (arguments_of vs) (site_of p.layer.now)) n (def_of p.def.now).body o1 o2) → Emits w S x (call y ss (patterns_of ts)) o o2
+inline_row S y ss ts p found ks vs way x o o1 o2 w same defined in_place allows was given items h =
     let allowed = subst (λ v. AllowsWay v p ts) in_place allows in
     let are = subst (λ us. AreGiven S ss (arguments_of us)) (sym items) (subst (λ f. IfSome f (λ made. AreGiven S ss (arguments_of made.items))) was given) in
     let body = subst (λ k. IsBody (definitions_of p.defs.now) y.slot (def_of p.def.now).strats k (def_of p.def.now).body) (ap (λ d. d.terms) (reads_def p.def.now) ∙ allowed.1) defined.body in
-    subst (λ qs. Emits w S x (call y ss qs) o o1) (sym (no_terms ts allowed.0))
-    (emits_inline defined.is body are (inside (ap (λ U. in_call (arguments_of vs) U) defined.layer) (h (suc x) refl)))
+    subst (λ qs. Emits w S x (call y ss qs) o o2) (sym (no_terms ts allowed.0))
+    (emits_inline defined.is body are (from same (inside (ap (λ U. in_call (arguments_of vs) U) defined.layer) (h (suc x) refl))))
 
 -- a call of a specialization, in front of its body
 pub specialization_row : (S T : Site) (y : Coordinate) (ss : ResolvedStrategies) (ps qs : Patterns Coordinate) (p : ProgramDefinition) (ks : KnownArguments) (label room k q n x h : ℕ) (o o1 o2 o3 o4 : Emitted) →
@@ -217,6 +217,10 @@ handed_known S (some s1) k p o o1 o2 hands first h here = elim hands [ ]
 handed_known S (with_definitions ds s1) k p o o1 o2 hands first h here = elim hands [ ]
 handed_known S (call y vs ps) k p o o1 o2 hands first h here = known_code S y vs ps k p o o1 o2 hands first h here
 handed_known S (primitive f ps) k p o o1 o2 hands first h here = elim hands [ ]
+
+-- from an equal beginning
+pub begun_so : (S : Site) (y : Coordinate) (ss : ResolvedStrategies) (ps : Patterns Coordinate) (x : ℕ) (o o1 o2 : Emitted) (w : Option ℕ) → o1 ≡ o → Emits w S x (call y ss ps) o1 o2 → Emits w S x (call y ss ps) o o2
+begun_so S y ss ps x o o1 o2 w same h = from same h
 
 -- the same, one step after another
 pub apart_row : (S T : Site) (y : Coordinate) (ps : Patterns Coordinate) (p : ProgramDefinition) (ks : KnownArguments) (label room q x : ℕ) (o o1 o2 o3 o4 o5 o6 : Emitted) →

@@ -92,7 +92,7 @@ fn emit_defined<'a>(
     let Some(arguments) = found else {
         return emit_any_call(alloc, out, layers, charged, at, strategies, terms, entry, depth);
     };
-    let way = way_of(alloc, &*out, at.slot, definition, arguments.as_slice(), terms)?;
+    let way = way_of(alloc, out, at.slot, definition, arguments.as_slice(), terms)?;
     match way {
         Way::InPlace => {
             let arguments = arguments.as_slice();

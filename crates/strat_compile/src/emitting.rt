@@ -19,7 +19,7 @@ const VISITS_OF_ALTERNATIVE: usize = 500;
 const VISITS: usize = 200_000;
 
 impl Output {
-    /// No code. `recursive` says for each definition of the program whether it may call itself.
+    /// No code. `recursive` says for each definition of the program whether it may reach itself by calls.
     #[tactic(auto, unfolding(crate::specs::Output::emitted_of))]
     pub(crate) fn new(alloc: Global, recursive: Vec<bool>) -> Output
         ensures { emitted_of result ≡ nothing }
@@ -31,6 +31,8 @@ impl Output {
             visits: VISITS,
             recursive,
             is_expanding: false,
+            is_sparing: false,
+            expanded: 0,
         }
     }
 
@@ -77,7 +79,7 @@ impl Output {
         self.visits = self.visits.saturating_sub(visits);
     }
 
-    /// Says that the code of a call in place or of a specialization begins. Returns whether one is under way.
+    /// Says that the code of an expansion begins. Returns whether that of one is emitted already.
     #[tactic(auto, unfolding(crate::specs::Output::emitted_of))]
     pub(crate) fn begin_expansion(&mut self) -> bool
         ensures { emitted_of self.new ≡ emitted_of self.old }
@@ -87,7 +89,7 @@ impl Output {
         was_expanding
     }
 
-    /// Says that it has ended, and whether another one is under way.
+    /// Says that it has ended, and whether that of another one is emitted.
     #[tactic(auto, unfolding(crate::specs::Output::emitted_of))]
     pub(crate) fn end_expansion(&mut self, was_expanding: bool)
         ensures { emitted_of self.new ≡ emitted_of self.old }

@@ -4,7 +4,7 @@ ghost use Rattle.std.specs.Prelude.{◌≤◌};
 use crate::callee::{callee, handing, program_definition};
 use crate::known::{known_arguments, own_specialization};
 use crate::layers::{Callee, Handing, Known, Layers, ProgramDefinition};
-use crate::recursion::may_recurse;
+use crate::recursion::Inlining;
 use core_lang::{Coordinate, CoreArm, CoreDef, CoreStrategy};
 use std::alloc::{AllocError, Global};
 
@@ -15,7 +15,7 @@ pub(crate) fn fits(
     alloc: Global,
     layers: &Layers,
     s: &CoreStrategy,
-    recursive: &[bool],
+    inlining: &Inlining,
     depth: usize,
     limit: &mut usize,
 ) -> Result<bool, AllocError>
@@ -28,31 +28,31 @@ pub(crate) fn fits(
     let depth = depth - 1;
     match s {
         CoreStrategy::Sequence(first, second, rest) => {
-            if !fits(alloc, layers, first, recursive, depth, limit)? {
+            if !fits(alloc, layers, first, inlining, depth, limit)? {
                 return Ok(false);
             }
-            if !fits(alloc, layers, second, recursive, depth, limit)? {
+            if !fits(alloc, layers, second, inlining, depth, limit)? {
                 return Ok(false);
             }
-            all_fit(alloc, layers, rest.as_slice(), recursive, depth, limit)
+            all_fit(alloc, layers, rest.as_slice(), inlining, depth, limit)
         }
         CoreStrategy::Choice(arm, more, otherwise) => {
-            if !arm_fits(alloc, layers, arm, recursive, depth, limit)? {
+            if !arm_fits(alloc, layers, arm, inlining, depth, limit)? {
                 return Ok(false);
             }
-            if !arms_fit(alloc, layers, more.as_slice(), recursive, depth, limit)? {
+            if !arms_fit(alloc, layers, more.as_slice(), inlining, depth, limit)? {
                 return Ok(false);
             }
-            fits(alloc, layers, otherwise, recursive, depth, limit)
+            fits(alloc, layers, otherwise, inlining, depth, limit)
         }
         CoreStrategy::Scope(count, body) => {
-            framed_fits(alloc, layers, 0, *count, body, recursive, depth, limit)
+            framed_fits(alloc, layers, 0, *count, body, inlining, depth, limit)
         }
-        CoreStrategy::All(body) => fits(alloc, layers, body, recursive, depth, limit),
-        CoreStrategy::One(body) => fits(alloc, layers, body, recursive, depth, limit),
-        CoreStrategy::Some(body) => fits(alloc, layers, body, recursive, depth, limit),
+        CoreStrategy::All(body) => fits(alloc, layers, body, inlining, depth, limit),
+        CoreStrategy::One(body) => fits(alloc, layers, body, inlining, depth, limit),
+        CoreStrategy::Some(body) => fits(alloc, layers, body, inlining, depth, limit),
         CoreStrategy::LetIn(defs, body) => {
-            let_fits(alloc, layers, defs.as_slice(), body, recursive, depth, limit)
+            let_fits(alloc, layers, defs.as_slice(), body, inlining, depth, limit)
         }
         CoreStrategy::Call(at, strategies, terms) => {
             let has_terms = !terms.is_empty();
@@ -62,7 +62,7 @@ pub(crate) fn fits(
                 *at,
                 strategies.as_slice(),
                 has_terms,
-                recursive,
+                inlining,
                 depth,
                 limit,
             )
@@ -76,14 +76,14 @@ fn all_fit(
     alloc: Global,
     layers: &Layers,
     strategies: &[CoreStrategy],
-    recursive: &[bool],
+    inlining: &Inlining,
     depth: usize,
     limit: &mut usize,
 ) -> Result<bool, AllocError>
     ensures { limit.new ≤ limit.old }
 {
     for s in strategies {
-        if !fits(alloc, layers, s, recursive, depth, limit)? {
+        if !fits(alloc, layers, s, inlining, depth, limit)? {
             return Ok(false);
         }
     }
@@ -95,16 +95,16 @@ fn arm_fits(
     alloc: Global,
     layers: &Layers,
     arm: &CoreArm,
-    recursive: &[bool],
+    inlining: &Inlining,
     depth: usize,
     limit: &mut usize,
 ) -> Result<bool, AllocError>
     ensures { limit.new ≤ limit.old }
 {
-    if !fits(alloc, layers, &arm.guard, recursive, depth, limit)? {
+    if !fits(alloc, layers, &arm.guard, inlining, depth, limit)? {
         return Ok(false);
     }
-    fits(alloc, layers, &arm.then, recursive, depth, limit)
+    fits(alloc, layers, &arm.then, inlining, depth, limit)
 }
 
 #[cycle(fitting)]
@@ -112,14 +112,14 @@ fn arms_fit(
     alloc: Global,
     layers: &Layers,
     arms: &[CoreArm],
-    recursive: &[bool],
+    inlining: &Inlining,
     depth: usize,
     limit: &mut usize,
 ) -> Result<bool, AllocError>
     ensures { limit.new ≤ limit.old }
 {
     for arm in arms {
-        if !arm_fits(alloc, layers, arm, recursive, depth, limit)? {
+        if !arm_fits(alloc, layers, arm, inlining, depth, limit)? {
             return Ok(false);
         }
     }
@@ -134,7 +134,7 @@ fn framed_fits(
     parameters: usize,
     variables: usize,
     body: &CoreStrategy,
-    recursive: &[bool],
+    inlining: &Inlining,
     depth: usize,
     limit: &mut usize,
 ) -> Result<bool, AllocError>
@@ -145,7 +145,7 @@ fn framed_fits(
         variables,
         outer: &*layers,
     };
-    fits(alloc, &inner, body, recursive, depth, limit)
+    fits(alloc, &inner, body, inlining, depth, limit)
 }
 
 // The same of the definitions and the body of a let.
@@ -155,7 +155,7 @@ fn let_fits(
     layers: &Layers,
     defs: &[CoreDef],
     body: &CoreStrategy,
-    recursive: &[bool],
+    inlining: &Inlining,
     depth: usize,
     limit: &mut usize,
 ) -> Result<bool, AllocError>
@@ -168,12 +168,12 @@ fn let_fits(
     };
     for def in defs {
         if !framed_fits(
-            alloc, &inner, def.strats, def.terms, &def.body, recursive, depth, limit,
+            alloc, &inner, def.strats, def.terms, &def.body, inlining, depth, limit,
         )? {
             return Ok(false);
         }
     }
-    fits(alloc, &inner, body, recursive, depth, limit)
+    fits(alloc, &inner, body, inlining, depth, limit)
 }
 
 // The same of a call.
@@ -184,24 +184,24 @@ fn call_fits(
     at: Coordinate,
     strategies: &[CoreStrategy],
     has_terms: bool,
-    recursive: &[bool],
+    inlining: &Inlining,
     depth: usize,
     limit: &mut usize,
 ) -> Result<bool, AllocError>
     ensures { limit.new ≤ limit.old }
 {
     if let Callee::Given(known) = callee(&*layers, at)? {
-        return fits(alloc, known.layers, known.strategy, recursive, depth, limit);
+        return fits(alloc, known.layers, known.strategy, inlining, depth, limit);
     }
     let Some(definition) = program_definition(&*layers, at) else {
-        return arguments_fit(alloc, layers, strategies, recursive, depth, limit);
+        return arguments_fit(alloc, layers, strategies, inlining, depth, limit);
     };
     if own_specialization(layers, at, strategies).is_some() {
         return Ok(true);
     }
     let frameless = Layers::Frameless { inner: &*layers };
     let Some(arguments) = known_arguments(alloc, &*layers, &frameless, &*strategies, limit)? else {
-        return arguments_fit(alloc, layers, strategies, recursive, depth, limit);
+        return arguments_fit(alloc, layers, strategies, inlining, depth, limit);
     };
     body_fits(
         alloc,
@@ -209,7 +209,7 @@ fn call_fits(
         at.slot,
         arguments.as_slice(),
         has_terms,
-        recursive,
+        inlining,
         depth,
         limit,
     )
@@ -223,7 +223,7 @@ pub(crate) fn body_fits(
     slot: usize,
     arguments: &[Known],
     has_terms: bool,
-    recursive: &[bool],
+    inlining: &Inlining,
     depth: usize,
     limit: &mut usize,
 ) -> Result<bool, AllocError>
@@ -232,12 +232,12 @@ pub(crate) fn body_fits(
     let body = &definition.def.body;
     let variables = definition.def.terms;
     let outer = definition.layer;
-    if !has_terms && variables == 0 && !may_recurse(recursive, slot) {
+    if !has_terms && variables == 0 && inlining.is_in_place(slot, arguments.len()) {
         let inner = Layers::Called {
             arguments: &*arguments,
             outer: &*outer,
         };
-        return fits(alloc, &inner, body, recursive, depth, limit);
+        return fits(alloc, &inner, body, inlining, depth, limit);
     }
     if arguments.is_empty() {
         return Ok(true);
@@ -250,7 +250,7 @@ pub(crate) fn body_fits(
         arguments: &*arguments,
         outer: &*outer,
     };
-    fits(alloc, &inner, body, recursive, depth, limit)
+    fits(alloc, &inner, body, inlining, depth, limit)
 }
 
 // The same of the strategy arguments of a call, as they are handed over.
@@ -259,7 +259,7 @@ fn arguments_fit(
     alloc: Global,
     layers: &Layers,
     strategies: &[CoreStrategy],
-    recursive: &[bool],
+    inlining: &Inlining,
     depth: usize,
     limit: &mut usize,
 ) -> Result<bool, AllocError>
@@ -267,8 +267,8 @@ fn arguments_fit(
 {
     for strategy in strategies {
         let is_within = match handing(&*layers, strategy)? {
-            Handing::OwnCode => fits(alloc, layers, strategy, recursive, depth, limit)?,
-            Handing::Inlined(known) => fits(alloc, known.layers, known.strategy, recursive, depth, limit)?,
+            Handing::OwnCode => fits(alloc, layers, strategy, inlining, depth, limit)?,
+            Handing::Inlined(known) => fits(alloc, known.layers, known.strategy, inlining, depth, limit)?,
             Handing::Parameter(_) => true,
         };
         if !is_within {

@@ -16,10 +16,14 @@ pub(crate) struct Output {
     pub(crate) starts: Vec<usize>,
     /// How many strategies may still be looked at in alternatives.
     pub(crate) visits: usize,
-    /// For each definition of the program whether it may call itself.
+    /// For each definition of the program whether it may reach itself by calls.
     pub(crate) recursive: Vec<bool>,
-    /// Whether the code that is emitted is that of a call in place or of a specialization.
+    /// Whether the code that is emitted is that of an expansion: of a call in place or of a specialization.
     pub(crate) is_expanding: bool,
+    /// Whether only definitions with strategy parameters are in place in the expansion.
+    pub(crate) is_sparing: bool,
+    /// How many strategies all expansions have.
+    pub(crate) expanded: usize,
     ghost tidy: { HaveTables tables.items instrs.items },
 }
 

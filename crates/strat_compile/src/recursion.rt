@@ -205,10 +205,29 @@ fn mark(position: usize, recursive: &[bool], called: &mut Vec<bool>) -> bool
     true
 }
 
-/// Returns whether the definition at a position may reach itself by calls, by what was found of each.
-pub(crate) fn may_recurse(recursive: &[bool], position: usize) -> bool {
+// Whether the definition at a position may reach itself by calls, by what was found of each.
+fn may_recurse(recursive: &[bool], position: usize) -> bool {
     match recursive.get(position) {
         Some(found) => *found,
         None => true,
+    }
+}
+
+/// Which definitions of the program are made in place where they are called.
+#[derive(Clone, Copy)]
+pub(crate) struct Inlining<'a> {
+    /// For each definition whether it may reach itself by calls. Such a definition is never made in place.
+    pub(crate) recursive: &'a [bool],
+    /// Whether only definitions with strategy parameters are.
+    pub(crate) is_sparing: bool,
+}
+
+impl<'a> Inlining<'a> {
+    /// Whether the definition at a position is made in place, where it is called with so many strategies and no terms.
+    pub(crate) fn is_in_place(&self, position: usize, strategies: usize) -> bool {
+        if self.is_sparing && strategies == 0 {
+            return false;
+        }
+        !may_recurse(self.recursive, position)
     }
 }

@@ -87,7 +87,7 @@ calls::emit_defined-returns-in-Some-own_specialization t c =
 pub calls::emit_defined-returns-in-InPlace : goal.calls::emit_defined-returns-in-InPlace
 calls::emit_defined-returns-in-InPlace t c =
     on_ok c.emit_in_place.result
-    (λ h. inline_row (site_of c.args.layers.now) c.args.at _ c.args.terms.now c.in-Some.definition _ _ _ _ _ _ _ c.args.places c.in-Some.ensures c.in-InPlace.is c.in_ok-way.ensures c.in-Some-found.is
+    (λ h. inline_row (site_of c.args.layers.now) c.args.at _ c.args.terms.now c.in-Some.definition _ _ _ _ _ _ _ _ c.args.places c.in_ok-way.ensures.view c.in-Some.ensures c.in-InPlace.is c.in_ok-way.ensures.way c.in-Some-found.is
     c.in_ok-found.ensures.given c.as_slice-arguments.ensures.value h) c.emit_in_place.ensures
 
 pub calls::emit_specialization-returns : goal.calls::emit_specialization-returns
