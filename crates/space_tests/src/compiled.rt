@@ -91,7 +91,7 @@ fn call_in_code(
     }
 }
 
-// Its code: main's call and the end of the run, the body of main with the code of its argument, the body of f.
+// Code of it: main's call and the end of the run, the body of main with the code of its argument, the body of f.
 fn small_instrs(alloc: Global) -> Result<Vec<Instr>, AllocError>
     ensures { IfOk result (λ made. code_of [] made.items ≡ small_code) }
 {
@@ -120,12 +120,49 @@ fn small_instrs(alloc: Global) -> Result<Vec<Instr>, AllocError>
     Ok(made)
 }
 
+// What it is compiled to: main's call and the end of the run, the body of main with that of f in place, the body of f.
+fn instrs_in_place(alloc: Global) -> Result<Vec<Instr>, AllocError> {
+    let made = vec![in alloc;
+        call_in_code(alloc, 0, 2, 0, 1, Vec::new(alloc)),
+        Instr::Finish,
+        Instr::Extend {
+            nodes: 2,
+            places: 1
+        },
+        Instr::Match {
+            nodes: 2,
+            pattern: f_of_x(alloc)?
+        },
+        Instr::Build {
+            nodes: 2,
+            pattern: CorePattern::Variable(HERE)
+        },
+        Instr::Count { nodes: 2 },
+        Instr::Shrink { places: 1 },
+        Instr::EndDefinition,
+        Instr::Match {
+            nodes: 3,
+            pattern: f_of_x(alloc)?
+        },
+        Instr::Build {
+            nodes: 2,
+            pattern: CorePattern::Variable(HERE)
+        },
+        Instr::CallClosure {
+            nodes: 1,
+            closure: HERE
+        },
+        Instr::EndDefinition,
+    ]?;
+    Ok(made)
+}
+
 #[test]
 fn code_of_a_small_program(rt: HostRuntime) -> Result<(), Fail> {
     let alloc = rt.alloc();
     let core = small_core(alloc)?;
     let code = compile(alloc, &core)?;
-    let expected = small_instrs(alloc)?;
+    let expected = instrs_in_place(alloc)?;
     if code.instrs() != expected.as_slice() || !code.prims().is_empty() {
         return Err(Fail::new("the code is the one that was worked out"));
     }

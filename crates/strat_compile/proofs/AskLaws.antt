@@ -154,7 +154,7 @@ defined_asks S T y ss p ks qs rs n m defined none given layer h nodes =
     let D = in_definitions (definitions_of p.defs.now) p.first_label outermost in
     let body = subst (λ k. IsBody (definitions_of p.defs.now) y.slot (def_of p.def.now).strats k (def_of p.def.now).body) (ap (λ d. d.terms) reads ∙ omega (arith, none)) defined.body in
     let asked = subst (λ d. AsksOnto (context (in_call ks D)) d.body qs rs n) (sym reads)
-        (subst (λ U. AsksOnto (context U) (strategy_of (out-CoreDef p.def.now).body) qs rs n) (layer ∙ ap (λ U. in_call ks U) defined.layer) h) in
+    (subst (λ U. AsksOnto (context U) (strategy_of (out-CoreDef p.def.now).body) qs rs n) (layer ∙ ap (λ U. in_call ks U) defined.layer) h) in
     asks_as refl nodes (record {
       roots = asked.roots;
       are = asked.are;

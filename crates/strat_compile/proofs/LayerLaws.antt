@@ -160,7 +160,7 @@ pub is_defined : (C : Context) (i : ℕ) (p : ProgramDefinition) (f : Bool) (up 
     p.layer.now ≡ code.Defining p.defs p.first_label up → up.now ≡ code.Outermost → i < length p.defs.now → p.def.now ≡ get_or p.defs.now i d → IsDefined C i p
 is_defined C i p f up d here layer none below is =
     let site : site_of p.layer.now ≡ in_definitions (definitions_of p.defs.now) p.first_label outermost =
-        ap site_of layer ∙ site_defining p.defs p.first_label up ∙ ap (λ S. in_definitions (definitions_of p.defs.now) p.first_label S) (ap site_of none ∙ site_outermost) in
+    ap site_of layer ∙ site_defining p.defs p.first_label up ∙ ap (λ S. in_definitions (definitions_of p.defs.now) p.first_label S) (ap site_of none ∙ site_outermost) in
     record {
       is = sym here ∙ seen_program f (definitions_of p.defs.now) p.first_label (context_of p.layer.now) (ap context site);
       layer = site;

@@ -178,11 +178,11 @@ specialization_row S T y ss ps qs p ks label room k q n x h o o1 o2 o3 o4 define
     let many : k ≡ (def_of p.def.now).terms = variables ∙ sym (ap (λ d. d.terms) reads) in
     let roomy : room ≡ room_for s = rooms ∙ ap room_for is in
     let site : T ≡ in_specialization y.slot (length o.starts) (room_for s) k ks D =
-        layer ∙ ap₂ (λ l r. in_specialization y.slot l r k ks (site_of p.layer.now)) labels roomy ∙ ap (λ U. in_specialization y.slot (length o.starts) (room_for s) k ks U) defined.layer in
+    layer ∙ ap₂ (λ l r. in_specialization y.slot l r k ks (site_of p.layer.now)) labels roomy ∙ ap (λ U. in_specialization y.slot (length o.starts) (room_for s) k ks U) defined.layer in
     let made : EmitsBody (in_specialization y.slot (length o.starts) (room_for s) k ks D) k s (with_labels 1 o) o2 =
-        subst (λ a. EmitsBody (in_specialization y.slot (length o.starts) (room_for s) k ks D) k s a o2) first
-        (subst (λ r. EmitsBody (in_specialization y.slot (length o.starts) (room_for s) k ks D) k r o1 o2) is
-        (subst (λ U. EmitsBody U k (strategy_of (out-CoreDef p.def.now).body) o1 o2) site body)) in
+    subst (λ a. EmitsBody (in_specialization y.slot (length o.starts) (room_for s) k ks D) k s a o2) first
+    (subst (λ r. EmitsBody (in_specialization y.slot (length o.starts) (room_for s) k ks D) k r o1 o2) is
+    (subst (λ U. EmitsBody U k (strategy_of (out-CoreDef p.def.now).body) o1 o2) site body)) in
     let defined_body = subst (λ m. IsBody (definitions_of p.defs.now) y.slot (def_of p.def.now).strats m s) (sym many) defined.body in
     subst (λ z. Emits w S x (call y ss ps) o z)
     (sym (last ∙ called_at S y ps qs [] n x h label room q o o3 nodes frames here terms ∙

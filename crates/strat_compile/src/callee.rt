@@ -22,7 +22,11 @@ pub(crate) fn room_of(body: &CoreStrategy) -> usize
 }
 
 /// The entry of the definition at a position.
-pub(crate) fn entry_at(defs: &[CoreDef], first_label: usize, position: usize) -> Result<Entry, AllocError>
+pub(crate) fn entry_at(
+    defs: &[CoreDef],
+    first_label: usize,
+    position: usize,
+) -> Result<Entry, AllocError>
     ensures { IfOk result (λ entry. entry_of entry ≡ entry_in (labelled first_label (definitions_of defs.now)) position) }
 {
     match defs.get(position) {
@@ -114,7 +118,8 @@ pub(crate) fn program_definition<'a>(
         defs,
         first_label,
         outer,
-    } = layer else {
+    } = layer
+    else {
         return None;
     };
     let Layers::Outermost = outer else {

@@ -50,11 +50,14 @@ pub(crate) fn emit_call(
         Callee::Unknown => emit_closure_call(out, layers, charged, at),
         Callee::Given(known) => {
             let nodes = successor(charged)?;
-            emit(alloc, out, known.layers, places, nodes, known.strategy, depth)
+            let s = known.strategy;
+            emit(alloc, out, known.layers, places, nodes, s, depth)
         }
         Callee::Definition(entry) => {
             let strategies = &*strategies;
-            emit_defined(alloc, out, &*layers, places, charged, at, strategies, terms, entry, depth)
+            emit_defined(
+                alloc, out, &*layers, places, charged, at, strategies, terms, entry, depth,
+            )
         }
     }
 }
@@ -80,17 +83,23 @@ fn emit_defined<'a>(
         (emitted_of out.old) (emitted_of out.new)) }
 {
     let Some(definition) = program_definition(&*layers, at) else {
-        return emit_any_call(alloc, out, layers, charged, at, strategies, terms, entry, depth);
+        return emit_any_call(
+            alloc, out, layers, charged, at, strategies, terms, entry, depth,
+        );
     };
     if let Some(own) = own_specialization(&*layers, at, strategies) {
         let end = out.place();
-        return emit_code_call(alloc, out, layers, charged, at, terms, own.label, own.room, end);
+        return emit_code_call(
+            alloc, out, layers, charged, at, terms, own.label, own.room, end,
+        );
     }
     let frameless = Layers::Frameless { inner: &*layers };
     let mut limit = EXPANSION_LIMIT;
     let found = known_arguments(alloc, &*layers, &frameless, strategies, &mut limit)?;
     let Some(arguments) = found else {
-        return emit_any_call(alloc, out, layers, charged, at, strategies, terms, entry, depth);
+        return emit_any_call(
+            alloc, out, layers, charged, at, strategies, terms, entry, depth,
+        );
     };
     let way = way_of(alloc, out, at.slot, definition, arguments.as_slice(), terms)?;
     match way {
@@ -105,7 +114,9 @@ fn emit_defined<'a>(
             )
         }
         Way::Ordinary => {
-            emit_any_call(alloc, out, layers, charged, at, strategies, terms, entry, depth)
+            emit_any_call(
+                alloc, out, layers, charged, at, strategies, terms, entry, depth,
+            )
         }
     }
 }
@@ -130,7 +141,9 @@ fn emit_any_call(
         (call at (strategies_of strategies.now) (patterns_of terms.now))
         (emitted_of out.old) (emitted_of out.new)) }
 {
-    emit_ordinary_call(alloc, out, layers, charged, at, strategies, terms, entry, depth)
+    emit_ordinary_call(
+        alloc, out, layers, charged, at, strategies, terms, entry, depth,
+    )
 }
 
 /// Emits a call of a definition, which has this entry, with the closures of its strategy arguments.
@@ -220,7 +233,8 @@ fn emit_in_place<'a>(
         outer: definition.layer,
     };
     let was_expanding = out.begin_expansion();
-    emit(alloc, out, &layers, places, nodes, &definition.def.body, depth)?;
+    let body = &definition.def.body;
+    emit(alloc, out, &layers, places, nodes, body, depth)?;
     out.end_expansion(was_expanding);
     Ok(())
 }

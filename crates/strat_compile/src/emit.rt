@@ -62,7 +62,9 @@ pub(crate) fn emit(
             let mut chain = Chain::new(alloc, last);
             let more = more.as_slice();
             emit_arms(alloc, out, layers, places, more, end, &mut chain, depth)?;
-            emit_first(alloc, out, layers, places, charged, arm, end, &mut chain, depth)
+            emit_first(
+                alloc, out, layers, places, charged, arm, end, &mut chain, depth,
+            )
         }
         CoreStrategy::Match(p) => emit_match(alloc, out, layers, charged, p),
         CoreStrategy::Build(p) => emit_build(alloc, out, layers, charged, p),
@@ -71,13 +73,40 @@ pub(crate) fn emit(
             None => emit_scope(alloc, out, layers, charged, *more, body, depth),
         },
         CoreStrategy::All(body) => {
-            emit_traversal(alloc, out, layers, places, charged, Traversal::All, body, depth)
+            emit_traversal(
+                alloc,
+                out,
+                layers,
+                places,
+                charged,
+                Traversal::All,
+                body,
+                depth,
+            )
         }
         CoreStrategy::One(body) => {
-            emit_traversal(alloc, out, layers, places, charged, Traversal::One, body, depth)
+            emit_traversal(
+                alloc,
+                out,
+                layers,
+                places,
+                charged,
+                Traversal::One,
+                body,
+                depth,
+            )
         }
         CoreStrategy::Some(body) => {
-            emit_traversal(alloc, out, layers, places, charged, Traversal::Some, body, depth)
+            emit_traversal(
+                alloc,
+                out,
+                layers,
+                places,
+                charged,
+                Traversal::Some,
+                body,
+                depth,
+            )
         }
         CoreStrategy::LetIn(defs, body) => {
             let end = out.place();
@@ -94,7 +123,9 @@ pub(crate) fn emit(
         CoreStrategy::Call(at, strategies, terms) => {
             let strategies = strategies.as_slice();
             let terms = terms.as_slice();
-            emit_call(alloc, out, layers, places, charged, *at, strategies, terms, depth)
+            emit_call(
+                alloc, out, layers, places, charged, *at, strategies, terms, depth,
+            )
         }
         CoreStrategy::Primitive(name, terms) => {
             let name = name.as_slice();

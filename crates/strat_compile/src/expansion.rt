@@ -268,7 +268,14 @@ fn arguments_fit(
     for strategy in strategies {
         let is_within = match handing(&*layers, strategy)? {
             Handing::OwnCode => fits(alloc, layers, strategy, inlining, depth, limit)?,
-            Handing::Inlined(known) => fits(alloc, known.layers, known.strategy, inlining, depth, limit)?,
+            Handing::Inlined(known) => fits(
+                alloc,
+                known.layers,
+                known.strategy,
+                inlining,
+                depth,
+                limit,
+            )?,
             Handing::Parameter(_) => true,
         };
         if !is_within {

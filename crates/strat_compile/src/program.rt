@@ -7,8 +7,8 @@ ghost use Rattle.strat_code.specs.StandsFor.{StandsFor};
 ghost use Rattle.strat_compile.specs.Emission.{EmitsProgram};
 ghost use Rattle.strat_compile.specs.Output.{emitted_of};
 
-use crate::calls::emit_ordinary_call;
 use crate::callee::entry_at;
+use crate::calls::emit_ordinary_call;
 use crate::emit::{DEEPEST, emit_bodies};
 use crate::layers::Layers;
 use crate::names::copied;

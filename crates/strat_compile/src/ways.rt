@@ -31,6 +31,7 @@ const EXPANSION_DEPTH: usize = 64;
 // How many strategies all expansions have at most, beside so many for each other instruction: so code is linear in the program, with
 // a small factor.
 const FREE_EXPANSIONS: usize = 20_000;
+
 const EXPANSIONS_PER_INSTRUCTION: usize = 3;
 
 /// How a call is made: in place, where the definition has no term parameters and does not call itself, by a specialization, where
@@ -111,7 +112,9 @@ impl Output {
         let mut left = EXPANSION_LIMIT;
         let depth = EXPANSION_DEPTH;
         let inlining = self.inlining();
-        if !body_fits(alloc, definition, slot, arguments, has_terms, &inlining, depth, &mut left)? {
+        if !body_fits(
+            alloc, definition, slot, arguments, has_terms, &inlining, depth, &mut left,
+        )? {
             return Ok(false);
         }
         Ok(self.count_expansion(EXPANSION_LIMIT.saturating_sub(left)))
@@ -123,7 +126,9 @@ impl Output {
         ensures { emitted_of self.new ≡ emitted_of self.old }
     {
         let others = self.instrs.len().saturating_sub(self.expanded);
-        let allowed = others.saturating_mul(EXPANSIONS_PER_INSTRUCTION).saturating_add(FREE_EXPANSIONS);
+        let allowed = others
+            .saturating_mul(EXPANSIONS_PER_INSTRUCTION)
+            .saturating_add(FREE_EXPANSIONS);
         let expanded = self.expanded.saturating_add(strategies);
         if expanded > allowed {
             return false;

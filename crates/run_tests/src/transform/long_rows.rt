@@ -33,6 +33,28 @@ pub(super) const LONG_ROWS: &[Row] = &[
         line: &[("F(1)", 1)],
         rules: Some(322_221),
     },
+    // ten thousand calls that could each have a copy of the code of bottomup
+    Row {
+        defs: &[
+            ("signature constructors A : T B : T -> T rules inner : B(x) -> x ", 1),
+            ("outer : A() -> <t; t; t; t; t; t; t; t; t; t> B(A()) ", 1_000),
+            ("strategies t = bottomup(try(inner)) main = outer", 1),
+        ],
+        term: &[("A", 1)],
+        line: &[("A", 1)],
+        rules: Some(169),
+    },
+    // definitions whose calls in place would double the code at each level
+    Row {
+        defs: &[(
+            "strategies a = id; id b = a; a c = b; b d = c; c e = d; d f = e; e g = f; f h = g; g
+            i = h; h j = i; i k = j; j l = k; k m = l; l n = m; m o = n; n p = o; o main = p",
+            1,
+        )],
+        term: &[("A", 1)],
+        line: &[("A", 1)],
+        rules: Some(196_607),
+    },
 ];
 
 /// Definitions that have no outcome.
