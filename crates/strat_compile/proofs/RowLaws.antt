@@ -218,10 +218,6 @@ handed_known S (with_definitions ds s1) k p o o1 o2 hands first h here = elim ha
 handed_known S (call y vs ps) k p o o1 o2 hands first h here = known_code S y vs ps k p o o1 o2 hands first h here
 handed_known S (primitive f ps) k p o o1 o2 hands first h here = elim hands [ ]
 
--- from an equal beginning
-pub begun_so : (S : Site) (y : Coordinate) (ss : ResolvedStrategies) (ps : Patterns Coordinate) (x : ℕ) (o o1 o2 : Emitted) (w : Option ℕ) → o1 ≡ o → Emits w S x (call y ss ps) o1 o2 → Emits w S x (call y ss ps) o o2
-begun_so S y ss ps x o o1 o2 w same h = from same h
-
 -- the same, one step after another
 pub apart_row : (S T : Site) (y : Coordinate) (ps : Patterns Coordinate) (p : ProgramDefinition) (ks : KnownArguments) (label room q x : ℕ) (o o1 o2 o3 o4 o5 o6 : Emitted) →
     IsDefined (outer (context S) y.layers_up) y.slot p → T ≡ in_specialization y.slot label room (out-CoreDef p.def.now).terms ks (site_of p.layer.now) → label ≡ length o.starts →

@@ -55,7 +55,7 @@ pub(crate) fn emit_call(
         }
         Callee::Definition(entry) => {
             let strategies = &*strategies;
-            emit_defined(
+            emit_definition_call(
                 alloc, out, &*layers, places, charged, at, strategies, terms, entry, depth,
             )
         }
@@ -64,7 +64,7 @@ pub(crate) fn emit_call(
 
 // A call of a definition, which has this entry.
 #[cycle(emission)]
-fn emit_defined<'a>(
+fn emit_definition_call<'a>(
     alloc: Global,
     out: &mut Output,
     layers: &'a Layers<'a>,

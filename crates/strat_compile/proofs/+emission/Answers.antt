@@ -79,13 +79,13 @@ emit::emit_body-returns-in_ok-places-in-Scope t c =
     on_ok c.emit_ended.result
     (λ h. scope_body c.args.body.now _ _ _ _ _ _ _ _ _ c.in-Scope.is c.deref.ensures (site_within _ _ _) c.in_ok-places-in-Scope.ensures h) c.emit_ended.ensures
 
-pub calls::emit_defined-returns-in-Some-own_specialization : goal.calls::emit_defined-returns-in-Some-own_specialization
-calls::emit_defined-returns-in-Some-own_specialization t c =
+pub calls::emit_definition_call-returns-in-Some-own_specialization : goal.calls::emit_definition_call-returns-in-Some-own_specialization
+calls::emit_definition_call-returns-in-Some-own_specialization t c =
     on_ok c.emit_code_call.result
     (λ last. own_row _ c.args.at _ _ _ _ c.in-Some-own_specialization.own _ _ c.in-Some-own_specialization.ensures c.place-end.ensures last c.args.places) c.emit_code_call.ensures
 
-pub calls::emit_defined-returns-in-InPlace : goal.calls::emit_defined-returns-in-InPlace
-calls::emit_defined-returns-in-InPlace t c =
+pub calls::emit_definition_call-returns-in-InPlace : goal.calls::emit_definition_call-returns-in-InPlace
+calls::emit_definition_call-returns-in-InPlace t c =
     on_ok c.emit_in_place.result
     (λ h. inline_row (site_of c.args.layers.now) c.args.at _ c.args.terms.now c.in-Some.definition _ _ _ _ _ _ _ _ c.args.places c.in_ok-way.ensures.view c.in-Some.ensures c.in-InPlace.is c.in_ok-way.ensures.way c.in-Some-found.is
     c.in_ok-found.ensures.given c.as_slice-arguments.ensures.value h) c.emit_in_place.ensures

@@ -71,8 +71,8 @@ decreases-calls::emit_in_place l = 7 * l.depth + 1
 abbrev pub decreases-calls::emit_specialization : goal.decreases-calls::emit_specialization
 decreases-calls::emit_specialization l = 7 * l.depth + 3
 
-abbrev pub decreases-calls::emit_defined : goal.decreases-calls::emit_defined
-decreases-calls::emit_defined l = 7 * l.depth + 5
+abbrev pub decreases-calls::emit_definition_call : goal.decreases-calls::emit_definition_call
+decreases-calls::emit_definition_call l = 7 * l.depth + 5
 
 abbrev pub decreases-calls::emit_call : goal.decreases-calls::emit_call
 decreases-calls::emit_call l = 7 * l.depth + 6
