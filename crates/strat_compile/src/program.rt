@@ -22,8 +22,8 @@ use strat_code::{Code, Instr};
 /// the core.
 ///
 /// The code begins with the call of main and the end of the run; then come the bodies of the definitions. Where the strategy
-/// arguments of a call are known, it may be made in place or as a call of a specialization, so code may be some four times as long as
-/// the core. Compiling takes one step for each part of the core and of what is made in place, at most 1,500 further steps for each call,
+/// arguments of a call are known, it may be made in place or as a call of a specialization, so code may be some three times as long as
+/// it would be otherwise. Compiling takes one step for each part of the core and of what is made in place, at most 1,500 further steps for each call,
 /// to see how large that would be, and a number of further steps that is the same for all programs at most, to look through alternatives.
 /// It recurses where parts are nested and along what is in place, at most 64 parts deep, not along sequences, alternatives or arguments.
 /// `AllocError` where memory is refused.

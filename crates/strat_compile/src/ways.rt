@@ -30,9 +30,9 @@ const EXPANSION_DEPTH: usize = 64;
 
 // How many strategies all expansions have at most, beside so many for each other instruction: so code is linear in the program, with
 // a small factor.
-const FREE_EXPANSIONS: usize = 20_000;
+const FREE_EXPANSIONS: usize = 10_000;
 
-const EXPANSIONS_PER_INSTRUCTION: usize = 3;
+const EXPANSIONS_PER_INSTRUCTION: usize = 2;
 
 /// How a call is made: in place, where the definition has no term parameters and does not call itself, by a specialization, where
 /// it has strategy parameters, and else as any other call, as it is, too, where the code would be too large.
