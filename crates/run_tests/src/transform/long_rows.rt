@@ -36,8 +36,14 @@ pub(super) const LONG_ROWS: &[Row] = &[
     // ten thousand calls that could each have a copy of the code of bottomup
     Row {
         defs: &[
-            ("signature constructors A : T B : T -> T rules inner : B(x) -> x ", 1),
-            ("outer : A() -> <t; t; t; t; t; t; t; t; t; t> B(A()) ", 1_000),
+            (
+                "signature constructors A : T B : T -> T rules inner : B(x) -> x ",
+                1,
+            ),
+            (
+                "outer : A() -> <t; t; t; t; t; t; t; t; t; t> B(A()) ",
+                1_000,
+            ),
             ("strategies t = bottomup(try(inner)) main = outer", 1),
         ],
         term: &[("A", 1)],
