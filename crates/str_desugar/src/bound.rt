@@ -2,7 +2,6 @@
 ghost use Rattle.std.specs.Prelude.{◌≡◌, OnOk};
 ghost use Rattle.str_desugar.specs.Gathered.{bound_names, has_name, noted};
 
-use crate::marks::Wanted;
 use crate::names::Names;
 use std::alloc::{AllocError, Global};
 use str_syntax::Name;
@@ -23,17 +22,17 @@ pub(crate) enum Bound<'a> {
 
 impl<'a> Bound<'a> {
     /// Whether the name is bound.
-    pub(crate) fn has(&self, wanted: &Wanted) -> bool
-        ensures { result ≡ has_name (bound_names self.now) wanted.now }
+    pub(crate) fn has(&self, name: &Name) -> bool
+        ensures { result ≡ has_name (bound_names self.now) name.now }
     {
         match self {
             Bound::Nothing => false,
-            Bound::Terms(names) => names.contains(&*wanted),
+            Bound::Terms(names) => names.contains(name),
             Bound::Scope { names, outer } => {
-                if names.contains(&*wanted) {
+                if names.contains(name) {
                     return true;
                 }
-                outer.has(&*wanted)
+                outer.has(name)
             }
         }
     }
@@ -48,9 +47,8 @@ pub(crate) fn note(
 ) -> Result<(), AllocError>
     ensures { OnOk result (found.new ≡ noted (bound_names bound.now) found.old name.now) }
 {
-    let wanted = Wanted::new(name);
-    if bound.has(&wanted) {
+    if bound.has(name) {
         return Ok(());
     }
-    found.insert_new(alloc, &wanted)
+    found.insert_new(alloc, name)
 }

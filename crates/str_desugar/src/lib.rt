@@ -13,7 +13,6 @@ mod items;
 mod keys;
 pub mod laws;
 mod locals;
-mod marks;
 mod matched;
 mod names;
 mod parameters;

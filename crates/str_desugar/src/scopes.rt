@@ -8,8 +8,7 @@ ghost use Rattle.str_desugar.specs.Layers.{layers_of};
 ghost use Rattle.str_desugar.specs.declared.scopes.Scopes.{size-Scopes};
 
 use crate::keys::Keys;
-use crate::marks::Wanted;
-use crate::names::{Names, same};
+use crate::names::Names;
 use core_lang::Coordinate;
 use std::alloc::AllocError;
 use str_syntax::Name;
@@ -55,25 +54,20 @@ fn one_more(layers_up: usize) -> Result<usize, AllocError>
 }
 
 // The slot of the strategy parameter that is called by this name with these numbers of strategies and terms.
-fn parameter(parameters: &Names, wanted: &Wanted, strategies: usize, terms: usize) -> Option<usize>
-    ensures { result ≡ parameter_position (map written parameters.now) (written wanted.now) strategies terms }
+fn parameter(parameters: &Names, name: &Name, strategies: usize, terms: usize) -> Option<usize>
+    ensures { result ≡ parameter_position (map written parameters.now) (written name.now) strategies terms }
 {
     if strategies == 0 && terms == 0 {
-        return parameters.position(&*wanted);
+        return parameters.position(name);
     }
     None
 }
 
 // The slot of the definition of a `rec` of the one name, where the other is called with these numbers of strategies and terms.
-fn only_definition(
-    defined: &Name,
-    wanted: &Wanted,
-    strategies: usize,
-    terms: usize,
-) -> Option<usize>
-    ensures { result ≡ key_position (record { name = written defined.now; strategies = 0; terms = 0 } ∷ []) (written wanted.now) strategies terms }
+fn only_definition(defined: &Name, name: &Name, strategies: usize, terms: usize) -> Option<usize>
+    ensures { result ≡ key_position (record { name = written defined.now; strategies = 0; terms = 0 } ∷ []) (written name.now) strategies terms }
 {
-    if same(wanted.name(), defined) && strategies == 0 && terms == 0 {
+    if name.bytes() == defined.bytes() && strategies == 0 && terms == 0 {
         return Some(0);
     }
     None
@@ -96,14 +90,14 @@ impl<'a> Scopes<'a> {
     }
 
     // The slot of the variable of this name in the innermost layer.
-    fn own_variable(&self, wanted: &Wanted) -> Option<usize>
-        ensures { result ≡ variable_slot (layers_of self.now) (written wanted.now) }
+    fn own_variable(&self, name: &Name) -> Option<usize>
+        ensures { result ≡ variable_slot (layers_of self.now) (written name.now) }
     {
         match self {
             Scopes::Outermost => None,
             Scopes::Brought { .. } => None,
-            Scopes::Variables { names, .. } => names.position(&*wanted),
-            Scopes::Parameters { terms, .. } => terms.position(&*wanted),
+            Scopes::Variables { names, .. } => names.position(name),
+            Scopes::Parameters { terms, .. } => terms.position(name),
             Scopes::Recursive { .. } | Scopes::Defined { .. } => None,
         }
     }
@@ -128,19 +122,17 @@ impl<'a> Scopes<'a> {
 
     // The slot in the innermost layer of what is called by this name with these numbers of
     // strategies and terms.
-    fn own_callee(&self, wanted: &Wanted, strategies: usize, terms: usize) -> Option<usize>
-        ensures { result ≡ callee_slot (layers_of self.now) (written wanted.now) strategies terms }
+    fn own_callee(&self, name: &Name, strategies: usize, terms: usize) -> Option<usize>
+        ensures { result ≡ callee_slot (layers_of self.now) (written name.now) strategies terms }
     {
         match self {
             Scopes::Outermost | Scopes::Brought { .. } | Scopes::Variables { .. } => None,
             Scopes::Parameters {
                 strategies: parameters,
                 ..
-            } => parameter(parameters, &*wanted, strategies, terms),
-            Scopes::Recursive { name: only, .. } => only_definition(
-                only, &*wanted, strategies, terms,
-            ),
-            Scopes::Defined { keys, .. } => keys.position(&*wanted, strategies, terms),
+            } => parameter(parameters, name, strategies, terms),
+            Scopes::Recursive { name: only, .. } => only_definition(only, name, strategies, terms),
+            Scopes::Defined { keys, .. } => keys.position(name, strategies, terms),
         }
     }
 
@@ -148,11 +140,10 @@ impl<'a> Scopes<'a> {
     pub(crate) fn variable(&self, name: &Name) -> Result<Coordinate, AllocError>
         ensures { IfOk result (λ made. made ≡ variable_at (layers_of self.now) (written name.now)) }
     {
-        let wanted = Wanted::new(name);
         let mut layers_up = 0;
         let mut layer = *self;
         while let Some(outer) = layer.outer() {
-            if let Some(slot) = layer.own_variable(&wanted) {
+            if let Some(slot) = layer.own_variable(name) {
                 return Ok(Coordinate { layers_up, slot });
             }
             layers_up = one_more(layers_up)?;
@@ -186,11 +177,10 @@ impl<'a> Scopes<'a> {
     ) -> Result<Coordinate, AllocError>
         ensures { IfOk result (λ made. made ≡ callee_at (layers_of self.now) (written name.now) strategies terms) }
     {
-        let wanted = Wanted::new(name);
         let mut layers_up = 0;
         let mut layer = *self;
         while let Some(outer) = layer.outer() {
-            if let Some(slot) = layer.own_callee(&wanted, strategies, terms) {
+            if let Some(slot) = layer.own_callee(name, strategies, terms) {
                 return Ok(Coordinate { layers_up, slot });
             }
             layers_up = one_more(layers_up)?;
