@@ -21,6 +21,9 @@ mutual
     -- of any of these, where the code looks at no place and at no closure of it, but at strategy parameters that are known
     -- alone; this layer has no frame
     hidden : Knowns → Context → Context
+    -- of an open call, which is made in place: its strategy parameters are known, and may look at the frame that is the innermost
+    -- one there; this layer has no frame
+    open_call : Knowns → Context → Context
 
   -- strategies that are known when code is made, each in its context
   pub data Knowns : Type 0 where
@@ -39,6 +42,7 @@ layers_of (within k i C) = layer_of 0 k (layers_of C)
 layers_of (defining ds es C) = layer_of_definitions ds (layers_of C)
 layers_of (known k ks C) = layer_of 0 k (layers_of C)
 layers_of (hidden ks C) = layer_of 0 0 (layers_of C)
+layers_of (open_call ks C) = layer_of 0 0 (layers_of C)
 
 -- the context without its innermost n layers
 abbrev pub outer : Context → ℕ → Context
@@ -49,6 +53,7 @@ outer (within n k C) (suc i) = outer C i
 outer (defining ds es C) (suc i) = outer C i
 outer (known k ks C) (suc i) = outer C i
 outer (hidden ks C) (suc i) = outer C i
+outer (open_call ks C) (suc i) = outer C i
 
 -- how many of the innermost n layers have frames
 abbrev pub frames_in : Context → ℕ → ℕ
@@ -59,6 +64,7 @@ frames_in (within n k C) (suc i) = frames_in C i
 frames_in (defining ds es C) (suc i) = frames_in C i
 frames_in (known k ks C) (suc i) = suc (frames_in C i)
 frames_in (hidden ks C) (suc i) = frames_in C i
+frames_in (open_call ks C) (suc i) = frames_in C i
 
 -- the position of a variable of the innermost layer in its frame
 abbrev pub slot_in : Context → ℕ → ℕ
@@ -68,19 +74,11 @@ slot_in (within k offset C) i = offset + i
 slot_in (defining ds es C) i = i
 slot_in (known k ks C) i = i
 slot_in (hidden ks C) i = i
+slot_in (open_call ks C) i = i
 
 -- the coordinate by frames: how many frames up the variable or the closure is, and its position in that frame
 abbrev pub by_frames : Context → Coordinate → Coordinate
 by_frames C y = record { layers_up = frames_in C y.layers_up; slot = slot_in (outer C y.layers_up) y.slot }
-
--- how many places the innermost frame has
-abbrev pub size : Context → ℕ
-size top = 0
-size (framed m k C) = k
-size (within k offset C) = offset + k
-size (defining ds es C) = size C
-size (known k ks C) = k
-size (hidden ks C) = size C
 
 -- the innermost layer has a strategy parameter at this position
 abbrev pub HasParameter : Context → ℕ → Type 0
@@ -90,12 +88,13 @@ HasParameter (within k j C) i = ⊥
 HasParameter (defining ds es C) i = ⊥
 HasParameter (known k ks C) i = ⊥
 HasParameter (hidden ks C) i = ⊥
+HasParameter (open_call ks C) i = ⊥
 
 -- the strategy at a position is known, with its context
 abbrev pub IsKnown : Knowns → ℕ → ResolvedStrategy → Context → Type 0
 IsKnown no_knowns i s D = ⊥
-IsKnown (more_knowns s1 D1 ks) zero s D = (s1 ≡ s) × (D1 ≡ D)
-IsKnown (more_knowns s1 D1 ks) (suc i) s D = IsKnown ks i s D
+IsKnown (more_knowns other E ks) zero s D = (other ≡ s) × (E ≡ D)
+IsKnown (more_knowns other E ks) (suc i) s D = IsKnown ks i s D
 
 -- the strategy parameter at a position of the innermost layer is known
 abbrev pub KnowsParameter : Context → ℕ → ResolvedStrategy → Context → Type 0
@@ -105,6 +104,17 @@ KnowsParameter (within k j C) i s D = ⊥
 KnowsParameter (defining ds es C) i s D = ⊥
 KnowsParameter (known k ks C) i s D = IsKnown ks i s D
 KnowsParameter (hidden ks C) i s D = IsKnown ks i s D
+KnowsParameter (open_call ks C) i s D = ⊥
+
+-- the same in an open call, where it may look at the frame that is the innermost one there
+abbrev pub KnowsOpen : Context → ℕ → ResolvedStrategy → Context → Type 0
+KnowsOpen top i s D = ⊥
+KnowsOpen (framed m k C) i s D = ⊥
+KnowsOpen (within k j C) i s D = ⊥
+KnowsOpen (defining ds es C) i s D = ⊥
+KnowsOpen (known k ks C) i s D = ⊥
+KnowsOpen (hidden ks C) i s D = ⊥
+KnowsOpen (open_call ks C) i s D = IsKnown ks i s D
 
 -- The second context is the first one without frames. Definitions stay where no frame is around them, known parameters where
 -- they are wanted
@@ -116,6 +126,7 @@ pub data Hides : Context → Context → Type 0 where
   keeps_definitions : {ds : ResolvedDefinitions} {es : List Entry} {C : Context} → Hides C C → Hides (defining ds es C) (defining ds es C)
   hides_known : {k : ℕ} {ks : Knowns} {C D : Context} → Hides C D → Hides (known k ks C) (hidden no_knowns D)
   keeps_known : {k : ℕ} {ks : Knowns} {C D : Context} → Hides C D → Hides (known k ks C) (hidden ks D)
+  hides_open : {ks : Knowns} {C D : Context} → Hides C D → Hides (open_call ks C) (hidden no_knowns D)
   hides_hidden : {ks : Knowns} {C D : Context} → Hides C D → Hides (hidden ks C) (hidden no_knowns D)
   keeps_hidden : {ks : Knowns} {C D : Context} → Hides C D → Hides (hidden ks C) (hidden ks D)
 
@@ -127,6 +138,7 @@ HasDefinitions (within k j C) = ⊥
 HasDefinitions (defining ds es C) = Unit {0}
 HasDefinitions (known k ks C) = ⊥
 HasDefinitions (hidden ks C) = ⊥
+HasDefinitions (open_call ks C) = ⊥
 
 -- the argument is no call of a strategy parameter, so it has code of its own
 abbrev pub HasOwnCode : Context → ResolvedStrategy → Type 0

@@ -6,7 +6,7 @@ use Rattle.core_lang.specs.Resolved.{ResolvedStrategy, ResolvedStrategies, Resol
 use Rattle.core_lang.specs.InRange.{PatternInRange, PatternsInRange, IsDefinition}
 use Rattle.core_lang.specs.Roots.{Root, root_of}
 use Rattle.strat_code.specs.Code.{Argument, code_at, parameter_at, Entry, entry_at, Case, case, all_parts, one_part, some_parts, count, give_up, match_term, build_term, enter, leave, extend, shrink, try, commit, select, jump, traverse, part_done, call_definition, call_closure, end_definition, end_argument, apply_primitive, Code, At}
-use Rattle.strat_code.specs.Context.{Context, framed, within, defining, known, hidden, Knowns, no_knowns, more_knowns, Specialization, specialization_at, Hides, KnowsParameter, layers_of, outer, frames_in, by_frames, HasParameter, HasOwnCode}
+use Rattle.strat_code.specs.Context.{Context, framed, within, defining, known, hidden, open_call, Knowns, no_knowns, more_knowns, Specialization, specialization_at, Hides, KnowsParameter, KnowsOpen, layers_of, outer, frames_in, by_frames, HasParameter, HasOwnCode}
 use Rattle.strat_code.specs.Renamed.{renamed, all_renamed}
 
 -- The strategy arguments of a call are known: each is a strategy that looks at no frame, or a strategy parameter that is known.
@@ -17,12 +17,21 @@ pub data AreKnown : Context → ResolvedStrategies → Knowns → Type 0 where
   parameter_known : {C D : Context} {y : Coordinate} {s : ResolvedStrategy} {vs ss : ResolvedStrategies} {ps : Patterns Coordinate} {ks : Knowns} →
       KnowsParameter (outer C y.layers_up) y.slot s D → AreKnown C ss ks → AreKnown C (more_strategies (call y vs ps) ss) (more_knowns s D ks)
 
--- the definition at a position has so many parameters and this body
+-- The strategy arguments of an open call are known, where they may look at the innermost frame: each is any strategy with code of
+-- its own, or a strategy parameter that is known
+pub data AreKnownOpen : Context → ResolvedStrategies → Knowns → Type 0 where
+  none_open : {C : Context} → AreKnownOpen C no_strategies no_knowns
+  own_open : {C : Context} {s : ResolvedStrategy} {ss : ResolvedStrategies} {ks : Knowns} →
+      HasOwnCode C s → AreKnownOpen C ss ks → AreKnownOpen C (more_strategies s ss) (more_knowns s C ks)
+  parameter_open : {C D : Context} {y : Coordinate} {s : ResolvedStrategy} {vs ss : ResolvedStrategies} {ps : Patterns Coordinate} {ks : Knowns} →
+      KnowsParameter (outer C y.layers_up) y.slot s D → AreKnownOpen C ss ks → AreKnownOpen C (more_strategies (call y vs ps) ss) (more_knowns s D ks)
+
+-- the definition at a position has these numbers of parameters and this body
 pub data IsBody : ResolvedDefinitions → ℕ → (strategies terms : ℕ) → ResolvedStrategy → Type 0 where
   first_body : {y : Coordinate} {m k : ℕ} {s : ResolvedStrategy} {ds : ResolvedDefinitions} → IsBody (more_definitions y m k s ds) zero m k s
   later_body : {y : Coordinate} {i m1 k1 m k : ℕ} {s1 s : ResolvedStrategy} {ds : ResolvedDefinitions} → IsBody ds i m k s → IsBody (more_definitions y m1 k1 s1 ds) (suc i) m k s
 
--- Where a term has none of these roots, the strategy fails with so many nodes: each root is that of a match with which it or
+-- Where a term has none of these roots, the strategy fails with this number of nodes: each root is that of a match with which it or
 -- one of its alternatives begins, in sequences, scopes, lets, calls of strategy parameters that are known, and calls of definitions
 -- that no frame is around
 pub data AsksFor : Context → ResolvedStrategy → List Root → (nodes : ℕ) → Type 0 where
@@ -62,7 +71,7 @@ mutual
     else_range : {w : Option ℕ} {C : Context} {i x j to : ℕ} {s1 s3 : ResolvedStrategy} →
         At code i (try (suc x) (suc j)) → Ranges code I w C (suc i) 0 s1 j → At code j (commit 1 to) →
         Ranges code I w C (suc j) 0 s3 to → Ranges code I w C i x (choice s1 id s3) to
-    -- a chain of alternatives, each of which begins with a match: the first that has the term's root is tried
+    -- a chain of alternatives, each of which asks for roots: the first that asks for the term's root is tried
     select_range : {w : Option ℕ} {C : Context} {i x last to : ℕ} {cs : List Case} {s1 s3 : ResolvedStrategy} →
         At code i (select (suc x) cs last) → Selects code I w C (choice s1 id s3) cs last to → Ranges code I w C i x (choice s1 id s3) to
     -- ?p and !p: one instruction, with the pattern by frames
@@ -108,6 +117,13 @@ mutual
     -- a call of a strategy parameter that is known: the range of the strategy that it is, whose first instruction is charged the node
     known_range : {w : Option ℕ} {C D : Context} {i x j : ℕ} {y : Coordinate} {s : ResolvedStrategy} {ss : ResolvedStrategies} {ps : Patterns Coordinate} →
         KnowsParameter (outer C y.layers_up) y.slot s D → Ranges code I w D i (suc x) s j → Ranges code I w C i x (call y ss ps) j
+    -- an open call: the body of the definition in place, with arguments that may look at the innermost frame
+    open_range : {w : Option ℕ} {C D : Context} {i x m j : ℕ} {y : Coordinate} {s : ResolvedStrategy} {ss : ResolvedStrategies} {ds : ResolvedDefinitions} {es : List Entry} {ks : Knowns} →
+        Hides (outer C y.layers_up) (defining ds es D) → IsDefinition ds y.slot (strategies_count ss) 0 → IsBody ds y.slot m 0 s → AreKnownOpen C ss ks →
+        Ranges code I w (open_call ks (defining ds es D)) i (suc x) s j → Ranges code I w C i x (call y ss no_patterns) j
+    -- a call of such an argument, where no frame has been entered since
+    argument_range : {w : Option ℕ} {C D : Context} {i x j : ℕ} {y : Coordinate} {s : ResolvedStrategy} {ss : ResolvedStrategies} {ps : Patterns Coordinate} →
+        frames_in C y.layers_up ≡ 0 → KnowsOpen (outer C y.layers_up) y.slot s D → Ranges code I w D i (suc x) s j → Ranges code I w C i x (call y ss ps) j
     -- or a call of code that stands elsewhere for the strategy that it is, in a frame without places
     known_call_range : {w : Option ℕ} {C D : Context} {i x entry j to : ℕ} {y : Coordinate} {s : ResolvedStrategy} {ss : ResolvedStrategies} {ps : Patterns Coordinate} →
         KnowsParameter (outer C y.layers_up) y.slot s D → Ranges code I (Some 0) D entry 0 s j → At code j end_definition →

@@ -1,5 +1,5 @@
 -- What asks for other roots than a term has fails.
-use Rattle.std.proofs.Common.{◌≡◌, ℕ, suc, ◌+◌, inl, inr, Option, List, [], ◌∷◌, ◌++◌, length, refl, ap, arith}
+use Rattle.std.proofs.Common.{◌≡◌, ℕ, suc, inl, inr, Option, List, [], ◌∷◌, ◌++◌, length, refl, ap, arith}
 use Rattle.std.specs.Prelude.{false}
 use Rattle.term_model.specs.Term.{Tree, end}
 use Rattle.term_model.specs.Flat.{Meaning}

@@ -12,14 +12,14 @@ use Rattle.core_lang.specs.Resolved.{ResolvedStrategy, ResolvedStrategies, Resol
 use Rattle.core_lang.specs.Derivation.{called}
 use Rattle.core_lang.specs.Settled.{Verdict, ends, spent}
 use Rattle.strat_code.specs.Code.{Argument, end_definition, end_argument, Code, At}
-use Rattle.strat_code.specs.Context.{Specialization, specialization_at, Knowns, Context, framed, known, hidden, defining, layers_of, outer, frames_in, by_frames}
-use Rattle.strat_code.specs.Ranges.{Specializations, Ranges, call_range, specialization_range, inline_range, known_call_range, known_range, parameter_range}
+use Rattle.strat_code.specs.Context.{Specialization, specialization_at, Context, framed, known, defining, layers_of, outer, frames_in, by_frames}
+use Rattle.strat_code.specs.Ranges.{Specializations, Ranges, call_range, specialization_range, inline_range, open_range, argument_range, known_call_range, known_range, parameter_range}
 use Rattle.strat_machine.specs.State.{Frame, frame, Record, call_record, stuck, State, running, failing, ended, frames_up, place_at, closure_in, closed}
 use Rattle.strat_machine.specs.Step.{called_with, in_closure, returned, no_step}
 use Rattle.core_lang.specs.Going.{with_ending}
 use Rattle.strat_machine.proofs.TrailLaws.{if_more, take_less, take_whole, take_front, restores_grown, restores_taken}
 use Rattle.strat_machine.proofs.BindingLaws.{same_instances}
-use Rattle.strat_machine.proofs.Representation.{Represents, of_frame, of_known, fitting, ParameterIs, parameter_is, BodyIs, body_of, same_body_of, AllKnown, of_hidden, same_parameter, specialization_of, same_specialization_of, arguments_known, got_last, represents_grown, closed_grown, outwards, same_place, ClosureIs, closure_is, ClosureFound, closure_found, same_closure, DefinitionIs, definition_is, definition_begins, same_definition, arguments_closed, arguments_count}
+use Rattle.strat_machine.proofs.Representation.{Represents, of_frame, of_known, fitting, ParameterIs, parameter_is, BodyIs, body_of, same_body_of, of_hidden, of_open, OpenIs, open_is, same_parameter, same_parameter_open, specialization_of, same_specialization_of, arguments_known, open_arguments, got_last, represents_grown, closed_grown, outwards, same_place, ClosureIs, closure_is, ClosureFound, closure_found, same_closure, DefinitionIs, definition_is, definition_begins, same_definition, arguments_closed, arguments_count}
 use Rattle.strat_machine.proofs.Landing.{append_assoc, Lands, lands_ok, lands_failed, lands_oversize, lands_spent, steps_then, one_step, paid_step, wider, step_on}
 use Rattle.strat_machine.proofs.Simulates.{shorter, less_frames, append_none, OnTop, on_top_at, never_on_top, Simulates, SimulatesBody, fails_here, same_state, ends_at}
 
@@ -104,6 +104,12 @@ module _ (code : Code) (I : List Specialization) (vs : Specializations code I I)
   pub known_exists : {D : Context} {z : ResolvedStrategy} {v : Option ResolvedCallee} → ParameterIs code I z D v → v ≡ None → ⊥
   known_exists (parameter_is x) h = cc
 
+  pub no_definition_open : {D : Context} {F : List Frame} {p : ℕ} {z : ResolvedStrategy} {v : Option ResolvedCallee} {m k : ℕ} {s : ResolvedStrategy} {W : ResolvedEnvironment} → OpenIs code I F p z D v → v ≡ Some (definition m k s W) → ⊥
+  no_definition_open (open_is x) h = cc
+
+  pub open_exists : {D : Context} {F : List Frame} {p : ℕ} {z : ResolvedStrategy} {v : Option ResolvedCallee} → OpenIs code I F p z D v → v ≡ None → ⊥
+  open_exists (open_is x) h = cc
+
   pub no_closure_body : {D : Context} {z : ResolvedStrategy} {v : Option ResolvedCallee} {s : ResolvedStrategy} {W : ResolvedEnvironment} → BodyIs code I D z v → v ≡ Some (closure s W) → ⊥
   no_closure_body (body_of x) h = cc
 
@@ -141,12 +147,13 @@ module _ (code : Code) (I : List Specialization) (vs : Specializations code I I)
   kept_lands (lands_oversize x bound) = lands_oversize x bound
   kept_lands (lands_spent x bound) = lands_spent x bound
 
-  pub inline_lands : {W : ResolvedEnvironment} {D : Context} {z s : ResolvedStrategy} {m n : ℕ} {ks : Knowns} {cs : ResolvedClosures} (ts : Trees) {t : Tree} (e : Bindings) {c : ℕ} {q : Verdict Tree} (b : ℕ) {w : Option ℕ} {i x j p : ℕ} {F : List Frame} {T : List ℕ} {bar : ℕ} {K : List Record} {l : ℕ} →
-      BodyIs code I D z (Some (definition m n s W)) → AllKnown code I ks cs → Ranges code I w (hidden ks D) i (suc x) z j → end ≡ ts → Simulates code I M (layer (length e) m n cs W) s t (e ++ filled_places ts) b q c →
+  -- B is the context of the body
+  pub inline_lands : {W : ResolvedEnvironment} {D B : Context} {z s : ResolvedStrategy} {m n : ℕ} {cs : ResolvedClosures} (ts : Trees) {t : Tree} (e : Bindings) {c : ℕ} {q : Verdict Tree} (b : ℕ) {w : Option ℕ} {i x j p : ℕ} {F : List Frame} {T : List ℕ} {bar : ℕ} {K : List Record} {l : ℕ} →
+      BodyIs code I D z (Some (definition m n s W)) → ((k : ℕ) → Represents code I F D W p → Represents code I F B (layer (length e) k 0 cs W) p) → Ranges code I w B i (suc x) z j → end ≡ ts → Simulates code I M (layer (length e) m n cs W) s t (e ++ filled_places ts) b q c →
       OnTop w F p (length e) → bar ≤ length e → l ≡ x + suc b → Lands code M j p e F T bar K (running i p t e F T bar K l) (10 * suc b) (with_ending (keeping (length e)) q) c
-  inline_lands {W} {D} {s = s} {ks = ks} {cs = cs} ts {t} e {c} {q} b {w} {i} {x} {j} {p} {F} {T} {bar} {K} {l} (body_of {m = m} fit) args r none g on_top low cost =
+  inline_lands {W} {B = B} {s = s} {cs = cs} ts {t} e {c} {q} b {w} {i} {x} {j} {p} {F} {T} {bar} {K} {l} (body_of {m = m} fit) layered r none g on_top low cost =
       let here = subst (λ f. Simulates code I M (layer (length e) m 0 cs W) s t f b q c) (append_none e) (subst (λ us. Simulates code I M (layer (length e) m 0 cs W) s t (e ++ filled_places us) b q c) (sym none) g) in
-      wider (10 * suc b) (omega arith) (kept_lands (here w (hidden ks D) i (suc x) j p F T bar K l r (of_hidden args (fitting p fit)) on_top low (omega arith)))
+      wider (10 * suc b) (omega arith) (kept_lands (here w B i (suc x) j p F T bar K l r (layered m (fitting p fit)) on_top low (omega arith)))
 
   pub call_row : {V W : ResolvedEnvironment} {y : Coordinate} {ss : ResolvedStrategies} {ps : Patterns Coordinate} {m n : ℕ} {s : ResolvedStrategy} {ts : Trees} {t : Tree} {e : Bindings} {c : ℕ} {q : Verdict Tree} (b : ℕ) →
       called by_coordinates V y ss ps ≡ Some (definition m n s W) → arguments (instances (by_coordinates.place_of V) ps e) e ≡ ok ts e →
@@ -173,11 +180,18 @@ module _ (code : Code) (I : List Specialization) (vs : Specializations code I I)
       (of_known (got_last F (frame (length e) (frames_up F p (frames_in C y.layers_up)) [])) (arguments_known rep args)
       (subst (λ E. Represents code I (F ++ added) E (layers_up V y.layers_up) (frames_up F p (frames_in C y.layers_up))) is (represents_grown added (outwards rep y.layers_up)))) low g h))
   call_row {V} {W} {y} {ss} {ps} {m} {n} {s} {ts} {t} {e} {c} {q} b callee given g h w C i x to p F T bar K l (inline_range {D = D} {s = z} {ds = ds} {es = es} hides def is args r) rep on_top low cost =
-      inline_lands ts e b (subst (λ v. BodyIs code I (defining ds es D) z v) callee (same_body_of rep y hides is)) (arguments_known rep args) r
+      inline_lands ts e b (subst (λ v. BodyIs code I (defining ds es D) z v) callee (same_body_of rep y hides is)) (λ k inner. of_hidden (arguments_known rep args) inner) r
       (no_terms (given_are (instances (by_coordinates.place_of V) no_patterns e) ts e given)) g on_top low cost
     where
       no_terms : Some end ≡ Some ts → end ≡ ts
       no_terms h = cc
+  call_row {V} {W} {y} {ss} {ps} {m} {n} {s} {ts} {t} {e} {c} {q} b callee given g h w C i x to p F T bar K l (open_range {D = D} {s = z} {ds = ds} {es = es} hides def is args r) rep on_top low cost =
+      inline_lands ts e b (subst (λ v. BodyIs code I (defining ds es D) z v) callee (same_body_of rep y hides is)) (λ k inner. of_open (open_arguments rep args) inner) r
+      (no_terms (given_are (instances (by_coordinates.place_of V) no_patterns e) ts e given)) g on_top low cost
+    where
+      no_terms : Some end ≡ Some ts → end ≡ ts
+      no_terms h = cc
+  call_row {y = y} b callee given g h w C i x to p F T bar K l (argument_range {D = D} {s = z} none k r) rep on_top low cost = absurd (no_definition_open (same_parameter_open rep y z D none k) callee)
   call_row {y = y} b callee given g h w C i x to p F T bar K l (known_call_range {D = D} {s = z} k r at1 at) rep on_top low cost = absurd (no_definition_known (same_parameter rep y z D k) callee)
   call_row {y = y} b callee given g h w C i x to p F T bar K l (known_range {D = D} {s = z} k r) rep on_top low cost = absurd (no_definition_known (same_parameter rep y z D k) callee)
   call_row {y = y} b callee given g h w C i x to p F T bar K l (parameter_range k at) rep on_top low cost = absurd (no_definition (same_closure rep y k) callee)
@@ -200,6 +214,8 @@ module _ (code : Code) (I : List Specialization) (vs : Specializations code I I)
       ∙ ap (called_with F T bar K c to p t e (frames_in C y.layers_up) entry room []) given)))
       (stop_lands entry room to p t e (frames_in C y.layers_up) [] F T bar K c o))
   call_stop_row c callee given w C i x to p F T bar K l (inline_range hides def is args r) rep on_top low cost = absurd (cc)
+  call_stop_row c callee given w C i x to p F T bar K l (open_range hides def is args r) rep on_top low cost = absurd (cc)
+  call_stop_row {y = y} c callee given w C i x to p F T bar K l (argument_range {D = D} {s = z} none k r) rep on_top low cost = absurd (no_definition_open (same_parameter_open rep y z D none k) callee)
   call_stop_row {y = y} c callee given w C i x to p F T bar K l (known_call_range {D = D} {s = z} k r at1 at) rep on_top low cost = absurd (no_definition_known (same_parameter rep y z D k) callee)
   call_stop_row {y = y} c callee given w C i x to p F T bar K l (known_range {D = D} {s = z} k r) rep on_top low cost = absurd (no_definition_known (same_parameter rep y z D k) callee)
   call_stop_row {y = y} c callee given w C i x to p F T bar K l (parameter_range h at) rep on_top low cost = absurd (no_definition (same_closure rep y h) callee)
@@ -210,6 +226,13 @@ module _ (code : Code) (I : List Specialization) (vs : Specializations code I I)
       Lands code M j p e F T bar K (running i p t e F T bar K l) (10 * suc b) q c
   known_lands {D = D} b {w} {i} {x} {j} {p} {F} {T} {bar} {K} {l} (parameter_is fit) r g on_top low cost =
       wider (10 * suc b) (omega arith) (g w D i (suc x) j p F T bar K l r (fitting p fit) on_top low (omega arith))
+
+  -- the strategy that a known parameter is, in the frame that it may look at
+  pub argument_lands : {W : ResolvedEnvironment} {D : Context} {z s : ResolvedStrategy} {t : Tree} {e : Bindings} {c : ℕ} {q : Verdict Tree} (b : ℕ) {w : Option ℕ} {i x j p : ℕ} {F : List Frame} {T : List ℕ} {bar : ℕ} {K : List Record} {l : ℕ} →
+      OpenIs code I F p z D (Some (closure s W)) → Ranges code I w D i (suc x) z j → Simulates code I M W s t e b q c → OnTop w F p (length e) → bar ≤ length e → l ≡ x + suc b →
+      Lands code M j p e F T bar K (running i p t e F T bar K l) (10 * suc b) q c
+  argument_lands {D = D} b {w} {i} {x} {j} {p} {F} {T} {bar} {K} {l} (open_is inside) r g on_top low cost =
+      wider (10 * suc b) (omega arith) (g w D i (suc x) j p F T bar K l r inside on_top low (omega arith))
 
   -- the end of a frame without places
   pub places_kept : {to to' p p' : ℕ} {e : Bindings} {F F' : List Frame} {T T' : List ℕ} {bar : ℕ} {K K' : List Record} {start start' : State} {r r' c : ℕ} {q : Verdict Tree} →
@@ -246,6 +269,9 @@ module _ (code : Code) (I : List Specialization) (vs : Specializations code I I)
   parameter_row {y = y} {ps = ps} b callee g w C i x to p F T bar K l (call_range {entry = entry} {room = room} is def has args pr at) rep on_top low cost =
       absurd (no_closure (same_definition rep y is entry room def has) callee)
   parameter_row {y = y} b callee g w C i x to p F T bar K l (inline_range {D = D} {s = z} hides def is args r) rep on_top low cost = absurd (no_closure_body (same_body_of rep y hides is) callee)
+  parameter_row {y = y} b callee g w C i x to p F T bar K l (open_range {D = D} {s = z} hides def is args r) rep on_top low cost = absurd (no_closure_body (same_body_of rep y hides is) callee)
+  parameter_row {V} {W} {y} {s = s} b callee g w C i x to p F T bar K l (argument_range {D = D} {s = z} none k r) rep on_top low cost =
+      argument_lands b (subst (λ v. OpenIs code I F p z D v) callee (same_parameter_open rep y z D none k)) r g on_top low cost
   parameter_row {y = y} {ps = ps} b callee g w C i x to p F T bar K l (specialization_range {D = D} {entry = entry} {room = room} {ds = ds} {es = es} {ks = ks} j is def has args pr at) rep on_top low cost =
       absurd (no_closure (same_specialization_of rep y is entry room def (specialization_of vs j (specialization_at (defining ds es D) y.slot ks entry room) has)) callee)
 
@@ -254,6 +280,8 @@ module _ (code : Code) (I : List Specialization) (vs : Specializations code I I)
   nowhere_row {y = y} {ps = ps} b callee w C i x to p F T bar K l (specialization_range {D = D} {entry = entry} {room = room} {ds = ds} {es = es} {ks = ks} j is def has args pr at) rep on_top low cost =
       absurd (definition_exists (same_specialization_of rep y is entry room def (specialization_of vs j (specialization_at (defining ds es D) y.slot ks entry room) has)) callee)
   nowhere_row {y = y} b callee w C i x to p F T bar K l (inline_range hides def is args r) rep on_top low cost = absurd (body_exists (same_body_of rep y hides is) callee)
+  nowhere_row {y = y} b callee w C i x to p F T bar K l (open_range hides def is args r) rep on_top low cost = absurd (body_exists (same_body_of rep y hides is) callee)
+  nowhere_row {y = y} b callee w C i x to p F T bar K l (argument_range {D = D} {s = z} none k r) rep on_top low cost = absurd (open_exists (same_parameter_open rep y z D none k) callee)
   nowhere_row {y = y} b callee w C i x to p F T bar K l (known_call_range {D = D} {s = z} k r at1 at) rep on_top low cost = absurd (known_exists (same_parameter rep y z D k) callee)
   nowhere_row {y = y} b callee w C i x to p F T bar K l (known_range {D = D} {s = z} k r) rep on_top low cost = absurd (known_exists (same_parameter rep y z D k) callee)
   nowhere_row {y = y} b callee w C i x to p F T bar K l (parameter_range h at) rep on_top low cost = absurd (closure_exists (same_closure rep y h) callee)

@@ -7,9 +7,9 @@ use Rattle.core_lang.specs.Environment.{outermost, layer, definitions, no_closur
 use Rattle.core_lang.specs.Resolved.{ResolvedStrategy, ResolvedStrategies, ResolvedDefinitions, ResolvedEnvironment, ResolvedClosures, ResolvedCallee, layers_up, place_in, callee_in, by_coordinates}
 use Rattle.core_lang.specs.InRange.{outside, IsVariable, IsDefinition, VariableInRange}
 use Rattle.strat_code.specs.Code.{Argument, Entry, entry_at, end_definition, end_argument, Code, At}
-use Rattle.strat_code.specs.Context.{Context, top, framed, within, defining, known, hidden, Knowns, no_knowns, more_knowns, Specialization, specialization_at, IsKnown, KnowsParameter, Hides, hides_top, hides_framed, hides_within, hides_definitions, keeps_definitions, hides_known, keeps_known, hides_hidden, keeps_hidden, layers_of, outer, frames_in, slot_in, by_frames, HasParameter, HasDefinitions, HasOwnCode}
+use Rattle.strat_code.specs.Context.{Context, top, framed, within, defining, known, hidden, open_call, Knowns, no_knowns, more_knowns, Specialization, specialization_at, IsKnown, KnowsParameter, KnowsOpen, Hides, hides_top, hides_framed, hides_within, hides_definitions, keeps_definitions, hides_known, keeps_known, hides_open, hides_hidden, keeps_hidden, layers_of, outer, frames_in, slot_in, by_frames, HasParameter, HasDefinitions, HasOwnCode}
 use Rattle.strat_code.proofs.GrowthLaws.{got_in_front}
-use Rattle.strat_code.specs.Ranges.{Ranges, Bodies, no_bodies, more_bodies, roomy_bodies, Arguments, no_arguments, code_argument, known_argument, parameter_argument, AreKnown, none_known, own_known, parameter_known, IsBody, first_body, later_body, Specializations, no_specializations, more_specializations, roomy_specializations}
+use Rattle.strat_code.specs.Ranges.{Ranges, Bodies, no_bodies, more_bodies, roomy_bodies, Arguments, no_arguments, code_argument, known_argument, parameter_argument, AreKnown, none_known, own_known, parameter_known, AreKnownOpen, none_open, own_open, parameter_open, IsBody, first_body, later_body, Specializations, no_specializations, more_specializations, roomy_specializations}
 use Rattle.strat_machine.specs.State.{Frame, frame, around, frames_up, place_of_frame, place_at, closure_or, closure_of_frame, closure_in, closed}
 use Rattle.strat_machine.proofs.TrailLaws.{if_less}
 
@@ -47,6 +47,14 @@ mutual
     of_hidden : {C : Context} {V : ResolvedEnvironment} {p base m k : ℕ} {ks : Knowns} {cs : ResolvedClosures} →
         AllKnown code I ks cs → Represents code I F C V p → Represents code I F (hidden ks C) (layer base m k cs V) p
     of_no_definitions : {C : Context} {V : ResolvedEnvironment} {p : ℕ} {ds : ResolvedDefinitions} → Represents code I F C V p → Represents code I F (hidden no_knowns C) (definitions ds V) p
+    of_open : {C : Context} {V : ResolvedEnvironment} {p base m k : ℕ} {ks : Knowns} {cs : ResolvedClosures} →
+        AllOpen code I F p ks cs → Represents code I F C V p → Represents code I F (open_call ks C) (layer base m k cs V) p
+
+  -- the first closures are those that are known, each in an environment that the frame p and those around it represent
+  pub data AllOpen (code : Code) (I : List Specialization) (F : List Frame) : ℕ → Knowns → ResolvedClosures → Type 0 where
+    nothing_open : {p : ℕ} {cs : ResolvedClosures} → AllOpen code I F p no_knowns cs
+    more_open : {p : ℕ} {D : Context} {W : ResolvedEnvironment} {s : ResolvedStrategy} {ks : Knowns} {cs : ResolvedClosures} →
+        Represents code I F D W p → AllOpen code I F p ks cs → AllOpen code I F p (more_knowns s D ks) (more_closures s W cs)
 
   -- each closure has a range with its end, and a frame that represents its environment
   pub data Closed (code : Code) (I : List Specialization) (F : List Frame) : ResolvedClosures → List (ℕ × ℕ) → Type 0 where
@@ -70,6 +78,7 @@ hiding (hides_definitions h) (of_definitions bs r) = fits_no_definitions (hiding
 hiding (keeps_definitions h) (of_definitions bs r) = fits_definitions bs (hiding h r)
 hiding (hides_known h) (of_known is ks r) = fits_hidden nothing_known (hiding h r)
 hiding (keeps_known h) (of_known is ks r) = fits_hidden ks (hiding h r)
+hiding (hides_open h) (of_open ks r) = fits_hidden nothing_known (hiding h r)
 hiding (hides_hidden h) (of_hidden ks r) = fits_hidden nothing_known (hiding h r)
 hiding (hides_hidden h) (of_no_definitions r) = fits_no_definitions (hiding h r)
 hiding (keeps_hidden h) (of_hidden ks r) = fits_hidden ks (hiding h r)
@@ -88,7 +97,12 @@ mutual
   represents_grown {F = F} G (of_known is ks r) = of_known (got_in_front F G _ _ is) ks (represents_grown G r)
   represents_grown G (of_hidden ks r) = of_hidden ks (represents_grown G r)
   represents_grown G (of_no_definitions r) = of_no_definitions (represents_grown G r)
+  represents_grown G (of_open ks r) = of_open (open_grown G ks) (represents_grown G r)
   represents_grown {F = F} G (of_frame is enough cs r) = of_frame (got_in_front F G _ _ is) enough (closed_grown G cs) (represents_grown G r)
+
+  open_grown : {code : Code} {I : List Specialization} {F : List Frame} (G : List Frame) {p : ℕ} {ks : Knowns} {cs : ResolvedClosures} → AllOpen code I F p ks cs → AllOpen code I (F ++ G) p ks cs
+  open_grown G nothing_open = nothing_open
+  open_grown G (more_open r others) = more_open (represents_grown G r) (open_grown G others)
 
   pub closed_grown : {code : Code} {I : List Specialization} {F : List Frame} (G : List Frame) {cs : ResolvedClosures} {l : List (ℕ × ℕ)} → Closed code I F cs l → Closed code I (F ++ G) cs l
   closed_grown G no_closed = no_closed
@@ -103,6 +117,7 @@ outwards (of_definitions bs r) (suc n) = outwards r n
 outwards (of_within is first r) (suc n) = outwards r n
 outwards (of_hidden ks r) (suc n) = outwards r n
 outwards (of_no_definitions r) (suc n) = outwards r n
+outwards (of_open ks r) (suc n) = outwards r n
 outwards {code} {I} {F} (of_frame {C = C} {V = V} {p = p} is enough cs r) (suc n) =
     subst (λ v. Represents code I F (outer C n) (layers_up V n) (frames_up F (around v p) (frames_in C n))) (sym is) (outwards r n)
 outwards {code} {I} {F} (of_known {C = C} {V = V} {p = p} is ks r) (suc n) =
@@ -116,6 +131,7 @@ layers_outer (within k i C) (suc n) = layers_outer C n
 layers_outer (defining ds es C) (suc n) = layers_outer C n
 layers_outer (known k ks C) (suc n) = layers_outer C n
 layers_outer (hidden ks C) (suc n) = layers_outer C n
+layers_outer (open_call ks C) (suc n) = layers_outer C n
 
 place_here : {code : Code} {I : List Specialization} {F : List Frame} {C : Context} {V : ResolvedEnvironment} {p : ℕ} → Represents code I F C V p → (i : ℕ) → IsVariable (layers_of C) i → place_of_frame (slice_get F p) (slot_in C i) ≡ place_in V i
 place_here of_top i h = absurd (h)
@@ -126,6 +142,7 @@ place_here (of_frame {base = base} {k = k} is enough cs r) i h = ap (λ v. place
 place_here (of_known {base = base} {k = k} is ks r) i h = ap (λ v. place_of_frame v i) is ∙ sym (if_less (Some (base + i)) None i k h)
 place_here (of_hidden ks r) i h = absurd (omega arith)
 place_here (of_no_definitions r) i h = absurd (omega arith)
+place_here (of_open ks r) i h = absurd (omega arith)
 
 -- variables have the same places
 pub same_place : {code : Code} {I : List Specialization} {F : List Frame} {C : Context} {V : ResolvedEnvironment} {p : ℕ} → Represents code I F C V p → (y : Coordinate) → VariableInRange (layers_of C) y →
@@ -154,13 +171,14 @@ closure_here {code} {I} {F} (of_frame {cs = cs} {l = l} is enough closures r) i 
 closure_here (of_known is ks r) i h = absurd (h)
 closure_here (of_hidden ks r) i h = absurd (h)
 closure_here (of_no_definitions r) i h = absurd (h)
+closure_here (of_open ks r) i h = absurd (h)
 
 -- what is known of a strategy parameter
 pub data ParameterIs (code : Code) (I : List Specialization) (s : ResolvedStrategy) (D : Context) : Option ResolvedCallee → Type 0 where
   parameter_is : {W : ResolvedEnvironment} → Fits code I D W → ParameterIs code I s D (Some (closure s W))
 
-same_known : {code : Code} {I : List Specialization} {s s1 : ResolvedStrategy} {D D1 : Context} {v : Option ResolvedCallee} → s1 ≡ s → D1 ≡ D → ParameterIs code I s1 D1 v → ParameterIs code I s D v
-same_known {code} {I} {s} {s1} {D} {D1} {v} is at h = subst (λ z. ParameterIs code I z D v) is (subst (λ E. ParameterIs code I s1 E v) at h)
+same_known : {code : Code} {I : List Specialization} {s other : ResolvedStrategy} {D E : Context} {v : Option ResolvedCallee} → other ≡ s → E ≡ D → ParameterIs code I other E v → ParameterIs code I s D v
+same_known {code} {I} {s} {other} {D} {E} {v} is at h = subst (λ z. ParameterIs code I z D v) is (subst (λ B. ParameterIs code I other B v) at h)
 
 known_in : {code : Code} {I : List Specialization} {ks : Knowns} {cs : ResolvedClosures} → AllKnown code I ks cs → (i : ℕ) (s : ResolvedStrategy) (D : Context) → IsKnown ks i s D → ParameterIs code I s D (closure_at cs i)
 known_in nothing_known i s D h = absurd (h)
@@ -176,6 +194,7 @@ known_here (of_frame is enough cs r) i s D h = absurd (h)
 known_here (of_known is ks r) i s D h = known_in ks i s D h
 known_here (of_hidden ks r) i s D h = known_in ks i s D h
 known_here (of_no_definitions r) i s D h = absurd (h)
+known_here (of_open ks r) i s D h = absurd (h)
 
 -- known strategy parameters are these strategies
 pub same_parameter : {code : Code} {I : List Specialization} {F : List Frame} {C : Context} {V : ResolvedEnvironment} {p : ℕ} → Represents code I F C V p → (y : Coordinate) (s : ResolvedStrategy) (D : Context) →
@@ -186,6 +205,36 @@ same_parameter r y s D h = known_here (outwards r y.layers_up) y.slot s D h
 pub same_closure : {code : Code} {I : List Specialization} {F : List Frame} {C : Context} {V : ResolvedEnvironment} {p : ℕ} → Represents code I F C V p → (y : Coordinate) → HasParameter (outer C y.layers_up) y.slot →
     ClosureFound code I F (closure_in F p (by_frames C y)) (callee_in (layers_up V y.layers_up) y.slot)
 same_closure r y h = closure_here (outwards r y.layers_up) y.slot h
+
+-- what is known of a strategy parameter that may look at the frame p
+pub data OpenIs (code : Code) (I : List Specialization) (F : List Frame) (p : ℕ) (s : ResolvedStrategy) (D : Context) : Option ResolvedCallee → Type 0 where
+  open_is : {W : ResolvedEnvironment} → Represents code I F D W p → OpenIs code I F p s D (Some (closure s W))
+
+same_open : {code : Code} {I : List Specialization} {F : List Frame} {p : ℕ} {s other : ResolvedStrategy} {D E : Context} {v : Option ResolvedCallee} → other ≡ s → E ≡ D → OpenIs code I F p other E v → OpenIs code I F p s D v
+same_open {code} {I} {F} {p} {s} {other} {D} {E} {v} is at h = subst (λ z. OpenIs code I F p z D v) is (subst (λ B. OpenIs code I F p other B v) at h)
+
+open_in : {code : Code} {I : List Specialization} {F : List Frame} {p : ℕ} {ks : Knowns} {cs : ResolvedClosures} → AllOpen code I F p ks cs → (i : ℕ) (s : ResolvedStrategy) (D : Context) → IsKnown ks i s D →
+    OpenIs code I F p s D (closure_at cs i)
+open_in nothing_open i s D h = absurd (h)
+open_in (more_open x others) zero s D h = same_open h.0 h.1 (open_is x)
+open_in (more_open x others) (suc i) s D h = open_in others i s D h
+
+open_here : {code : Code} {I : List Specialization} {F : List Frame} {C : Context} {V : ResolvedEnvironment} {p : ℕ} → Represents code I F C V p → (i : ℕ) (s : ResolvedStrategy) (D : Context) → KnowsOpen C i s D →
+    OpenIs code I F p s D (callee_in V i)
+open_here of_top i s D h = absurd (h)
+open_here (of_definitions bs r) i s D h = absurd (h)
+open_here (of_within is first r) i s D h = absurd (h)
+open_here (of_frame is enough cs r) i s D h = absurd (h)
+open_here (of_known is ks r) i s D h = absurd (h)
+open_here (of_hidden ks r) i s D h = absurd (h)
+open_here (of_no_definitions r) i s D h = absurd (h)
+open_here (of_open ks r) i s D h = open_in ks i s D h
+
+-- known strategy parameters that may look at the innermost frame are these strategies, where no frame has been entered since
+pub same_parameter_open : {code : Code} {I : List Specialization} {F : List Frame} {C : Context} {V : ResolvedEnvironment} {p : ℕ} → Represents code I F C V p → (y : Coordinate) (s : ResolvedStrategy) (D : Context) →
+    frames_in C y.layers_up ≡ 0 → KnowsOpen (outer C y.layers_up) y.slot s D → OpenIs code I F p s D (callee_in (layers_up V y.layers_up) y.slot)
+same_parameter_open {code} {I} {F} {V = V} {p = p} r y s D none h =
+    subst (λ n. OpenIs code I F (frames_up F p n) s D (callee_in (layers_up V y.layers_up) y.slot)) none (open_here (outwards r y.layers_up) y.slot s D h)
 
 -- what a definition is, where B is the context of its body for its numbers of parameters
 pub data DefinitionIs (code : Code) (I : List Specialization) (B : ℕ → ℕ → Context) (V : ResolvedEnvironment) (entry room n o : ℕ) : Option ResolvedCallee → Type 0 where
@@ -224,6 +273,7 @@ definitions_in (within k i C) = no_definitions
 definitions_in (defining ds es C) = ds
 definitions_in (known k ks C) = no_definitions
 definitions_in (hidden ks C) = no_definitions
+definitions_in (open_call ks C) = no_definitions
 
 abbrev entries_in : Context → List Entry
 entries_in top = []
@@ -232,6 +282,7 @@ entries_in (within k i C) = []
 entries_in (defining ds es C) = es
 entries_in (known k ks C) = []
 entries_in (hidden ks C) = []
+entries_in (open_call ks C) = []
 
 definition_here : {code : Code} {I : List Specialization} {F : List Frame} {C D : Context} {ds : ResolvedDefinitions} {es : List Entry} {V : ResolvedEnvironment} {p n o : ℕ} → Represents code I F C V p → C ≡ defining ds es D →
     (i entry room : ℕ) → IsDefinition ds i n o → slice_get es i ≡ Some (entry_at entry room) → DefinitionIs code I (λ m k. framed m k C) V entry room n o (callee_in V i)
@@ -243,6 +294,7 @@ definition_here (of_within is' first r) is i entry room h k = absurd (cc)
 definition_here (of_known is' ks r) is i entry room h k = absurd (cc)
 definition_here (of_hidden ks r) is i entry room h k = absurd (cc)
 definition_here (of_no_definitions r) is i entry room h k = absurd (cc)
+definition_here (of_open ks r) is i entry room h k = absurd (cc)
 
 -- a definition has its code, in the same environment
 pub same_definition : {code : Code} {I : List Specialization} {F : List Frame} {C D : Context} {ds : ResolvedDefinitions} {es : List Entry} {V : ResolvedEnvironment} {p n o : ℕ} → Represents code I F C V p → (y : Coordinate) →
@@ -291,12 +343,13 @@ specialization_body {code} {I} {D = D} {ds = ds} {es = es} {V = V} {ks = ks} {i}
 definitions_here : {code : Code} {I : List Specialization} {F : List Frame} {C D : Context} {ds : ResolvedDefinitions} {es : List Entry} {V : ResolvedEnvironment} {p : ℕ} → Represents code I F C V p → C ≡ defining ds es D → (i : ℕ) →
     callee_in V i ≡ definition_at ds V i
 definitions_here of_top is i = absurd (cc)
-definitions_here (of_definitions {V = V} {ds = ds1} bs r) is i = ap (λ ds. definition_at ds (definitions ds1 V) i) (ap definitions_in is)
+definitions_here (of_definitions {V = V} {ds = others} bs r) is i = ap (λ ds. definition_at ds (definitions others V) i) (ap definitions_in is)
 definitions_here (of_frame is' enough cs r) is i = absurd (cc)
 definitions_here (of_within is' first r) is i = absurd (cc)
 definitions_here (of_known is' ks r) is i = absurd (cc)
 definitions_here (of_hidden ks r) is i = absurd (cc)
 definitions_here (of_no_definitions r) is i = absurd (cc)
+definitions_here (of_open ks r) is i = absurd (cc)
 
 -- a specialization has its code, in the same environment
 pub same_specialization_of : {code : Code} {I : List Specialization} {F : List Frame} {C D : Context} {ds : ResolvedDefinitions} {es : List Entry} {V : ResolvedEnvironment} {ks : Knowns} {p n o : ℕ} → Represents code I F C V p → (y : Coordinate) →
@@ -334,6 +387,7 @@ definitions_not_handed (of_frame is enough l r) h i s V cs = absurd (h)
 definitions_not_handed (of_known is ks r) h i s V cs = absurd (h)
 definitions_not_handed (of_hidden ks r) h i s V cs = absurd (h)
 definitions_not_handed (of_no_definitions r) h i s V cs = absurd (h)
+definitions_not_handed (of_open ks r) h i s V cs = absurd (h)
 
 own_closure : {code : Code} {I : List Specialization} {F : List Frame} {C : Context} {V : ResolvedEnvironment} {p : ℕ} → Represents code I F C V p → (s : ResolvedStrategy) → HasOwnCode C s → (cs : ResolvedClosures) → with_closure by_coordinates V s cs ≡ more_closures s V cs
 own_closure r id h cs = refl
@@ -350,17 +404,17 @@ own_closure r (with_definitions ds s) h cs = refl
 own_closure {V = V} r (call y ss ps) h cs = definitions_not_handed (outwards r y.layers_up) h y.slot (call y ss ps) V cs
 own_closure r (primitive f ps) h cs = refl
 
-parameter_closed : {code : Code} {I : List Specialization} {F : List Frame} {cs : ResolvedClosures} {l : List (ℕ × ℕ)} {c : ℕ × ℕ} {v : Option ResolvedCallee} → ClosureFound code I F c v → (s : ResolvedStrategy) (V : ResolvedEnvironment) → Closed code I F cs l →
-    Closed code I F (handed_on by_coordinates v s V cs) (c ∷ l)
-parameter_closed (closure_found (closure_is s j r)) s1 V cs = more_closed s j r cs
+parameter_closed : {code : Code} {I : List Specialization} {F : List Frame} {cs : ResolvedClosures} {l : List (ℕ × ℕ)} {c : ℕ × ℕ} {v : Option ResolvedCallee} → ClosureFound code I F c v → (argument : ResolvedStrategy) (V : ResolvedEnvironment) → Closed code I F cs l →
+    Closed code I F (handed_on by_coordinates v argument V cs) (c ∷ l)
+parameter_closed (closure_found (closure_is s j r)) argument V cs = more_closed s j r cs
 
-parameter_all_known : {code : Code} {I : List Specialization} {ks : Knowns} {cs : ResolvedClosures} {s : ResolvedStrategy} {D : Context} {v : Option ResolvedCallee} → ParameterIs code I s D v → (s1 : ResolvedStrategy) (V : ResolvedEnvironment) →
-    AllKnown code I ks cs → AllKnown code I (more_knowns s D ks) (handed_on by_coordinates v s1 V cs)
-parameter_all_known (parameter_is x) s1 V others = more_known x others
+parameter_all_known : {code : Code} {I : List Specialization} {ks : Knowns} {cs : ResolvedClosures} {s : ResolvedStrategy} {D : Context} {v : Option ResolvedCallee} → ParameterIs code I s D v → (argument : ResolvedStrategy) (V : ResolvedEnvironment) →
+    AllKnown code I ks cs → AllKnown code I (more_knowns s D ks) (handed_on by_coordinates v argument V cs)
+parameter_all_known (parameter_is x) argument V others = more_known x others
 
 known_closed : {code : Code} {I : List Specialization} {F : List Frame} {cs : ResolvedClosures} {l : List (ℕ × ℕ)} {D : Context} {s : ResolvedStrategy} {entry j p : ℕ} {v : Option ResolvedCallee} → ParameterIs code I s D v →
-    Ranges code I None D entry 0 s j → At code j end_argument → (s1 : ResolvedStrategy) (V : ResolvedEnvironment) → Closed code I F cs l → Closed code I F (handed_on by_coordinates v s1 V cs) ((entry, p) ∷ l)
-known_closed {p = p} (parameter_is fit) r at s1 V cs = more_closed r at (fitting p fit) cs
+    Ranges code I None D entry 0 s j → At code j end_argument → (argument : ResolvedStrategy) (V : ResolvedEnvironment) → Closed code I F cs l → Closed code I F (handed_on by_coordinates v argument V cs) ((entry, p) ∷ l)
+known_closed {p = p} (parameter_is fit) r at argument V cs = more_closed r at (fitting p fit) cs
 
 pub arguments_closed : {code : Code} {I : List Specialization} {F : List Frame} {C : Context} {V : ResolvedEnvironment} {p : ℕ} → Represents code I F C V p → {ss : ResolvedStrategies} {us : List Argument} → Arguments code I C ss us →
     Closed code I F (closures_of by_coordinates V ss) (closed F p us)
@@ -382,3 +436,19 @@ arguments_known r none_known = nothing_known
 arguments_known {code} {I} {V = V} r (own_known {D = D} {s = s} {ss = ss} {ks = ks} h hides args) =
     subst (λ cs. AllKnown code I (more_knowns s D ks) cs) (sym (own_closure r s h (closures_of by_coordinates V ss))) (more_known (hiding hides r) (arguments_known r args))
 arguments_known {V = V} r (parameter_known {D = D} {y = y} {s = s} {vs = vs} {ps = ps} h args) = parameter_all_known (same_parameter r y s D h) (call y vs ps) V (arguments_known r args)
+
+parameter_all_open : {code : Code} {I : List Specialization} {F : List Frame} {p : ℕ} {ks : Knowns} {cs : ResolvedClosures} {s : ResolvedStrategy} {D : Context} {v : Option ResolvedCallee} → OpenIs code I F p s D v →
+    (argument : ResolvedStrategy) (V : ResolvedEnvironment) → AllOpen code I F p ks cs → AllOpen code I F p (more_knowns s D ks) (handed_on by_coordinates v argument V cs)
+parameter_all_open (open_is x) argument V others = more_open x others
+
+-- what looks at no frame is known in each frame
+fits_open : {code : Code} {I : List Specialization} {F : List Frame} (p : ℕ) {s : ResolvedStrategy} {D : Context} {v : Option ResolvedCallee} → ParameterIs code I s D v → OpenIs code I F p s D v
+fits_open p (parameter_is fit) = open_is (fitting p fit)
+
+-- the arguments of a call in place are these strategies, each in its context, in the frame p
+pub open_arguments : {code : Code} {I : List Specialization} {F : List Frame} {C : Context} {V : ResolvedEnvironment} {p : ℕ} → Represents code I F C V p → {ss : ResolvedStrategies} {ks : Knowns} → AreKnownOpen C ss ks →
+    AllOpen code I F p ks (closures_of by_coordinates V ss)
+open_arguments r none_open = nothing_open
+open_arguments {code} {I} {F} {C = C} {V = V} {p = p} r (own_open {s = s} {ss = ss} {ks = ks} h args) =
+    subst (λ cs. AllOpen code I F p (more_knowns s C ks) cs) (sym (own_closure r s h (closures_of by_coordinates V ss))) (more_open r (open_arguments r args))
+open_arguments {V = V} {p = p} r (parameter_open {D = D} {y = y} {s = s} {vs = vs} {ps = ps} h args) = parameter_all_open (fits_open p (same_parameter r y s D h)) (call y vs ps) V (open_arguments r args)

@@ -15,7 +15,7 @@ pub record Goes {W R : Type 0} (stands : W → R → Bool) (term_of : W → R �
   pub standing : AllPlaces (λ r. IsTrue (stands w1 r)) f
   pub comes_to : whole (map (option_map (term_of w)) e) T ≡ rest (map (option_map (term_of w1)) f) U
 
--- the references stand for the first of the terms, but for at most so many
+-- the references stand for the first terms of the list, of which there are at most `count`
 pub record AreFirst {W R : Type 0} (stands : W → R → Bool) (term_of : W → R → Tree) (w : W) (terms : List Tree) (count : ℕ) (rs : List R) : Type 0 where
   pub standing : AllRefs (λ r. IsTrue (stands w r)) rs
   pub are : map (term_of w) rs ≡ take count terms

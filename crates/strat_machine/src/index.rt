@@ -26,7 +26,7 @@ pub(crate) struct Groups {
 /// An index of cases.
 #[derive(Drop)]
 pub(crate) struct Index {
-    // The nodes of the first so many cases, from none to all.
+    // For each number of cases, from none to all, the nodes of that many of the first ones.
     pub(crate) sums: Vec<usize>,
     groups: Groups,
 }
@@ -50,7 +50,7 @@ pub(crate) fn index_cases<S: TermSpace>(
     Ok(Some(Index { sums, groups }))
 }
 
-// The nodes of the first so many cases, from none to all, if they are numbers of 64 bits.
+// For each number of cases, from none to all, the nodes of that many of the first ones, if they are numbers of 64 bits.
 fn sums_of<N>(alloc: Global, cases: &[LoadedCase<N>]) -> Result<Option<Vec<usize>>, AllocError>
     ensures { IfOk result (λ x. IfSome x (λ s. s.items ≡ sums_from 0 cases.now)) }
 {
