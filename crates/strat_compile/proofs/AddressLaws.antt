@@ -6,7 +6,7 @@ use Rattle.core_lang.specs.Program.{Patterns}
 use Rattle.core_lang.specs.Resolved.{ResolvedStrategy, ResolvedStrategies, ResolvedDefinitions}
 use Rattle.strat_code.specs.Code.{Argument, code_at, parameter_at, Case, case, Instr, count, give_up, match_term, build_term, enter, leave, extend, shrink, try, commit, select, jump, traverse, part_done, call_definition, call_closure, end_definition, end_argument, apply_primitive, finish, Code}
 use Rattle.strat_code.specs.CodeOf.{ArgumentsInRange, CasesInRange, AddressesInRange, AllInRange}
-use Rattle.strat_compile.specs.Emission.{Emits, emits_id, emits_fail, emits_seq, emits_choice, emits_select, emits_match, emits_build, emits_scope, emits_inner, emits_all, emits_one, emits_some, emits_let, emits_call, emits_inline, emits_known, emits_specialization, emits_same, emits_parameter, emits_primitive, EmitsCall, calls, EmitsChain, chain_end, chain_more, EmitsArm, emits_arm, EmitsThen, then_id, then_code, EmitsDefinitions, emits_definitions, EmitsBodies, emits_no_bodies, emits_more_bodies, EmitsBody, emits_body, emits_scope_body, EmitsArguments, emits_no_arguments, emits_code_argument, emits_parameter_argument, emits_known_argument}
+use Rattle.strat_compile.specs.Emission.{Emits, emits_id, emits_fail, emits_seq, emits_choice, emits_select, emits_match, emits_build, emits_scope, emits_inner, emits_all, emits_one, emits_some, emits_let, emits_call, emits_inline, emits_known, emits_open, emits_argument, emits_specialization, emits_same, emits_parameter, emits_primitive, EmitsCall, calls, EmitsChain, chain_end, chain_more, EmitsArm, emits_arm, EmitsThen, then_id, then_code, EmitsDefinitions, emits_definitions, EmitsBodies, emits_no_bodies, emits_more_bodies, EmitsBody, emits_body, emits_scope_body, EmitsArguments, emits_no_arguments, emits_code_argument, emits_parameter_argument, emits_known_argument}
 use Rattle.core_lang.specs.Roots.{Root}
 use Rattle.strat_compile.specs.Chains.{Body, place_passed, nodes_passed, cases_onto, cases_between, selects}
 use Rattle.strat_compile.specs.Located.{located, address_if, argument_located, case_located}
@@ -115,6 +115,8 @@ mutual
   longer (emits_call a) = longer_call a
   longer (emits_inline at body given a) = longer a
   longer (emits_known given a) = longer a
+  longer (emits_open at body given a) = longer a
+  longer (emits_argument none given a) = longer a
   longer (emits_specialization at body given a) = let one = longer_body a in omega (arith, one)
   longer (emits_same n label at given is) = omega arith
   longer (emits_parameter none) = omega arith
@@ -174,6 +176,8 @@ mutual
   sound (emits_call a) h s = sound_call a h s
   sound (emits_inline at body given a) h s = sound a h s
   sound (emits_known given a) h s = sound a h s
+  sound (emits_open at body given a) h s = sound a h s
+  sound (emits_argument none given a) h s = sound a h s
   sound (emits_specialization {o = o} {o1 = o1} at body given a) h s =
       let more = longer_body a in
       let made = sound_body a (record { code = s.code; starts = more_start o.starts (replicate 1 1) s.starts (ones_start 1) }) in

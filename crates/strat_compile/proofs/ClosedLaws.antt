@@ -12,7 +12,7 @@ use Rattle.core_lang.specs.Program.{call}
 use Rattle.core_lang.specs.RangeOfCode.{ArmInRange, ArmsInRange}
 use Rattle.core_lang.specs.Views.{arm_of, pattern_of, patterns_of, rest_of, strategies_of, strategy_of}
 use Rattle.core_lang.proofs.RangeLaws.{RestInRange, call_range, choices_range, list_range, sequence_range}
-use Rattle.strat_code.specs.Context.{Context, defining, framed, hidden, known, outer, top, within}
+use Rattle.strat_code.specs.Context.{Context, open_call, defining, framed, hidden, known, outer, top, within}
 use Rattle.strat_compile.specs.declared.layers.Known.{Known}
 use Rattle.strat_compile.specs.declared.layers.Layers as declared
 use Rattle.strat_compile.specs.declared.layers.Layers.TheVariants as code
@@ -34,6 +34,7 @@ outside_program (within k offset C) (suc n) = outside_program C n
 outside_program (defining ds es C) (suc n) = outside_program C n
 outside_program (known k ks C) (suc n) = outside_program C n
 outside_program (hidden ks C) (suc n) = outside_program C n
+outside_program (open_call ks C) (suc n) = outside_program C n
 
 -- as many are known as there are arguments
 pub arguments_counted : (ks : List Known) → number_of_knowns (knowns (arguments_of ks)) ≡ length ks

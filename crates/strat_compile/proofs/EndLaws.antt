@@ -8,7 +8,7 @@ use Rattle.core_lang.specs.declared.coordinate.Coordinate.{Coordinate}
 use Rattle.core_lang.specs.Program.{Patterns}
 use Rattle.core_lang.specs.Resolved.{ResolvedStrategy, ResolvedStrategies, ResolvedDefinitions}
 use Rattle.strat_code.specs.Code.{Argument, Instr, Code, At}
-use Rattle.strat_compile.specs.Emission.{Emits, emits_id, emits_fail, emits_seq, emits_choice, emits_select, emits_match, emits_build, emits_scope, emits_inner, emits_all, emits_one, emits_some, emits_let, emits_call, emits_inline, emits_known, emits_specialization, emits_same, emits_parameter, emits_primitive, EmitsCall, calls, EmitsChain, chain_end, chain_more, EmitsArm, emits_arm, EmitsThen, then_id, then_code, EmitsDefinitions, emits_definitions, EmitsBodies, emits_no_bodies, emits_more_bodies, EmitsBody, emits_body, emits_scope_body, EmitsArguments, emits_no_arguments, emits_code_argument, emits_parameter_argument, emits_known_argument}
+use Rattle.strat_compile.specs.Emission.{Emits, emits_id, emits_fail, emits_seq, emits_choice, emits_select, emits_match, emits_build, emits_scope, emits_inner, emits_all, emits_one, emits_some, emits_let, emits_call, emits_inline, emits_known, emits_open, emits_argument, emits_specialization, emits_same, emits_parameter, emits_primitive, EmitsCall, calls, EmitsChain, chain_end, chain_more, EmitsArm, emits_arm, EmitsThen, then_id, then_code, EmitsDefinitions, emits_definitions, EmitsBodies, emits_no_bodies, emits_more_bodies, EmitsBody, emits_body, emits_scope_body, EmitsArguments, emits_no_arguments, emits_code_argument, emits_parameter_argument, emits_known_argument}
 use Rattle.strat_compile.specs.Chains.{Body, selects}
 use Rattle.strat_compile.specs.Located.{located}
 use Rattle.strat_compile.specs.Sites.{Site}
@@ -67,6 +67,8 @@ module _ (c : Code) where
     end_emitted (emits_call a) h = end_call a h
     end_emitted (emits_inline at body given a) h = end_emitted a h
     end_emitted (emits_known given a) h = end_emitted a h
+    end_emitted (emits_open at body given a) h = end_emitted a h
+    end_emitted (emits_argument none given a) h = end_emitted a h
     end_emitted (emits_specialization at body given a) h = end_body a (later_end h)
     end_emitted (emits_same n label at given is) h = later_end h
     end_emitted (emits_parameter none) h = later_end h

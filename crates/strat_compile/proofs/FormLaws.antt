@@ -34,8 +34,8 @@ pub let_row : (s b' : CoreStrategy) (ds : Vec CoreDef Global) (b : Box CoreStrat
     s ≡ strategies.LetIn ds b → defs ≡ ds.items → defs' ≡ ds.items → T ≡ in_definitions (definitions_of defs') l S → b' ≡ b.value → l ≡ length o.starts → p ≡ place o → n ≡ suc x →
     EmitsDefinitions T l (definitions_of defs) p o o1 → Emits w T n (strategy_of b') o1 o2 → Emits w S x (strategy_of s) o o2
 let_row s b' ds b defs defs' w S T l n p x o o1 o2 is items items' layer body labels here nodes bodies h =
-    let T1 = in_definitions (definitions_of ds.items) (length o.starts) S in
-    let same : T ≡ T1 = layer ∙ ap₂ (λ xs m. in_definitions (definitions_of xs) m S) items' labels in
+    let R = in_definitions (definitions_of ds.items) (length o.starts) S in
+    let same : T ≡ R = layer ∙ ap₂ (λ xs m. in_definitions (definitions_of xs) m S) items' labels in
     subst (λ r. Emits w S x r o o2) (sym (ap strategy_of is ∙ reads_let ds b))
     (emits_let
     (subst (λ U. EmitsDefinitions U (length o.starts) (definitions_of ds.items) (place o) o o1) same

@@ -9,7 +9,7 @@ use Rattle.core_lang.specs.declared.coordinate.Coordinate.{Coordinate}
 use Rattle.core_lang.specs.Resolved.{ResolvedDefinitions, ResolvedStrategies, ResolvedStrategy}
 use Rattle.core_lang.specs.Views.{strategies_of, strategy_of}
 use Rattle.core_lang.proofs.RangeLaws.{counted_strategies}
-use Rattle.strat_code.specs.Context.{Context, HasOwnCode, defining, framed, hidden, known, outer, top, within}
+use Rattle.strat_code.specs.Context.{Context, HasOwnCode, defining, framed, hidden, known, open_call, outer, top, within}
 use Rattle.strat_compile.specs.declared.known.Own.{Own}
 use Rattle.strat_compile.specs.declared.layers.Handing.{Handing}
 use Rattle.strat_compile.specs.declared.layers.Handing.TheVariants.{Inlined}
@@ -19,53 +19,54 @@ use Rattle.strat_compile.specs.declared.layers.Layers as declared
 use Rattle.strat_compile.specs.declared.layers.Layers.TheVariants as code
 use Rattle.strat_compile.specs.Known.{AreParameters, IsKnownAs, IsOfProgram, IsOwn, IsParameter, KnownSoFar}
 use Rattle.strat_compile.specs.Layers.{HandsKnown, HandsOver, arguments_in, arguments_of, known_of, site_of}
-use Rattle.strat_compile.specs.Sites.{AreGiven, IsArgument, IsGiven, IsSpecialization, KnownArguments, Site, context, in_call, in_definitions, in_frame, in_places, in_specialization, knowns, more_known, no_known, none_given, number_of_knowns, outermost, outside_of, own_given, parameter_given, program_layers, stripped, unframed, without_frames}
+use Rattle.strat_compile.specs.Sites.{AreGiven, AreGivenAt, IsArgument, IsGiven, IsSpecialization, KnownArguments, Site, context, in_call, in_definitions, in_frame, in_places, in_specialization, in_open_call, knowns, more_known, no_known, none_given, number_of_knowns, outermost, outside_of, own_given, parameter_given, program_layers, stripped, unframed, without_frames}
 use Rattle.strat_compile.proofs.ClosedLaws.{arguments_counted}
 use Rattle.strat_compile.proofs.LayerLaws.{known_reads, site_specialized}
 use Rattle.strat_compile.proofs.SiteLaws.{context_outside, given_stripped, outer_unframed}
 
 -- a parameter that is known, handed on
-pub handed_known : (S : Site) (s r : ResolvedStrategy) (T : Site) → HandsKnown S s r T → IsKnownAs S s r T
-handed_known S id r T h = elim h [ ]
-handed_known S fail r T h = elim h [ ]
-handed_known S (seq s1 s2) r T h = elim h [ ]
-handed_known S (choice s1 s2 s3) r T h = elim h [ ]
-handed_known S (match p) r T h = elim h [ ]
-handed_known S (build p) r T h = elim h [ ]
-handed_known S (scope k s) r T h = elim h [ ]
-handed_known S (all s) r T h = elim h [ ]
-handed_known S (one s) r T h = elim h [ ]
-handed_known S (some s) r T h = elim h [ ]
-handed_known S (with_definitions ds s) r T h = elim h [ ]
-handed_known S (call y vs ps) r T h = record { given = λ ss ks rest. parameter_given {y = y} h rest }
-handed_known S (primitive f ps) r T h = elim h [ ]
+pub handed_known : (S U : Site) (s r : ResolvedStrategy) (T : Site) → HandsKnown S s r T → IsKnownAs S U s r T
+handed_known S U id r T h = elim h [ ]
+handed_known S U fail r T h = elim h [ ]
+handed_known S U (seq s1 s2) r T h = elim h [ ]
+handed_known S U (choice s1 s2 s3) r T h = elim h [ ]
+handed_known S U (match p) r T h = elim h [ ]
+handed_known S U (build p) r T h = elim h [ ]
+handed_known S U (scope k s) r T h = elim h [ ]
+handed_known S U (all s) r T h = elim h [ ]
+handed_known S U (one s) r T h = elim h [ ]
+handed_known S U (some s) r T h = elim h [ ]
+handed_known S U (with_definitions ds s) r T h = elim h [ ]
+handed_known S U (call y vs ps) r T h = record { given = λ ss ks rest. parameter_given {y = y} h rest }
+handed_known S U (primitive f ps) r T h = elim h [ ]
 
-pub handed_over : (S : Site) (s : ResolvedStrategy) (how : Handing) (k : Known) → how ≡ Inlined k → HandsOver S s how → IsKnownAs S s (strategy_of (out-Known k).strategy.now) (site_of (out-Known k).layers.now)
-handed_over S s how k is h =
-    let read : HandsKnown S s (known_of k).strategy (known_of k).site → IsKnownAs S s (strategy_of (out-Known k).strategy.now) (site_of (out-Known k).layers.now) =
-    λ given. subst (λ a. IsKnownAs S s a.strategy a.site) (known_reads k) (handed_known S s _ _ given) in
+pub handed_over : (S U : Site) (s : ResolvedStrategy) (how : Handing) (k : Known) → how ≡ Inlined k → HandsOver S s how → IsKnownAs S U s (strategy_of (out-Known k).strategy.now) (site_of (out-Known k).layers.now)
+handed_over S U s how k is h =
+    let read : HandsKnown S s (known_of k).strategy (known_of k).site → IsKnownAs S U s (strategy_of (out-Known k).strategy.now) (site_of (out-Known k).layers.now) =
+    λ given. subst (λ a. IsKnownAs S U s a.strategy a.site) (known_reads k) (handed_known S U s _ _ given) in
     read (subst (λ w. HandsOver S s w) is h)
 
--- a strategy that looks at no frame
-pub own_known : (S T : Site) (s : ResolvedStrategy) → T ≡ without_frames S → HasOwnCode (context S) s → StrategyInRange (program_layers (context T)) s → IsKnownAs S s s T
-own_known S T s is own range =
-    subst (λ U. IsKnownAs S s s U) (sym is)
-    (record { given = λ ss ks rest. own_given own (subst (λ U. StrategyInRange (program_layers (context U)) s) is range) rest })
+-- a strategy that looks at nothing but the second layers
+pub own_known : (S T : Site) (s : ResolvedStrategy) → HasOwnCode (context S) s → StrategyInRange (program_layers (context T)) s → IsKnownAs S T s s T
+own_known S T s own range = record { given = λ ss ks rest. own_given own range rest }
 
 -- one argument after another
-pub known_next : (S : Site) (ss : List CoreStrategy) (i : ℕ) (d : CoreStrategy) (made : List Known) (k : Known) → i < length ss → KnownSoFar S ss (drop i ss) made →
-    IsKnownAs S (strategy_of (get_or ss i d)) (strategy_of k.strategy.now) (site_of k.layers.now) → KnownSoFar S ss (drop (i + 1) ss) (made ++ k ∷ [])
-known_next S ss i d made k below so_far is_known ks rest =
-    let more : AreGiven S (strategies_of (drop i ss)) (arguments_in (known_of k ∷ ks)) =
-    subst (λ a. AreGiven S (strategies_of (drop i ss)) (more_known a.strategy a.site (arguments_in ks))) (sym (known_reads k))
-    (subst (λ xs. AreGiven S (strategies_of xs) (more_known (strategy_of k.strategy.now) (site_of k.layers.now) (arguments_in ks))) (sym (drop_more ss i d below)) (is_known.given _ _ rest)) in
-    subst (λ xs. AreGiven S (strategies_of ss) (arguments_in xs)) (sym (ap (λ xs. xs ++ ks) (map-append known_of made (k ∷ [])) ∙ append_assoc (map known_of made) (known_of k ∷ []) ks))
+pub known_next : (S T : Site) (ss : List CoreStrategy) (i : ℕ) (d : CoreStrategy) (made : List Known) (k : Known) → i < length ss → KnownSoFar S T ss (drop i ss) made →
+    IsKnownAs S T (strategy_of (get_or ss i d)) (strategy_of k.strategy.now) (site_of k.layers.now) → KnownSoFar S T ss (drop (i + 1) ss) (made ++ k ∷ [])
+known_next S T ss i d made k below so_far is_known ks rest =
+    let more : AreGivenAt S T (strategies_of (drop i ss)) (arguments_in (known_of k ∷ ks)) =
+    subst (λ a. AreGivenAt S T (strategies_of (drop i ss)) (more_known a.strategy a.site (arguments_in ks))) (sym (known_reads k))
+    (subst (λ xs. AreGivenAt S T (strategies_of xs) (more_known (strategy_of k.strategy.now) (site_of k.layers.now) (arguments_in ks))) (sym (drop_more ss i d below)) (is_known.given _ _ rest)) in
+    subst (λ xs. AreGivenAt S T (strategies_of ss) (arguments_in xs)) (sym (ap (λ xs. xs ++ ks) (map-append known_of made (k ∷ [])) ∙ append_assoc (map known_of made) (known_of k ∷ []) ks))
     (so_far (known_of k ∷ ks) more)
 
-pub known_done : (S : Site) (ss : List CoreStrategy) (n : ℕ) (made : List Known) → length ss ≤ n → KnownSoFar S ss (drop n ss) made → AreGiven S (strategies_of ss) (arguments_of made)
-known_done S ss n made whole so_far =
-    subst (λ xs. AreGiven S (strategies_of ss) (arguments_in xs)) (append-nil (map known_of made))
-    (so_far [] (subst (λ xs. AreGiven S (strategies_of xs) no_known) (sym (drop_of_length-le ss whole)) none_given))
+pub known_done : (S T : Site) (ss : List CoreStrategy) (n : ℕ) (made : List Known) → length ss ≤ n → KnownSoFar S T ss (drop n ss) made → AreGivenAt S T (strategies_of ss) (arguments_of made)
+known_done S T ss n made whole so_far =
+    subst (λ xs. AreGivenAt S T (strategies_of ss) (arguments_in xs)) (append-nil (map known_of made))
+    (so_far [] (subst (λ xs. AreGivenAt S T (strategies_of xs) no_known) (sym (drop_of_length-le ss whole)) none_given))
+
+pub frameless_done : (S T : Site) (ss : List CoreStrategy) (n : ℕ) (made : List Known) → T ≡ without_frames S → length ss ≤ n → KnownSoFar S T ss (drop n ss) made → AreGiven S (strategies_of ss) (arguments_of made)
+frameless_done S T ss n made is whole so_far = subst (λ U. AreGivenAt S U (strategies_of ss) (arguments_of made)) is (known_done S T ss n made whole so_far)
 
 -- the strategy parameters of a layer, in order, are the arguments that are known there
 parameter_there : (S T : Site) (n i : ℕ) (s r : ResolvedStrategy) (ss : ResolvedStrategies) (ks : KnownArguments) → IsParameter n i s → IsGiven (outside_of S n) i r T → AreGiven S ss ks →
@@ -103,6 +104,7 @@ specialization_stripped (in_places k offset S) i l r ks T h = h
 specialization_stripped (in_definitions ds label S) i l r ks T h = h
 specialization_stripped (in_specialization slot label room k bs S) i l r ks T h = h
 specialization_stripped (in_call bs S) i l r ks T h = h
+specialization_stripped (in_open_call bs S) i l r ks T h = h
 specialization_stripped (without_frames S) i l r ks T h = specialization_stripped S i l r ks T h
 
 outer_more : (C : Context) (n : ℕ) → outer C (suc n) ≡ outer (outer C n) 1
@@ -113,6 +115,7 @@ outer_more (within k offset C) (suc n) = outer_more C n
 outer_more (defining ds es C) (suc n) = outer_more C n
 outer_more (known k ks C) (suc n) = outer_more C n
 outer_more (hidden ks C) (suc n) = outer_more C n
+outer_more (open_call ks C) (suc n) = outer_more C n
 
 -- the definitions of the program are around the layer of a specialization
 around_specialization : (S : Site) (i l r : ℕ) (ks : KnownArguments) (ds : ResolvedDefinitions) (label : ℕ) → IsSpecialization S i l r ks (in_definitions ds label outermost) →
@@ -123,6 +126,7 @@ around_specialization (in_places k offset S) i l r ks ds label h = elim h [ ]
 around_specialization (in_definitions es first S) i l r ks ds label h = elim h [ ]
 around_specialization (in_specialization slot own room k bs S) i l r ks ds label h = ap context h.4
 around_specialization (in_call bs S) i l r ks ds label h = elim h [ ]
+around_specialization (in_open_call bs S) i l r ks ds label h = elim h [ ]
 around_specialization (without_frames S) i l r ks ds label h = outer_unframed (context S) 1 ∙ ap unframed (around_specialization S i l r ks ds label h)
 
 -- the specialization that the code is in, called with its own parameters

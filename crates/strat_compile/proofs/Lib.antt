@@ -12,6 +12,7 @@ pub mod RenamedLaws
 pub mod ChoiceLaws
 pub mod BeginningLaws
 pub mod AskLaws
+pub mod OpenLaws
 pub mod ChainLaws
 pub mod EndLaws
 pub mod LabelLaws

@@ -6,12 +6,12 @@ use Rattle.core_lang.specs.Program.{Pattern, anything, variable, alias, integer,
 use Rattle.core_lang.specs.Resolved.{ResolvedStrategy, ResolvedStrategies, ResolvedDefinitions}
 use Rattle.core_lang.specs.InRange.{Layers, layer_of, layer_of_definitions, outside, IsVariable, IsDefinition, IsCallee, PatternInRange, PatternsInRange, ElementsInRange, StrategyInRange, DefinitionsInRange}
 use Rattle.strat_code.specs.Code.{Entry, entry_at}
-use Rattle.strat_code.specs.Context.{Context, Specialization, specialization_at, top, framed, within, defining, known, hidden, Knowns, no_knowns, more_knowns, IsKnown, KnowsParameter, Hides, hides_top, hides_framed, hides_within, hides_definitions, keeps_definitions, hides_known, keeps_known, hides_hidden, keeps_hidden, layers_of, outer, frames_in, slot_in, by_frames, HasParameter, HasDefinitions, HasOwnCode}
+use Rattle.strat_code.specs.Context.{Context, Specialization, specialization_at, top, framed, within, defining, known, hidden, open_call, Knowns, no_knowns, more_knowns, IsKnown, KnowsParameter, KnowsOpen, Hides, hides_top, hides_framed, hides_within, hides_definitions, keeps_definitions, hides_known, keeps_known, hides_open, hides_hidden, keeps_hidden, layers_of, outer, frames_in, slot_in, by_frames, HasParameter, HasDefinitions, HasOwnCode}
 use Rattle.core_lang.specs.Roots.{Root}
-use Rattle.strat_code.specs.Ranges.{IsBody, first_body, later_body, AreKnown, none_known, own_known, parameter_known, AsksFor, asks_fail, asks_match, asks_seq, asks_choice, asks_scope, asks_let, asks_known, asks_inline}
+use Rattle.strat_code.specs.Ranges.{IsBody, first_body, later_body, AreKnown, none_known, own_known, parameter_known, AreKnownOpen, none_open, own_open, parameter_open, AsksFor, asks_fail, asks_match, asks_seq, asks_choice, asks_scope, asks_let, asks_known, asks_inline}
 use Rattle.strat_compile.specs.Layers.{entry_in, entries_of}
 use Rattle.strat_compile.specs.Located.{address_if}
-use Rattle.strat_compile.specs.Sites.{Site, KnownArguments, AreGiven, none_given, own_given, parameter_given, IsUnknown, context, knowns, labelled, number_of_knowns, program_layers, unframed}
+use Rattle.strat_compile.specs.Sites.{Site, KnownArguments, AreGivenAt, none_given, own_given, parameter_given, IsUnknown, context, knowns, labelled, number_of_knowns, program_layers, unframed}
 use Rattle.strat_compile.proofs.SiteLaws.{given_outside}
 
 -- Each layer of definitions has labels from some label on, and its definitions are in range; so are the strategies that
@@ -24,6 +24,7 @@ abbrev mutual
   IsLabelled (defining ds es C) = ((label : ℕ) × (es ≡ labelled label ds)) × DefinitionsInRange (layer_of_definitions ds (program_layers C)) ds × IsLabelled C
   IsLabelled (known k ks C) = AreLabelled ks × IsLabelled C
   IsLabelled (hidden ks C) = AreLabelled ks × IsLabelled C
+  IsLabelled (open_call ks C) = AreLabelled ks × IsLabelled C
 
   pub AreLabelled : Knowns → Type 0
   AreLabelled no_knowns = Unit {0}
@@ -37,6 +38,7 @@ labelled_outer (within k offset C) (suc i) h = labelled_outer C i h
 labelled_outer (defining ds es C) (suc i) h = labelled_outer C i h.2
 labelled_outer (known k ks C) (suc i) h = labelled_outer C i h.1
 labelled_outer (hidden ks C) (suc i) h = labelled_outer C i h.1
+labelled_outer (open_call ks C) (suc i) h = labelled_outer C i h.1
 
 pub labelled_unframed : (C : Context) → IsLabelled C → IsLabelled (unframed C)
 labelled_unframed top h = h
@@ -48,15 +50,17 @@ labelled_unframed (defining ds es (within k offset C)) h = (tt, labelled_unframe
 labelled_unframed (defining ds es (defining ds1 es1 C)) h = (tt, labelled_unframed (defining ds1 es1 C) h.2)
 labelled_unframed (defining ds es (known k ks C)) h = (tt, labelled_unframed (known k ks C) h.2)
 labelled_unframed (defining ds es (hidden ks C)) h = (tt, labelled_unframed (hidden ks C) h.2)
+labelled_unframed (defining ds es (open_call ks C)) h = (tt, labelled_unframed (open_call ks C) h.2)
 labelled_unframed (known k ks C) h = (h.0, labelled_unframed C h.1)
 labelled_unframed (hidden ks C) h = (h.0, labelled_unframed C h.1)
+labelled_unframed (open_call ks C) h = (tt, labelled_unframed C h.1)
 
 -- what a parameter is known to be is in range
 labelled_is_known : (ks : Knowns) (i : ℕ) (s : ResolvedStrategy) (D : Context) → IsKnown ks i s D → AreLabelled ks → StrategyInRange (program_layers D) s × IsLabelled D
 labelled_is_known no_knowns i s D h whole = elim h [ ]
-labelled_is_known (more_knowns s1 D1 ks) zero s D h whole =
-    (subst (λ E. StrategyInRange (program_layers E) s) h.1 (subst (λ r. StrategyInRange (program_layers D1) r) h.0 whole.0), subst IsLabelled h.1 whole.1)
-labelled_is_known (more_knowns s1 D1 ks) (suc i) s D h whole = labelled_is_known ks i s D h whole.2
+labelled_is_known (more_knowns other E ks) zero s D h whole =
+    (subst (λ F. StrategyInRange (program_layers F) s) h.1 (subst (λ r. StrategyInRange (program_layers E) r) h.0 whole.0), subst IsLabelled h.1 whole.1)
+labelled_is_known (more_knowns other E ks) (suc i) s D h whole = labelled_is_known ks i s D h whole.2
 
 pub labelled_knows : (C : Context) (i : ℕ) (s : ResolvedStrategy) (D : Context) → KnowsParameter C i s D → IsLabelled C → StrategyInRange (program_layers D) s × IsLabelled D
 labelled_knows top i s D h whole = elim h [ ]
@@ -65,16 +69,26 @@ labelled_knows (within k offset C) i s D h whole = elim h [ ]
 labelled_knows (defining ds es C) i s D h whole = elim h [ ]
 labelled_knows (known k ks C) i s D h whole = labelled_is_known ks i s D h whole.0
 labelled_knows (hidden ks C) i s D h whole = labelled_is_known ks i s D h whole.0
+labelled_knows (open_call ks C) i s D h whole = elim h [ ]
+
+pub labelled_knows_open : (C : Context) (i : ℕ) (s : ResolvedStrategy) (D : Context) → KnowsOpen C i s D → IsLabelled C → StrategyInRange (program_layers D) s × IsLabelled D
+labelled_knows_open top i s D h whole = elim h [ ]
+labelled_knows_open (framed m k C) i s D h whole = elim h [ ]
+labelled_knows_open (within k offset C) i s D h whole = elim h [ ]
+labelled_knows_open (defining ds es C) i s D h whole = elim h [ ]
+labelled_knows_open (known k ks C) i s D h whole = elim h [ ]
+labelled_knows_open (hidden ks C) i s D h whole = elim h [ ]
+labelled_knows_open (open_call ks C) i s D h whole = labelled_is_known ks i s D h whole.0
 
 -- the arguments of a call that are given are in range, and as many as the call has
-pub labelled_given : {S : Site} {ss : ResolvedStrategies} {ks : KnownArguments} → AreGiven S ss ks → IsLabelled (context S) → AreLabelled (knowns ks)
-labelled_given none_given h = tt
-labelled_given (own_given {S = S} own range rest) h = (range, labelled_unframed (context S) h, labelled_given rest h)
-labelled_given (parameter_given {S = S} {T = T} {y = y} {s = s} given rest) h =
-    let found = labelled_knows (outer (context S) y.layers_up) y.slot s (context T) (given_outside S y.layers_up y.slot s T given) (labelled_outer (context S) y.layers_up h) in
-    (found.0, found.1, labelled_given rest h)
+pub labelled_given : {S T : Site} {ss : ResolvedStrategies} {ks : KnownArguments} → AreGivenAt S T ss ks → IsLabelled (context S) → IsLabelled (context T) → AreLabelled (knowns ks)
+labelled_given none_given h inside = tt
+labelled_given (own_given own range rest) h inside = (range, inside, labelled_given rest h inside)
+labelled_given {S} (parameter_given {R = R} {y = y} {s = s} given rest) h inside =
+    let found = labelled_knows (outer (context S) y.layers_up) y.slot s (context R) (given_outside S y.layers_up y.slot s R given) (labelled_outer (context S) y.layers_up h) in
+    (found.0, found.1, labelled_given rest h inside)
 
-pub as_many_given : {S : Site} {ss : ResolvedStrategies} {ks : KnownArguments} → AreGiven S ss ks → strategies_count ss ≡ number_of_knowns (knowns ks)
+pub as_many_given : {S T : Site} {ss : ResolvedStrategies} {ks : KnownArguments} → AreGivenAt S T ss ks → strategies_count ss ≡ number_of_knowns (knowns ks)
 as_many_given none_given = refl
 as_many_given (own_given own range rest) = let others = as_many_given rest in omega (arith, others)
 as_many_given (parameter_given given rest) = let others = as_many_given rest in omega (arith, others)
@@ -96,6 +110,7 @@ outer_layers (within k offset C) (suc i) = outer_layers C i
 outer_layers (defining ds es C) (suc i) = outer_layers C i
 outer_layers (known k ks C) (suc i) = outer_layers C i
 outer_layers (hidden ks C) (suc i) = outer_layers C i
+outer_layers (open_call ks C) (suc i) = outer_layers C i
 
 -- what is called where there are no definitions and nothing is known is a strategy parameter
 known_below : (ks : Knowns) (i : ℕ) → i < number_of_knowns ks → (s : ResolvedStrategy) × (D : Context) × IsKnown ks i s D
@@ -110,6 +125,7 @@ is_parameter (within k' offset D) i m k none h = absurd (omega (arith, h.0))
 is_parameter (defining ds es D) i m k none h = absurd (none.0 tt)
 is_parameter (known k' ks D) i m k none h = let found = known_below ks i h.0 in absurd (none.1 found.0 found.1 found.2)
 is_parameter (hidden ks D) i m k none h = let found = known_below ks i h.0 in absurd (none.1 found.0 found.1 found.2)
+is_parameter (open_call ks D) i m k none h = let found = known_below ks i h.0 in absurd (none.2 found.0 found.1 found.2)
 
 -- patterns look at variables alone, and these are the same whether strategy parameters are known or not
 variable_kept : (C : Context) (h i : ℕ) → IsVariable (outside (program_layers C) h) i → IsVariable (outside (layers_of C) h) i
@@ -125,6 +141,8 @@ variable_kept (known k ks C) zero i r = r
 variable_kept (known k ks C) (suc h) i r = variable_kept C h i r
 variable_kept (hidden ks C) zero i r = r
 variable_kept (hidden ks C) (suc h) i r = variable_kept C h i r
+variable_kept (open_call ks C) zero i r = r
+variable_kept (open_call ks C) (suc h) i r = variable_kept C h i r
 
 mutual
   pub pattern_kept : (C : Context) (p : Pattern Coordinate) → PatternInRange (program_layers C) p → PatternInRange (layers_of C) p
@@ -158,6 +176,7 @@ module _ (n : ℕ) (A : List ℕ) where
     placed (defining ds es C) = defining ds (map placed_entry es) (placed C)
     placed (known k ks C) = known k (placed_knowns ks) (placed C)
     placed (hidden ks C) = hidden (placed_knowns ks) (placed C)
+    placed (open_call ks C) = open_call (placed_knowns ks) (placed C)
 
     pub placed_knowns : Knowns → Knowns
     placed_knowns no_knowns = no_knowns
@@ -173,6 +192,7 @@ module _ (n : ℕ) (A : List ℕ) where
   placed_layers (defining ds es C) = ap (λ L. layer_of_definitions ds L) (placed_layers C)
   placed_layers (known k ks C) = ap (λ L. layer_of 0 k L) (placed_layers C)
   placed_layers (hidden ks C) = ap (λ L. layer_of 0 0 L) (placed_layers C)
+  placed_layers (open_call ks C) = ap (λ L. layer_of 0 0 L) (placed_layers C)
 
   pub placed_outer : (C : Context) (i : ℕ) → outer (placed C) i ≡ placed (outer C i)
   placed_outer C zero = refl
@@ -182,6 +202,7 @@ module _ (n : ℕ) (A : List ℕ) where
   placed_outer (defining ds es C) (suc i) = placed_outer C i
   placed_outer (known k ks C) (suc i) = placed_outer C i
   placed_outer (hidden ks C) (suc i) = placed_outer C i
+  placed_outer (open_call ks C) (suc i) = placed_outer C i
 
   pub placed_frames : (C : Context) (i : ℕ) → frames_in (placed C) i ≡ frames_in C i
   placed_frames C zero = refl
@@ -191,6 +212,7 @@ module _ (n : ℕ) (A : List ℕ) where
   placed_frames (defining ds es C) (suc i) = placed_frames C i
   placed_frames (known k ks C) (suc i) = ap suc (placed_frames C i)
   placed_frames (hidden ks C) (suc i) = placed_frames C i
+  placed_frames (open_call ks C) (suc i) = placed_frames C i
 
   placed_slot : (C : Context) (i : ℕ) → slot_in (placed C) i ≡ slot_in C i
   placed_slot top i = refl
@@ -199,6 +221,7 @@ module _ (n : ℕ) (A : List ℕ) where
   placed_slot (defining ds es C) i = refl
   placed_slot (known k ks C) i = refl
   placed_slot (hidden ks C) i = refl
+  placed_slot (open_call ks C) i = refl
 
   placed_coordinate : (C : Context) (y : Coordinate) → by_frames (placed C) y ≡ by_frames C y
   placed_coordinate C y =
@@ -214,6 +237,7 @@ module _ (n : ℕ) (A : List ℕ) where
   placed_parameter_here (defining ds es D) i h = h
   placed_parameter_here (known k ks D) i h = h
   placed_parameter_here (hidden ks D) i h = h
+  placed_parameter_here (open_call ks D) i h = h
 
   pub placed_parameter : (C : Context) (y : Coordinate) (m k : ℕ) → IsUnknown (outer C y.layers_up) y.slot → IsCallee (outside (program_layers C) y.layers_up) y.slot m k →
       HasParameter (outer (placed C) y.layers_up) y.slot
@@ -228,6 +252,7 @@ module _ (n : ℕ) (A : List ℕ) where
   placed_definitions (defining ds es D) h = h
   placed_definitions (known k ks D) h = h
   placed_definitions (hidden ks D) h = h
+  placed_definitions (open_call ks D) h = h
 
   pub placed_own_code : (C : Context) (s : ResolvedStrategy) → HasOwnCode C s → HasOwnCode (placed C) s
   placed_own_code C id h = tt
@@ -252,14 +277,15 @@ module _ (n : ℕ) (A : List ℕ) where
   placed_hides (hides_definitions h) = hides_definitions (placed_hides h)
   placed_hides (keeps_definitions h) = keeps_definitions (placed_hides h)
   placed_hides (hides_known h) = hides_known (placed_hides h)
+  placed_hides (hides_open h) = hides_open (placed_hides h)
   placed_hides (keeps_known h) = keeps_known (placed_hides h)
   placed_hides (hides_hidden h) = hides_hidden (placed_hides h)
   placed_hides (keeps_hidden h) = keeps_hidden (placed_hides h)
 
   placed_is_known : (ks : Knowns) (i : ℕ) (s : ResolvedStrategy) (D : Context) → IsKnown ks i s D → IsKnown (placed_knowns ks) i s (placed D)
   placed_is_known no_knowns i s D h = h
-  placed_is_known (more_knowns s1 D1 ks) zero s D h = (h.0, ap placed h.1)
-  placed_is_known (more_knowns s1 D1 ks) (suc i) s D h = placed_is_known ks i s D h
+  placed_is_known (more_knowns other E ks) zero s D h = (h.0, ap placed h.1)
+  placed_is_known (more_knowns other E ks) (suc i) s D h = placed_is_known ks i s D h
 
   placed_knows_here : (C : Context) (i : ℕ) (s : ResolvedStrategy) (D : Context) → KnowsParameter C i s D → KnowsParameter (placed C) i s (placed D)
   placed_knows_here top i s D h = h
@@ -268,14 +294,32 @@ module _ (n : ℕ) (A : List ℕ) where
   placed_knows_here (defining ds es C) i s D h = h
   placed_knows_here (known k ks C) i s D h = placed_is_known ks i s D h
   placed_knows_here (hidden ks C) i s D h = placed_is_known ks i s D h
+  placed_knows_here (open_call ks C) i s D h = h
+
+  placed_open_here : (C : Context) (i : ℕ) (s : ResolvedStrategy) (D : Context) → KnowsOpen C i s D → KnowsOpen (placed C) i s (placed D)
+  placed_open_here top i s D h = h
+  placed_open_here (framed m k C) i s D h = h
+  placed_open_here (within k offset C) i s D h = h
+  placed_open_here (defining ds es C) i s D h = h
+  placed_open_here (known k ks C) i s D h = h
+  placed_open_here (hidden ks C) i s D h = h
+  placed_open_here (open_call ks C) i s D h = placed_is_known ks i s D h
 
   pub placed_knows : (C : Context) (y : Coordinate) (s : ResolvedStrategy) (D : Context) → KnowsParameter (outer C y.layers_up) y.slot s D → KnowsParameter (outer (placed C) y.layers_up) y.slot s (placed D)
   placed_knows C y s D h = subst (λ E. KnowsParameter E y.slot s (placed D)) (sym (placed_outer C y.layers_up)) (placed_knows_here (outer C y.layers_up) y.slot s D h)
+
+  pub placed_knows_open : (C : Context) (y : Coordinate) (s : ResolvedStrategy) (D : Context) → KnowsOpen (outer C y.layers_up) y.slot s D → KnowsOpen (outer (placed C) y.layers_up) y.slot s (placed D)
+  placed_knows_open C y s D h = subst (λ E. KnowsOpen E y.slot s (placed D)) (sym (placed_outer C y.layers_up)) (placed_open_here (outer C y.layers_up) y.slot s D h)
 
   pub placed_are_known : {C : Context} {ss : ResolvedStrategies} {ks : Knowns} → AreKnown C ss ks → AreKnown (placed C) ss (placed_knowns ks)
   placed_are_known none_known = none_known
   placed_are_known (own_known {C = C} {s = s} own h rest) = own_known (placed_own_code C s own) (placed_hides h) (placed_are_known rest)
   placed_are_known (parameter_known {C = C} {D = D} {y = y} {s = s} h rest) = parameter_known (placed_knows C y s D h) (placed_are_known rest)
+
+  pub placed_are_known_open : {C : Context} {ss : ResolvedStrategies} {ks : Knowns} → AreKnownOpen C ss ks → AreKnownOpen (placed C) ss (placed_knowns ks)
+  placed_are_known_open none_open = none_open
+  placed_are_known_open (own_open {C = C} {s = s} own rest) = own_open (placed_own_code C s own) (placed_are_known_open rest)
+  placed_are_known_open (parameter_open {C = C} {D = D} {y = y} {s = s} h rest) = parameter_open (placed_knows C y s D h) (placed_are_known_open rest)
 
   pub placed_asks : {C : Context} {s : ResolvedStrategy} {rs : List Root} {n : ℕ} → AsksFor C s rs n → AsksFor (placed C) s rs n
   placed_asks asks_fail = asks_fail
@@ -308,6 +352,7 @@ module _ (n : ℕ) (A : List ℕ) where
   callee_here (within k' offset D) i m k has h callee = elim has [ ]
   callee_here (known k' ks D) i m k has h callee = elim has [ ]
   callee_here (hidden ks D) i m k has h callee = elim has [ ]
+  callee_here (open_call ks D) i m k has h callee = elim has [ ]
   callee_here (defining ds es D) i m k has h callee =
       record {
         ds = ds;

@@ -10,18 +10,18 @@ use Rattle.core_lang.specs.InRange.{layer_of, layer_of_definitions, no_layers, o
 use Rattle.strat_code.specs.Code.{Argument, parameter_at, all_parts, one_part, some_parts, Instr, match_term, build_term, Case, try, commit, select, jump, traverse, call_definition, call_closure, apply_primitive, Code, At}
 use Rattle.strat_code.specs.Context.{Context, Specialization, Hides, hides_top, keeps_definitions, layers_of, outer, frames_in, by_frames}
 use Rattle.strat_code.specs.Renamed.{renamed, all_renamed}
-use Rattle.strat_code.specs.Ranges.{AreKnown, Cases, one_case, more_cases, Ranges, id_range, fail_range, seq_range, choice_range, else_range, select_range, Selects, select_last, select_more, match_range, build_range, scope_range, inner_range, all_range, one_range, some_range, let_jump_range, call_range, specialization_range, inline_range, known_range, parameter_range, primitive_range, Bodies, no_bodies, Arguments, no_arguments, code_argument, known_argument, parameter_argument, Specializations, no_specializations}
-use Rattle.strat_compile.specs.Emission.{IsNoScope, Emits, emits_id, emits_fail, emits_seq, emits_choice, emits_select, emits_match, emits_build, emits_scope, emits_inner, emits_all, emits_one, emits_some, emits_let, emits_call, emits_inline, emits_known, emits_specialization, emits_same, emits_parameter, emits_primitive, EmitsCall, calls, EmitsChain, chain_end, chain_more, EmitsArm, emits_arm, EmitsThen, then_id, then_code, EmitsDefinitions, emits_definitions, EmitsBodies, emits_no_bodies, emits_more_bodies, EmitsBody, emits_body, emits_scope_body, EmitsArguments, emits_no_arguments, emits_code_argument, emits_parameter_argument, emits_known_argument}
+use Rattle.strat_code.specs.Ranges.{AreKnown, AreKnownOpen, Cases, one_case, more_cases, Ranges, id_range, fail_range, seq_range, choice_range, else_range, select_range, Selects, select_last, select_more, match_range, build_range, scope_range, inner_range, all_range, one_range, some_range, let_jump_range, call_range, specialization_range, inline_range, known_range, open_range, argument_range, parameter_range, primitive_range, Bodies, no_bodies, Arguments, no_arguments, code_argument, known_argument, parameter_argument, Specializations, no_specializations}
+use Rattle.strat_compile.specs.Emission.{IsNoScope, Emits, emits_id, emits_fail, emits_seq, emits_choice, emits_select, emits_match, emits_build, emits_scope, emits_inner, emits_all, emits_one, emits_some, emits_let, emits_call, emits_inline, emits_known, emits_open, emits_argument, emits_specialization, emits_same, emits_parameter, emits_primitive, EmitsCall, calls, EmitsChain, chain_end, chain_more, EmitsArm, emits_arm, EmitsThen, then_id, then_code, EmitsDefinitions, emits_definitions, EmitsBodies, emits_no_bodies, emits_more_bodies, EmitsBody, emits_body, emits_scope_body, EmitsArguments, emits_no_arguments, emits_code_argument, emits_parameter_argument, emits_known_argument}
 use Rattle.strat_compile.specs.Chains.{Body, cases_onto, cases_between, selects}
 use Rattle.strat_compile.specs.Located.{located, address, address_if, argument_located, case_located}
 use Rattle.strat_compile.specs.Output.{Emitted, place, count_of}
-use Rattle.strat_compile.specs.Sites.{Site, outermost, in_definitions, in_specialization, in_call, KnownArguments, AreGiven, context, knowns, labelled, program_layers, room_for}
+use Rattle.strat_compile.specs.Sites.{Site, outermost, in_definitions, in_specialization, in_call, in_open_call, KnownArguments, AreGiven, AreGivenOpen, context, knowns, labelled, program_layers, room_for}
 use Rattle.strat_compile.proofs.ChainLaws.{selects_long}
 use Rattle.strat_compile.proofs.EndLaws.{IsEnd, later_end, next_address, located_at, end_emitted, end_selects, end_arm, end_bodies, end_arguments}
 use Rattle.strat_compile.proofs.LabelLaws.{Keeps, kept, kept_chain, kept_arm, kept_then, kept_definitions, kept_bodies, kept_body, kept_arguments, set_long, set_other, set_here}
-use Rattle.strat_compile.proofs.PlacedLaws.{IsLabelled, labelled_outer, labelled_knows, labelled_given, as_many_given, body_as_called, body_in_range, outer_layers, pattern_kept, patterns_kept, placed, placed_entry, placed_knowns, placed_specialization, placed_layers, placed_outer, placed_frames, placed_by_frames, placed_parameter, placed_own_code, placed_knows, placed_are_known, placed_asks, callee}
-use Rattle.strat_compile.proofs.SiteLaws.{given_outside, are_known}
-use Rattle.strat_compile.proofs.SpecializationLaws.{made, made_call, made_chain, made_arm, made_then, made_definitions, made_bodies, made_body, made_arguments, AllIn, all_first, all_second, Registered, registered_given, all_registered, same_registered, both_placed, BodyRange, plain_body, roomy_body, body_more, specialization_more}
+use Rattle.strat_compile.proofs.PlacedLaws.{IsLabelled, labelled_outer, labelled_knows, labelled_knows_open, labelled_given, labelled_unframed, as_many_given, body_as_called, body_in_range, outer_layers, pattern_kept, patterns_kept, placed, placed_entry, placed_knowns, placed_specialization, placed_layers, placed_outer, placed_frames, placed_by_frames, placed_parameter, placed_own_code, placed_knows, placed_knows_open, placed_are_known, placed_are_known_open, placed_asks, callee}
+use Rattle.strat_compile.proofs.SiteLaws.{given_outside, given_open_outside, are_known, are_known_open}
+use Rattle.strat_compile.proofs.SpecializationLaws.{made, made_call, made_chain, made_arm, made_then, made_definitions, made_bodies, made_body, made_arguments, AllIn, all_first, all_second, Registered, registered_given, registered_given_open, all_registered, same_registered, both_placed, BodyRange, plain_body, roomy_body, body_more, specialization_more}
 
 no_room : (s : ResolvedStrategy) → IsNoScope s → room_for s ≡ 0
 no_room id h = refl
@@ -127,6 +127,9 @@ module _ (whole : Emitted) (I : List Specialization) where
   given_placed : {S : Site} {ss : ResolvedStrategies} {ks : KnownArguments} → AreGiven S ss ks → AreKnown (in_place (context S)) ss (placed_knowns (length whole.code) whole.starts (knowns ks))
   given_placed given = placed_are_known (length whole.code) whole.starts (are_known given)
 
+  given_open_placed : {S : Site} {ss : ResolvedStrategies} {ks : KnownArguments} → AreGivenOpen S ss ks → AreKnownOpen (in_place (context S)) ss (placed_knowns (length whole.code) whole.starts (knowns ks))
+  given_open_placed given = placed_are_known_open (length whole.code) whole.starts (are_known_open given)
+
   ranged_call : (C : Context) (x : ℕ) (y : Coordinate) (ps : Patterns Coordinate) (i entry room to : ℕ) (us : List Argument) →
       At final i (call_definition (suc x) (frames_in C y.layers_up) entry room to us (all_renamed (by_frames C) ps)) →
       At final i (call_definition (suc x) (frames_in (in_place C) y.layers_up) entry room to us (all_renamed (by_frames (in_place C)) ps))
@@ -216,7 +219,7 @@ module _ (whole : Emitted) (I : List Specialization) where
         let program = program_called (context S) y label ds at stands.0 in
         let definition = program_definition (context S) y label (strategies_count ss) 0 ds at range.0 in
         let many = sym (body_as_called (strategies_count ss) 0 body definition).0 ∙ as_many_given given in
-        let inside : Stands (in_call ks (in_definitions ds label outermost)) = ((labelled_given given stands.0, program), (all_registered (length whole.code) whole.starts I given stands.1, tt)) in
+        let inside : Stands (in_call ks (in_definitions ds label outermost)) = ((labelled_given given stands.0 (labelled_unframed (context S) stands.0), program), (all_registered (length whole.code) whole.starts I given stands.1 stands.1, tt)) in
         let own = body_in_range (layer_of_definitions ds no_layers) body program.1 in
         let found = ranged a h agree inside (subst (λ z. StrategyInRange (layer_of z 0 (layer_of_definitions ds no_layers)) s) many own) listed in
         (inline_range (program_hides (context S) y label ds at) definition body (given_placed given) found.0, found.1)
@@ -225,11 +228,28 @@ module _ (whole : Emitted) (I : List Specialization) where
         let there = labelled_knows (outer (context S) y.layers_up) y.slot s (context T) knows (labelled_outer (context S) y.layers_up stands.0) in
         let found = ranged a h agree (there.1, registered_given (length whole.code) whole.starts I S y.layers_up y.slot s T given stands.1) there.0 listed in
         (known_range (placed_knows (length whole.code) whole.starts (context S) y s (context T) knows) found.0, found.1)
+    ranged (emits_open {S = S} {label = label} {y = y} {s = s} {ss = ss} {ds = ds} {ks = ks} at body given a) h agree stands range listed =
+        let program = program_called (context S) y label ds at stands.0 in
+        let definition = program_definition (context S) y label (strategies_count ss) 0 ds at range.0 in
+        let many = sym (body_as_called (strategies_count ss) 0 body definition).0 ∙ as_many_given given in
+        let inside : Stands (in_open_call ks (in_definitions ds label outermost)) =
+        ((labelled_given given stands.0 stands.0, program), (all_registered (length whole.code) whole.starts I given stands.1 stands.1, tt)) in
+        let own = body_in_range (layer_of_definitions ds no_layers) body program.1 in
+        let found = ranged a h agree inside (subst (λ z. StrategyInRange (layer_of z 0 (layer_of_definitions ds no_layers)) s) many own) listed in
+        (open_range (program_hides (context S) y label ds at) definition body (given_open_placed given) found.0, found.1)
+    ranged (emits_argument {S = S} {T = T} {y = y} {s = s} none given a) h agree stands range listed =
+        let knows = given_open_outside S y.layers_up y.slot s T given in
+        let there = labelled_knows_open (outer (context S) y.layers_up) y.slot s (context T) knows (labelled_outer (context S) y.layers_up stands.0) in
+        let found = ranged a h agree (there.1, registered_given_open (length whole.code) whole.starts I S y.layers_up y.slot s T given stands.1) there.0 listed in (
+          argument_range (placed_frames (length whole.code) whole.starts (context S) y.layers_up ∙ none)
+              (placed_knows_open (length whole.code) whole.starts (context S) y s (context T) knows) found.0,
+          found.1,
+        )
     ranged (emits_specialization {S = S} {x = x} {k = k} {label = label} {y = y} {s = s} {ss = ss} {ps = ps} {ds = ds} {ks = ks} {o = o} {o1 = o1} at body given a) h agree stands range listed =
         let program = program_called (context S) y label ds at stands.0 in
         let definition = program_definition (context S) y label (strategies_count ss) (patterns_count ps) ds at range.0 in
         let many = sym (body_as_called (strategies_count ss) (patterns_count ps) body definition).0 ∙ as_many_given given in
-        let inside : Stands (in_specialization y.slot (length o.starts) (room_for s) k ks (in_definitions ds label outermost)) = ((labelled_given given stands.0, program), (listed.0, all_registered (length whole.code) whole.starts I given stands.1, tt)) in
+        let inside : Stands (in_specialization y.slot (length o.starts) (room_for s) k ks (in_definitions ds label outermost)) = ((labelled_given given stands.0 (labelled_unframed (context S) stands.0), program), (listed.0, all_registered (length whole.code) whole.starts I given stands.1 stands.1, tt)) in
         let own = body_in_range (layer_of_definitions ds no_layers) body program.1 in
         let long = length-append o.starts (replicate 1 1) in
         let size = set_long o1.starts (length o.starts) (length o1.code) in

@@ -8,10 +8,10 @@ use Rattle.core_lang.specs.Resolved.{ResolvedStrategy, ResolvedStrategies, Resol
 use Rattle.strat_code.specs.Code.{Argument, Entry, entry_at, Code, At, end_definition}
 use Rattle.strat_code.specs.Context.{Context, framed, within, defining, known, Knowns, Specialization, specialization_at}
 use Rattle.strat_code.specs.Ranges.{IsBody, Ranges, Bodies, more_bodies, roomy_bodies, Specializations, no_specializations, more_specializations, roomy_specializations}
-use Rattle.strat_compile.specs.Emission.{Emits, emits_id, emits_fail, emits_seq, emits_choice, emits_select, emits_match, emits_build, emits_scope, emits_inner, emits_all, emits_one, emits_some, emits_let, emits_call, emits_inline, emits_known, emits_specialization, emits_same, emits_parameter, emits_primitive, EmitsCall, calls, EmitsChain, chain_end, chain_more, EmitsArm, emits_arm, EmitsThen, then_id, then_code, EmitsDefinitions, emits_definitions, EmitsBodies, emits_no_bodies, emits_more_bodies, EmitsBody, emits_body, emits_scope_body, EmitsArguments, emits_no_arguments, emits_code_argument, emits_parameter_argument, emits_known_argument}
+use Rattle.strat_compile.specs.Emission.{Emits, emits_id, emits_fail, emits_seq, emits_choice, emits_select, emits_match, emits_build, emits_scope, emits_inner, emits_all, emits_one, emits_some, emits_let, emits_call, emits_inline, emits_known, emits_open, emits_argument, emits_specialization, emits_same, emits_parameter, emits_primitive, EmitsCall, calls, EmitsChain, chain_end, chain_more, EmitsArm, emits_arm, EmitsThen, then_id, then_code, EmitsDefinitions, emits_definitions, EmitsBodies, emits_no_bodies, emits_more_bodies, EmitsBody, emits_body, emits_scope_body, EmitsArguments, emits_no_arguments, emits_code_argument, emits_parameter_argument, emits_known_argument}
 use Rattle.strat_compile.specs.Chains.{Body}
 use Rattle.strat_compile.specs.Output.{Emitted}
-use Rattle.strat_compile.specs.Sites.{Site, outermost, in_frame, in_places, in_definitions, in_specialization, in_call, without_frames, KnownArguments, no_known, more_known, IsArgument, IsGiven, IsSpecialization, AreGiven, none_given, own_given, parameter_given, context, knowns, outside_of, room_for}
+use Rattle.strat_compile.specs.Sites.{Site, outermost, in_frame, in_places, in_definitions, in_specialization, in_call, in_open_call, without_frames, KnownArguments, no_known, more_known, IsArgument, IsGiven, IsGivenOpen, IsSpecialization, AreGivenAt, none_given, own_given, parameter_given, context, knowns, outside_of, room_for}
 use Rattle.strat_compile.proofs.PlacedLaws.{placed_specialization}
 
 -- the specializations that are made, with labels in place of addresses
@@ -33,6 +33,8 @@ abbrev mutual
   made (emits_call a) = made_call a
   made (emits_inline at body given a) = made a
   made (emits_known given a) = made a
+  made (emits_open at body given a) = made a
+  made (emits_argument none given a) = made a
   made (emits_specialization {label = label} {y = y} {s = s} {ds = ds} {ks = ks} {o = o} at body given a) =
       specialization_at (context (in_definitions ds label outermost)) y.slot (knowns ks) (length o.starts) (room_for s) ∷ made_body a
   made (emits_same n label at given is) = []
@@ -97,6 +99,7 @@ module _ (n : ℕ) (A : List ℕ) (I : List Specialization) where
     Registered (in_definitions ds label S) = Registered S
     Registered (in_specialization slot label room k ks S) = IsIn (specialization_at (context S) slot (knowns ks) label room) × AllRegistered ks × Registered S
     Registered (in_call ks S) = AllRegistered ks × Registered S
+    Registered (in_open_call ks S) = AllRegistered ks × Registered S
     Registered (without_frames S) = Registered S
 
     pub AllRegistered : KnownArguments → Type 0
@@ -115,12 +118,14 @@ module _ (n : ℕ) (A : List ℕ) (I : List Specialization) where
   registered_outside (in_specialization slot label room k ks S) (suc i) h = registered_outside S i h.2
   registered_outside (in_call ks S) zero h = h
   registered_outside (in_call ks S) (suc i) h = registered_outside S i h.1
+  registered_outside (in_open_call ks S) zero h = h
+  registered_outside (in_open_call ks S) (suc i) h = registered_outside S i h.1
   registered_outside (without_frames S) i h = registered_outside S i h
 
   registered_argument : (ks : KnownArguments) (i : ℕ) (s : ResolvedStrategy) (T : Site) → IsArgument ks i s T → AllRegistered ks → Registered T
   registered_argument no_known i s T is h = elim is [ ]
-  registered_argument (more_known s1 S1 ks) zero s T is h = subst Registered is.1 h.0
-  registered_argument (more_known s1 S1 ks) (suc i) s T is h = registered_argument ks i s T is h.1
+  registered_argument (more_known other R ks) zero s T is h = subst Registered is.1 h.0
+  registered_argument (more_known other R ks) (suc i) s T is h = registered_argument ks i s T is h.1
 
   registered_here : (S : Site) (i : ℕ) (s : ResolvedStrategy) (T : Site) → IsGiven S i s T → Registered S → Registered T
   registered_here outermost i s T is h = elim is [ ]
@@ -129,15 +134,29 @@ module _ (n : ℕ) (A : List ℕ) (I : List Specialization) where
   registered_here (in_definitions ds label S) i s T is h = elim is [ ]
   registered_here (in_specialization slot label room k ks S) i s T is h = registered_argument ks i s T is h.1
   registered_here (in_call ks S) i s T is h = registered_argument ks i s T is h.0
+  registered_here (in_open_call ks S) i s T is h = elim is [ ]
   registered_here (without_frames S) i s T is h = registered_here S i s T is h
 
   pub registered_given : (S : Site) (h i : ℕ) (s : ResolvedStrategy) (T : Site) → IsGiven (outside_of S h) i s T → Registered S → Registered T
   registered_given S h i s T is all = registered_here (outside_of S h) i s T is (registered_outside S h all)
 
-  pub all_registered : {S : Site} {ss : ResolvedStrategies} {ks : KnownArguments} → AreGiven S ss ks → Registered S → AllRegistered ks
-  all_registered none_given h = tt
-  all_registered (own_given own range rest) h = (h, all_registered rest h)
-  all_registered (parameter_given {S = S} {T = T} {y = y} {s = s} given rest) h = (registered_given S y.layers_up y.slot s T given h, all_registered rest h)
+  registered_open : (S : Site) (i : ℕ) (s : ResolvedStrategy) (T : Site) → IsGivenOpen S i s T → Registered S → Registered T
+  registered_open outermost i s T is h = elim is [ ]
+  registered_open (in_frame m k S) i s T is h = elim is [ ]
+  registered_open (in_places k offset S) i s T is h = elim is [ ]
+  registered_open (in_definitions ds label S) i s T is h = elim is [ ]
+  registered_open (in_specialization slot label room k ks S) i s T is h = elim is [ ]
+  registered_open (in_call ks S) i s T is h = elim is [ ]
+  registered_open (in_open_call ks S) i s T is h = registered_argument ks i s T is h.0
+  registered_open (without_frames S) i s T is h = elim is [ ]
+
+  pub registered_given_open : (S : Site) (h i : ℕ) (s : ResolvedStrategy) (T : Site) → IsGivenOpen (outside_of S h) i s T → Registered S → Registered T
+  registered_given_open S h i s T is all = registered_open (outside_of S h) i s T is (registered_outside S h all)
+
+  pub all_registered : {S T : Site} {ss : ResolvedStrategies} {ks : KnownArguments} → AreGivenAt S T ss ks → Registered S → Registered T → AllRegistered ks
+  all_registered none_given h inside = tt
+  all_registered (own_given own range rest) h inside = (inside, all_registered rest h inside)
+  all_registered {S} (parameter_given {R = R} {y = y} {s = s} given rest) h inside = (registered_given S y.layers_up y.slot s R given h, all_registered rest h inside)
 
   same_here : (S : Site) (slot label room : ℕ) (ks : KnownArguments) (T : Site) → IsSpecialization S slot label room ks T → Registered S → IsIn (specialization_at (context T) slot (knowns ks) label room)
   same_here outermost i l r ks T is h = elim is [ ]
@@ -151,6 +170,7 @@ module _ (n : ℕ) (A : List ℕ) (I : List Specialization) where
       (subst (λ q. IsIn (specialization_at (context S) i (knowns bs) q room)) is.1
       (subst (λ q. IsIn (specialization_at (context S) q (knowns bs) label room)) is.0 h.0))))
   same_here (in_call bs S) i l r ks T is h = elim is [ ]
+  same_here (in_open_call bs S) i l r ks T is h = elim is [ ]
   same_here (without_frames S) i l r ks T is h = same_here S i l r ks T is h
 
   pub same_registered : (S : Site) (h slot label room : ℕ) (ks : KnownArguments) (T : Site) → IsSpecialization (outside_of S h) slot label room ks T → Registered S →

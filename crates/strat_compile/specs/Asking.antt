@@ -5,7 +5,7 @@ use Rattle.core_lang.specs.Roots.{Root}
 use Rattle.strat_code.specs.Context.{Context, hidden, no_knowns}
 use Rattle.strat_code.specs.Ranges.{AsksFor}
 
--- where a term has none of the roots that come in front of the others, the strategy fails with so many nodes
+-- where a term has none of the roots that come in front of the others, the strategy fails with this number of nodes
 pub record AsksOnto (C : Context) (s : ResolvedStrategy) (others rs : List Root) (nodes : ℕ) : Type 0 where
   pub roots : List Root
   pub are : rs ≡ roots ++ others

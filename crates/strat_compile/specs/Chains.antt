@@ -18,7 +18,7 @@ pub record Body : Type 0 where
   pub nodes : ℕ
   pub start : ℕ
 
--- the nodes of a case after which so many others of its alternative come: the last one has them
+-- the nodes of a case, after which there are this number of further ones of its alternative: the last one has them
 abbrev pub nodes_of_case : (others nodes : ℕ) → ℕ
 nodes_of_case zero nodes = nodes
 nodes_of_case (suc others) nodes = 0
@@ -47,7 +47,7 @@ cases_between (b ∷ bs) base last =
     cases_onto b.roots (nodes_passed (length bs) b.nodes) b.start (place_passed (length bs) base last)
     (cases_between bs base last)
 
--- for each alternative, how many cases come before its own, where so many come before those of the first
+-- for each alternative, how many cases come before its own, where this number come before those of the first
 abbrev pub skipped_from : ℕ → List Body → List ℕ
 skipped_from k [] = []
 skipped_from k (b ∷ bs) = k ∷ skipped_from (k + length b.roots) bs

@@ -11,7 +11,7 @@ use Rattle.strat_code.specs.Ranges.{IsBody, AsksFor}
 use Rattle.strat_code.specs.Renamed.{renamed, all_renamed}
 use Rattle.strat_compile.specs.Chains.{Body, selects_onto}
 use Rattle.strat_compile.specs.Layers.{entry_in, entries_of}
-use Rattle.strat_compile.specs.Sites.{Site, outermost, in_frame, in_places, in_definitions, in_specialization, in_call, KnownArguments, AreGiven, IsGiven, IsSpecialization, IsUnknown, context, outside_of, room_for}
+use Rattle.strat_compile.specs.Sites.{Site, outermost, in_frame, in_places, in_definitions, in_specialization, in_call, in_open_call, KnownArguments, AreGiven, AreGivenOpen, IsGiven, IsGivenOpen, IsSpecialization, IsUnknown, context, outside_of, room_for}
 use Rattle.strat_compile.specs.Output.{Emitted, nothing, place, onto, with_labels, starting, count_of}
 
 -- the strategy is no scope
@@ -70,6 +70,13 @@ mutual
     -- a call of a strategy parameter that is known: what it is, whose first instruction is charged the node
     emits_known : {w : Option ℕ} {S T : Site} {x : ℕ} {y : Coordinate} {s : ResolvedStrategy} {ss : ResolvedStrategies} {ps : Patterns Coordinate} {o o1 : Emitted} →
         IsGiven (outside_of S y.layers_up) y.slot s T → Emits w T (suc x) s o o1 → Emits w S x (call y ss ps) o o1
+    -- a call in place whose arguments may look at the innermost frame
+    emits_open : {w : Option ℕ} {S : Site} {x m label : ℕ} {y : Coordinate} {s : ResolvedStrategy} {ss : ResolvedStrategies} {ds : ResolvedDefinitions} {ks : KnownArguments} {o o1 : Emitted} →
+        outer (context S) y.layers_up ≡ context (in_definitions ds label outermost) → IsBody ds y.slot m 0 s → AreGivenOpen S ss ks →
+        Emits w (in_open_call ks (in_definitions ds label outermost)) (suc x) s o o1 → Emits w S x (call y ss no_patterns) o o1
+    -- a call of such an argument, where no frame has been entered since
+    emits_argument : {w : Option ℕ} {S T : Site} {x : ℕ} {y : Coordinate} {s : ResolvedStrategy} {ss : ResolvedStrategies} {ps : Patterns Coordinate} {o o1 : Emitted} →
+        frames_in (context S) y.layers_up ≡ 0 → IsGivenOpen (outside_of S y.layers_up) y.slot s T → Emits w T (suc x) s o o1 → Emits w S x (call y ss ps) o o1
     -- a call of a specialization, which has a new label, in front of its body
     emits_specialization : {w : Option ℕ} {S : Site} {x m k label : ℕ} {y : Coordinate} {s : ResolvedStrategy} {ss : ResolvedStrategies} {ps : Patterns Coordinate} {ds : ResolvedDefinitions} {ks : KnownArguments} {o o1 : Emitted} →
         outer (context S) y.layers_up ≡ context (in_definitions ds label outermost) → IsBody ds y.slot m k s → AreGiven S ss ks →

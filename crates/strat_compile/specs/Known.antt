@@ -9,17 +9,18 @@ use Rattle.strat_code.specs.Context.{outer}
 use Rattle.strat_compile.specs.declared.known.Own.{Own}
 use Rattle.strat_compile.specs.declared.layers.Known.{Known}
 use Rattle.strat_compile.specs.Layers.{KnownArgument, arguments_in, known_of}
-use Rattle.strat_compile.specs.Sites.{AreGiven, IsSpecialization, KnownArguments, Site, context, in_definitions, more_known, outermost, outside_of}
+use Rattle.strat_compile.specs.Sites.{AreGiven, AreGivenAt, IsSpecialization, KnownArguments, Site, context, in_definitions, more_known, outermost, outside_of}
 
--- The argument is known to be this strategy, which stands there: in front of arguments that are known, all are
-pub record IsKnownAs (S : Site) (s r : ResolvedStrategy) (T : Site) : Type 0 where
-  pub given : (ss : ResolvedStrategies) (ks : KnownArguments) → AreGiven S ss ks → AreGiven S (more_strategies s ss) (more_known r T ks)
+-- The argument is known to be this strategy, which stands at the site R: in front of arguments that are known, all are
+pub record IsKnownAs (S T : Site) (s r : ResolvedStrategy) (R : Site) : Type 0 where
+  pub given : (ss : ResolvedStrategies) (ks : KnownArguments) → AreGivenAt S T ss ks → AreGivenAt S T (more_strategies s ss) (more_known r R ks)
 
 -- with whatever is known of the arguments that are left, this is what is known of all
-abbrev pub KnownSoFar : Site → (whole left : List CoreStrategy) → (made : List Known) → Type 0
-KnownSoFar S whole left made = (ks : List KnownArgument) → AreGiven S (strategies_of left) (arguments_in ks) → AreGiven S (strategies_of whole) (arguments_in (map known_of made ++ ks))
+abbrev pub KnownSoFar : (S T : Site) → (whole left : List CoreStrategy) → (made : List Known) → Type 0
+KnownSoFar S T whole left made =
+    (ks : List KnownArgument) → AreGivenAt S T (strategies_of left) (arguments_in ks) → AreGivenAt S T (strategies_of whole) (arguments_in (map known_of made ++ ks))
 
--- the strategy is a call of the strategy parameter at this position of the layer so many layers up
+-- the strategy is a call of the strategy parameter at this position of the layer that is n layers up
 abbrev pub IsParameter : ℕ → ℕ → ResolvedStrategy → Type 0
 IsParameter n i id = ⊥
 IsParameter n i fail = ⊥
@@ -47,7 +48,7 @@ pub record IsOfProgram (S : Site) : Type 0 where
   pub is : S ≡ in_definitions definitions first_label outermost
 
 -- A call at this coordinate with these arguments is of the definition of the program that a specialization is of, with the
--- parameters of the layer of that specialization, so many layers up
+-- parameters of the layer of that specialization, `layers_up` layers up
 pub record IsOwn (S : Site) (at : Coordinate) (ss : ResolvedStrategies) (own : Own) : Type 0 where
   pub layers_up : ℕ
   pub arguments : KnownArguments

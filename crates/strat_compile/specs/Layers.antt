@@ -6,7 +6,7 @@ use Rattle.core_lang.specs.Resolved.{ResolvedStrategy}
 use Rattle.core_lang.specs.Views.{def_of, definitions_of, strategy_of}
 use Rattle.strat_code.specs.Code as code
 use Rattle.strat_code.specs.Code.{entry_at}
-use Rattle.strat_code.specs.Context.{Context, top, framed, within, defining, known, hidden, outer, by_frames, HasDefinitions, HasOwnCode}
+use Rattle.strat_code.specs.Context.{Context, top, framed, within, defining, known, hidden, open_call, outer, by_frames, HasDefinitions, HasOwnCode}
 use Rattle.strat_code.specs.Ranges.{IsBody}
 use Rattle.strat_code.specs.Renamed.{renamed}
 use Rattle.strat_compile.specs.declared.layers.Entry.{Entry}
@@ -35,6 +35,7 @@ entries_of (within k offset C) = []
 entries_of (defining ds es C) = es
 entries_of (known k ks C) = []
 entries_of (hidden ks C) = []
+entries_of (open_call ks C) = []
 
 abbrev pub entry_of : Entry → code.Entry
 entry_of e = entry_at e.label e.room
@@ -117,6 +118,7 @@ HasLayer (within k offset C) = Unit {0}
 HasLayer (defining ds es C) = Unit {0}
 HasLayer (known k ks C) = Unit {0}
 HasLayer (hidden ks C) = Unit {0}
+HasLayer (open_call ks C) = Unit {0}
 
 -- the context, with frames or without
 abbrev pub seen : Bool → Context → Context

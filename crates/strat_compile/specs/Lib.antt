@@ -3,6 +3,7 @@ pub mod Tables
 pub mod Layers
 pub mod Known
 pub mod Ways
+pub mod Conditionals
 pub mod Output
 pub mod Chains
 pub mod Asking

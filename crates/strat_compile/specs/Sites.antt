@@ -7,7 +7,7 @@ use Rattle.core_lang.specs.Program as core
 use Rattle.core_lang.specs.Resolved.{ResolvedStrategy, ResolvedStrategies, ResolvedDefinitions}
 use Rattle.core_lang.specs.Program.{Patterns}
 use Rattle.strat_code.specs.Code.{Entry, entry_at}
-use Rattle.strat_code.specs.Context.{Context, top, framed, within, defining, known, hidden, Knowns, no_knowns, more_knowns, KnowsParameter, HasDefinitions, HasOwnCode}
+use Rattle.strat_code.specs.Context.{Context, top, framed, within, defining, known, hidden, open_call, Knowns, no_knowns, more_knowns, KnowsParameter, KnowsOpen, HasDefinitions, HasOwnCode}
 
 -- for how many places more than the parameters the frame of a definition with this body has room: those of the scope that it is
 abbrev pub room_for : ResolvedStrategy → ℕ
@@ -45,6 +45,8 @@ mutual
     in_specialization : (slot label room variables : ℕ) → KnownArguments → Site → Site
     -- of a call in place, whose strategy parameters are known, or of anything of which nothing is looked at
     in_call : KnownArguments → Site → Site
+    -- of a call in place whose strategy parameters may look at the frame that is the innermost one there
+    in_open_call : KnownArguments → Site → Site
     -- the same layers, as a strategy sees them that looks at no frame
     without_frames : Site → Site
 
@@ -64,8 +66,10 @@ unframed (defining ds es (within k offset C)) = hidden no_knowns (unframed (with
 unframed (defining ds es (defining ds1 es1 C)) = hidden no_knowns (unframed (defining ds1 es1 C))
 unframed (defining ds es (known k ks C)) = hidden no_knowns (unframed (known k ks C))
 unframed (defining ds es (hidden ks C)) = hidden no_knowns (unframed (hidden ks C))
+unframed (defining ds es (open_call ks C)) = hidden no_knowns (unframed (open_call ks C))
 unframed (known k ks C) = hidden ks (unframed C)
 unframed (hidden ks C) = hidden ks (unframed C)
+unframed (open_call ks C) = hidden no_knowns (unframed C)
 
 abbrev mutual
   pub context : Site → Context
@@ -75,6 +79,7 @@ abbrev mutual
   context (in_definitions ds label S) = defining ds (labelled label ds) (context S)
   context (in_specialization slot label room k ks S) = known k (knowns ks) (context S)
   context (in_call ks S) = hidden (knowns ks) (context S)
+  context (in_open_call ks S) = open_call (knowns ks) (context S)
   context (without_frames S) = unframed (context S)
 
   pub knowns : KnownArguments → Knowns
@@ -94,6 +99,8 @@ outside_of (in_specialization slot label room k ks S) zero = in_specialization s
 outside_of (in_specialization slot label room k ks S) (suc i) = outside_of S i
 outside_of (in_call ks S) zero = in_call ks S
 outside_of (in_call ks S) (suc i) = outside_of S i
+outside_of (in_open_call ks S) zero = in_open_call ks S
+outside_of (in_open_call ks S) (suc i) = outside_of S i
 outside_of (without_frames S) i = without_frames (outside_of S i)
 
 -- the site with the frames of its innermost layers
@@ -104,13 +111,14 @@ stripped (in_places k offset S) = in_places k offset S
 stripped (in_definitions ds label S) = in_definitions ds label S
 stripped (in_specialization slot label room k ks S) = in_specialization slot label room k ks S
 stripped (in_call ks S) = in_call ks S
+stripped (in_open_call ks S) = in_open_call ks S
 stripped (without_frames S) = stripped S
 
 -- the argument at a position, and where it stands
 abbrev pub IsArgument : KnownArguments → ℕ → ResolvedStrategy → Site → Type 0
 IsArgument no_known i s T = ⊥
-IsArgument (more_known s1 S1 ks) zero s T = (s1 ≡ s) × (S1 ≡ T)
-IsArgument (more_known s1 S1 ks) (suc i) s T = IsArgument ks i s T
+IsArgument (more_known other R ks) zero s T = (other ≡ s) × (R ≡ T)
+IsArgument (more_known other R ks) (suc i) s T = IsArgument ks i s T
 
 -- the strategy parameter at a position of the innermost layer is known to be this strategy, which stands there
 abbrev pub IsGiven : Site → ℕ → ResolvedStrategy → Site → Type 0
@@ -120,7 +128,19 @@ IsGiven (in_places k offset S) i s T = ⊥
 IsGiven (in_definitions ds label S) i s T = ⊥
 IsGiven (in_specialization slot label room k ks S) i s T = IsArgument ks i s T
 IsGiven (in_call ks S) i s T = IsArgument ks i s T
+IsGiven (in_open_call ks S) i s T = ⊥
 IsGiven (without_frames S) i s T = IsGiven S i s T
+
+-- the same, where it may look at the frame that is the innermost one there
+abbrev pub IsGivenOpen : Site → ℕ → ResolvedStrategy → Site → Type 0
+IsGivenOpen outermost i s T = ⊥
+IsGivenOpen (in_frame m k S) i s T = ⊥
+IsGivenOpen (in_places k offset S) i s T = ⊥
+IsGivenOpen (in_definitions ds label S) i s T = ⊥
+IsGivenOpen (in_specialization slot label room k ks S) i s T = ⊥
+IsGivenOpen (in_call ks S) i s T = ⊥
+IsGivenOpen (in_open_call ks S) i s T = IsArgument ks i s T
+IsGivenOpen (without_frames S) i s T = ⊥
 
 -- the innermost layer is that of the specialization of the definition at this position, with this label and room
 abbrev pub IsSpecialization : Site → (slot label room : ℕ) → KnownArguments → Site → Type 0
@@ -130,6 +150,7 @@ IsSpecialization (in_places k offset S) i l r ks T = ⊥
 IsSpecialization (in_definitions ds label S) i l r ks T = ⊥
 IsSpecialization (in_specialization slot label room k bs S) i l r ks T = (slot ≡ i) × (label ≡ l) × (room ≡ r) × (bs ≡ ks) × (S ≡ T)
 IsSpecialization (in_call bs S) i l r ks T = ⊥
+IsSpecialization (in_open_call bs S) i l r ks T = ⊥
 IsSpecialization (without_frames S) i l r ks T = IsSpecialization S i l r ks T
 
 -- the layers as they are in the program, where a definition has its strategy parameters, known or not
@@ -144,16 +165,27 @@ program_layers (within k offset C) = layer_of 0 k (program_layers C)
 program_layers (defining ds es C) = layer_of_definitions ds (program_layers C)
 program_layers (known k ks C) = layer_of (number_of_knowns ks) k (program_layers C)
 program_layers (hidden ks C) = layer_of (number_of_knowns ks) 0 (program_layers C)
+program_layers (open_call ks C) = layer_of (number_of_knowns ks) 0 (program_layers C)
 
--- The strategy arguments of a call are known: each is a strategy that looks at no frame, or a strategy parameter that is known
-pub data AreGiven : Site → ResolvedStrategies → KnownArguments → Type 0 where
-  none_given : {S : Site} → AreGiven S no_strategies no_known
-  own_given : {S : Site} {s : ResolvedStrategy} {ss : ResolvedStrategies} {ks : KnownArguments} →
-      HasOwnCode (context S) s → StrategyInRange (program_layers (unframed (context S))) s → AreGiven S ss ks →
-      AreGiven S (more_strategies s ss) (more_known s (without_frames S) ks)
-  parameter_given : {S T : Site} {y : Coordinate} {s : ResolvedStrategy} {vs ss : ResolvedStrategies} {ps : Patterns Coordinate} {ks : KnownArguments} →
-      IsGiven (outside_of S y.layers_up) y.slot s T → AreGiven S ss ks → AreGiven S (more_strategies (call y vs ps) ss) (more_known s T ks)
+-- The strategy arguments of a call at the site S are known: each is a strategy that is in range at the site T, where it stands
+-- then, or a strategy parameter that is known
+pub data AreGivenAt (S T : Site) : ResolvedStrategies → KnownArguments → Type 0 where
+  none_given : AreGivenAt S T no_strategies no_known
+  own_given : {s : ResolvedStrategy} {ss : ResolvedStrategies} {ks : KnownArguments} →
+      HasOwnCode (context S) s → StrategyInRange (program_layers (context T)) s → AreGivenAt S T ss ks →
+      AreGivenAt S T (more_strategies s ss) (more_known s T ks)
+  parameter_given : {R : Site} {y : Coordinate} {s : ResolvedStrategy} {vs ss : ResolvedStrategies} {ps : Patterns Coordinate} {ks : KnownArguments} →
+      IsGiven (outside_of S y.layers_up) y.slot s R → AreGivenAt S T ss ks → AreGivenAt S T (more_strategies (call y vs ps) ss) (more_known s R ks)
+
+-- they are known and look at no frame
+abbrev pub AreGiven : Site → ResolvedStrategies → KnownArguments → Type 0
+AreGiven S ss ks = AreGivenAt S (without_frames S) ss ks
+
+-- they are known and may look at the innermost frame
+abbrev pub AreGivenOpen : Site → ResolvedStrategies → KnownArguments → Type 0
+AreGivenOpen S ss ks = AreGivenAt S S ss ks
 
 -- the innermost layer has a strategy parameter at this position of which nothing is known, if it has one there
 abbrev pub IsUnknown : Context → ℕ → Type 0
-IsUnknown C i = ¬ (HasDefinitions C) × ((s : ResolvedStrategy) (D : Context) → KnowsParameter C i s D → ⊥)
+IsUnknown C i = ¬ (HasDefinitions C) × ((s : ResolvedStrategy) (D : Context) → KnowsParameter C i s D → ⊥) ×
+    ((s : ResolvedStrategy) (D : Context) → KnowsOpen C i s D → ⊥)

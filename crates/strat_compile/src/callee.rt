@@ -27,7 +27,8 @@ pub(crate) fn entry_at(
     first_label: usize,
     position: usize,
 ) -> Result<Entry, AllocError>
-    ensures { IfOk result (λ entry. entry_of entry ≡ entry_in (labelled first_label (definitions_of defs.now)) position) }
+    ensures { IfOk result (λ entry. entry_of entry ≡
+        entry_in (labelled first_label (definitions_of defs.now)) position) }
 {
     match defs.get(position) {
         Some(def) => {
@@ -87,7 +88,8 @@ pub(crate) fn sees_none(layers: &Layers) -> bool
 
 // The known argument at a position.
 fn argument_at<'a>(arguments: &'a [Known<'a>], slot: usize) -> Callee<'a>
-    ensures { (C : _) → CallsIn (context (in_call (arguments_of arguments.now) C)) (in_call (arguments_of arguments.now) C) slot result }
+    ensures { (C : _) → CallsIn (context (in_call (arguments_of arguments.now) C))
+        (in_call (arguments_of arguments.now) C) slot result }
 {
     match arguments.get(slot) {
         Some(known) => Callee::Given(*known),
@@ -111,7 +113,8 @@ pub(crate) fn program_definition<'a>(
     layers: &'a Layers<'a>,
     at: Coordinate,
 ) -> Option<ProgramDefinition<'a>>
-    ensures { IfSome result (λ found. IsDefined (outer (context_of layers.now) at.layers_up) at.slot found) }
+    ensures { IfSome result (λ found. IsDefined (outer (context_of layers.now) at.layers_up) at.slot
+        found) }
 {
     let layer = reach(layers, at.layers_up).layers;
     let Layers::Defining {

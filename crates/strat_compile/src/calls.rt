@@ -1,6 +1,7 @@
 // What is emitted for a call. A call of a definition of the program whose strategy arguments are known is made in place, where the
-// definition has no term parameters and does not call itself, or is a call of a specialization, where it has strategy parameters;
-// any other is an ordinary call, which hands its arguments over as closures.
+// definition has no term parameters and does not call itself, or is a call of a specialization, where it has strategy parameters.
+// A call whose arguments look at frames is made in place where the body is a conditional of its parameters. Any other is an
+// ordinary call, which hands its arguments over as closures.
 ghost use Rattle.std.specs.Prelude.{◌≡◌, [], suc, IfOk, OnOk, map};
 ghost use Rattle.core_lang.specs.Program.{call};
 ghost use Rattle.core_lang.specs.Views.{def_of, patterns_of, strategies_of, strategy_of};
@@ -21,6 +22,7 @@ use crate::layers::{
     Callee, Entry, Handing, Known, Layers, ProgramDefinition, frames_among, successor,
 };
 use crate::leaves::emit_closure_call;
+use crate::open_calls::emit_open_call;
 use crate::output::Output;
 use crate::patterns::by_frames_patterns;
 use crate::ways::{EXPANSION_LIMIT, Way, way_of};
@@ -97,8 +99,8 @@ fn emit_definition_call<'a>(
     let mut limit = EXPANSION_LIMIT;
     let found = known_arguments(alloc, &*layers, &frameless, strategies, &mut limit)?;
     let Some(arguments) = found else {
-        return emit_any_call(
-            alloc, out, layers, charged, at, strategies, terms, entry, depth,
+        return emit_open_call(
+            alloc, out, layers, places, charged, at, strategies, terms, definition, entry, depth,
         );
     };
     let way = way_of(alloc, out, at.slot, definition, arguments.as_slice(), terms)?;
@@ -121,10 +123,10 @@ fn emit_definition_call<'a>(
     }
 }
 
-// An ordinary call, as any call.
+/// Emits an ordinary call, as any call.
 #[cycle(emission)]
 #[tactic(auto, using(crate::proofs::RowLaws::called))]
-fn emit_any_call(
+pub(crate) fn emit_any_call(
     alloc: Global,
     out: &mut Output,
     layers: &Layers,
@@ -253,7 +255,8 @@ fn emit_specialization<'a>(
     depth: usize,
 ) -> Result<(), AllocError>
     requires { IsDefined (outer (context_of layers.now) at.layers_up) at.slot definition }
-    ensures { OnOk result ((w ss : _) → AreGiven (site_of layers.now) ss (arguments_of arguments.now) →
+    ensures { OnOk result ((w ss : _) → AreGiven (site_of layers.now) ss
+        (arguments_of arguments.now) →
         Emits w (site_of layers.now) charged (call at ss (patterns_of terms.now))
         (emitted_of out.old) (emitted_of out.new)) }
 {

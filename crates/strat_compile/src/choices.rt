@@ -32,7 +32,9 @@ pub(crate) fn emit_arms(
     chain: &mut Chain,
     depth: usize,
 ) -> Result<(), AllocError>
-    ensures { OnOk result (PutsArms places (site_of layers.now) (map arm_of arms.now) end (bodies_of chain.old) chain.old.last (emitted_of out.old) (bodies_of chain.new) chain.new.last (emitted_of out.new)) }
+    ensures { OnOk result (PutsArms places (site_of layers.now) (map arm_of arms.now) end
+        (bodies_of chain.old) chain.old.last (emitted_of out.old) (bodies_of chain.new)
+        chain.new.last (emitted_of out.new)) }
 {
     for index in (0..arms.len()).rev() {
         emit_next(alloc, out, layers, places, &arms[index], end, chain, depth)?;
@@ -53,7 +55,9 @@ fn emit_next(
     chain: &mut Chain,
     depth: usize,
 ) -> Result<(), AllocError>
-    ensures { OnOk result (PutsArm places (site_of layers.now) (arm_of arm.now) end (bodies_of chain.old) chain.old.last (emitted_of out.old) (bodies_of chain.new) chain.new.last (emitted_of out.new)) }
+    ensures { OnOk result (PutsArm places (site_of layers.now) (arm_of arm.now) end
+        (bodies_of chain.old) chain.old.last (emitted_of out.old) (bodies_of chain.new)
+        chain.new.last (emitted_of out.new)) }
 {
     let Some(found) = joining(alloc, out, layers, arm, !chain.is_empty())? else {
         close(alloc, out, chain)?;
@@ -78,7 +82,8 @@ pub(crate) fn emit_first(
     chain: &mut Chain,
     depth: usize,
 ) -> Result<(), AllocError>
-    ensures { OnOk result (PutsFirst places (site_of layers.now) charged (arm_of arm.now) end (bodies_of chain.old) chain.old.last (emitted_of out.old) (emitted_of out.new)) }
+    ensures { OnOk result (PutsFirst places (site_of layers.now) charged (arm_of arm.now) end
+        (bodies_of chain.old) chain.old.last (emitted_of out.old) (emitted_of out.new)) }
 {
     let Some(found) = joining(alloc, out, layers, arm, !chain.is_empty())? else {
         close(alloc, out, chain)?;
@@ -133,7 +138,8 @@ fn emit_arm(
     end: usize,
     depth: usize,
 ) -> Result<(), AllocError>
-    ensures { OnOk result (EmitsArm places (site_of layers.now) charged (arm_of arm.now).guard (arm_of arm.now).then end (emitted_of out.old) (emitted_of out.new)) }
+    ensures { OnOk result (EmitsArm places (site_of layers.now) charged (arm_of arm.now).guard
+        (arm_of arm.now).then end (emitted_of out.old) (emitted_of out.new)) }
 {
     let otherwise = out.place();
     let nodes = successor(charged)?;
@@ -154,7 +160,8 @@ fn emit_then(
     end: usize,
     depth: usize,
 ) -> Result<(), AllocError>
-    ensures { OnOk result (EmitsThen places (site_of layers.now) (strategy_of then.now) end (emitted_of out.old) (emitted_of out.new)) }
+    ensures { OnOk result (EmitsThen places (site_of layers.now) (strategy_of then.now) end
+        (emitted_of out.old) (emitted_of out.new)) }
 {
     match then {
         CoreStrategy::Id => emit_commit(out, end),

@@ -122,7 +122,8 @@ impl Output {
     /// The code with addresses in place of places and labels.
     #[tactic(auto, unfolding(crate::specs::Output::emitted_of))]
     pub(crate) fn finish(self, alloc: Global) -> Result<Finished, AllocError>
-        ensures { IfOk result (λ made. code_of made.tables.items made.instrs.items ≡ code_in (emitted_of self)) }
+        ensures { IfOk result (λ made. code_of made.tables.items made.instrs.items ≡
+            code_in (emitted_of self)) }
     {
         let Output {
             mut instrs,

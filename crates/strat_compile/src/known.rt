@@ -3,7 +3,7 @@ ghost use Rattle.std.specs.Prelude.{◌≡◌, ◌≤◌, IfOk, IfSome, IsTrue};
 ghost use Rattle.core_lang.specs.Views.{strategies_of, strategy_of};
 ghost use Rattle.strat_compile.specs.Known.{AreParameters, IsKnownAs, IsOfProgram, IsOwn, IsParameter};
 ghost use Rattle.strat_compile.specs.Layers.{arguments_of, site_of};
-ghost use Rattle.strat_compile.specs.Sites.{AreGiven, without_frames};
+ghost use Rattle.strat_compile.specs.Sites.{AreGiven, AreGivenAt, without_frames};
 
 use crate::callee::handing;
 use crate::closed::is_closed;
@@ -18,24 +18,26 @@ pub(crate) struct Own {
     pub(crate) room: usize,
 }
 
-/// Returns what the strategy arguments of a call are known to be, if each of them is known: a strategy that looks at no frame
-/// stands in the frameless layers. One is taken off the limit for each strategy that is looked at; where it runs out, nothing is
-/// known.
+/// Returns what the strategy arguments of a call in the first layers are known to be, if each of them is known: a strategy parameter
+/// that is known, or a strategy that looks at nothing but the second layers and stands there then. One is taken off the limit for
+/// each strategy that is looked at; where it runs out, nothing is known.
 pub(crate) fn known_arguments<'a>(
     alloc: Global,
     layers: &'a Layers<'a>,
-    frameless: &'a Layers<'a>,
+    inside: &'a Layers<'a>,
     strategies: &'a [CoreStrategy],
     limit: &mut usize,
 ) -> Result<Option<Vec<Known<'a>>>, AllocError>
-    requires { site_of frameless.now ≡ without_frames (site_of layers.now) }
     ensures limit { limit.new ≤ limit.old }
-    ensures given { IfOk result (λ found. IfSome found (λ made.
-        AreGiven (site_of layers.now) (strategies_of strategies.now) (arguments_of made.items))) }
+    ensures given { IfOk result (λ found. IfSome found (λ made. AreGivenAt (site_of layers.now)
+        (site_of inside.now) (strategies_of strategies.now) (arguments_of made.items))) }
+    ensures frameless { site_of inside.now ≡ without_frames (site_of layers.now) →
+        IfOk result (λ found. IfSome found (λ made. AreGiven (site_of layers.now)
+        (strategies_of strategies.now) (arguments_of made.items))) }
 {
     let mut made = Vec::with_capacity(alloc, strategies.len())?;
     for strategy in strategies {
-        let Some(known) = known_argument(layers, frameless, strategy, limit)? else {
+        let Some(known) = known_argument(layers, inside, strategy, limit)? else {
             return Ok(None);
         };
         made.push(known)?;
@@ -46,26 +48,25 @@ pub(crate) fn known_arguments<'a>(
 // What a strategy argument is known to be.
 fn known_argument<'a>(
     layers: &'a Layers<'a>,
-    frameless: &'a Layers<'a>,
+    inside: &'a Layers<'a>,
     strategy: &'a CoreStrategy,
     limit: &mut usize,
 ) -> Result<Option<Known<'a>>, AllocError>
-    requires { site_of frameless.now ≡ without_frames (site_of layers.now) }
     ensures limit { limit.new ≤ limit.old }
     ensures known { IfOk result (λ found. IfSome found (λ known.
-        IsKnownAs (site_of layers.now) (strategy_of strategy.now)
+        IsKnownAs (site_of layers.now) (site_of inside.now) (strategy_of strategy.now)
         (strategy_of known.strategy.now) (site_of known.layers.now))) }
 {
     match handing(layers, strategy)? {
         Handing::Inlined(known) => Ok(Some(known)),
         Handing::Parameter(_) => Ok(None),
         Handing::OwnCode => {
-            if !is_closed(strategy, frameless, limit) {
+            if !is_closed(strategy, inside, limit) {
                 return Ok(None);
             }
             Ok(Some(Known {
                 strategy,
-                layers: frameless,
+                layers: inside,
             }))
         }
     }

@@ -122,7 +122,8 @@ pub(crate) fn sum(first: usize, second: usize) -> Result<usize, AllocError>
 /// The layers without this number of the innermost ones.
 pub(crate) fn reach<'a>(layers: &'a Layers<'a>, layers_up: usize) -> Reached<'a>
     ensures context { seen_context result ≡ outer (context_of layers.now) layers_up }
-    ensures site { site_of result.layers.now ≡ stripped (outside_of (site_of layers.now) layers_up) }
+    ensures site { site_of result.layers.now ≡
+        stripped (outside_of (site_of layers.now) layers_up) }
 {
     if let Layers::Frameless { inner } = layers {
         let found = reach(inner, layers_up);

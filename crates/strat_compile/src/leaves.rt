@@ -19,7 +19,8 @@ use strat_code::Instr;
 
 #[tactic(auto, using(crate::proofs::RowLaws::id_row))]
 pub(crate) fn emit_id(out: &mut Output, charged: usize) -> Result<(), AllocError>
-    ensures { OnOk result ((w : _) (S : _) → Emits w S charged id (emitted_of out.old) (emitted_of out.new)) }
+    ensures { OnOk result ((w : _) (S : _) →
+        Emits w S charged id (emitted_of out.old) (emitted_of out.new)) }
 {
     let nodes = successor(charged)?;
     out.emit(Instr::Count { nodes })
@@ -27,7 +28,8 @@ pub(crate) fn emit_id(out: &mut Output, charged: usize) -> Result<(), AllocError
 
 #[tactic(auto, using(crate::proofs::RowLaws::fail_row))]
 pub(crate) fn emit_fail(out: &mut Output, charged: usize) -> Result<(), AllocError>
-    ensures { OnOk result ((w : _) (S : _) → Emits w S charged fail (emitted_of out.old) (emitted_of out.new)) }
+    ensures { OnOk result ((w : _) (S : _) →
+        Emits w S charged fail (emitted_of out.old) (emitted_of out.new)) }
 {
     let nodes = successor(charged)?;
     out.emit(Instr::GiveUp { nodes })
@@ -51,7 +53,8 @@ pub(crate) fn emit_match(
     charged: usize,
     p: &CorePattern,
 ) -> Result<(), AllocError>
-    ensures { OnOk result ((w : _) → Emits w (site_of layers.now) charged (match (pattern_of p.now)) (emitted_of out.old) (emitted_of out.new)) }
+    ensures { OnOk result ((w : _) → Emits w (site_of layers.now) charged (match (pattern_of p.now))
+        (emitted_of out.old) (emitted_of out.new)) }
 {
     let nodes = successor(charged)?;
     let pattern = by_frames_pattern(alloc, p, layers)?;
@@ -66,7 +69,8 @@ pub(crate) fn emit_build(
     charged: usize,
     p: &CorePattern,
 ) -> Result<(), AllocError>
-    ensures { OnOk result ((w : _) → Emits w (site_of layers.now) charged (build (pattern_of p.now)) (emitted_of out.old) (emitted_of out.new)) }
+    ensures { OnOk result ((w : _) → Emits w (site_of layers.now) charged (build (pattern_of p.now))
+        (emitted_of out.old) (emitted_of out.new)) }
 {
     let nodes = successor(charged)?;
     let pattern = by_frames_pattern(alloc, p, layers)?;
@@ -82,7 +86,8 @@ pub(crate) fn emit_primitive(
     name: &[u8],
     terms: &[CorePattern],
 ) -> Result<(), AllocError>
-    ensures { OnOk result ((w : _) → Emits w (site_of layers.now) charged (primitive name.now (patterns_of terms.now)) (emitted_of out.old) (emitted_of out.new)) }
+    ensures { OnOk result ((w : _) → Emits w (site_of layers.now) charged
+        (primitive name.now (patterns_of terms.now)) (emitted_of out.old) (emitted_of out.new)) }
 {
     let nodes = successor(charged)?;
     let name = copied_name(alloc, name)?;
@@ -99,7 +104,9 @@ pub(crate) fn emit_closure_call(
     at: Coordinate,
 ) -> Result<(), AllocError>
     requires { IsUnknown (outer (context_of layers.now) at.layers_up) at.slot }
-    ensures { OnOk result ((w : _) (ss : _) (ps : _) → Emits w (site_of layers.now) charged (call at ss ps) (emitted_of out.old) (emitted_of out.new)) }
+    ensures { OnOk result ((w : _) (ss : _) (ps : _) →
+        Emits w (site_of layers.now) charged (call at ss ps) (emitted_of out.old)
+        (emitted_of out.new)) }
 {
     let nodes = successor(charged)?;
     let closure = frame_coordinate(layers, at)?;

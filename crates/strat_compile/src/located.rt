@@ -38,7 +38,8 @@ fn located_arguments(
     arguments: &[Argument],
     count: usize,
 ) -> Result<Vec<Argument>, AllocError>
-    ensures { IfOk result (λ made. map argument_of made.items ≡ map (argument_located count) (map argument_of arguments.now)) }
+    ensures { IfOk result (λ made. map argument_of made.items ≡
+        map (argument_located count) (map argument_of arguments.now)) }
 {
     let mut made = Vec::with_capacity(alloc, arguments.len())?;
     for argument in arguments {
@@ -65,7 +66,8 @@ fn located_case(case: Case, count: usize) -> Case
 }
 
 fn located_cases(alloc: Global, cases: Vec<Case>, count: usize) -> Result<Vec<Case>, AllocError>
-    ensures { IfOk result (λ made. map case_of made.items ≡ map (case_located count) (map case_of cases.items)) }
+    ensures { IfOk result (λ made. map case_of made.items ≡
+        map (case_located count) (map case_of cases.items)) }
 {
     let mut made = Vec::with_capacity(alloc, cases.len())?;
     for case in cases {
@@ -98,7 +100,8 @@ pub(crate) fn located(
     count: usize,
     starts: &[usize],
 ) -> Result<Instr, AllocError>
-    ensures { IfOk result (λ made. (ts us : _) → AreLocated count ts us → instr_of us made ≡ spec.located count starts.now (instr_of ts instr)) }
+    ensures { IfOk result (λ made. (ts us : _) → AreLocated count ts us → instr_of us made ≡
+        spec.located count starts.now (instr_of ts instr)) }
 {
     let made = match instr {
         Instr::Try { nodes, otherwise } => {

@@ -16,7 +16,8 @@ pub(crate) fn by_frames_pattern(
     source: &CorePattern,
     layers: &Layers,
 ) -> Result<CorePattern, AllocError>
-    ensures { IfOk result (λ made. pattern_of made ≡ renamed (by_frames (context_of layers.now)) (pattern_of source.now)) }
+    ensures { IfOk result (λ made. pattern_of made ≡
+        renamed (by_frames (context_of layers.now)) (pattern_of source.now)) }
 {
     match source {
         CorePattern::Anything => Ok(CorePattern::Anything),
@@ -51,7 +52,8 @@ fn boxed(
     source: &CorePattern,
     layers: &Layers,
 ) -> Result<Box<CorePattern>, AllocError>
-    ensures { IfOk result (λ made. pattern_of made.value ≡ renamed (by_frames (context_of layers.now)) (pattern_of source.now)) }
+    ensures { IfOk result (λ made. pattern_of made.value ≡
+        renamed (by_frames (context_of layers.now)) (pattern_of source.now)) }
 {
     let made = Box::new(alloc, by_frames_pattern(alloc, source, layers)?)?;
     Ok(made)
@@ -63,7 +65,8 @@ fn optional(
     source: &Option<Box<CorePattern>>,
     layers: &Layers,
 ) -> Result<Option<Box<CorePattern>>, AllocError>
-    ensures { IfOk result (λ made. rest_of made ≡ renamed_rest (context_of layers.now) (rest_of source.now)) }
+    ensures { IfOk result (λ made. rest_of made ≡
+        renamed_rest (context_of layers.now) (rest_of source.now)) }
 {
     match source {
         None => Ok(None),
@@ -78,8 +81,10 @@ pub(crate) fn by_frames_patterns(
     source: &[CorePattern],
     layers: &Layers,
 ) -> Result<Vec<CorePattern>, AllocError>
-    ensures each { IfOk result (λ made. map pattern_of made.items ≡ map (renamed (by_frames (context_of layers.now))) (map pattern_of source.now)) }
-    ensures patterns { IfOk result (λ made. patterns_of made.items ≡ all_renamed (by_frames (context_of layers.now)) (patterns_of source.now)) }
+    ensures each { IfOk result (λ made. map pattern_of made.items ≡
+        map (renamed (by_frames (context_of layers.now))) (map pattern_of source.now)) }
+    ensures patterns { IfOk result (λ made. patterns_of made.items ≡
+        all_renamed (by_frames (context_of layers.now)) (patterns_of source.now)) }
 {
     let mut made = Vec::with_capacity(alloc, source.len())?;
     for p in source {

@@ -28,7 +28,8 @@ use strat_code::{Code, Instr};
 /// It recurses where parts are nested and along what is in place, at most 64 parts deep, not along sequences, alternatives or arguments.
 /// `AllocError` where memory is refused.
 pub fn compile(alloc: Global, core: &Core) -> Result<Code, AllocError>
-    ensures stands { IfOk result (λ code. StandsFor (code_of code.tables code.instrs) (program_of core.now) core.now.main) }
+    ensures stands { IfOk result (λ code.
+        StandsFor (code_of code.tables code.instrs) (program_of core.now) core.now.main) }
     ensures prims { IfOk result (λ code. code.prims ≡ core.now.prims) }
 {
     let prims = copied(alloc, core.prims())?;

@@ -94,7 +94,7 @@ fn take_mark(called: &mut Vec<bool>, position: usize) -> bool
     was_called
 }
 
-// Whether a strategy calls a definition of the program that may be recursive: so many layers up are the program's definitions. All
+// Whether a strategy calls a definition of the program that may be recursive: `up` layers up are the definitions of the program. All
 // such definitions that it calls are marked.
 #[cycle(reaching)]
 fn reaches(s: &CoreStrategy, up: usize, recursive: &[bool], called: &mut Vec<bool>) -> bool

@@ -64,7 +64,8 @@ fn root_asked(pattern: &CorePattern) -> Result<Root, AllocError>
 // The match at the beginning of a strategy, alone, in scopes and in sequences, if there is one.
 #[tactic(auto, using(crate::proofs::BeginningLaws::match_begins, crate::proofs::BeginningLaws::sequence_begins, crate::proofs::BeginningLaws::scope_begins, crate::proofs::BeginningLaws::sequence_not, crate::proofs::BeginningLaws::scope_not, crate::proofs::BeginningLaws::other_not))]
 fn begins_with(strategy: &CoreStrategy) -> Result<Option<Beginning>, AllocError>
-    ensures { IfOk result (λ found. MatchOption found (BeginsNot (strategy_of strategy.now)) (λ b. Begins (strategy_of strategy.now) (root_of b.root) b.nodes)) }
+    ensures { IfOk result (λ found. MatchOption found (BeginsNot (strategy_of strategy.now))
+        (λ b. Begins (strategy_of strategy.now) (root_of b.root) b.nodes)) }
 {
     match strategy {
         CoreStrategy::Match(pattern) => {

@@ -18,7 +18,8 @@ impl Output {
     #[tactic(auto, using(crate::proofs::TableLaws::is_table))]
     fn add_table(&mut self, cases: Vec<Case>) -> Result<usize, AllocError>
         ensures view { OnOk result (emitted_of self.new ≡ emitted_of self.old) }
-        ensures table { IfOk result (λ table. IsTable self.new.tables.items table (map case_of cases.items)) }
+        ensures table { IfOk result (λ table.
+            IsTable self.new.tables.items table (map case_of cases.items)) }
     {
         let table = self.tables.len();
         self.tables.push(cases)?;
@@ -35,7 +36,9 @@ impl Output {
         last: usize,
     ) -> Result<(), AllocError>
         requires { table < length self.old.tables.items }
-        ensures view { OnOk result (emitted_of self.new ≡ onto (select nodes (cases_of self.old.tables.items table skipped) last) (emitted_of self.old)) }
+        ensures view { OnOk result (emitted_of self.new ≡
+            onto (select nodes (cases_of self.old.tables.items table skipped) last)
+            (emitted_of self.old)) }
         ensures tables { self.new.tables ≡ self.old.tables }
     {
         self.instrs.push(Instr::Select {
@@ -87,7 +90,8 @@ pub(crate) fn emit_chain(
 /// Puts selects in front where the chain has alternatives, which leave it: an arm that joins no chain comes in front of them.
 #[tactic(auto, using(crate::proofs::ChoiceLaws::closes_none, crate::proofs::ChoiceLaws::selects_close))]
 pub(crate) fn close(alloc: Global, out: &mut Output, chain: &mut Chain) -> Result<(), AllocError>
-    ensures closed { OnOk result (Closes (bodies_of chain.old) chain.old.last (emitted_of out.old) (emitted_of out.new)) }
+    ensures closed { OnOk result (Closes (bodies_of chain.old) chain.old.last (emitted_of out.old)
+        (emitted_of out.new)) }
     ensures empty { OnOk result (bodies_of chain.new ≡ []) }
 {
     if chain.is_empty() {

@@ -28,11 +28,9 @@ pub(crate) const EXPANSION_LIMIT: usize = 500;
 // How deep strategies are nested at most in an expansion, so that emitting it takes little of the call stack.
 const EXPANSION_DEPTH: usize = 64;
 
-// How many strategies all expansions have at most, beside so many for each other instruction: so code is linear in the program, with
-// a small factor.
+// How many strategies all expansions have at most, beside one for each other instruction: so code is linear in the program, with a
+// small factor.
 const FREE_EXPANSIONS: usize = 10_000;
-
-const EXPANSIONS_PER_INSTRUCTION: usize = 2;
 
 /// How a call is made: in place, where the definition has no term parameters and does not call itself, by a specialization, where
 /// it has strategy parameters, and else as any other call, as it is, too, where the code would be too large.
@@ -126,9 +124,7 @@ impl Output {
         ensures { emitted_of self.new ≡ emitted_of self.old }
     {
         let others = self.instrs.len().saturating_sub(self.expanded);
-        let allowed = others
-            .saturating_mul(EXPANSIONS_PER_INSTRUCTION)
-            .saturating_add(FREE_EXPANSIONS);
+        let allowed = others.saturating_add(FREE_EXPANSIONS);
         let expanded = self.expanded.saturating_add(strategies);
         if expanded > allowed {
             return false;

@@ -2,9 +2,10 @@ use Rattle.std.proofs.Common.{ap, ◌∙◌, refl}
 use Rattle.core_lang.specs.Views.{strategy_of}
 use Rattle.core_lang.proofs.ReadLaws.{reads_id}
 use Rattle.strat_compile.specs.Layers.{site_of}
+use Rattle.strat_compile.proofs.OpenLaws.{argument_emits, open_row, conditional_row, part_follows, success_follows}
 use Rattle.strat_compile.proofs.ChoiceLaws.{choice_row, joined_row, of_guard}
 use Rattle.strat_compile.proofs.FormLaws.{on_ok, sequence_row, let_row, called_row, of_arm, of_framed, bodies_next, no_rest_yet, scope_body}
-use Rattle.strat_compile.proofs.LayerLaws.{site_framed, site_within, site_defining, site_specialized}
+use Rattle.strat_compile.proofs.LayerLaws.{site_framed, site_within, site_defining, site_frameless, site_specialized}
 use Rattle.strat_compile.proofs.ScopeLaws.{no_scope}
 use Rattle.strat_compile.proofs.RowLaws.{apart_row, inline_row, own_row, plain_body, arm_row, bodies_done, id_then, inner_row, scope_row}
 use Rattle.strat_compile.proofs.+emission.Goals as goal
@@ -88,10 +89,35 @@ pub calls::emit_definition_call-returns-in-InPlace : goal.calls::emit_definition
 calls::emit_definition_call-returns-in-InPlace t c =
     on_ok c.emit_in_place.result
     (λ h. inline_row (site_of c.args.layers.now) c.args.at _ c.args.terms.now c.in-Some.definition _ _ _ _ _ _ _ _ c.args.places c.in_ok-way.ensures.view c.in-Some.ensures c.in-InPlace.is c.in_ok-way.ensures.way c.in-Some-found.is
-    c.in_ok-found.ensures.given c.as_slice-arguments.ensures.value h) c.emit_in_place.ensures
+    (c.in_ok-found.ensures.frameless (site_frameless _)) c.as_slice-arguments.ensures.value h) c.emit_in_place.ensures
 
 pub calls::emit_specialization-returns : goal.calls::emit_specialization-returns
 calls::emit_specialization-returns t c =
     on_ok c.emit_code_call.result
     (λ last. apart_row _ _ c.args.at _ c.args.definition _ _ _ _ _ _ _ _ _ _ _ _ c.requires (site_specialized _ _ _ _ _ _) c.labels-label.ensures c.room_of-room.ensures c.place-end.ensures
     c.in_ok-add_labels.ensures c.begin_expansion-was_expanding.ensures c.in_ok-emit_body.ensures c.end_expansion.ensures c.start.ensures last) c.emit_code_call.ensures
+
+pub open_calls::emit_part-returns-in_ok-nodes-in-Argument : goal.open_calls::emit_part-returns-in_ok-nodes-in-Argument
+open_calls::emit_part-returns-in_ok-nodes-in-Argument t c =
+    on_ok c.emit.result (λ h. argument_emits c.args.part c.in-Argument.slot c.in-Argument.known _ _ _ _ c.args.places c.in-Argument.is c.in_ok-nodes-in-Argument.ensures h) c.emit.ensures
+
+pub open_calls::emit_then_part-returns-in-Success : goal.open_calls::emit_then_part-returns-in-Success
+open_calls::emit_then_part-returns-in-Success t c =
+    on_ok c.emit_commit.result (λ last. success_follows c.args.then _ _ _ c.args.places c.in-Success.is last) c.emit_commit.ensures
+
+pub open_calls::emit_then_part-returns-in_ok-emit_part-in_default : goal.open_calls::emit_then_part-returns-in_ok-emit_part-in_default
+open_calls::emit_then_part-returns-in_ok-emit_part-in_default t c =
+    on_ok c.emit-in_default.result
+    (λ last. part_follows c.args.then _ _ _ _ _ _ c.args.places c.in_ok-emit-in_default.ensures c.in_ok-emit_part-in_default.ensures c.place-next_address.ensures last) c.emit-in_default.ensures
+
+pub open_calls::emit_conditional-returns : goal.open_calls::emit_conditional-returns
+open_calls::emit_conditional-returns t c =
+    on_ok c.emit.result
+    (λ last ks D parts. conditional_row c.args.conditional ks D _ _ _ _ _ _ _ _ _ c.args.places parts c.in_ok-nodes.ensures c.place-end.ensures c.place-otherwise.ensures
+    c.in_ok-emit_part.ensures c.in_ok-emit_then_part.ensures c.in_ok-emit_part-2.ensures last) c.emit.ensures
+
+pub open_calls::emit_open_call-returns : goal.open_calls::emit_open_call-returns
+open_calls::emit_open_call-returns t c =
+    on_ok c.emit_conditional.result
+    (λ h. open_row _ c.args.at _ c.args.terms.now c.args.definition c.in_ok-found.found c.in-Some.conditional _ _ _ _ c.args.places c.requires.defined c.in-Some.is c.in_ok-found.ensures
+    c.in_ok-nodes.ensures h) c.emit_conditional.ensures

@@ -11,4 +11,4 @@ returns-in-Some c C =
     (argument_given c.args.arguments.now c.args.slot c.in-Some.known.now here.3.0)
 
 pub returns-in-None : goal.returns-in-None
-returns-in-None c C = ((λ h. h), argument_past c.args.arguments.now c.args.slot c.in-None.ensures.lookup.3)
+returns-in-None c C = ((λ h. h), argument_past c.args.arguments.now c.args.slot c.in-None.ensures.lookup.3, λ s D h. h)

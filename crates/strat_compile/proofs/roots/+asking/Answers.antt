@@ -2,7 +2,7 @@ use Rattle.std.proofs.Common.{◌≡◌, ◌+◌, ◌-◌, ◌<◌, length, refl
 use Rattle.core_lang.specs.Views.{strategy_of}
 use Rattle.strat_compile.specs.ChainOf.{roots_of}
 use Rattle.strat_compile.specs.Layers.{site_of}
-use Rattle.strat_compile.proofs.LayerLaws.{context_hidden, site_in_call}
+use Rattle.strat_compile.proofs.LayerLaws.{context_hidden, site_frameless, site_in_call}
 use Rattle.strat_compile.proofs.AskLaws.{defined_found, inside_found, roots_pushed, match_asks, each_found, scope_asks, let_asks, choice_asks, arms_ask, arm_found}
 use Rattle.strat_compile.proofs.roots.+asking.Goals as goal
 
@@ -39,5 +39,5 @@ inside_asked-returns-clause-asks t c = inside_found _ _ _ _ _ _ _ _ (context_hid
 
 pub defined_asked-returns-clause-asks : goal.defined_asked-returns-clause-asks
 defined_asked-returns-clause-asks t c =
-    defined_found (site_of c.args.layers.now) _ c.args.at _ c.in-Some.definition _ _ _ _ _ _ _ c.in-Some.ensures c.if-definition-gt0.false c.in-Some-2.is c.in_ok-arguments.ensures.given
+    defined_found (site_of c.args.layers.now) _ c.args.at _ c.in-Some.definition _ _ _ _ _ _ _ c.in-Some.ensures c.if-definition-gt0.false c.in-Some-2.is (c.in_ok-arguments.ensures.frameless (site_frameless _))
     (site_in_call _ _ _ c.as_slice.ensures.value) c.in-Some-3.is c.in_ok-nodes.ensures.asks c.in_ok-nodes-2.ensures
