@@ -12,6 +12,7 @@ pub mod GroupLaws
 pub mod HeadLaws
 pub mod JoinLaws
 pub mod LocalLaws
+pub mod MarkLaws
 pub mod NameLists
 pub mod OccurrenceTransport
 pub mod PartLaws

@@ -1,7 +1,13 @@
 -- What keys in the code stand for.
 use Rattle.core_lang.specs.Named.{written}
+use Rattle.std.specs.Prelude.{ℕ, List, map}
 use Rattle.str_desugar.specs.Frames.{NamedKey}
+use Rattle.str_desugar.specs.Marks.{AreMarked}
 use Rattle.str_desugar.specs.SameDefinition.{HeadKey}
 
 abbrev pub named_key : HeadKey → NamedKey
 named_key k = record { name = written k.name; strategies = k.strategies; terms = k.terms }
+
+-- the marks of the names of all these keys were set
+abbrev pub AreKeysMarked : List ℕ → List HeadKey → Type 0
+AreKeysMarked words ks = AreMarked words (map (λ k. k.name) ks)

@@ -12,5 +12,6 @@ pub mod Heads
 pub mod HeldNames
 pub mod Keys
 pub mod Layers
+pub mod Marks
 pub mod SameDefinition
 pub mod Variables

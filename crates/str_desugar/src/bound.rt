@@ -2,6 +2,7 @@
 ghost use Rattle.std.specs.Prelude.{◌≡◌, OnOk};
 ghost use Rattle.str_desugar.specs.Gathered.{bound_names, has_name, noted};
 
+use crate::marks::Wanted;
 use crate::names::Names;
 use std::alloc::{AllocError, Global};
 use str_syntax::Name;
@@ -22,17 +23,17 @@ pub(crate) enum Bound<'a> {
 
 impl<'a> Bound<'a> {
     /// Whether the name is bound.
-    pub(crate) fn has(&self, name: &Name) -> bool
-        ensures { result ≡ has_name (bound_names self.now) name.now }
+    pub(crate) fn has(&self, wanted: &Wanted) -> bool
+        ensures { result ≡ has_name (bound_names self.now) wanted.now }
     {
         match self {
             Bound::Nothing => false,
-            Bound::Terms(names) => names.contains(name),
+            Bound::Terms(names) => names.contains(&*wanted),
             Bound::Scope { names, outer } => {
-                if names.contains(name) {
+                if names.contains(&*wanted) {
                     return true;
                 }
-                outer.has(name)
+                outer.has(&*wanted)
             }
         }
     }
@@ -47,8 +48,9 @@ pub(crate) fn note(
 ) -> Result<(), AllocError>
     ensures { OnOk result (found.new ≡ noted (bound_names bound.now) found.old name.now) }
 {
-    if bound.has(name) {
+    let wanted = Wanted::new(name);
+    if bound.has(&wanted) {
         return Ok(());
     }
-    found.insert_new(alloc, name)
+    found.insert_new(alloc, &wanted)
 }

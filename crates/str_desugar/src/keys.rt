@@ -4,6 +4,7 @@ ghost use Rattle.core_lang.specs.Named.{written};
 ghost use Rattle.str_desugar.specs.Frames.{key_position};
 ghost use Rattle.str_desugar.specs.Keys.{named_key};
 
+use crate::marks::{Marks, Wanted};
 use crate::names::same;
 use indexmap::{Equivalent, IndexSet};
 use std::alloc::{AllocError, Global};
@@ -151,14 +152,16 @@ impl<'a> Equivalent<Key> for &Called<'a> {
     }
 }
 
-/// Keys in the order of their definitions. A look-up does not walk them, as long as no key is a repeated one; those of definitions
-/// that stand together are distinct.
+/// Keys in the order of their definitions. A look-up of a name whose mark is not set ends there, and another one does not walk the
+/// keys, as long as no key is a repeated one; those of definitions that stand together are distinct.
 #[derive(Drop)]
 pub(crate) struct Keys {
     // The keys in front of the first one that repeats another.
     distinct: IndexSet<Key>,
     // The keys from there on.
     others: Vec<Key>,
+    // The marks of their names.
+    marks: Marks,
 }
 
 impl Model for Keys {
@@ -169,6 +172,10 @@ impl Model for Keys {
     ghost Value = { List NamedKey };
 
     ghost view = { λ keys. map named_key (keys.distinct.keys ++ keys.others.items) };
+
+    ghost use Rattle.str_desugar.specs.Keys.{AreKeysMarked};
+
+    ghost invariant = { λ keys. AreKeysMarked keys.marks.words (keys.distinct.keys ++ keys.others.items) };
 }
 
 impl Keys {
@@ -179,6 +186,7 @@ impl Keys {
         Keys {
             distinct: IndexSet::new(alloc),
             others: Vec::new(alloc),
+            marks: Marks::new(),
         }
     }
 
@@ -186,6 +194,7 @@ impl Keys {
     pub(crate) fn push(&mut self, key: Key) -> Result<(), AllocError>
         ensures { OnOk result (self.new ≡ self.old ++ named_key key ∷ []) }
     {
+        self.marks.set(&key.name);
         if !self.others.is_empty() || self.distinct.contains(&key) {
             self.others.push(key)?;
             return Ok(());
@@ -195,7 +204,19 @@ impl Keys {
     }
 
     /// The position of the definition that is called by this name with these numbers of strategies and terms.
-    pub(crate) fn position(&self, name: &Name, strategies: usize, terms: usize) -> Option<usize>
+    #[inline(always)]
+    pub(crate) fn position(&self, wanted: &Wanted, strategies: usize, terms: usize) -> Option<usize>
+        ensures { result ≡ key_position self.now (written wanted.now) strategies terms }
+    {
+        if !self.marks.has(&*wanted) {
+            return None;
+        }
+        self.position_of(wanted.name(), strategies, terms)
+    }
+
+    // The same, whatever the mark of the name.
+    #[inline(never)]
+    fn position_of(&self, name: &Name, strategies: usize, terms: usize) -> Option<usize>
         ensures { result ≡ key_position self.now (written name.now) strategies terms }
     {
         let called = Called::new(name, strategies, terms);

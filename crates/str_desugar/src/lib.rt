@@ -13,6 +13,7 @@ mod items;
 mod keys;
 pub mod laws;
 mod locals;
+mod marks;
 mod matched;
 mod names;
 mod parameters;

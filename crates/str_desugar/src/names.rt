@@ -1,9 +1,11 @@
 // Names that a layer gives slots to.
-ghost use Rattle.std.specs.Prelude.{◌≡◌, [], ◌∷◌, ◌++◌, length, map, IfOk, OnOk};
+ghost use Rattle.std.specs.Prelude.{◌≡◌, [], ◌∷◌, ◌++◌, length, map, IfOk, OnOk, OnErr};
 ghost use Rattle.std.specs.Str.{bytes_eq};
 ghost use Rattle.core_lang.specs.Named.{position_of, written};
 ghost use Rattle.str_desugar.specs.Gathered.{has_name, with_new};
+ghost use Rattle.str_desugar.specs.HeldNames.{held_names};
 
+use crate::marks::{Marks, Wanted};
 use indexmap::IndexSet;
 use std::alloc::{AllocError, Global};
 use std::marker::Model;
@@ -53,7 +55,8 @@ impl Hashed {
 
     // Puts the name after the others.
     fn push(&mut self, name: Name) -> Result<(), AllocError>
-        ensures { OnOk result (self.new ≡ self.old ++ name ∷ []) }
+        ensures pushed { OnOk result (self.new ≡ self.old ++ name ∷ []) }
+        ensures unchanged { OnErr result (self.new ≡ self.old) }
     {
         if !self.others.is_empty() || self.distinct.contains(&name) {
             self.others.push(name)?;
@@ -82,10 +85,46 @@ enum Held {
     Many(Hashed),
 }
 
-/// Names in the order of their slots. A look-up compares at most eight of them, as long as no name is a repeated one.
+impl Held {
+    // Puts the name after the others.
+    fn push(&mut self, alloc: Global, name: Name) -> Result<(), AllocError>
+        ensures pushed { OnOk result (held_names self.new ≡ held_names self.old ++ name ∷ []) }
+        ensures unchanged { OnErr result (held_names self.new ≡ held_names self.old) }
+    {
+        match self {
+            Held::Many(names) => names.push(name)?,
+            Held::Few(names) => {
+                if names.len() < FEW {
+                    names.push(name)?;
+                    return Ok(());
+                }
+                let mut many = Hashed::of(alloc, names)?;
+                many.push(name)?;
+                *self = Held::Many(many);
+            }
+        }
+        Ok(())
+    }
+
+    // The slot of the first name that is the same.
+    #[inline(never)]
+    fn position(&self, name: &Name) -> Option<usize>
+        ensures { result ≡ position_of (written name.now) (map written (held_names self.now)) }
+    {
+        match self {
+            Held::Few(names) => position_among(names, name),
+            Held::Many(names) => names.position(name),
+        }
+    }
+}
+
+/// Names in the order of their slots. A look-up of a name whose mark is not set compares none of them, and else at most eight,
+/// as long as no name is a repeated one.
 #[derive(Drop)]
 pub(crate) struct Names {
     held: Held,
+    // The marks of the names.
+    marks: Marks,
 }
 
 impl Model for Names {
@@ -95,6 +134,10 @@ impl Model for Names {
     ghost Value = { List (List ℕ) };
 
     ghost view = { λ names. held_names names.held };
+
+    ghost use Rattle.str_desugar.specs.Marks.{AreMarked};
+
+    ghost invariant = { λ names. AreMarked names.marks.words (held_names names.held) };
 }
 
 impl Names {
@@ -104,6 +147,7 @@ impl Names {
     {
         Names {
             held: Held::Few(Vec::new(alloc)),
+            marks: Marks::new(),
         }
     }
 
@@ -122,47 +166,38 @@ impl Names {
         ensures { OnOk result (self.new ≡ self.old ++ name.now ∷ []) }
     {
         let copy = name.copy(alloc)?;
-        match &mut self.held {
-            Held::Many(names) => names.push(copy)?,
-            Held::Few(names) => {
-                if names.len() < FEW {
-                    names.push(copy)?;
-                    return Ok(());
-                }
-                let mut many = Hashed::of(alloc, names)?;
-                many.push(copy)?;
-                self.held = Held::Many(many);
-            }
-        }
+        self.marks.set(name);
+        self.held.push(alloc, copy)?;
         Ok(())
     }
 
     /// Whether the name is one of these.
     #[tactic(auto, using(crate::proofs::GatheredLaws::has_position))]
-    pub(crate) fn contains(&self, name: &Name) -> bool
-        ensures { result ≡ has_name self.now name.now }
+    pub(crate) fn contains(&self, wanted: &Wanted) -> bool
+        ensures { result ≡ has_name self.now wanted.now }
     {
-        self.position(name).is_some()
+        self.position(wanted).is_some()
     }
 
     /// Puts a copy of the name after the others where it is new. `AllocError` where the memory for it is refused.
-    pub(crate) fn insert_new(&mut self, alloc: Global, name: &Name) -> Result<(), AllocError>
-        ensures { OnOk result (self.new ≡ with_new self.old name.now) }
+    pub(crate) fn insert_new(&mut self, alloc: Global, wanted: &Wanted) -> Result<(), AllocError>
+        ensures { OnOk result (self.new ≡ with_new self.old wanted.now) }
     {
-        if self.contains(name) {
+        if self.contains(wanted) {
             return Ok(());
         }
-        self.push(alloc, name)
+        self.push(alloc, wanted.name())
     }
 
     /// The slot of the first name that is the same.
-    pub(crate) fn position(&self, name: &Name) -> Option<usize>
-        ensures { result ≡ position_of (written name.now) (map written self.now) }
+    #[inline(always)]
+    pub(crate) fn position(&self, wanted: &Wanted) -> Option<usize>
+        ensures { result ≡ position_of (written wanted.now) (map written self.now) }
     {
-        match &self.held {
-            Held::Few(names) => position_among(names, name),
-            Held::Many(names) => names.position(name),
+        if !self.marks.has(&*wanted) {
+            return None;
         }
+        self.held.position(wanted.name())
     }
 }
 

@@ -19,6 +19,7 @@ use crate::assembly::scope_of;
 use crate::forms::{forms_in, groups_of, head_of};
 use crate::items::put;
 use crate::keys::Keys;
+use crate::marks::Wanted;
 use crate::names::{Names, names_in};
 use crate::parameters::{strategy_names, term_names};
 use crate::rules::scoped_rule;
@@ -78,7 +79,7 @@ fn plain_position(alloc: Global, keys: &Keys, name: &[u8]) -> Result<Option<usiz
     ensures { IfOk result (λ found. found ≡ key_position keys.now (written name.now) 0 0) }
 {
     let name = Name::new(alloc, name, 0)?;
-    Ok(keys.position(&name, 0, 0))
+    Ok(keys.position(&Wanted::new(&name), 0, 0))
 }
 
 // The definitions of these groups, in the layer that has their keys.

@@ -8,7 +8,8 @@ ghost use Rattle.str_desugar.specs.Layers.{layers_of};
 ghost use Rattle.str_desugar.specs.declared.scopes.Scopes.{size-Scopes};
 
 use crate::keys::Keys;
-use crate::names::Names;
+use crate::marks::Wanted;
+use crate::names::{Names, same};
 use core_lang::Coordinate;
 use std::alloc::AllocError;
 use str_syntax::Name;
@@ -54,20 +55,25 @@ fn one_more(layers_up: usize) -> Result<usize, AllocError>
 }
 
 // The slot of the strategy parameter that is called by this name with these numbers of strategies and terms.
-fn parameter(parameters: &Names, name: &Name, strategies: usize, terms: usize) -> Option<usize>
-    ensures { result ≡ parameter_position (map written parameters.now) (written name.now) strategies terms }
+fn parameter(parameters: &Names, wanted: &Wanted, strategies: usize, terms: usize) -> Option<usize>
+    ensures { result ≡ parameter_position (map written parameters.now) (written wanted.now) strategies terms }
 {
     if strategies == 0 && terms == 0 {
-        return parameters.position(name);
+        return parameters.position(&*wanted);
     }
     None
 }
 
 // The slot of the definition of a `rec` of the one name, where the other is called with these numbers of strategies and terms.
-fn only_definition(defined: &Name, name: &Name, strategies: usize, terms: usize) -> Option<usize>
-    ensures { result ≡ key_position (record { name = written defined.now; strategies = 0; terms = 0 } ∷ []) (written name.now) strategies terms }
+fn only_definition(
+    defined: &Name,
+    wanted: &Wanted,
+    strategies: usize,
+    terms: usize,
+) -> Option<usize>
+    ensures { result ≡ key_position (record { name = written defined.now; strategies = 0; terms = 0 } ∷ []) (written wanted.now) strategies terms }
 {
-    if name.bytes() == defined.bytes() && strategies == 0 && terms == 0 {
+    if same(wanted.name(), defined) && strategies == 0 && terms == 0 {
         return Some(0);
     }
     None
@@ -90,14 +96,14 @@ impl<'a> Scopes<'a> {
     }
 
     // The slot of the variable of this name in the innermost layer.
-    fn own_variable(&self, name: &Name) -> Option<usize>
-        ensures { result ≡ variable_slot (layers_of self.now) (written name.now) }
+    fn own_variable(&self, wanted: &Wanted) -> Option<usize>
+        ensures { result ≡ variable_slot (layers_of self.now) (written wanted.now) }
     {
         match self {
             Scopes::Outermost => None,
             Scopes::Brought { .. } => None,
-            Scopes::Variables { names, .. } => names.position(name),
-            Scopes::Parameters { terms, .. } => terms.position(name),
+            Scopes::Variables { names, .. } => names.position(&*wanted),
+            Scopes::Parameters { terms, .. } => terms.position(&*wanted),
             Scopes::Recursive { .. } | Scopes::Defined { .. } => None,
         }
     }
@@ -122,17 +128,19 @@ impl<'a> Scopes<'a> {
 
     // The slot in the innermost layer of what is called by this name with these numbers of
     // strategies and terms.
-    fn own_callee(&self, name: &Name, strategies: usize, terms: usize) -> Option<usize>
-        ensures { result ≡ callee_slot (layers_of self.now) (written name.now) strategies terms }
+    fn own_callee(&self, wanted: &Wanted, strategies: usize, terms: usize) -> Option<usize>
+        ensures { result ≡ callee_slot (layers_of self.now) (written wanted.now) strategies terms }
     {
         match self {
             Scopes::Outermost | Scopes::Brought { .. } | Scopes::Variables { .. } => None,
             Scopes::Parameters {
                 strategies: parameters,
                 ..
-            } => parameter(parameters, name, strategies, terms),
-            Scopes::Recursive { name: only, .. } => only_definition(only, name, strategies, terms),
-            Scopes::Defined { keys, .. } => keys.position(name, strategies, terms),
+            } => parameter(parameters, &*wanted, strategies, terms),
+            Scopes::Recursive { name: only, .. } => only_definition(
+                only, &*wanted, strategies, terms,
+            ),
+            Scopes::Defined { keys, .. } => keys.position(&*wanted, strategies, terms),
         }
     }
 
@@ -140,10 +148,11 @@ impl<'a> Scopes<'a> {
     pub(crate) fn variable(&self, name: &Name) -> Result<Coordinate, AllocError>
         ensures { IfOk result (λ made. made ≡ variable_at (layers_of self.now) (written name.now)) }
     {
+        let wanted = Wanted::new(name);
         let mut layers_up = 0;
         let mut layer = *self;
         while let Some(outer) = layer.outer() {
-            if let Some(slot) = layer.own_variable(name) {
+            if let Some(slot) = layer.own_variable(&wanted) {
                 return Ok(Coordinate { layers_up, slot });
             }
             layers_up = one_more(layers_up)?;
@@ -177,10 +186,11 @@ impl<'a> Scopes<'a> {
     ) -> Result<Coordinate, AllocError>
         ensures { IfOk result (λ made. made ≡ callee_at (layers_of self.now) (written name.now) strategies terms) }
     {
+        let wanted = Wanted::new(name);
         let mut layers_up = 0;
         let mut layer = *self;
         while let Some(outer) = layer.outer() {
-            if let Some(slot) = layer.own_callee(name, strategies, terms) {
+            if let Some(slot) = layer.own_callee(&wanted, strategies, terms) {
                 return Ok(Coordinate { layers_up, slot });
             }
             layers_up = one_more(layers_up)?;

@@ -8,6 +8,6 @@ use Rattle.str_desugar.proofs.scopes.Scopes.own_variable.Goals as goal
 
 pub returns-in-Brought : goal.returns-in-Brought
 returns-in-Brought c =
-    sym (ap (λ s. variable_slot (layers_of s) (written c.args.name.now)) c.in-Brought.is ∙
-    ap (λ F. variable_slot F (written c.args.name.now)) (reads_brought c.in-Brought.count c.in-Brought.outer) ∙
-    no_written c.args.name.now c.in-Brought.count)
+    sym (ap (λ s. variable_slot (layers_of s) (written c.args.wanted.now)) c.in-Brought.is ∙
+    ap (λ F. variable_slot F (written c.args.wanted.now)) (reads_brought c.in-Brought.count c.in-Brought.outer) ∙
+    no_written c.args.wanted.now c.in-Brought.count)

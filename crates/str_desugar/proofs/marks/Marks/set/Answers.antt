@@ -1,0 +1,13 @@
+use Rattle.std.proofs.Common.{◌<◌, ◌/◌, length, arith, rules}
+use Rattle.str_desugar.proofs.MarkLaws.{set_added, set_kept}
+use Rattle.str_desugar.proofs.marks.Marks.set.Goals as goal
+
+pub returns-clause-added : goal.returns-clause-added
+returns-clause-added c =
+    let within : c.mark_of-mark.result / 64 < length c.args.self.now.words = search rules in
+    rw (← c.mark_of-mark.ensures.mark) (set_added c.args.self.now.words c.mark_of-mark.result within)
+
+pub returns-clause-kept : goal.returns-clause-kept
+returns-clause-kept c =
+    let within : c.mark_of-mark.result / 64 < length c.args.self.now.words = omega arith in
+    set_kept c.args.self.now.words c.mark_of-mark.result within

@@ -1,0 +1,9 @@
+use Rattle.std.proofs.Common.{ap, ◌∙◌, ◌%◌}
+use Rattle.std.specs.Hash.FoldHasher as folding
+use Rattle.str_desugar.specs.Marks.{mark_of}
+use Rattle.str_desugar.proofs.marks.mark_of.Goals as goal
+
+pub returns-clause-mark : goal.returns-clause-mark
+unfolding mark_of
+returns-clause-mark c =
+    ap (λ n. n % 512) (c.finish-hash.ensures ∙ ap folding.finish (c.write.ensures ∙ ap (λ hasher. folding.write hasher c.bytes.result.now) c.default-hasher.ensures ∙ ap (folding.write folding.initial) c.bytes.ensures))
