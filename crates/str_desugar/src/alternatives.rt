@@ -149,11 +149,13 @@ impl<'a> Groups<'a> {
     }
 
     /// The keys of the definitions, in the order of their first alternatives. `AllocError` where a growth is refused.
-    pub(crate) fn keys(&self, alloc: Global) -> Result<Keys, AllocError>
-        ensures { IfOk result (λ made. (all : List Alternative) → map head_in all ≡ self.now → made ≡ keys_of (definitions_of_all all)) }
+    #[inline(never)]
+    pub(crate) fn keys(&self, alloc: Global) -> Result<Box<Keys>, AllocError>
+        ensures { IfOk result (λ made. (all : List Alternative) → map head_in all ≡ self.now → made.value ≡ keys_of (definitions_of_all all)) }
     {
         let keys = self.keys_of_firsts(alloc)?;
-        Ok(keys)
+        let made = Box::new(alloc, keys)?;
+        Ok(made)
     }
 
     /// The definitions, in the order of their first alternatives: of each the alternatives are tried in the order of the text.

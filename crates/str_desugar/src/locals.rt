@@ -62,7 +62,7 @@ pub(crate) fn recursive(
         name: &*name,
         outer: &*scopes,
     };
-    let none = Names::new(context.alloc);
+    let none = Names::new();
     let inner = Scopes::Parameters {
         strategies: &none,
         terms: &none,
@@ -79,7 +79,7 @@ fn strategies_of(alloc: Global, parameters: &Parameters) -> Result<Names, AllocE
     ensures { IfOk result (λ made. made ≡ strategy_names (parameters_of parameters.now)) }
 {
     match parameters {
-        Parameters::Absent => Ok(Names::new(alloc)),
+        Parameters::Absent => Ok(Names::new()),
         Parameters::Strategies(names) => names_in(alloc, names),
         Parameters::WithTerms(names, _) => names_in(alloc, names),
     }
@@ -91,8 +91,8 @@ fn terms_of(alloc: Global, parameters: &Parameters) -> Result<Names, AllocError>
     ensures { IfOk result (λ made. made ≡ term_names (parameters_of parameters.now)) }
 {
     match parameters {
-        Parameters::Absent => Ok(Names::new(alloc)),
-        Parameters::Strategies(_) => Ok(Names::new(alloc)),
+        Parameters::Absent => Ok(Names::new()),
+        Parameters::Strategies(_) => Ok(Names::new()),
         Parameters::WithTerms(_, names) => names_in(alloc, names),
     }
 }

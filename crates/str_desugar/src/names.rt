@@ -118,16 +118,16 @@ impl Held {
     }
 }
 
-/// Names in the order of their slots. A look-up of a name whose mark is not set compares none of them, and else at most eight,
-/// as long as no name is a repeated one.
+// Names in the order of their slots. A look-up of a name whose mark is not set compares none of them, and else at most eight,
+// as long as no name is a repeated one.
 #[derive(Drop)]
-pub(crate) struct Names {
+struct Table {
     held: Held,
     // The marks of the names.
     marks: Marks,
 }
 
-impl Model for Names {
+impl Model for Table {
     ghost use Rattle.std.specs.Prelude.{ℕ, List};
     ghost use Rattle.str_desugar.specs.HeldNames.{held_names};
 
@@ -140,19 +140,19 @@ impl Model for Names {
     ghost invariant = { λ names. AreMarked names.marks.words (held_names names.held) };
 }
 
-impl Names {
-    /// No names.
-    pub(crate) fn new(alloc: Global) -> Names
+impl Table {
+    // No names.
+    fn new(alloc: Global) -> Table
         ensures { result ≡ [] }
     {
-        Names {
+        Table {
             held: Held::Few(Vec::new(alloc)),
             marks: Marks::new(),
         }
     }
 
-    /// How many names there are.
-    pub(crate) fn len(&self) -> usize
+    // How many names there are.
+    fn len(&self) -> usize
         ensures { result ≡ length self.now }
     {
         match &self.held {
@@ -161,13 +161,80 @@ impl Names {
         }
     }
 
-    /// Puts a copy of the name after the others. `AllocError` where the memory for it is refused.
-    pub(crate) fn push(&mut self, alloc: Global, name: &Name) -> Result<(), AllocError>
+    // Puts a copy of the name after the others.
+    fn push(&mut self, alloc: Global, name: &Name) -> Result<(), AllocError>
         ensures { OnOk result (self.new ≡ self.old ++ name.now ∷ []) }
     {
         let copy = name.copy(alloc)?;
         self.marks.set(name);
         self.held.push(alloc, copy)?;
+        Ok(())
+    }
+
+    // The slot of the first name that is the same.
+    #[inline(always)]
+    fn position(&self, wanted: &Wanted) -> Option<usize>
+        ensures { result ≡ position_of (written wanted.now) (map written self.now) }
+    {
+        if !self.marks.has(&*wanted) {
+            return None;
+        }
+        self.held.position(wanted.name())
+    }
+}
+
+// A table of the one name.
+#[inline(never)]
+fn table_of(alloc: Global, name: &Name) -> Result<Box<Table>, AllocError>
+    ensures { IfOk result (λ made. made.value ≡ name.now ∷ []) }
+{
+    let mut made = Box::new(alloc, Table::new(alloc))?;
+    made.push(alloc, name)?;
+    Ok(made)
+}
+
+/// Names in the order of their slots, in a table that is made with the first of them. So no names take no memory, and a value of
+/// this type takes little of the call stack.
+#[derive(Drop)]
+pub(crate) struct Names {
+    table: Option<Box<Table>>,
+}
+
+impl Model for Names {
+    ghost use Rattle.std.specs.Prelude.{ℕ, List};
+    ghost use Rattle.str_desugar.specs.HeldNames.{names_among};
+
+    ghost Value = { List (List ℕ) };
+
+    ghost view = { λ names. names_among names.table };
+}
+
+impl Names {
+    /// No names.
+    pub(crate) fn new() -> Names
+        ensures { result ≡ [] }
+    {
+        Names { table: None }
+    }
+
+    /// How many names there are.
+    pub(crate) fn len(&self) -> usize
+        ensures { result ≡ length self.now }
+    {
+        match &self.table {
+            None => 0,
+            Some(table) => table.len(),
+        }
+    }
+
+    /// Puts a copy of the name after the others. `AllocError` where the memory for it is refused.
+    pub(crate) fn push(&mut self, alloc: Global, name: &Name) -> Result<(), AllocError>
+        ensures { OnOk result (self.new ≡ self.old ++ name.now ∷ []) }
+    {
+        match &mut self.table {
+            None => self.table = Some(table_of(alloc, name)?),
+            Some(table) => table.push(alloc, name)?,
+        }
         Ok(())
     }
 
@@ -194,10 +261,10 @@ impl Names {
     pub(crate) fn position(&self, wanted: &Wanted) -> Option<usize>
         ensures { result ≡ position_of (written wanted.now) (map written self.now) }
     {
-        if !self.marks.has(&*wanted) {
-            return None;
+        match &self.table {
+            None => None,
+            Some(table) => table.position(&*wanted),
         }
-        self.held.position(wanted.name())
     }
 }
 
@@ -224,7 +291,7 @@ pub(crate) fn same(name: &Name, other: &Name) -> bool
 pub(crate) fn names_in(alloc: Global, source: &[Name]) -> Result<Names, AllocError>
     ensures { IfOk result (λ made. made ≡ source.now) }
 {
-    let mut made = Names::new(alloc);
+    let mut made = Names::new();
     for name in source {
         made.push(alloc, name)?;
     }

@@ -22,7 +22,7 @@ pub(crate) fn free_of_strategy(
 {
     let terms = names_in(alloc, terms)?;
     let bound = Bound::Terms(&terms);
-    let mut found = Names::new(alloc);
+    let mut found = Names::new();
     in_strategy(alloc, source, &bound, &mut found)?;
     Ok(found)
 }
@@ -37,7 +37,7 @@ pub(crate) fn free_of_rule(
 {
     let terms = names_in(alloc, terms)?;
     let bound = Bound::Terms(&terms);
-    let mut found = Names::new(alloc);
+    let mut found = Names::new();
     in_rule(alloc, source, &bound, &mut found)?;
     Ok(found)
 }
@@ -47,7 +47,7 @@ pub(crate) fn free_of_rule(
 pub(crate) fn left_variables(alloc: Global, source: &Rule) -> Result<Names, AllocError>
     ensures { IfOk result (λ made. made ≡ each_once (left_names (rule_of source.now))) }
 {
-    let mut found = Names::new(alloc);
+    let mut found = Names::new();
     in_pattern(alloc, &source.left, &Bound::Nothing, &mut found)?;
     Ok(found)
 }

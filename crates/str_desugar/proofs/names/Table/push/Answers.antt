@@ -2,7 +2,7 @@ use Rattle.std.proofs.Common.{◌∙◌, List, ap, subst, sym}
 use Rattle.str_desugar.specs.HeldNames.{held_names}
 use Rattle.str_desugar.specs.Marks.{AreMarked, has_mark, mark_of}
 use Rattle.str_desugar.proofs.MarkLaws.{marked_more, marked_on}
-use Rattle.str_desugar.proofs.names.Names.push.Goals as goal
+use Rattle.str_desugar.proofs.names.Table.push.Goals as goal
 
 pub invariant_of-self : goal.invariant_of-self
 invariant_of-self c =

@@ -3,7 +3,7 @@ use Rattle.core_lang.specs.Named.{position_of, written}
 use Rattle.str_desugar.specs.HeldNames.{held_names}
 use Rattle.str_desugar.specs.Marks.{has_mark, mark_of}
 use Rattle.str_desugar.proofs.MarkLaws.{unmarked_name}
-use Rattle.str_desugar.proofs.names.Names.position.Goals as goal
+use Rattle.str_desugar.proofs.names.Table.position.Goals as goal
 
 pub returns-then-not-has : goal.returns-then-not-has
 returns-then-not-has c =
