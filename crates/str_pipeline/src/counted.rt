@@ -5,15 +5,16 @@ ghost use Rattle.str_pipeline.specs.Asked.{device_of, calls_of, failures_of};
 use crate::sink::Sink;
 use crate::source::Source;
 use crate::tally::Count;
-use std::io::{Read, Write};
+use std::io::{ErrorKind, Read, Write};
 
 /// A reader or a writer of std. It shows the bytes that the device shows: those of a slice or a vector, and none of a file,
-/// a terminal or a standard stream. Any error is a failed call.
+/// a terminal or a standard stream. Any error is a failed call, and the kind of the last one is kept.
 #[derive(Drop)]
 pub struct Counted<D> {
     device: D,
     calls: Count,
     failed: Count,
+    failure: Option<ErrorKind>,
 }
 
 impl<D> Counted<D> {
@@ -27,6 +28,7 @@ impl<D> Counted<D> {
             device,
             calls: Count::new(),
             failed: Count::new(),
+            failure: None,
         }
     }
 
@@ -49,11 +51,16 @@ impl<D: Read> Source for Counted<D> {
         self.calls.step();
         match self.device.read(piece) {
             Ok(count) => Some(count),
-            Err(_) => {
+            Err(error) => {
                 self.failed.step();
+                self.failure = Some(error.kind());
                 None
             }
         }
+    }
+
+    fn failure(&self) -> Option<ErrorKind> {
+        self.failure
     }
 }
 
@@ -70,13 +77,19 @@ impl<D: Write> Sink for Counted<D> {
             Ok(count) => {
                 if count == 0 && !text.is_empty() {
                     self.failed.step();
+                    self.failure = Some(ErrorKind::WriteZero);
                 }
                 Some(count)
             }
-            Err(_) => {
+            Err(error) => {
                 self.failed.step();
+                self.failure = Some(error.kind());
                 None
             }
         }
+    }
+
+    fn failure(&self) -> Option<ErrorKind> {
+        self.failure
     }
 }

@@ -2,6 +2,7 @@
 ghost use Rattle.std.specs.Prelude.{◌≡◌, ◌+◌, ◌≤◌, ℕ, List, Option, length, is_err, IfSome, IfErr, OnOk, if◌then◌else◌};
 ghost use Rattle.str_pipeline.specs.Device.{WritesFront, is_failed_write, Gains, GainsPrefix};
 
+use std::io::ErrorKind;
 use term_model::Fault;
 
 /// A writer. A call that returns `None` failed.
@@ -21,6 +22,11 @@ pub trait Sink {
         ensures bytes { WritesFront (written self.old) (written self.new) result text.now }
         ensures writes { writes self.new ≡ writes self.old + 1 }
         ensures failed { failed_writes self.new ≡ failed_writes self.old + (if is_failed_write result text.now then 1 else 0) };
+
+    /// Why the last write that failed did, for a person; nothing where none failed, or where the device does not know. No clause speaks of it.
+    fn failure(&self) -> Option<ErrorKind> {
+        None
+    }
 }
 
 /// Writes the whole text. The fault is `Write`, where a write failed or took no byte; what was

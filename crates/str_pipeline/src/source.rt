@@ -4,6 +4,7 @@ ghost use Rattle.str_pipeline.specs.Device.{ReadsFront};
 ghost use Rattle.str_pipeline.specs.Faults.{is_read_fault, IsReadingFault};
 
 use std::alloc::Allocator;
+use std::io::ErrorKind;
 use term_model::Fault;
 
 /// A reader. A call that returns `None` failed.
@@ -24,6 +25,11 @@ pub trait Source {
         ensures bytes { ReadsFront (coming self.old) (coming self.new) result piece.new }
         ensures reads { reads self.new ≡ reads self.old + 1 }
         ensures failed { failed_reads self.new ≡ failed_reads self.old + (if is_none result then 1 else 0) };
+
+    /// Why the last read that failed did, for a person; nothing where none failed, or where the device does not know. No clause speaks of it.
+    fn failure(&self) -> Option<ErrorKind> {
+        None
+    }
 }
 
 /// The number of bytes that a read asks for.

@@ -1,12 +1,12 @@
 -- What a writer has gained after several writes in a row.
-use Rattle.std.proofs.Common.{◌≡◌, ◌+◌, ◌≤◌, ℕ, Bool, List, [], ◌++◌, length, take, Option, None, Some, refl, sym, arith, false, true, true≢false, length-append}
+use Rattle.std.proofs.Common.{◌≡◌, ◌+◌, ◌≤◌, ℕ, Bool, List, [], ◌++◌, length, take, Option, None, Some, refl, sym, arith, false, true, true≢false, length-append, subst}
 use Rattle.std.proofs.lemmas.List.{append-nil, take-append-le, take_at, drop_at}
-use Rattle.std.proofs.Math.Seq.{take-add}
+use Rattle.std.proofs.Math.Seq.{take-add, take-length}
 use Rattle.std.proofs.lemmas.Grind.{common_steps}
 use Rattle.std.specs.Prelude.{Result, Ok, Err, OnOk, is_err, if◌then◌else◌}
 use Rattle.term_model.specs.declared.fault.Fault.{Fault}
 use Rattle.str_pipeline.specs.Device.{Gains, GainsPrefix}
-use Rattle.strc.specs.Report.{diagnostic, Tells, TellsMore, TellsNumbers}
+use Rattle.strc.specs.Report.{diagnostic, Tells, TellsMore, TellsText, TellsNumbers}
 
 pub gains_both : (a b c : Option (List ℕ)) (xs ys : List ℕ) → Gains a b xs → Gains b c ys → Gains a c (xs ++ ys)
 gains_both None b c xs ys first second = tt
@@ -70,3 +70,11 @@ none_told false a is = absurd (true≢false (sym is))
 pub numbers_told : (asked : Bool) (more : List ℕ) (a b : Option (List ℕ)) → asked ≡ true → GainsPrefix a b more → TellsNumbers asked a b
 numbers_told true more a b is begun = (more, begun)
 numbers_told false more a b is begun = absurd (true≢false (sym is))
+
+-- a line that was written, and the numbers after it where they are asked for
+pub numbers_after : {A : Type 0} (r : Result A Fault) (asked : Bool) (line : List ℕ) (a b c : Option (List ℕ)) → is_err r ≡ false
+    → OnOk r (Gains a b line) → TellsNumbers asked b c → TellsText a c
+numbers_after (Err e) asked line a b c good first told = absurd (true≢false good)
+numbers_after (Ok v) true line a b c good first (more, begun) = (line ++ more, begins_second a b c line more first begun)
+numbers_after (Ok v) false line a b c good first same =
+    (line, subst (λ d. GainsPrefix a d line) (sym same) (length line, omega arith, subst (λ xs. Gains a b xs) (sym (take-length line)) first))

@@ -1,5 +1,5 @@
--- The exit status, and the line of a fault on the diagnostic stream.
-use Rattle.std.specs.Prelude.{◌≡◌, ◌<◌, ℕ, Bool, true, false, List, [], ◌∷◌, ◌++◌, codes, decimal, Option, None, Some}
+-- The exit status, and what is reported on the diagnostic stream.
+use Rattle.std.specs.Prelude.{◌≡◌, ◌<◌, ℕ, Bool, true, false, List, [], ◌∷◌, ◌++◌, ◌⊎◌, codes, decimal, Option, None, Some}
 use Rattle.term_model.specs.declared.fault.Fault.{Fault}
 use Rattle.term_model.specs.declared.fault.Fault.TheVariants.{Memory, Read, Write, Lexical, ReservedWord, Syntax, Nesting, TermSyntax, TermOversize}
 use Rattle.term_model.specs.Fault.{word_of}
@@ -57,23 +57,45 @@ pub record Tells (fault : Fault) (before after : ℕ) (old new : Option (List �
   pub beginning : GainsPrefix old new (diagnostic fault)
   pub whole : after ≡ before → Gains old new (diagnostic fault)
 
--- the same of a refusal, of which a text may say more after the line; what it says is for a person
+-- the same where a text may say more after the line; what it says is for a person
 pub record TellsMore (fault : Fault) (before after : ℕ) (old new : Option (List ℕ)) : Type 0 where
   pub more : List ℕ
   pub beginning : GainsPrefix old new (diagnostic fault ++ more)
   pub whole : after ≡ before → Gains old new (diagnostic fault ++ more)
 
--- the numbers of a run are on a stream, as far as they could be written, where they are asked for, and else nothing new is
+-- the line of a fault that stops a run is on a stream, and of a failed read or write more may follow; of memory nothing does
+abbrev pub TellsFault : Fault → ℕ → ℕ → Option (List ℕ) → Option (List ℕ) → Type 0
+TellsFault Memory before after old new = Tells Memory before after old new
+TellsFault fault before after old new = TellsMore fault before after old new
+
+-- nothing is told, of a write to the output that failed
+pub record IsSilent (writes : Failures) (fault : Fault) (before after : ℕ) (old new : Option (List ℕ)) : Type 0 where
+  pub writing : fault ≡ Write
+  pub failed : AreSome writes
+  pub unfailed : after ≡ before
+  pub nothing : new ≡ old
+
+-- a fault that stops a run is told, but for some failed writes to the output, whose numbers these are: nobody may be reading it any more
+abbrev pub TellsStop : Failures → Fault → ℕ → ℕ → Option (List ℕ) → Option (List ℕ) → Type 0
+TellsStop writes fault before after old new = TellsFault fault before after old new ⊎ IsSilent writes fault before after old new
+
+-- a text for a person is on a stream, as far as it could be written
+abbrev pub TellsText : Option (List ℕ) → Option (List ℕ) → Type 0
+TellsText old new = (text : List ℕ) × GainsPrefix old new text
+
+-- the numbers of a run are on a stream where they are asked for, and else nothing new is
 abbrev pub TellsNumbers : Bool → Option (List ℕ) → Option (List ℕ) → Type 0
 TellsNumbers false old new = new ≡ old
-TellsNumbers true old new = (numbers : List ℕ) × GainsPrefix old new numbers
+TellsNumbers true old new = TellsText old new
 
--- a refusal is reported, and nothing else is, but for the numbers of a run where they are asked for; those are for a person
+-- a refusal is reported, and for a person that the budget is spent, and the numbers of a run where they are asked for; nothing else is
 abbrev pub IsReportedWith : Bool → Status → ℕ → ℕ → Option (List ℕ) → Option (List ℕ) → Type 0
 IsReportedWith has_stats (Refused fault) before after old new = TellsMore fault before after old new
+IsReportedWith has_stats Spent before after old new = TellsText old new
 IsReportedWith has_stats status before after old new = TellsNumbers has_stats old new
 
--- a refusal is reported, and nothing else is
+-- a refusal is reported, and for a person that the budget is spent; nothing else is
 abbrev pub IsReported : Status → ℕ → ℕ → Option (List ℕ) → Option (List ℕ) → Type 0
 IsReported (Refused fault) before after old new = TellsMore fault before after old new
+IsReported Spent before after old new = TellsText old new
 IsReported status before after old new = new ≡ old

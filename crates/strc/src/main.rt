@@ -2,6 +2,7 @@
 //! standard output.
 #![tactic(auto)]
 
+mod failure;
 mod paths;
 mod primitives;
 mod program;

@@ -12,7 +12,7 @@ ghost use Rattle.str_pipeline.specs.Faults.{HoldsRefusal, IsTransferFault};
 ghost use Rattle.str_pipeline.specs.Limits.{max_definitions, max_term};
 ghost use Rattle.prim_registry.specs.StandardPrimitives.{key_of};
 ghost use Rattle.strc.specs.Primitives.{names_of, standard_setting};
-ghost use Rattle.strc.specs.Report.{exit_of, IsCause, Tells, IsReported};
+ghost use Rattle.strc.specs.Report.{exit_of, IsCause, TellsStop, IsReported};
 ghost use Rattle.strc.specs.Request.{ArePlain};
 
 use crate::paths::Paths;
@@ -48,6 +48,7 @@ fn register(
 /// Does as `run` does, over the twelve standard primitives. They are registered before the words of the command line are looked at; where
 /// memory for that is refused the fault is `Memory`. Where there are no words, that is reported on `diagnostics`, and the status is 5, or 4
 /// where memory was refused.
+#[tactic(auto, using(crate::proofs::CauseLaws::line_told))]
 pub fn run_standard<P: Paths, I: Source, W: Sink, E: Sink>(
     alloc: Global,
     words: &io::Result<Vec<String>>,
@@ -59,7 +60,9 @@ pub fn run_standard<P: Paths, I: Source, W: Sink, E: Sink>(
     ensures status { result ≤ 5 }
     ensures usage { result ≡ 5 → (out.new ≡ out.old) × (input.new ≡ input.old) }
     ensures stopped { result ≡ 4 → (fault : Fault) × IsTransferFault fault
-        × Tells fault (E.failed_writes diagnostics.old) (E.failed_writes diagnostics.new) (E.written diagnostics.old) (E.written diagnostics.new) }
+        × TellsStop (record { before = W.failed_writes out.old; after = W.failed_writes out.new }) fault
+        (E.failed_writes diagnostics.old) (E.failed_writes diagnostics.new)
+        (E.written diagnostics.old) (E.written diagnostics.new) }
     ensures unwritten { result ≡ 4 → W.failed_writes out.new ≡ W.failed_writes out.old → out.new ≡ out.old }
     ensures write_failed { W.failed_writes out.old < W.failed_writes out.new → result ≡ 4 }
     ensures bounded { I.reads input.new ≤ I.reads input.old + max_definitions + 7 + max_term + 1 }
@@ -70,7 +73,9 @@ pub fn run_standard<P: Paths, I: Source, W: Sink, E: Sink>(
     ensures plain_stopped { IsOkAnd words.now (λ ws. length ws.items ≤ 1) → result ≡ 4 → (fault : Fault)
         × IsCause (record { before = I.failed_reads input.old; after = I.failed_reads input.new })
         (record { before = W.failed_writes out.old; after = W.failed_writes out.new }) fault
-        × Tells fault (E.failed_writes diagnostics.old) (E.failed_writes diagnostics.new) (E.written diagnostics.old) (E.written diagnostics.new) }
+        × TellsStop (record { before = W.failed_writes out.old; after = W.failed_writes out.new }) fault
+        (E.failed_writes diagnostics.old) (E.failed_writes diagnostics.new)
+        (E.written diagnostics.old) (E.written diagnostics.new) }
     ensures plain_begun { IsOkAnd words.now (λ ws. length ws.items ≤ 1) → W.failed_writes out.old < W.failed_writes out.new → (options : Options) × ArePlain options
         × IfSome (I.coming input.old) (λ told. (d t : List ℕ) → IsSplit told d t → HasBegun d t (standard_setting options) (W.written out.old) (W.written out.new)) }
     ensures plain_read_failed { IsOkAnd words.now (λ ws. length ws.items ≤ 1) → I.failed_reads input.old < I.failed_reads input.new → result ≡ 4 }

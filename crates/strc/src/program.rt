@@ -1,6 +1,7 @@
 //! The work of the program, over any streams and files.
 ghost use Rattle.std.specs.Prelude.{◌≡◌, ◌+◌, ◌<◌, ◌≤◌, ℕ, List, length, IfSome};
 ghost use Rattle.term_model.specs.declared.fault.Fault.{Fault};
+ghost use Rattle.term_model.specs.declared.fault.Fault.TheVariants.{Write};
 ghost use Rattle.term_model.specs.Limits.{max_budget};
 ghost use Rattle.str_pipeline.specs.declared.status.Options.{Options};
 ghost use Rattle.str_pipeline.specs.declared.status.Status.{Status};
@@ -10,17 +11,21 @@ ghost use Rattle.str_pipeline.specs.Setting.{setting_of};
 ghost use Rattle.str_pipeline.specs.Written.{HasWritten, HasBegun};
 ghost use Rattle.str_pipeline.specs.Faults.{HoldsRefusal, IsTransferFault};
 ghost use Rattle.str_pipeline.specs.Limits.{max_definitions, max_term};
-ghost use Rattle.strc.specs.Report.{exit_of, IsCause, Tells, IsReported, IsReportedWith};
+ghost use Rattle.strc.specs.Report.{AreSome, Failures, exit_of, IsCause, Tells, TellsFault, TellsStop, IsReported, IsReportedWith};
 ghost use Rattle.strc.specs.Request.{ArePlain};
 ghost use Rattle.strc.specs.declared.request.Texts.TheVariants.{Joined};
 
+use crate::failure::Failure;
 use crate::paths::Paths;
-use crate::report::{INPUT, Reporting, report, report_numbers, report_refusal};
+use crate::report::{
+    INPUT, Reporting, report, report_failure, report_numbers, report_refusal, report_spent,
+};
 use crate::request::{Texts, options_of, request_of};
 use clap::Error;
 use clap::error::ErrorKind;
 use prim_registry::{PrimMeaning, Registry};
 use std::alloc::Global;
+use std::io;
 use str_pipeline::{
     Options, RunNotes, Sink, Source, Status, transform_joined_with_notes, transform_with_notes,
     write_all,
@@ -37,10 +42,67 @@ pub(crate) fn stop<E: Sink>(fault: &Fault, diagnostics: &mut E) -> u8
     4
 }
 
+/// Reports a fault of opening or reading, and returns 4. The failure says of what, and why.
+#[tactic(auto, using(crate::proofs::CauseLaws::alone_told))]
+fn stop_reading<E: Sink>(
+    alloc: Global,
+    fault: &Fault,
+    failure: Failure<'_>,
+    diagnostics: &mut E,
+) -> u8
+    ensures status { result ≡ 4 }
+    ensures told { TellsFault fault.now (E.failed_writes diagnostics.old) (E.failed_writes diagnostics.new)
+        (E.written diagnostics.old) (E.written diagnostics.new) }
+{
+    match fault {
+        Fault::Read => {
+            report_failure(alloc, fault, failure, diagnostics);
+            4
+        }
+        _ => stop(fault, diagnostics),
+    }
+}
+
+/// Reports that a write to `out` failed, and returns 4. Of a broken pipe nothing is reported, since its reader wants no more.
+fn stop_writing<W: Sink, E: Sink>(alloc: Global, out: &W, diagnostics: &mut E) -> u8
+    ensures status { result ≡ 4 }
+    ensures told { (writes : Failures) → AreSome writes → TellsStop writes Write
+        (E.failed_writes diagnostics.old) (E.failed_writes diagnostics.new)
+        (E.written diagnostics.old) (E.written diagnostics.new) }
+{
+    let kind = out.failure();
+    if kind == Some(io::ErrorKind::BrokenPipe) {
+        return 4;
+    }
+    report_failure(alloc, &Fault::Write, Failure::of_writing(kind), diagnostics);
+    4
+}
+
+/// Reports the fault that stops a run with this output, and returns 4. The failure says what could not be read, and why, where a read failed.
+#[tactic(auto, using(crate::proofs::CauseLaws::fault_told))]
+fn stop_run<W: Sink, E: Sink>(
+    alloc: Global,
+    fault: &Fault,
+    reading: Failure<'_>,
+    out: &W,
+    diagnostics: &mut E,
+) -> u8
+    ensures status { result ≡ 4 }
+    ensures told { (writes : Failures) → (fault.now ≡ Write → AreSome writes) → TellsStop writes fault.now
+        (E.failed_writes diagnostics.old) (E.failed_writes diagnostics.new)
+        (E.written diagnostics.old) (E.written diagnostics.new) }
+{
+    match fault {
+        Fault::Write => stop_writing(alloc, out, diagnostics),
+        _ => stop_reading(alloc, fault, reading, diagnostics),
+    }
+}
+
 /// Reports how a transformation ended, and returns its exit status.
 fn conclude<E: Sink>(
     alloc: Global,
     status: Status,
+    budget: u32,
     reporting: Reporting<'_>,
     notes: &RunNotes,
     diagnostics: &mut E,
@@ -56,14 +118,18 @@ fn conclude<E: Sink>(
             report_refusal(alloc, &fault, reporting, notes, diagnostics);
             return 2;
         }
-        Status::Oversize | Status::Spent => 3,
+        Status::Oversize => 3,
+        Status::Spent => {
+            report_spent(alloc, budget, reporting.has_stats, notes, diagnostics);
+            return 3;
+        }
     };
     report_numbers(alloc, reporting.has_stats, notes, diagnostics);
     code
 }
 
 /// Does the work where both texts come from `input`, in the joined form.
-#[tactic(auto, using(crate::proofs::CauseLaws::cause))]
+#[tactic(auto, using(crate::proofs::CauseLaws::cause, crate::proofs::CauseLaws::stopped))]
 fn run_joined<I: Source, W: Sink, E: Sink, M: PrimMeaning>(
     alloc: Global,
     input: &mut I,
@@ -82,7 +148,9 @@ fn run_joined<I: Source, W: Sink, E: Sink, M: PrimMeaning>(
     ensures stopped { result ≡ 4 → (fault : Fault)
         × IsCause (record { before = I.failed_reads input.old; after = I.failed_reads input.new })
         (record { before = W.failed_writes out.old; after = W.failed_writes out.new }) fault
-        × Tells fault (E.failed_writes diagnostics.old) (E.failed_writes diagnostics.new) (E.written diagnostics.old) (E.written diagnostics.new) }
+        × TellsStop (record { before = W.failed_writes out.old; after = W.failed_writes out.new }) fault
+        (E.failed_writes diagnostics.old) (E.failed_writes diagnostics.new)
+        (E.written diagnostics.old) (E.written diagnostics.new) }
     ensures unwritten { result ≡ 4 → W.failed_writes out.new ≡ W.failed_writes out.old → out.new ≡ out.old }
     ensures begun { W.failed_writes out.old < W.failed_writes out.new →
         IfSome (I.coming input.old) (λ told. (d t : List ℕ) → IsSplit told d t → HasBegun d t (setting_of M.answer registry.now options.now) (W.written out.old) (W.written out.new)) }
@@ -92,13 +160,23 @@ fn run_joined<I: Source, W: Sink, E: Sink, M: PrimMeaning>(
 {
     let mut notes = RunNotes::none();
     match transform_joined_with_notes(alloc, input, options, registry, &mut notes, out) {
-        Ok(status) => conclude(alloc, status, reporting, &notes, diagnostics),
-        Err(fault) => stop(&fault, diagnostics),
+        Ok(status) => conclude(
+            alloc,
+            status,
+            options.budget,
+            reporting,
+            &notes,
+            diagnostics,
+        ),
+        Err(fault) => {
+            let reading = Failure::of_reading(reporting, input.failure(), None);
+            stop_run(alloc, &fault, reading, out, diagnostics)
+        }
     }
 }
 
 /// Does the work over one reader for each of the texts.
-#[tactic(auto, using(crate::proofs::CauseLaws::cause))]
+#[tactic(auto, using(crate::proofs::CauseLaws::cause, crate::proofs::CauseLaws::stopped))]
 fn run_apart<D: Source, T: Source, W: Sink, E: Sink, M: PrimMeaning>(
     alloc: Global,
     definitions: &mut D,
@@ -118,7 +196,9 @@ fn run_apart<D: Source, T: Source, W: Sink, E: Sink, M: PrimMeaning>(
     ensures stopped { result ≡ 4 → (fault : Fault)
         × IsCause (record { before = D.failed_reads definitions.old + T.failed_reads term.old; after = D.failed_reads definitions.new + T.failed_reads term.new })
         (record { before = W.failed_writes out.old; after = W.failed_writes out.new }) fault
-        × Tells fault (E.failed_writes diagnostics.old) (E.failed_writes diagnostics.new) (E.written diagnostics.old) (E.written diagnostics.new) }
+        × TellsStop (record { before = W.failed_writes out.old; after = W.failed_writes out.new }) fault
+        (E.failed_writes diagnostics.old) (E.failed_writes diagnostics.new)
+        (E.written diagnostics.old) (E.written diagnostics.new) }
     ensures unwritten { result ≡ 4 → W.failed_writes out.new ≡ W.failed_writes out.old → out.new ≡ out.old }
     ensures begun { W.failed_writes out.old < W.failed_writes out.new →
         IfSome (D.coming definitions.old) (λ d. IfSome (T.coming term.old) (λ t. HasBegun d t (setting_of M.answer registry.now options.now) (W.written out.old) (W.written out.new))) }
@@ -129,13 +209,23 @@ fn run_apart<D: Source, T: Source, W: Sink, E: Sink, M: PrimMeaning>(
 {
     let mut notes = RunNotes::none();
     match transform_with_notes(alloc, definitions, term, options, registry, &mut notes, out) {
-        Ok(status) => conclude(alloc, status, reporting, &notes, diagnostics),
-        Err(fault) => stop(&fault, diagnostics),
+        Ok(status) => conclude(
+            alloc,
+            status,
+            options.budget,
+            reporting,
+            &notes,
+            diagnostics,
+        ),
+        Err(fault) => {
+            let reading = Failure::of_reading(reporting, definitions.failure(), term.failure());
+            stop_run(alloc, &fault, reading, out, diagnostics)
+        }
     }
 }
 
 /// Does the work with two files, of which that of the definitions is opened first.
-#[tactic(auto, using(crate::proofs::CauseLaws::of_transfer, crate::proofs::CauseLaws::of_reading))]
+#[tactic(auto, using(crate::proofs::CauseLaws::of_transfer, crate::proofs::CauseLaws::of_reading, crate::proofs::CauseLaws::fault_told))]
 fn run_files<P: Paths, W: Sink, E: Sink, M: PrimMeaning>(
     alloc: Global,
     paths: &mut P,
@@ -151,17 +241,25 @@ fn run_files<P: Paths, W: Sink, E: Sink, M: PrimMeaning>(
     ensures ended { result < 4 → (status : Status) × (exit_of status ≡ result) × HoldsRefusal status
         × IsReportedWith reporting.entry.has_stats status (E.failed_writes diagnostics.old) (E.failed_writes diagnostics.new) (E.written diagnostics.old) (E.written diagnostics.new) }
     ensures stopped { result ≡ 4 → (fault : Fault) × IsTransferFault fault
-        × Tells fault (E.failed_writes diagnostics.old) (E.failed_writes diagnostics.new) (E.written diagnostics.old) (E.written diagnostics.new) }
+        × TellsStop (record { before = W.failed_writes out.old; after = W.failed_writes out.new }) fault
+        (E.failed_writes diagnostics.old) (E.failed_writes diagnostics.new)
+        (E.written diagnostics.old) (E.written diagnostics.new) }
     ensures unwritten { result ≡ 4 → W.failed_writes out.new ≡ W.failed_writes out.old → out.new ≡ out.old }
     ensures write_failed { W.failed_writes out.old < W.failed_writes out.new → result ≡ 4 }
 {
     let mut definitions = match paths.open(reporting.definitions) {
         Ok(reader) => reader,
-        Err(fault) => return stop(&fault, diagnostics),
+        Err(fault) => {
+            let failure = Failure::of_opening(reporting.definitions, paths.failure());
+            return stop_reading(alloc, &fault, failure, diagnostics);
+        }
     };
     let mut term = match paths.open(reporting.term) {
         Ok(reader) => reader,
-        Err(fault) => return stop(&fault, diagnostics),
+        Err(fault) => {
+            let failure = Failure::of_opening(reporting.term, paths.failure());
+            return stop_reading(alloc, &fault, failure, diagnostics);
+        }
     };
     run_apart(
         alloc,
@@ -176,7 +274,7 @@ fn run_files<P: Paths, W: Sink, E: Sink, M: PrimMeaning>(
 }
 
 /// Does the work with the texts that come from these places. A file that cannot be opened is a fault before anything is read.
-#[tactic(auto, using(crate::proofs::CauseLaws::of_transfer, crate::proofs::CauseLaws::of_reading))]
+#[tactic(auto, using(crate::proofs::CauseLaws::of_transfer, crate::proofs::CauseLaws::of_reading, crate::proofs::CauseLaws::fault_told))]
 fn run_texts<P: Paths, I: Source, W: Sink, E: Sink, M: PrimMeaning>(
     alloc: Global,
     texts: Texts<'_>,
@@ -197,13 +295,17 @@ fn run_texts<P: Paths, I: Source, W: Sink, E: Sink, M: PrimMeaning>(
     ensures joined_stopped { texts.entry ≡ Joined → result ≡ 4 → (fault : Fault)
         × IsCause (record { before = I.failed_reads input.old; after = I.failed_reads input.new })
         (record { before = W.failed_writes out.old; after = W.failed_writes out.new }) fault
-        × Tells fault (E.failed_writes diagnostics.old) (E.failed_writes diagnostics.new) (E.written diagnostics.old) (E.written diagnostics.new) }
+        × TellsStop (record { before = W.failed_writes out.old; after = W.failed_writes out.new }) fault
+        (E.failed_writes diagnostics.old) (E.failed_writes diagnostics.new)
+        (E.written diagnostics.old) (E.written diagnostics.new) }
     ensures joined_begun { texts.entry ≡ Joined → W.failed_writes out.old < W.failed_writes out.new →
         IfSome (I.coming input.old) (λ told. (d t : List ℕ) → IsSplit told d t → HasBegun d t (setting_of M.answer registry.now options.now) (W.written out.old) (W.written out.new)) }
     ensures ended { result < 4 → (status : Status) × (exit_of status ≡ result) × HoldsRefusal status
         × IsReportedWith has_stats status (E.failed_writes diagnostics.old) (E.failed_writes diagnostics.new) (E.written diagnostics.old) (E.written diagnostics.new) }
     ensures stopped { result ≡ 4 → (fault : Fault) × IsTransferFault fault
-        × Tells fault (E.failed_writes diagnostics.old) (E.failed_writes diagnostics.new) (E.written diagnostics.old) (E.written diagnostics.new) }
+        × TellsStop (record { before = W.failed_writes out.old; after = W.failed_writes out.new }) fault
+        (E.failed_writes diagnostics.old) (E.failed_writes diagnostics.new)
+        (E.written diagnostics.old) (E.written diagnostics.new) }
     ensures unwritten { result ≡ 4 → W.failed_writes out.new ≡ W.failed_writes out.old → out.new ≡ out.old }
     ensures joined_read_failed { texts.entry ≡ Joined → I.failed_reads input.old < I.failed_reads input.new → result ≡ 4 }
     ensures write_failed { W.failed_writes out.old < W.failed_writes out.new → result ≡ 4 }
@@ -221,7 +323,10 @@ fn run_texts<P: Paths, I: Source, W: Sink, E: Sink, M: PrimMeaning>(
         Texts::Definitions(path) => {
             let mut definitions = match paths.open(path) {
                 Ok(definitions) => definitions,
-                Err(fault) => return stop(&fault, diagnostics),
+                Err(fault) => {
+                    let failure = Failure::of_opening(path, paths.failure());
+                    return stop_reading(alloc, &fault, failure, diagnostics);
+                }
             };
             let reporting = Reporting {
                 definitions: path,
@@ -252,11 +357,14 @@ fn run_texts<P: Paths, I: Source, W: Sink, E: Sink, M: PrimMeaning>(
 
 /// Tells what is wrong with the words on `diagnostics`, and returns 5; or writes the help text or the version to `out`, as was asked, and
 /// returns 0.
+#[tactic(auto, using(crate::proofs::CauseLaws::line_told))]
 fn explain<W: Sink, E: Sink>(alloc: Global, error: &Error, out: &mut W, diagnostics: &mut E) -> u8
     ensures status { result ≤ 5 }
     ensures usage { result ≡ 5 → out.new ≡ out.old }
     ensures stopped { result ≡ 4 → (fault : Fault) × IsTransferFault fault
-        × Tells fault (E.failed_writes diagnostics.old) (E.failed_writes diagnostics.new) (E.written diagnostics.old) (E.written diagnostics.new) }
+        × TellsStop (record { before = W.failed_writes out.old; after = W.failed_writes out.new }) fault
+        (E.failed_writes diagnostics.old) (E.failed_writes diagnostics.new)
+        (E.written diagnostics.old) (E.written diagnostics.new) }
     ensures unwritten { result ≡ 4 → W.failed_writes out.new ≡ W.failed_writes out.old → out.new ≡ out.old }
     ensures write_failed { W.failed_writes out.old < W.failed_writes out.new → result ≡ 4 }
 {
@@ -270,10 +378,10 @@ fn explain<W: Sink, E: Sink>(alloc: Global, error: &Error, out: &mut W, diagnost
         let _ = write_all(diagnostics, text.as_bytes());
         return 5;
     }
-    match write_all(out, text.as_bytes()) {
-        Ok(()) => 0,
-        Err(fault) => stop(&fault, diagnostics),
+    if write_all(out, text.as_bytes()).is_err() {
+        return stop_writing(alloc, out, diagnostics);
     }
+    0
 }
 
 /// Does what the words of the command line ask for, of which the first is the name of the program: `[--rules N] [--main NAME] [--strict]
@@ -287,9 +395,12 @@ fn explain<W: Sink, E: Sink>(alloc: Global, error: &Error, out: &mut W, diagnost
 ///
 /// For 2 and 4 a line on `diagnostics` reports the fault. In the joined form and for 4 that is `Read` exactly where a read of `input`
 /// failed, `Write` exactly where a write to `out` failed, and `Memory` else. For 2 lines for a person come after it: the name of the
-/// text, the line and the column, what is wrong, and the line with a mark under the place; they are left out where memory for them is
-/// refused. Where the words ask for the numbers of the run, a line with them comes for 0, 1 and 3. For 5 it tells
-/// what is wrong with the words and how the help text is had. A write to `diagnostics` that fails changes nothing.
+/// text, the line and the column, what is wrong, and the line with a mark under the place. For 4 one line for a person comes after `Read`
+/// and `Write`: what could not be opened, read or written and, where that is known, why. These lines are left out where memory for them is
+/// refused. Of a broken pipe, to which `out` writes, nothing is reported. Where the budget was spent, a line tells how large it was. Where
+/// the words ask for the numbers of the run, a line with them comes last for 0, 1 and 3. For 5 `diagnostics` tells what is wrong with the
+/// words and how the help text is had. A write to `diagnostics` that fails changes nothing.
+#[tactic(auto, using(crate::proofs::CauseLaws::line_told))]
 pub fn run<P: Paths, I: Source, W: Sink, E: Sink, M: PrimMeaning>(
     alloc: Global,
     words: &[String],
@@ -303,7 +414,9 @@ pub fn run<P: Paths, I: Source, W: Sink, E: Sink, M: PrimMeaning>(
     ensures status { result ≤ 5 }
     ensures usage { result ≡ 5 → (out.new ≡ out.old) × (input.new ≡ input.old) }
     ensures stopped { result ≡ 4 → (fault : Fault) × IsTransferFault fault
-        × Tells fault (E.failed_writes diagnostics.old) (E.failed_writes diagnostics.new) (E.written diagnostics.old) (E.written diagnostics.new) }
+        × TellsStop (record { before = W.failed_writes out.old; after = W.failed_writes out.new }) fault
+        (E.failed_writes diagnostics.old) (E.failed_writes diagnostics.new)
+        (E.written diagnostics.old) (E.written diagnostics.new) }
     ensures unwritten { result ≡ 4 → W.failed_writes out.new ≡ W.failed_writes out.old → out.new ≡ out.old }
     ensures write_failed { W.failed_writes out.old < W.failed_writes out.new → result ≡ 4 }
     ensures bounded { I.reads input.new ≤ I.reads input.old + max_definitions + 7 + max_term + 1 }
@@ -314,7 +427,9 @@ pub fn run<P: Paths, I: Source, W: Sink, E: Sink, M: PrimMeaning>(
     ensures plain_stopped { length words.now ≤ 1 → result ≡ 4 → (fault : Fault)
         × IsCause (record { before = I.failed_reads input.old; after = I.failed_reads input.new })
         (record { before = W.failed_writes out.old; after = W.failed_writes out.new }) fault
-        × Tells fault (E.failed_writes diagnostics.old) (E.failed_writes diagnostics.new) (E.written diagnostics.old) (E.written diagnostics.new) }
+        × TellsStop (record { before = W.failed_writes out.old; after = W.failed_writes out.new }) fault
+        (E.failed_writes diagnostics.old) (E.failed_writes diagnostics.new)
+        (E.written diagnostics.old) (E.written diagnostics.new) }
     ensures plain_begun { length words.now ≤ 1 → W.failed_writes out.old < W.failed_writes out.new → (options : Options) × ArePlain options
         × IfSome (I.coming input.old) (λ told. (d t : List ℕ) → IsSplit told d t → HasBegun d t (setting_of M.answer registry.now options) (W.written out.old) (W.written out.new)) }
     ensures plain_read_failed { length words.now ≤ 1 → I.failed_reads input.old < I.failed_reads input.new → result ≡ 4 }

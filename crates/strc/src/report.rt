@@ -1,8 +1,9 @@
-//! The diagnostic lines of a fault.
+//! The lines on the diagnostic stream.
 ghost use Rattle.std.specs.Prelude.{◌≡◌, ◌+◌, OnOk, IfErr, is_err, if◌then◌else◌};
 ghost use Rattle.str_pipeline.specs.Device.{Gains, GainsPrefix};
-ghost use Rattle.strc.specs.Report.{place_of, place_text, diagnostic, TellsMore, TellsNumbers};
+ghost use Rattle.strc.specs.Report.{place_of, place_text, diagnostic, TellsMore, TellsNumbers, TellsText};
 
+use crate::failure::Failure;
 use itoa::Buffer;
 use std::alloc::{AllocError, Global};
 use str_pipeline::{Excerpt, Reason, RunNotes, Sink, Subject, Used, write_all};
@@ -94,8 +95,20 @@ fn explanation(alloc: Global, reporting: Reporting<'_>, notes: &RunNotes) -> Opt
     text.ok()
 }
 
-/// Writes the diagnostic line of a refusal and, where something was noted of it, lines that say more. Where a write fails, nothing more is
-/// written.
+/// Writes the diagnostic line of a fault and, where there is a text that says more, the text. Where a write fails, nothing more is written.
+fn report_with<E: Sink>(fault: &Fault, more: Option<String>, diagnostics: &mut E)
+    ensures { TellsMore fault.now (E.failed_writes diagnostics.old) (E.failed_writes diagnostics.new) (E.written diagnostics.old) (E.written diagnostics.new) }
+{
+    if report(fault, diagnostics).is_err() {
+        return;
+    }
+    let Some(text) = more else {
+        return;
+    };
+    let _ = write_all(diagnostics, text.as_bytes());
+}
+
+/// Writes the diagnostic line of a refusal and, where something was noted of it, lines that say more.
 pub(crate) fn report_refusal<E: Sink>(
     alloc: Global,
     fault: &Fault,
@@ -105,13 +118,19 @@ pub(crate) fn report_refusal<E: Sink>(
 )
     ensures { TellsMore fault.now (E.failed_writes diagnostics.old) (E.failed_writes diagnostics.new) (E.written diagnostics.old) (E.written diagnostics.new) }
 {
-    if report(fault, diagnostics).is_err() {
-        return;
-    }
-    let Some(text) = explanation(alloc, reporting, notes) else {
-        return;
-    };
-    let _ = write_all(diagnostics, text.as_bytes());
+    report_with(fault, explanation(alloc, reporting, notes), diagnostics);
+}
+
+/// Writes the diagnostic line of a fault and, where memory for it is there, a line that says what failed and why.
+pub(crate) fn report_failure<E: Sink>(
+    alloc: Global,
+    fault: &Fault,
+    failure: Failure<'_>,
+    diagnostics: &mut E,
+)
+    ensures { TellsMore fault.now (E.failed_writes diagnostics.old) (E.failed_writes diagnostics.new) (E.written diagnostics.old) (E.written diagnostics.new) }
+{
+    report_with(fault, failure.line(alloc), diagnostics);
 }
 
 /// Returns the line of what the run used, with its line feed; nothing where there was no run, or where memory for it is refused.
@@ -140,4 +159,28 @@ pub(crate) fn report_numbers<E: Sink>(
         return;
     };
     let _ = write_all(diagnostics, text.as_bytes());
+}
+
+/// Returns the line of a spent budget, with its line feed; nothing where memory for it is refused.
+fn spent_line(alloc: Global, budget: u32) -> Option<String> {
+    format!(in alloc; "strc: the budget of {budget} rules is spent; --rules sets another\n").ok()
+}
+
+/// Writes that the budget is spent and, where that is asked for, the line of what the run used.
+pub(crate) fn report_spent<E: Sink>(
+    alloc: Global,
+    budget: u32,
+    has_stats: bool,
+    notes: &RunNotes,
+    diagnostics: &mut E,
+)
+    ensures { TellsText (E.written diagnostics.old) (E.written diagnostics.new) }
+{
+    let Some(line) = spent_line(alloc, budget) else {
+        return;
+    };
+    if write_all(diagnostics, line.as_bytes()).is_err() {
+        return;
+    }
+    report_numbers(alloc, has_stats, notes, diagnostics);
 }

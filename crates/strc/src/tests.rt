@@ -1,5 +1,6 @@
 //! The words of the command line, the exit statuses and what is on the streams.
 mod expected;
+mod failures;
 mod files;
 mod language;
 mod messages;

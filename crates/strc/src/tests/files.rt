@@ -8,9 +8,21 @@ const RUNS: &[(&str, &str, u8, &str, &str)] = &[
     ("strc first.str pair.trm", "", 0, "7\n", ""),
     ("strc first.str", "(8,[])", 0, "8\n", ""),
     ("strc", "strategies main = id\n#term\nF(1)", 0, "F(1)\n", ""),
-    ("strc --rules 4 first.str pair.trm", "", 3, "#spent\n", ""),
+    (
+        "strc --rules 4 first.str pair.trm",
+        "",
+        3,
+        "#spent\n",
+        "strc: the budget of 4 rules is spent; --rules sets another\n",
+    ),
     ("strc --rules 5 first.str pair.trm", "", 0, "7\n", ""),
-    ("strc --rules 0 id.str pair.trm", "", 3, "#spent\n", ""),
+    (
+        "strc --rules 0 id.str pair.trm",
+        "",
+        3,
+        "#spent\n",
+        "strc: the budget of 0 rules is spent; --rules sets another\n",
+    ),
     ("strc --main go first.str pair.trm", "", 0, "(7,f(1))\n", ""),
     (
         "strc --main  first.str pair.trm",
@@ -55,10 +67,34 @@ const RUNS: &[(&str, &str, u8, &str, &str)] = &[
         "#refused UnknownStrategy\n",
         "strc: UnknownStrategy\nbad.str:1:19: strategy foo with 0 strategy and 0 term parameters is not defined\n    strategies main = foo\n                      ^\n",
     ),
-    ("strc none.str pair.trm", "", 4, "", "strc: Read\n"),
-    ("strc bad.str none.trm", "", 4, "", "strc: Read\n"),
-    ("strc folder/ pair.trm", "", 4, "", "strc: Read\n"),
-    ("strc id.str folder/", "", 4, "", "strc: Read\n"),
+    (
+        "strc none.str pair.trm",
+        "",
+        4,
+        "",
+        "strc: Read\nnone.str: no such file or directory\n",
+    ),
+    (
+        "strc bad.str none.trm",
+        "",
+        4,
+        "",
+        "strc: Read\nnone.trm: no such file or directory\n",
+    ),
+    (
+        "strc folder/ pair.trm",
+        "",
+        4,
+        "",
+        "strc: Read\nfolder/: is a directory\n",
+    ),
+    (
+        "strc id.str folder/",
+        "",
+        4,
+        "",
+        "strc: Read\nfolder/: is a directory\n",
+    ),
     (
         "strc bad.str folder/",
         "",
@@ -144,9 +180,24 @@ fn help(rt: HostRuntime) -> Result<(), Fail> {
 
 /// The words, the first bad write; the status, and what the report begins with.
 const BAD_WRITES: &[(&str, Option<u64>, u8, &str)] = &[
-    ("strc --help", Some(1), 4, "strc: Write\n"),
-    ("strc --version", Some(2), 4, "strc: Write\n"),
-    ("strc first.str pair.trm", Some(1), 4, "strc: Write\n"),
+    (
+        "strc --help",
+        Some(1),
+        4,
+        "strc: Write\nstdout: writing failed\n",
+    ),
+    (
+        "strc --version",
+        Some(2),
+        4,
+        "strc: Write\nstdout: writing failed\n",
+    ),
+    (
+        "strc first.str pair.trm",
+        Some(1),
+        4,
+        "strc: Write\nstdout: writing failed\n",
+    ),
     (
         "strc --nope",
         Some(1),

@@ -177,7 +177,22 @@ const RUNS: &[(&str, &str, &str)] = &[
     (
         "strc --stats --rules 0 id.str",
         "7",
-        "strc: 0 rules, 1 steps, 1 shapes\n",
+        "strc: the budget of 0 rules is spent; --rules sets another\nstrc: 0 rules, 1 steps, 1 shapes\n",
+    ),
+    (
+        "strc --rules 1 id.str",
+        "7",
+        "strc: the budget of 1 rules is spent; --rules sets another\n",
+    ),
+    (
+        "strc loop.str",
+        "7",
+        "strc: the budget of 1000000 rules is spent; --rules sets another\n",
+    ),
+    (
+        "strc --stats bad.str none.trm",
+        "7",
+        "strc: Read\nnone.trm: no such file or directory\n",
     ),
     ("strc id.str", "7", ""),
     (

@@ -32,7 +32,7 @@ fn ends(
     let mut input = Faulty::reader(Vec::new(alloc), 5, None);
     let mut out = Faulty::writer(alloc, 4096, 3, None, false)?;
     let mut diagnostics = Faulty::writer(alloc, 4096, 3, None, false)?;
-    let mut paths = Shelf { alloc };
+    let mut paths = Shelf::new(alloc);
     let ended = run(
         alloc,
         &words,
@@ -79,7 +79,7 @@ fn ends_at_once(
     let mut input = Faulty::reader(Vec::new(alloc), 5, None);
     let mut out = Faulty::writer(alloc, 100, 7, None, false)?;
     let mut diagnostics = Faulty::writer(alloc, 100, 7, None, false)?;
-    let mut paths = Shelf { alloc };
+    let mut paths = Shelf::new(alloc);
     let ended = run_standard(
         alloc,
         &Err(io::Error::from(kind)),

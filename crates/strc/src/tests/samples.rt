@@ -4,11 +4,12 @@ ghost use Rattle.std.specs.Prelude.{◌≤◌, IfSome};
 use crate::paths::Paths;
 use crate::primitives::run_standard;
 use std::alloc::{AllocError, Global};
-use str_pipeline::Faulty;
+use std::io::ErrorKind;
+use str_pipeline::{Faulty, Sink, Source};
 use term_model::Fault;
 
 /// The files: path and text.
-const FILES: [(&str, &str); 9] = [
+const FILES: [(&str, &str); 10] = [
     ("id.str", "strategies main = id"),
     ("first.str", "strategies main = ?(x,_); !x go = id"),
     (
@@ -21,30 +22,119 @@ const FILES: [(&str, &str); 9] = [
         "strategies up = map(\\ x -> <prim(\"add\", x, 1)> \\) main = try(up)",
     ),
     ("bad.str", "strategies main = foo"),
+    ("loop.str", "strategies main = rec x(x)"),
     ("pair.trm", "(7,f(1))"),
     ("bad.trm", "F(1"),
     ("joined.str", "strategies main = id\n#term\n1"),
 ];
 
-/// Opens the files. A path that ends with a slash is one of a folder, which can be opened and not read.
+/// A device in memory that knows why its calls fail.
+#[derive(Drop)]
+pub(super) struct Device {
+    memory: Faulty,
+    kind: ErrorKind,
+    failure: Option<ErrorKind>,
+}
+
+impl Device {
+    /// Makes a device of this one, whose calls fail with errors of this kind.
+    pub(super) fn new(memory: Faulty, kind: ErrorKind) -> Device {
+        Device {
+            memory,
+            kind,
+            failure: None,
+        }
+    }
+}
+
+impl Source for Device {
+    ghost coming = { λ d. ⟦<Faulty as Source>⟧.coming d.memory };
+
+    ghost reads = { λ d. ⟦<Faulty as Source>⟧.reads d.memory };
+
+    ghost failed_reads = { λ d. ⟦<Faulty as Source>⟧.failed_reads d.memory };
+
+    fn read(&mut self, piece: &mut [u8]) -> Option<usize> {
+        let count = self.memory.read(piece);
+        if count.is_none() {
+            self.failure = Some(self.kind);
+        }
+        count
+    }
+
+    fn failure(&self) -> Option<ErrorKind> {
+        self.failure
+    }
+}
+
+impl Sink for Device {
+    ghost written = { λ d. ⟦<Faulty as Sink>⟧.written d.memory };
+
+    ghost writes = { λ d. ⟦<Faulty as Sink>⟧.writes d.memory };
+
+    ghost failed_writes = { λ d. ⟦<Faulty as Sink>⟧.failed_writes d.memory };
+
+    fn write(&mut self, text: &[u8]) -> Option<usize> {
+        let count = self.memory.write(text);
+        if count.is_none() {
+            self.failure = Some(self.kind);
+        }
+        count
+    }
+
+    fn failure(&self) -> Option<ErrorKind> {
+        self.failure
+    }
+}
+
+/// Opens the files. A path that ends with a slash is one of a folder, which can be opened and not read; one with a colon cannot be opened,
+/// for a reason without a name, and one with a bar may not be.
 #[derive(Drop)]
 pub(super) struct Shelf {
     pub(super) alloc: Global,
+    failure: Option<ErrorKind>,
+}
+
+impl Shelf {
+    pub(super) fn new(alloc: Global) -> Shelf {
+        Shelf {
+            alloc,
+            failure: None,
+        }
+    }
+}
+
+/// Returns why the path, which is none of a file, cannot be opened.
+fn refusal_of(path: &str) -> ErrorKind {
+    if path.contains(':') {
+        return ErrorKind::Uncategorized;
+    }
+    if path.contains('|') {
+        return ErrorKind::PermissionDenied;
+    }
+    ErrorKind::NotFound
 }
 
 impl Paths for Shelf {
-    type Reader = Faulty;
+    type Reader = Device;
 
-    fn open(&mut self, path: &str) -> Result<Faulty, Fault> {
+    fn open(&mut self, path: &str) -> Result<Device, Fault> {
         if path.ends_with('/') {
-            return Ok(Faulty::reader(Vec::new(self.alloc), 5, Some(1)));
+            let memory = Faulty::reader(Vec::new(self.alloc), 5, Some(1));
+            return Ok(Device::new(memory, ErrorKind::IsADirectory));
         }
         for (name, text) in FILES {
             if name == path {
-                return Ok(Faulty::reader(text.as_bytes().to_vec(self.alloc)?, 5, None));
+                let memory = Faulty::reader(text.as_bytes().to_vec(self.alloc)?, 5, None);
+                return Ok(Device::new(memory, ErrorKind::Other));
             }
         }
+        self.failure = Some(refusal_of(path));
         Err(Fault::Read)
+    }
+
+    fn failure(&self) -> Option<ErrorKind> {
+        self.failure
     }
 }
 
@@ -97,7 +187,7 @@ pub(super) fn run_over(
     let mut input = input;
     let mut out = Faulty::writer(alloc, 4096, 3, bad_write, false)?;
     let mut diagnostics = Faulty::writer(alloc, 4096, 3, bad_diagnostic, false)?;
-    let mut paths = Shelf { alloc };
+    let mut paths = Shelf::new(alloc);
     let status = run_standard(
         alloc,
         &words,

@@ -62,7 +62,7 @@ const ROWS: &[Row] = &[
         None,
         4,
         "",
-        "strc: Read\n",
+        "strc: Read\nstdin: reading failed\n",
     ),
     (
         "strategies main = id\n#term\n1",
@@ -70,7 +70,7 @@ const ROWS: &[Row] = &[
         Some(1),
         4,
         "",
-        "strc: Write\n",
+        "strc: Write\nstdout: writing failed\n",
     ),
 ];
 

@@ -1,11 +1,13 @@
-use Rattle.std.proofs.Common.{◌≡◌, ◌≤◌, subst, arith, ℕ, List, length, IfSome, IsOkAnd}
+use Rattle.std.proofs.Common.{◌≡◌, ◌≤◌, subst, arith, refl, ℕ, List, length, IfSome, IsOkAnd}
 use Rattle.term_model.specs.PrimNames.{NameKey}
 use Rattle.prim_registry.specs.Entries.{entries_of}
 use Rattle.prim_registry.specs.Standard.{standard}
 use Rattle.str_pipeline.specs.Joined.{IsSplit}
 use Rattle.str_pipeline.specs.Setting.{setting_with}
 use Rattle.str_pipeline.specs.Written.{HasWritten, HasBegun}
-use Rattle.strc.specs.Report.{IsReported}
+use Rattle.strc.specs.Report.{IsReported, TellsStop}
+use Rattle.term_model.specs.declared.fault.Fault.TheVariants.{Memory}
+use Rattle.strc.proofs.CauseLaws.{line_told}
 use Rattle.prim_registry.specs.StandardPrimitives.{standard_entries}
 use Rattle.strc.proofs.PrimitiveLaws.{fresh, one_more, whole}
 use Rattle.strc.proofs.primitives.run_standard.Goals as goal
@@ -45,3 +47,30 @@ returns-in-Ok-words-clause-plain_begun g c = λ alone writing.
       subst (λ (names : List NameKey). IfSome (g.I.Source.coming c.args.input.now) (λ told. (d t : List ℕ) → IsSplit told d t → HasBegun d t (setting_with standard names begun.0) (g.W.Sink.written c.args.out.now) (g.W.Sink.written c.run.new.out)))
           keys begun.2,
     )
+
+pub returns-in_default-clause-stopped : goal.returns-in_default-clause-stopped
+returns-in_default-clause-stopped g c = λ four. (
+  Memory,
+  (omega arith, omega arith),
+  subst (λ before. TellsStop (record { before = g.W.Sink.failed_writes c.args.out.now; after = g.W.Sink.failed_writes c.args.out.now }) Memory
+      (g.E.Sink.failed_writes before) (g.E.Sink.failed_writes c.stop.new.diagnostics) (g.E.Sink.written before) (g.E.Sink.written c.stop.new.diagnostics))
+      c.loop-primitive.invariant.silent (line_told _ Memory _ _ _ _ c.stop.ensures.told),
+)
+
+pub returns-in_default-clause-plain_stopped : goal.returns-in_default-clause-plain_stopped
+returns-in_default-clause-plain_stopped g c = λ alone four. (
+  Memory,
+  (refl, refl),
+  subst (λ before. TellsStop (record { before = g.W.Sink.failed_writes c.args.out.now; after = g.W.Sink.failed_writes c.args.out.now }) Memory
+      (g.E.Sink.failed_writes before) (g.E.Sink.failed_writes c.stop.new.diagnostics) (g.E.Sink.written before) (g.E.Sink.written c.stop.new.diagnostics))
+      c.loop-primitive.invariant.silent (line_told _ Memory _ _ _ _ c.stop.ensures.told),
+)
+
+pub returns-clause-stopped : goal.returns-clause-stopped
+returns-clause-stopped g c = λ four. (
+  Memory,
+  (omega arith, omega arith),
+  subst (λ before. TellsStop (record { before = g.W.Sink.failed_writes c.args.out.now; after = g.W.Sink.failed_writes c.args.out.now }) Memory
+      (g.E.Sink.failed_writes before) (g.E.Sink.failed_writes c.refuse.new.diagnostics) (g.E.Sink.written before) (g.E.Sink.written c.refuse.new.diagnostics))
+      c.loop-primitive.invariant.silent (line_told _ Memory _ _ _ _ (c.refuse.ensures.told four)),
+)

@@ -1,3 +1,6 @@
+use Rattle.std.proofs.Common.{arith, refl}
+use Rattle.term_model.specs.declared.fault.Fault.TheVariants.{Memory}
+use Rattle.strc.proofs.CauseLaws.{line_told}
 use Rattle.strc.proofs.RequestLaws.{plain_options, plain_report}
 use Rattle.strc.proofs.program.run.Goals as goal
 
@@ -21,3 +24,9 @@ returns-clause-plain_begun g c = λ alone writing.
       plain_options c.in-Ok.request c.in-Ok-options_of.options plain c.in-Ok-options_of.ensures,
       c.run_texts.ensures.joined_begun plain.joined writing,
     )
+
+pub returns-in_default-clause-stopped : goal.returns-in_default-clause-stopped
+returns-in_default-clause-stopped g c = λ four. (Memory, (omega arith, omega arith), line_told _ Memory _ _ _ _ c.stop.ensures.told)
+
+pub returns-in_default-clause-plain_stopped : goal.returns-in_default-clause-plain_stopped
+returns-in_default-clause-plain_stopped g c = λ alone four. (Memory, (refl, refl), line_told _ Memory _ _ _ _ c.stop.ensures.told)

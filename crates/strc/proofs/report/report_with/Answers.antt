@@ -1,6 +1,6 @@
 use Rattle.std.proofs.Common.{◌∙◌, sym}
 use Rattle.strc.proofs.PrefixLaws.{tells_after}
-use Rattle.strc.proofs.report.report_refusal.Goals as goal
+use Rattle.strc.proofs.report.report_with.Goals as goal
 
 pub returns : goal.returns
 returns g c =
