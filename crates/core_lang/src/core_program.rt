@@ -18,6 +18,8 @@ pub struct Core {
     defs: Vec<CoreDef>,
     main: usize,
     prims: PrimNames,
+    // Where the names of the definitions stand in the definition file, as far as that is known. The view leaves them out.
+    heads: Vec<u64>,
 }
 
 impl Model for Core {
@@ -55,7 +57,36 @@ impl Core {
         ensures main { IfOk result (λ core. core.main ≡ main) }
     {
         let prims = primitives_of(alloc, defs.as_slice())?;
-        Ok(Core { defs, main, prims })
+        let heads = Vec::new(alloc);
+        Ok(Core {
+            defs,
+            main,
+            prims,
+            heads,
+        })
+    }
+
+    /// The same core, whose definitions have their names at these bytes of the definition file; those of the library at 0.
+    pub fn with_heads(self, heads: Vec<u64>) -> Core
+        ensures { result ≡ self }
+    {
+        let Core {
+            defs,
+            main,
+            prims,
+            ..
+        } = self;
+        Core {
+            defs,
+            main,
+            prims,
+            heads,
+        }
+    }
+
+    /// The byte of the definition file at which the name of a definition stands, where one is known. No contract speaks of it.
+    pub fn head(&self, position: usize) -> Option<u64> {
+        self.heads.get(position).copied()
     }
 
     /// The definitions.

@@ -10,6 +10,7 @@ mod primitives;
 mod program;
 mod range;
 mod run;
+mod source;
 
 pub use coordinate::Coordinate;
 pub use core_program::Core;
@@ -24,3 +25,4 @@ pub use laws::{
 };
 pub use program::{CoreArm, CoreDef, CorePattern, CoreStrategy};
 pub use run::{Outcome, Run};
+pub use source::{CallTarget, SourcePattern};

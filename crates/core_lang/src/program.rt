@@ -1,5 +1,6 @@
 // Core programs over coordinates.
 use crate::coordinate::Coordinate;
+use crate::source::{CallTarget, SourcePattern};
 use term_model::Sym;
 
 /// A pattern, or what a build makes.
@@ -23,7 +24,7 @@ pub enum CorePattern {
 
 /// A strategy. A chain that groups to the right is one list, so that no walk recurses along it.
 #[cycle(strategy)]
-#[derive(Debug, Drop, PartialEq, Eq)]
+#[derive(Debug, Drop)]
 pub enum CoreStrategy {
     Id,
     Fail,
@@ -31,8 +32,8 @@ pub enum CoreStrategy {
     Sequence(Box<CoreStrategy>, Box<CoreStrategy>, Vec<CoreStrategy>),
     /// The first guard that succeeds decides; after the last comes the strategy that is tried where none does.
     Choice(Box<CoreArm>, Vec<CoreArm>, Box<CoreStrategy>),
-    Match(CorePattern),
-    Build(CorePattern),
+    Match(SourcePattern),
+    Build(SourcePattern),
     /// This number of new variables, and the strategy that sees them.
     Scope(usize, Box<CoreStrategy>),
     /// The strategy on each part of the term.
@@ -43,16 +44,16 @@ pub enum CoreStrategy {
     Some(Box<CoreStrategy>),
     /// Definitions, and the strategy that sees them.
     LetIn(Vec<CoreDef>, Box<CoreStrategy>),
-    /// A call with strategy and term arguments. Where the coordinate is in a layer of variables it is of a strategy
+    /// A call with strategy and term arguments. Where the coordinate of its target is in a layer of variables it is of a strategy
     /// parameter, where it is in a layer of definitions it is of a definition.
-    Call(Coordinate, Vec<CoreStrategy>, Vec<CorePattern>),
+    Call(CallTarget, Vec<CoreStrategy>, Vec<CorePattern>),
     /// A call of the primitive of this name, with term arguments.
     Primitive(Vec<u8>, Vec<CorePattern>),
 }
 
 /// A guard, and what follows where it succeeds.
 #[cycle(strategy)]
-#[derive(Debug, Drop, PartialEq, Eq)]
+#[derive(Debug, Drop)]
 pub struct CoreArm {
     pub guard: CoreStrategy,
     pub then: CoreStrategy,
@@ -60,7 +61,7 @@ pub struct CoreArm {
 
 /// A definition: how many strategy and term parameters it has, and its body.
 #[cycle(strategy)]
-#[derive(Debug, Drop, PartialEq, Eq)]
+#[derive(Debug, Drop)]
 pub struct CoreDef {
     pub strats: usize,
     pub terms: usize,

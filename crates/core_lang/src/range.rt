@@ -104,7 +104,8 @@ fn strategy_in_range(s: &CoreStrategy, layers: &Layers) -> bool
             }
             strategy_in_range(otherwise, layers)
         }
-        CoreStrategy::Match(p) | CoreStrategy::Build(p) => pattern_in_range(p, layers),
+        CoreStrategy::Match(p) => pattern_in_range(p.pattern(), layers),
+        CoreStrategy::Build(p) => pattern_in_range(p.pattern(), layers),
         CoreStrategy::Scope(count, body) => scope_in_range(*count, body, layers),
         CoreStrategy::All(body) | CoreStrategy::One(body) | CoreStrategy::Some(body) => {
             strategy_in_range(body, layers)
@@ -114,7 +115,12 @@ fn strategy_in_range(s: &CoreStrategy, layers: &Layers) -> bool
                 && let_body_in_range(body, defs.as_slice(), layers)
         }
         CoreStrategy::Call(x, strategies, terms) => {
-            call_in_range(*x, strategies.as_slice(), terms.as_slice(), layers)
+            call_in_range(
+                x.coordinate(),
+                strategies.as_slice(),
+                terms.as_slice(),
+                layers,
+            )
         }
         CoreStrategy::Primitive(_, terms) => patterns_in_range(terms.as_slice(), layers),
     }
