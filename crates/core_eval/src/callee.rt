@@ -57,7 +57,7 @@ fn handed_on<'a>(s: &'a CoreStrategy, frame: &'a Frame<'a>) -> Closure<'a>
     ensures { (cs : ResolvedClosures) → with_closure by_coordinates (environment_of frame.now) (strategy_of s.now) cs ≡ more_closures (closure_of result).strategy (closure_of result).environment cs }
 {
     match s {
-        CoreStrategy::Call(x, _, _) => match callee_at(frame, *x) {
+        CoreStrategy::Call(target, _, _) => match callee_at(frame, target.coordinate()) {
             Some(Callee::Parameter(closure)) => closure,
             _ => Closure { strategy: s, frame },
         },

@@ -50,10 +50,11 @@ pub fn evaluate<P: Primitives>(
             evaluate_arms(primitives, arm, more.as_slice(), otherwise, frame, t, state)
         }
         CoreStrategy::Match(p) => {
-            let ending = evaluate_match(p, frame, t, state)?;
+            let ending = evaluate_match(p.pattern(), frame, t, state)?;
             Ok(ending)
         }
         CoreStrategy::Build(p) => {
+            let p = p.pattern();
             let made = instance(state.alloc, p, None, frame, state.places.as_slice())?;
             Ok(built(made))
         }
@@ -71,10 +72,10 @@ pub fn evaluate<P: Primitives>(
             t,
             state,
         ),
-        CoreStrategy::Call(x, strategies, terms) => {
+        CoreStrategy::Call(target, strategies, terms) => {
             evaluate_call(
                 primitives,
-                *x,
+                target.coordinate(),
                 strategies.as_slice(),
                 terms.as_slice(),
                 frame,

@@ -12,7 +12,7 @@ ghost use Rattle.core_eval.specs.Evaluates.{EvaluatesOn, IsRun, max_recursive_bu
 use crate::evaluation::evaluate;
 use crate::frame::Frame;
 use crate::state::State;
-use core_lang::{Coordinate, Core, CoreStrategy, Outcome, Run};
+use core_lang::{CallTarget, Coordinate, Core, CoreStrategy, Outcome, Run};
 use prim_registry::{PrimMeaning, Registry};
 use std::alloc::{AllocError, Global};
 use term_model::{Fault, Term};
@@ -70,7 +70,8 @@ fn call_main<M: PrimMeaning>(
         layers_up: 0,
         slot: core.main(),
     };
-    let call = CoreStrategy::Call(main, Vec::new(state.alloc), Vec::new(state.alloc));
+    let target = CallTarget::new(main, None);
+    let call = CoreStrategy::Call(target, Vec::new(state.alloc), Vec::new(state.alloc));
     let outermost = Frame::Outermost;
     let program = Frame::Definitions {
         defs: core.defs(),

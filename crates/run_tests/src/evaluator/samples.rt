@@ -1,5 +1,7 @@
 // Programs and terms as words in postfix order, and what is built of them.
-use core_lang::{Coordinate, CoreArm, CoreDef, CorePattern, CoreStrategy};
+use core_lang::{
+    CallTarget, Coordinate, CoreArm, CoreDef, CorePattern, CoreStrategy, SourcePattern,
+};
 use std::alloc::Global;
 use std::test::Fail;
 use term_model::{Made, Sym, Term};
@@ -170,13 +172,17 @@ impl Workbench {
 
     fn add_step(&mut self, word: Word) -> Result<(), Fail> {
         let step = match word {
-            Word::Match => CoreStrategy::Match(last(&mut self.patterns)?),
-            Word::Build => CoreStrategy::Build(last(&mut self.patterns)?),
+            Word::Match => CoreStrategy::Match(self.source_pattern()?),
+            Word::Build => CoreStrategy::Build(self.source_pattern()?),
             Word::Id => CoreStrategy::Id,
             _ => CoreStrategy::Fail,
         };
         self.strategies.push(step)?;
         Ok(())
+    }
+
+    fn source_pattern(&mut self) -> Result<SourcePattern, Fail> {
+        Ok(SourcePattern::new(last(&mut self.patterns)?, None))
     }
 
     fn sequence(&mut self, more: usize) -> Result<(), Fail> {
@@ -224,8 +230,9 @@ impl Workbench {
     fn call(&mut self, x: Coordinate, strategies: usize, terms: usize) -> Result<(), Fail> {
         let strategies = last_of(&mut self.strategies, strategies)?;
         let terms = last_of(&mut self.patterns, terms)?;
+        let target = CallTarget::new(x, None);
         self.strategies
-            .push(CoreStrategy::Call(x, strategies, terms))?;
+            .push(CoreStrategy::Call(target, strategies, terms))?;
         Ok(())
     }
 

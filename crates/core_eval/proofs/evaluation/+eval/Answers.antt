@@ -7,6 +7,7 @@ use Rattle.core_lang.specs.declared.run.Outcome.TheVariants.{Failed}
 use Rattle.core_lang.specs.Ending.{ok, rebuilt}
 use Rattle.core_lang.specs.Environment.{layer, no_closures, closures_of, filled_places}
 use Rattle.core_lang.specs.Building.{instance, instances}
+use Rattle.core_lang.specs.Program as core
 use Rattle.core_lang.specs.Resolved.{by_coordinates}
 use Rattle.core_lang.specs.Settled.{ends}
 use Rattle.core_lang.specs.Views.{strategy_of, strategies_of, pattern_of, patterns_of}
@@ -38,16 +39,17 @@ evaluate-returns-in-Fail g t c =
 
 pub evaluate-returns-in_ok-ending-in-Match : goal.evaluate-returns-in_ok-ending-in-Match
 evaluate-returns-in_ok-ending-in-Match g t c =
-    taken (ap strategy_of c.in-Match.is ∙ reads_match _) c.if-state-eq0.false (c.in_ok-ending-in-Match.ensures _)
+    taken (ap strategy_of c.in-Match.is ∙ (reads_match _ ∙ ap (λ p. core.match (pattern_of p)) (sym c.pattern.ensures))) c.if-state-eq0.false (c.in_ok-ending-in-Match.ensures _)
 
 pub evaluate-returns-in_ok-made-in-Build : goal.evaluate-returns-in_ok-made-in-Build
 evaluate-returns-in_ok-made-in-Build g t c =
     let place = by_coordinates.place_of (environment_of c.args.frame.now) in
     let e = c.args.state.now.places.items in
-    at_build (ap strategy_of c.in-Build.is ∙ reads_build _) c.if-state-eq0.false
+    let p = c.pattern-p.result.now in
+    at_build (ap strategy_of c.in-Build.is ∙ (reads_build _ ∙ ap (λ p. core.build (pattern_of p)) (sym c.pattern-p.ensures))) c.if-state-eq0.false
     (c.built.ensures e ∙
-    (ap (λ m. ends (made_ending m e)) (c.in_ok-made-in-Build.ensures ∙ ap (λ x. option_map made_of (instance place (pattern_of c.in-Build.p) x)) c.as_slice-in-Build.ensures.value) ∙
-    ap (λ o. ends o) (made_built (instance place (pattern_of c.in-Build.p) e) e)))
+    (ap (λ m. ends (made_ending m e)) (c.in_ok-made-in-Build.ensures ∙ ap (λ x. option_map made_of (instance place (pattern_of p) x)) c.as_slice-in-Build.ensures.value) ∙
+    ap (λ o. ends o) (made_built (instance place (pattern_of p) e) e)))
 
 pub evaluate-returns-in_ok-ending-in-Primitive : goal.evaluate-returns-in_ok-ending-in-Primitive
 evaluate-returns-in_ok-ending-in-Primitive g t c =

@@ -20,7 +20,8 @@ returns-clause-outcome g c =
       _,
       moved_to
           (reads_definitions _ _ ∙ (ap (λ ds. definitions (definitions_of ds) _) c.defs.ensures.same ∙ ap (λ V. definitions program V) reads_outermost))
-          (reads_call _ _ _ ∙ (ap (λ ss. call x (strategies_of ss) (patterns_of c.new-2.result.items)) c.new.ensures.items ∙
-          (ap (λ ps. call x no_strategies (patterns_of ps)) c.new-2.ensures.items ∙ ap (λ i. call (here i) no_strategies no_patterns) c.main.ensures)))
+          (reads_call _ _ _ ∙ (ap (λ y. call y (strategies_of c.new.result.items) (patterns_of c.new-2.result.items)) c.new-target.ensures ∙
+          (ap (λ ss. call x (strategies_of ss) (patterns_of c.new-2.result.items)) c.new.ensures.items ∙
+          (ap (λ ps. call x no_strategies (patterns_of ps)) c.new-2.ensures.items ∙ ap (λ i. call (here i) no_strategies no_patterns) c.main.ensures))))
           c.requires.places c.in_ok-outcome.ensures,
     )
