@@ -5,6 +5,7 @@ ghost use Rattle.term_model.specs.Space.{Keeps, Makes, MayHave};
 ghost use Rattle.term_store.specs.Space as stored;
 
 use crate::chains::Chains;
+use crate::refused::{LastRefused, Refused};
 use crate::store::StoreSpace;
 use crate::stored::{StoredHead, StoredShape};
 use indexmap::IndexSet;
@@ -25,6 +26,7 @@ impl StoreSpace {
             shapes: IndexSet::with_hasher(alloc, hasher),
             extents: Vec::new(alloc),
             spans: Vec::new(alloc),
+            refused: LastRefused::new(),
         }
     }
 
@@ -33,6 +35,11 @@ impl StoreSpace {
         ensures { result ≡ stored.count self.now }
     {
         self.shapes.len()
+    }
+
+    /// The size of the last term that did not fit, if there was one. Going back leaves it. No contract speaks of it.
+    pub fn refused(&self) -> Option<Refused> {
+        self.refused.get()
     }
 }
 

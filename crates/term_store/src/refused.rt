@@ -1,0 +1,44 @@
+// The size of the last term that did not fit.
+use std::marker::Model;
+
+/// The size of a term that did not fit, counted as `Term::weight` and `Term::depth` count. If the depth alone is too great,
+/// both numbers are exact. If the weight is too great, each is a lower bound, since some parts may not have been added up.
+#[derive(Clone, Copy, Debug, PartialEq, Eq)]
+pub struct Refused {
+    /// The weight, in nodes and bytes of symbols.
+    pub weight: u32,
+    /// The depth, in levels.
+    pub depth: u32,
+}
+
+// The size of the last term that did not fit, if there was one. Contracts see nothing of it.
+#[derive(Drop)]
+pub(crate) struct LastRefused {
+    size: Option<Refused>,
+}
+
+impl Model for LastRefused {
+    ghost use Rattle.std.specs.Prelude.{⊤};
+
+    ghost Value = { ⊤ };
+
+    ghost view = { λ _. tt };
+}
+
+impl LastRefused {
+    // No size, as long as no term was refused.
+    pub(crate) fn new() -> LastRefused {
+        LastRefused { size: None }
+    }
+
+    // The size that was kept last, if there is one.
+    pub(crate) fn get(&self) -> Option<Refused> {
+        self.size
+    }
+
+    // Keeps the size of a term that does not fit.
+    #[cold]
+    pub(crate) fn set(&mut self, weight: u32, depth: u32) {
+        self.size = Some(Refused { weight, depth });
+    }
+}
