@@ -6,6 +6,13 @@ use crate::instr::{Case, Instr};
 use std::marker::Model;
 use term_model::PrimNames;
 
+/// From an address on, code is of what stands at this byte of the definition file; what is of the library stands at 0.
+#[derive(Clone, Copy, Debug, PartialEq, Eq)]
+pub struct SourceMark {
+    pub address: usize,
+    pub offset: u64,
+}
+
 /// Instructions, the tables of cases that they select from, and the primitives that they apply. There is a core with the same
 /// primitives that they stand for, and each address in them is one of an instruction. A run begins at address 0.
 #[derive(Drop)]
@@ -14,6 +21,8 @@ pub struct Code {
     // Several instructions may select from one table, each without its first cases.
     tables: Vec<Vec<Case>>,
     prims: PrimNames,
+    // Where strategies stand in the definition file, by addresses. The view leaves this out.
+    marks: Vec<SourceMark>,
 }
 
 impl Model for Code {
@@ -34,8 +43,14 @@ impl Model for Code {
 
 impl Code {
     /// The code of these instructions with these tables and primitives. They stand for some core with the same primitives, and
-    /// each address in them is one of an instruction.
-    pub fn new(instrs: Vec<Instr>, tables: Vec<Vec<Case>>, prims: PrimNames) -> Code
+    /// each address in them is one of an instruction. The marks say where strategies stand in the definition file, in the order of their
+    /// addresses; no contract speaks of them.
+    pub fn new(
+        instrs: Vec<Instr>,
+        tables: Vec<Vec<Case>>,
+        prims: PrimNames,
+        marks: Vec<SourceMark>,
+    ) -> Code
         requires { IsCode (code_of tables.items instrs.items) prims }
         ensures instrs { result.instrs ≡ instrs.items }
         ensures tables { result.tables ≡ tables.items }
@@ -45,7 +60,15 @@ impl Code {
             instrs,
             tables,
             prims,
+            marks,
         }
+    }
+
+    /// The last mark that is not after the instruction at an address: where its strategy, or one before it in the same definition, stands in
+    /// the definition file. No contract speaks of it.
+    pub fn mark_at(&self, address: usize) -> Option<SourceMark> {
+        let after = self.marks.partition_point(|mark| mark.address <= address);
+        self.marks.get(after.checked_sub(1)?).copied()
     }
 
     /// The number of instructions.

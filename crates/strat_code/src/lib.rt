@@ -5,6 +5,6 @@ mod code;
 mod instr;
 mod laws;
 
-pub use code::Code;
+pub use code::{Code, SourceMark};
 pub use instr::{Argument, Case, Instr, Root, Traversal};
 pub use laws::{longer_code_stands, small_code_stands, walking_code_stands};
