@@ -46,11 +46,13 @@ let_row s b' ds b defs defs' w S T l n p x o o1 o2 is items items' layer body la
     (subst (λ m. Emits w T m (strategy_of b.value) o1 o2) nodes
     (subst (λ r. Emits w T n (strategy_of r) o1 o2) body h))))
 
-pub called_row : (s : CoreStrategy) (y : Coordinate) (ss : Vec CoreStrategy Global) (ps : Vec CorePattern Global) (ss' : List CoreStrategy) (ps' : List CorePattern) (w : Option ℕ) (S : Site) (x : ℕ) (o o1 : Emitted) →
-    s ≡ strategies.Call y ss ps → ss' ≡ ss.items → ps' ≡ ps.items → Emits w S x (call y (strategies_of ss') (patterns_of ps')) o o1 → Emits w S x (strategy_of s) o o1
-called_row s y ss ps ss' ps' w S x o o1 is items terms h =
-    subst (λ r. Emits w S x r o o1) (sym (ap strategy_of is ∙ reads_call y ss ps))
-    (subst (λ ts. Emits w S x (call y (strategies_of ss.items) (patterns_of ts)) o o1) terms (subst (λ xs. Emits w S x (call y (strategies_of xs) (patterns_of ps')) o o1) items h))
+pub called_row : (s : CoreStrategy) (y y' : Coordinate) (ss : Vec CoreStrategy Global) (ps : Vec CorePattern Global) (ss' : List CoreStrategy) (ps' : List CorePattern) (w : Option ℕ) (S : Site) (x : ℕ) (o o1 o2 : Emitted) →
+    s ≡ strategies.Call y ss ps → y' ≡ y → ss' ≡ ss.items → ps' ≡ ps.items → Emits w S x (call y' (strategies_of ss') (patterns_of ps')) o o1 → o2 ≡ o1 → Emits w S x (strategy_of s) o o2
+called_row s y y' ss ps ss' ps' w S x o o1 o2 is target items terms h marked =
+    subst (λ q. Emits w S x (strategy_of s) o q) (sym marked)
+    (subst (λ r. Emits w S x r o o1) (sym (ap strategy_of is ∙ reads_call y ss ps))
+    (subst (λ z. Emits w S x (call z (strategies_of ss.items) (patterns_of ps.items)) o o1) target
+    (subst (λ ts. Emits w S x (call y' (strategies_of ss.items) (patterns_of ts)) o o1) terms (subst (λ xs. Emits w S x (call y' (strategies_of xs) (patterns_of ps')) o o1) items h))))
 
 pub of_arm : (a : CoreArm) (w : Option ℕ) (S : Site) (x to : ℕ) (o o1 : Emitted) → EmitsArm w S x (strategy_of (out-CoreArm a).guard) (strategy_of (out-CoreArm a).then) to o o1 →
     EmitsArm w S x (arm_of a).guard (arm_of a).then to o o1

@@ -144,14 +144,15 @@ pub(crate) fn handing<'a>(
 ) -> Result<Handing<'a>, AllocError>
     ensures { IfOk result (λ how. HandsOver (site_of layers.now) (strategy_of argument.now) how) }
 {
-    let CoreStrategy::Call(at, _, _) = argument else {
+    let CoreStrategy::Call(target, _, _) = argument else {
         return Ok(Handing::OwnCode);
     };
-    match callee(layers, *at)? {
+    let at = target.coordinate();
+    match callee(layers, at)? {
         Callee::Definition(_) => Ok(Handing::OwnCode),
         Callee::Given(known) => Ok(Handing::Inlined(known)),
         Callee::Unknown => {
-            let closure = frame_coordinate(layers, *at)?;
+            let closure = frame_coordinate(layers, at)?;
             Ok(Handing::Parameter(closure))
         }
     }

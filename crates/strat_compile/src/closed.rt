@@ -173,8 +173,8 @@ pub(crate) fn is_closed(s: &CoreStrategy, layers: &Layers, limit: &mut usize) ->
             }
             is_closed(otherwise, layers, limit)
         }
-        CoreStrategy::Match(p) => is_pattern_closed(p, layers),
-        CoreStrategy::Build(p) => is_pattern_closed(p, layers),
+        CoreStrategy::Match(p) => is_pattern_closed(p.pattern(), layers),
+        CoreStrategy::Build(p) => is_pattern_closed(p.pattern(), layers),
         CoreStrategy::Scope(count, body) => is_body_closed(0, *count, body, layers, limit),
         CoreStrategy::All(body) => is_closed(body, layers, limit),
         CoreStrategy::One(body) => is_closed(body, layers, limit),
@@ -183,8 +183,9 @@ pub(crate) fn is_closed(s: &CoreStrategy, layers: &Layers, limit: &mut usize) ->
             are_let_definitions_closed(defs.as_slice(), layers, limit)
                 && is_let_body_closed(body, defs.as_slice(), layers, limit)
         }
-        CoreStrategy::Call(at, strategies, terms) => {
-            is_call_closed(*at, strategies.as_slice(), terms.as_slice(), layers, limit)
+        CoreStrategy::Call(target, strategies, terms) => {
+            let at = target.coordinate();
+            is_call_closed(at, strategies.as_slice(), terms.as_slice(), layers, limit)
         }
         CoreStrategy::Primitive(_, terms) => are_patterns_closed(terms.as_slice(), layers),
     }

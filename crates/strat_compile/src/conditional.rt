@@ -99,7 +99,8 @@ fn part_of<'a>(s: &CoreStrategy, arguments: &[Known<'a>]) -> Option<Part<'a>>
     match s {
         CoreStrategy::Id => Some(Part::Success),
         CoreStrategy::Fail => Some(Part::Failure),
-        CoreStrategy::Call(at, strategies, terms) => {
+        CoreStrategy::Call(target, strategies, terms) => {
+            let at = target.coordinate();
             if at.layers_up > 0 || !strategies.is_empty() || !terms.is_empty() {
                 return None;
             }

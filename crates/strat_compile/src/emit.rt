@@ -66,8 +66,14 @@ pub(crate) fn emit(
                 alloc, out, layers, places, charged, arm, end, &mut chain, depth,
             )
         }
-        CoreStrategy::Match(p) => emit_match(alloc, out, layers, charged, p),
-        CoreStrategy::Build(p) => emit_build(alloc, out, layers, charged, p),
+        CoreStrategy::Match(p) => {
+            emit_match(alloc, out, layers, charged, p.pattern())?;
+            out.mark(p.offset())
+        }
+        CoreStrategy::Build(p) => {
+            emit_build(alloc, out, layers, charged, p.pattern())?;
+            out.mark(p.offset())
+        }
         CoreStrategy::Scope(more, body) => match places {
             Some(size) => emit_inner_scope(alloc, out, layers, size, charged, *more, body, depth),
             None => emit_scope(alloc, out, layers, charged, *more, body, depth),
@@ -120,12 +126,14 @@ pub(crate) fn emit(
             let nodes = successor(charged)?;
             emit(alloc, out, &inner, places, nodes, body, depth)
         }
-        CoreStrategy::Call(at, strategies, terms) => {
+        CoreStrategy::Call(target, strategies, terms) => {
+            let at = target.coordinate();
             let strategies = strategies.as_slice();
             let terms = terms.as_slice();
             emit_call(
-                alloc, out, layers, places, charged, *at, strategies, terms, depth,
-            )
+                alloc, out, layers, places, charged, at, strategies, terms, depth,
+            )?;
+            out.mark(target.offset())
         }
         CoreStrategy::Primitive(name, terms) => {
             let name = name.as_slice();
@@ -217,6 +225,7 @@ fn emit_inner_scope(
 
 #[cycle(emission)]
 #[tactic(auto, using(crate::proofs::RowLaws::traversal_row))]
+#[inline(never)]
 fn emit_traversal(
     alloc: Global,
     out: &mut Output,
@@ -280,6 +289,7 @@ pub(crate) fn emit_bodies(
     for def in defs {
         emit_definition(alloc, out, layers, def, depth)?;
         out.start(label);
+        out.mark_start(label)?;
         label = successor(label)?;
     }
     Ok(())

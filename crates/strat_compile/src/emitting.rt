@@ -7,6 +7,7 @@ ghost use Rattle.strat_compile.specs.Tables.{SelectsNot};
 
 use crate::located::{located, located_tables};
 use crate::output::{Finished, Output};
+use crate::sources::{Sources, marks_of};
 use std::alloc::{AllocError, Global};
 use strat_code::Instr;
 
@@ -19,9 +20,10 @@ const VISITS_OF_ALTERNATIVE: usize = 500;
 const VISITS: usize = 200_000;
 
 impl Output {
-    /// No code. `recursive` says for each definition of the program whether it may reach itself by calls.
+    /// No code. `recursive` says for each definition of the program whether it may reach itself by calls. `sources` is there if it is
+    /// kept where strategies stand in the definition file.
     #[tactic(auto, unfolding(crate::specs::Output::emitted_of))]
-    pub(crate) fn new(alloc: Global, recursive: Vec<bool>) -> Output
+    pub(crate) fn new(alloc: Global, recursive: Vec<bool>, sources: Option<Sources>) -> Output
         ensures { emitted_of result ≡ nothing }
     {
         Output {
@@ -33,6 +35,7 @@ impl Output {
             is_expanding: false,
             is_sparing: false,
             expanded: 0,
+            sources,
         }
     }
 
@@ -129,6 +132,7 @@ impl Output {
             mut instrs,
             tables,
             starts,
+            sources,
             ..
         } = self;
         let count = instrs.len();
@@ -138,9 +142,11 @@ impl Output {
             let instr = located(alloc, instr, count, starts.as_slice())?;
             made.push(instr)?;
         }
+        let marks = marks_of(alloc, count, sources)?;
         Ok(Finished {
             instrs: made,
             tables,
+            marks,
         })
     }
 }

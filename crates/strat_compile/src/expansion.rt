@@ -54,12 +54,12 @@ pub(crate) fn fits(
         CoreStrategy::LetIn(defs, body) => {
             let_fits(alloc, layers, defs.as_slice(), body, inlining, depth, limit)
         }
-        CoreStrategy::Call(at, strategies, terms) => {
+        CoreStrategy::Call(target, strategies, terms) => {
             let has_terms = !terms.is_empty();
             call_fits(
                 alloc,
                 layers,
-                *at,
+                target.coordinate(),
                 strategies.as_slice(),
                 has_terms,
                 inlining,

@@ -85,7 +85,7 @@ pub(crate) fn own_specialization(
     let CoreStrategy::Call(first, _, _) = strategies.first()? else {
         return None;
     };
-    let layers_up = first.layers_up;
+    let layers_up = first.coordinate().layers_up;
     if at.layers_up == 0 || at.layers_up - 1 != layers_up {
         return None;
     }
@@ -141,8 +141,9 @@ fn are_parameters(strategies: &[CoreStrategy], layers_up: usize) -> bool
 fn is_parameter(strategy: &CoreStrategy, layers_up: usize, slot: usize) -> bool
     ensures { IsTrue result → IsParameter layers_up slot (strategy_of strategy.now) }
 {
-    let CoreStrategy::Call(at, _, _) = strategy else {
+    let CoreStrategy::Call(target, _, _) = strategy else {
         return false;
     };
+    let at = target.coordinate();
     at.layers_up == layers_up && at.slot == slot
 }

@@ -1,4 +1,4 @@
-// What is emitted for a strategy of one instruction.
+// What is emitted for a strategy of one instruction. These functions are not inlined, so that a level of `emit` needs little of the stack.
 ghost use Rattle.std.specs.Prelude.{◌≡◌, OnOk};
 ghost use Rattle.core_lang.specs.Program.{build, call, fail, id, match, primitive};
 ghost use Rattle.core_lang.specs.Views.{pattern_of, patterns_of};
@@ -18,6 +18,7 @@ use std::alloc::{AllocError, Global};
 use strat_code::Instr;
 
 #[tactic(auto, using(crate::proofs::RowLaws::id_row))]
+#[inline(never)]
 pub(crate) fn emit_id(out: &mut Output, charged: usize) -> Result<(), AllocError>
     ensures { OnOk result ((w : _) (S : _) →
         Emits w S charged id (emitted_of out.old) (emitted_of out.new)) }
@@ -27,6 +28,7 @@ pub(crate) fn emit_id(out: &mut Output, charged: usize) -> Result<(), AllocError
 }
 
 #[tactic(auto, using(crate::proofs::RowLaws::fail_row))]
+#[inline(never)]
 pub(crate) fn emit_fail(out: &mut Output, charged: usize) -> Result<(), AllocError>
     ensures { OnOk result ((w : _) (S : _) →
         Emits w S charged fail (emitted_of out.old) (emitted_of out.new)) }
@@ -46,6 +48,7 @@ pub(crate) fn emit_commit(out: &mut Output, end: usize) -> Result<(), AllocError
 }
 
 #[tactic(auto, using(crate::proofs::RowLaws::match_row))]
+#[inline(never)]
 pub(crate) fn emit_match(
     alloc: Global,
     out: &mut Output,
@@ -62,6 +65,7 @@ pub(crate) fn emit_match(
 }
 
 #[tactic(auto, using(crate::proofs::RowLaws::build_row))]
+#[inline(never)]
 pub(crate) fn emit_build(
     alloc: Global,
     out: &mut Output,
@@ -78,6 +82,7 @@ pub(crate) fn emit_build(
 }
 
 #[tactic(auto, using(crate::proofs::RowLaws::primitive_row))]
+#[inline(never)]
 pub(crate) fn emit_primitive(
     alloc: Global,
     out: &mut Output,

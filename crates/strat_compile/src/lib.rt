@@ -22,6 +22,7 @@ mod program;
 mod recursion;
 mod roots;
 mod selects;
+mod sources;
 mod ways;
 
-pub use program::compile;
+pub use program::{compile, compile_with_marks};

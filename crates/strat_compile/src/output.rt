@@ -1,7 +1,8 @@
 // Code as it is emitted, from its end to its beginning.
 ghost use Rattle.strat_compile.specs.Tables.{HaveTables};
 
-use strat_code::{Case, Instr};
+use crate::sources::Sources;
+use strat_code::{Case, Instr, SourceMark};
 
 /// The code from here to the end. What stands last in the code is emitted first, so that the place that an instruction leads
 /// to is known when it is emitted. A place is how many instructions there are from there to the end; a definition is
@@ -24,6 +25,8 @@ pub(crate) struct Output {
     pub(crate) is_sparing: bool,
     /// How many strategies all expansions have.
     pub(crate) expanded: usize,
+    /// Where strategies stand in the definition file, if that is kept. Then each call is a call: none is expanded.
+    pub(crate) sources: Option<Sources>,
     ghost tidy: { HaveTables tables.items instrs.items },
 }
 
@@ -32,4 +35,6 @@ pub(crate) struct Output {
 pub(crate) struct Finished {
     pub(crate) instrs: Vec<Instr>,
     pub(crate) tables: Vec<Vec<Case>>,
+    /// Where strategies stand in the definition file, in the order of their addresses.
+    pub(crate) marks: Vec<SourceMark>,
 }

@@ -14,6 +14,7 @@ use crate::layers::Layers;
 use crate::names::copied;
 use crate::output::Output;
 use crate::recursion::recursive_definitions;
+use crate::sources::Sources;
 use core_lang::{Coordinate, Core, CoreDef};
 use std::alloc::{AllocError, Global};
 use strat_code::{Code, Instr};
@@ -32,17 +33,45 @@ pub fn compile(alloc: Global, core: &Core) -> Result<Code, AllocError>
         StandsFor (code_of code.tables code.instrs) (program_of core.now) core.now.main) }
     ensures prims { IfOk result (λ code. code.prims ≡ core.now.prims) }
 {
-    let prims = copied(alloc, core.prims())?;
-    let output = emit_program(alloc, core.defs(), core.main())?;
-    let finished = output.finish(alloc)?;
-    Ok(Code::new(finished.instrs, finished.tables, prims))
+    compile_with_sources(alloc, core, None)
 }
 
-fn emit_program(alloc: Global, defs: &[CoreDef], main: usize) -> Result<Output, AllocError>
+/// Makes code by which a run can be explained: as `compile` does, but each call of the core is a call of the code, and the code has marks of
+/// where its strategies stand in the definition file.
+pub fn compile_with_marks(alloc: Global, core: &Core) -> Result<Code, AllocError>
+    ensures stands { IfOk result (λ code.
+        StandsFor (code_of code.tables code.instrs) (program_of core.now) core.now.main) }
+    ensures prims { IfOk result (λ code. code.prims ≡ core.now.prims) }
+{
+    let sources = Sources::new(alloc, core)?;
+    compile_with_sources(alloc, core, Some(sources))
+}
+
+fn compile_with_sources(
+    alloc: Global,
+    core: &Core,
+    sources: Option<Sources>,
+) -> Result<Code, AllocError>
+    ensures stands { IfOk result (λ code.
+        StandsFor (code_of code.tables code.instrs) (program_of core.now) core.now.main) }
+    ensures prims { IfOk result (λ code. code.prims ≡ core.now.prims) }
+{
+    let prims = copied(alloc, core.prims())?;
+    let output = emit_program(alloc, core.defs(), core.main(), sources)?;
+    let finished = output.finish(alloc)?;
+    Ok(Code::new(finished.instrs, finished.tables, prims, finished.marks))
+}
+
+fn emit_program(
+    alloc: Global,
+    defs: &[CoreDef],
+    main: usize,
+    sources: Option<Sources>,
+) -> Result<Output, AllocError>
     ensures { IfOk result (λ made. EmitsProgram (definitions_of defs.now) main (emitted_of made)) }
 {
     let recursive = recursive_definitions(alloc, defs)?;
-    let mut out = Output::new(alloc, recursive);
+    let mut out = Output::new(alloc, recursive, sources);
     let outermost = Layers::Outermost;
     let program = Layers::Defining {
         defs: &*defs,

@@ -132,7 +132,8 @@ fn reaches(s: &CoreStrategy, up: usize, recursive: &[bool], called: &mut Vec<boo
             let in_body = reaches(body, up.saturating_add(1), recursive, called);
             in_defs || in_body
         }
-        CoreStrategy::Call(at, strategies, _) => {
+        CoreStrategy::Call(target, strategies, _) => {
+            let at = target.coordinate();
             let in_arguments = any_reaches(strategies.as_slice(), up, recursive, called);
             at.layers_up == up && mark(at.slot, recursive, called) || in_arguments
         }

@@ -69,7 +69,7 @@ fn begins_with(strategy: &CoreStrategy) -> Result<Option<Beginning>, AllocError>
 {
     match strategy {
         CoreStrategy::Match(pattern) => {
-            let root = root_asked(pattern)?;
+            let root = root_asked(pattern.pattern())?;
             Ok(Some(Beginning { root, nodes: 1 }))
         }
         CoreStrategy::Sequence(first, _, _) => {
@@ -112,7 +112,7 @@ fn roots_asked(
     match strategy {
         CoreStrategy::Fail => Ok(Some(1)),
         CoreStrategy::Match(pattern) => {
-            let root = root_asked(pattern)?;
+            let root = root_asked(pattern.pattern())?;
             if !asks(&root) {
                 return Ok(None);
             }
@@ -132,11 +132,12 @@ fn roots_asked(
         }
         CoreStrategy::Scope(_, body) => inside_asked(alloc, layers, body, limit, roots),
         CoreStrategy::LetIn(_, body) => inside_asked(alloc, layers, body, limit, roots),
-        CoreStrategy::Call(at, strategies, terms) => {
+        CoreStrategy::Call(target, strategies, terms) => {
             if !terms.is_empty() {
                 return Ok(None);
             }
-            call_asked(alloc, layers, *at, strategies.as_slice(), limit, roots)
+            let at = target.coordinate();
+            call_asked(alloc, layers, at, strategies.as_slice(), limit, roots)
         }
         _ => Ok(None),
     }

@@ -45,6 +45,9 @@ pub(crate) fn way_of<'a>(
     ensures view { OnOk result (emitted_of out.new ≡ emitted_of out.old) }
     ensures way { IfOk result (λ way. AllowsWay way definition.entry terms.now) }
 {
+    if out.keeps_calls() {
+        return Ok(Way::Ordinary);
+    }
     let has_terms = !terms.is_empty();
     if !out.is_expanding && !out.may_expand(alloc, slot, definition, arguments, has_terms)? {
         return Ok(Way::Ordinary);

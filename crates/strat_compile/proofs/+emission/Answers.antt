@@ -34,10 +34,11 @@ emit::emit-returns-in_ok-nodes-in-LetIn t c =
     (λ h. let_row c.args.s.now _ _ _ _ _ _ _ _ _ _ _ _ _ _ _ c.in-LetIn.is c.as_slice-in-LetIn-2.ensures.value c.as_slice-in-LetIn.ensures.value (site_defining _ _ _) c.deref-in-LetIn.ensures
     c.labels-first_label.ensures c.place-end-in-LetIn.ensures c.in_ok-nodes-in-LetIn.ensures c.in_ok-emit_definitions-in-LetIn.ensures h) c.emit-in-LetIn.ensures
 
-pub emit::emit-returns-in-Call : goal.emit::emit-returns-in-Call
-emit::emit-returns-in-Call t c =
-    on_ok c.emit_call.result
-    (λ h. called_row c.args.s.now _ _ _ _ _ c.args.places _ _ _ _ c.in-Call.is c.as_slice-strategies.ensures.value c.as_slice-terms.ensures.value h) c.emit_call.ensures
+pub emit::emit-returns-in_ok-emit_call-in-Call : goal.emit::emit-returns-in_ok-emit_call-in-Call
+emit::emit-returns-in_ok-emit_call-in-Call t c =
+    on_ok c.mark-in-Call.result
+    (λ marked. called_row c.args.s.now _ _ _ _ _ _ c.args.places _ _ _ _ _ c.in-Call.is c.coordinate-at.ensures c.as_slice-strategies.ensures.value c.as_slice-terms.ensures.value
+    c.in_ok-emit_call-in-Call.ensures marked) c.mark-in-Call.ensures
 
 pub choices::emit_arm-returns : goal.choices::emit_arm-returns
 choices::emit_arm-returns t c =
@@ -65,7 +66,7 @@ choices::emit_then-returns-in-Id t c = on_ok c.emit_commit.result (λ last. id_t
 
 pub emit::emit_bodies-loop-def-preserved : goal.emit::emit_bodies-loop-def-preserved
 emit::emit_bodies-loop-def-preserved t c =
-    bodies_next _ _ _ _ _ _ _ _ c.args.defs.now c.loop-def.def-index c.def-item.result c.loop-def-test.true c.in_ok-label.ensures c.start.ensures c.loop-def.invariant
+    bodies_next _ _ _ _ _ _ _ _ c.args.defs.now c.loop-def.def-index c.def-item.result c.loop-def-test.true c.in_ok-label.ensures (c.in_ok-mark_start.ensures ∙ c.start.ensures) c.loop-def.invariant
     c.def-item.is c.in_ok-emit_definition.ensures
 
 pub emit::emit_body-returns-in_default : goal.emit::emit_body-returns-in_default

@@ -1,5 +1,6 @@
 use Rattle.std.proofs.Common.{◌≡◌, ◌+◌, ◌-◌, ◌<◌, length, refl, ap, ◌∙◌, arith}
-use Rattle.core_lang.specs.Views.{strategy_of}
+use Rattle.core_lang.specs.Roots.{root_of}
+use Rattle.core_lang.specs.Views.{pattern_of, strategy_of}
 use Rattle.strat_compile.specs.ChainOf.{roots_of}
 use Rattle.strat_compile.specs.Layers.{site_of}
 use Rattle.strat_compile.proofs.LayerLaws.{context_hidden, site_frameless, site_in_call}
@@ -8,7 +9,7 @@ use Rattle.strat_compile.proofs.roots.+asking.Goals as goal
 
 pub roots_asked-returns-in_ok-push-in-Match-clause-asks : goal.roots_asked-returns-in_ok-push-in-Match-clause-asks
 roots_asked-returns-in_ok-push-in-Match-clause-asks t c =
-    match_asks _ _ _ _ _ _ c.in-Match.is c.in_ok-root-in-Match.ensures (ap roots_of c.in_ok-push-in-Match.ensures.items ∙ roots_pushed c.args.roots.now.items _)
+    match_asks _ _ _ _ _ _ c.in-Match.is (c.in_ok-root-in-Match.ensures ∙ ap (λ p. root_of (pattern_of p)) c.pattern.ensures) (ap roots_of c.in_ok-push-in-Match.ensures.items ∙ roots_pushed c.args.roots.now.items _)
 
 pub roots_asked-returns-in-Choice-clause-asks : goal.roots_asked-returns-in-Choice-clause-asks
 roots_asked-returns-in-Choice-clause-asks t c =

@@ -5,7 +5,7 @@ use Rattle.strat_code.specs.StandsFor.{StandsFor}
 use Rattle.strat_compile.specs.Located.{code_in}
 use Rattle.strat_compile.specs.Output.{emitted_of}
 use Rattle.strat_compile.proofs.ProgramLaws.{of_core, program_code, program_stands}
-use Rattle.strat_compile.proofs.program.compile.Goals as goal
+use Rattle.strat_compile.proofs.program.compile_with_sources.Goals as goal
 
 pub new-requires : goal.new-requires
 new-requires c =
