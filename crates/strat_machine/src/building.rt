@@ -53,7 +53,7 @@ pub(crate) enum Elements<R> {
 }
 
 /// What a variable has; the space is that of the references.
-fn value<'a, S: TermSpace>(
+pub(crate) fn value<'a, S: TermSpace>(
     space: &S,
     frames: &Frames,
     here: usize,

@@ -15,6 +15,7 @@ ghost use Rattle.prim_registry.specs.Registered.{meaning_of};
 ghost use Rattle.strat_machine.specs.SpaceOf.{space_of};
 ghost use Rattle.strat_machine.specs.Stacks.{KeepsNames};
 
+use crate::explaining::{Account, Stand, account_of, stand_after};
 use crate::program::load_code;
 use crate::running::run_code;
 use crate::stacks::Stacks;
@@ -122,5 +123,72 @@ impl<S: TermSpace + Drop> Machine<S> {
         );
         self.stacks.clear();
         Ok(run?)
+    }
+
+    /// Runs the code on the term within a budget of rules, and returns an account of the run: how many rules the instruction
+    /// at each address was charged, how the run ended, and at which steps it failed.
+    ///
+    /// No contract speaks of what the account says. The only fault is `Memory`: a growth was refused, here or in a primitive. After a
+    /// fault, as after an account, the machine can run again.
+    pub fn account<M: PrimMeaning>(
+        &mut self,
+        code: &Code,
+        term: S::Ref,
+        budget: u32,
+        registry: &Registry<M>,
+    ) -> Result<Account, Fault>
+        requires stands { IsTrue (S.stands self.old term) }
+        requires honest { IsHonest M.answer registry.now }
+        requires covers { Covers registry.now code.now.prims }
+        ensures fault { IfErr result (λ fault. fault ≡ Fault.Memory) }
+    {
+        let space = &mut self.space;
+        let loaded = load_code(space, self.alloc, code, registry)?;
+        let account = account_of(
+            space,
+            self.alloc,
+            &mut self.stacks,
+            code,
+            &loaded,
+            registry,
+            term,
+            budget,
+        );
+        self.stacks.clear();
+        Ok(account?)
+    }
+
+    /// Takes the first `count` steps of such a run, and returns where it then stands; nothing where no instruction comes next.
+    ///
+    /// No contract speaks of what it returns. The only fault is `Memory`: a growth was refused, here or in a primitive. After a fault, as
+    /// after a stand, the machine can run again.
+    pub fn stand<M: PrimMeaning>(
+        &mut self,
+        code: &Code,
+        term: S::Ref,
+        budget: u32,
+        registry: &Registry<M>,
+        count: u64,
+    ) -> Result<Option<Stand>, Fault>
+        requires stands { IsTrue (S.stands self.old term) }
+        requires honest { IsHonest M.answer registry.now }
+        requires covers { Covers registry.now code.now.prims }
+        ensures fault { IfErr result (λ fault. fault ≡ Fault.Memory) }
+    {
+        let space = &mut self.space;
+        let loaded = load_code(space, self.alloc, code, registry)?;
+        let stand = stand_after(
+            space,
+            self.alloc,
+            &mut self.stacks,
+            code,
+            &loaded,
+            registry,
+            term,
+            budget,
+            count,
+        );
+        self.stacks.clear();
+        Ok(stand?)
     }
 }

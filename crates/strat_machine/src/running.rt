@@ -79,8 +79,8 @@ pub(crate) fn run_code<S: TermSpace, M: PrimMeaning>(
     })
 }
 
-// Takes a step from a phase in which the run has not ended.
-fn take_step<S: TermSpace, M: PrimMeaning>(
+/// Takes a step from a phase in which the run has not ended.
+pub(crate) fn take_step<S: TermSpace, M: PrimMeaning>(
     space: &mut S,
     alloc: Global,
     stacks: &mut Stacks<S::Ref, S::Mark>,
@@ -114,8 +114,8 @@ fn take_step<S: TermSpace, M: PrimMeaning>(
     }
 }
 
-// Whether the run has not ended.
-fn goes_on<R: Drop>(phase: &Phase<R>) -> bool
+/// Whether the run has not ended.
+pub(crate) fn goes_on<R: Drop>(phase: &Phase<R>) -> bool
     ensures { IsTrue result ↔ GoesOn phase.now }
 {
     match phase {

@@ -1,0 +1,212 @@
+// What explanations of a run are made of: what it cost, how it ended, and where it stood.
+ghost use Rattle.std.specs.Prelude.{IsTrue};
+ghost use Rattle.prim_registry.specs.Entries.{IsHonest, entries_of};
+ghost use Rattle.strat_machine.specs.Marks.{Holds};
+ghost use Rattle.strat_machine.specs.Operands.{IsLoadedCode};
+ghost use Rattle.strat_machine.specs.References.{AllPlaces};
+ghost use Rattle.strat_machine.specs.Running.{IsClear};
+ghost use Rattle.strat_machine.specs.SpaceOf.{space_of};
+ghost use Rattle.strat_machine.specs.Stacks.{state_of};
+
+use crate::building::value;
+use crate::frames::Frames;
+use crate::partial::{Notes, run_part};
+use crate::program::LoadedCode;
+use crate::records::{Record, Records};
+use crate::shortening::first_nodes;
+use crate::stacks::{Phase, Stacks, Stop};
+use crate::variables::variables_of;
+use prim_registry::{PrimMeaning, Registry};
+use std::alloc::{AllocError, Global};
+use strat_code::Code;
+use term_model::{Term, TermSpace};
+
+/// How a run ends: with a term, by failing, with a term that would be too large, or with its budget used up.
+#[derive(Clone, Copy, Debug, PartialEq, Eq)]
+pub enum Ending {
+    Rewritten,
+    Failed,
+    Oversize,
+    Spent,
+}
+
+/// Where a run stands before one of its steps.
+///
+/// Of each term it has the first 200 nodes that are at most 100 deep, in the order of the term's text: a node, its parts, its
+/// annotations. Where others of the parts of a node, or of its annotations, are left out, one plain `_` without parts stands for them;
+/// where a node would weigh too much with these, one stands for it.
+#[derive(Drop)]
+pub struct Stand {
+    /// The address of the instruction that comes next.
+    pub address: usize,
+    /// The term that the instruction is performed on.
+    pub term: Term,
+    /// What each variable in the patterns of the instruction has, in the order in which they are written there: its term, or nothing
+    /// where it has none yet. A variable that is written several times is there several times.
+    pub values: Vec<Option<Term>>,
+    /// The addresses after the calls that wait, the outermost first.
+    pub waiting: Vec<usize>,
+}
+
+/// What a run did.
+#[derive(Drop)]
+pub struct Account {
+    /// How many rules, which are nodes of the derivation, the instruction at each address was charged. What is left of a budget that
+    /// does not suffice for the next instruction is charged to none.
+    pub rules: Vec<u64>,
+    /// How the run ended within the budget.
+    pub ending: Ending,
+    /// How many steps came before that of the last instruction. A run that failed did so by this instruction, after which no alternative
+    /// was left. A term that is too large is what this instruction made, or, where it failed in `some(s)`, what that made of the parts.
+    pub before_last: u64,
+    /// How many steps came before that of the deepest instruction that failed, by the number of frames, of those since a call last
+    /// returned; 0 where none has failed.
+    pub before_deepest: u64,
+}
+
+/// The account of a run of loaded code, from clear stacks on. Some of the run may be left on the stacks.
+pub(crate) fn account_of<S: TermSpace, M: PrimMeaning>(
+    space: &mut S,
+    alloc: Global,
+    stacks: &mut Stacks<S::Ref, S::Mark>,
+    code: &Code,
+    loaded: &LoadedCode<S::Name>,
+    registry: &Registry<M>,
+    term: S::Ref,
+    budget: u32,
+) -> Result<Account, AllocError>
+    requires clear { IsClear stacks.old }
+    requires stands { IsTrue (S.stands space.old term) }
+    requires honest { IsHonest M.answer registry.now }
+    requires loaded { IsLoadedCode (S.knows space.old) (S.symbol_of space.old) S.number_of
+        (entries_of registry.now) loaded.now code.now.tables code.now.instrs }
+{
+    let mut notes = Notes::new(alloc, code.len())?;
+    let phase = run_part(
+        space,
+        alloc,
+        stacks,
+        code,
+        loaded,
+        registry,
+        term,
+        budget,
+        u64::MAX,
+        &mut notes,
+    )?;
+    let ending = ending_of(phase);
+    Ok(Account {
+        rules: notes.rules,
+        ending,
+        before_last: notes.before_last,
+        before_deepest: notes.before_deepest,
+    })
+}
+
+/// Where a run of loaded code stands after this number of steps, from clear stacks on, if an instruction comes next. Some of the run may be
+/// left on the stacks.
+pub(crate) fn stand_after<S: TermSpace, M: PrimMeaning>(
+    space: &mut S,
+    alloc: Global,
+    stacks: &mut Stacks<S::Ref, S::Mark>,
+    code: &Code,
+    loaded: &LoadedCode<S::Name>,
+    registry: &Registry<M>,
+    term: S::Ref,
+    budget: u32,
+    count: u64,
+) -> Result<Option<Stand>, AllocError>
+    requires clear { IsClear stacks.old }
+    requires stands { IsTrue (S.stands space.old term) }
+    requires honest { IsHonest M.answer registry.now }
+    requires loaded { IsLoadedCode (S.knows space.old) (S.symbol_of space.old) S.number_of
+        (entries_of registry.now) loaded.now code.now.tables code.now.instrs }
+{
+    let mut notes = Notes::new(alloc, 0)?;
+    let phase = run_part(
+        space, alloc, stacks, code, loaded, registry, term, budget, count, &mut notes,
+    )?;
+    let stand = stand_in(space, alloc, stacks, code, &phase)?;
+    Ok(stand)
+}
+
+// Where a run stands in a phase, if an instruction comes next.
+fn stand_in<S: TermSpace>(
+    space: &S,
+    alloc: Global,
+    stacks: &Stacks<S::Ref, S::Mark>,
+    code: &Code,
+    phase: &Phase<S::Ref>,
+) -> Result<Option<Stand>, AllocError>
+    requires { Holds (space_of S.stands S.term_of S.is_valid S.covers S.covers_mark) space.now
+        (state_of phase.now stacks.now) }
+{
+    let Phase::Running {
+        address,
+        frame,
+        term,
+    } = phase
+    else {
+        return Ok(None);
+    };
+    let term = first_nodes(space, alloc, term)?;
+    let slots = stacks.places.slots();
+    let values = values_at(space, alloc, &stacks.frames, *frame, slots, code, *address)?;
+    let waiting = addresses_after(alloc, &stacks.records)?;
+    Ok(Some(Stand {
+        address: *address,
+        term,
+        values,
+        waiting,
+    }))
+}
+
+// What the variables in the patterns of the instruction at an address have.
+fn values_at<S: TermSpace>(
+    space: &S,
+    alloc: Global,
+    frames: &Frames,
+    here: usize,
+    slots: &[Option<S::Ref>],
+    code: &Code,
+    address: usize,
+) -> Result<Vec<Option<Term>>, AllocError>
+    requires { AllPlaces (λ r. IsTrue (S.stands space.now r)) slots.now }
+{
+    let mut values = Vec::new(alloc);
+    if address >= code.len() {
+        return Ok(values);
+    }
+    for variable in variables_of(alloc, code.at(address))? {
+        let term = match value(space, frames, here, variable, slots) {
+            Some(at) => Some(first_nodes(space, alloc, at)?),
+            None => None,
+        };
+        values.push(term)?;
+    }
+    Ok(values)
+}
+
+// The addresses after the calls that wait, the outermost first.
+fn addresses_after<R: Drop, M: Drop>(
+    alloc: Global,
+    records: &Records<R, M>,
+) -> Result<Vec<usize>, AllocError> {
+    let mut addresses = Vec::new(alloc);
+    for record in records.records.newest(records.records.len()) {
+        if let Record::Call { next_address, .. } = record {
+            addresses.push(*next_address)?;
+        }
+    }
+    Ok(addresses)
+}
+
+// How a run ended, whose last phase this is. Code of a program is never stuck.
+fn ending_of<R: Drop>(phase: Phase<R>) -> Ending {
+    match phase {
+        Phase::Rewritten(_) => Ending::Rewritten,
+        Phase::Stopped(Stop::Failed) => Ending::Failed,
+        Phase::Stopped(Stop::Oversize) => Ending::Oversize,
+        _ => Ending::Spent,
+    }
+}

@@ -1,0 +1,178 @@
+// The first steps of a run, and what is noted of them.
+ghost use Rattle.std.specs.Prelude.{◌≡◌, IsTrue, IfOk};
+ghost use Rattle.prim_registry.specs.Entries.{IsHonest, entries_of};
+ghost use Rattle.strat_machine.specs.Marks.{Holds};
+ghost use Rattle.strat_machine.specs.Operands.{IsLoadedCode};
+ghost use Rattle.strat_machine.specs.Running.{IsClear};
+ghost use Rattle.strat_machine.specs.SpaceOf.{space_of};
+ghost use Rattle.strat_machine.specs.Stacks.{KeepsNames, state_of};
+
+use crate::program::LoadedCode;
+use crate::running::{goes_on, take_step};
+use crate::stacks::{Phase, Stacks};
+use prim_registry::{PrimMeaning, Registry};
+use std::alloc::{AllocError, Global};
+use strat_code::{Code, Instr};
+use term_model::TermSpace;
+
+/// What is noted of the steps of a run.
+#[derive(Drop)]
+pub(crate) struct Notes {
+    /// How many rules the instruction at each address was charged.
+    pub(crate) rules: Vec<u64>,
+    /// How many steps came before that of the last instruction.
+    pub(crate) before_last: u64,
+    /// How many steps came before that of the deepest instruction that failed, of those since a call last returned.
+    pub(crate) before_deepest: u64,
+    // How many frames there were then.
+    depth: usize,
+}
+
+/// The step of an instruction.
+#[derive(Clone, Copy)]
+struct Step {
+    address: usize,
+    /// How many steps came before it.
+    steps: u64,
+    /// How many frames there were before it.
+    depth: usize,
+    /// How many rules it was charged.
+    charged: usize,
+    effect: Effect,
+}
+
+/// What came of an instruction.
+#[derive(Clone, Copy, Debug, PartialEq, Eq)]
+enum Effect {
+    Failed,
+    /// A call of a definition or of an argument has returned.
+    Returned,
+    Other,
+}
+
+impl Notes {
+    /// Notes of no step, with room for the rules of this number of instructions; those of others are not noted.
+    pub(crate) fn new(alloc: Global, count: usize) -> Result<Notes, AllocError> {
+        let mut rules = Vec::new(alloc);
+        for _ in 0..count {
+            rules.push(0)?;
+        }
+        Ok(Notes {
+            rules,
+            before_last: 0,
+            before_deepest: 0,
+            depth: 0,
+        })
+    }
+
+    // Notes a step.
+    fn add(&mut self, step: Step) {
+        self.before_last = step.steps;
+        if step.address < self.rules.len() {
+            self.rules[step.address] = self.rules[step.address].saturating_add(step.charged as u64);
+        }
+        match step.effect {
+            Effect::Failed => self.note_failure(step),
+            Effect::Returned => self.depth = 0,
+            Effect::Other => {}
+        }
+    }
+
+    // Notes a failure, if none since a call last returned is deeper.
+    fn note_failure(&mut self, step: Step) {
+        if step.depth >= self.depth {
+            self.depth = step.depth;
+            self.before_deepest = step.steps;
+        }
+    }
+}
+
+/// Takes the first steps of a run of loaded code, from clear stacks on: this number of them, or all. Adds what it notes of them, and
+/// returns the phase that they lead to. What is left on the stacks stands.
+pub(crate) fn run_part<S: TermSpace, M: PrimMeaning>(
+    space: &mut S,
+    alloc: Global,
+    stacks: &mut Stacks<S::Ref, S::Mark>,
+    code: &Code,
+    loaded: &LoadedCode<S::Name>,
+    registry: &Registry<M>,
+    term: S::Ref,
+    budget: u32,
+    count: u64,
+    notes: &mut Notes,
+) -> Result<Phase<S::Ref>, AllocError>
+    requires clear { IsClear stacks.old }
+    requires stands { IsTrue (S.stands space.old term) }
+    requires honest { IsHonest M.answer registry.now }
+    requires loaded { IsLoadedCode (S.knows space.old) (S.symbol_of space.old) S.number_of
+        (entries_of registry.now) loaded.now code.now.tables code.now.instrs }
+    ensures holds { IfOk result (λ phase.
+        Holds (space_of S.stands S.term_of S.is_valid S.covers S.covers_mark) space.new
+        (state_of phase stacks.new)) }
+    ensures kept { IfOk result (λ _. (r : S.Ref) → IsTrue (S.stands space.old r) →
+        IsTrue (S.stands space.new r) × (S.term_of space.new r ≡ S.term_of space.old r)) }
+    ensures names { IfOk result (λ _. KeepsNames S.knows S.symbol_of space.old space.new) }
+{
+    // The code stands for some program, so the run ends in time.
+    let _ = code.instrs();
+    stacks.left = budget as usize;
+    let mut arguments = Vec::new(alloc);
+    let mut steps: u64 = 0;
+    let mut phase = Phase::Running {
+        address: 0,
+        frame: 0,
+        term,
+    };
+    while goes_on(&phase) {
+        if steps == count {
+            return Ok(phase);
+        }
+        let address = address_of(&phase);
+        let before = stacks.left;
+        let depth = stacks.frames.len();
+        phase = take_step(
+            space,
+            alloc,
+            stacks,
+            code,
+            loaded,
+            registry,
+            phase,
+            &mut arguments,
+        )?;
+        if let Some(address) = address {
+            notes.add(Step {
+                address,
+                steps,
+                depth,
+                charged: before.saturating_sub(stacks.left),
+                effect: effect_of(code, address, &phase),
+            });
+        }
+        steps += 1;
+    }
+    Ok(phase)
+}
+
+// What came of the instruction at an address, after which the run is in this phase.
+fn effect_of<R: Drop>(code: &Code, address: usize, phase: &Phase<R>) -> Effect {
+    match phase {
+        Phase::Failing => Effect::Failed,
+        Phase::Running { .. } => match code.instrs().get(address) {
+            Some(Instr::EndDefinition | Instr::EndArgument) => Effect::Returned,
+            _ => Effect::Other,
+        },
+        Phase::Rewritten(_) => Effect::Other,
+        Phase::Stopped(_) => Effect::Other,
+    }
+}
+
+// The address of the instruction that comes next, if one does.
+fn address_of<R: Drop>(phase: &Phase<R>) -> Option<usize> {
+    match phase {
+        Phase::Running { address, .. } => Some(*address),
+        Phase::Failing => None,
+        Phase::Rewritten(_) => None,
+        Phase::Stopped(_) => None,
+    }
+}
