@@ -158,6 +158,16 @@ impl<'a> Groups<'a> {
         Ok(made)
     }
 
+    /// Where the names of the definitions stand in the file, in the order of their first alternatives. `AllocError` where a growth is
+    /// refused.
+    pub(crate) fn offsets(&self, alloc: Global) -> Result<Vec<u64>, AllocError> {
+        let mut offsets = Vec::with_capacity(alloc, self.firsts.len())?;
+        for first in &self.firsts {
+            offsets.push(first.head.name.offset())?;
+        }
+        Ok(offsets)
+    }
+
     /// The definitions, in the order of their first alternatives: of each the alternatives are tried in the order of the text.
     /// The bodies are those of the alternatives in order, where the parameters of each have the names that the first of its
     /// definition gives them. `AllocError` where a growth is refused.

@@ -5,7 +5,7 @@ ghost use Rattle.core_lang.specs.Program as core;
 ghost use Rattle.core_lang.specs.Resolved as resolved;
 ghost use Rattle.str_desugar.specs.Assembled.{keeping_here, where_here, congruence_here};
 
-use core_lang::{Coordinate, CoreArm, CorePattern, CoreStrategy};
+use core_lang::{Coordinate, CoreArm, CorePattern, CoreStrategy, SourcePattern};
 use std::alloc::{AllocError, Global};
 
 /// This slot of the innermost layer.
@@ -108,8 +108,8 @@ pub(crate) fn keeping(
     ensures { IfOk result (λ made. views.strategy_of made.value ≡ keeping_here results (map views.strategy_of items.items)) }
 {
     let count = results.checked_add(1).ok_or(AllocError)?;
-    let first = CoreStrategy::Match(CorePattern::Variable(here(0)));
-    let first = Box::new(alloc, first)?;
+    let kept = SourcePattern::new(CorePattern::Variable(here(0)), None);
+    let first = Box::new(alloc, CoreStrategy::Match(kept))?;
     let body = in_turn(alloc, first, items)?;
     scope_of(alloc, count, body)
 }
@@ -124,7 +124,8 @@ pub(crate) fn where_of(
 {
     let mut items = Vec::new(alloc);
     items.push(Box::into_inner(inner))?;
-    items.push(CoreStrategy::Build(CorePattern::Variable(here(0))))?;
+    let kept = SourcePattern::new(CorePattern::Variable(here(0)), None);
+    items.push(CoreStrategy::Build(kept))?;
     keeping(alloc, 0, items)
 }
 
@@ -270,10 +271,11 @@ pub(crate) fn negation(
     one_choice(alloc, arm, otherwise)
 }
 
-/// The congruence of this number of parts: what is matched, the items, and what is built.
+/// The congruence of this number of parts, which stands at this offset: what is matched, the items, and what is built.
 #[inline(never)]
 pub(crate) fn congruence(
     alloc: Global,
+    offset: u64,
     parts: usize,
     pattern: CorePattern,
     mut items: Vec<CoreStrategy>,
@@ -284,9 +286,10 @@ pub(crate) fn congruence(
     let count = names_of_congruence(parts)?;
     let pattern = Box::new(alloc, pattern)?;
     let made = Box::new(alloc, made)?;
-    items.push(CoreStrategy::Build(CorePattern::Like(made, here(0))))?;
-    let first = CoreStrategy::Match(CorePattern::Alias(here(0), pattern));
-    let first = Box::new(alloc, first)?;
+    let made = SourcePattern::new(CorePattern::Like(made, here(0)), Some(offset));
+    items.push(CoreStrategy::Build(made))?;
+    let pattern = SourcePattern::new(CorePattern::Alias(here(0), pattern), Some(offset));
+    let first = Box::new(alloc, CoreStrategy::Match(pattern))?;
     let body = in_turn(alloc, first, items)?;
     scope_of(alloc, count, body)
 }

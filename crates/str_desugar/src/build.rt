@@ -12,18 +12,19 @@ ghost use Rattle.signature_core.specs.Signature.{arity_known};
 
 use crate::built::{applications, built};
 use crate::items::{build_after, put_result, put_result_of};
+use crate::offsets::offset_of;
 use crate::parts::successor;
 use crate::scopes::Scopes;
 use crate::strategy::{Context, strategy};
 use crate::symbols::Symbols;
-use core_lang::CoreStrategy;
-use std::alloc::{AllocError, Global};
+use core_lang::{CoreStrategy, SourcePattern};
+use std::alloc::AllocError;
 use str_syntax::Pattern;
 
 // The build of a pattern, whose results stand in the layers.
 #[inline(never)]
 fn build_of(
-    alloc: Global,
+    context: &Context,
     source: &Pattern,
     scopes: &Scopes,
     symbols: &mut Symbols,
@@ -31,8 +32,9 @@ fn build_of(
     ensures { IfOk result (λ made. views.strategy_of made.value ≡ strategy_at (layers_of scopes.now) (core.build (equations.built 0 (pattern_of source.now)))) }
 {
     let mut next = 0;
-    let pattern = built(alloc, source, scopes, symbols, &mut next)?;
-    let made = Box::new(alloc, CoreStrategy::Build(pattern))?;
+    let pattern = built(context.alloc, source, scopes, symbols, &mut next)?;
+    let pattern = SourcePattern::new(pattern, offset_of(context, source));
+    let made = Box::new(context.alloc, CoreStrategy::Build(pattern))?;
     Ok(made)
 }
 
@@ -49,7 +51,7 @@ pub(crate) fn build(
 {
     let count = applications(source)?;
     if count == 0 {
-        let plain = build_of(context.alloc, source, scopes, symbols)?;
+        let plain = build_of(context, source, scopes, symbols)?;
         return Ok(plain);
     }
     let names = successor(count)?;
@@ -60,7 +62,7 @@ pub(crate) fn build(
     let mut items = Vec::new(context.alloc);
     let mut next = 0;
     results_of(context, source, &inner, symbols, &mut next, &mut items)?;
-    let last = build_of(context.alloc, source, &inner, symbols)?;
+    let last = build_of(context, source, &inner, symbols)?;
     let made = build_after(context.alloc, count, items, last)?;
     Ok(made)
 }

@@ -19,7 +19,7 @@ use crate::parts::successor;
 use crate::scopes::Scopes;
 use crate::strategy::{Context, strategy};
 use crate::symbols::Symbols;
-use core_lang::{CorePattern, CoreStrategy};
+use core_lang::{CallTarget, CorePattern, CoreStrategy};
 use std::alloc::{AllocError, Global};
 use str_syntax::{Arguments, Name, Pattern, Strategy};
 
@@ -35,7 +35,8 @@ fn call_of(
     ensures { IfOk result (λ made. (ss : NamedStrategies) (ps : core.Patterns named.Name) → views.strategies_of strategies.items ≡ strategies_at (layers_of scopes.now) ss → views.patterns_of terms.items ≡ patterns_at (layers_of scopes.now) ps → views.strategy_of made.value ≡ strategy_at (layers_of scopes.now) (core.call (written name.now) ss ps)) }
 {
     let at = scopes.callee(name, strategies.len(), terms.len())?;
-    let made = Box::new(alloc, CoreStrategy::Call(at, strategies, terms))?;
+    let target = CallTarget::new(at, Some(name.offset()));
+    let made = Box::new(alloc, CoreStrategy::Call(target, strategies, terms))?;
     Ok(made)
 }
 
@@ -49,7 +50,8 @@ pub(crate) fn plain_call(
     ensures { IfOk result (λ made. views.strategy_of made.value ≡ strategy_at (layers_of scopes.now) (core.call (written name.now) core.no_strategies core.no_patterns)) }
 {
     let at = scopes.callee(name, 0, 0)?;
-    let call = CoreStrategy::Call(at, Vec::new(alloc), Vec::new(alloc));
+    let target = CallTarget::new(at, Some(name.offset()));
+    let call = CoreStrategy::Call(target, Vec::new(alloc), Vec::new(alloc));
     let made = Box::new(alloc, call)?;
     Ok(made)
 }
@@ -147,7 +149,7 @@ fn called_with(
         .arity_known(name.bytes(), number_of(sources))
     {
         let symbol = symbols.constructor(name)?;
-        let each = symbol_congruence(context, symbol, sources, scopes, symbols)?;
+        let each = symbol_congruence(context, name.offset(), symbol, sources, scopes, symbols)?;
         return Ok(each);
     }
     let strategies = handed(context, sources, scopes, symbols)?;

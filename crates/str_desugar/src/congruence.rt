@@ -19,7 +19,7 @@ use crate::parts::{applied, list, list_with_rest, successor};
 use crate::scopes::Scopes;
 use crate::strategy::{Context, strategy};
 use crate::symbols::Symbols;
-use core_lang::{CorePattern, CoreStrategy};
+use core_lang::{CorePattern, CoreStrategy, SourcePattern};
 use std::alloc::{AllocError, Global};
 use str_syntax::Strategy;
 use term_model::Sym;
@@ -34,20 +34,22 @@ pub(crate) fn number_of(sources: &[Strategy]) -> usize
 
 // The match of a symbol without parts.
 #[inline(never)]
-fn match_symbol(alloc: Global, symbol: Sym) -> Result<Box<CoreStrategy>, AllocError>
+fn match_symbol(alloc: Global, offset: u64, symbol: Sym) -> Result<Box<CoreStrategy>, AllocError>
     ensures { IfOk result (λ made. views.strategy_of made.value ≡ core.match (core.applied symbol core.no_patterns)) }
 {
     let pattern = CorePattern::Applied(symbol, Vec::new(alloc));
+    let pattern = SourcePattern::new(pattern, Some(offset));
     let made = Box::new(alloc, CoreStrategy::Match(pattern))?;
     Ok(made)
 }
 
 // The match of the list without elements.
 #[inline(never)]
-fn match_no_elements(alloc: Global) -> Result<Box<CoreStrategy>, AllocError>
+fn match_no_elements(alloc: Global, offset: u64) -> Result<Box<CoreStrategy>, AllocError>
     ensures { IfOk result (λ made. views.strategy_of made.value ≡ core.match (core.list core.no_elements)) }
 {
     let pattern = CorePattern::List(Vec::new(alloc), None);
+    let pattern = SourcePattern::new(pattern, Some(offset));
     let made = Box::new(alloc, CoreStrategy::Match(pattern))?;
     Ok(made)
 }
@@ -56,6 +58,7 @@ fn match_no_elements(alloc: Global) -> Result<Box<CoreStrategy>, AllocError>
 #[inline(never)]
 fn of_symbol(
     alloc: Global,
+    offset: u64,
     scopes: &Scopes,
     symbol: Sym,
     count: usize,
@@ -65,13 +68,14 @@ fn of_symbol(
 {
     let pattern = applied(alloc, scopes, symbol.clone()?, 1, count)?;
     let made = applied(alloc, scopes, symbol, successor(count)?, count)?;
-    congruence(alloc, count, pattern, items, made)
+    congruence(alloc, offset, count, pattern, items, made)
 }
 
 // The congruence of a list of this number of elements, where these are their items.
 #[inline(never)]
 fn of_elements(
     alloc: Global,
+    offset: u64,
     scopes: &Scopes,
     count: usize,
     items: Vec<CoreStrategy>,
@@ -80,13 +84,14 @@ fn of_elements(
 {
     let pattern = list(alloc, scopes, 1, count)?;
     let made = list(alloc, scopes, successor(count)?, count)?;
-    congruence(alloc, count, pattern, items, made)
+    congruence(alloc, offset, count, pattern, items, made)
 }
 
 // The congruence of a list of n elements and a rest, where these are the items of all parts, of which there is one more.
 #[inline(never)]
 fn of_rest(
     alloc: Global,
+    offset: u64,
     scopes: &Scopes,
     elements: usize,
     count: usize,
@@ -96,14 +101,15 @@ fn of_rest(
 {
     let pattern = list_with_rest(alloc, scopes, 1, elements)?;
     let made = list_with_rest(alloc, scopes, successor(count)?, elements)?;
-    congruence(alloc, count, pattern, items, made)
+    congruence(alloc, offset, count, pattern, items, made)
 }
 
-/// The congruence of a symbol with these parts.
+/// The congruence of a symbol with these parts. It stands at this offset.
 #[cycle(walk)]
 #[inline(never)]
 pub(crate) fn symbol_congruence(
     context: &Context,
+    offset: u64,
     symbol: Sym,
     sources: &[Strategy],
     scopes: &Scopes,
@@ -114,7 +120,7 @@ pub(crate) fn symbol_congruence(
     let alloc = context.alloc;
     let count = number_of(sources);
     if count == 0 {
-        let only = match_symbol(alloc, symbol)?;
+        let only = match_symbol(alloc, offset, symbol)?;
         return Ok(only);
     }
     let names = names_of_congruence(count)?;
@@ -123,7 +129,7 @@ pub(crate) fn symbol_congruence(
         outer: &*scopes,
     };
     let items = items_of(context, sources, count, &inner, symbols)?;
-    let made = of_symbol(alloc, &inner, symbol, count, items)?;
+    let made = of_symbol(alloc, offset, &inner, symbol, count, items)?;
     Ok(made)
 }
 
@@ -141,7 +147,7 @@ pub(crate) fn elements_congruence(
     let alloc = context.alloc;
     let count = number_of(sources);
     if count == 0 {
-        let only = match_no_elements(alloc)?;
+        let only = match_no_elements(alloc, context.head)?;
         return Ok(only);
     }
     let names = names_of_congruence(count)?;
@@ -150,7 +156,7 @@ pub(crate) fn elements_congruence(
         outer: &*scopes,
     };
     let items = items_of(context, sources, count, &inner, symbols)?;
-    let made = of_elements(alloc, &inner, count, items)?;
+    let made = of_elements(alloc, context.head, &inner, count, items)?;
     Ok(made)
 }
 
@@ -196,7 +202,7 @@ pub(crate) fn rest_congruence(
     };
     let last = strategy(context, source, &inner, symbols)?;
     put_part(&inner, count, elements, last, &mut items)?;
-    let made = of_rest(context.alloc, &inner, elements, count, items)?;
+    let made = of_rest(context.alloc, context.head, &inner, elements, count, items)?;
     Ok(made)
 }
 

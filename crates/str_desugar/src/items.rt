@@ -12,14 +12,14 @@ ghost use Rattle.str_desugar.specs.Layers.{layers_of};
 use crate::assembly::keeping;
 use crate::parts::{successor, sum, variable};
 use crate::scopes::Scopes;
-use core_lang::CoreStrategy;
+use core_lang::{CoreStrategy, SourcePattern};
 use std::alloc::{AllocError, Global};
 
 // Puts the build of the name that is brought at this index after the others.
 fn put_build(scopes: &Scopes, index: usize, items: &mut Vec<CoreStrategy>) -> Result<(), AllocError>
     ensures { OnOk result (map views.strategy_of items.new.items ≡ map views.strategy_of items.old.items ++ core.build (core.variable (variable_at (layers_of scopes.now) (brought index))) ∷ []) }
 {
-    let part = variable(scopes, index)?;
+    let part = SourcePattern::new(variable(scopes, index)?, None);
     items.push(CoreStrategy::Build(part))?;
     Ok(())
 }
@@ -28,7 +28,7 @@ fn put_build(scopes: &Scopes, index: usize, items: &mut Vec<CoreStrategy>) -> Re
 fn put_match(scopes: &Scopes, index: usize, items: &mut Vec<CoreStrategy>) -> Result<(), AllocError>
     ensures { OnOk result (map views.strategy_of items.new.items ≡ map views.strategy_of items.old.items ++ core.match (core.variable (variable_at (layers_of scopes.now) (brought index))) ∷ []) }
 {
-    let part = variable(scopes, index)?;
+    let part = SourcePattern::new(variable(scopes, index)?, None);
     items.push(CoreStrategy::Match(part))?;
     Ok(())
 }

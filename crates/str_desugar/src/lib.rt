@@ -16,6 +16,7 @@ mod locals;
 mod marks;
 mod matched;
 mod names;
+mod offsets;
 mod parameters;
 mod parts;
 mod primitive;

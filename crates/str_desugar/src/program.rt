@@ -48,7 +48,8 @@ fn core_of(alloc: Global, checked: &Checked, forms: &[&DefinitionForm]) -> Resul
 {
     let groups = groups_of(alloc, forms)?;
     let core = core_among(alloc, checked, forms, &groups)?;
-    Ok(core)
+    let heads = groups.offsets(alloc)?;
+    Ok(core.with_heads(heads))
 }
 
 // The core program, whose rules and definitions have these heads.
@@ -65,6 +66,7 @@ fn core_among<'a>(
     let context = Context {
         alloc,
         signature: checked.signature(),
+        head: 0,
     };
     let keys = groups.keys(alloc)?;
     let found = plain_position(alloc, &keys, checked.main())?;
@@ -136,7 +138,11 @@ fn alternative<'a>(
     let first = groups.first_of(head_of(form));
     let strategies = names_in(context.alloc, strategy_names(&first.parameters))?;
     let terms = term_names(&first.parameters);
-    let made = under_parameters(context, form, &strategies, terms, scopes, symbols)?;
+    let inner = Context {
+        head: head_of(form).name.offset(),
+        ..*context
+    };
+    let made = under_parameters(&inner, form, &strategies, terms, scopes, symbols)?;
     Ok(made)
 }
 

@@ -31,7 +31,7 @@ fn rule(
     ensures { IfOk result (λ made. views.strategy_of made.value ≡ strategy_at (layers_of scopes.now) (rule_core (arity_known context.now.signature.now) (rule_of source.now))) }
 {
     let alloc = context.alloc;
-    let first = match_of(alloc, &source.left, scopes, symbols)?;
+    let first = match_of(context, &source.left, scopes, symbols)?;
     let last = build(context, &source.right, scopes, symbols)?;
     match &source.condition {
         None => {

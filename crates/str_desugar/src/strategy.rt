@@ -23,21 +23,24 @@ use crate::congruence::{
 use crate::locals::{groups_of, let_body, let_definitions, let_in, recursive};
 use crate::matched::matched;
 use crate::names::names_in;
+use crate::offsets::offset_of;
 use crate::primitive::primitive;
 use crate::rules::lambda;
 use crate::scopes::Scopes;
 use crate::symbols::Symbols;
-use core_lang::CoreStrategy;
+use core_lang::{CoreStrategy, SourcePattern};
 use signature_core::Signature;
 use std::alloc::{AllocError, Global};
 use str_syntax::{Name, Operator, Pattern, Primary, Sequence, Step, Strategy};
 use term_model::Sym;
 
-/// What the whole walk over a file needs.
+/// What the walk over a rule or definition of the file needs.
 #[derive(Clone, Copy)]
 pub(crate) struct Context<'a> {
     pub(crate) alloc: Global,
     pub(crate) signature: &'a Signature,
+    /// The byte of the file at which the name of the rule or definition stands.
+    pub(crate) head: u64,
 }
 
 /// The core of a strategy.
@@ -100,7 +103,7 @@ fn step(
         Step::Plain(only) => primary(context, only, scopes, symbols),
         Step::Matching(first, pattern) => {
             let first = primary(context, first, scopes, symbols)?;
-            let second = match_of(context.alloc, pattern, scopes, symbols)?;
+            let second = match_of(context, pattern, scopes, symbols)?;
             seq(context.alloc, first, second)
         }
     }
@@ -109,15 +112,16 @@ fn step(
 /// The core of a match.
 #[inline(never)]
 pub(crate) fn match_of(
-    alloc: Global,
+    context: &Context,
     source: &Pattern,
     scopes: &Scopes,
     symbols: &mut Symbols,
 ) -> Result<Box<CoreStrategy>, AllocError>
     ensures { IfOk result (λ made. views.strategy_of made.value ≡ strategy_at (layers_of scopes.now) (core.match (equations.matched (pattern_of source.now)))) }
 {
-    let pattern = matched(alloc, source, scopes, symbols)?;
-    let made = Box::new(alloc, CoreStrategy::Match(pattern))?;
+    let pattern = matched(context.alloc, source, scopes, symbols)?;
+    let pattern = SourcePattern::new(pattern, offset_of(context, source));
+    let made = Box::new(context.alloc, CoreStrategy::Match(pattern))?;
     Ok(made)
 }
 
@@ -134,7 +138,7 @@ fn primary(
     match source {
         Primary::Id => identity(context.alloc),
         Primary::Fail => failure(context.alloc),
-        Primary::Match(pattern) => match_of(context.alloc, pattern, scopes, symbols),
+        Primary::Match(pattern) => match_of(context, pattern, scopes, symbols),
         Primary::Build(pattern) => build(context, pattern, scopes, symbols),
         Primary::Apply(after, pattern) => {
             let first = build(context, pattern, scopes, symbols)?;
@@ -151,7 +155,7 @@ fn primary(
             choice(context.alloc, guard, then, otherwise)
         }
         Primary::TupleCongruence(parts) => {
-            symbol_congruence(context, Sym::tuple(), parts, scopes, symbols)
+            symbol_congruence(context, context.head, Sym::tuple(), parts, scopes, symbols)
         }
         Primary::ListCongruence(elements, rest) => match rest {
             None => elements_congruence(context, elements, scopes, symbols),

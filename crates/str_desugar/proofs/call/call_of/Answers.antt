@@ -17,5 +17,5 @@ returns c =
     let qs = map views.pattern_of c.args.terms.items in
     let strategies : c.len.result ≡ length xs = omega (arith, c.len.ensures, c.args.strategies.ok.0, length-map c.args.strategies.items views.strategy_of) in
     let terms : c.len-2.result ≡ length qs = omega (arith, c.len-2.ensures, c.args.terms.ok.0, length-map c.args.terms.items views.pattern_of) in
-    ap views.strategy_of c.in_ok-made.ensures.ok ∙ core_reads.reads_call c.in_ok-at.at c.args.strategies c.args.terms ∙
-    called_made F f c.in_ok-at.at xs qs ss ps (c.in_ok-at.ensures ∙ ap₂ (λ m k. callee_at F f m k) strategies terms) e h
+    ap views.strategy_of c.in_ok-made.ensures.ok ∙ core_reads.reads_call c.new-target.result c.args.strategies c.args.terms ∙
+    called_made F f c.new-target.result xs qs ss ps (c.new-target.ensures ∙ c.in_ok-at.ensures ∙ ap₂ (λ m k. callee_at F f m k) strategies terms) e h
