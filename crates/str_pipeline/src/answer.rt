@@ -75,7 +75,7 @@ fn noted_term<S: TermSpace>(
     term
 }
 
-/// Reads a term by the signature of the file, as `noted_term` does, and drops the text and the file.
+/// Reads a term by the signature of the file, as `noted_term` does, and drops the file, and the text unless it is to be kept.
 fn term_alone<S: TermSpace>(
     alloc: Global,
     space: &mut S,
@@ -89,6 +89,7 @@ fn term_alone<S: TermSpace>(
         (map_ok (S.term_of space.new) result) }
 {
     let term = noted_term(alloc, space, checked.signature(), &text, is_strict, notes)?;
+    notes.keep_term(text);
     Ok(term)
 }
 

@@ -42,7 +42,7 @@ pub(crate) fn line_feeds(text: &[u8]) -> usize {
 }
 
 // Returns how many bytes stand after the last line feed.
-fn bytes_in_line(text: &[u8]) -> usize {
+pub(crate) fn bytes_in_line(text: &[u8]) -> usize {
     let mut count: usize = 0;
     for byte in text {
         count = if *byte == b'\n' {

@@ -163,6 +163,17 @@ impl Front {
         &self.bytes[..self.definitions]
     }
 
+    /// The text of the definitions.
+    pub(crate) fn into_definitions(self) -> Vec<u8> {
+        let Front {
+            mut bytes,
+            definitions,
+            ..
+        } = self;
+        bytes.truncate(definitions);
+        bytes
+    }
+
     /// Notes where the term text begins.
     pub(crate) fn note_end(&self, notes: &mut RunNotes) {
         notes.begin_term(&self.bytes[..self.term], self.definitions < self.term);

@@ -2,11 +2,18 @@
 #![tactic(auto)]
 
 mod answer;
+mod callers;
+mod causes;
 mod counted;
 mod excerpt;
+mod explaining;
+mod explanation;
 mod faulty;
+mod followed;
 mod joined;
 mod laws;
+mod line;
+mod listing;
 mod notes;
 mod pipeline;
 mod program;
@@ -18,10 +25,12 @@ mod source;
 mod status;
 mod tally;
 mod term_gap;
+mod usage;
 
 pub use answer::{DEFAULT_BUDGET, MAX_BUDGET, MAX_DEFINITIONS, MAX_TERM};
 pub use counted::Counted;
 pub use excerpt::Excerpt;
+pub use explanation::{Explanation, Position, Remark};
 pub use faulty::Faulty;
 pub use laws::{joined_form_law, one_line_law};
 pub use notes::{RunNotes, Subject, Used};
@@ -34,3 +43,4 @@ pub use sink::{Sink, write_all};
 pub use source::{Source, read_all};
 pub use status::{Options, Status};
 pub use term_gap::TermExpected;
+pub use term_store::Refused;

@@ -1,6 +1,7 @@
 //! What a person wants to know of a refusal and of a run. No contract of the transformation speaks of it.
 
 use crate::excerpt::{Excerpt, line_feeds};
+use crate::explanation::Explanation;
 use crate::reason::{
     Reason, Wanted, left_out_reason, no_token_reason, syntax_reason, term_syntax_reason,
 };
@@ -9,6 +10,7 @@ use scope_check::Notes;
 use str_parser::Expected;
 use term_model::Fault;
 use term_model::bytes::{is_blank_byte, is_digit_byte};
+use term_store::Refused;
 
 /// One of the two texts that a transformation reads.
 #[derive(Clone, Copy, Debug, PartialEq, Eq)]
@@ -26,8 +28,8 @@ pub struct Used {
 }
 
 /// What a person wants to know of a transformation. Of a refusal: which text is refused, at which place, and what is wrong there. Of a run:
-/// what it used. Has a fixed size, and takes no memory.
-#[derive(Clone, Copy)]
+/// what it used and, where it is asked for, why it has no result. Takes no memory unless that is asked for.
+#[derive(Drop)]
 pub struct RunNotes {
     subject: Subject,
     reason: Option<Reason>,
@@ -35,6 +37,12 @@ pub struct RunNotes {
     lines_before_term: usize,
     has_term_line: bool,
     used: Option<Used>,
+    refused: Option<Refused>,
+    wants_explanation: bool,
+    // The texts of a run that may have to be explained.
+    definitions: Option<Vec<u8>>,
+    term: Option<Vec<u8>>,
+    explanation: Option<Explanation>,
 }
 
 // What was found in definitions while a program was made of them.
@@ -65,7 +73,27 @@ impl RunNotes {
             lines_before_term: 0,
             has_term_line: true,
             used: None,
+            refused: None,
+            wants_explanation: false,
+            definitions: None,
+            term: None,
+            explanation: None,
         }
+    }
+
+    /// Nothing was noted. A run without a result is to be explained: for that it is run again, up to three times, after the answer is
+    /// written, and both texts are kept in memory until then.
+    pub fn explaining() -> RunNotes {
+        let mut notes = RunNotes::none();
+        notes.wants_explanation = true;
+        notes
+    }
+
+    // Drops what was noted before.
+    pub(crate) fn begin(&mut self) {
+        let wants_explanation = self.wants_explanation;
+        *self = RunNotes::none();
+        self.wants_explanation = wants_explanation;
     }
 
     /// Which text is refused, where one is.
@@ -95,6 +123,47 @@ impl RunNotes {
     /// What the run used, where there was one that came to its end.
     pub fn used(&self) -> Option<&Used> {
         self.used.as_ref()
+    }
+
+    /// The size of the term that did not fit, where a run came to one and its size is known.
+    pub fn refused(&self) -> Option<&Refused> {
+        self.refused.as_ref()
+    }
+
+    /// Why the run has no result, where that was asked for, and memory for the explanation was there.
+    pub fn explanation(&self) -> Option<&Explanation> {
+        self.explanation.as_ref()
+    }
+
+    // Notes the size of a term that did not fit.
+    pub(crate) fn note_refused(&mut self, refused: Option<Refused>) {
+        self.refused = refused;
+    }
+
+    // Keeps the text of the definitions, if a run is to be explained.
+    pub(crate) fn keep_definitions(&mut self, text: Vec<u8>) {
+        if self.wants_explanation {
+            self.definitions = Some(text);
+        }
+    }
+
+    // Keeps the text of the term, if a run is to be explained.
+    pub(crate) fn keep_term(&mut self, text: Vec<u8>) {
+        if self.wants_explanation {
+            self.term = Some(text);
+        }
+    }
+
+    // Hands out the texts that are kept, the definitions first.
+    pub(crate) fn take_texts(&mut self) -> Option<(Vec<u8>, Vec<u8>)> {
+        let definitions = self.definitions.take()?;
+        let term = self.term.take()?;
+        Some((definitions, term))
+    }
+
+    // Notes why the run has no result.
+    pub(crate) fn note_explanation(&mut self, explanation: Explanation) {
+        self.explanation = Some(explanation);
     }
 
     // Notes what the run used.

@@ -13,6 +13,7 @@ ghost use Rattle.str_pipeline.specs.Steps.{IsStop, IsResult, IsTextResult};
 ghost use Rattle.str_pipeline.specs.Faults.{HoldsRefusal, IsRefusal, IsTransferFault, IsOfDefinitions, RefusesDefinitions, is_read, is_read_fault, is_write_fault};
 
 use crate::answer::{MAX_DEFINITIONS, MAX_TERM, outcome_of, write_outcome, write_refusal};
+use crate::explaining::note_explanation;
 use crate::joined::read_front;
 use crate::notes::RunNotes;
 use crate::program::noted_program;
@@ -53,7 +54,7 @@ fn outcome_apart<D: Source, T: Source, M: PrimMeaning>(
         return Err(Fault::DefsTooLong);
     };
     let program = noted_program(alloc, &text, options, registry, notes)?;
-    drop(text);
+    notes.keep_definitions(text);
     let Some(text) = read_all(alloc, term, MAX_TERM)? else {
         return Err(Fault::TermTooLong);
     };
@@ -97,7 +98,7 @@ fn outcome_joined<S: Source, M: PrimMeaning>(
     let Some(text) = front.read_term(alloc, input, MAX_TERM)? else {
         return Err(Fault::TermTooLong);
     };
-    drop(front);
+    notes.keep_definitions(front.into_definitions());
     outcome_of(
         alloc,
         StoreSpace::new(alloc, BuildHasherDefault::new()),
@@ -238,10 +239,12 @@ pub fn transform_with_notes<D: Source, T: Source, M: PrimMeaning, W: Sink>(
     ensures defs_bounded { D.reads defs.new ≤ D.reads defs.old + max_definitions + 1 }
     ensures term_bounded { T.reads term.new ≤ T.reads term.old + max_term + 1 }
 {
-    *notes = RunNotes::none();
+    notes.begin();
     let outcome = outcome_apart(alloc, defs, term, options, registry, notes);
     notes.note_outcome(&outcome);
-    finish(alloc, outcome, out)
+    let status = finish(alloc, outcome, out);
+    note_explanation(alloc, &status, options, registry, notes);
+    status
 }
 
 /// Does the same over one reader of the joined form: the definitions are the bytes before the first line
@@ -313,8 +316,10 @@ pub fn transform_joined_with_notes<S: Source, M: PrimMeaning, W: Sink>(
         (fault : Fault) → AreRefused (setting_of M.answer registry.now options.now) d fault →
         S.reads input.new ≤ S.reads input.old + max_definitions + 7) }
 {
-    *notes = RunNotes::none();
+    notes.begin();
     let outcome = outcome_joined(alloc, input, options, registry, notes);
     notes.note_outcome(&outcome);
-    finish(alloc, outcome, out)
+    let status = finish(alloc, outcome, out);
+    note_explanation(alloc, &status, options, registry, notes);
+    status
 }

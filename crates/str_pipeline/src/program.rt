@@ -1,5 +1,8 @@
 //! From the bytes of definitions to their program.
-ghost use Rattle.std.specs.Prelude.{ℕ, List, Contains, IfOk};
+ghost use Rattle.std.specs.Prelude.{◌≡◌, ℕ, List, Contains, IfOk};
+ghost use Rattle.core_lang.specs.Core.{program_of};
+ghost use Rattle.strat_code.specs.CodeOf.{code_of};
+ghost use Rattle.strat_code.specs.StandsFor.{StandsFor};
 ghost use Rattle.term_model.specs.Flat.{Meaning};
 ghost use Rattle.prim_registry.specs.Entries.{Covers};
 ghost use Rattle.str_pipeline.specs.Setting.{setting_of, setting_with};
@@ -7,14 +10,15 @@ ghost use Rattle.str_pipeline.specs.Steps.{IsProgram};
 
 use crate::notes::{Found, RunNotes};
 use crate::status::Options;
+use core_lang::Core;
 use prim_registry::{PrimMeaning, Registry};
 use scope_check::{Checked, check_with_notes};
-use std::alloc::Global;
+use std::alloc::{AllocError, Global};
 use str_desugar::to_core;
 use str_lexer::lex;
 use str_parser::parse_with_notes;
 use strat_code::Code;
-use strat_compile::compile;
+use strat_compile::{compile, compile_with_marks};
 use strategy_lib::with_library;
 use term_model::{Fault, PrimNames};
 
@@ -37,26 +41,43 @@ pub(crate) fn noted_program<M: PrimMeaning>(
     ensures covers { IfOk result (λ program. Covers registry.now program.code.prims) }
 {
     let mut found = Found::none();
-    let program = program_of(alloc, definitions, options, registry, &mut found);
+    let program = program_of(
+        alloc,
+        definitions,
+        options,
+        registry,
+        Purpose::Run,
+        &mut found,
+    );
     if let Err(fault) = &program {
         notes.note_definitions(definitions, fault, &found);
     }
     program
 }
 
+/// What a program is for.
+#[derive(Clone, Copy, Debug, PartialEq, Eq)]
+pub(crate) enum Purpose {
+    /// To be run.
+    Run,
+    /// To be explained: its code has marks of where strategies stand.
+    Explanation,
+}
+
 /// Makes the program of a definition file with the library after it, where there are the primitives of the registry. As `program_with`.
-fn program_of<M: PrimMeaning>(
+pub(crate) fn program_of<M: PrimMeaning>(
     alloc: Global,
     definitions: &[u8],
     options: &Options,
     registry: &Registry<M>,
+    purpose: Purpose,
     found: &mut Found,
 ) -> Result<Program, Fault>
     ensures program { IsProgram (setting_of M.answer registry.now options.now) definitions.now result }
     ensures covers { IfOk result (λ program. Covers registry.now program.code.prims) }
 {
     let primitives = registry.names(alloc)?;
-    let program = program_with(alloc, definitions, options, &primitives, found)?;
+    let program = program_with(alloc, definitions, options, &primitives, purpose, found)?;
     Ok(program)
 }
 
@@ -68,6 +89,7 @@ fn program_with(
     definitions: &[u8],
     options: &Options,
     primitives: &PrimNames,
+    purpose: Purpose,
     found: &mut Found,
 ) -> Result<Program, Fault>
     ensures program { (M : Meaning) → IsProgram (setting_with M primitives.now options.now) definitions.now result }
@@ -80,6 +102,18 @@ fn program_with(
     let core = to_core(alloc, &checked)?;
     // For its contract: these are the primitives that occur in the core.
     let _ = core.prims();
-    let code = compile(alloc, &core)?;
+    let code = code_of(alloc, &core, purpose)?;
     Ok(Program { checked, code })
+}
+
+/// The code of a core for a purpose.
+fn code_of(alloc: Global, core: &Core, purpose: Purpose) -> Result<Code, AllocError>
+    ensures stands { IfOk result (λ code.
+        StandsFor (code_of code.tables code.instrs) (program_of core.now) core.now.main) }
+    ensures prims { IfOk result (λ code. code.prims ≡ core.now.prims) }
+{
+    match purpose {
+        Purpose::Run => compile(alloc, core),
+        Purpose::Explanation => compile_with_marks(alloc, core),
+    }
 }

@@ -12,16 +12,22 @@ use std::alloc::{AllocError, Global};
 use strat_code::Code;
 use strat_machine::Machine;
 use term_model::{Fault, TermSpace};
-use term_store::StoreSpace;
+use term_store::{Refused, StoreSpace};
 
-/// A space that tells how many shapes of terms it holds.
+/// A space that knows how many shapes of terms it holds, and the size of the last term that did not fit.
 pub(crate) trait Holds {
     fn shapes(&self) -> usize;
+
+    fn last_refused(&self) -> Option<Refused>;
 }
 
 impl Holds for StoreSpace {
     fn shapes(&self) -> usize {
         self.len()
+    }
+
+    fn last_refused(&self) -> Option<Refused> {
+        self.refused()
     }
 }
 
@@ -50,6 +56,9 @@ pub(crate) fn run_code<S: TermSpace + Holds + Drop, M: PrimMeaning>(
         steps: run.steps,
         shapes: machine.space().shapes(),
     });
+    if let Outcome::Oversize = run.outcome {
+        notes.note_refused(machine.space().last_refused());
+    }
     let outcome = in_text(alloc, machine.space(), &run.outcome)?;
     Ok(outcome)
 }

@@ -1,0 +1,132 @@
+//! The definitions that wait for a strategy, as explanations name them.
+
+use crate::causes::file_offset;
+use crate::line::{MOST_OF_NAME, push_cut, push_number};
+use crate::listing::Listing;
+use std::alloc::{AllocError, Global};
+use strat_code::{Code, Instr};
+
+// How many definitions are named from the innermost one on, and how many up to the outermost one, where there are more.
+const FIRST: usize = 8;
+
+const LAST: usize = 3;
+
+/// The bytes of the definitions at which the calls stand that wait, the outermost first; nothing in place of one of the library.
+pub(crate) fn call_sites(
+    alloc: Global,
+    code: &Code,
+    waiting: &[usize],
+) -> Result<Vec<Option<usize>>, AllocError> {
+    let calls = calls_by_return(alloc, code)?;
+    let mut sites = Vec::with_capacity(alloc, waiting.len())?;
+    for next in waiting {
+        let address = calls.get(*next).copied().unwrap_or(0);
+        sites.push(file_offset(code.mark_at(address)))?;
+    }
+    Ok(sites)
+}
+
+// For each address that of the call after which the run goes on there, or 0.
+fn calls_by_return(alloc: Global, code: &Code) -> Result<Vec<usize>, AllocError> {
+    let mut calls = Vec::from_elem(alloc, 0usize, code.len().saturating_add(1))?;
+    for (address, instr) in code.instrs().iter().enumerate() {
+        let next = match instr {
+            Instr::CallDefinition { next_address, .. } => *next_address,
+            Instr::CallClosure { .. } => address.saturating_add(1),
+            _ => continue,
+        };
+        if let Some(call) = calls.get_mut(next) {
+            *call = address;
+        }
+    }
+    Ok(calls)
+}
+
+/// The index of the outermost call of the file inside which the library runs, or the strategy that it was given: what a search was begun by.
+/// `is_library` says whether the innermost strategy is one of the library.
+pub(crate) fn search_site(sites: &[Option<usize>], is_library: bool) -> Option<usize> {
+    for (index, site) in sites.iter().enumerate() {
+        if site.is_none() {
+            continue;
+        }
+        let is_search = match sites.get(index.saturating_add(1)) {
+            Some(inner) => inner.is_none(),
+            None => is_library,
+        };
+        if is_search {
+            return Some(index);
+        }
+    }
+    None
+}
+
+// A definition that waits, and how often it does without another one in between.
+#[derive(Clone, Copy)]
+struct Caller {
+    head: usize,
+    count: usize,
+}
+
+// The definitions in which the calls stand, the innermost first.
+fn callers(
+    alloc: Global,
+    listing: &Listing,
+    sites: &[Option<usize>],
+) -> Result<Vec<Caller>, AllocError> {
+    let mut callers: Vec<Caller> = Vec::new(alloc);
+    for site in sites.iter().rev() {
+        let Some(head) = site.and_then(|offset| listing.head_before(offset)) else {
+            continue;
+        };
+        match callers.last_mut() {
+            Some(last) if listing.have_one_name(last.head, head) => {
+                last.count = last.count.saturating_add(1);
+            }
+            _ => callers.push(Caller { head, count: 1 })?,
+        }
+    }
+    Ok(callers)
+}
+
+/// The line that names the definitions in which the calls stand, the innermost first; nothing where there is none. Many are cut in the middle.
+pub(crate) fn callers_line(
+    alloc: Global,
+    listing: &Listing,
+    sites: &[Option<usize>],
+) -> Result<Option<Vec<u8>>, AllocError> {
+    let callers = callers(alloc, listing, sites)?;
+    if callers.is_empty() {
+        return Ok(None);
+    }
+    let hidden = callers.len().saturating_sub(FIRST.saturating_add(LAST));
+    let mut line = b"called from ".to_vec(alloc)?;
+    for (index, caller) in callers.iter().enumerate() {
+        if hidden > 0 && index == FIRST {
+            push_hidden(hidden, &mut line)?;
+        }
+        if hidden > 0 && index >= FIRST && index < FIRST.saturating_add(hidden) {
+            continue;
+        }
+        if index > 0 {
+            line.extend_from_slice(b", ")?;
+        }
+        push_caller(listing, caller, &mut line)?;
+    }
+    Ok(Some(line))
+}
+
+fn push_hidden(count: usize, line: &mut Vec<u8>) -> Result<(), AllocError> {
+    line.extend_from_slice(b", .. (")?;
+    push_number(count as u64, line)?;
+    line.extend_from_slice(b" more)")
+}
+
+fn push_caller(listing: &Listing, caller: &Caller, line: &mut Vec<u8>) -> Result<(), AllocError> {
+    push_cut(listing.name_of(caller.head), MOST_OF_NAME, line)?;
+    if caller.count < 2 {
+        return Ok(());
+    }
+    line.extend_from_slice(b" (")?;
+    push_number(caller.count as u64, line)?;
+    line.extend_from_slice(b" times)")
+}

@@ -1,0 +1,446 @@
+//! Why a run has no result: it is run again, in code that knows where its strategies stand.
+ghost use Rattle.prim_registry.specs.Entries.{Covers, IsHonest};
+
+use crate::callers::{call_sites, callers_line, search_site};
+use crate::causes::{Leaf, push_excess, push_failure, push_phrase, variables};
+use crate::explanation::{Explanation, Remark};
+use crate::followed::FollowedSpace;
+use crate::line::{MOST_OF_NAME, push_cut, push_number};
+use crate::listing::{Listing, Phrase};
+use crate::notes::{Found, RunNotes};
+use crate::program::{Purpose, program_of};
+use crate::status::{Options, Status};
+use crate::usage::usage_line;
+use aterm_text::{read_in, write_term};
+use prim_registry::{PrimMeaning, Registry};
+use std::alloc::{AllocError, Global};
+use strat_code::Code;
+use strat_machine::{Account, Ending, Machine, Stand};
+use term_model::{Fault, Term};
+
+// The most rules for which a run is followed.
+const MOST_RULES: u32 = 100_000_000;
+
+// The most bytes of the text of a term that are shown.
+const MOST_OF_TERM: usize = 100;
+
+// The most variables whose terms are shown.
+const MOST_VARIABLES: usize = 8;
+
+// What is added to a failure inside a search.
+const LAST_IN_SEARCH: &[u8] = b", the last failure inside that call";
+
+// What is added to a failure in front of the last one.
+const DEEPEST: &[u8] = b", the deepest failure before that, and maybe the cause";
+
+/// Notes why a run has no result, where that is asked for and it has none. Where memory for it is refused nothing is noted.
+pub(crate) fn note_explanation<M: PrimMeaning>(
+    alloc: Global,
+    status: &Result<Status, Fault>,
+    options: &Options,
+    registry: &Registry<M>,
+    notes: &mut RunNotes,
+)
+    requires honest { IsHonest M.answer registry.now }
+{
+    let Ok(Status::Failed | Status::Oversize | Status::Spent) = status else {
+        return;
+    };
+    let Some((definitions, term)) = notes.take_texts() else {
+        return;
+    };
+    if let Ok(explanation) = explanation_of(alloc, &definitions, &term, options, registry) {
+        notes.note_explanation(explanation);
+    }
+}
+
+// The explanation of a run of these definitions on the term of this text.
+fn explanation_of<M: PrimMeaning>(
+    alloc: Global,
+    definitions: &[u8],
+    term: &[u8],
+    options: &Options,
+    registry: &Registry<M>,
+) -> Result<Explanation, Fault>
+    requires honest { IsHonest M.answer registry.now }
+{
+    let mut found = Found::none();
+    let purpose = Purpose::Explanation;
+    let program = program_of(alloc, definitions, options, registry, purpose, &mut found)?;
+    let budget = options.budget.min(MOST_RULES);
+    let run = run_again(alloc, &program.code, term, budget, registry)?;
+    let listing = Listing::new(alloc, definitions)?;
+    let mut remarks = Vec::new(alloc);
+    let explainer = Explainer {
+        alloc,
+        listing: &listing,
+        code: &program.code,
+        run: &run,
+        is_short: options.budget > MOST_RULES,
+    };
+    explainer.explain(&mut remarks)?;
+    Ok(Explanation::new(remarks))
+}
+
+// What a run did, and where it stood.
+#[derive(Drop)]
+struct Evidence {
+    account: Account,
+    // Before its last instruction, if it has no result.
+    last: Option<Stand>,
+    // Before its deepest failure since a call last returned, if that is another one.
+    deepest: Option<Stand>,
+}
+
+// Runs the code on the term of this text again, up to three times, each time in a space of its own.
+fn run_again<M: PrimMeaning>(
+    alloc: Global,
+    code: &Code,
+    text: &[u8],
+    budget: u32,
+    registry: &Registry<M>,
+) -> Result<Evidence, Fault>
+    requires honest { IsHonest M.answer registry.now }
+    requires covers { Covers registry.now code.now.prims }
+{
+    let account = account_of(alloc, code, text, budget, registry)?;
+    let mut last = None;
+    if account.ending != Ending::Rewritten {
+        last = stand_after(alloc, code, text, budget, registry, account.before_last)?;
+    }
+    let mut deepest = None;
+    if account.ending == Ending::Failed && account.before_deepest != account.before_last {
+        deepest = stand_after(alloc, code, text, budget, registry, account.before_deepest)?;
+    }
+    Ok(Evidence {
+        account,
+        last,
+        deepest,
+    })
+}
+
+// The account of a run of the code on the term of this text.
+fn account_of<M: PrimMeaning>(
+    alloc: Global,
+    code: &Code,
+    text: &[u8],
+    budget: u32,
+    registry: &Registry<M>,
+) -> Result<Account, Fault>
+    requires honest { IsHonest M.answer registry.now }
+    requires covers { Covers registry.now code.now.prims }
+{
+    let mut space = FollowedSpace::new(alloc);
+    let term = read_in(&mut space, alloc, text)?;
+    let mut machine = Machine::new(alloc, space);
+    let account = machine.account(code, term, budget, registry)?;
+    Ok(account)
+}
+
+// Where such a run stands after this number of steps, if an instruction comes next.
+fn stand_after<M: PrimMeaning>(
+    alloc: Global,
+    code: &Code,
+    text: &[u8],
+    budget: u32,
+    registry: &Registry<M>,
+    count: u64,
+) -> Result<Option<Stand>, Fault>
+    requires honest { IsHonest M.answer registry.now }
+    requires covers { Covers registry.now code.now.prims }
+{
+    let mut space = FollowedSpace::new(alloc);
+    let term = read_in(&mut space, alloc, text)?;
+    let mut machine = Machine::new(alloc, space);
+    let stand = machine.stand(code, term, budget, registry, count)?;
+    Ok(stand)
+}
+
+// Makes the remarks of an explanation.
+#[derive(Clone, Copy)]
+struct Explainer<'a> {
+    alloc: Global,
+    listing: &'a Listing<'a>,
+    code: &'a Code,
+    run: &'a Evidence,
+    // Whether the run was followed for fewer rules than it may use.
+    is_short: bool,
+}
+
+impl<'a> Explainer<'a> {
+    // Adds the remarks.
+    fn explain(&self, remarks: &mut Vec<Remark>) -> Result<(), AllocError> {
+        if self.run.account.ending != Ending::Spent {
+            return match &self.run.last {
+                Some(stand) => self.add_last(stand, remarks),
+                None => Ok(()),
+            };
+        }
+        if self.is_short {
+            let text = b"only its first 100000000 rules are followed".to_vec(self.alloc)?;
+            push_line(text, remarks)?;
+        }
+        let rules = self.run.account.rules.as_slice();
+        let usage = usage_line(self.alloc, self.listing, self.code, rules)?;
+        push_line(usage, remarks)?;
+        match &self.run.last {
+            Some(stand) => self.add_end(stand, remarks),
+            None => Ok(()),
+        }
+    }
+
+    // Adds where the run was in the end: at the innermost strategy of the file.
+    fn add_end(&self, stand: &Stand, remarks: &mut Vec<Remark>) -> Result<(), AllocError> {
+        let sites = call_sites(self.alloc, self.code, &stand.waiting)?;
+        let leaf = Leaf::new(self.listing, self.code, stand).and_then(|leaf| leaf.offset());
+        let innermost = sites.iter().rposition(|site| site.is_some());
+        let waiting = match leaf {
+            Some(_) => sites.len(),
+            None => innermost.unwrap_or(0),
+        };
+        let called = innermost.and_then(|index| sites.get(index).copied().flatten());
+        let Some(offset) = leaf.or(called) else {
+            return Ok(());
+        };
+        let mut text = self.beginning_at(offset)?;
+        text.extend_from_slice(if self.is_short {
+            b"the run was here after these rules".as_slice()
+        } else {
+            b"the run was here when the rules were spent".as_slice()
+        })?;
+        self.push_at(offset, text, remarks)?;
+        self.add_term(&stand.term, remarks)?;
+        self.add_callers(&sites[..waiting.min(sites.len())], remarks)
+    }
+
+    // Adds what there is to say of the last instruction, and of the deepest failure in front of it.
+    fn add_last(&self, stand: &Stand, remarks: &mut Vec<Remark>) -> Result<(), AllocError> {
+        let Some(leaf) = Leaf::new(self.listing, self.code, stand) else {
+            return Ok(());
+        };
+        let sites = call_sites(self.alloc, self.code, &stand.waiting)?;
+        let offset = leaf.offset();
+        let search = match (self.run.account.ending, offset) {
+            (Ending::Oversize, Some(_)) => None,
+            _ => search_site(&sites, offset.is_none()),
+        };
+        let inner = match search {
+            Some(index) => {
+                self.add_search(&sites, index, remarks)?;
+                index.saturating_add(1)
+            }
+            None => 0,
+        };
+        let note = if inner > 0 {
+            LAST_IN_SEARCH
+        } else {
+            b"".as_slice()
+        };
+        self.add_leaf(&leaf, stand, note, remarks)?;
+        self.add_callers(&sites[inner.min(sites.len())..], remarks)?;
+        match &self.run.deepest {
+            Some(deepest) if offset.is_some() => self.add_deepest(deepest, remarks),
+            _ => Ok(()),
+        }
+    }
+
+    // Adds what there is to say of the deepest failure in front of the last one, if it came in a strategy of the file.
+    fn add_deepest(&self, stand: &Stand, remarks: &mut Vec<Remark>) -> Result<(), AllocError> {
+        let Some(leaf) = Leaf::new(self.listing, self.code, stand) else {
+            return Ok(());
+        };
+        if leaf.offset().is_none() {
+            return Ok(());
+        }
+        let sites = call_sites(self.alloc, self.code, &stand.waiting)?;
+        self.add_leaf(&leaf, stand, DEEPEST, remarks)?;
+        self.add_callers(&sites, remarks)
+    }
+
+    // Adds what an instruction does, if it is one of the file, its term and its variables. The note comes after what it does.
+    fn add_leaf(
+        &self,
+        leaf: &Leaf<'_>,
+        stand: &Stand,
+        note: &[u8],
+        remarks: &mut Vec<Remark>,
+    ) -> Result<(), AllocError> {
+        if let Some(offset) = leaf.offset() {
+            self.add_effect(leaf, offset, stand, note, remarks)?;
+        }
+        self.add_term(&stand.term, remarks)?;
+        self.add_variables(leaf, stand, remarks)
+    }
+
+    // Adds that the call at this index fails, in which the library searches, and what waits for it.
+    fn add_search(
+        &self,
+        sites: &[Option<usize>],
+        index: usize,
+        remarks: &mut Vec<Remark>,
+    ) -> Result<(), AllocError> {
+        let Some(offset) = sites.get(index).copied().flatten() else {
+            return Ok(());
+        };
+        let mut text = self.beginning_at(offset)?;
+        match self.listing.call_at(offset) {
+            Some(phrase) => push_phrase(self.listing, phrase, &mut text)?,
+            None => text.extend_from_slice(b"a call")?,
+        }
+        text.extend_from_slice(match self.run.account.ending {
+            Ending::Oversize => b" makes the term".as_slice(),
+            _ => b" fails".as_slice(),
+        })?;
+        self.push_at(offset, text, remarks)?;
+        self.add_callers(&sites[..index.min(sites.len())], remarks)
+    }
+
+    // Adds what an instruction does.
+    fn add_effect(
+        &self,
+        leaf: &Leaf<'_>,
+        offset: usize,
+        stand: &Stand,
+        note: &[u8],
+        remarks: &mut Vec<Remark>,
+    ) -> Result<(), AllocError> {
+        let offset = match leaf.phrase {
+            Some(phrase) => self.listing.offset_of(phrase),
+            None => offset,
+        };
+        let mut text = self.beginning_at(offset)?;
+        match self.run.account.ending {
+            Ending::Oversize => push_excess(self.listing, leaf, &mut text)?,
+            _ => push_failure(self.alloc, self.listing, leaf, stand, &mut text)?,
+        }
+        text.extend_from_slice(note)?;
+        self.push_at(offset, text, remarks)?;
+        self.add_alternatives(offset, remarks)
+    }
+
+    // Adds that the definition at this byte has other alternatives, if it has.
+    fn add_alternatives(&self, offset: usize, remarks: &mut Vec<Remark>) -> Result<(), AllocError> {
+        let Some(head) = self.listing.head_before(offset) else {
+            return Ok(());
+        };
+        let Some(count) = self.listing.alternatives_before(head) else {
+            return Ok(());
+        };
+        if count < 2 {
+            return Ok(());
+        }
+        let mut text = b"the last of ".to_vec(self.alloc)?;
+        push_number(count as u64, &mut text)?;
+        text.extend_from_slice(b" alternatives of ")?;
+        push_cut(self.listing.name_of(head), MOST_OF_NAME, &mut text)?;
+        text.extend_from_slice(b"; those before it failed, too")?;
+        push_line(text, remarks)
+    }
+
+    // Adds the text of the term, as much as stands on a line.
+    fn add_term(&self, term: &Term, remarks: &mut Vec<Remark>) -> Result<(), AllocError> {
+        let mut text = b"the current term: ".to_vec(self.alloc)?;
+        push_term(self.alloc, term, &mut text)?;
+        push_line(text, remarks)
+    }
+
+    // Adds what the variables of an instruction have.
+    fn add_variables(
+        &self,
+        leaf: &Leaf<'_>,
+        stand: &Stand,
+        remarks: &mut Vec<Remark>,
+    ) -> Result<(), AllocError> {
+        let names = variables(self.alloc, self.listing, leaf)?;
+        if names.len() != stand.values.len() {
+            return Ok(());
+        }
+        for (index, value) in stand.values.iter().take(MOST_VARIABLES).enumerate() {
+            let (Some(name), Some(term)) = (names.get(index), value) else {
+                continue;
+            };
+            if self.is_repeated(&names, index) {
+                continue;
+            }
+            self.add_variable(*name, term, remarks)?;
+        }
+        Ok(())
+    }
+
+    // Whether the variable at an index stands in front of it, too.
+    fn is_repeated(&self, names: &[Phrase], index: usize) -> bool {
+        let Some(name) = names.get(index) else {
+            return true;
+        };
+        let name = self.listing.text_of(*name);
+        names
+            .iter()
+            .take(index)
+            .any(|other| self.listing.text_of(*other) == name)
+    }
+
+    fn add_variable(
+        &self,
+        name: Phrase,
+        term: &Term,
+        remarks: &mut Vec<Remark>,
+    ) -> Result<(), AllocError> {
+        let mut text = Vec::new(self.alloc);
+        push_phrase(self.listing, name, &mut text)?;
+        text.extend_from_slice(b" = ")?;
+        push_term(self.alloc, term, &mut text)?;
+        push_line(text, remarks)
+    }
+
+    // Adds the definitions in which the calls stand, if there are any.
+    fn add_callers(
+        &self,
+        sites: &[Option<usize>],
+        remarks: &mut Vec<Remark>,
+    ) -> Result<(), AllocError> {
+        match callers_line(self.alloc, self.listing, sites)? {
+            Some(text) => push_line(text, remarks),
+            None => Ok(()),
+        }
+    }
+
+    // The beginning of a remark: the definition in which this byte stands.
+    fn beginning_at(&self, offset: usize) -> Result<Vec<u8>, AllocError> {
+        let mut text = b"in ".to_vec(self.alloc)?;
+        if let Some(head) = self.listing.head_before(offset) {
+            push_cut(self.listing.name_of(head), MOST_OF_NAME, &mut text)?;
+        }
+        text.extend_from_slice(b": ")?;
+        Ok(text)
+    }
+
+    // Adds a remark on what stands at this byte.
+    fn push_at(
+        &self,
+        offset: usize,
+        text: Vec<u8>,
+        remarks: &mut Vec<Remark>,
+    ) -> Result<(), AllocError> {
+        remarks.push(Remark {
+            position: Some(self.listing.position(offset)),
+            text,
+        })?;
+        Ok(())
+    }
+}
+
+// Adds a remark without a place.
+fn push_line(text: Vec<u8>, remarks: &mut Vec<Remark>) -> Result<(), AllocError> {
+    remarks.push(Remark {
+        position: None,
+        text,
+    })?;
+    Ok(())
+}
+
+// Puts the text of a term on a line, as much of it as is shown.
+fn push_term(alloc: Global, term: &Term, line: &mut Vec<u8>) -> Result<(), AllocError> {
+    let mut text = Vec::new(alloc);
+    write_term(term, &mut text)?;
+    push_cut(&text, MOST_OF_TERM, line)
+}
