@@ -1,12 +1,12 @@
 -- What a writer has gained after several writes in a row.
 use Rattle.std.proofs.Common.{◌≡◌, ◌+◌, ◌≤◌, ℕ, Bool, List, [], ◌++◌, length, take, Option, None, Some, refl, sym, arith, false, true, true≢false, length-append, subst}
 use Rattle.std.proofs.lemmas.List.{append-nil, take-append-le, take_at, drop_at}
-use Rattle.std.proofs.Math.Seq.{take-add, take-length}
+use Rattle.std.proofs.Math.Seq.{take-add}
 use Rattle.std.proofs.lemmas.Grind.{common_steps}
 use Rattle.std.specs.Prelude.{Result, Ok, Err, OnOk, is_err, if◌then◌else◌}
 use Rattle.term_model.specs.declared.fault.Fault.{Fault}
 use Rattle.str_pipeline.specs.Device.{Gains, GainsPrefix}
-use Rattle.strc.specs.Report.{diagnostic, Tells, TellsMore, TellsText, TellsNumbers}
+use Rattle.strc.specs.Report.{diagnostic, Tells, TellsMore, TellsText, TellsIfAsked}
 
 pub gains_both : (a b c : Option (List ℕ)) (xs ys : List ℕ) → Gains a b xs → Gains b c ys → Gains a c (xs ++ ys)
 gains_both None b c xs ys first second = tt
@@ -56,25 +56,20 @@ gains_nothing : (a : Option (List ℕ)) → GainsPrefix a a []
 gains_nothing None = (0, omega arith, tt)
 gains_nothing (Some xs) = (0, omega arith, rw append-nil refl)
 
--- no numbers that are not asked for
-pub not_asked : (asked : Bool) (a : Option (List ℕ)) → asked ≡ false → TellsNumbers asked a a
-not_asked true a quiet = absurd (true≢false quiet)
-not_asked false a quiet = refl
+-- no text at all
+pub no_text : (a : Option (List ℕ)) → TellsText a a
+no_text a = ([], gains_nothing a)
 
--- no numbers for which there is no memory
-pub none_told : (asked : Bool) (a : Option (List ℕ)) → asked ≡ true → TellsNumbers asked a a
-none_told true a is = ([], gains_nothing a)
-none_told false a is = absurd (true≢false (sym is))
+-- a text, and another one after it
+pub text_after : (a b c : Option (List ℕ)) → TellsText a b → TellsText b c → TellsText a c
+text_after a b c (text, (k, within, first)) (more, second) = (take k text ++ more, begins_second a b c (take k text) more first second)
 
--- numbers that were written as far as a result says
-pub numbers_told : (asked : Bool) (more : List ℕ) (a b : Option (List ℕ)) → asked ≡ true → GainsPrefix a b more → TellsNumbers asked a b
-numbers_told true more a b is begun = (more, begun)
-numbers_told false more a b is begun = absurd (true≢false (sym is))
+-- a text, and one after it where that is asked for
+pub asked_after : (asked : Bool) (a b c : Option (List ℕ)) → TellsText a b → TellsIfAsked asked b c → TellsText a c
+asked_after true a b c first text = text_after a b c first text
+asked_after false a b c first same = subst (λ d. TellsText a d) (sym same) first
 
--- a line that was written, and the numbers after it where they are asked for
-pub numbers_after : {A : Type 0} (r : Result A Fault) (asked : Bool) (line : List ℕ) (a b c : Option (List ℕ)) → is_err r ≡ false
-    → OnOk r (Gains a b line) → TellsNumbers asked b c → TellsText a c
-numbers_after (Err e) asked line a b c good first told = absurd (true≢false good)
-numbers_after (Ok v) true line a b c good first (more, begun) = (line ++ more, begins_second a b c line more first begun)
-numbers_after (Ok v) false line a b c good first same =
-    (line, subst (λ d. GainsPrefix a d line) (sym same) (length line, omega arith, subst (λ xs. Gains a b xs) (sym (take-length line)) first))
+-- a text that is asked for
+pub text_as_asked : (asked : Bool) (a b : Option (List ℕ)) → asked ≡ true → TellsText a b → TellsIfAsked asked a b
+text_as_asked true a b is text = text
+text_as_asked false a b is text = absurd (true≢false (sym is))

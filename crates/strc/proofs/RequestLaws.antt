@@ -15,12 +15,13 @@ plain_options request options plain asked = record {
   budget = asked.budget ∙ plain.rules;
 }
 
--- where no numbers are asked for, nothing but a refusal is reported
-pub plain_report : (has_stats : Bool) (status : Status) (before after : ℕ) (old new : Option (List ℕ)) → has_stats ≡ false →
-    IsReportedWith has_stats status before after old new → IsReported status before after old new
-plain_report true status before after old new quiet reported = absurd (true≢false quiet)
-plain_report false Rewritten before after old new quiet reported = reported
-plain_report false Failed before after old new quiet reported = reported
-plain_report false Oversize before after old new quiet reported = reported
-plain_report false Spent before after old new quiet reported = reported
-plain_report false (Refused fault) before after old new quiet reported = reported
+-- where nothing more is asked for, nothing is reported but a refusal, a spent budget and a term that did not fit
+pub plain_report : (has_stats explains : Bool) (status : Status) (before after : ℕ) (old new : Option (List ℕ)) → has_stats ≡ false →
+    explains ≡ false → IsReportedWith has_stats explains status before after old new → IsReported status before after old new
+plain_report true explains status before after old new quiet unexplained reported = absurd (true≢false quiet)
+plain_report false true status before after old new quiet unexplained reported = absurd (true≢false unexplained)
+plain_report false false Rewritten before after old new quiet unexplained reported = reported
+plain_report false false Failed before after old new quiet unexplained reported = reported
+plain_report false false Oversize before after old new quiet unexplained reported = reported
+plain_report false false Spent before after old new quiet unexplained reported = reported
+plain_report false false (Refused fault) before after old new quiet unexplained reported = reported

@@ -1,5 +1,5 @@
 -- The exit status, and what is reported on the diagnostic stream.
-use Rattle.std.specs.Prelude.{◌≡◌, ◌<◌, ℕ, Bool, true, false, List, [], ◌∷◌, ◌++◌, ◌⊎◌, codes, decimal, Option, None, Some}
+use Rattle.std.specs.Prelude.{◌≡◌, ◌<◌, ℕ, Bool, true, false, ◌||◌, List, [], ◌∷◌, ◌++◌, ◌⊎◌, codes, decimal, Option, None, Some}
 use Rattle.term_model.specs.declared.fault.Fault.{Fault}
 use Rattle.term_model.specs.declared.fault.Fault.TheVariants.{Memory, Read, Write, Lexical, ReservedWord, Syntax, Nesting, TermSyntax, TermOversize}
 use Rattle.term_model.specs.Fault.{word_of}
@@ -83,19 +83,23 @@ TellsStop writes fault before after old new = TellsFault fault before after old 
 abbrev pub TellsText : Option (List ℕ) → Option (List ℕ) → Type 0
 TellsText old new = (text : List ℕ) × GainsPrefix old new text
 
--- the numbers of a run are on a stream where they are asked for, and else nothing new is
-abbrev pub TellsNumbers : Bool → Option (List ℕ) → Option (List ℕ) → Type 0
-TellsNumbers false old new = new ≡ old
-TellsNumbers true old new = TellsText old new
+-- a text is on a stream where one is asked for, and else nothing new is
+abbrev pub TellsIfAsked : Bool → Option (List ℕ) → Option (List ℕ) → Type 0
+TellsIfAsked false old new = new ≡ old
+TellsIfAsked true old new = TellsText old new
 
--- a refusal is reported, and for a person that the budget is spent, and the numbers of a run where they are asked for; nothing else is
-abbrev pub IsReportedWith : Bool → Status → ℕ → ℕ → Option (List ℕ) → Option (List ℕ) → Type 0
-IsReportedWith has_stats (Refused fault) before after old new = TellsMore fault before after old new
-IsReportedWith has_stats Spent before after old new = TellsText old new
-IsReportedWith has_stats status before after old new = TellsNumbers has_stats old new
+-- a refusal is reported, and for a person that the budget is spent or that a term did not fit. Of a result nothing is, unless the numbers of the
+-- run are asked for, and of a failure nothing, unless they or an explanation are
+abbrev pub IsReportedWith : Bool → Bool → Status → ℕ → ℕ → Option (List ℕ) → Option (List ℕ) → Type 0
+IsReportedWith has_stats explains Rewritten before after old new = TellsIfAsked has_stats old new
+IsReportedWith has_stats explains Failed before after old new = TellsIfAsked (has_stats || explains) old new
+IsReportedWith has_stats explains (Refused fault) before after old new = TellsMore fault before after old new
+IsReportedWith has_stats explains Oversize before after old new = TellsText old new
+IsReportedWith has_stats explains Spent before after old new = TellsText old new
 
--- a refusal is reported, and for a person that the budget is spent; nothing else is
+-- a refusal is reported, and for a person that the budget is spent or that a term did not fit; nothing else is
 abbrev pub IsReported : Status → ℕ → ℕ → Option (List ℕ) → Option (List ℕ) → Type 0
 IsReported (Refused fault) before after old new = TellsMore fault before after old new
+IsReported Oversize before after old new = TellsText old new
 IsReported Spent before after old new = TellsText old new
 IsReported status before after old new = new ≡ old

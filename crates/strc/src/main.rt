@@ -2,6 +2,7 @@
 //! standard output.
 #![tactic(auto)]
 
+mod ending;
 mod failure;
 mod paths;
 mod primitives;

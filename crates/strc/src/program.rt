@@ -15,12 +15,11 @@ ghost use Rattle.strc.specs.Report.{AreSome, Failures, exit_of, IsCause, Tells, 
 ghost use Rattle.strc.specs.Request.{ArePlain};
 ghost use Rattle.strc.specs.declared.request.Texts.TheVariants.{Joined};
 
+use crate::ending::{notes_for, report_end};
 use crate::failure::Failure;
 use crate::paths::Paths;
-use crate::report::{
-    INPUT, Reporting, report, report_failure, report_numbers, report_refusal, report_spent,
-};
-use crate::request::{Texts, options_of, request_of};
+use crate::report::{INPUT, Reporting, report, report_failure};
+use crate::request::{Request, Texts, options_of, request_of};
 use clap::Error;
 use clap::error::ErrorKind;
 use prim_registry::{PrimMeaning, Registry};
@@ -109,23 +108,17 @@ fn conclude<E: Sink>(
 ) -> u8
     requires { HoldsRefusal status }
     ensures status { (exit_of status ≡ result) × (result < 4) }
-    ensures told { IsReportedWith reporting.entry.has_stats status (E.failed_writes diagnostics.old) (E.failed_writes diagnostics.new) (E.written diagnostics.old) (E.written diagnostics.new) }
+    ensures told { IsReportedWith reporting.entry.has_stats reporting.entry.explains status
+        (E.failed_writes diagnostics.old) (E.failed_writes diagnostics.new)
+        (E.written diagnostics.old) (E.written diagnostics.new) }
 {
-    let code = match status {
+    report_end(alloc, &status, budget, reporting, notes, diagnostics);
+    match status {
         Status::Rewritten => 0,
         Status::Failed => 1,
-        Status::Refused(fault) => {
-            report_refusal(alloc, &fault, reporting, notes, diagnostics);
-            return 2;
-        }
-        Status::Oversize => 3,
-        Status::Spent => {
-            report_spent(alloc, budget, reporting.has_stats, notes, diagnostics);
-            return 3;
-        }
-    };
-    report_numbers(alloc, reporting.has_stats, notes, diagnostics);
-    code
+        Status::Refused(_) => 2,
+        Status::Oversize | Status::Spent => 3,
+    }
 }
 
 /// Does the work where both texts come from `input`, in the joined form.
@@ -144,7 +137,9 @@ fn run_joined<I: Source, W: Sink, E: Sink, M: PrimMeaning>(
     ensures status { result ≤ 4 }
     ensures ended { result < 4 → (status : Status) × (exit_of status ≡ result) × HoldsRefusal status
         × IfSome (I.coming input.old) (λ told. (d t : List ℕ) → IsSplit told d t → HasWritten d t (setting_of M.answer registry.now options.now) status (W.written out.old) (W.written out.new))
-        × IsReportedWith reporting.entry.has_stats status (E.failed_writes diagnostics.old) (E.failed_writes diagnostics.new) (E.written diagnostics.old) (E.written diagnostics.new) }
+        × IsReportedWith reporting.entry.has_stats reporting.entry.explains status
+        (E.failed_writes diagnostics.old) (E.failed_writes diagnostics.new)
+        (E.written diagnostics.old) (E.written diagnostics.new) }
     ensures stopped { result ≡ 4 → (fault : Fault)
         × IsCause (record { before = I.failed_reads input.old; after = I.failed_reads input.new })
         (record { before = W.failed_writes out.old; after = W.failed_writes out.new }) fault
@@ -158,7 +153,7 @@ fn run_joined<I: Source, W: Sink, E: Sink, M: PrimMeaning>(
     ensures write_failed { W.failed_writes out.old < W.failed_writes out.new → result ≡ 4 }
     ensures bounded { I.reads input.new ≤ I.reads input.old + max_definitions + 7 + max_term + 1 }
 {
-    let mut notes = RunNotes::none();
+    let mut notes = notes_for(reporting);
     match transform_joined_with_notes(alloc, input, options, registry, &mut notes, out) {
         Ok(status) => conclude(
             alloc,
@@ -192,7 +187,9 @@ fn run_apart<D: Source, T: Source, W: Sink, E: Sink, M: PrimMeaning>(
     ensures status { result ≤ 4 }
     ensures ended { result < 4 → (status : Status) × (exit_of status ≡ result) × HoldsRefusal status
         × IfSome (D.coming definitions.old) (λ d. IfSome (T.coming term.old) (λ t. HasWritten d t (setting_of M.answer registry.now options.now) status (W.written out.old) (W.written out.new)))
-        × IsReportedWith reporting.entry.has_stats status (E.failed_writes diagnostics.old) (E.failed_writes diagnostics.new) (E.written diagnostics.old) (E.written diagnostics.new) }
+        × IsReportedWith reporting.entry.has_stats reporting.entry.explains status
+        (E.failed_writes diagnostics.old) (E.failed_writes diagnostics.new)
+        (E.written diagnostics.old) (E.written diagnostics.new) }
     ensures stopped { result ≡ 4 → (fault : Fault)
         × IsCause (record { before = D.failed_reads definitions.old + T.failed_reads term.old; after = D.failed_reads definitions.new + T.failed_reads term.new })
         (record { before = W.failed_writes out.old; after = W.failed_writes out.new }) fault
@@ -207,7 +204,7 @@ fn run_apart<D: Source, T: Source, W: Sink, E: Sink, M: PrimMeaning>(
     ensures definitions_bounded { D.reads definitions.new ≤ D.reads definitions.old + max_definitions + 1 }
     ensures term_bounded { T.reads term.new ≤ T.reads term.old + max_term + 1 }
 {
-    let mut notes = RunNotes::none();
+    let mut notes = notes_for(reporting);
     match transform_with_notes(alloc, definitions, term, options, registry, &mut notes, out) {
         Ok(status) => conclude(
             alloc,
@@ -239,7 +236,9 @@ fn run_files<P: Paths, W: Sink, E: Sink, M: PrimMeaning>(
     requires honest { IsHonest M.answer registry.now }
     ensures status { result ≤ 4 }
     ensures ended { result < 4 → (status : Status) × (exit_of status ≡ result) × HoldsRefusal status
-        × IsReportedWith reporting.entry.has_stats status (E.failed_writes diagnostics.old) (E.failed_writes diagnostics.new) (E.written diagnostics.old) (E.written diagnostics.new) }
+        × IsReportedWith reporting.entry.has_stats reporting.entry.explains status
+        (E.failed_writes diagnostics.old) (E.failed_writes diagnostics.new)
+        (E.written diagnostics.old) (E.written diagnostics.new) }
     ensures stopped { result ≡ 4 → (fault : Fault) × IsTransferFault fault
         × TellsStop (record { before = W.failed_writes out.old; after = W.failed_writes out.new }) fault
         (E.failed_writes diagnostics.old) (E.failed_writes diagnostics.new)
@@ -273,14 +272,13 @@ fn run_files<P: Paths, W: Sink, E: Sink, M: PrimMeaning>(
     )
 }
 
-/// Does the work with the texts that come from these places. A file that cannot be opened is a fault before anything is read.
+/// Does the work with the texts that the request names. A file that cannot be opened is a fault before anything is read.
 #[tactic(auto, using(crate::proofs::CauseLaws::of_transfer, crate::proofs::CauseLaws::of_reading, crate::proofs::CauseLaws::fault_told))]
 fn run_texts<P: Paths, I: Source, W: Sink, E: Sink, M: PrimMeaning>(
     alloc: Global,
-    texts: Texts<'_>,
+    request: &Request<'_>,
     paths: &mut P,
     input: &mut I,
-    has_stats: bool,
     options: &Options,
     registry: &Registry<M>,
     out: &mut W,
@@ -289,35 +287,35 @@ fn run_texts<P: Paths, I: Source, W: Sink, E: Sink, M: PrimMeaning>(
     requires budget { options.now.budget ≤ max_budget }
     requires honest { IsHonest M.answer registry.now }
     ensures status { result ≤ 4 }
-    ensures joined_ended { texts.entry ≡ Joined → result < 4 → (status : Status) × (exit_of status ≡ result) × HoldsRefusal status
+    ensures joined_ended { request.now.texts ≡ Joined → result < 4 → (status : Status) × (exit_of status ≡ result) × HoldsRefusal status
         × IfSome (I.coming input.old) (λ told. (d t : List ℕ) → IsSplit told d t → HasWritten d t (setting_of M.answer registry.now options.now) status (W.written out.old) (W.written out.new))
-        × IsReportedWith has_stats status (E.failed_writes diagnostics.old) (E.failed_writes diagnostics.new) (E.written diagnostics.old) (E.written diagnostics.new) }
-    ensures joined_stopped { texts.entry ≡ Joined → result ≡ 4 → (fault : Fault)
+        × IsReportedWith request.now.has_stats request.now.explains status
+        (E.failed_writes diagnostics.old) (E.failed_writes diagnostics.new)
+        (E.written diagnostics.old) (E.written diagnostics.new) }
+    ensures joined_stopped { request.now.texts ≡ Joined → result ≡ 4 → (fault : Fault)
         × IsCause (record { before = I.failed_reads input.old; after = I.failed_reads input.new })
         (record { before = W.failed_writes out.old; after = W.failed_writes out.new }) fault
         × TellsStop (record { before = W.failed_writes out.old; after = W.failed_writes out.new }) fault
         (E.failed_writes diagnostics.old) (E.failed_writes diagnostics.new)
         (E.written diagnostics.old) (E.written diagnostics.new) }
-    ensures joined_begun { texts.entry ≡ Joined → W.failed_writes out.old < W.failed_writes out.new →
+    ensures joined_begun { request.now.texts ≡ Joined → W.failed_writes out.old < W.failed_writes out.new →
         IfSome (I.coming input.old) (λ told. (d t : List ℕ) → IsSplit told d t → HasBegun d t (setting_of M.answer registry.now options.now) (W.written out.old) (W.written out.new)) }
     ensures ended { result < 4 → (status : Status) × (exit_of status ≡ result) × HoldsRefusal status
-        × IsReportedWith has_stats status (E.failed_writes diagnostics.old) (E.failed_writes diagnostics.new) (E.written diagnostics.old) (E.written diagnostics.new) }
+        × IsReportedWith request.now.has_stats request.now.explains status
+        (E.failed_writes diagnostics.old) (E.failed_writes diagnostics.new)
+        (E.written diagnostics.old) (E.written diagnostics.new) }
     ensures stopped { result ≡ 4 → (fault : Fault) × IsTransferFault fault
         × TellsStop (record { before = W.failed_writes out.old; after = W.failed_writes out.new }) fault
         (E.failed_writes diagnostics.old) (E.failed_writes diagnostics.new)
         (E.written diagnostics.old) (E.written diagnostics.new) }
     ensures unwritten { result ≡ 4 → W.failed_writes out.new ≡ W.failed_writes out.old → out.new ≡ out.old }
-    ensures joined_read_failed { texts.entry ≡ Joined → I.failed_reads input.old < I.failed_reads input.new → result ≡ 4 }
+    ensures joined_read_failed { request.now.texts ≡ Joined → I.failed_reads input.old < I.failed_reads input.new → result ≡ 4 }
     ensures write_failed { W.failed_writes out.old < W.failed_writes out.new → result ≡ 4 }
     ensures bounded { I.reads input.new ≤ I.reads input.old + max_definitions + 7 + max_term + 1 }
 {
-    match texts {
+    match request.texts {
         Texts::Joined => {
-            let reporting = Reporting {
-                definitions: INPUT,
-                term: INPUT,
-                has_stats,
-            };
+            let reporting = Reporting::new(request, INPUT, INPUT);
             run_joined(alloc, input, reporting, options, registry, out, diagnostics)
         }
         Texts::Definitions(path) => {
@@ -328,11 +326,7 @@ fn run_texts<P: Paths, I: Source, W: Sink, E: Sink, M: PrimMeaning>(
                     return stop_reading(alloc, &fault, failure, diagnostics);
                 }
             };
-            let reporting = Reporting {
-                definitions: path,
-                term: INPUT,
-                has_stats,
-            };
+            let reporting = Reporting::new(request, path, INPUT);
             run_apart(
                 alloc,
                 &mut definitions,
@@ -345,11 +339,7 @@ fn run_texts<P: Paths, I: Source, W: Sink, E: Sink, M: PrimMeaning>(
             )
         }
         Texts::Both(first, second) => {
-            let reporting = Reporting {
-                definitions: first,
-                term: second,
-                has_stats,
-            };
+            let reporting = Reporting::new(request, first, second);
             run_files(alloc, paths, reporting, options, registry, out, diagnostics)
         }
     }
@@ -385,9 +375,9 @@ fn explain<W: Sink, E: Sink>(alloc: Global, error: &Error, out: &mut W, diagnost
 }
 
 /// Does what the words of the command line ask for, of which the first is the name of the program: `[--rules N] [--main NAME] [--strict]
-/// [--stats] [DEFS [TERM]]`. It transforms the definitions of the file DEFS and the term of the file TERM; without TERM the term comes from `input`,
-/// and without both paths the joined form does. Definitions may call the primitives of the registry and the strategies of the library. The
-/// line of the answer goes to `out`. Files are opened before anything is read, DEFS first.
+/// [--stats] [--explain] [DEFS [TERM]]`. It transforms the definitions of the file DEFS and the term of the file TERM; without TERM the term
+/// comes from `input`, and without both paths the joined form does. Definitions may call the primitives of the registry and the strategies of
+/// the library. The line of the answer goes to `out`. Files are opened before anything is read, DEFS first.
 ///
 /// Returns the exit status: 0 where the term was rewritten, and for the help text and the version, which go to `out`; 1 where the strategy
 /// failed, 2 where the definitions or the term were refused, 3 where the budget was spent or a term was too large, 4 where memory, opening,
@@ -397,9 +387,10 @@ fn explain<W: Sink, E: Sink>(alloc: Global, error: &Error, out: &mut W, diagnost
 /// failed, `Write` exactly where a write to `out` failed, and `Memory` else. For 2 lines for a person come after it: the name of the
 /// text, the line and the column, what is wrong, and the line with a mark under the place. For 4 one line for a person comes after `Read`
 /// and `Write`: what could not be opened, read or written and, where that is known, why. These lines are left out where memory for them is
-/// refused. Of a broken pipe, to which `out` writes, nothing is reported. Where the budget was spent, a line tells how large it was. Where
-/// the words ask for the numbers of the run, a line with them comes last for 0, 1 and 3. For 5 `diagnostics` tells what is wrong with the
-/// words and how the help text is had. A write to `diagnostics` that fails changes nothing.
+/// refused. Of a broken pipe, to which `out` writes, nothing is reported. For 3 a line says how large the budget was that was spent, or
+/// how large the term was, if that is known. Where the words ask why there is no result, lines say it next for 1 and 3, if memory for that
+/// was there. Where they ask for the numbers of the run, a line with them comes last for 0, 1 and 3. For 5 `diagnostics` tells what
+/// is wrong with the words and how the help text is had. A write to `diagnostics` that fails changes nothing.
 #[tactic(auto, using(crate::proofs::CauseLaws::line_told))]
 pub fn run<P: Paths, I: Source, W: Sink, E: Sink, M: PrimMeaning>(
     alloc: Global,
@@ -443,10 +434,9 @@ pub fn run<P: Paths, I: Source, W: Sink, E: Sink, M: PrimMeaning>(
     };
     run_texts(
         alloc,
-        request.texts,
+        &request,
         paths,
         input,
-        request.has_stats,
         &options,
         registry,
         out,

@@ -1,9 +1,10 @@
 //! The lines on the diagnostic stream.
-ghost use Rattle.std.specs.Prelude.{◌≡◌, ◌+◌, OnOk, IfErr, is_err, if◌then◌else◌};
+ghost use Rattle.std.specs.Prelude.{◌≡◌, ◌+◌, ◌||◌, OnOk, IfErr, is_err, if◌then◌else◌};
 ghost use Rattle.str_pipeline.specs.Device.{Gains, GainsPrefix};
-ghost use Rattle.strc.specs.Report.{place_of, place_text, diagnostic, TellsMore, TellsNumbers, TellsText};
+ghost use Rattle.strc.specs.Report.{place_of, place_text, diagnostic, TellsMore, TellsIfAsked};
 
 use crate::failure::Failure;
+use crate::request::Request;
 use itoa::Buffer;
 use std::alloc::{AllocError, Global};
 use str_pipeline::{Excerpt, Reason, RunNotes, Sink, Subject, Used, write_all};
@@ -53,12 +54,36 @@ pub(crate) fn report<E: Sink>(fault: &Fault, diagnostics: &mut E) -> Result<(), 
     write_all(diagnostics, b"\n")
 }
 
-/// How the end of a transformation is reported: what the two texts are called, and whether the numbers of the run are told.
+/// How the end of a transformation is reported: what the two texts are called, whether the numbers of the run are reported, and whether it
+/// is explained why the run has no result.
 #[derive(Clone, Copy, Drop)]
 pub(crate) struct Reporting<'a> {
     pub(crate) definitions: &'a str,
     pub(crate) term: &'a str,
     pub(crate) has_stats: bool,
+    pub(crate) explains: bool,
+}
+
+impl<'a> Reporting<'a> {
+    /// Reports as the request asks, over texts that are called so.
+    pub(crate) fn new(request: &Request<'_>, definitions: &'a str, term: &'a str) -> Reporting<'a>
+        ensures stats { result.has_stats ≡ request.now.has_stats }
+        ensures explains { result.explains ≡ request.now.explains }
+    {
+        Reporting {
+            definitions,
+            term,
+            has_stats: request.has_stats,
+            explains: request.explains,
+        }
+    }
+
+    /// Whether anything is reported of a run that failed.
+    pub(crate) fn reports_failures(self) -> bool
+        ensures { result ≡ (self.entry.has_stats || self.entry.explains) }
+    {
+        self.has_stats || self.explains
+    }
 }
 
 /// What standard input is called.
@@ -150,7 +175,7 @@ pub(crate) fn report_numbers<E: Sink>(
     notes: &RunNotes,
     diagnostics: &mut E,
 )
-    ensures { TellsNumbers has_stats (E.written diagnostics.old) (E.written diagnostics.new) }
+    ensures { TellsIfAsked has_stats (E.written diagnostics.old) (E.written diagnostics.new) }
 {
     if !has_stats {
         return;
@@ -159,28 +184,4 @@ pub(crate) fn report_numbers<E: Sink>(
         return;
     };
     let _ = write_all(diagnostics, text.as_bytes());
-}
-
-/// Returns the line of a spent budget, with its line feed; nothing where memory for it is refused.
-fn spent_line(alloc: Global, budget: u32) -> Option<String> {
-    format!(in alloc; "strc: the budget of {budget} rules is spent; --rules sets another\n").ok()
-}
-
-/// Writes that the budget is spent and, where that is asked for, the line of what the run used.
-pub(crate) fn report_spent<E: Sink>(
-    alloc: Global,
-    budget: u32,
-    has_stats: bool,
-    notes: &RunNotes,
-    diagnostics: &mut E,
-)
-    ensures { TellsText (E.written diagnostics.old) (E.written diagnostics.new) }
-{
-    let Some(line) = spent_line(alloc, budget) else {
-        return;
-    };
-    if write_all(diagnostics, line.as_bytes()).is_err() {
-        return;
-    }
-    report_numbers(alloc, has_stats, notes, diagnostics);
 }

@@ -30,12 +30,14 @@ pub(crate) struct Request<'a> {
     pub(crate) is_strict: bool,
     /// Whether the numbers of the run are asked for.
     pub(crate) has_stats: bool,
+    /// Whether it is asked for why a run has no result.
+    pub(crate) explains: bool,
     /// Where the two texts come from.
     pub(crate) texts: Texts<'a>,
 }
 
 /// How the program is called, in the help text and in texts on faults of the command line.
-const USAGE: &str = "strc [--rules N] [--main NAME] [--strict] [--stats] [DEFS [TERM]]";
+const USAGE: &str = "strc [--rules N] [--main NAME] [--strict] [--stats] [--explain] [DEFS [TERM]]";
 
 /// The end of the help text.
 const EXAMPLES: &str = "\
@@ -105,6 +107,17 @@ fn stats<'a>(alloc: Global) -> Arg<'a>
         .help("Print on standard error how many rules, steps and shapes of terms the run took")
 }
 
+/// Returns the flag that asks for why the run has no result.
+#[tactic(auto, using(crate::proofs::RulesLaws::other_letter))]
+fn explain<'a>(alloc: Global) -> Arg<'a>
+    ensures { Fits result }
+{
+    Arg::new(alloc, "explain")
+        .long("explain")
+        .action(ArgAction::SetTrue)
+        .help("Say on standard error why the run has no result")
+}
+
 /// Returns the path of the definitions.
 #[tactic(auto, using(crate::proofs::RulesLaws::other_letter))]
 fn definitions<'a>(alloc: Global) -> Arg<'a>
@@ -140,13 +153,14 @@ fn command<'a>(alloc: Global) -> Result<Command<'a>, Error>
     let command = command.arg(main_name(alloc))?;
     let command = command.arg(strict(alloc))?;
     let command = command.arg(stats(alloc))?;
+    let command = command.arg(explain(alloc))?;
     let command = command.arg(definitions(alloc))?;
     Ok(command.arg(term(alloc))?)
 }
 
 /// Reads the words of the command line, of which the first is the name of the program. Where it is the only one, the texts come in the
-/// joined form, the strategy is `main`, the term need not be declared, the budget is 1,000,000 rules, and no numbers are asked for. An error is what the program
-/// has to say: what is wrong with the words, the help text or the version; or out of memory.
+/// joined form, the strategy is `main`, the term need not be declared, the budget is 1,000,000 rules, and neither numbers nor an explanation
+/// are asked for. An error is what the program has to say: what is wrong with the words, the help text or the version; or out of memory.
 pub(crate) fn request_of<'a>(alloc: Global, words: &'a [String]) -> Result<Request<'a>, Error>
     ensures bound { IfOk result (λ request. request.rules ≤ max_budget) }
     ensures plain { length words.now ≤ 1 → IsOkAnd result IsPlainRequest }
@@ -157,6 +171,7 @@ pub(crate) fn request_of<'a>(alloc: Global, words: &'a [String]) -> Result<Reque
             main: "main",
             is_strict: false,
             has_stats: false,
+            explains: false,
             texts: Texts::Joined,
         });
     }
@@ -166,6 +181,7 @@ pub(crate) fn request_of<'a>(alloc: Global, words: &'a [String]) -> Result<Reque
         main: matches.get_str("main").unwrap_or("main"),
         is_strict: matches.get_flag("strict"),
         has_stats: matches.get_flag("stats"),
+        explains: matches.get_flag("explain"),
         texts: texts_of(&matches),
     })
 }

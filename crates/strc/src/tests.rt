@@ -1,5 +1,7 @@
 //! The words of the command line, the exit statuses and what is on the streams.
+mod endings;
 mod expected;
+mod explanations;
 mod failures;
 mod files;
 mod language;

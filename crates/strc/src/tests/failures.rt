@@ -1,8 +1,7 @@
 //! What is said of files, readers and writers that fail.
 ghost use Rattle.std.specs.Prelude.{◌≤◌, IfSome};
 
-use crate::primitives::run_standard;
-use crate::tests::samples::{Device, Shelf, words_of};
+use crate::tests::samples::{Device, run_with};
 use std::alloc::{AllocError, Global};
 use std::io::ErrorKind;
 use std::test::Fail;
@@ -131,19 +130,10 @@ fn writer(alloc: Global, kind: Option<ErrorKind>) -> Result<Device, AllocError> 
 /// Whether a run of this row stops with status 4 and this report.
 fn is_reported(alloc: Global, row: &Row) -> Result<bool, AllocError> {
     let (line, reading, writing, report) = row;
-    let words = Ok(words_of(alloc, line)?);
     let mut input = reader(alloc, *reading)?;
     let mut out = writer(alloc, *writing)?;
     let mut diagnostics = Faulty::writer(alloc, 4096, 3, None, false)?;
-    let mut paths = Shelf::new(alloc);
-    let status = run_standard(
-        alloc,
-        &words,
-        &mut paths,
-        &mut input,
-        &mut out,
-        &mut diagnostics,
-    );
+    let status = run_with(alloc, line, &mut input, &mut out, &mut diagnostics)?;
     Ok(status == 4 && diagnostics.written() == report.as_bytes())
 }
 

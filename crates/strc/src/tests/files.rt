@@ -152,11 +152,12 @@ fn runs(rt: HostRuntime) -> Result<(), Fail> {
 
 /// Parts of what `--help` prints.
 const HELP: &[&str] = &[
-    "\nUsage: strc [--rules N] [--main NAME] [--strict] [--stats] [DEFS [TERM]]\n",
+    "\nUsage: strc [--rules N] [--main NAME] [--strict] [--stats] [--explain] [DEFS [TERM]]\n",
     "--rules <N> ",
     "--main <NAME> ",
     "--strict ",
     "--stats ",
+    "--explain ",
     "\nDefinitions may call the library (try, repeat, ",
     "\nprim(\"name\", ..), the primitives add, sub, ",
     "\n  strc rules.str term.aterm\n",

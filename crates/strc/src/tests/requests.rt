@@ -8,99 +8,104 @@ use std::io;
 use std::test::Fail;
 use str_pipeline::Faulty;
 
-/// The default budget.
-const RULES: u32 = 1_000_000;
+/// What is asked for where no word is.
+const JOINED: Request<'static> = Request {
+    rules: 1_000_000,
+    main: "main",
+    is_strict: false,
+    has_stats: false,
+    explains: false,
+    texts: Texts::Joined,
+};
 
-const BOTH: Texts<'static> = Texts::Both("a.str", "b.trm");
+/// The same over these two files.
+const BOTH: Request<'static> = Request {
+    texts: Texts::Both("a.str", "b.trm"),
+    ..JOINED
+};
 
-/// Words, and what they ask for: the budget, the strategy, whether the mode is strict, whether numbers of the run are told, and the texts.
-const REQUESTS: &[(&str, u32, &str, bool, bool, Texts<'static>)] = &[
-    ("strc", RULES, "main", false, false, Texts::Joined),
+/// Words, and what they ask for.
+const REQUESTS: &[(&str, Request<'static>)] = &[
+    ("strc", JOINED),
     (
         "strc a.str",
-        RULES,
-        "main",
-        false,
-        false,
-        Texts::Definitions("a.str"),
+        Request {
+            texts: Texts::Definitions("a.str"),
+            ..JOINED
+        },
     ),
-    ("strc a.str b.trm", RULES, "main", false, false, BOTH),
-    (
-        "strc --main go a.str b.trm",
-        RULES,
-        "go",
-        false,
-        false,
-        BOTH,
-    ),
-    (
-        "strc a.str --main=go b.trm",
-        RULES,
-        "go",
-        false,
-        false,
-        BOTH,
-    ),
-    ("strc --main  a.str b.trm", RULES, "", false, false, BOTH),
-    ("strc --main= a.str b.trm", RULES, "", false, false, BOTH),
+    ("strc a.str b.trm", BOTH),
+    ("strc --main go a.str b.trm", Request { main: "go", ..BOTH }),
+    ("strc a.str --main=go b.trm", Request { main: "go", ..BOTH }),
+    ("strc --main  a.str b.trm", Request { main: "", ..BOTH }),
+    ("strc --main= a.str b.trm", Request { main: "", ..BOTH }),
     (
         "strc --main -x- a.str b.trm",
-        RULES,
-        "-x-",
-        false,
-        false,
-        BOTH,
+        Request {
+            main: "-x-",
+            ..BOTH
+        },
     ),
     (
         "strc --main --strict a.str b.trm",
-        RULES,
-        "--strict",
-        false,
-        false,
-        BOTH,
+        Request {
+            main: "--strict",
+            ..BOTH
+        },
     ),
     (
         "strc -- -a --strict",
-        RULES,
-        "main",
-        false,
-        false,
-        Texts::Both("-a", "--strict"),
+        Request {
+            texts: Texts::Both("-a", "--strict"),
+            ..JOINED
+        },
     ),
     (
         "strc -",
-        RULES,
-        "main",
-        false,
-        false,
-        Texts::Definitions("-"),
+        Request {
+            texts: Texts::Definitions("-"),
+            ..JOINED
+        },
     ),
-    ("strc --rules 0", 0, "main", false, false, Texts::Joined),
-    (
-        "strc --rules=1000000",
-        RULES,
-        "main",
-        false,
-        false,
-        Texts::Joined,
-    ),
+    ("strc --rules 0", Request { rules: 0, ..JOINED }),
+    ("strc --rules=1000000", JOINED),
     (
         "strc --rules 1000000000",
-        1_000_000_000,
-        "main",
-        false,
-        false,
-        Texts::Joined,
+        Request {
+            rules: 1_000_000_000,
+            ..JOINED
+        },
     ),
-    ("strc --rules 0007", 7, "main", false, false, Texts::Joined),
-    ("strc --stats a.str b.trm", RULES, "main", false, true, BOTH),
+    ("strc --rules 0007", Request { rules: 7, ..JOINED }),
+    (
+        "strc --stats a.str b.trm",
+        Request {
+            has_stats: true,
+            ..BOTH
+        },
+    ),
+    (
+        "strc --explain a.str b.trm",
+        Request {
+            explains: true,
+            ..BOTH
+        },
+    ),
+    (
+        "strc --explain --stats",
+        Request {
+            has_stats: true,
+            explains: true,
+            ..JOINED
+        },
+    ),
     (
         "strc --strict --rules 5 a.str b.trm",
-        5,
-        "main",
-        true,
-        false,
-        BOTH,
+        Request {
+            rules: 5,
+            is_strict: true,
+            ..BOTH
+        },
     ),
 ];
 
@@ -112,15 +117,8 @@ fn ask_for(alloc: Global, line: &str, wanted: &Request<'_>) -> Result<bool, Fail
 
 #[test]
 fn requests(rt: HostRuntime) -> Result<(), Fail> {
-    for (line, rules, main, is_strict, has_stats, texts) in REQUESTS {
-        let wanted = Request {
-            rules: *rules,
-            main,
-            is_strict: *is_strict,
-            has_stats: *has_stats,
-            texts: *texts,
-        };
-        if !ask_for(rt.alloc(), line, &wanted)? {
+    for (line, wanted) in REQUESTS {
+        if !ask_for(rt.alloc(), line, wanted)? {
             return Err(Fail::new(line));
         }
     }

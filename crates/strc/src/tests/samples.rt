@@ -183,24 +183,28 @@ pub(super) fn run_over(
     requires write { IfSome bad_write (λ n. 1 ≤ n) }
     requires diagnostic { IfSome bad_diagnostic (λ n. 1 ≤ n) }
 {
-    let words = Ok(words_of(alloc, line)?);
     let mut input = input;
     let mut out = Faulty::writer(alloc, 4096, 3, bad_write, false)?;
     let mut diagnostics = Faulty::writer(alloc, 4096, 3, bad_diagnostic, false)?;
-    let mut paths = Shelf::new(alloc);
-    let status = run_standard(
-        alloc,
-        &words,
-        &mut paths,
-        &mut input,
-        &mut out,
-        &mut diagnostics,
-    );
+    let status = run_with(alloc, line, &mut input, &mut out, &mut diagnostics)?;
     Ok(Ran {
         status,
         out,
         diagnostics,
     })
+}
+
+/// Runs the program with these words over these devices, and returns its status.
+pub(super) fn run_with<I: Source, W: Sink>(
+    alloc: Global,
+    line: &str,
+    input: &mut I,
+    out: &mut W,
+    diagnostics: &mut Faulty,
+) -> Result<u8, AllocError> {
+    let words = Ok(words_of(alloc, line)?);
+    let mut paths = Shelf::new(alloc);
+    Ok(run_standard(alloc, &words, &mut paths, input, out, diagnostics))
 }
 
 /// Runs the program with these words and this standard input, and returns whether its report begins so.

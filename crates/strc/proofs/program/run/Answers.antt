@@ -14,7 +14,7 @@ returns-clause-plain_ended g c = λ alone below.
       ended.1,
       ended.2,
       ended.3,
-      plain_report c.in-Ok.request.has_stats ended.0 _ _ _ _ plain.quiet ended.4,
+      plain_report c.in-Ok.request.has_stats c.in-Ok.request.explains ended.0 _ _ _ _ plain.quiet plain.unexplained ended.4,
     )
 
 pub returns-clause-plain_begun : goal.returns-clause-plain_begun

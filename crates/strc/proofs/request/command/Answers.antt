@@ -7,5 +7,6 @@ returns c =
     let two = added c.in_ok-command.command c.in_ok-command-2.command c.main_name.result one c.main_name.ensures c.in_ok-command-2.ensures in
     let three = added c.in_ok-command-2.command c.in_ok-command-3.command c.strict.result two c.strict.ensures c.in_ok-command-3.ensures in
     let four = added c.in_ok-command-3.command c.in_ok-command-4.command c.stats.result three c.stats.ensures c.in_ok-command-4.ensures in
-    let five = added c.in_ok-command-4.command c.in_ok-command-5.command c.definitions.result four c.definitions.ensures c.in_ok-command-5.ensures in
-    added c.in_ok-command-5.command c.in_ok-arg.field-0 c.term.result five c.term.ensures c.in_ok-arg.ensures
+    let five = added c.in_ok-command-4.command c.in_ok-command-5.command c.explain.result four c.explain.ensures c.in_ok-command-5.ensures in
+    let six = added c.in_ok-command-5.command c.in_ok-command-6.command c.definitions.result five c.definitions.ensures c.in_ok-command-6.ensures in
+    added c.in_ok-command-6.command c.in_ok-arg.field-0 c.term.result six c.term.ensures c.in_ok-arg.ensures
