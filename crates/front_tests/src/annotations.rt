@@ -3,6 +3,7 @@ use crate::checks::is_refused_so;
 use crate::front::{core_of, read};
 use crate::mutations::levels::push_times;
 use crate::mutations::readings::{Reading, parsed};
+use crate::same::same_definitions;
 use core_lang::Core;
 use std::alloc::Global;
 use std::test::Fail;
@@ -280,7 +281,7 @@ fn core_of_main(alloc: Global, strategy: &str) -> Result<Core, Fail> {
 fn have_one_core(alloc: Global, left: &str, right: &str) -> Result<bool, Fail> {
     let left = core_of_main(alloc, left)?;
     let right = core_of_main(alloc, right)?;
-    Ok(left.defs() == right.defs())
+    Ok(same_definitions(left.defs(), right.defs()))
 }
 
 #[test]

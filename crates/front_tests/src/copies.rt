@@ -1,5 +1,6 @@
 // Copies of files with every form have the core programs of their sources.
 use crate::front::{core_of, read};
+use crate::same::same_definitions;
 use std::alloc::Global;
 use std::test::Fail;
 
@@ -33,7 +34,7 @@ fn copy_has_core(alloc: Global, text: &str) -> Result<bool, Fail> {
     let file = read(alloc, text)?;
     let copy = core_of(alloc, file.copy(alloc)?)?;
     let source = core_of(alloc, file)?;
-    Ok(copy.defs() == source.defs())
+    Ok(same_definitions(copy.defs(), source.defs()))
 }
 
 #[test]

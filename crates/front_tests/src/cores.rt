@@ -1,6 +1,9 @@
 // The core programs of small files with ample memory; what is expected was worked out by hand.
 use crate::front::{core_of, read};
-use core_lang::{Coordinate, Core, CoreArm, CoreDef, CorePattern, CoreStrategy};
+use crate::same::same_definitions;
+use core_lang::{
+    CallTarget, Coordinate, Core, CoreArm, CoreDef, CorePattern, CoreStrategy, SourcePattern,
+};
 use std::alloc::Global;
 use std::test::Fail;
 
@@ -21,14 +24,22 @@ fn at(layers_up: usize, slot: usize) -> Coordinate {
     Coordinate { layers_up, slot }
 }
 
+// The first variable of the innermost layer.
+fn variable() -> SourcePattern {
+    SourcePattern::new(CorePattern::Variable(at(0, 0)), None)
+}
+
 fn expected(alloc: Global, made: &Made) -> Result<CoreStrategy, Fail> {
     match made {
         Made::Id => Ok(CoreStrategy::Id),
         Made::Fail => Ok(CoreStrategy::Fail),
-        Made::Call(slot) => Ok(CoreStrategy::Call(at(1, *slot), Vec::new(alloc), Vec::new(alloc))),
+        Made::Call(slot) => {
+            let target = CallTarget::new(at(1, *slot), None);
+            Ok(CoreStrategy::Call(target, Vec::new(alloc), Vec::new(alloc)))
+        }
         Made::Keep => {
-            let first = Box::new(alloc, CoreStrategy::Match(CorePattern::Variable(at(0, 0))))?;
-            let last = Box::new(alloc, CoreStrategy::Build(CorePattern::Variable(at(0, 0))))?;
+            let first = Box::new(alloc, CoreStrategy::Match(variable()))?;
+            let last = Box::new(alloc, CoreStrategy::Build(variable()))?;
             let body = CoreStrategy::Sequence(first, last, Vec::new(alloc));
             Ok(CoreStrategy::Scope(1, Box::new(alloc, body)?))
         }
@@ -73,7 +84,7 @@ fn is_core(
     for (first, second) in definitions {
         all.push(expected_definition(alloc, first, second)?)?;
     }
-    Ok(core.defs() == all.as_slice() && core.main() == main)
+    Ok(same_definitions(core.defs(), all.as_slice()) && core.main() == main)
 }
 
 // Definitions; the alternatives of each definition that they become, and the position of main among them.

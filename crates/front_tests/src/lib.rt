@@ -21,6 +21,10 @@ mod library;
 #[cfg(test)]
 mod mutations;
 #[cfg(test)]
+mod offsets;
+#[cfg(test)]
+mod same;
+#[cfg(test)]
 mod tokens;
 #[cfg(test)]
 mod trees;

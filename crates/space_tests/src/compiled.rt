@@ -6,7 +6,7 @@ ghost use Rattle.strat_code.specs.Code.{call_definition, match_term};
 ghost use Rattle.strat_code.specs.CodeOf.{argument_of, code_of, instr_of};
 ghost use Rattle.strat_code.specs.Worked.{match_of_small, small_code};
 
-use core_lang::{Coordinate, Core, CoreDef, CorePattern, CoreStrategy};
+use core_lang::{CallTarget, Coordinate, Core, CoreDef, CorePattern, CoreStrategy, SourcePattern};
 use std::alloc::{AllocError, Global};
 use std::test::Fail;
 use strat_code::{Argument, Code, Instr, small_code_stands};
@@ -33,13 +33,16 @@ fn f_of_x(alloc: Global) -> Result<CorePattern, AllocError>
 
 // A call without term arguments.
 fn call(alloc: Global, at: Coordinate, strategies: Vec<CoreStrategy>) -> CoreStrategy {
-    CoreStrategy::Call(at, strategies, Vec::new(alloc))
+    CoreStrategy::Call(CallTarget::new(at, None), strategies, Vec::new(alloc))
 }
 
 // {x: ?F(x); !x; s}
 fn body_of_f(alloc: Global) -> Result<CoreStrategy, AllocError> {
-    let matching = Box::new(alloc, CoreStrategy::Match(f_of_x(alloc)?))?;
-    let building = CoreStrategy::Build(CorePattern::Variable(HERE));
+    let matching = Box::new(
+        alloc,
+        CoreStrategy::Match(SourcePattern::new(f_of_x(alloc)?, None)),
+    )?;
+    let building = CoreStrategy::Build(SourcePattern::new(CorePattern::Variable(HERE), None));
     let building = Box::new(alloc, building)?;
     let rest = vec![in alloc; call(alloc, ONE_LAYER_UP, Vec::new(alloc))]?;
     let sequence = CoreStrategy::Sequence(matching, building, rest);
@@ -173,7 +176,12 @@ fn code_of_a_small_program(rt: HostRuntime) -> Result<(), Fail> {
 fn code_of_instructions(rt: HostRuntime) -> Result<(), Fail> {
     small_code_stands();
     let alloc = rt.alloc();
-    let code = Code::new(small_instrs(alloc)?, Vec::new(alloc), PrimNames::new(alloc));
+    let code = Code::new(
+        small_instrs(alloc)?,
+        Vec::new(alloc),
+        PrimNames::new(alloc),
+        Vec::new(alloc),
+    );
     if code.len() != 10 || !code.prims().is_empty() {
         return Err(Fail::new("the code of ten instructions has no primitives"));
     }

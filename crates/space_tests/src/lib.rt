@@ -4,6 +4,8 @@
 #![tactic(auto)]
 
 #[cfg(test)]
+mod accounts;
+#[cfg(test)]
 mod bare_terms;
 #[cfg(test)]
 mod compiled;

@@ -32,7 +32,11 @@ fn checked(alloc: Global, definitions: &[u8], primitives: &PrimNames) -> Result<
 }
 
 // Their core.
-fn core_of(alloc: Global, definitions: &[u8], primitives: &PrimNames) -> Result<Core, Fault> {
+pub(crate) fn core_of(
+    alloc: Global,
+    definitions: &[u8],
+    primitives: &PrimNames,
+) -> Result<Core, Fault> {
     let checked = checked(alloc, definitions, primitives)?;
     Ok(to_core(alloc, &checked)?)
 }
