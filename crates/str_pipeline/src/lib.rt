@@ -43,4 +43,4 @@ pub use sink::{Sink, write_all};
 pub use source::{Source, read_all};
 pub use status::{Options, Status};
 pub use term_gap::TermExpected;
-pub use term_store::Refused;
+pub use term_store::OversizeTerm;

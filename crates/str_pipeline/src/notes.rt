@@ -10,7 +10,7 @@ use scope_check::Notes;
 use str_parser::Expected;
 use term_model::Fault;
 use term_model::bytes::{is_blank_byte, is_digit_byte};
-use term_store::Refused;
+use term_store::OversizeTerm;
 
 /// One of the two texts that a transformation reads.
 #[derive(Clone, Copy, Debug, PartialEq, Eq)]
@@ -37,7 +37,7 @@ pub struct RunNotes {
     lines_before_term: usize,
     has_term_line: bool,
     used: Option<Used>,
-    refused: Option<Refused>,
+    oversize: Option<OversizeTerm>,
     wants_explanation: bool,
     // The texts of a run that may have to be explained.
     definitions: Option<Vec<u8>>,
@@ -73,7 +73,7 @@ impl RunNotes {
             lines_before_term: 0,
             has_term_line: true,
             used: None,
-            refused: None,
+            oversize: None,
             wants_explanation: false,
             definitions: None,
             term: None,
@@ -126,8 +126,8 @@ impl RunNotes {
     }
 
     /// The size of the term that did not fit, where a run came to one and its size is known.
-    pub fn refused(&self) -> Option<&Refused> {
-        self.refused.as_ref()
+    pub fn oversize_term(&self) -> Option<&OversizeTerm> {
+        self.oversize.as_ref()
     }
 
     /// Why the run has no result, where that was asked for, and memory for the explanation was there.
@@ -136,8 +136,8 @@ impl RunNotes {
     }
 
     // Notes the size of a term that did not fit.
-    pub(crate) fn note_refused(&mut self, refused: Option<Refused>) {
-        self.refused = refused;
+    pub(crate) fn note_oversize(&mut self, size: Option<OversizeTerm>) {
+        self.oversize = size;
     }
 
     // Keeps the text of the definitions, if a run is to be explained.

@@ -12,13 +12,13 @@ use std::alloc::{AllocError, Global};
 use strat_code::Code;
 use strat_machine::Machine;
 use term_model::{Fault, TermSpace};
-use term_store::{Refused, StoreSpace};
+use term_store::{OversizeTerm, StoreSpace};
 
 /// A space that knows how many shapes of terms it holds, and the size of the last term that did not fit.
 pub(crate) trait Holds {
     fn shapes(&self) -> usize;
 
-    fn last_refused(&self) -> Option<Refused>;
+    fn oversize_term(&self) -> Option<OversizeTerm>;
 }
 
 impl Holds for StoreSpace {
@@ -26,8 +26,8 @@ impl Holds for StoreSpace {
         self.len()
     }
 
-    fn last_refused(&self) -> Option<Refused> {
-        self.refused()
+    fn oversize_term(&self) -> Option<OversizeTerm> {
+        self.oversize_term()
     }
 }
 
@@ -57,7 +57,7 @@ pub(crate) fn run_code<S: TermSpace + Holds + Drop, M: PrimMeaning>(
         shapes: machine.space().shapes(),
     });
     if let Outcome::Oversize = run.outcome {
-        notes.note_refused(machine.space().last_refused());
+        notes.note_oversize(machine.space().oversize_term());
     }
     let outcome = in_text(alloc, machine.space(), &run.outcome)?;
     Ok(outcome)

@@ -5,7 +5,7 @@ ghost use Rattle.strc.specs.Report.{IsReportedWith, TellsIfAsked, TellsText};
 use crate::report::{Reporting, report_numbers, report_refusal};
 use itoa::Buffer;
 use std::alloc::Global;
-use str_pipeline::{Position, Refused, Remark, RunNotes, Sink, Status, write_all};
+use str_pipeline::{OversizeTerm, Position, Remark, RunNotes, Sink, Status, write_all};
 use term_model::Fault;
 use term_model::term::{MAX_DEPTH, MAX_WEIGHT};
 
@@ -51,8 +51,8 @@ struct Excess {
 
 /// Returns the size of a term that did not fit which is reported: its depth where that is too great, and else its weight. Where the weight is
 /// too great, not all parts of the term may have been added up, so that it has at least these sizes.
-fn excess_of(refused: &Refused) -> Excess {
-    let Refused { weight, depth } = *refused;
+fn excess_of(size: &OversizeTerm) -> Excess {
+    let OversizeTerm { weight, depth } = *size;
     if depth <= MAX_DEPTH {
         return Excess {
             measure: "weight at least",
@@ -69,10 +69,10 @@ fn excess_of(refused: &Refused) -> Excess {
 }
 
 /// Writes how large a term was that did not fit.
-pub(crate) fn write_excess<E: Sink>(refused: &Refused, diagnostics: &mut E) -> Result<(), Fault>
+pub(crate) fn write_excess<E: Sink>(size: &OversizeTerm, diagnostics: &mut E) -> Result<(), Fault>
     ensures { TellsText (E.written diagnostics.old) (E.written diagnostics.new) }
 {
-    let excess = excess_of(refused);
+    let excess = excess_of(size);
     let (mut size_digits, mut most_digits) = (Buffer::new(), Buffer::new());
     let pieces = [
         b"strc: a term of ".as_slice(),
@@ -90,8 +90,8 @@ pub(crate) fn write_excess<E: Sink>(refused: &Refused, diagnostics: &mut E) -> R
 fn write_oversize<E: Sink>(notes: &RunNotes, diagnostics: &mut E) -> Result<(), Fault>
     ensures { TellsText (E.written diagnostics.old) (E.written diagnostics.new) }
 {
-    match notes.refused() {
-        Some(refused) => write_excess(refused, diagnostics),
+    match notes.oversize_term() {
+        Some(size) => write_excess(size, diagnostics),
         None => Ok(()),
     }
 }

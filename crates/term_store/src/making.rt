@@ -30,7 +30,7 @@ impl StoreSpace {
         let weight = 1 + (bare.weight + annos.weight);
         let depth = 1 + bare.depth.max(annos.depth);
         if weight > MAX_WEIGHT || depth > MAX_DEPTH {
-            self.refused.set(weight, depth);
+            self.oversize.set(weight, depth);
             return Ok(Made::Oversize);
         }
         let chains = self.chains.len();
@@ -64,7 +64,7 @@ impl StoreSpace {
     {
         let size = self.size_in(block);
         if size.weight > MAX_WEIGHT {
-            self.refused.set(1 + size.weight, 1 + size.depth);
+            self.oversize.set(1 + size.weight, 1 + size.depth);
             return Ok(None);
         }
         let length = self.len_in(block) as u32;

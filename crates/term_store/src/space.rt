@@ -5,7 +5,7 @@ ghost use Rattle.term_model.specs.Space.{Keeps, Makes, MayHave};
 ghost use Rattle.term_store.specs.Space as stored;
 
 use crate::chains::Chains;
-use crate::refused::{LastRefused, Refused};
+use crate::oversize::{LastOversize, OversizeTerm};
 use crate::store::StoreSpace;
 use crate::stored::{StoredHead, StoredShape};
 use indexmap::IndexSet;
@@ -26,7 +26,7 @@ impl StoreSpace {
             shapes: IndexSet::with_hasher(alloc, hasher),
             extents: Vec::new(alloc),
             spans: Vec::new(alloc),
-            refused: LastRefused::new(),
+            oversize: LastOversize::new(),
         }
     }
 
@@ -38,8 +38,8 @@ impl StoreSpace {
     }
 
     /// The size of the last term that did not fit, if there was one. Going back leaves it. No contract speaks of it.
-    pub fn refused(&self) -> Option<Refused> {
-        self.refused.get()
+    pub fn oversize_term(&self) -> Option<OversizeTerm> {
+        self.oversize.get()
     }
 }
 

@@ -3,7 +3,7 @@ ghost use Rattle.std.specs.Prelude.{◌≤◌, length};
 ghost use Rattle.term_store.specs.Store.{IsStore};
 
 use crate::chains::Chains;
-use crate::refused::LastRefused;
+use crate::oversize::LastOversize;
 use crate::stored::{Extent, Span, StoredShape};
 use indexmap::IndexSet;
 use term_model::Sym;
@@ -21,7 +21,7 @@ pub struct StoreSpace {
     pub(crate) extents: Vec<Extent>,
     // The span of each chain but the empty one.
     pub(crate) spans: Vec<Span>,
-    pub(crate) refused: LastRefused,
+    pub(crate) oversize: LastOversize,
     ghost store: { IsStore symbols.keys chains shapes.keys extents.items spans.items },
     ghost within: { named ≤ length symbols.keys },
 }

@@ -5,7 +5,7 @@ use crate::ending::{write_excess, write_remark};
 use crate::tests::samples::{Ran, run_on};
 use std::alloc::{AllocError, Global};
 use std::test::Fail;
-use str_pipeline::{Faulty, Position, Refused, Remark};
+use str_pipeline::{Faulty, OversizeTerm, Position, Remark};
 
 /// The weight and the depth of a term that did not fit, and the line that reports it.
 const EXCESSES: &[(u32, u32, &str)] = &[
@@ -34,7 +34,7 @@ fn is_line_of_excess(
     line: &str,
 ) -> Result<bool, AllocError> {
     let mut diagnostics = Faulty::writer(alloc, 200, 7, None, false)?;
-    let written = write_excess(&Refused { weight, depth }, &mut diagnostics);
+    let written = write_excess(&OversizeTerm { weight, depth }, &mut diagnostics);
     Ok(written.is_ok() && diagnostics.written() == line.as_bytes())
 }
 

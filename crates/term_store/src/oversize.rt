@@ -4,7 +4,7 @@ use std::marker::Model;
 /// The size of a term that did not fit, counted as `Term::weight` and `Term::depth` count. If the depth alone is too great,
 /// both numbers are exact. If the weight is too great, each is a lower bound, since some parts may not have been added up.
 #[derive(Clone, Copy, Debug, PartialEq, Eq)]
-pub struct Refused {
+pub struct OversizeTerm {
     /// The weight, in nodes and bytes of symbols.
     pub weight: u32,
     /// The depth, in levels.
@@ -13,11 +13,11 @@ pub struct Refused {
 
 // The size of the last term that did not fit, if there was one. Contracts see nothing of it.
 #[derive(Drop)]
-pub(crate) struct LastRefused {
-    size: Option<Refused>,
+pub(crate) struct LastOversize {
+    size: Option<OversizeTerm>,
 }
 
-impl Model for LastRefused {
+impl Model for LastOversize {
     ghost use Rattle.std.specs.Prelude.{⊤};
 
     ghost Value = { ⊤ };
@@ -25,20 +25,20 @@ impl Model for LastRefused {
     ghost view = { λ _. tt };
 }
 
-impl LastRefused {
-    // No size, as long as no term was refused.
-    pub(crate) fn new() -> LastRefused {
-        LastRefused { size: None }
+impl LastOversize {
+    // No size, as long as each term fitted.
+    pub(crate) fn new() -> LastOversize {
+        LastOversize { size: None }
     }
 
     // The size that was kept last, if there is one.
-    pub(crate) fn get(&self) -> Option<Refused> {
+    pub(crate) fn get(&self) -> Option<OversizeTerm> {
         self.size
     }
 
     // Keeps the size of a term that does not fit.
     #[cold]
     pub(crate) fn set(&mut self, weight: u32, depth: u32) {
-        self.size = Some(Refused { weight, depth });
+        self.size = Some(OversizeTerm { weight, depth });
     }
 }
