@@ -22,10 +22,15 @@ pub(crate) struct Notes {
     pub(crate) rules: Vec<u64>,
     /// How many steps came before that of the last instruction.
     pub(crate) before_last: u64,
-    /// How many steps came before that of the deepest instruction that failed, of those since a call last returned.
+    /// How many steps came before that of the deepest instruction that failed, of those since a call last returned. Of several at the same
+    /// depth it is the last one behind a match and, if none is behind a match, the last one.
     pub(crate) before_deepest: u64,
     // How many frames there were then.
     depth: usize,
+    // Whether that instruction was behind a match.
+    is_behind_match: bool,
+    // Whether a match has succeeded, or a call has returned, since the last failure or the beginning of the last call.
+    has_matched: bool,
 }
 
 /// The step of an instruction.
@@ -45,6 +50,10 @@ struct Step {
 #[derive(Clone, Copy, Debug, PartialEq, Eq)]
 enum Effect {
     Failed,
+    /// A match has succeeded.
+    Matched,
+    /// A call of a definition or of an argument has begun.
+    Called,
     /// A call of a definition or of an argument has returned.
     Returned,
     Other,
@@ -62,6 +71,8 @@ impl Notes {
             before_last: 0,
             before_deepest: 0,
             depth: 0,
+            is_behind_match: false,
+            has_matched: false,
         })
     }
 
@@ -73,17 +84,29 @@ impl Notes {
         }
         match step.effect {
             Effect::Failed => self.note_failure(step),
-            Effect::Returned => self.depth = 0,
+            Effect::Matched => self.has_matched = true,
+            Effect::Called => self.has_matched = false,
+            Effect::Returned => self.note_return(),
             Effect::Other => {}
         }
     }
 
-    // Notes a failure, if none since a call last returned is deeper.
+    // Notes a failure, if none since a call last returned is deeper, or as deep and behind a match where this one is not.
     fn note_failure(&mut self, step: Step) {
-        if step.depth >= self.depth {
+        let is_as_deep = step.depth == self.depth && (self.has_matched || !self.is_behind_match);
+        if step.depth > self.depth || is_as_deep {
             self.depth = step.depth;
+            self.is_behind_match = self.has_matched;
             self.before_deepest = step.steps;
         }
+        self.has_matched = false;
+    }
+
+    // Notes that a call has returned: what failed in it was caught.
+    fn note_return(&mut self) {
+        self.depth = 0;
+        self.is_behind_match = false;
+        self.has_matched = true;
     }
 }
 
@@ -159,6 +182,8 @@ fn effect_of<R: Drop>(code: &Code, address: usize, phase: &Phase<R>) -> Effect {
     match phase {
         Phase::Failing => Effect::Failed,
         Phase::Running { .. } => match code.instrs().get(address) {
+            Some(Instr::Match { .. }) => Effect::Matched,
+            Some(Instr::CallDefinition { .. } | Instr::CallClosure { .. }) => Effect::Called,
             Some(Instr::EndDefinition | Instr::EndArgument) => Effect::Returned,
             _ => Effect::Other,
         },
