@@ -81,8 +81,8 @@ fn step<'t>(
     ensures { IfOk result (λ found. found ≡ found_in_step (known_of known.now) (layers_of layers.now) (step_of tree.now)) }
 {
     match tree {
-        Step::Plain(s) => primary(alloc, known, layers, s, notes),
-        Step::Matching(s, p) => {
+        Step::Plain(_, s) => primary(alloc, known, layers, s, notes),
+        Step::Matching(_, s, _, p) => {
             let first = primary(alloc, known, layers, s, notes)?;
             let second = pattern(alloc, known, layers, Side::Match, p, notes)?;
             Ok(first.or(second))

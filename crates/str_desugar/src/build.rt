@@ -12,7 +12,7 @@ ghost use Rattle.signature_core.specs.Signature.{arity_known};
 
 use crate::built::{applications, built};
 use crate::items::{build_after, put_result, put_result_of};
-use crate::offsets::offset_of;
+use crate::offsets::{offset_of, place_before};
 use crate::parts::successor;
 use crate::scopes::Scopes;
 use crate::strategy::{Context, strategy};
@@ -107,7 +107,8 @@ fn results_of(
             put_result(scopes, only, next, items)
         }
         Pattern::AppliedTo(inner, part) => {
-            let first = build(context, part, scopes, symbols)?;
+            let there = context.at(place_before(inner));
+            let first = build(&there, part, scopes, symbols)?;
             let second = strategy(context, inner, scopes, symbols)?;
             put_result_of(scopes, first, second, next, items)
         }

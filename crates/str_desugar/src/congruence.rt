@@ -147,7 +147,7 @@ pub(crate) fn elements_congruence(
     let alloc = context.alloc;
     let count = number_of(sources);
     if count == 0 {
-        let only = match_no_elements(alloc, context.head)?;
+        let only = match_no_elements(alloc, context.place)?;
         return Ok(only);
     }
     let names = names_of_congruence(count)?;
@@ -156,7 +156,7 @@ pub(crate) fn elements_congruence(
         outer: &*scopes,
     };
     let items = items_of(context, sources, count, &inner, symbols)?;
-    let made = of_elements(alloc, context.head, &inner, count, items)?;
+    let made = of_elements(alloc, context.place, &inner, count, items)?;
     Ok(made)
 }
 
@@ -202,7 +202,7 @@ pub(crate) fn rest_congruence(
     };
     let last = strategy(context, source, &inner, symbols)?;
     put_part(&inner, count, elements, last, &mut items)?;
-    let made = of_rest(context.alloc, context.head, &inner, elements, count, items)?;
+    let made = of_rest(context.alloc, context.place, &inner, elements, count, items)?;
     Ok(made)
 }
 

@@ -1,10 +1,25 @@
 // Where patterns stand in the definition file.
 use crate::strategy::Context;
-use str_syntax::Pattern;
+use str_syntax::{Pattern, Sequence, Step, Strategy};
 
-/// Where the pattern stands: at the first name or `_` in it, or else at the head of the rule or definition around it.
+/// Where the pattern stands: at the first name or `_` in it, or else at the place of the context.
 pub(crate) fn offset_of(context: &Context, source: &Pattern) -> Option<u64> {
-    first_offset(source).or(Some(context.head))
+    first_offset(source).or(Some(context.place))
+}
+
+/// The byte before the strategy: in an application `<s> p` the `<`, or a blank after it.
+pub(crate) fn place_before(source: &Strategy) -> u64 {
+    let all = match source {
+        Strategy::Sequence(all)
+        | Strategy::LeftChoice(all, _)
+        | Strategy::GuardedChoice(all, _, _) => all,
+    };
+    let first = match all {
+        Sequence::Last(first) | Sequence::Then(first, _) => first,
+    };
+    match first {
+        Step::Plain(at, _) | Step::Matching(at, _, _, _) => at.saturating_sub(1),
+    }
 }
 
 // Where the first name or `_` in the pattern stands. A `<..>` in a build is passed over, since what it applies has offsets of its own.

@@ -66,7 +66,7 @@ fn core_among<'a>(
     let context = Context {
         alloc,
         signature: checked.signature(),
-        head: 0,
+        place: 0,
     };
     let keys = groups.keys(alloc)?;
     let found = plain_position(alloc, &keys, checked.main())?;
@@ -139,7 +139,7 @@ fn alternative<'a>(
     let strategies = names_in(context.alloc, strategy_names(&first.parameters))?;
     let terms = term_names(&first.parameters);
     let inner = Context {
-        head: head_of(form).name.offset(),
+        place: head_of(form).name.offset(),
         ..*context
     };
     let made = under_parameters(&inner, form, &strategies, terms, scopes, symbols)?;

@@ -39,8 +39,17 @@ use term_model::Sym;
 pub(crate) struct Context<'a> {
     pub(crate) alloc: Global,
     pub(crate) signature: &'a Signature,
-    /// The byte of the file at which the name of the rule or definition stands.
-    pub(crate) head: u64,
+    /// The byte of the file at which the step or pattern begins or, of a rule at the top of the file, its name.
+    pub(crate) place: u64,
+}
+
+impl<'a> Context<'a> {
+    /// The same for what begins at this byte.
+    pub(crate) fn at(&self, place: u64) -> Context<'a>
+        ensures { result.signature ≡ self.now.signature }
+    {
+        Context { place, ..*self }
+    }
 }
 
 /// The core of a strategy.
@@ -100,10 +109,10 @@ fn step(
     ensures { IfOk result (λ made. views.strategy_of made.value ≡ strategy_at (layers_of scopes.now) (step_core (arity_known context.now.signature.now) (step_of source.now))) }
 {
     match source {
-        Step::Plain(only) => primary(context, only, scopes, symbols),
-        Step::Matching(first, pattern) => {
-            let first = primary(context, first, scopes, symbols)?;
-            let second = match_of(context, pattern, scopes, symbols)?;
+        Step::Plain(at, only) => primary(&context.at(*at), only, scopes, symbols),
+        Step::Matching(at, first, there, pattern) => {
+            let first = primary(&context.at(*at), first, scopes, symbols)?;
+            let second = match_of(&context.at(*there), pattern, scopes, symbols)?;
             seq(context.alloc, first, second)
         }
     }
@@ -155,7 +164,7 @@ fn primary(
             choice(context.alloc, guard, then, otherwise)
         }
         Primary::TupleCongruence(parts) => {
-            symbol_congruence(context, context.head, Sym::tuple(), parts, scopes, symbols)
+            symbol_congruence(context, context.place, Sym::tuple(), parts, scopes, symbols)
         }
         Primary::ListCongruence(elements, rest) => match rest {
             None => elements_congruence(context, elements, scopes, symbols),

@@ -194,8 +194,8 @@ fn in_step(alloc: Global, source: &Step, bound: &Bound, found: &mut Names) -> Re
     ensures { OnOk result (found.new ≡ gathered (bound_names bound.now) found.old (free_in_step (step_of source.now))) }
 {
     match source {
-        Step::Plain(only) => in_primary(alloc, only, bound, found),
-        Step::Matching(first, pattern) => {
+        Step::Plain(_, only) => in_primary(alloc, only, bound, found),
+        Step::Matching(_, first, _, pattern) => {
             in_primary(alloc, first, bound, found)?;
             in_pattern(alloc, pattern, bound, found)
         }

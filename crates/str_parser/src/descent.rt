@@ -170,18 +170,21 @@ fn step<'a>(alloc: Global, input: Input<'a>, level: u32) -> Result<(Step, Input<
     requires { level ≤ max_level }
     ensures { IsReading (step level) (AtMost 2) step_of input.entry result }
 {
+    let at = input.at();
     let (first, rest) = primary(alloc, input, level)?;
     let Some(following) = rest.after(Mark::DoubleArrow) else {
-        return Ok((Step::Plain(first), rest));
+        return Ok((Step::Plain(at, first), rest));
     };
-    matching(alloc, first, following, level)
+    matching(alloc, at, first, following, level)
 }
 
-// Reads the step at this level of which the primary and `=>` stand before the tokens; also returns the tokens after it.
+// Reads the step at this level that begins at this byte and of which the primary and `=>` stand before the tokens; also returns the
+// tokens after it.
 #[cycle(phrase)]
 #[inline(never)]
 fn matching<'a>(
     alloc: Global,
+    at: u64,
     first: Box<Primary>,
     input: Input<'a>,
     level: u32,
@@ -189,8 +192,12 @@ fn matching<'a>(
     requires { level ≤ max_level }
     ensures { (ts : List L) → Found (primary level) (AtMost 3) ts (boxed_primary_of first) (mark M.DoubleArrow ∷ input.entry) → IsReading (step level) (AtMost 2) step_of ts result }
 {
+    let there = input.at();
     let (matched, rest) = pattern(alloc, input, true, level + 1)?;
-    Ok((Step::Matching(first, Box::new(alloc, matched)?), rest))
+    Ok((
+        Step::Matching(at, first, there, Box::new(alloc, matched)?),
+        rest,
+    ))
 }
 
 // Reads the primary at this level that the tokens begin with; also returns the tokens after it.

@@ -97,12 +97,12 @@ step_roll : (x : forms.Step-F Arguments Pattern Primary Sequence Step Strategy R
     step_of (roll-Step x) ≡ step_step (map-Step Arguments Pattern Primary Sequence Step Strategy Rule StrategyDefinition ArgumentTree PatternTree PrimaryTree SequenceTree StepTree StrategyTree RuleTree DefinitionTree arguments_of pattern_of primary_of sequence_of step_of strategy_of rule_of definition_of x)
 step_roll = fold-roll-Step ArgumentTree PatternTree PrimaryTree SequenceTree StepTree StrategyTree RuleTree DefinitionTree argument_step pattern_step primary_step sequence_step step_step strategy_step rule_step definition_step
 
-pub reads_plain_step : (s : Box Primary Global) → step_of (steps.Plain s) ≡ plain_step (primary_of s.value)
-reads_plain_step s = ap step_of (sym (steps.rolls-Plain s)) ∙ step_roll (forms.Plain s)
+pub reads_plain_step : (at : ℕ) (s : Box Primary Global) → step_of (steps.Plain at s) ≡ plain_step (primary_of s.value)
+reads_plain_step at s = ap step_of (sym (steps.rolls-Plain at s)) ∙ step_roll (forms.Plain at s)
 
-pub reads_matching : (s : Box Primary Global) (p : Box Pattern Global) →
-    step_of (steps.Matching s p) ≡ matching (primary_of s.value) (pattern_of p.value)
-reads_matching s p = ap step_of (sym (steps.rolls-Matching s p)) ∙ step_roll (forms.Matching s p)
+pub reads_matching : (at : ℕ) (s : Box Primary Global) (there : ℕ) (p : Box Pattern Global) →
+    step_of (steps.Matching at s there p) ≡ matching (primary_of s.value) (pattern_of p.value)
+reads_matching at s there p = ap step_of (sym (steps.rolls-Matching at s there p)) ∙ step_roll (forms.Matching at s there p)
 
 primary_roll : (x : forms.Primary-F Arguments Pattern Primary Sequence Step Strategy Rule StrategyDefinition) →
     primary_of (roll-Primary x) ≡ primary_step (map-Primary Arguments Pattern Primary Sequence Step Strategy Rule StrategyDefinition ArgumentTree PatternTree PrimaryTree SequenceTree StepTree StrategyTree RuleTree DefinitionTree arguments_of pattern_of primary_of sequence_of step_of strategy_of rule_of definition_of x)

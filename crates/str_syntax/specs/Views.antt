@@ -110,8 +110,8 @@ sequence_step (forms.Last s) = last s
 sequence_step (forms.Then s q) = then s q.value
 
 abbrev pub step_step : Step-F ArgumentTree PatternTree PrimaryTree SequenceTree StepTree StrategyTree RuleTree DefinitionTree → StepTree
-step_step (forms.Plain s) = plain_step s.value
-step_step (forms.Matching s p) = matching s.value p.value
+step_step (forms.Plain at s) = plain_step s.value
+step_step (forms.Matching at s there p) = matching s.value p.value
 
 abbrev pub strategy_step : Strategy-F ArgumentTree PatternTree PrimaryTree SequenceTree StepTree StrategyTree RuleTree DefinitionTree → StrategyTree
 strategy_step (forms.Sequence q) = plain_sequence q

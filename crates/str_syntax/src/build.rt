@@ -28,7 +28,7 @@ pub fn variable(alloc: Global, bytes: &[u8]) -> Result<Pattern, AllocError>
 pub fn step(alloc: Global, primary: Primary) -> Result<Step, AllocError>
     ensures { IfOk result (λ made. step_of made ≡ trees.plain_step (primary_of primary)) }
 {
-    Ok(Step::Plain(Box::new(alloc, primary)?))
+    Ok(Step::Plain(0, Box::new(alloc, primary)?))
 }
 
 /// Makes the sequence of this primary alone.

@@ -76,9 +76,10 @@ impl Step {
         ensures { IfOk result (λ made. step_of made ≡ step_of self.now) }
     {
         match self {
-            Step::Plain(s) => Ok(Step::Plain(boxed_primary(alloc, s)?)),
-            Step::Matching(s, p) => {
-                Ok(Step::Matching(boxed_primary(alloc, s)?, boxed_pattern(alloc, p)?))
+            Step::Plain(at, s) => Ok(Step::Plain(*at, boxed_primary(alloc, s)?)),
+            Step::Matching(at, s, there, p) => {
+                let first = boxed_primary(alloc, s)?;
+                Ok(Step::Matching(*at, first, *there, boxed_pattern(alloc, p)?))
             }
         }
     }

@@ -27,10 +27,10 @@ pub enum Sequence {
 #[cycle(syntax)]
 #[derive(Drop)]
 pub enum Step {
-    /// A strategy that no operator splits.
-    Plain(Box<Primary>),
-    /// `s => p`
-    Matching(Box<Primary>, Box<Pattern>),
+    /// A strategy that no operator splits, after the byte of the file at which it begins.
+    Plain(u64, Box<Primary>),
+    /// `s => p`, where each of the two comes after the byte of the file at which it begins.
+    Matching(u64, Box<Primary>, u64, Box<Pattern>),
 }
 
 /// The operators that have one strategy in parentheses.

@@ -19,7 +19,7 @@ const PARAMETER: &[u8] = b"s";
 pub(crate) fn alone(primary: Box<Primary>) -> Strategy
     ensures { strategy_of result ≡ forms.alone (primary_of primary.value) }
 {
-    Strategy::Sequence(Sequence::Last(Step::Plain(primary)))
+    Strategy::Sequence(Sequence::Last(Step::Plain(0, primary)))
 }
 
 /// Makes the strategy `first; second`.
@@ -30,8 +30,8 @@ pub(crate) fn sequence(
 ) -> Result<Strategy, AllocError>
     ensures { IfOk result (λ made. strategy_of made ≡ forms.◌⨟◌ (primary_of first.value) (primary_of second.value)) }
 {
-    let rest = Box::new(alloc, Sequence::Last(Step::Plain(second)))?;
-    Ok(Strategy::Sequence(Sequence::Then(Step::Plain(first), rest)))
+    let rest = Box::new(alloc, Sequence::Last(Step::Plain(0, second)))?;
+    Ok(Strategy::Sequence(Sequence::Then(Step::Plain(0, first), rest)))
 }
 
 /// Makes the strategy `first <+ second`.
@@ -43,7 +43,7 @@ pub(crate) fn left_choice(
     ensures { IfOk result (λ made. strategy_of made ≡ forms.◌<+◌ (primary_of first.value) (primary_of second.value)) }
 {
     let other = Box::new(alloc, alone(second))?;
-    Ok(Strategy::LeftChoice(Sequence::Last(Step::Plain(first)), other))
+    Ok(Strategy::LeftChoice(Sequence::Last(Step::Plain(0, first)), other))
 }
 
 /// Makes `id`.

@@ -133,7 +133,7 @@ pub in_step-returns-in_ok-in_primary-in-Matching : goal.in_step-returns-in_ok-in
 in_step-returns-in_ok-in_primary-in-Matching t c =
     then_ok c.in_pattern.result (bound_names c.args.bound.now) c.args.found.now c.in_primary-in-Matching.new.found c.in_pattern.new.found
     (free_in_step (step_of c.args.source.now)) (free_in_primary (primary_of c.in-Matching.first.value)) (names_of (pattern_of c.in-Matching.pattern.value))
-    (ap free_in_step (ap step_of c.in-Matching.is ∙ reads.reads_matching c.in-Matching.first c.in-Matching.pattern))
+    (ap free_in_step (ap step_of c.in-Matching.is ∙ reads.reads_matching _ c.in-Matching.first _ c.in-Matching.pattern))
     (rw c.deref-in-Matching.ensures at c.in_ok-in_primary-in-Matching.ensures) (rw c.deref-in-Matching-2.ensures at c.in_pattern.ensures)
 
 pub in_strategy-returns-in_ok-in_sequence-in-LeftChoice : goal.in_strategy-returns-in_ok-in_sequence-in-LeftChoice
