@@ -293,7 +293,7 @@ fn first_definition(file: &File) -> Option<&StrategyDefinition> {
 
 // The name of a call without arguments.
 fn called(step: &Step) -> Option<&Name> {
-    let Step::Plain(primary) = step else {
+    let Step::Plain(_, primary) = step else {
         return None;
     };
     match primary.as_ref() {

@@ -45,7 +45,7 @@ fn same_sequence(left: &Sequence, right: &Sequence) -> bool {
 #[cycle(compare)]
 fn same_step(left: &Step, right: &Step) -> bool {
     match (left, right) {
-        (Step::Plain(s), Step::Plain(t)) => same_primary(s, t),
+        (Step::Plain(_, s), Step::Plain(_, t)) => same_primary(s, t),
         _ => false,
     }
 }

@@ -96,11 +96,11 @@ fn has_heads(core: &Core, heads: &[u64]) -> bool {
 // Files; where the names of their definitions stand, and where their matches, builds and calls do.
 const FILES: &[(&str, &[u64], &[u64])] = &[
     ("strategies main = ?x; !x", &[11], &[19, 23]),
-    // A pattern without a name stands at the head of its alternative, and a definition at its first.
+    // A pattern without a name stands where its step begins, and a definition at its first alternative.
     (
         "strategies main = f f = !1 main = ?[]",
         &[11, 20],
-        &[18, 27, 20],
+        &[18, 34, 24],
     ),
     // The first name or `_` counts, but not in a strategy.
     (
@@ -114,7 +114,9 @@ const FILES: &[(&str, &[u64], &[u64])] = &[
         &[19, 31, 25, 36],
     ),
     ("rules main : 1 -> x where !x => _", &[6], &[6, 27, 32, 18]),
-    // A congruence stands at its constructor, or at the head.
+    // What `<..>` applies to in a build stands at the `<`.
+    ("strategies main = !(<main> 1, 2)", &[11], &[20, 21, 18]),
+    // A congruence stands at its constructor, or at its bracket.
     (
         "signature constructors C : A -> A D : A strategies main = C(D())",
         &[51],
@@ -123,12 +125,18 @@ const FILES: &[(&str, &[u64], &[u64])] = &[
     (
         "strategies main = [main]; (); [id | main]",
         &[11],
-        &[11, 19, 11, 11, 11, 36, 11],
+        &[18, 19, 18, 26, 30, 36, 30],
     ),
     (
         "strategies main = rec x(x); let f = !1 in f end",
         &[11],
-        &[24, 22, 11, 42],
+        &[24, 22, 36, 42],
+    ),
+    // A pattern after `=>` stands where it begins, and those of a rule in backslashes where the rule does.
+    (
+        "strategies main = !1 => 2; \\ 3 -> 4 \\",
+        &[11],
+        &[18, 24, 27, 27],
     ),
 ];
 
