@@ -3,6 +3,7 @@
 use crate::line::{MOST_OF_NAME, push_cut};
 use crate::listing::{Listing, Phrase};
 use std::alloc::{AllocError, Global};
+use str_lexer::Keyword;
 use strat_code::{Code, Instr, SourceMark};
 use strat_machine::Stand;
 use term_model::bytes::is_blank_byte;
@@ -47,13 +48,18 @@ impl<'a> Leaf<'a> {
     // The strategy as it is written.
     fn find_phrase(&self, listing: &Listing) -> Option<Phrase> {
         let offset = self.offset()?;
-        if let Instr::ApplyPrimitive { name, .. } = self.instr {
-            return listing.primitive_in(listing.head_before(offset)?, name);
-        }
-        if !self.is_marked || listing.is_head(offset) {
-            return None;
-        }
+        let head = listing.head_before(offset)?;
+        let is_head = listing.is_head(offset);
         match self.instr {
+            Instr::ApplyPrimitive { name, .. } => listing.primitive_in(head, name),
+            Instr::GiveUp { .. } => listing.form_in(head, Keyword::Fail, Keyword::Not),
+            Instr::Traverse { .. } => listing.form_in(head, Keyword::One, Keyword::Some),
+            _ if !self.is_marked => None,
+            Instr::Match { .. } if is_head => listing.left_side(offset),
+            Instr::Build { .. } if is_head || listing.is_lambda(offset) => {
+                listing.right_side(offset)
+            }
+            _ if is_head => None,
             Instr::Match { .. } | Instr::Build { .. } => listing.pattern_at(offset),
             _ => listing.call_at(offset),
         }
@@ -132,14 +138,31 @@ pub(crate) fn push_failure(
             push_lack(alloc, listing, leaf, stand, line)
         }
         Instr::ApplyPrimitive { .. } => push_primitive(alloc, listing, leaf, stand, line),
-        Instr::GiveUp { .. } => {
-            line.extend_from_slice(b"'fail' is reached, or the strategy of a 'not' succeeds")
-        }
+        Instr::GiveUp { .. } => push_giving_up(listing, leaf, line),
         Instr::Traverse { .. } => {
-            line.extend_from_slice(b"'one' or 'some' succeeds on no part of the term")
+            push_strategy(listing, leaf, b"'one' or 'some'", line)?;
+            line.extend_from_slice(b" succeeds on no part of the term")
         }
         _ => line.extend_from_slice(b"it fails"),
     }
+}
+
+// Puts on the line that a `fail` is reached, or that a `not` fails.
+fn push_giving_up(listing: &Listing, leaf: &Leaf, line: &mut Vec<u8>) -> Result<(), AllocError> {
+    let Some(phrase) = leaf.phrase else {
+        return line.extend_from_slice(b"'fail' is reached, or the strategy of a 'not' succeeds");
+    };
+    push_phrase(listing, phrase, line)?;
+    line.extend_from_slice(if is_fail(listing, phrase) {
+        b" is reached".as_slice()
+    } else {
+        b" fails".as_slice()
+    })
+}
+
+// Whether a phrase is `fail`.
+fn is_fail(listing: &Listing, phrase: Phrase) -> bool {
+    listing.text_of(phrase) == b"fail".as_slice()
 }
 
 /// Puts on the line what is made that is too large.

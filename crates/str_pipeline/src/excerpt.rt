@@ -1,7 +1,7 @@
 //! The line of a text around a place, for a person.
 ghost use Rattle.std.specs.Prelude.{◌≤◌, ◌<◌, length, MatchOption};
 
-use crate::shown::Shown;
+use crate::shown::{Shown, is_continuation};
 use std::fmt;
 
 // The most bytes of the line that are shown in front of the place.
@@ -13,7 +13,7 @@ pub struct Excerpt {
     line: usize,
     column: usize,
     shown: Shown,
-    // How many of the bytes that are shown stand in front of the place.
+    // How many of the characters that are shown stand in front of the place.
     front: usize,
     is_cut: bool,
 }
@@ -54,6 +54,16 @@ pub(crate) fn bytes_in_line(text: &[u8]) -> usize {
     count
 }
 
+// Returns the first offset of the line from this one on at which no character of UTF-8 is cut in two.
+fn boundary_after(line: &[u8], offset: usize) -> usize {
+    let rest = &line[offset.min(line.len())..];
+    let skipped = rest
+        .iter()
+        .take(3)
+        .take_while(|byte| is_continuation(**byte));
+    offset.saturating_add(skipped.count())
+}
+
 impl Excerpt {
     /// Shows the line of the text in which the byte of this offset stands. An offset beyond the text is that of its end.
     pub(crate) fn new(text: &[u8], offset: usize) -> Excerpt {
@@ -61,12 +71,13 @@ impl Excerpt {
         let before = &text[..at];
         let in_line = bytes_in_line(before);
         let line = first_line(&text[at.saturating_sub(in_line)..]);
-        let left_out = in_line.saturating_sub(FRONT).min(line.len());
+        let left_out = boundary_after(line, in_line.saturating_sub(FRONT));
+        let shown = Shown::new(&line[left_out.min(line.len())..]);
         Excerpt {
             line: line_feeds(before).saturating_add(1),
             column: in_line.saturating_add(1),
-            shown: Shown::new(&line[left_out..]),
-            front: in_line.saturating_sub(left_out),
+            shown,
+            front: shown.characters(in_line.saturating_sub(left_out)),
             is_cut: left_out > 0,
         }
     }

@@ -11,6 +11,7 @@ use crate::notes::{Found, RunNotes};
 use crate::program::{Purpose, program_of};
 use crate::status::{Options, Status};
 use crate::usage::usage_line;
+use crate::warnings::add_warnings;
 use aterm_text::{read_in, write_term};
 use prim_registry::{PrimMeaning, Registry};
 use std::alloc::{AllocError, Global};
@@ -79,6 +80,7 @@ fn explanation_of<M: PrimMeaning>(
         is_short: options.budget > MOST_RULES,
     };
     explainer.explain(&mut remarks)?;
+    add_warnings(alloc, definitions, &program.checked, &mut remarks)?;
     Ok(Explanation::new(remarks))
 }
 

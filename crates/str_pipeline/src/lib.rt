@@ -1,6 +1,7 @@
 //! From the bytes of definitions and of a term to the bytes of the answer.
 #![tactic(auto)]
 
+mod advice;
 mod answer;
 mod callers;
 mod causes;
@@ -10,11 +11,16 @@ mod explaining;
 mod explanation;
 mod faulty;
 mod followed;
+mod groups;
+mod hint;
 mod joined;
 mod laws;
 mod line;
 mod listing;
+mod name_hints;
 mod notes;
+mod phrases;
+mod pieces;
 mod pipeline;
 mod program;
 mod reason;
@@ -23,15 +29,21 @@ mod shown;
 mod sink;
 mod source;
 mod status;
+mod syntax_hints;
 mod tally;
 mod term_gap;
+mod text_hints;
+mod unbound;
 mod usage;
+mod warnings;
 
+pub use advice::Advice;
 pub use answer::{DEFAULT_BUDGET, MAX_BUDGET, MAX_DEFINITIONS, MAX_TERM};
 pub use counted::Counted;
 pub use excerpt::Excerpt;
 pub use explanation::{Explanation, Position, Remark};
 pub use faulty::Faulty;
+pub use hint::Hint;
 pub use laws::{joined_form_law, one_line_law};
 pub use notes::{RunNotes, Subject, Used};
 pub use pipeline::{

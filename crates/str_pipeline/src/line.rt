@@ -1,5 +1,6 @@
 //! Pieces of a line of an explanation.
 
+use crate::shown::is_continuation;
 use itoa::Buffer;
 use std::alloc::AllocError;
 
@@ -25,11 +26,6 @@ pub(crate) fn push_cut(bytes: &[u8], most: usize, line: &mut Vec<u8>) -> Result<
     };
     line.extend_from_slice(whole)?;
     line.extend_from_slice(b"..")
-}
-
-// Whether the byte goes on with a character of several bytes, in UTF-8.
-fn is_continuation(byte: u8) -> bool {
-    (0x80..0xC0).contains(&byte)
 }
 
 // Whether a character of several bytes begins with the byte, in UTF-8.

@@ -1,9 +1,14 @@
 //! The text of definitions: tokens, phrases, and the definitions in which they stand.
 
-use crate::excerpt::{bytes_in_line, line_feeds};
 use crate::explanation::Position;
+use crate::phrases::{
+    after_mark, depth_after, end_of_phrase, first_of_pattern, is_keyword, is_mark, is_name,
+    is_quoted, next_is,
+};
+use crate::pieces::{piece, position_in};
 use std::alloc::{AllocError, Global};
-use str_lexer::{Mark, Token, TokenKind, lex};
+use std::ops::Range;
+use str_lexer::{Keyword, Mark, Token, lex};
 use str_parser::parse;
 use str_syntax::{Definition, DefinitionForm, File, Name, Section};
 use term_model::Fault;
@@ -45,11 +50,7 @@ impl<'a> Listing<'a> {
 
     /// The line and the column of a byte.
     pub(crate) fn position(&self, offset: usize) -> Position {
-        let before = piece(self.text, 0, offset);
-        Position {
-            line: line_feeds(before).saturating_add(1),
-            column: bytes_in_line(before).saturating_add(1),
-        }
+        position_in(self.text, offset)
     }
 
     /// How many heads there are.
@@ -100,40 +101,68 @@ impl<'a> Listing<'a> {
         Some(count)
     }
 
-    /// The pattern in which the token at this byte stands, with the sign in front of it if there is one.
+    /// Whether a rule in backslashes begins with this byte.
+    pub(crate) fn is_lambda(&self, offset: usize) -> bool {
+        match self
+            .token_at(offset)
+            .and_then(|index| self.tokens.get(index))
+        {
+            Some(token) => is_mark(token, Mark::Backslash),
+            None => false,
+        }
+    }
+
+    /// The pattern in which the last token stands that is not after this byte, with the sign in front of it if there is one. After a backslash
+    /// or the `<` of an application it is the one to which these lead.
     pub(crate) fn pattern_at(&self, offset: usize) -> Option<Phrase> {
-        let named = self.token_at(offset)?;
-        let first = first_of_pattern(&self.tokens, named);
-        let after = end_of_phrase(&self.tokens, first);
-        Some(Phrase { first, after })
+        let after = self.tokens.partition_point(|token| token.from <= offset);
+        let named = after.checked_sub(1)?;
+        Some(self.phrase_from(first_of_pattern(&self.tokens, named)))
+    }
+
+    /// The left side of the rule whose name begins with this byte; nothing for a definition.
+    pub(crate) fn left_side(&self, offset: usize) -> Option<Phrase> {
+        let first = after_mark(&self.tokens, self.token_at(offset)?, Mark::Colon)?;
+        Some(self.phrase_from(first))
+    }
+
+    /// The right side of the rule that begins with this byte, or whose name does; nothing for a definition.
+    pub(crate) fn right_side(&self, offset: usize) -> Option<Phrase> {
+        let first = after_mark(&self.tokens, self.token_at(offset)?, Mark::Arrow)?;
+        Some(self.phrase_from(first))
     }
 
     /// The call or congruence whose name begins with this byte.
     pub(crate) fn call_at(&self, offset: usize) -> Option<Phrase> {
-        let first = self.token_at(offset)?;
-        let after = end_of_phrase(&self.tokens, first);
-        Some(Phrase { first, after })
+        Some(self.phrase_from(self.token_at(offset)?))
     }
 
     /// The call of the primitive of this name in the definition of a head, if there is one alone.
     pub(crate) fn primitive_in(&self, head: usize, name: &[u8]) -> Option<Phrase> {
-        let from = self.heads.get(head)?.from;
-        let to = match self.heads.get(head.saturating_add(1)) {
-            Some(next) => next.from,
-            None => self.text.len(),
-        };
         let mut found = None;
-        for (index, token) in self.tokens.iter().enumerate() {
-            if token.from >= from && token.from < to && is_quoted(token, name) {
+        for index in self.tokens_of(head) {
+            if is_quoted(&self.tokens, index, name) {
                 if found.is_some() {
                     return None;
                 }
                 found = Some(index);
             }
         }
-        let first = found?.checked_sub(2)?;
-        let after = end_of_phrase(&self.tokens, first);
-        Some(Phrase { first, after })
+        Some(self.phrase_from(found?.checked_sub(2)?))
+    }
+
+    /// The strategy in the definition of a head that begins with one or the other of two keywords, if there is one alone.
+    pub(crate) fn form_in(&self, head: usize, one: Keyword, other: Keyword) -> Option<Phrase> {
+        let mut found = None;
+        for index in self.tokens_of(head) {
+            if is_keyword(&self.tokens, index, one) || is_keyword(&self.tokens, index, other) {
+                if found.is_some() {
+                    return None;
+                }
+                found = Some(index);
+            }
+        }
+        Some(self.phrase_from(found?))
     }
 
     /// The byte with which a phrase begins.
@@ -207,6 +236,25 @@ impl<'a> Listing<'a> {
         Ok(found)
     }
 
+    // The phrase that begins with the token at an index.
+    fn phrase_from(&self, first: usize) -> Phrase {
+        let after = end_of_phrase(&self.tokens, first);
+        Phrase { first, after }
+    }
+
+    // The indexes of the tokens from a head up to the next one.
+    fn tokens_of(&self, head: usize) -> Range<usize> {
+        self.first_token_of(head)..self.first_token_of(head.saturating_add(1))
+    }
+
+    // The index of the token that a head is, or of the end where there is no such head.
+    fn first_token_of(&self, head: usize) -> usize {
+        match self.heads.get(head) {
+            Some(head) => self.tokens.partition_point(|token| token.from < head.from),
+            None => self.tokens.len(),
+        }
+    }
+
     // Whether the token at an index is a name that no parenthesis follows.
     fn is_variable(&self, index: usize) -> bool {
         match self.tokens.get(index) {
@@ -225,12 +273,6 @@ impl<'a> Listing<'a> {
             None
         }
     }
-}
-
-// The bytes of a text from one offset up to another, as far as they are there.
-fn piece(text: &[u8], from: usize, to: usize) -> &[u8] {
-    let to = to.min(text.len());
-    &text[from.min(to)..to]
 }
 
 // The heads of the rules and definitions of the file.
@@ -265,102 +307,5 @@ fn head_of(name: &Name) -> Head {
     Head {
         from,
         to: from.saturating_add(name.bytes().len()),
-    }
-}
-
-fn is_name(token: &Token) -> bool {
-    matches!(token.kind, TokenKind::Name)
-}
-
-fn is_mark(token: &Token, wanted: Mark) -> bool {
-    match &token.kind {
-        TokenKind::Mark(mark) => *mark == wanted,
-        _ => false,
-    }
-}
-
-fn is_quoted(token: &Token, wanted: &[u8]) -> bool {
-    match &token.kind {
-        TokenKind::Quoted(text) => text.bytes() == wanted,
-        _ => false,
-    }
-}
-
-// Whether the token after that at an index is this mark.
-fn next_is(tokens: &[Token], index: usize, wanted: Mark) -> bool {
-    match tokens.get(index.saturating_add(1)) {
-        Some(next) => is_mark(next, wanted),
-        None => false,
-    }
-}
-
-// How many brackets are open after a token.
-fn depth_after(depth: usize, token: &Token) -> usize {
-    let TokenKind::Mark(mark) = &token.kind else {
-        return depth;
-    };
-    match mark {
-        Mark::OpenParenthesis | Mark::OpenBracket | Mark::OpenBrace | Mark::Less => {
-            depth.saturating_add(1)
-        }
-        Mark::CloseParenthesis | Mark::CloseBracket | Mark::CloseBrace | Mark::Greater => {
-            depth.saturating_sub(1)
-        }
-        _ => depth,
-    }
-}
-
-// Where the pattern begins in which a token is the first name: at the sign in front of it, or after the sign that leads to it.
-fn first_of_pattern(tokens: &[Token], named: usize) -> usize {
-    for index in (0..named.min(tokens.len())).rev() {
-        match &tokens[index].kind {
-            TokenKind::Integer(_) | TokenKind::Quoted(_) => {}
-            TokenKind::Mark(Mark::OpenParenthesis | Mark::OpenBracket | Mark::Comma) => {}
-            TokenKind::Mark(Mark::Question | Mark::Exclamation) => return index,
-            TokenKind::Mark(
-                Mark::Colon | Mark::Arrow | Mark::DoubleArrow | Mark::Greater | Mark::Backslash,
-            ) => return index.saturating_add(1),
-            _ => return named,
-        }
-    }
-    named
-}
-
-// Where the phrase ends that begins with a token: a pattern, or a call.
-fn end_of_phrase(tokens: &[Token], first: usize) -> usize {
-    let mut depth: usize = 0;
-    for index in first..tokens.len() {
-        depth = depth_after(depth, &tokens[index]);
-        if depth == 0 && !goes_on(tokens, index) {
-            return index.saturating_add(1);
-        }
-    }
-    tokens.len()
-}
-
-// Whether a pattern can begin with the token at an index.
-fn begins_pattern(tokens: &[Token], index: usize) -> bool {
-    match tokens.get(index).map(|token| &token.kind) {
-        Some(TokenKind::Name | TokenKind::Integer(_) | TokenKind::Quoted(_)) => true,
-        Some(TokenKind::Wildcard) => true,
-        Some(TokenKind::Mark(Mark::OpenParenthesis | Mark::OpenBracket | Mark::Less)) => true,
-        _ => false,
-    }
-}
-
-// Whether a phrase in which no bracket is open goes on after the token at an index.
-fn goes_on(tokens: &[Token], index: usize) -> bool {
-    let is_annotated = next_is(tokens, index, Mark::OpenBrace);
-    match tokens.get(index).map(|token| &token.kind) {
-        Some(TokenKind::Mark(Mark::Question | Mark::Exclamation | Mark::At)) => true,
-        Some(TokenKind::Mark(Mark::Greater)) => begins_pattern(tokens, index.saturating_add(1)),
-        Some(TokenKind::Name | TokenKind::Keyword(_)) => {
-            is_annotated
-                || next_is(tokens, index, Mark::OpenParenthesis)
-                || next_is(tokens, index, Mark::At)
-        }
-        Some(TokenKind::Mark(Mark::CloseParenthesis | Mark::CloseBracket)) => is_annotated,
-        Some(TokenKind::Integer(_) | TokenKind::Quoted(_) | TokenKind::Wildcard) => is_annotated,
-        _ => false,
     }
 }

@@ -2,14 +2,19 @@
 
 use crate::excerpt::{Excerpt, line_feeds};
 use crate::explanation::Explanation;
+use crate::hint::Hint;
+use crate::name_hints::{name_hint, primitive_place};
 use crate::reason::{
     Reason, Wanted, left_out_reason, no_token_reason, syntax_reason, term_syntax_reason,
 };
+use crate::syntax_hints::syntax_hint;
+use crate::text_hints::{left_out_hint, lexical_hint, term_hint};
 use core_lang::Outcome;
 use scope_check::Notes;
+use std::alloc::Global;
 use str_parser::Expected;
-use term_model::Fault;
 use term_model::bytes::{is_blank_byte, is_digit_byte};
+use term_model::{Fault, PrimNames};
 use term_store::OversizeTerm;
 
 /// One of the two texts that a transformation reads.
@@ -34,6 +39,7 @@ pub struct RunNotes {
     subject: Subject,
     reason: Option<Reason>,
     place: Option<Excerpt>,
+    hint: Option<Hint>,
     lines_before_term: usize,
     has_term_line: bool,
     used: Option<Used>,
@@ -70,6 +76,7 @@ impl RunNotes {
             subject: Subject::Definitions,
             reason: None,
             place: None,
+            hint: None,
             lines_before_term: 0,
             has_term_line: true,
             used: None,
@@ -109,6 +116,11 @@ impl RunNotes {
     /// The place at which it is refused, where there is one, in lines of the text.
     pub fn place(&self) -> Option<&Excerpt> {
         self.place.as_ref()
+    }
+
+    /// What was probably meant there, if that is guessed.
+    pub fn hint(&self) -> Option<&Hint> {
+        self.hint.as_ref()
     }
 
     /// How many lines of the input stand in front of the text that is refused: where the joined form was read those before the term, and
@@ -177,37 +189,60 @@ impl RunNotes {
         self.has_term_line = has_term_line;
     }
 
-    // Notes why these definitions are refused.
-    pub(crate) fn note_definitions(&mut self, text: &[u8], fault: &Fault, found: &Found) {
+    // Notes why these definitions are refused. Where memory for a hint is refused there is none.
+    pub(crate) fn note_definitions(
+        &mut self,
+        alloc: Global,
+        text: &[u8],
+        fault: &Fault,
+        found: &Found,
+        primitives: &PrimNames,
+    ) {
         match fault {
             Fault::Lexical { at } => {
                 let (before, after) = (text_before(text, *at), text_after(text, *at));
                 self.keep(text, *at, no_token_reason(before, after));
+                self.hint = lexical_hint(before, after);
             }
             Fault::ReservedWord { at } => {
-                self.keep(text, *at, left_out_reason(text_after(text, *at)));
+                let after = text_after(text, *at);
+                self.keep(text, *at, left_out_reason(after));
+                self.hint = left_out_hint(after);
             }
             Fault::Syntax { at } => {
                 let wanted = found.expected.map(Wanted::InDefinitions);
                 let rest = text_after(text, *at);
                 self.keep(text, *at, syntax_reason(Subject::Definitions, rest, wanted));
+                self.hint = syntax_hint(alloc, text, index_of(*at), found.expected);
             }
             Fault::Nesting { at } => {
                 self.keep(text, *at, Reason::NestedTooDeeply);
             }
-            _ => self.note_checks(text, fault, &found.checks),
+            _ => self.note_checks(alloc, text, fault, &found.checks, primitives),
         }
     }
 
     // Notes what the checks noted of this fault.
-    fn note_checks(&mut self, text: &[u8], fault: &Fault, checks: &Notes) {
+    fn note_checks(
+        &mut self,
+        alloc: Global,
+        text: &[u8],
+        fault: &Fault,
+        checks: &Notes,
+        primitives: &PrimNames,
+    ) {
         let Some(note) = checks.first() else {
             return;
         };
         if note.detail().fault() != *fault {
             return;
         }
-        match note.offset() {
+        self.hint = name_hint(alloc, text, note, primitives);
+        let place = match note.offset() {
+            Some(at) => Some(at),
+            None => primitive_place(alloc, text, note),
+        };
+        match place {
             Some(at) => self.keep(text, at, Reason::Checked(*note)),
             None => self.reason = Some(Reason::Checked(*note)),
         }
@@ -233,6 +268,7 @@ impl RunNotes {
                     _ => *at,
                 };
                 self.keep(text, place, reason);
+                self.hint = term_hint(text, before, after);
             }
             Fault::TermOversize { at } if text_after(text, *at).is_empty() => {
                 self.reason = Some(Reason::TermTooLarge);

@@ -50,7 +50,8 @@ pub(crate) fn noted_program<M: PrimMeaning>(
         &mut found,
     );
     if let Err(fault) = &program {
-        notes.note_definitions(definitions, fault, &found);
+        let primitives = registry.names(alloc).unwrap_or(PrimNames::new(alloc));
+        notes.note_definitions(alloc, definitions, fault, &found, &primitives);
     }
     program
 }

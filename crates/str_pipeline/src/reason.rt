@@ -77,7 +77,7 @@ pub enum Reason {
 // Writes a token between quotes, or the number of a byte that cannot be shown.
 fn write_token<W: fmt::Write>(token: &Shown, f: &mut fmt::Formatter<W>) -> fmt::Result {
     match token.hidden() {
-        Some(byte) => write!(f, "the byte 0x{byte:02x}"),
+        Some(byte) => write!(f, "byte 0x{byte:02x}"),
         None => write!(f, "'{token}'"),
     }
 }
@@ -99,17 +99,14 @@ impl fmt::Display for Reason {
                 write_token(bytes, f)?;
                 f.write_str(" begins no token")
             }
-            Reason::LeftOut(word) => write!(
-                f,
-                "the word '{word}' belongs to a part of the language that strc leaves out"
-            ),
+            Reason::LeftOut(word) => write!(f, "'{word}' is not supported"),
             Reason::Misplaced { token, wanted } => {
+                f.write_str("unexpected ")?;
                 write_token(token, f)?;
-                f.write_str(" cannot stand here")?;
                 write_wanted(*wanted, f)
             }
             Reason::EndsEarly { wanted } => {
-                f.write_str("the text ends too early")?;
+                f.write_str("unexpected end of file")?;
                 write_wanted(*wanted, f)
             }
             Reason::Checked(note) => write!(f, "{note}"),
@@ -128,7 +125,7 @@ impl Reason {
             Reason::IntegerOutOfRange => {
                 "the integer is not in the range from -9223372036854775808 to 9223372036854775807"
             }
-            Reason::ByteOrderMark => "a byte order mark cannot stand here",
+            Reason::ByteOrderMark => "unexpected byte order mark",
             Reason::NearlyTermLine => {
                 "'#term' has to be a line of its own, without blanks before or after it"
             }

@@ -6,7 +6,8 @@ use std::{fmt, str};
 // The most bytes that are shown.
 const MOST: usize = 72;
 
-/// The first bytes of a piece of text, at most 72, with `?` for each that is no printable character of ASCII and a blank for a tab.
+/// The first bytes of a piece of text, at most 72 and without half a character at the end. A tab is a blank, and a byte that is no printable
+/// character of ASCII is `?`, unless the whole piece is UTF-8 in which each character can be seen.
 #[derive(Clone, Copy)]
 pub struct Shown {
     bytes: [u8; MOST],
@@ -28,17 +29,68 @@ fn printable(byte: u8) -> u8 {
     b'?'
 }
 
+// Returns how many bytes of the text are shown: at most 72, and no half of a character.
+fn whole_length(text: &[u8]) -> usize
+    ensures { result ≤ 72 }
+{
+    let most = text.len().min(MOST);
+    let last = text[..most]
+        .iter()
+        .rposition(|byte| !is_continuation(*byte));
+    let whole = match last {
+        Some(last) if most < text.len() && !text[last].is_ascii() => last,
+        _ => most,
+    };
+    whole.min(MOST)
+}
+
+/// Whether the byte goes on with a character of several bytes, in UTF-8.
+pub(crate) fn is_continuation(byte: u8) -> bool {
+    (0x80..0xC0).contains(&byte)
+}
+
+// Whether the text is UTF-8 in which each character can be seen.
+fn is_readable(text: &[u8]) -> bool {
+    let mut before: u8 = 0;
+    let mut last: u8 = 0;
+    for byte in text {
+        if is_unseen(before, last, *byte) {
+            return false;
+        }
+        before = last;
+        last = *byte;
+    }
+    str::from_utf8(text).is_ok()
+}
+
+// Whether these bytes end with a control character above ASCII, one without width, one that turns the direction, or a byte order mark.
+fn is_unseen(first: u8, second: u8, third: u8) -> bool {
+    match (first, second) {
+        (_, 0xC2) => third < 0xA0,
+        (0xE2, 0x80) => (0x8B..0x90).contains(&third) || (0xA8..0xAF).contains(&third),
+        (0xE2, 0x81) => (0xA0..0xB0).contains(&third),
+        (0xEF, 0xBB) => third == 0xBF,
+        _ => false,
+    }
+}
+
 impl Shown {
     /// Shows the piece of text.
     pub(crate) fn new(text: &[u8]) -> Shown {
+        let length = whole_length(text);
+        let is_readable = is_readable(&text[..length.min(text.len())]);
         let mut bytes = [0; MOST];
         for (place, byte) in bytes.iter_mut().zip(text) {
-            *place = printable(*byte);
+            *place = if is_readable && !byte.is_ascii() {
+                *byte
+            } else {
+                printable(*byte)
+            };
         }
         Shown {
             bytes,
-            length: text.len().min(MOST),
-            is_cut: text.len() > MOST,
+            length,
+            is_cut: text.len() > length,
             hidden: text
                 .first()
                 .copied()
@@ -49,6 +101,17 @@ impl Shown {
     /// The first byte, where it is not shown as it is.
     pub fn hidden(&self) -> Option<u8> {
         self.hidden
+    }
+
+    /// How many characters the first bytes are, this number of them.
+    pub(crate) fn characters(&self, count: usize) -> usize {
+        let mut found: usize = 0;
+        for byte in self.bytes.iter().take(count) {
+            if !is_continuation(*byte) {
+                found = found.saturating_add(1);
+            }
+        }
+        found
     }
 }
 

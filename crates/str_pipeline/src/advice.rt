@@ -1,0 +1,94 @@
+//! What to write in place of what is refused, or what the text seems to be.
+
+/// What to write, or what the text seems to be.
+#[derive(Clone, Copy, Debug, PartialEq, Eq)]
+pub enum Advice {
+    /// Definitions begin with no word of a section, and with no definition.
+    NoDefinitions,
+    /// Definitions begin with a definition.
+    SectionWord,
+    LeftChoice,
+    Assignment,
+    TypedParameters,
+    DynamicRules,
+    ConcreteSyntax,
+    AppliedInMatch,
+    /// An unknown strategy has a name such as constructors have.
+    UndeclaredConstructor,
+    /// The outcome of a run is given as a text.
+    Outcome,
+    Comment,
+    CommentInTerm,
+    RealNumber,
+    Interpolation,
+    ByteOrderMark,
+    NotAscii,
+    SingleQuotes,
+    /// Definitions are given as a term.
+    Definitions,
+    Module,
+    Imports,
+    Overlays,
+    With,
+    Conditional,
+    Otherwise,
+    External,
+}
+
+impl Advice {
+    /// Returns the advice in words, a part of a sentence without a full stop.
+    pub fn words(self) -> &'static str {
+        match self {
+            Advice::NoDefinitions => {
+                "definitions begin with 'signature', 'rules' or 'strategies'; a term is the second file"
+            }
+            Advice::SectionWord => "write 'rules' or 'strategies' before the first definition",
+            Advice::LeftChoice => "write '<+' for a choice; '+' stands only in s1 < s2 + s3",
+            Advice::Assignment => "':=' is not supported; write where(!p => x) for x := p",
+            Advice::TypedParameters => {
+                "types of parameters are not supported; leave out ':' and the type"
+            }
+            Advice::DynamicRules => "dynamic rules are not supported",
+            Advice::ConcreteSyntax => {
+                "concrete syntax is not supported; write the term, such as Add(x, y)"
+            }
+            Advice::AppliedInMatch => {
+                "a match has no '<..>'; match a variable x, and write where(<s> x => p)"
+            }
+            Advice::UndeclaredConstructor => "if it is a constructor, declare it in a signature",
+            _ => self.words_on_texts(),
+        }
+    }
+
+    // The same of advice that is given for single tokens, or for a text as a whole.
+    fn words_on_texts(self) -> &'static str {
+        match self {
+            Advice::Outcome =>
+                "this is the outcome of another run, which has no term as its result",
+            Advice::Comment => "comments begin with '//', or stand between '/*' and '*/'",
+            Advice::CommentInTerm => "a term has no comments",
+            Advice::RealNumber => "real numbers are not supported",
+            Advice::Interpolation => {
+                "string interpolation is not supported; join texts with prim(\"concat\", x, y)"
+            }
+            Advice::ByteOrderMark => "save the text without a byte order mark",
+            Advice::NotAscii => {
+                "names are made of ASCII letters; other characters can stand between quotes"
+            }
+            Advice::SingleQuotes => "a text stands between double quotes",
+            Advice::Definitions => {
+                "these seem to be definitions, which come first; the term is the second file"
+            }
+            Advice::Module => {
+                "a file has no header; it begins with 'signature', 'rules' or 'strategies'"
+            }
+            Advice::Imports => "write all definitions into one file",
+            Advice::Overlays => "write the pattern itself in place of each overlay",
+            Advice::With => "'where' does the same as long as its strategy succeeds",
+            Advice::Conditional => "write 'if', or s1 < s2 + s3",
+            Advice::Otherwise => "write 'else', or the last alternative of s1 <+ s2",
+            Advice::External => "a primitive is called with prim(\"name\", ..)",
+            _ => "",
+        }
+    }
+}

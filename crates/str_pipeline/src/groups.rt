@@ -1,0 +1,168 @@
+//! The alternatives of definitions: those that are never called, never tried, or apart from the others.
+
+use crate::line::{MOST_OF_NAME, push_cut};
+use crate::warnings::{Alternative, Warning};
+use std::alloc::{AllocError, Global};
+use str_syntax::{Arguments, DefinitionForm, DefinitionHead, Name, Parameters, Pattern, Rule};
+
+/// What a call finds a definition by: its name and its numbers of strategies and of terms.
+#[derive(Clone, Copy, PartialEq, Eq, PartialOrd, Ord)]
+pub(crate) struct Key<'a> {
+    name: &'a [u8],
+    strategies: usize,
+    terms: usize,
+}
+
+impl<'a> Key<'a> {
+    /// The key of a definition.
+    pub(crate) fn of_head(head: &'a DefinitionHead) -> Key<'a> {
+        Key {
+            name: head.name.bytes(),
+            strategies: head.parameters.strategies(),
+            terms: head.parameters.terms(),
+        }
+    }
+
+    /// The key of a call.
+    pub(crate) fn of_call(name: &'a Name, arguments: &Arguments) -> Key<'a> {
+        Key {
+            name: name.bytes(),
+            strategies: arguments.strategies(),
+            terms: arguments.terms(),
+        }
+    }
+}
+
+/// Adds the warnings about the alternatives of a file, of which this definition is applied, and whose definitions call these keys.
+pub(crate) fn add_group_warnings(
+    alloc: Global,
+    main: &[u8],
+    alternatives: &[Alternative<'_>],
+    calls: &[Key<'_>],
+    warnings: &mut Vec<Warning>,
+) -> Result<(), AllocError> {
+    let mut sorted = alternatives.to_vec(alloc)?;
+    sorted.sort_by_key(|alternative| Key::of_head(alternative.head()))?;
+    let mut called = calls.to_vec(alloc)?;
+    called.sort()?;
+    let mut before: Option<Alternative<'_>> = None;
+    for alternative in &sorted {
+        let key = Key::of_head(alternative.head());
+        match before {
+            Some(last) if Key::of_head(last.head()) == key => {
+                add_later(alloc, &last, alternative, warnings)?;
+            }
+            _ if is_applied(key.name, main) || called.binary_search(&key).is_ok() => {}
+            _ => add_uncalled(alloc, alternative, warnings)?,
+        }
+        before = Some(*alternative);
+    }
+    Ok(())
+}
+
+// Whether the definition of this name may be applied without a call.
+fn is_applied(name: &[u8], main: &[u8]) -> bool {
+    name == main || name == b"main".as_slice()
+}
+
+// Adds that a definition is never called.
+fn add_uncalled(
+    alloc: Global,
+    first: &Alternative<'_>,
+    warnings: &mut Vec<Warning>,
+) -> Result<(), AllocError> {
+    let mut text = Vec::new(alloc);
+    push_cut(first.head().name.bytes(), MOST_OF_NAME, &mut text)?;
+    text.extend_from_slice(b" is never called")?;
+    warnings.push(Warning {
+        offset: first.offset(),
+        text,
+        other: None,
+    })?;
+    Ok(())
+}
+
+// Adds the warning about an alternative that comes after another one, if there is one.
+fn add_later(
+    alloc: Global,
+    last: &Alternative<'_>,
+    alternative: &Alternative<'_>,
+    warnings: &mut Vec<Warning>,
+) -> Result<(), AllocError> {
+    let relation = if always_succeeds(last) {
+        b" is never reached: no term gets past that".as_slice()
+    } else if last.section != alternative.section {
+        b" is not in the section of that".as_slice()
+    } else {
+        return Ok(());
+    };
+    let mut text = b"this alternative of ".to_vec(alloc)?;
+    push_cut(alternative.head().name.bytes(), MOST_OF_NAME, &mut text)?;
+    text.extend_from_slice(relation)?;
+    warnings.push(Warning {
+        offset: alternative.offset(),
+        text,
+        other: Some(last.offset()),
+    })?;
+    Ok(())
+}
+
+// Whether the alternative is a rule that never fails.
+fn always_succeeds(alternative: &Alternative<'_>) -> bool {
+    let DefinitionForm::Rule(definition) = alternative.form else {
+        return false;
+    };
+    let terms = match &definition.head.parameters {
+        Parameters::WithTerms(_, terms) => terms.as_slice(),
+        Parameters::Absent | Parameters::Strategies(_) => &[],
+    };
+    never_fails(&definition.rule, terms)
+}
+
+// Whether a rule with these term parameters matches each term, and can always build its right side.
+fn never_fails(rule: &Rule, terms: &[Name]) -> bool {
+    if rule.condition.is_some() {
+        return false;
+    }
+    match &*rule.left {
+        Pattern::Wildcard(_) => has_instance(&rule.right, None, terms),
+        Pattern::Variable(name) if !is_among(terms, name) => {
+            has_instance(&rule.right, Some(name), terms)
+        }
+        _ => false,
+    }
+}
+
+fn is_among(names: &[Name], name: &Name) -> bool {
+    names.iter().any(|other| other.bytes() == name.bytes())
+}
+
+// Whether a build always has an instance where this variable and these parameters have values.
+#[cycle(instances)]
+fn has_instance(source: &Pattern, variable: Option<&Name>, terms: &[Name]) -> bool {
+    match source {
+        Pattern::Variable(name) => {
+            is_among(terms, name) || variable.is_some_and(|other| other.bytes() == name.bytes())
+        }
+        Pattern::Integer(_) | Pattern::Quoted(_) => true,
+        Pattern::Parenthesized(inner) => has_instance(inner, variable, terms),
+        Pattern::Application(_, parts) | Pattern::Tuple(parts) => {
+            have_instances(parts, variable, terms)
+        }
+        Pattern::List(elements, None) => have_instances(elements, variable, terms),
+        Pattern::Annotated(part, annotations) => {
+            has_instance(part, variable, terms) && have_instances(annotations, variable, terms)
+        }
+        _ => false,
+    }
+}
+
+#[cycle(instances)]
+fn have_instances(sources: &[Pattern], variable: Option<&Name>, terms: &[Name]) -> bool {
+    for source in sources {
+        if !has_instance(source, variable, terms) {
+            return false;
+        }
+    }
+    true
+}

@@ -1,0 +1,306 @@
+//! What was probably meant where the tokens of definitions are no phrase.
+
+use crate::advice::Advice;
+use crate::hint::Hint;
+use crate::phrases::{is_keyword, is_mark, is_name};
+use crate::pieces::{piece, position_in};
+use crate::shown::Shown;
+use std::alloc::{AllocError, Global};
+use str_lexer::{Keyword, Mark, Token, TokenKind, lex};
+use str_parser::Expected;
+
+/// What was probably meant where the tokens of the text are no phrase from this byte on, and this would go on there.
+pub(crate) fn syntax_hint(
+    alloc: Global,
+    text: &[u8],
+    at: usize,
+    expected: Option<Expected>,
+) -> Option<Hint> {
+    let tokens = lex(alloc, text).ok()?;
+    let index = tokens.partition_point(|token| token.from < at);
+    let site = Site {
+        text,
+        tokens: &tokens,
+        index,
+        expected,
+    };
+    match site.token_hint() {
+        Some(hint) => Some(hint),
+        None => site.bracket_hint(alloc).ok()?,
+    }
+}
+
+// The tokens of a text, the index of the first one with which no phrase goes on, and what would go on there.
+#[derive(Clone, Copy)]
+struct Site<'a> {
+    text: &'a [u8],
+    tokens: &'a [Token],
+    index: usize,
+    expected: Option<Expected>,
+}
+
+impl<'a> Site<'a> {
+    // What the token at fault and those beside it tell.
+    fn token_hint(&self) -> Option<Hint> {
+        let token = self.tokens.get(self.index)?;
+        match &token.kind {
+            TokenKind::Keyword(keyword) => self.keyword_hint(*keyword),
+            TokenKind::Mark(mark) => self.mark_hint(*mark),
+            TokenKind::Name if self.index == 0 && self.is_head(0) => {
+                Some(Hint::Advice(Advice::SectionWord))
+            }
+            _ if self.index == 0 => Some(Hint::Advice(Advice::NoDefinitions)),
+            _ => None,
+        }
+    }
+
+    // What a mark at fault tells.
+    fn mark_hint(&self, mark: Mark) -> Option<Hint> {
+        match mark {
+            _ if self.index == 0 => Some(Hint::Advice(Advice::NoDefinitions)),
+            Mark::Plus => Some(Hint::Advice(Advice::LeftChoice)),
+            Mark::Colon if self.touches_next(Mark::Equals) => Some(Hint::Advice(
+                Advice::Assignment,
+            )),
+            Mark::Colon if self.is_in_parameters() => Some(Hint::Advice(Advice::TypedParameters)),
+            Mark::Colon | Mark::Equals => self.head_hint(self.name_in_front()?),
+            Mark::Bar if self.is_swallowed() => self.head_hint(self.name_around()?),
+            Mark::OpenParenthesis if self.comes_after(Keyword::Rules) => {
+                Some(Hint::Advice(Advice::DynamicRules))
+            }
+            Mark::Bar if self.touches_next(Mark::OpenBracket) => {
+                Some(Hint::Advice(Advice::ConcreteSyntax))
+            }
+            Mark::Less if self.expected == Some(Expected::Pattern) => {
+                Some(Hint::Advice(Advice::AppliedInMatch))
+            }
+            _ => None,
+        }
+    }
+
+    // What a keyword at fault tells.
+    fn keyword_hint(&self, keyword: Keyword) -> Option<Hint> {
+        let is_wanted = matches!(
+            self.expected,
+            Some(
+                Expected::Name
+                    | Expected::NameOrIn
+                    | Expected::NameBarOrParenthesis
+                    | Expected::NameOrParenthesis
+                    | Expected::Constructor
+                    | Expected::Sort
+                    | Expected::Pattern
+            )
+        );
+        let next = self.tokens.get(self.index.saturating_add(1));
+        let is_called = next.is_some_and(|next| is_mark(next, Mark::OpenParenthesis));
+        if keyword == Keyword::Rules && is_called {
+            return Some(Hint::Advice(Advice::DynamicRules));
+        }
+        let is_defined = next.is_some_and(|next| is_mark(next, Mark::Equals)
+            || is_mark(next, Mark::Colon));
+        if is_defined || (is_wanted && !begins_section(keyword)) {
+            return Some(Hint::KeywordAsName(self.shown(self.index)));
+        }
+        None
+    }
+
+    // What it tells that the token at this index is the name of a definition, with the token in front of it.
+    fn head_hint(&self, name: usize) -> Option<Hint> {
+        let before = self.tokens.get(name.checked_sub(1)?)?;
+        let line = position_in(self.text, before.from).line;
+        let name = self.shown(name);
+        if is_mark(before, Mark::Greater) {
+            return Some(Hint::TakenAsOperand { name, line });
+        }
+        if !joins(before) {
+            return None;
+        }
+        Some(Hint::JoinedByOperator {
+            name,
+            operator: Shown::new(piece(self.text, before.from, before.to)),
+            line,
+        })
+    }
+
+    // The index of the name in front of the parenthesis in which the token at fault is.
+    fn name_around(&self) -> Option<usize> {
+        let name = self.opening_of(self.index)?.checked_sub(1)?;
+        if is_name(self.tokens.get(name)?) {
+            Some(name)
+        } else {
+            None
+        }
+    }
+
+    // Whether the token at fault is among the parameters of a definition.
+    fn is_swallowed(&self) -> bool {
+        self.name_around().is_some_and(|name| self.is_head(name))
+    }
+
+    // The index of the name in front of the token at fault, or of that in front of the parentheses there.
+    fn name_in_front(&self) -> Option<usize> {
+        let last = self.index.checked_sub(1)?;
+        let name = if is_mark(self.tokens.get(last)?, Mark::CloseParenthesis) {
+            self.opening_of(last)?.checked_sub(1)?
+        } else {
+            last
+        };
+        if is_name(self.tokens.get(name)?) {
+            Some(name)
+        } else {
+            None
+        }
+    }
+
+    // The index of the parenthesis that is closed by the one at an index.
+    fn opening_of(&self, closing: usize) -> Option<usize> {
+        let mut depth: usize = 1;
+        for index in (0..closing.min(self.tokens.len())).rev() {
+            if is_mark(&self.tokens[index], Mark::CloseParenthesis) {
+                depth = depth.saturating_add(1);
+            }
+            if is_mark(&self.tokens[index], Mark::OpenParenthesis) {
+                depth = depth.saturating_sub(1);
+            }
+            if depth == 0 {
+                return Some(index);
+            }
+        }
+        None
+    }
+
+    // Whether a name is in front of the token at fault, and in front of that what a name among parameters has there.
+    fn is_in_parameters(&self) -> bool {
+        let Some(before) = self
+            .index
+            .checked_sub(2)
+            .and_then(|index| self.tokens.get(index))
+        else {
+            return false;
+        };
+        let is_among = is_mark(before, Mark::OpenParenthesis)
+            || is_mark(before, Mark::Comma)
+            || is_mark(before, Mark::Bar);
+        is_among && self.name_in_front().is_some() && self.name_around().is_some()
+    }
+
+    // Whether this mark follows the token at fault without a blank between them.
+    fn touches_next(&self, wanted: Mark) -> bool {
+        let next = self.index.saturating_add(1);
+        match (self.tokens.get(self.index), self.tokens.get(next)) {
+            (Some(token), Some(next)) => is_mark(next, wanted) && token.to == next.from,
+            _ => false,
+        }
+    }
+
+    // Whether the token at fault comes after this keyword.
+    fn comes_after(&self, keyword: Keyword) -> bool {
+        match self.index.checked_sub(1) {
+            Some(last) => is_keyword(self.tokens, last, keyword),
+            None => false,
+        }
+    }
+
+    // The text of the token at an index.
+    fn shown(&self, index: usize) -> Shown {
+        match self.tokens.get(index) {
+            Some(token) => Shown::new(piece(self.text, token.from, token.to)),
+            None => Shown::new(b""),
+        }
+    }
+
+    // The innermost bracket that is open where the text ends, a section begins or what looks like another definition begins.
+    fn bracket_hint(&self, alloc: Global) -> Result<Option<Hint>, AllocError> {
+        if !self.begins_another() {
+            return Ok(None);
+        }
+        let mut open = Vec::new(alloc);
+        for token in self.tokens.iter().take(self.index) {
+            if opens(token) {
+                open.push(token)?;
+            }
+            if closes(token) {
+                open.pop();
+            }
+        }
+        let Some(last) = open.pop() else {
+            return Ok(None);
+        };
+        Ok(Some(Hint::NeverClosed {
+            bracket: Shown::new(piece(self.text, last.from, last.to)),
+            place: position_in(self.text, last.from),
+        }))
+    }
+
+    // Whether the text ends at the fault, or a section or a definition seems to begin there.
+    fn begins_another(&self) -> bool {
+        let Some(token) = self.tokens.get(self.index) else {
+            return true;
+        };
+        match &token.kind {
+            TokenKind::Keyword(keyword) => begins_section(*keyword),
+            TokenKind::Name => self.is_head(self.index),
+            _ => false,
+        }
+    }
+
+    // Whether the name at an index is followed by what follows the name of a definition.
+    fn is_head(&self, name: usize) -> bool {
+        let mut depth: usize = 0;
+        for token in self.tokens.iter().skip(name.saturating_add(1)) {
+            if is_mark(token, Mark::OpenParenthesis) {
+                depth = depth.saturating_add(1);
+                continue;
+            }
+            if depth == 0 {
+                return is_mark(token, Mark::Equals) || is_mark(token, Mark::Colon);
+            }
+            if is_mark(token, Mark::CloseParenthesis) {
+                depth = depth.saturating_sub(1);
+            }
+        }
+        false
+    }
+}
+
+// Whether the token joins what comes after it to what comes before.
+fn joins(token: &Token) -> bool {
+    match &token.kind {
+        TokenKind::Keyword(keyword) => *keyword == Keyword::Where,
+        TokenKind::Mark(mark) => matches!(
+            mark,
+            Mark::Semicolon
+                | Mark::LeftChoice
+                | Mark::Plus
+                | Mark::DoubleArrow
+                | Mark::Arrow
+                | Mark::Equals
+                | Mark::Exclamation
+                | Mark::Question
+        ),
+        _ => false,
+    }
+}
+
+// Whether a section begins with the keyword.
+fn begins_section(keyword: Keyword) -> bool {
+    matches!(
+        keyword,
+        Keyword::Signature | Keyword::Rules | Keyword::Strategies
+    )
+}
+
+// Whether the token opens a bracket.
+fn opens(token: &Token) -> bool {
+    is_mark(token, Mark::OpenParenthesis)
+        || is_mark(token, Mark::OpenBracket)
+        || is_mark(token, Mark::OpenBrace)
+}
+
+// Whether the token closes a bracket.
+fn closes(token: &Token) -> bool {
+    is_mark(token, Mark::CloseParenthesis)
+        || is_mark(token, Mark::CloseBracket)
+        || is_mark(token, Mark::CloseBrace)
+}

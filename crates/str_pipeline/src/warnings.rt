@@ -1,0 +1,127 @@
+//! Warnings about definitions in which nothing is wrong: what is certain to fail, to be skipped or not to be called.
+
+use crate::explanation::Remark;
+use crate::groups::add_group_warnings;
+use crate::line::push_number;
+use crate::pieces::position_in;
+use crate::unbound::Walk;
+use scope_check::Checked;
+use std::alloc::{AllocError, Global};
+use str_syntax::{Definition, DefinitionForm, DefinitionHead, File, Origin, Section};
+
+// The most warnings that are told.
+const MOST: usize = 100;
+
+/// A warning: the byte of the definitions that it is about, what it says, and the byte of another place whose line ends it.
+#[derive(Drop)]
+pub(crate) struct Warning {
+    pub(crate) offset: usize,
+    pub(crate) text: Vec<u8>,
+    pub(crate) other: Option<usize>,
+}
+
+/// A rule or definition at the top of a file.
+#[derive(Clone, Copy)]
+pub(crate) struct Alternative<'a> {
+    pub(crate) form: &'a DefinitionForm,
+    /// The number of its section.
+    pub(crate) section: usize,
+}
+
+impl<'a> Alternative<'a> {
+    pub(crate) fn head(self) -> &'a DefinitionHead {
+        match self.form {
+            DefinitionForm::Rule(rule) => &rule.head,
+            DefinitionForm::Strategy(definition) => &definition.head,
+        }
+    }
+
+    /// The byte of the definitions at which its name begins.
+    pub(crate) fn offset(self) -> usize {
+        usize::try_from(self.head().name.offset()).unwrap_or(usize::MAX)
+    }
+}
+
+/// Adds the warnings about the file of this text as remarks: the first hundred, in the order of the text, and how many there are.
+pub(crate) fn add_warnings(
+    alloc: Global,
+    text: &[u8],
+    checked: &Checked,
+    remarks: &mut Vec<Remark>,
+) -> Result<(), AllocError> {
+    let alternatives = alternatives_of(alloc, checked.file())?;
+    let mut walk = Walk::new(alloc, checked.signature());
+    for alternative in &alternatives {
+        walk.look_at(alternative.form)?;
+    }
+    let (calls, mut warnings) = walk.into_parts();
+    add_group_warnings(alloc, checked.main(), &alternatives, &calls, &mut warnings)?;
+    let count = warnings.len();
+    let mut order = Vec::new(alloc);
+    for warning in &warnings {
+        order.push(warning)?;
+    }
+    order.sort_by_key(|warning| warning.offset)?;
+    for warning in order.iter().take(MOST) {
+        remarks.push(Remark {
+            position: Some(position_in(text, warning.offset)),
+            text: text_of(alloc, text, warning)?,
+        })?;
+    }
+    add_count(alloc, count, remarks)
+}
+
+// What is told of a warning about this text.
+fn text_of(alloc: Global, text: &[u8], warning: &Warning) -> Result<Vec<u8>, AllocError> {
+    let mut line = b"warning: ".to_vec(alloc)?;
+    line.extend_from_slice(&warning.text)?;
+    if let Some(other) = warning.other {
+        line.extend_from_slice(b" on line ")?;
+        push_number(position_in(text, other).line as u64, &mut line)?;
+    }
+    Ok(line)
+}
+
+// Adds how many warnings there are, if they are not all told.
+fn add_count(alloc: Global, count: usize, remarks: &mut Vec<Remark>) -> Result<(), AllocError> {
+    if count <= MOST {
+        return Ok(());
+    }
+    let mut text = b"these are the first 100 of ".to_vec(alloc)?;
+    push_number(count as u64, &mut text)?;
+    text.extend_from_slice(b" warnings")?;
+    remarks.push(Remark {
+        position: None,
+        text,
+    })?;
+    Ok(())
+}
+
+// The rules and definitions of the file, without those of the library, in the order of the text.
+fn alternatives_of(alloc: Global, file: &File) -> Result<Vec<Alternative<'_>>, AllocError> {
+    let mut found = Vec::new(alloc);
+    for (number, section) in file.sections.iter().enumerate() {
+        match section {
+            Section::Signature(_) => {}
+            Section::Rules(definitions) => add_alternatives(definitions, number, &mut found)?,
+            Section::Strategies(definitions) => add_alternatives(definitions, number, &mut found)?,
+        }
+    }
+    Ok(found)
+}
+
+fn add_alternatives<'a>(
+    definitions: &'a [Definition],
+    section: usize,
+    found: &mut Vec<Alternative<'a>>,
+) -> Result<(), AllocError> {
+    for definition in definitions {
+        if definition.origin == Origin::File {
+            found.push(Alternative {
+                form: &definition.form,
+                section,
+            })?;
+        }
+    }
+    Ok(())
+}
