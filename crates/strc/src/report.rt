@@ -117,7 +117,16 @@ fn explanation(alloc: Global, reporting: Reporting<'_>, notes: &RunNotes) -> Opt
         Some(place) => at_place(alloc, name, reason, place, notes.lines_before()),
         None => format!(in alloc; "{name}: {reason}\n"),
     };
-    text.ok()
+    with_hint(alloc, text.ok()?, notes)
+}
+
+/// Returns the lines with one more that says what was probably meant, if that is guessed and memory for it is there.
+fn with_hint(alloc: Global, text: String, notes: &RunNotes) -> Option<String> {
+    let Some(hint) = notes.hint() else {
+        return Some(text);
+    };
+    let whole = format!(in alloc; "{text}hint: {hint}\n");
+    Some(whole.unwrap_or(text))
 }
 
 /// Writes the diagnostic line of a fault and, where there is a text that says more, the text. Where a write fails, nothing more is written.

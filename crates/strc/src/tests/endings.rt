@@ -153,7 +153,7 @@ const EXPLAINED: &[Row] = &[
         "",
         2,
         "#refused TermSyntax\n",
-        "strc: TermSyntax at byte 3\nbad.trm:1:4: the text ends too early: expected ',' or ')'\n    F(1\n       ^\n",
+        "strc: TermSyntax at byte 3\nbad.trm:1:4: unexpected end of file: expected ',' or ')'\n    F(1\n       ^\n",
     ),
 ];
 

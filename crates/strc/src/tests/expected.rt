@@ -160,7 +160,7 @@ const OTHERS: &[(&str, &str, &str)] = &[
     (
         "strc",
         "rules r : x ->\n\n  \n",
-        "strc: Syntax at byte 19\nstdin:1:15: the text ends too early: expected a pattern\n    rules r : x ->\n",
+        "strc: Syntax at byte 19\nstdin:1:15: unexpected end of file: expected a pattern\n    rules r : x ->\n",
     ),
     (
         "strc joined.str",
@@ -170,22 +170,22 @@ const OTHERS: &[(&str, &str, &str)] = &[
     (
         "strc",
         "strategies main = f(id",
-        "strc: Syntax at byte 22\nstdin:1:23: the text ends too early: expected ',', '|' or ')'\n",
+        "strc: Syntax at byte 22\nstdin:1:23: unexpected end of file: expected ',', '|' or ')'\n",
     ),
     (
         "strc",
         "strategies main = ?x{y",
-        "strc: Syntax at byte 22\nstdin:1:23: the text ends too early: expected ',' or '}'\n",
+        "strc: Syntax at byte 22\nstdin:1:23: unexpected end of file: expected ',' or '}'\n",
     ),
     (
         "strc id.str",
         "f(1,[2",
-        "strc: TermSyntax at byte 6\nstdin:1:7: the text ends too early: expected ',' or ']'\n",
+        "strc: TermSyntax at byte 6\nstdin:1:7: unexpected end of file: expected ',' or ']'\n",
     ),
     (
         "strc id.str",
         "-",
-        "strc: TermSyntax at byte 1\nstdin:1:2: the text ends too early: expected a digit\n",
+        "strc: TermSyntax at byte 1\nstdin:1:2: unexpected end of file: expected a digit\n",
     ),
     (
         "strc id.str",
@@ -195,7 +195,7 @@ const OTHERS: &[(&str, &str, &str)] = &[
     (
         "strc id.str",
         "f(\x1f)",
-        "strc: TermSyntax at byte 2\nstdin:1:3: the byte 0x1f cannot stand here: expected a term or ')'\n",
+        "strc: TermSyntax at byte 2\nstdin:1:3: unexpected byte 0x1f: expected a term or ')'\n",
     ),
     (
         "strc id.str",
@@ -216,7 +216,7 @@ fn report_of(
     let at = before.len();
     let column = at.saturating_add(1);
     format!(in alloc;
-        "strc: {word} at byte {at}\nstdin:1:{column}: '{token}' cannot stand here: {front}{reason}\n"
+        "strc: {word} at byte {at}\nstdin:1:{column}: unexpected '{token}': {front}{reason}\n"
     )
 }
 

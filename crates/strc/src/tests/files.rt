@@ -45,7 +45,7 @@ const RUNS: &[(&str, &str, u8, &str, &str)] = &[
         "",
         2,
         "#refused TermSyntax\n",
-        "strc: TermSyntax at byte 3\nbad.trm:1:4: the text ends too early: expected ',' or ')'\n    F(1\n       ^\n",
+        "strc: TermSyntax at byte 3\nbad.trm:1:4: unexpected end of file: expected ',' or ')'\n    F(1\n       ^\n",
     ),
     ("strc first.str", "8", 1, "#failed\n", ""),
     ("strc sum.str", "(2,3)", 0, "5\n", ""),

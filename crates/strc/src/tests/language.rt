@@ -167,11 +167,11 @@ fn library(rt: HostRuntime) -> Result<(), Fail> {
 const REFUSALS: &[(&str, &str)] = &[
     (
         "strategies main = prim(\"neg\", 1)",
-        "strc: UnknownPrimitive\nstdin: primitive neg with 1 term is unknown\n",
+        "strc: UnknownPrimitive\nstdin:1:19: primitive neg with 1 term is unknown\n    strategies main = prim(\"neg\", 1)\n                      ^\n",
     ),
     (
         "strategies main = prim(\"add\", 1)",
-        "strc: UnknownPrimitive\nstdin: primitive add with 1 term is unknown\n",
+        "strc: UnknownPrimitive\nstdin:1:19: primitive add with 1 term is unknown\n    strategies main = prim(\"add\", 1)\n                      ^\nhint: the primitive add has 2 terms\n",
     ),
     (
         "strategies try(s) = s main = id",

@@ -28,23 +28,31 @@ const ROWS: &[(&str, &str)] = &[
     ),
     (
         "strategies main = id \x01\n#term\n1",
-        "strc: Lexical at byte 21\nstdin:1:22: the byte 0x01 begins no token\n    strategies main = id ?\n                         ^\n",
+        "strc: Lexical at byte 21\nstdin:1:22: byte 0x01 begins no token\n    strategies main = id ?\n                         ^\n",
     ),
     (
         "strategies main = id; with\n#term\n1",
-        "strc: ReservedWord at byte 22\nstdin:1:23: the word 'with' belongs to a part of the language that strc leaves out\n    strategies main = id; with\n                          ^\n",
+        "strc: ReservedWord at byte 22\nstdin:1:23: 'with' is not supported\n    strategies main = id; with\n                          ^\nhint: 'where' does the same as long as its strategy succeeds\n",
     ),
     (
         "strategies main = id )\n#term\n1",
-        "strc: Syntax at byte 21\nstdin:1:22: ')' cannot stand here: expected an operator, a definition or a section\n    strategies main = id )\n                         ^\n",
+        "strc: Syntax at byte 21\nstdin:1:22: unexpected ')': expected an operator, a definition or a section\n    strategies main = id )\n                         ^\n",
     ),
     (
         "strategies main = id ->\n#term\n1",
-        "strc: Syntax at byte 21\nstdin:1:22: '->' cannot stand here: expected an operator, a definition or a section\n    strategies main = id ->\n                         ^\n",
+        "strc: Syntax at byte 21\nstdin:1:22: unexpected '->': expected an operator, a definition or a section\n    strategies main = id ->\n                         ^\n",
     ),
     (
         "strategies main = id;\n#term\n1",
-        "strc: Syntax at byte 22\nstdin:1:22: the text ends too early: expected a strategy\n    strategies main = id;\n                         ^\n",
+        "strc: Syntax at byte 22\nstdin:1:22: unexpected end of file: expected a strategy\n    strategies main = id;\n                         ^\n",
+    ),
+    (
+        "strategies main = ?\"\u{e9}\" )\n#term\n1",
+        "strc: Syntax at byte 24\nstdin:1:25: unexpected ')': expected an operator, a definition or a section\n    strategies main = ?\"\u{e9}\" )\n                           ^\n",
+    ),
+    (
+        "strategies main = ?\"\u{202e}\" )\n#term\n1",
+        "strc: Syntax at byte 25\nstdin:1:26: unexpected ')': expected an operator, a definition or a section\n    strategies main = ?\"???\" )\n                             ^\n",
     ),
     (
         "signature sorts E constructors C : E * E -> E strategies\nmain = ?C(1)\n#term\n1",
@@ -72,11 +80,11 @@ const ROWS: &[(&str, &str)] = &[
     ),
     (
         "strategies main = id\n#term\n(7,)",
-        "strc: TermSyntax at byte 3\nstdin:3:4: ')' cannot stand here: expected a term (line 1 of the term)\n    (7,)\n       ^\n",
+        "strc: TermSyntax at byte 3\nstdin:3:4: unexpected ')': expected a term (line 1 of the term)\n    (7,)\n       ^\n",
     ),
     (
         "strategies main = id ; id ; id ; id ; id ; id ; id ; id ; id ; id ; id ; id ; id ; id ; id ; id ; id ; id ; id ; id ; id ; ; ; id ; id ; id ; id ; id ; id ; id ; id ; id ; id ; id ; id ; id ; id ; id ; id ; id ; id ; id ; id\n#term\n1",
-        "strc: Syntax at byte 123\nstdin:1:124: ';' cannot stand here: expected a strategy\n  .. ; id ; id ; id ; id ; id ; id ; id ; id ; id ; ; ; id ; id ; id ; id ; ..\n                                                    ^\n",
+        "strc: Syntax at byte 123\nstdin:1:124: unexpected ';': expected a strategy\n  .. ; id ; id ; id ; id ; id ; id ; id ; id ; id ; ; ; id ; id ; id ; id ; ..\n                                                    ^\n",
     ),
 ];
 
@@ -216,7 +224,7 @@ fn places_of_refusals(rt: HostRuntime) -> Result<(), Fail> {
 fn bytes_beyond_ascii(rt: HostRuntime) -> Result<(), Fail> {
     let text = b"\xEF\xBB\xBFstrategies main = id";
     let report =
-        "strc: Lexical at byte 0\nstdin:1:1: a byte order mark cannot stand here\n    ???strategies main = id\n    ^\n";
+        "strc: Lexical at byte 0\nstdin:1:1: unexpected byte order mark\n    ???strategies main = id\n    ^\nhint: save the text without a byte order mark\n";
     if !is_refused(rt.alloc(), text, report)? {
         return Err(Fail::new("a byte order mark"));
     }
@@ -298,7 +306,7 @@ fn a_line_of_a_mebibyte(rt: HostRuntime) -> Result<(), Fail> {
     let input = Faulty::reader(text, 65536, None);
     let ran = run_over(rt.alloc(), "strc", input, None, None)?;
     let report =
-        b"strc: Syntax at byte 1048569\nstdin:1:1048570: ')' cannot stand here: expected an operator, a definition or a section\n  .. = id f = id f = id f = id f = id f = id f = id )\n                                                    ^\n";
+        b"strc: Syntax at byte 1048569\nstdin:1:1048570: unexpected ')': expected an operator, a definition or a section\n  .. = id f = id f = id f = id f = id f = id f = id )\n                                                    ^\n";
     if ran.status != 2 || ran.diagnostics.written() != report.as_slice() {
         return Err(Fail::new("another report"));
     }

@@ -14,7 +14,7 @@ const ROWS: &[(&str, u8, &str, &str)] = &[
         "strc sum.str pair.trm",
         2,
         "#refused UnknownPrimitive\n",
-        "strc: UnknownPrimitive\nsum.str: primitive add with 2 terms is unknown\n",
+        "strc: UnknownPrimitive\nsum.str:1:28: primitive add with 2 terms is unknown\n    strategies main = ?(x, y); prim(\"add\", x, y)\n                               ^\n",
     ),
     ("strc first.str pair.trm", 0, "7\n", ""),
 ];

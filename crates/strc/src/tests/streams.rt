@@ -38,7 +38,7 @@ const ROWS: &[Row] = &[
         None,
         2,
         "#refused Lexical\n",
-        "strc: Lexical at byte 18\nstdin:1:19: '#' begins no token\n    strategies main = #\n                      ^\n",
+        "strc: Lexical at byte 18\nstdin:1:19: '#' begins no token\n    strategies main = #\n                      ^\nhint: comments begin with '//', or stand between '/*' and '*/'\n",
     ),
     (
         "strategies main = foo\n#term\n1",
@@ -54,7 +54,7 @@ const ROWS: &[Row] = &[
         None,
         2,
         "#refused TermSyntax\n",
-        "strc: TermSyntax at byte 3\nstdin:3:4: the text ends too early: expected ',' or ')' (line 1 of the term)\n    F(1\n       ^\n",
+        "strc: TermSyntax at byte 3\nstdin:3:4: unexpected end of file: expected ',' or ')' (line 1 of the term)\n    F(1\n       ^\n",
     ),
     (
         "strategies main = id\n#term\n1",

@@ -1,0 +1,245 @@
+//! What was probably meant by a text that is refused.
+use crate::tests::samples::run_on;
+use std::alloc::{AllocError, Global};
+use std::test::Fail;
+
+// The joined form, and the hint; nothing where the text only just gets none.
+const ROWS: &[(&str, &str)] = &[
+    (
+        "rules\n  next : x -> <s>\n  next-slot : y -> y\n#term\n1",
+        "'next-slot' was taken as the operand of '<..>' on line 2; write (<..>)",
+    ),
+    (
+        "rules\n  next : x -> <s>\n  next-slot(s | y) : y -> y\n#term\n1",
+        "'next-slot' was taken as the operand of '<..>' on line 2; write (<..>)",
+    ),
+    (
+        "rules\n  next : x -> (<s>)\n  next-slot y : y -> y\n#term\n1",
+        "",
+    ),
+    (
+        "strategies\n  main = id;\n  g = fail\n#term\n1",
+        "the ';' on line 2 made 'g' part of the definition before it",
+    ),
+    (
+        "strategies\n  main = id <+\n  g(s, t) = fail\n#term\n1",
+        "the '<+' on line 2 made 'g' part of the definition before it",
+    ),
+    (
+        "rules\n  f : A() ->\n  g : B() -> C()\n#term\n1",
+        "the '->' on line 2 made 'g' part of the definition before it",
+    ),
+    (
+        "rules\n  f : x -> x where\n  g : y -> y\n#term\n1",
+        "the 'where' on line 2 made 'g' part of the definition before it",
+    ),
+    ("strategies\n  main = id\n  g fail\n#term\n1", ""),
+    (
+        "strategies\n  main = (id; fail\n  g(s) = s\n#term\n1",
+        "the '(' on line 2, column 10 is not closed",
+    ),
+    (
+        "strategies\n  main = (id; [fail\nrules r : x -> x\n#term\n1",
+        "the '[' on line 2, column 15 is not closed",
+    ),
+    (
+        "strategies main = ?f{x\n#term\n1",
+        "the '{' on line 1, column 21 is not closed",
+    ),
+    ("strategies main = (id; fail g)\n#term\n1", ""),
+    (
+        "strategies main = id +fail\n#term\n1",
+        "write '<+' for a choice; '+' stands only in s1 < s2 + s3",
+    ),
+    ("strategies main = id < id\n#term\n1", ""),
+    (
+        "strategies main = x := 1\n#term\n1",
+        "':=' is not supported; write where(!p => x) for x := p",
+    ),
+    (
+        "strategies main = x\n: = 1\n#term\n1",
+        "the '=' on line 1 made 'x' part of the definition before it",
+    ),
+    (
+        "strategies f(s : A -> B) = s\n#term\n1",
+        "types of parameters are not supported; leave out ':' and the type",
+    ),
+    (
+        "rules f(s | x : A) : y -> y\n#term\n1",
+        "types of parameters are not supported; leave out ':' and the type",
+    ),
+    ("strategies main = where(x : A)\n#term\n1", ""),
+    (
+        "strategies main = rules(A : x -> x)\n#term\n1",
+        "dynamic rules are not supported",
+    ),
+    (
+        "rules(A : x -> x)\n#term\n1",
+        "dynamic rules are not supported",
+    ),
+    (
+        "strategies main = !|[ x ]|\n#term\n1",
+        "concrete syntax is not supported; write the term, such as Add(x, y)",
+    ),
+    ("strategies main = !| [ x ]|\n#term\n1", ""),
+    (
+        "strategies main = ?f(<id>)\n#term\n1",
+        "a match has no '<..>'; match a variable x, and write where(<s> x => p)",
+    ),
+    ("strategies main = !f(<id>, )\n#term\n1", ""),
+    (
+        "strategies all = id\n#term\n1",
+        "'all' is a keyword and cannot be a name",
+    ),
+    (
+        "strategies main = ?end\n#term\n1",
+        "'end' is a keyword and cannot be a name",
+    ),
+    (
+        "strategies f(x, in) = id\n#term\n1",
+        "'in' is a keyword and cannot be a name",
+    ),
+    ("strategies main = if id then id\n#term\n1", ""),
+    (
+        "main = id\n#term\n1",
+        "write 'rules' or 'strategies' before the first definition",
+    ),
+    (
+        "Add(1, 2)\n#term\n1",
+        "definitions begin with 'signature', 'rules' or 'strategies'; a term is the second file",
+    ),
+    (
+        "strategies main = id # all\n#term\n1",
+        "comments begin with '//', or stand between '/*' and '*/'",
+    ),
+    (
+        "#failed\n#term\n1",
+        "this is the outcome of another run, which has no term as its result",
+    ),
+    (
+        "strategies main = !$[a]\n#term\n1",
+        "string interpolation is not supported; join texts with prim(\"concat\", x, y)",
+    ),
+    (
+        "strategies main = !1.5\n#term\n1",
+        "real numbers are not supported",
+    ),
+    ("strategies main = !x.5\n#term\n1", ""),
+    (
+        "strategies main = !'a'\n#term\n1",
+        "a text stands between double quotes",
+    ),
+    (
+        "strategies m\u{e4}in = id\n#term\n1",
+        "names are made of ASCII letters; other characters can stand between quotes",
+    ),
+    (
+        "module a strategies main = id\n#term\n1",
+        "a file has no header; it begins with 'signature', 'rules' or 'strategies'",
+    ),
+    (
+        "strategies main = switch\n#term\n1",
+        "write 'if', or s1 < s2 + s3",
+    ),
+    (
+        "strategies main = topdwon(id)\n#term\n1",
+        "did you mean topdown?",
+    ),
+    (
+        "strategies main = inermost(id)\n#term\n1",
+        "did you mean innermost?",
+    ),
+    (
+        "strategies evaluate = id main = evalutae\n#term\n1",
+        "did you mean evaluate?",
+    ),
+    ("strategies main = tp(id)\n#term\n1", ""),
+    (
+        "strategies main = topddwon(id)\n#term\n1",
+        "did you mean topdown?",
+    ),
+    ("strategies main = topwdno(id)\n#term\n1", ""),
+    ("strategies mian = id\n#term\n1", "did you mean mian?"),
+    (
+        "strategies main(s) = s\n#term\n1",
+        "main is defined with 1 strategy and 0 term parameters",
+    ),
+    (
+        "signature constructors Zero : N strategies main = Zero\n#term\n1",
+        "Zero is a constructor: write Zero() or !Zero()",
+    ),
+    (
+        "signature constructors Add : N * N -> N strategies main = Add(id)\n#term\n1",
+        "the constructor Add has 2 parts",
+    ),
+    (
+        "signature constructors Add : N * N -> N rules main : Adds(x, y) -> x\n#term\n1",
+        "did you mean Add?",
+    ),
+    (
+        "signature constructors Add : N * N -> N rules main : Add(x) -> x\n#term\n1",
+        "",
+    ),
+    (
+        "strategies main = Foo(id)\n#term\n1",
+        "if it is a constructor, declare it in a signature",
+    ),
+    ("strategies main = foo(id)\n#term\n1", ""),
+    (
+        "strategies main = prim(\"add\", 1)\n#term\n1",
+        "the primitive add has 2 terms",
+    ),
+    ("strategies main = prim(\"ad\", 1)\n#term\n1", ""),
+    (
+        "strategies main = id\n#term\n #failed",
+        "this is the outcome of another run, which has no term as its result",
+    ),
+    ("strategies main = id\n#term\n#fail", ""),
+    (
+        "strategies main = id\n#term\nrules main : x -> x",
+        "these seem to be definitions, which come first; the term is the second file",
+    ),
+    ("strategies main = id\n#term\nrulesof x", ""),
+    (
+        "strategies main = id\n#term\nF(1) // one",
+        "a term has no comments",
+    ),
+    (
+        "strategies main = id\n#term\nF(-1.5)",
+        "real numbers are not supported",
+    ),
+    (
+        "strategies main = id\n#term\nF('a')",
+        "a text stands between double quotes",
+    ),
+    (
+        "strategies main = id\n#term\n\u{e4}",
+        "names are made of ASCII letters; other characters can stand between quotes",
+    ),
+    (
+        "strategies main = id\n#term\n\u{feff}1",
+        "save the text without a byte order mark",
+    ),
+];
+
+/// Whether the last line of the report is this hint or, where that is empty, no line of the report is one.
+fn has_hint(alloc: Global, text: &str, hint: &str) -> Result<bool, AllocError> {
+    let ran = run_on(alloc, "strc", text.as_bytes(), None, None, None)?;
+    let report = ran.diagnostics.written();
+    if hint.is_empty() {
+        let mut lines = report.split(|byte| *byte == b'\n');
+        return Ok(ran.status == 2 && !lines.any(|line| line.starts_with(b"hint: ")));
+    }
+    let end = format!(in alloc; "\nhint: {hint}\n")?;
+    Ok(ran.status == 2 && report.ends_with(end.as_bytes()))
+}
+
+#[test]
+fn what_was_probably_meant(rt: HostRuntime) -> Result<(), Fail> {
+    for (text, hint) in ROWS {
+        if !has_hint(rt.alloc(), text, hint)? {
+            return Err(Fail::new(text));
+        }
+    }
+    Ok(())
+}
