@@ -60,8 +60,8 @@ pub struct Account {
     /// was left. A term that is too large is what this instruction made, or, where it failed in `some(s)`, what that made of the parts.
     pub before_last: u64,
     /// How many steps came before that of the deepest instruction that failed, by the number of frames, of those since a call last
-    /// returned; 0 if none has failed. Of several at the same depth it is the last one behind a match that succeeded in the same call
-    /// and alternative and, if there is none, the last one.
+    /// returned; 0 if none has failed. Of several at the same depth it is the last one behind a match that succeeded, or a call that
+    /// returned, in the same call and alternative and, if there is none, the last one.
     pub before_deepest: u64,
 }
 

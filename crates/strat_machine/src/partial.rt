@@ -23,7 +23,7 @@ pub(crate) struct Notes {
     /// How many steps came before that of the last instruction.
     pub(crate) before_last: u64,
     /// How many steps came before that of the deepest instruction that failed, of those since a call last returned. Of several at the same
-    /// depth it is the last one behind a match and, if none is behind a match, the last one.
+    /// depth it is the last one behind a match or a call that returned and, if there is none, the last one.
     pub(crate) before_deepest: u64,
     // How many frames there were then.
     depth: usize,
