@@ -45,10 +45,10 @@ signature constructors C : A -> A C : A * A -> A strategies f = id main = id
 signature constructors C : A * A -> A strategies f = ?C(x) main = id # Undeclared: constructor C with 1 part is not declared (it is declared with 2)
 strategies f = ?C(x) main = id # Undeclared: constructor C with 1 part is not declared
 signature constructors C : A -> A strategies f = ?C(x) main = id
-strategies f(s, s) = id main = id # Parameters: name s stands twice among parameters or in a scope
-strategies f(s | s) = id main = id # Parameters: name s stands twice among parameters or in a scope
+strategies f(s, s) = id main = id # Parameters: duplicate name s
+strategies f(s | s) = id main = id # Parameters: duplicate name s
 strategies f(s, t | x) = id main = id
-strategies f = {x, y, x: id} main = id # Parameters: name x stands twice among parameters or in a scope
+strategies f = {x, y, x: id} main = id # Parameters: duplicate name x
 strategies f = {x, y: id} main = id
 signature constructors C : A -> A strategies C = id main = id # Clash: name C is that of a declared constructor and of a strategy
 signature constructors C : A -> A strategies f(C) = id main = id # Clash: name C is that of a declared constructor and of a strategy
@@ -70,7 +70,7 @@ strategies f = prim(\"main\") main = id # UnknownPrimitive: primitive main with 
 strategies f = prim(\"add\", x, x) main = id
 strategies f = prim(\"add\", x) main = id # UnknownPrimitive: primitive add with 1 term is unknown
 strategies f = main main = id
-signature constructors C : A -> A strategies C(s, s) = prim(\"p\") main = id # Parameters: name s stands twice among parameters or in a scope
+signature constructors C : A -> A strategies C(s, s) = prim(\"p\") main = id # Parameters: duplicate name s
 strategies f(s |) = s main(|) = f(id |)
 strategies main = abcdefghijklmnopqrstuvwxyz0123456789abcdefghijklmnopqrstuvwxyz0123456789 # UnknownStrategy: strategy abcdefghijklmnopqrstuvwxyz0123456789abcdefghijklmnopqrstuvwxyz01.. with 0 strategy and 0 term parameters is not defined";
 

@@ -88,6 +88,14 @@ impl<'a> Groups<'a> {
         }
     }
 
+    // Whether the group of the key may have more heads.
+    fn has_room(&self, key: &Key<'a>) -> bool {
+        match self.by_key.get(key) {
+            Some(group) => group.number < MOST,
+            None => true,
+        }
+    }
+
     // Adds the head to its group, and returns whether it may stand there.
     fn add(&mut self, head: &'a DefinitionHead) -> Result<bool, AllocError>
         ensures fits { IfOk result (λ fits. fits ≡ is_some (with_head (head_of head.now) (get same_key self.old.by_key (key_of (head_of head.now))))) }
@@ -114,11 +122,33 @@ pub(crate) fn is_bad_group(
     for head in heads {
         let fits = groups.add(head)?;
         if !fits {
-            groups.note_refusal(head, notes);
+            let _ = note_refusals(alloc, heads, notes);
             return Ok(true);
         }
     }
     Ok(false)
+}
+
+// Notes the heads that may not stand in their groups: each that has other parameters, and the first of those that are too many.
+fn note_refusals(
+    alloc: Global,
+    heads: &[&DefinitionHead],
+    notes: &mut Notes,
+) -> Result<(), AllocError> {
+    let mut groups = Groups::new(alloc);
+    let mut last = None;
+    for head in heads {
+        if groups.add(head)? {
+            continue;
+        }
+        let key = key_of(head);
+        let is_told = last.as_ref().is_some_and(|other| *other == key);
+        if !is_told || groups.has_room(&key) {
+            groups.note_refusal(head, notes);
+        }
+        last = Some(key);
+    }
+    Ok(())
 }
 
 fn same_parameters(head: &DefinitionHead, other: &DefinitionHead) -> bool

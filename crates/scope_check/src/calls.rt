@@ -39,9 +39,9 @@ pub(crate) fn is_known<'t>(
     false
 }
 
-// The numbers with which the name is seen, if a note of an unknown strategy would be the first.
+// The numbers with which the name is seen, if a note of an unknown strategy there would be kept.
 fn numbers_to_note(layers: &Layers<'_, '_>, name: &Name, notes: &Notes) -> Option<(usize, usize)> {
-    if notes.lacks(&Fault::UnknownStrategy) {
+    if notes.wants(&Fault::UnknownStrategy, name) {
         return numbers_seen(layers, name.bytes());
     }
     None

@@ -3,6 +3,7 @@ ghost use Rattle.std.specs.Prelude.{◌≡◌, ◌∷◌, [], map, IfErr, IfOk, 
 ghost use Rattle.scope_check.specs.Tables.{AreDeclared, IsRefusal, declared_by, declared_in};
 ghost use Rattle.signature_core.specs.Signature.{declarations_of, declarations_of_part, declarations_of_parts, declarations_of_sections, declarations_of_signature};
 ghost use Rattle.signature_core.specs.Views.{declaration};
+ghost use Rattle.term_model.specs.declared.fault.Fault.TheVariants.{Memory};
 ghost use Rattle.str_syntax.specs.Views.{declaration_of, file_of, section_of, signature_of, sort_tree_of};
 
 use crate::notes::{Detail, Notes};
@@ -23,6 +24,57 @@ pub(crate) fn signature_of(
     let mut signature = Signature::new(alloc);
     declare_sections(alloc, &mut signature, &file.sections, notes)?;
     Ok(signature)
+}
+
+/// The signature of the file without the declarations that stand again, each of which is noted. `Memory` where a growth is refused.
+pub(crate) fn distinct_signature(
+    alloc: Global,
+    file: &File,
+    notes: &mut Notes,
+) -> Result<Signature, Fault>
+    ensures { IfErr result (λ fault. fault ≡ Memory) }
+{
+    let mut signature = Signature::new(alloc);
+    for section in &file.sections {
+        if let Section::Signature(parts) = section {
+            declare_distinct(alloc, &mut signature, parts, notes)?;
+        }
+    }
+    Ok(signature)
+}
+
+// Declares what the parts of a signature declare, but for what is declared.
+fn declare_distinct(
+    alloc: Global,
+    signature: &mut Signature,
+    parts: &[SignaturePart],
+    notes: &mut Notes,
+) -> Result<(), Fault>
+    ensures { IfErr result (λ fault. fault ≡ Memory) }
+{
+    for part in parts {
+        if let SignaturePart::Constructors(all) = part {
+            for one in all {
+                declare_new(alloc, signature, one, notes)?;
+            }
+        }
+    }
+    Ok(())
+}
+
+// Declares the constructor, if the declaration is of one that is not declared.
+fn declare_new(
+    alloc: Global,
+    signature: &mut Signature,
+    one: &Declaration,
+    notes: &mut Notes,
+) -> Result<(), Fault>
+    ensures { IfErr result (λ fault. fault ≡ Memory) }
+{
+    match declare(alloc, signature, one, notes) {
+        Err(Fault::Memory) => Err(Fault::Memory),
+        Ok(()) | Err(_) => Ok(()),
+    }
 }
 
 // Declares what the sections declare, one after another.

@@ -10,7 +10,7 @@ ghost use Rattle.str_syntax.specs.Views.{file_of};
 ghost use Rattle.term_model.specs.declared.fault.Fault.TheVariants.{Memory};
 
 use crate::clashes::note_clashes;
-use crate::declarations::signature_of;
+use crate::declarations::{distinct_signature, signature_of};
 use crate::file::with_heads;
 use crate::findings::Findings;
 use crate::groups::has_plain;
@@ -120,7 +120,7 @@ pub fn check_with_notes(
     ensures faultless { IfOk result (λ checked. first_fault (holds primitives.now) (file_of file) main.now ≡ None) }
     ensures fault { IfErr result (λ fault. (fault ≡ Memory) ⊎ (first_fault (holds primitives.now) (file_of file) main.now ≡ Some fault)) }
 {
-    *notes = Notes::none();
+    notes.begin();
     let signature = signature_of(alloc, &file, notes)?;
     let known = Known {
         signature: &signature,
@@ -135,6 +135,27 @@ pub fn check_with_notes(
         signature,
         main,
     })
+}
+
+/// Notes where the file is at fault, as `check_with_notes` does, and goes on after a declaration that stands twice. What was noted before
+/// is dropped. Returns the signature of the file, without declarations that stand again. `Memory` where a growth is refused.
+pub fn note_faults(
+    alloc: Global,
+    file: &File,
+    primitives: &PrimNames,
+    main: &[u8],
+    notes: &mut Notes,
+) -> Result<Signature, Fault>
+    ensures { IfErr result (λ fault. fault ≡ Memory) }
+{
+    notes.begin();
+    let signature = distinct_signature(alloc, file, notes)?;
+    let known = Known {
+        signature: &signature,
+        primitives,
+    };
+    let _ = fault_found(alloc, &known, file, main, notes)?;
+    Ok(signature)
 }
 
 // The fault of the least number in a file that is judged by this, where no declaration stands twice.

@@ -24,6 +24,6 @@ mod top_heads;
 mod tops;
 mod walk;
 
-pub use judgement::{Checked, check, check_with_notes};
+pub use judgement::{Checked, check, check_with_notes, note_faults};
 pub use notes::{Detail, Note, Notes};
 pub use side::Side;

@@ -48,11 +48,20 @@ fn any_among<'t>(keys: &Keys<'t>, heads: &[&'t DefinitionHead], notes: &mut Note
 {
     for head in heads {
         if keys.has(&key_of(head)) {
-            notes.at(&head.name, Detail::OfLibrary);
+            note_among(keys, heads, notes);
             return true;
         }
     }
     false
+}
+
+// Notes each head that has one of the keys.
+fn note_among<'t>(keys: &Keys<'t>, heads: &[&'t DefinitionHead], notes: &mut Notes) {
+    for head in heads {
+        if keys.has(&key_of(head)) {
+            notes.at(&head.name, Detail::OfLibrary);
+        }
+    }
 }
 
 // The heads of the rules and definitions in the sections that come from there, in order.

@@ -2,12 +2,16 @@
 ghost use Rattle.std.specs.Prelude.{◌≤◌};
 ghost use Rattle.scope_check.specs.OfChecks.{IsOfChecks};
 
+use std::alloc::Global;
 use std::{fmt, str};
 use str_syntax::Name;
 use term_model::Fault;
 
 // The most bytes of a name that are kept.
 const MOST: usize = 64;
+
+// The most notes that are collected.
+const MOST_NOTES: usize = 100;
 
 /// What is wrong at a place of a file, with the numbers that matter there.
 #[derive(Clone, Copy)]
@@ -70,7 +74,8 @@ impl Detail {
     fn subject(&self) -> &'static str {
         match self {
             Detail::DeclaredAgain | Detail::Undeclared { .. } => "constructor",
-            Detail::Repeated | Detail::Clash => "name",
+            Detail::Repeated => "duplicate name",
+            Detail::Clash => "name",
             Detail::OtherParameters | Detail::ManyAlternatives | Detail::OfLibrary => "strategy",
             Detail::UnknownStrategy { .. } | Detail::NoMain => "strategy",
             Detail::BuiltWildcard | Detail::BuiltAlias => "pattern",
@@ -89,7 +94,7 @@ impl fmt::Display for Detail {
                 write!(f, " with {parts} part{s} is not declared")?;
                 write_declared(f, *declared)
             }
-            Detail::Repeated => write!(f, " stands twice among parameters or in a scope"),
+            Detail::Repeated => Ok(()),
             Detail::OtherParameters => write!(f, " has alternatives with other parameters"),
             Detail::ManyAlternatives => write!(f, " has over 1000 alternatives"),
             Detail::Clash => write!(f, " is that of a declared constructor and of a strategy"),
@@ -201,6 +206,11 @@ impl Note {
         &self.bytes[..self.length]
     }
 
+    // The offset, and where none is known one after all others.
+    fn order(&self) -> u64 {
+        self.offset.unwrap_or(u64::MAX)
+    }
+
     // Whether this is of a fault of a lesser number than the other, or of the same and further to the front. What has no place comes
     // after what has one.
     fn is_before(&self, other: &Note) -> bool {
@@ -209,11 +219,7 @@ impl Note {
         if number != least {
             return number < least;
         }
-        match (self.offset, other.offset) {
-            (Some(at), Some(first)) => at < first,
-            (Some(_), None) => true,
-            (None, _) => false,
-        }
+        self.order() < other.order()
     }
 }
 
@@ -229,16 +235,31 @@ impl fmt::Display for Note {
 }
 
 /// What was noted of a file: of its places at fault the one whose fault has the least number, and of several of that number the
-/// first in the text. Has a fixed size, and takes no memory.
-#[derive(Clone, Copy)]
+/// first in the text. If notes are collected, also the first hundred in the text, whatever their faults are, and how many there are.
+#[derive(Drop)]
 pub struct Notes {
     first: Option<Note>,
+    collected: Option<Vec<Note>>,
+    count: usize,
 }
 
 impl Notes {
-    /// Nothing was noted.
+    /// Nothing was noted, and one note is kept, which takes no memory.
     pub fn none() -> Notes {
-        Notes { first: None }
+        Notes {
+            first: None,
+            collected: None,
+            count: 0,
+        }
+    }
+
+    /// Nothing was noted, and notes are collected.
+    pub fn collecting(alloc: Global) -> Notes {
+        Notes {
+            first: None,
+            collected: Some(Vec::new(alloc)),
+            count: 0,
+        }
     }
 
     /// The place at fault, if one was noted. Where a file was refused for another fault, as out of memory, it says nothing of that.
@@ -246,27 +267,71 @@ impl Notes {
         self.first.as_ref()
     }
 
-    // Whether neither this fault nor one of a lesser number was noted.
-    pub(crate) fn lacks(&self, fault: &Fault) -> bool {
-        match &self.first {
+    /// The notes that are collected, in the order of the text, and after them those whose place is not known: at most a hundred. Those
+    /// for which memory is refused are left out.
+    pub fn collected(&self) -> &[Note] {
+        match &self.collected {
+            Some(notes) => notes.as_slice(),
+            None => &[],
+        }
+    }
+
+    /// How many notes there were to collect.
+    pub fn count(&self) -> usize {
+        self.count
+    }
+
+    // Drops what was noted.
+    pub(crate) fn begin(&mut self) {
+        self.first = None;
+        self.count = 0;
+        if let Some(notes) = &mut self.collected {
+            notes.clear();
+        }
+    }
+
+    // Whether a note of this fault about the name would be kept.
+    pub(crate) fn wants(&self, fault: &Fault, name: &Name) -> bool {
+        let is_first = match &self.first {
             Some(first) => fault.number() < first.detail.fault().number(),
+            None => true,
+        };
+        is_first || self.has_room_at(name.offset())
+    }
+
+    // Whether a note at the offset would be collected.
+    fn has_room_at(&self, offset: u64) -> bool {
+        let Some(notes) = &self.collected else {
+            return false;
+        };
+        match notes.last() {
+            Some(last) => notes.len() < MOST_NOTES || offset < last.order(),
             None => true,
         }
     }
 
-    // Notes what is wrong with a name that stands in the file or in the library.
+    // Notes what is wrong with a name that stands in the file or in the library. Of the library nothing is collected.
     pub(crate) fn at(&mut self, name: &Name, detail: Detail) {
-        self.keep(Note::new(detail, place_of(name), name.bytes()));
+        let offset = place_of(name);
+        let note = Note::new(detail, offset, name.bytes());
+        self.keep(note);
+        if offset.is_some() {
+            self.collect(note);
+        }
     }
 
     // Notes that a wildcard that stands at the offset is built.
     pub(crate) fn built_wildcard(&mut self, offset: u64) {
-        self.keep(Note::new(Detail::BuiltWildcard, Some(offset), b"_"));
+        let note = Note::new(Detail::BuiltWildcard, Some(offset), b"_");
+        self.keep(note);
+        self.collect(note);
     }
 
     // Notes what is wrong with a name of which no place is known.
     pub(crate) fn anywhere(&mut self, name: &[u8], detail: Detail) {
-        self.keep(Note::new(detail, None, name));
+        let note = Note::new(detail, None, name);
+        self.keep(note);
+        self.collect(note);
     }
 
     // Keeps the note, if it comes before what was noted.
@@ -278,5 +343,24 @@ impl Notes {
         if is_first {
             self.first = Some(note);
         }
+    }
+
+    // Puts the note among those that are collected, if they are.
+    fn collect(&mut self, note: Note) {
+        let Some(notes) = &mut self.collected else {
+            return;
+        };
+        self.count = self.count.saturating_add(1);
+        let after = notes
+            .iter()
+            .rposition(|other| other.order() <= note.order())
+            .map_or(0, |last| last.saturating_add(1));
+        if after >= MOST_NOTES {
+            return;
+        }
+        if notes.len() >= MOST_NOTES {
+            let _ = notes.pop();
+        }
+        let _ = notes.insert(after.min(notes.len()), note);
     }
 }

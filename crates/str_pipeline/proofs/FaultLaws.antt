@@ -1,10 +1,12 @@
 -- Groups of faults, by their numbers.
-use Rattle.std.proofs.Common.{◌≡◌, ◌<◌, ◌≤◌, ℕ, Bool, List, Err, arith, inl, inr, refl, false}
+use Rattle.std.proofs.Common.{◌≡◌, ◌<◌, ◌≤◌, ℕ, Bool, List, Err, arith, inl, inr, length, refl, false}
 use Rattle.term_model.specs.declared.fault.Fault.{Fault}
 use Rattle.term_model.specs.declared.fault.Fault.TheVariants as faults
 use Rattle.term_model.specs.Fault.{number_of}
 use Rattle.signature_core.specs.Signature.{Declared}
 use Rattle.str_pipeline.specs.Faults.{IsReadingFault, IsRefusal, IsOfDefinitions, is_read}
+use Rattle.str_pipeline.specs.Judged.{AreRefused}
+use Rattle.str_pipeline.specs.Limits.{max_definitions}
 use Rattle.str_pipeline.specs.Setting.{Setting}
 use Rattle.str_pipeline.specs.Steps.{IsStop, IsProgram, IsTermRead}
 use Rattle.str_pipeline.proofs.CheckLaws.{no_check_fault, check_fault_refuses}
@@ -65,6 +67,16 @@ program_stops S defs fault made = inr (check_fault_refuses fault made)
 pub program_no_read : (S : Setting) (defs : List ℕ) (fault : Fault) → IsProgram S defs (Err fault) → is_read fault ≡ false
 program_no_read S defs faults.Read made = absurd (no_check_fault faults.Read made (λ numbered. omega arith))
 program_no_read S defs _ made = refl
+
+-- with such a fault, if it is not one of memory, definitions of this length are refused
+pub program_refused : (S : Setting) (defs : List ℕ) (fault : Fault) → length defs ≤ max_definitions → 2 < number_of fault → IsProgram S defs (Err fault) → AreRefused S defs fault
+program_refused S defs faults.Memory short high made = absurd (omega arith)
+program_refused S defs faults.DefsTooLong short high made = absurd (no_check_fault faults.DefsTooLong made (λ numbered. omega arith))
+program_refused S defs (faults.Lexical at) short high made = (short, made)
+program_refused S defs (faults.ReservedWord at) short high made = (short, made)
+program_refused S defs (faults.Syntax at) short high made = (short, made)
+program_refused S defs (faults.Nesting at) short high made = (short, made)
+program_refused S defs _ short high made = (short, made)
 
 -- those of texts that are too long
 pub long_definitions_stop : IsStop faults.DefsTooLong

@@ -13,6 +13,10 @@ pub enum Advice {
     DynamicRules,
     ConcreteSyntax,
     AppliedInMatch,
+    /// A wildcard stands where a strategy is expected.
+    WildcardAsStrategy,
+    /// Annotations stand after a strategy.
+    AnnotatedStrategy,
     /// An unknown strategy has a name such as constructors have.
     UndeclaredConstructor,
     /// The outcome of a run is given as a text.
@@ -55,14 +59,10 @@ impl Advice {
             Advice::AppliedInMatch => {
                 "a match has no '<..>'; match a variable x, and write where(<s> x => p)"
             }
+            Advice::WildcardAsStrategy =>
+                "'_' is a pattern; a strategy that succeeds on each term is id",
+            Advice::AnnotatedStrategy => "annotations stand only in patterns, such as ?p{a}",
             Advice::UndeclaredConstructor => "if it is a constructor, declare it in a signature",
-            _ => self.words_on_texts(),
-        }
-    }
-
-    // The same of advice that is given for single tokens, or for a text as a whole.
-    fn words_on_texts(self) -> &'static str {
-        match self {
             Advice::Outcome =>
                 "this is the outcome of another run, which has no term as its result",
             Advice::Comment => "comments begin with '//', or stand between '/*' and '*/'",
@@ -88,7 +88,6 @@ impl Advice {
             Advice::Conditional => "write 'if', or s1 < s2 + s3",
             Advice::Otherwise => "write 'else', or the last alternative of s1 <+ s2",
             Advice::External => "a primitive is called with prim(\"name\", ..)",
-            _ => "",
         }
     }
 }

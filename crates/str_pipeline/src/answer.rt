@@ -71,6 +71,9 @@ fn noted_term<S: TermSpace>(
     let term = term_of(alloc, space, signature, text, is_strict);
     if let Err(fault) = &term {
         notes.note_term(text, fault);
+        if let Fault::TermUndeclared = fault {
+            notes.note_undeclared(alloc, text, signature);
+        }
     }
     term
 }

@@ -3,6 +3,7 @@ ghost use Rattle.prim_registry.specs.Entries.{Covers, IsHonest};
 
 use crate::callers::{call_sites, callers_line, search_site};
 use crate::causes::{Leaf, push_excess, push_failure, push_phrase, variables};
+use crate::checking::findings_in;
 use crate::explanation::{Explanation, Remark};
 use crate::followed::FollowedSpace;
 use crate::line::{MOST_OF_NAME, push_cut, push_number};
@@ -11,7 +12,7 @@ use crate::notes::{Found, RunNotes};
 use crate::program::{Purpose, program_of};
 use crate::status::{Options, Status};
 use crate::usage::usage_line;
-use crate::warnings::add_warnings;
+use crate::warnings::{Definitions, add_warnings};
 use aterm_text::{read_in, write_term};
 use prim_registry::{PrimMeaning, Registry};
 use std::alloc::{AllocError, Global};
@@ -34,7 +35,8 @@ const LAST_IN_SEARCH: &[u8] = b", the last failure inside that call";
 // What is added to a failure in front of the last one.
 const DEEPEST: &[u8] = b", the deepest failure before that, and maybe the cause";
 
-/// Notes why a run has no result, where that is asked for and it has none. Where memory for it is refused nothing is noted.
+/// Notes why a run has no result, if that is asked for and it has none, and warnings about its definitions. If memory for it is refused
+/// nothing is noted.
 pub(crate) fn note_explanation<M: PrimMeaning>(
     alloc: Global,
     status: &Result<Status, Fault>,
@@ -44,13 +46,24 @@ pub(crate) fn note_explanation<M: PrimMeaning>(
 )
     requires honest { IsHonest M.answer registry.now }
 {
-    let Ok(Status::Failed | Status::Oversize | Status::Spent) = status else {
+    let Ok(status) = status else {
         return;
     };
     let Some((definitions, term)) = notes.take_texts() else {
         return;
     };
-    if let Ok(explanation) = explanation_of(alloc, &definitions, &term, options, registry) {
+    let explanation = match status {
+        Status::Failed | Status::Oversize | Status::Spent => explanation_of(
+            alloc,
+            &definitions,
+            &term,
+            options,
+            registry,
+        ),
+        Status::Rewritten => findings_in(alloc, &definitions, options, registry),
+        Status::Refused(_) => return,
+    };
+    if let Ok(explanation) = explanation {
         notes.note_explanation(explanation);
     }
 }
@@ -80,7 +93,8 @@ fn explanation_of<M: PrimMeaning>(
         is_short: options.budget > MOST_RULES,
     };
     explainer.explain(&mut remarks)?;
-    add_warnings(alloc, definitions, &program.checked, &mut remarks)?;
+    let definitions = Definitions::of_checked(definitions, &program.checked);
+    add_warnings(alloc, &definitions, &mut remarks)?;
     Ok(Explanation::new(remarks))
 }
 

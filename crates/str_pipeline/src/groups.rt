@@ -45,19 +45,49 @@ pub(crate) fn add_group_warnings(
     sorted.sort_by_key(|alternative| Key::of_head(alternative.head()))?;
     let mut called = calls.to_vec(alloc)?;
     called.sort()?;
-    let mut before: Option<Alternative<'_>> = None;
+    let mut before: Option<Earlier<'_>> = None;
     for alternative in &sorted {
         let key = Key::of_head(alternative.head());
-        match before {
-            Some(last) if Key::of_head(last.head()) == key => {
-                add_later(alloc, &last, alternative, warnings)?;
+        before = match before {
+            Some(earlier) if Key::of_head(earlier.alternative.head()) == key => {
+                add_later(alloc, &earlier, alternative, warnings)?;
+                Some(earlier.with(alternative))
             }
-            _ if is_applied(key.name, main) || called.binary_search(&key).is_ok() => {}
-            _ => add_uncalled(alloc, alternative, warnings)?,
-        }
-        before = Some(*alternative);
+            _ => {
+                if !is_applied(key.name, main) && called.binary_search(&key).is_err() {
+                    add_uncalled(alloc, alternative, warnings)?;
+                }
+                Some(Earlier::first(alternative))
+            }
+        };
     }
     Ok(())
+}
+
+// An alternative of a definition that comes before another one: the first that always succeeds and, if there is none, the last.
+#[derive(Clone, Copy)]
+struct Earlier<'a> {
+    alternative: Alternative<'a>,
+    always_succeeds: bool,
+}
+
+impl<'a> Earlier<'a> {
+    // It is the only one.
+    fn first(alternative: &Alternative<'a>) -> Earlier<'a> {
+        Earlier {
+            alternative: *alternative,
+            always_succeeds: always_succeeds(alternative),
+        }
+    }
+
+    // The one of these and the next.
+    fn with(self, next: &Alternative<'a>) -> Earlier<'a> {
+        if self.always_succeeds {
+            self
+        } else {
+            Earlier::first(next)
+        }
+    }
 }
 
 // Whether the definition of this name may be applied without a call.
@@ -85,13 +115,13 @@ fn add_uncalled(
 // Adds the warning about an alternative that comes after another one, if there is one.
 fn add_later(
     alloc: Global,
-    last: &Alternative<'_>,
+    earlier: &Earlier<'_>,
     alternative: &Alternative<'_>,
     warnings: &mut Vec<Warning>,
 ) -> Result<(), AllocError> {
-    let relation = if always_succeeds(last) {
+    let relation = if earlier.always_succeeds {
         b" is never reached: no term gets past that".as_slice()
-    } else if last.section != alternative.section {
+    } else if earlier.alternative.section != alternative.section {
         b" is not in the section of that".as_slice()
     } else {
         return Ok(());
@@ -102,7 +132,7 @@ fn add_later(
     warnings.push(Warning {
         offset: alternative.offset(),
         text,
-        other: Some(last.offset()),
+        other: Some(earlier.alternative.offset()),
     })?;
     Ok(())
 }

@@ -28,20 +28,27 @@ pub enum Hint {
     },
     /// A keyword stands where a name is expected.
     KeywordAsName(Shown),
-    /// A name like the unknown one is known.
-    SimilarName(Shown),
-    /// The unknown strategy has the name of a constructor with this number of parts.
-    NameOfConstructor {
+    /// What is known of the name.
+    OnName(NameHint),
+}
+
+/// What is known of a name that the checks do not find.
+#[derive(Clone, Copy)]
+pub enum NameHint {
+    /// A name like it is known.
+    Similar(Shown),
+    /// A constructor has the name, with this number of parts.
+    OfConstructor {
         name: Shown,
         parts: usize,
     },
-    /// The primitive has another number of terms.
-    PrimitiveWithTerms {
+    /// A primitive has the name, with another number of terms.
+    OfPrimitive {
         name: Shown,
         terms: usize,
     },
-    /// The definition to apply has parameters, of these numbers.
-    HasParameters {
+    /// A definition has the name, with these numbers of parameters.
+    OfDefinition {
         name: Shown,
         strategies: usize,
         terms: usize,
@@ -79,34 +86,35 @@ impl fmt::Display for Hint {
                 )
             }
             Hint::KeywordAsName(word) => write!(f, "'{word}' is a keyword and cannot be a name"),
-            _ => write_on_name(self, f),
+            Hint::OnName(hint) => write!(f, "{hint}"),
         }
     }
 }
 
-// Writes what is known of a name.
-fn write_on_name<W: fmt::Write>(hint: &Hint, f: &mut fmt::Formatter<W>) -> fmt::Result {
-    match hint {
-        Hint::SimilarName(name) => write!(f, "did you mean {name}?"),
-        Hint::NameOfConstructor { name, parts } => {
-            if *parts == 0 {
-                return write!(f, "{name} is a constructor: write {name}() or !{name}()");
+/// A part of a sentence, without a full stop.
+impl fmt::Display for NameHint {
+    fn fmt<W: fmt::Write>(&self, f: &mut fmt::Formatter<W>) -> fmt::Result {
+        match self {
+            NameHint::Similar(name) => write!(f, "did you mean {name}?"),
+            NameHint::OfConstructor { name, parts } => {
+                if *parts == 0 {
+                    return write!(f, "{name} is a constructor: write {name}() or !{name}()");
+                }
+                let s = plural(*parts);
+                write!(f, "the constructor {name} has {parts} part{s}")
             }
-            let s = plural(*parts);
-            write!(f, "the constructor {name} has {parts} part{s}")
+            NameHint::OfPrimitive { name, terms } => {
+                let s = plural(*terms);
+                write!(f, "the primitive {name} has {terms} term{s}")
+            }
+            NameHint::OfDefinition {
+                name,
+                strategies,
+                terms,
+            } => write!(
+                f,
+                "{name} is defined with {strategies} strategy and {terms} term parameters"
+            ),
         }
-        Hint::PrimitiveWithTerms { name, terms } => {
-            let s = plural(*terms);
-            write!(f, "the primitive {name} has {terms} term{s}")
-        }
-        Hint::HasParameters {
-            name,
-            strategies,
-            terms,
-        } => write!(
-            f,
-            "{name} is defined with {strategies} strategy and {terms} term parameters"
-        ),
-        _ => Ok(()),
     }
 }

@@ -5,6 +5,7 @@ mod advice;
 mod answer;
 mod callers;
 mod causes;
+mod checking;
 mod counted;
 mod excerpt;
 mod explaining;
@@ -34,16 +35,18 @@ mod tally;
 mod term_gap;
 mod text_hints;
 mod unbound;
+mod undeclared;
 mod usage;
 mod warnings;
 
 pub use advice::Advice;
 pub use answer::{DEFAULT_BUDGET, MAX_BUDGET, MAX_DEFINITIONS, MAX_TERM};
+pub use checking::check_definitions;
 pub use counted::Counted;
 pub use excerpt::Excerpt;
 pub use explanation::{Explanation, Position, Remark};
 pub use faulty::Faulty;
-pub use hint::Hint;
+pub use hint::{Hint, NameHint};
 pub use laws::{joined_form_law, one_line_law};
 pub use notes::{RunNotes, Subject, Used};
 pub use pipeline::{

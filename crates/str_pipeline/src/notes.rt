@@ -4,14 +4,19 @@ use crate::excerpt::{Excerpt, line_feeds};
 use crate::explanation::Explanation;
 use crate::hint::Hint;
 use crate::name_hints::{name_hint, primitive_place};
+use crate::pieces::piece;
 use crate::reason::{
     Reason, Wanted, left_out_reason, no_token_reason, syntax_reason, term_syntax_reason,
 };
+use crate::shown::Shown;
 use crate::syntax_hints::syntax_hint;
 use crate::text_hints::{left_out_hint, lexical_hint, term_hint};
+use crate::undeclared::undeclared_application;
 use core_lang::Outcome;
-use scope_check::Notes;
+use scope_check::{Detail, Note, Notes};
+use signature_core::Signature;
 use std::alloc::Global;
+use str_lexer::lex;
 use str_parser::Expected;
 use term_model::bytes::{is_blank_byte, is_digit_byte};
 use term_model::{Fault, PrimNames};
@@ -88,8 +93,8 @@ impl RunNotes {
         }
     }
 
-    /// Nothing was noted. A run without a result is to be explained: for that it is run again, up to three times, after the answer is
-    /// written, and both texts are kept in memory until then.
+    /// Nothing was noted. A run without a result is to be explained, and warnings about the definitions are to be told: for that it is run
+    /// again, up to three times, after the answer is written, and both texts are kept in memory until then.
     pub fn explaining() -> RunNotes {
         let mut notes = RunNotes::none();
         notes.wants_explanation = true;
@@ -142,7 +147,8 @@ impl RunNotes {
         self.oversize.as_ref()
     }
 
-    /// Why the run has no result, where that was asked for, and memory for the explanation was there.
+    /// Why the run has no result, and warnings, if that was asked for; what a check of definitions found; or nothing if memory for it was
+    /// refused.
     pub fn explanation(&self) -> Option<&Explanation> {
         self.explanation.as_ref()
     }
@@ -240,12 +246,31 @@ impl RunNotes {
         self.hint = name_hint(alloc, text, note, primitives);
         let place = match note.offset() {
             Some(at) => Some(at),
-            None => primitive_place(alloc, text, note),
+            None => only_call(alloc, text, note),
         };
         match place {
             Some(at) => self.keep(text, at, Reason::Checked(*note)),
             None => self.reason = Some(Reason::Checked(*note)),
         }
+    }
+
+    // Notes that the definitions are too long.
+    pub(crate) fn note_long_definitions(&mut self) {
+        self.reason = Some(Reason::DefinitionsTooLong);
+    }
+
+    // Notes the first application in this text of a term that the signature does not declare, if memory for the search is there.
+    pub(crate) fn note_undeclared(&mut self, alloc: Global, text: &[u8], signature: &Signature) {
+        let Some(application) = undeclared_application(alloc, text, signature) else {
+            return;
+        };
+        let name = piece(text, application.from, application.to);
+        let reason = Reason::UndeclaredApplication {
+            name: Shown::new(name),
+            parts: application.parts,
+            declared: signature.first_arity(name),
+        };
+        self.keep(text, application.from as u64, reason);
     }
 
     // Notes why this text of a term is refused.
@@ -281,14 +306,16 @@ impl RunNotes {
     // Notes why a text was refused of which no place is known.
     pub(crate) fn note_outcome(&mut self, outcome: &Result<Outcome<Vec<u8>>, Fault>) {
         match outcome {
-            Err(Fault::DefsTooLong) => self.reason = Some(Reason::DefinitionsTooLong),
+            Err(Fault::DefsTooLong) => self.note_long_definitions(),
             Err(Fault::TermTooLong) => {
                 self.subject = Subject::Term;
                 self.reason = Some(Reason::TermTooLong);
             }
             Err(Fault::TermUndeclared) => {
                 self.subject = Subject::Term;
-                self.reason = Some(Reason::TermUndeclared);
+                if self.reason.is_none() {
+                    self.reason = Some(Reason::TermUndeclared);
+                }
             }
             _ => {}
         }
@@ -303,6 +330,15 @@ impl RunNotes {
         self.reason = Some(reason);
         self.place = Some(Excerpt::new(text, at));
     }
+}
+
+// The byte at which the only call of the unknown primitive begins that is noted.
+fn only_call(alloc: Global, text: &[u8], note: &Note) -> Option<u64> {
+    let Detail::UnknownPrimitive { .. } = note.detail() else {
+        return None;
+    };
+    let tokens = lex(alloc, text).ok()?;
+    primitive_place(&tokens, note.name(), 0, 1)
 }
 
 // Whether the text is blank.

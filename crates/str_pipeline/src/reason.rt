@@ -68,6 +68,12 @@ pub enum Reason {
     TermTooDeep,
     TermTooLarge,
     TermUndeclared,
+    /// An application in the term that is not declared, and the number of parts with which its name is.
+    UndeclaredApplication {
+        name: Shown,
+        parts: usize,
+        declared: Option<usize>,
+    },
     DefinitionsTooLong,
     TermTooLong,
     /// The checks found it.
@@ -91,6 +97,21 @@ fn write_wanted<W: fmt::Write>(wanted: Option<Wanted>, f: &mut fmt::Formatter<W>
     }
 }
 
+// Writes that an application with this number of parts is not declared, and with which number its name is.
+fn write_undeclared<W: fmt::Write>(
+    name: &Shown,
+    parts: usize,
+    declared: Option<usize>,
+    f: &mut fmt::Formatter<W>,
+) -> fmt::Result {
+    let s = if parts == 1 { "" } else { "s" };
+    write!(f, "constructor {name} with {parts} part{s} is not declared")?;
+    match declared {
+        Some(number) => write!(f, " (it is declared with {number})"),
+        None => Ok(()),
+    }
+}
+
 /// A part of a sentence, without a full stop.
 impl fmt::Display for Reason {
     fn fmt<W: fmt::Write>(&self, f: &mut fmt::Formatter<W>) -> fmt::Result {
@@ -109,6 +130,11 @@ impl fmt::Display for Reason {
                 f.write_str("unexpected end of file")?;
                 write_wanted(*wanted, f)
             }
+            Reason::UndeclaredApplication {
+                name,
+                parts,
+                declared,
+            } => write_undeclared(name, *parts, *declared, f),
             Reason::Checked(note) => write!(f, "{note}"),
             _ => f.write_str(self.words()),
         }

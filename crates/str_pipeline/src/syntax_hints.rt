@@ -46,6 +46,9 @@ impl<'a> Site<'a> {
         match &token.kind {
             TokenKind::Keyword(keyword) => self.keyword_hint(*keyword),
             TokenKind::Mark(mark) => self.mark_hint(*mark),
+            TokenKind::Wildcard if self.expected == Some(Expected::Strategy) => {
+                Some(Hint::Advice(Advice::WildcardAsStrategy))
+            }
             TokenKind::Name if self.index == 0 && self.is_head(0) => {
                 Some(Hint::Advice(Advice::SectionWord))
             }
@@ -73,6 +76,9 @@ impl<'a> Site<'a> {
             }
             Mark::Less if self.expected == Some(Expected::Pattern) => {
                 Some(Hint::Advice(Advice::AppliedInMatch))
+            }
+            Mark::OpenBrace if self.touches_before() => {
+                Some(Hint::Advice(Advice::AnnotatedStrategy))
             }
             _ => None,
         }
@@ -190,6 +196,21 @@ impl<'a> Site<'a> {
         let next = self.index.saturating_add(1);
         match (self.tokens.get(self.index), self.tokens.get(next)) {
             (Some(token), Some(next)) => is_mark(next, wanted) && token.to == next.from,
+            _ => false,
+        }
+    }
+
+    // Whether the token at fault stands right behind the one before it, a name or a closing parenthesis.
+    fn touches_before(&self) -> bool {
+        let before = self
+            .index
+            .checked_sub(1)
+            .and_then(|index| self.tokens.get(index));
+        match (before, self.tokens.get(self.index)) {
+            (Some(before), Some(token)) => {
+                let is_end = is_name(before) || is_mark(before, Mark::CloseParenthesis);
+                is_end && before.to == token.from
+            }
             _ => false,
         }
     }

@@ -45,6 +45,7 @@ pub(crate) struct Walk<'a> {
     outer: Vec<Variable<'a>>,
     // Those of scopes within it, the innermost last.
     inner: Vec<Variable<'a>>,
+    // Whether the definition uses more variables at once than are kept.
     has_more: bool,
     // The keys that other definitions call.
     calls: Vec<Key<'a>>,

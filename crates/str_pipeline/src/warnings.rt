@@ -6,6 +6,7 @@ use crate::line::push_number;
 use crate::pieces::position_in;
 use crate::unbound::Walk;
 use scope_check::Checked;
+use signature_core::Signature;
 use std::alloc::{AllocError, Global};
 use str_syntax::{Definition, DefinitionForm, DefinitionHead, File, Origin, Section};
 
@@ -42,20 +43,47 @@ impl<'a> Alternative<'a> {
     }
 }
 
-/// Adds the warnings about the file of this text as remarks: the first hundred, in the order of the text, and how many there are.
+/// The definitions that warnings are about: their text, their file with its signature, and the name of the definition that is applied.
+#[derive(Clone, Copy)]
+pub(crate) struct Definitions<'a> {
+    pub(crate) text: &'a [u8],
+    pub(crate) file: &'a File,
+    pub(crate) signature: &'a Signature,
+    pub(crate) main: &'a [u8],
+}
+
+impl<'a> Definitions<'a> {
+    /// Definitions of this text in which nothing is wrong.
+    pub(crate) fn of_checked(text: &'a [u8], checked: &'a Checked) -> Definitions<'a> {
+        Definitions {
+            text,
+            file: checked.file(),
+            signature: checked.signature(),
+            main: checked.main(),
+        }
+    }
+}
+
+/// Adds the warnings about the definitions as remarks: the first hundred, in the order of the text, and how many there are.
 pub(crate) fn add_warnings(
     alloc: Global,
-    text: &[u8],
-    checked: &Checked,
+    definitions: &Definitions<'_>,
     remarks: &mut Vec<Remark>,
 ) -> Result<(), AllocError> {
-    let alternatives = alternatives_of(alloc, checked.file())?;
-    let mut walk = Walk::new(alloc, checked.signature());
+    let text = definitions.text;
+    let alternatives = alternatives_of(alloc, definitions.file)?;
+    let mut walk = Walk::new(alloc, definitions.signature);
     for alternative in &alternatives {
         walk.look_at(alternative.form)?;
     }
     let (calls, mut warnings) = walk.into_parts();
-    add_group_warnings(alloc, checked.main(), &alternatives, &calls, &mut warnings)?;
+    add_group_warnings(
+        alloc,
+        definitions.main,
+        &alternatives,
+        &calls,
+        &mut warnings,
+    )?;
     let count = warnings.len();
     let mut order = Vec::new(alloc);
     for warning in &warnings {
@@ -68,7 +96,7 @@ pub(crate) fn add_warnings(
             text: text_of(alloc, text, warning)?,
         })?;
     }
-    add_count(alloc, count, remarks)
+    add_count(alloc, count, b" warnings", remarks)
 }
 
 // What is told of a warning about this text.
@@ -82,14 +110,19 @@ fn text_of(alloc: Global, text: &[u8], warning: &Warning) -> Result<Vec<u8>, All
     Ok(line)
 }
 
-// Adds how many warnings there are, if they are not all told.
-fn add_count(alloc: Global, count: usize, remarks: &mut Vec<Remark>) -> Result<(), AllocError> {
+/// Adds how many of these things there are, if only the first hundred are told.
+pub(crate) fn add_count(
+    alloc: Global,
+    count: usize,
+    things: &[u8],
+    remarks: &mut Vec<Remark>,
+) -> Result<(), AllocError> {
     if count <= MOST {
         return Ok(());
     }
     let mut text = b"these are the first 100 of ".to_vec(alloc)?;
     push_number(count as u64, &mut text)?;
-    text.extend_from_slice(b" warnings")?;
+    text.extend_from_slice(things)?;
     remarks.push(Remark {
         position: None,
         text,

@@ -1,7 +1,7 @@
 -- What a writer has gained after several writes in a row.
 use Rattle.std.proofs.Common.{◌≡◌, ◌+◌, ◌≤◌, ℕ, Bool, List, [], ◌++◌, length, take, Option, None, Some, refl, sym, arith, false, true, true≢false, length-append, subst}
 use Rattle.std.proofs.lemmas.List.{append-nil, take-append-le, take_at, drop_at}
-use Rattle.std.proofs.Math.Seq.{take-add}
+use Rattle.std.proofs.Math.Seq.{take-add, take-length}
 use Rattle.std.proofs.lemmas.Grind.{common_steps}
 use Rattle.std.specs.Prelude.{Result, Ok, Err, OnOk, is_err, if◌then◌else◌}
 use Rattle.term_model.specs.declared.fault.Fault.{Fault}
@@ -51,6 +51,17 @@ tells_after {A} {B} (Ok v) (Ok u) fault more before between after old middle new
 tells_after {A} {B} (Ok v) (Err e) fault more before between after old middle new good first still gained begun failed =
     tells_both {A = B} (Err e) fault more before after old middle new first gained begun (omega arith)
 tells_after (Err e) w fault more before between after old middle new good first still gained begun failed = absurd (true≢false good)
+
+gains_all : (a b : Option (List ℕ)) (xs : List ℕ) → Gains a b xs → GainsPrefix a b xs
+gains_all a b xs gained = (length xs, omega arith, rw (take-length xs) gained)
+
+-- a report that was written, and a text for a person after it
+pub text_follows : {A : Type 0} (r : Result A Fault) (fault : Fault) (before after : ℕ) (old middle new : Option (List ℕ)) →
+    is_err r ≡ false → OnOk r (Gains old middle (diagnostic fault)) → TellsText middle new → TellsMore fault before after old new
+text_follows (Ok v) fault before after old middle new good first (text, (k, within, gained)) =
+    let both = gains_both old middle new (diagnostic fault) (take k text) first gained in
+    record { more = take k text; beginning = gains_all old new (diagnostic fault ++ take k text) both; whole = λ _. both }
+text_follows (Err e) fault before after old middle new good first told = absurd (true≢false good)
 
 gains_nothing : (a : Option (List ℕ)) → GainsPrefix a a []
 gains_nothing None = (0, omega arith, tt)

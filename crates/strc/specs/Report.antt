@@ -88,10 +88,10 @@ abbrev pub TellsIfAsked : Bool → Option (List ℕ) → Option (List ℕ) → T
 TellsIfAsked false old new = new ≡ old
 TellsIfAsked true old new = TellsText old new
 
--- a refusal is reported, and for a person that the budget is spent or that a term did not fit. Of a result nothing is, unless the numbers of the
--- run are asked for, and of a failure nothing, unless they or an explanation are
+-- a refusal is reported, and for a person that the budget is spent or that a term did not fit. Of a result and of a failure nothing is, unless
+-- the numbers of the run or an explanation are asked for
 abbrev pub IsReportedWith : Bool → Bool → Status → ℕ → ℕ → Option (List ℕ) → Option (List ℕ) → Type 0
-IsReportedWith has_stats explains Rewritten before after old new = TellsIfAsked has_stats old new
+IsReportedWith has_stats explains Rewritten before after old new = TellsIfAsked (has_stats || explains) old new
 IsReportedWith has_stats explains Failed before after old new = TellsIfAsked (has_stats || explains) old new
 IsReportedWith has_stats explains (Refused fault) before after old new = TellsMore fault before after old new
 IsReportedWith has_stats explains Oversize before after old new = TellsText old new
@@ -103,3 +103,13 @@ IsReported (Refused fault) before after old new = TellsMore fault before after o
 IsReported Oversize before after old new = TellsText old new
 IsReported Spent before after old new = TellsText old new
 IsReported status before after old new = new ≡ old
+
+-- the exit status of a check of definitions in which nothing is wrong, or that are refused
+abbrev pub exit_of_verdict : Option Fault → ℕ
+exit_of_verdict None = 0
+exit_of_verdict (Some fault) = 2
+
+-- what is reported of such a check: warnings for a person, and of a refusal the line of its fault first
+abbrev pub TellsVerdict : Option Fault → ℕ → ℕ → Option (List ℕ) → Option (List ℕ) → Type 0
+TellsVerdict None before after old new = TellsText old new
+TellsVerdict (Some fault) before after old new = TellsMore fault before after old new

@@ -12,6 +12,7 @@ pub record IsPlainRequest (request : Request) : Type 0 where
   pub lenient : request.is_strict ≡ false
   pub quiet : request.has_stats ≡ false
   pub unexplained : request.explains ≡ false
+  pub unchecked : request.checks ≡ false
   pub joined : request.texts ≡ Joined
 
 -- the options are those that the request asks for

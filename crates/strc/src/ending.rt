@@ -1,8 +1,8 @@
 //! Reports of how a transformation ended.
 ghost use Rattle.std.specs.Prelude.{◌||◌};
-ghost use Rattle.strc.specs.Report.{IsReportedWith, TellsIfAsked, TellsText};
+ghost use Rattle.strc.specs.Report.{IsReportedWith, TellsIfAsked, TellsMore, TellsText};
 
-use crate::report::{Reporting, report_numbers, report_refusal};
+use crate::report::{Reporting, report, report_numbers, report_refusal};
 use itoa::Buffer;
 use std::alloc::Global;
 use str_pipeline::{OversizeTerm, Position, Remark, RunNotes, Sink, Status, write_all};
@@ -122,8 +122,8 @@ pub(crate) fn write_remark<E: Sink>(
     write_pieces(&pieces, diagnostics)
 }
 
-/// Writes why a run has no result, where that is explained: a line for each remark.
-fn write_remarks<E: Sink>(
+/// Writes why a run has no result or what a check found, where that is known: a line for each remark.
+pub(crate) fn write_remarks<E: Sink>(
     definitions: &str,
     notes: &RunNotes,
     diagnostics: &mut E,
@@ -139,8 +139,7 @@ fn write_remarks<E: Sink>(
     Ok(())
 }
 
-/// Writes what is asked for of a run without a result: why it has none, and then what it used. Where a write fails, nothing more is
-/// written.
+/// Writes what is asked for of a run: why it has no result, warnings, and then what it used. Where a write fails, nothing more is written.
 fn report_asked<E: Sink>(
     alloc: Global,
     reporting: Reporting<'_>,
@@ -150,13 +149,35 @@ fn report_asked<E: Sink>(
     ensures { TellsIfAsked (reporting.entry.has_stats || reporting.entry.explains)
         (E.written diagnostics.old) (E.written diagnostics.new) }
 {
-    if !reporting.reports_failures() {
+    if !reporting.reports_runs() {
         return;
     }
     if write_remarks(reporting.definitions, notes, diagnostics).is_err() {
         return;
     }
     report_numbers(alloc, reporting.has_stats, notes, diagnostics);
+}
+
+/// Writes the diagnostic line of a refusal of definitions that are checked, and then a line for each remark or, if there are none, what
+/// `report_refusal` writes.
+pub(crate) fn report_findings<E: Sink>(
+    alloc: Global,
+    fault: &Fault,
+    reporting: Reporting<'_>,
+    notes: &RunNotes,
+    diagnostics: &mut E,
+)
+    ensures { TellsMore fault.now (E.failed_writes diagnostics.old) (E.failed_writes diagnostics.new)
+        (E.written diagnostics.old) (E.written diagnostics.new) }
+{
+    if notes.explanation().is_none() {
+        report_refusal(alloc, fault, reporting, notes, diagnostics);
+        return;
+    }
+    if report(fault, diagnostics).is_err() {
+        return;
+    }
+    let _ = write_remarks(reporting.definitions, notes, diagnostics);
 }
 
 /// Writes that a term did not fit and, where that is asked for, more of the run.
@@ -191,7 +212,7 @@ fn report_spent<E: Sink>(
 }
 
 /// Writes how a transformation with this budget ended: of a refusal the diagnostic line and lines that say more, of a spent budget and of a
-/// term that did not fit one line, and then what is asked for. A failure is reported only where more is asked for.
+/// term that did not fit one line, and then what is asked for. Results and failures are reported only where more is asked for.
 pub(crate) fn report_end<E: Sink>(
     alloc: Global,
     status: &Status,
@@ -205,7 +226,7 @@ pub(crate) fn report_end<E: Sink>(
         (E.written diagnostics.old) (E.written diagnostics.new) }
 {
     match status {
-        Status::Rewritten => report_numbers(alloc, reporting.has_stats, notes, diagnostics),
+        Status::Rewritten => report_asked(alloc, reporting, notes, diagnostics),
         Status::Failed => report_asked(alloc, reporting, notes, diagnostics),
         Status::Refused(fault) => report_refusal(alloc, fault, reporting, notes, diagnostics),
         Status::Oversize => report_oversize(alloc, reporting, notes, diagnostics),

@@ -2,6 +2,7 @@
 //! standard output.
 #![tactic(auto)]
 
+mod checking;
 mod ending;
 mod failure;
 mod paths;

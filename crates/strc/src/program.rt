@@ -15,11 +15,12 @@ ghost use Rattle.strc.specs.Report.{AreSome, Failures, exit_of, IsCause, Tells, 
 ghost use Rattle.strc.specs.Request.{ArePlain};
 ghost use Rattle.strc.specs.declared.request.Texts.TheVariants.{Joined};
 
+use crate::checking::run_check;
 use crate::ending::{notes_for, report_end};
 use crate::failure::Failure;
 use crate::paths::Paths;
 use crate::report::{INPUT, Reporting, report, report_failure};
-use crate::request::{Request, Texts, options_of, request_of};
+use crate::request::{Request, Texts, misuse_of, options_of, request_of};
 use clap::Error;
 use clap::error::ErrorKind;
 use prim_registry::{PrimMeaning, Registry};
@@ -43,7 +44,7 @@ pub(crate) fn stop<E: Sink>(fault: &Fault, diagnostics: &mut E) -> u8
 
 /// Reports a fault of opening or reading, and returns 4. The failure says of what, and why.
 #[tactic(auto, using(crate::proofs::CauseLaws::alone_told))]
-fn stop_reading<E: Sink>(
+pub(crate) fn stop_reading<E: Sink>(
     alloc: Global,
     fault: &Fault,
     failure: Failure<'_>,
@@ -366,6 +367,7 @@ fn explain<W: Sink, E: Sink>(alloc: Global, error: &Error, out: &mut W, diagnost
     };
     if error.use_stderr() {
         let _ = write_all(diagnostics, text.as_bytes());
+        let _ = write_all(diagnostics, range_of(error.kind()).as_bytes());
         return 5;
     }
     if write_all(out, text.as_bytes()).is_err() {
@@ -374,10 +376,20 @@ fn explain<W: Sink, E: Sink>(alloc: Global, error: &Error, out: &mut W, diagnost
     0
 }
 
+/// Returns the line that says what `--rules` takes where a value is wrong: it is the only option with a number. Nothing for other errors.
+fn range_of(kind: ErrorKind) -> &'static str {
+    if kind == ErrorKind::ValueValidation {
+        "hint: --rules takes a number from 0 to 1000000000\n"
+    } else {
+        ""
+    }
+}
+
 /// Does what the words of the command line ask for, of which the first is the name of the program: `[--rules N] [--main NAME] [--strict]
-/// [--stats] [--explain] [DEFS [TERM]]`. It transforms the definitions of the file DEFS and the term of the file TERM; without TERM the term
+/// [--stats] [--explain] [--check] [DEFS [TERM]]`. It transforms the definitions of the file DEFS and the term of the file TERM; without TERM the term
 /// comes from `input`, and without both paths the joined form does. Definitions may call the primitives of the registry and the strategies of
-/// the library. The line of the answer goes to `out`. Files are opened before anything is read, DEFS first.
+/// the library. The line of the answer goes to `out`. Files are opened before anything is read, DEFS first. With `--check` it judges the
+/// definitions alone, those of the file DEFS and else of `input`: `diagnostics` gets all faults and warnings, and `out` nothing.
 ///
 /// Returns the exit status: 0 where the term was rewritten, and for the help text and the version, which go to `out`; 1 where the strategy
 /// failed, 2 where the definitions or the term were refused, 3 where the budget was spent or a term was too large, 4 where memory, opening,
@@ -432,6 +444,23 @@ pub fn run<P: Paths, I: Source, W: Sink, E: Sink, M: PrimMeaning>(
     let Ok(options) = options_of(alloc, &request) else {
         return stop(&Fault::Memory, diagnostics);
     };
+    if words.len() > 1 {
+        if let Some(text) = misuse_of(&request) {
+            let _ = write_all(diagnostics, text.as_bytes());
+            return 5;
+        }
+        if request.checks {
+            return run_check(
+                alloc,
+                &request,
+                paths,
+                input,
+                &options,
+                registry,
+                diagnostics,
+            );
+        }
+    }
     run_texts(
         alloc,
         &request,

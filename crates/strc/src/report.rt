@@ -78,8 +78,8 @@ impl<'a> Reporting<'a> {
         }
     }
 
-    /// Whether anything is reported of a run that failed.
-    pub(crate) fn reports_failures(self) -> bool
+    /// Whether anything is reported of a run that was neither refused nor stopped by a limit.
+    pub(crate) fn reports_runs(self) -> bool
         ensures { result ≡ (self.entry.has_stats || self.entry.explains) }
     {
         self.has_stats || self.explains

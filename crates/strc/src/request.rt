@@ -30,19 +30,22 @@ pub(crate) struct Request<'a> {
     pub(crate) is_strict: bool,
     /// Whether the numbers of the run are asked for.
     pub(crate) has_stats: bool,
-    /// Whether it is asked for why a run has no result.
+    /// Whether it is asked for why a run has no result, and for warnings.
     pub(crate) explains: bool,
+    /// Whether the definitions are checked, and no term is rewritten.
+    pub(crate) checks: bool,
     /// Where the two texts come from.
     pub(crate) texts: Texts<'a>,
 }
 
 /// How the program is called, in the help text and in texts on faults of the command line.
-const USAGE: &str = "strc [--rules N] [--main NAME] [--strict] [--stats] [--explain] [DEFS [TERM]]";
+const USAGE: &str = "strc [--rules N] [--main NAME] [--strict] [--stats] [--explain] [DEFS [TERM]]
+       strc --check [--main NAME] [DEFS]";
 
 /// The end of the help text.
 const EXAMPLES: &str = "\
 Without TERM the text of the term is standard input. Without both paths standard input has the definitions,
-a line '#term' and the text of the term.
+a line '#term' and the text of the term. With --check there is no term, and standard input has definitions alone.
 
 Definitions may call the library (try, repeat, topdown, bottomup, oncetd, oncebu, alltd, innermost, map) and, by
 prim(\"name\", ..), the primitives add, sub, mul, div, mod, less, concat, length, explode, implode, int_text and text_int.
@@ -52,9 +55,10 @@ Examples:
   strc rules.str < term.aterm
   strc < joined
   strc --main simplify --rules 500 --strict rules.str term.aterm
+  strc --check rules.str
 
 Exit status:
-  0  the term was rewritten, and the result is printed; also for --help and --version
+  0  the term was rewritten, and the result is printed; also for --help, --version, and --check if nothing is refused
   1  the strategy failed: #failed
   2  the definitions or the term are refused: #refused and the fault
   3  the rules are spent, or a term would be too large: #spent, #oversize
@@ -115,7 +119,18 @@ fn explain<'a>(alloc: Global) -> Arg<'a>
     Arg::new(alloc, "explain")
         .long("explain")
         .action(ArgAction::SetTrue)
-        .help("Say on standard error why the run has no result")
+        .help("Say on standard error why the run has no result, and print warnings")
+}
+
+/// Returns the flag that asks for a check of the definitions alone.
+#[tactic(auto, using(crate::proofs::RulesLaws::other_letter))]
+fn check<'a>(alloc: Global) -> Arg<'a>
+    ensures { Fits result }
+{
+    Arg::new(alloc, "check")
+        .long("check")
+        .action(ArgAction::SetTrue)
+        .help("Check the definitions alone: print all faults and warnings on standard error")
 }
 
 /// Returns the path of the definitions.
@@ -154,13 +169,14 @@ fn command<'a>(alloc: Global) -> Result<Command<'a>, Error>
     let command = command.arg(strict(alloc))?;
     let command = command.arg(stats(alloc))?;
     let command = command.arg(explain(alloc))?;
+    let command = command.arg(check(alloc))?;
     let command = command.arg(definitions(alloc))?;
     Ok(command.arg(term(alloc))?)
 }
 
 /// Reads the words of the command line, of which the first is the name of the program. Where it is the only one, the texts come in the
-/// joined form, the strategy is `main`, the term need not be declared, the budget is 1,000,000 rules, and neither numbers nor an explanation
-/// are asked for. An error is what the program has to say: what is wrong with the words, the help text or the version; or out of memory.
+/// joined form, the strategy is `main`, the term need not be declared, the budget is 1,000,000 rules, and neither numbers, an explanation
+/// nor a check are asked for. An error is what the program has to say: what is wrong with the words, the help text or the version; or out of memory.
 pub(crate) fn request_of<'a>(alloc: Global, words: &'a [String]) -> Result<Request<'a>, Error>
     ensures bound { IfOk result (λ request. request.rules ≤ max_budget) }
     ensures plain { length words.now ≤ 1 → IsOkAnd result IsPlainRequest }
@@ -172,6 +188,7 @@ pub(crate) fn request_of<'a>(alloc: Global, words: &'a [String]) -> Result<Reque
             is_strict: false,
             has_stats: false,
             explains: false,
+            checks: false,
             texts: Texts::Joined,
         });
     }
@@ -182,6 +199,7 @@ pub(crate) fn request_of<'a>(alloc: Global, words: &'a [String]) -> Result<Reque
         is_strict: matches.get_flag("strict"),
         has_stats: matches.get_flag("stats"),
         explains: matches.get_flag("explain"),
+        checks: matches.get_flag("check"),
         texts: texts_of(&matches),
     })
 }
@@ -200,6 +218,17 @@ fn texts_of<'a>(matches: &ArgMatches<'a>) -> Texts<'a> {
         (Some(definitions), Some(term)) => Texts::Both(definitions, term),
         (Some(definitions), None) => Texts::Definitions(definitions),
         _ => Texts::Joined,
+    }
+}
+
+/// Returns what is wrong with a request that has the right words, if anything is.
+pub(crate) fn misuse_of(request: &Request<'_>) -> Option<&'static str> {
+    if request.main.is_empty() {
+        return Some("error: --main needs the name of a strategy\n");
+    }
+    match request.texts {
+        Texts::Both(_, _) if request.checks => Some("error: --check takes no TERM\n"),
+        _ => None,
     }
 }
 

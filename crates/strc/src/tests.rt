@@ -1,4 +1,5 @@
 //! The words of the command line, the exit statuses and what is on the streams.
+mod checks;
 mod endings;
 mod expected;
 mod explanations;

@@ -6,6 +6,15 @@ use std::test::Fail;
 // The joined form, and the hint; nothing where the text only just gets none.
 const ROWS: &[(&str, &str)] = &[
     (
+        "strategies main = try(_)\n#term\n1",
+        "'_' is a pattern; a strategy that succeeds on each term is id",
+    ),
+    (
+        "strategies main = map(id){x}\n#term\n1",
+        "annotations stand only in patterns, such as ?p{a}",
+    ),
+    ("strategies main = map(id) {x}\n#term\n1", ""),
+    (
         "rules\n  next : x -> <s>\n  next-slot : y -> y\n#term\n1",
         "'next-slot' was taken as the operand of '<..>' on line 2; write (<..>)",
     ),

@@ -98,7 +98,7 @@ const CHECKS: &[(&str, &str, &str)] = &[
     (
         "strategies f(s, s) = id main = id",
         "Parameters",
-        "stdin:1:17: name s stands twice among parameters or in a scope\n",
+        "stdin:1:17: duplicate name s\n",
     ),
     (
         "strategies g(s) = s g(t) = t main = id",
@@ -206,7 +206,27 @@ const RUNS: &[(&str, &str, &str)] = &[
     (
         "strc --strict signed.str",
         "F(G(7))",
-        "strc: TermUndeclared\nstdin: an application of the term is not declared\n",
+        "strc: TermUndeclared\nstdin:1:3: constructor G with 1 part is not declared\n    F(G(7))\n      ^\n",
+    ),
+    (
+        "strc --strict signed.str",
+        "[F(\"\\\"a(\"), (1, -2,[]){F( )}, \"f g\"]",
+        "strc: TermUndeclared\nstdin:1:24: constructor F with 0 parts is not declared (it is declared with 1)\n    [F(\"\\\"a(\"), (1, -2,[]){F( )}, \"f g\"]\n                           ^\n",
+    ),
+    (
+        "strc --strict signed.str",
+        "F(F)",
+        "strc: TermUndeclared\nstdin:1:3: constructor F with 0 parts is not declared (it is declared with 1)\n    F(F)\n      ^\n",
+    ),
+    (
+        "strc --strict signed.str",
+        "F(\"g h\"(F(1)))",
+        "strc: TermUndeclared\nstdin:1:3: constructor \"g h\" with 1 part is not declared\n    F(\"g h\"(F(1)))\n      ^\n",
+    ),
+    (
+        "strc --strict signed.str",
+        "F(\n G(1, F(2, 3)))",
+        "strc: TermUndeclared\nstdin:2:2: constructor G with 2 parts is not declared\n     G(1, F(2, 3)))\n     ^\n",
     ),
 ];
 

@@ -15,6 +15,7 @@ const JOINED: Request<'static> = Request {
     is_strict: false,
     has_stats: false,
     explains: false,
+    checks: false,
     texts: Texts::Joined,
 };
 
@@ -96,6 +97,15 @@ const REQUESTS: &[(&str, Request<'static>)] = &[
         Request {
             has_stats: true,
             explains: true,
+            ..JOINED
+        },
+    ),
+    (
+        "strc --check --main go a.str",
+        Request {
+            main: "go",
+            checks: true,
+            texts: Texts::Definitions("a.str"),
             ..JOINED
         },
     ),

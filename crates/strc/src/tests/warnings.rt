@@ -68,6 +68,10 @@ const ROWS: &[(&str, &str)] = &[
         "stdin:3:3: warning: this alternative of f is never reached: no term gets past that on line 2\n",
     ),
     (
+        "rules main = f; fail\n  f : 1 -> 2\n  f : _ -> 3\nstrategies\n  f = id",
+        "stdin:5:3: warning: this alternative of f is never reached: no term gets past that on line 3\n",
+    ),
+    (
         "rules main = f(| 1); fail\n  f(| y) : _ -> y\n  f(| y) : 3 -> 4",
         "stdin:3:3: warning: this alternative of f is never reached: no term gets past that on line 2\n",
     ),
@@ -111,6 +115,30 @@ fn warnings_with_explanations(rt: HostRuntime) -> Result<(), Fail> {
         if !is_warned(rt.alloc(), definitions, warning)? {
             return Err(Fail::new(definitions));
         }
+    }
+    Ok(())
+}
+
+#[test]
+fn warnings_after_a_result(rt: HostRuntime) -> Result<(), Fail> {
+    let text = b"strategies main = id f = id\n#term\n7";
+    let ran = run_on(rt.alloc(), "strc --explain --stats", text, None, None, None)?;
+    let report =
+        b"stdin:1:22: warning: f is never called\nstrc: 2 rules, 4 steps, 1 shapes\n".as_slice();
+    if ran.status != 0 || ran.diagnostics.written() != report {
+        return Err(Fail::new("another status or report"));
+    }
+    Ok(())
+}
+
+#[test]
+fn alternatives_that_are_never_reached(rt: HostRuntime) -> Result<(), Fail> {
+    let text = b"rules\n  main : _ -> 1\n  main : 2 -> 3\n  main : 4 -> 5\n#term\n7";
+    let ran = run_on(rt.alloc(), "strc --explain", text, None, None, None)?;
+    let report =
+        b"stdin:3:3: warning: this alternative of main is never reached: no term gets past that on line 2\nstdin:4:3: warning: this alternative of main is never reached: no term gets past that on line 2\n".as_slice();
+    if ran.status != 0 || ran.diagnostics.written() != report {
+        return Err(Fail::new("another status or report"));
     }
     Ok(())
 }

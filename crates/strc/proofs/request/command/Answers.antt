@@ -8,5 +8,6 @@ returns c =
     let three = added c.in_ok-command-2.command c.in_ok-command-3.command c.strict.result two c.strict.ensures c.in_ok-command-3.ensures in
     let four = added c.in_ok-command-3.command c.in_ok-command-4.command c.stats.result three c.stats.ensures c.in_ok-command-4.ensures in
     let five = added c.in_ok-command-4.command c.in_ok-command-5.command c.explain.result four c.explain.ensures c.in_ok-command-5.ensures in
-    let six = added c.in_ok-command-5.command c.in_ok-command-6.command c.definitions.result five c.definitions.ensures c.in_ok-command-6.ensures in
-    added c.in_ok-command-6.command c.in_ok-arg.field-0 c.term.result six c.term.ensures c.in_ok-arg.ensures
+    let six = added c.in_ok-command-5.command c.in_ok-command-6.command c.check.result five c.check.ensures c.in_ok-command-6.ensures in
+    let seven = added c.in_ok-command-6.command c.in_ok-command-7.command c.definitions.result six c.definitions.ensures c.in_ok-command-7.ensures in
+    added c.in_ok-command-7.command c.in_ok-arg.field-0 c.term.result seven c.term.ensures c.in_ok-arg.ensures

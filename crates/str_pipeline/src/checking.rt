@@ -1,0 +1,183 @@
+//! The check of definitions without a term.
+ghost use Rattle.std.specs.Prelude.{◌≡◌, ◌+◌, ◌≤◌, length, if◌then◌else◌, false, IfOk, IfErr, IfSome};
+ghost use Rattle.term_model.specs.Limits.{max_budget};
+ghost use Rattle.prim_registry.specs.Entries.{IsHonest};
+ghost use Rattle.str_pipeline.specs.Limits.{max_definitions};
+ghost use Rattle.str_pipeline.specs.Setting.{setting_of};
+ghost use Rattle.str_pipeline.specs.Judged.{IsVerdict};
+ghost use Rattle.str_pipeline.specs.Faults.{IsReadingFault, is_read_fault};
+
+use crate::answer::MAX_DEFINITIONS;
+use crate::explanation::{Explanation, Position, Remark};
+use crate::name_hints::{name_hint_in, primitive_place, whole_file};
+use crate::notes::RunNotes;
+use crate::pieces::position_in;
+use crate::program::noted_program;
+use crate::source::{Source, read_all};
+use crate::status::Options;
+use crate::warnings::{Definitions, add_count, add_warnings};
+use prim_registry::{PrimMeaning, Registry};
+use scope_check::{Detail, Note, Notes, note_faults};
+use std::alloc::{AllocError, Global};
+use str_lexer::{Token, lex};
+use str_syntax::File;
+use term_model::{Fault, PrimNames};
+
+/// Reads definitions and judges them as `transform` does: returns nothing if nothing is wrong in them, and else the fault with which they
+/// are refused. The definition that is applied is the one whose name the options give; they matter for nothing else. At most 1,048,577
+/// reads are made.
+///
+/// What a person wants to know is noted, and what was noted before is dropped: of a refusal what `transform_with_notes` notes; and as an
+/// explanation, for which the definitions are read once more, the places at which the checks refuse the file, each with a hint if there
+/// is one, and warnings, the first hundred of each and how many there are. Definitions that are too long, or no file, have no explanation,
+/// and if memory for it is refused there is none.
+///
+/// # Errors
+/// `Read` if a read failed, and `Memory` if a growth was refused.
+pub fn check_definitions<D: Source, M: PrimMeaning>(
+    alloc: Global,
+    definitions: &mut D,
+    options: &Options,
+    registry: &Registry<M>,
+    notes: &mut RunNotes,
+) -> Result<Option<Fault>, Fault>
+    ensures judged { IfOk result (λ verdict. IfSome (D.coming definitions.old) (λ d.
+        IsVerdict (setting_of M.answer registry.now options.now) d verdict)) }
+    ensures kinds { IfErr result IsReadingFault }
+    ensures failed { D.failed_reads definitions.new
+        ≡ D.failed_reads definitions.old + (if is_read_fault result then 1 else 0) }
+    ensures bounded { D.reads definitions.new ≤ D.reads definitions.old + max_definitions + 1 }
+{
+    notes.begin();
+    let Some(text) = read_all(alloc, definitions, MAX_DEFINITIONS)? else {
+        notes.note_long_definitions();
+        return Ok(Some(Fault::DefsTooLong));
+    };
+    judge(alloc, &text, options, registry, notes)
+}
+
+/// Judges these definitions. The fault is `Memory`.
+#[tactic(auto, using(crate::proofs::FaultLaws::program_refused, crate::proofs::FaultLaws::program_stops, crate::proofs::FaultLaws::is_reading, crate::proofs::FaultLaws::program_no_read))]
+fn judge<M: PrimMeaning>(
+    alloc: Global,
+    text: &[u8],
+    options: &Options,
+    registry: &Registry<M>,
+    notes: &mut RunNotes,
+) -> Result<Option<Fault>, Fault>
+    requires { length text.now ≤ max_definitions }
+    ensures judged { IfOk result (IsVerdict (setting_of M.answer registry.now options.now) text.now) }
+    ensures kinds { IfErr result IsReadingFault }
+    ensures read { is_read_fault result ≡ false }
+{
+    match noted_program(alloc, text, options, registry, notes) {
+        Ok(_) => {
+            note_findings(alloc, text, options, registry, notes);
+            Ok(None)
+        }
+        Err(fault) => {
+            if fault.number() <= 2 {
+                return Err(fault);
+            }
+            note_findings(alloc, text, options, registry, notes);
+            Ok(Some(fault))
+        }
+    }
+}
+
+/// Notes what the checks find in definitions, and warnings, if these are a file and memory for it is there.
+fn note_findings<M: PrimMeaning>(
+    alloc: Global,
+    text: &[u8],
+    options: &Options,
+    registry: &Registry<M>,
+    notes: &mut RunNotes,
+) {
+    if let Ok(explanation) = findings_in(alloc, text, options, registry) {
+        notes.note_explanation(explanation);
+    }
+}
+
+/// What the checks find in definitions, and warnings. The fault is `Memory`, or that of a text that is no file.
+pub(crate) fn findings_in<M: PrimMeaning>(
+    alloc: Global,
+    text: &[u8],
+    options: &Options,
+    registry: &Registry<M>,
+) -> Result<Explanation, Fault> {
+    let file = whole_file(alloc, text)?;
+    let primitives = registry.names(alloc)?;
+    let mut found = Notes::collecting(alloc);
+    let signature = note_faults(alloc, &file, &primitives, &options.main, &mut found)?;
+    let mut remarks = Vec::new(alloc);
+    add_faults(alloc, text, &file, &found, &primitives, &mut remarks)?;
+    let definitions = Definitions {
+        text,
+        file: &file,
+        signature: &signature,
+        main: &options.main,
+    };
+    add_warnings(alloc, &definitions, &mut remarks)?;
+    Ok(Explanation::new(remarks))
+}
+
+/// Adds what was found in the file of this text as remarks, each with a hint if there is one.
+fn add_faults(
+    alloc: Global,
+    text: &[u8],
+    file: &File,
+    found: &Notes,
+    primitives: &PrimNames,
+    remarks: &mut Vec<Remark>,
+) -> Result<(), Fault> {
+    let notes = found.collected();
+    if notes.is_empty() {
+        return Ok(());
+    }
+    let tokens = lex(alloc, text)?;
+    for (index, note) in notes.iter().enumerate() {
+        remarks.push(Remark {
+            position: Some(position_of(text, &tokens, notes, index)),
+            text: format!(in alloc; "{note}")?.into_bytes(),
+        })?;
+        if let Some(hint) = name_hint_in(alloc, file, note, primitives) {
+            remarks.push(Remark {
+                position: None,
+                text: format!(in alloc; "hint: {hint}")?.into_bytes(),
+            })?;
+        }
+    }
+    add_count(alloc, found.count(), b" faults", remarks)?;
+    Ok(())
+}
+
+/// The position that the note of this index is about in the text of these tokens. What has no place is at the beginning.
+fn position_of(text: &[u8], tokens: &[Token], notes: &[Note], index: usize) -> Position {
+    let offset = match notes.get(index) {
+        Some(note) => match note.offset() {
+            Some(at) => at,
+            None => call_place(tokens, notes, note, index).unwrap_or(0),
+        },
+        None => 0,
+    };
+    position_in(text, usize::try_from(offset).unwrap_or(usize::MAX))
+}
+
+/// The byte at which the call of an unknown primitive begins, if all calls of this primitive are noted.
+fn call_place(tokens: &[Token], notes: &[Note], note: &Note, index: usize) -> Option<u64> {
+    let Detail::UnknownPrimitive { .. } = note.detail() else {
+        return None;
+    };
+    let before = notes.iter().take(index);
+    let before = before.filter(|other| is_alike(note, other)).count();
+    let count = notes.iter().filter(|other| is_alike(note, other)).count();
+    primitive_place(tokens, note.name(), before, count)
+}
+
+/// Whether both notes are about unknown primitives of one name.
+fn is_alike(note: &Note, other: &Note) -> bool {
+    match other.detail() {
+        Detail::UnknownPrimitive { .. } => note.name() == other.name(),
+        _ => false,
+    }
+}

@@ -1,0 +1,9 @@
+use Rattle.std.proofs.Common.{◌∙◌, sym}
+use Rattle.strc.proofs.PrefixLaws.{text_follows}
+use Rattle.strc.proofs.ending.report_findings.Goals as goal
+
+pub returns : goal.returns
+returns g c =
+    text_follows c.report.result c.args.fault.now _ _
+    (g.E.Sink.written c.args.diagnostics.now) (g.E.Sink.written c.report.new.diagnostics) (g.E.Sink.written c.write_remarks.new.diagnostics)
+    (sym c.is_err.ensures.value ∙ c.if-is_err.false) c.report.ensures.whole c.write_remarks.ensures

@@ -1,0 +1,123 @@
+//! The check of definitions without a term.
+ghost use Rattle.std.specs.Prelude.{◌≡◌, ◌+◌, ◌<◌, ◌≤◌, IfSome};
+ghost use Rattle.term_model.specs.declared.fault.Fault.{Fault};
+ghost use Rattle.str_pipeline.specs.Setting.{setting_of};
+ghost use Rattle.str_pipeline.specs.Judged.{IsVerdict};
+ghost use Rattle.str_pipeline.specs.Faults.{IsReadingFault};
+ghost use Rattle.str_pipeline.specs.Limits.{max_definitions};
+ghost use Rattle.strc.specs.Report.{exit_of_verdict, TellsFault, TellsVerdict};
+ghost use Rattle.strc.specs.declared.request.Texts.TheVariants.{Joined};
+
+use crate::ending::{report_findings, write_remarks};
+use crate::failure::Failure;
+use crate::paths::Paths;
+use crate::program::stop_reading;
+use crate::report::{INPUT, Reporting};
+use crate::request::{Request, Texts};
+use prim_registry::{PrimMeaning, Registry};
+use std::alloc::Global;
+use str_pipeline::{Options, RunNotes, Sink, Source, check_definitions};
+use term_model::Fault;
+
+/// Reports what was judged of definitions, and returns the exit status: 0, or 2 if they are refused.
+fn conclude_check<E: Sink>(
+    alloc: Global,
+    verdict: Option<Fault>,
+    reporting: Reporting<'_>,
+    notes: &RunNotes,
+    diagnostics: &mut E,
+) -> u8
+    ensures status { (exit_of_verdict verdict ≡ result) × (result ≤ 2) }
+    ensures told { TellsVerdict verdict (E.failed_writes diagnostics.old) (E.failed_writes diagnostics.new)
+        (E.written diagnostics.old) (E.written diagnostics.new) }
+{
+    match verdict {
+        Some(fault) => {
+            report_findings(alloc, &fault, reporting, notes, diagnostics);
+            2
+        }
+        None => {
+            let _ = write_remarks(reporting.definitions, notes, diagnostics);
+            0
+        }
+    }
+}
+
+/// Checks the definitions of the reader, reports what is found, and returns the exit status: 0 if nothing is wrong in them, 2 if they are
+/// refused, and 4 if reading or memory failed.
+fn check_reader<D: Source, E: Sink, M: PrimMeaning>(
+    alloc: Global,
+    definitions: &mut D,
+    reporting: Reporting<'_>,
+    options: &Options,
+    registry: &Registry<M>,
+    diagnostics: &mut E,
+) -> u8
+    ensures status { result ≤ 4 }
+    ensures judged { result < 4 → (verdict : Option Fault) × (exit_of_verdict verdict ≡ result)
+        × IfSome (D.coming definitions.old) (λ d. IsVerdict (setting_of M.answer registry.now options.now) d verdict)
+        × TellsVerdict verdict (E.failed_writes diagnostics.old) (E.failed_writes diagnostics.new)
+        (E.written diagnostics.old) (E.written diagnostics.new) }
+    ensures stopped { result ≡ 4 → (fault : Fault) × IsReadingFault fault
+        × TellsFault fault (E.failed_writes diagnostics.old) (E.failed_writes diagnostics.new)
+        (E.written diagnostics.old) (E.written diagnostics.new) }
+    ensures bounded { D.reads definitions.new ≤ D.reads definitions.old + max_definitions + 1 }
+{
+    let mut notes = RunNotes::none();
+    match check_definitions(alloc, definitions, options, registry, &mut notes) {
+        Ok(verdict) => conclude_check(alloc, verdict, reporting, &notes, diagnostics),
+        Err(fault) => {
+            let reading = Failure::of_reading(reporting, definitions.failure(), None);
+            stop_reading(alloc, &fault, reading, diagnostics)
+        }
+    }
+}
+
+/// Checks the definitions that the request names: those of its first file, and else of `input`, which has nothing but them. As `check_reader`;
+/// a file that cannot be opened is a fault of reading.
+pub(crate) fn run_check<P: Paths, I: Source, E: Sink, M: PrimMeaning>(
+    alloc: Global,
+    request: &Request<'_>,
+    paths: &mut P,
+    input: &mut I,
+    options: &Options,
+    registry: &Registry<M>,
+    diagnostics: &mut E,
+) -> u8
+    ensures status { result ≤ 4 }
+    ensures input_judged { request.now.texts ≡ Joined → result < 4 → (verdict : Option Fault) × (exit_of_verdict verdict ≡ result)
+        × IfSome (I.coming input.old) (λ d. IsVerdict (setting_of M.answer registry.now options.now) d verdict)
+        × TellsVerdict verdict (E.failed_writes diagnostics.old) (E.failed_writes diagnostics.new)
+        (E.written diagnostics.old) (E.written diagnostics.new) }
+    ensures told { result < 4 → (verdict : Option Fault) × (exit_of_verdict verdict ≡ result)
+        × TellsVerdict verdict (E.failed_writes diagnostics.old) (E.failed_writes diagnostics.new)
+        (E.written diagnostics.old) (E.written diagnostics.new) }
+    ensures stopped { result ≡ 4 → (fault : Fault) × IsReadingFault fault
+        × TellsFault fault (E.failed_writes diagnostics.old) (E.failed_writes diagnostics.new)
+        (E.written diagnostics.old) (E.written diagnostics.new) }
+    ensures bounded { I.reads input.new ≤ I.reads input.old + max_definitions + 1 }
+{
+    let path = match request.texts {
+        Texts::Joined => {
+            let reporting = Reporting::new(request, INPUT, INPUT);
+            return check_reader(alloc, input, reporting, options, registry, diagnostics);
+        }
+        Texts::Definitions(path) | Texts::Both(path, _) => path,
+    };
+    let mut definitions = match paths.open(path) {
+        Ok(definitions) => definitions,
+        Err(fault) => {
+            let failure = Failure::of_opening(path, paths.failure());
+            return stop_reading(alloc, &fault, failure, diagnostics);
+        }
+    };
+    let reporting = Reporting::new(request, path, INPUT);
+    check_reader(
+        alloc,
+        &mut definitions,
+        reporting,
+        options,
+        registry,
+        diagnostics,
+    )
+}
