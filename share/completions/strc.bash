@@ -16,7 +16,7 @@ _strc() {
         --rules | --main) compopt +o default ;; # a value, which is no file
         *)
             if [[ $current == -* ]]; then
-                COMPREPLY=($(compgen -W '--rules --main --strict --stats --explain -h --help -V --version' -- "$current"))
+                COMPREPLY=($(compgen -W '--rules --main --strict --stats --explain --check -h --help -V --version' -- "$current"))
             fi
             ;;
     esac
