@@ -403,7 +403,7 @@ fn range_of(kind: ErrorKind) -> &'static str {
 /// how large the term was, if that is known. Where the words ask why there is no result, lines say it next for 1 and 3, if memory for that
 /// was there. Where they ask for the numbers of the run, a line with them comes last for 0, 1 and 3. For 5 `diagnostics` tells what
 /// is wrong with the words and how the help text is had. A write to `diagnostics` that fails changes nothing.
-#[tactic(auto, using(crate::proofs::CauseLaws::line_told))]
+#[tactic(auto, using(crate::proofs::CauseLaws::line_told, crate::proofs::CauseLaws::of_reading, crate::proofs::CauseLaws::fault_told))]
 pub fn run<P: Paths, I: Source, W: Sink, E: Sink, M: PrimMeaning>(
     alloc: Global,
     words: &[String],
