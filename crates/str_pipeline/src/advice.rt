@@ -13,6 +13,8 @@ pub enum Advice {
     DynamicRules,
     ConcreteSyntax,
     AppliedInMatch,
+    /// The term is missing to which a strategy between `<` and `>` is applied.
+    MissingOperand,
     /// A wildcard stands where a strategy is expected.
     WildcardAsStrategy,
     /// Annotations stand after a strategy.
@@ -59,6 +61,7 @@ impl Advice {
             Advice::AppliedInMatch => {
                 "a match has no '<..>'; match a variable x, and write where(<s> x => p)"
             }
+            Advice::MissingOperand => "'<s>' applies s to a term: write <s> p => q, or s => q",
             Advice::WildcardAsStrategy =>
                 "'_' is a pattern; a strategy that succeeds on each term is id",
             Advice::AnnotatedStrategy => "annotations stand only in patterns, such as ?p{a}",

@@ -77,6 +77,10 @@ impl<'a> Site<'a> {
             Mark::Less if self.expected == Some(Expected::Pattern) => {
                 Some(Hint::Advice(Advice::AppliedInMatch))
             }
+            Mark::DoubleArrow
+                if self.expected == Some(Expected::Pattern) && self.is_behind(Mark::Greater) => {
+                Some(Hint::Advice(Advice::MissingOperand))
+            }
             Mark::OpenBrace if self.touches_before() => {
                 Some(Hint::Advice(Advice::AnnotatedStrategy))
             }
@@ -198,6 +202,15 @@ impl<'a> Site<'a> {
             (Some(token), Some(next)) => is_mark(next, wanted) && token.to == next.from,
             _ => false,
         }
+    }
+
+    // Whether the token at fault comes after this mark.
+    fn is_behind(&self, wanted: Mark) -> bool {
+        let before = self
+            .index
+            .checked_sub(1)
+            .and_then(|index| self.tokens.get(index));
+        before.is_some_and(|before| is_mark(before, wanted))
     }
 
     // Whether the token at fault stands right behind the one before it, a name or a closing parenthesis.

@@ -15,6 +15,11 @@ const ROWS: &[(&str, &str)] = &[
     ),
     ("strategies main = map(id) {x}\n#term\n1", ""),
     (
+        "rules main : n -> m where <id> => m\n#term\n1",
+        "'<s>' applies s to a term: write <s> p => q, or s => q",
+    ),
+    ("rules main : n -> m where id => => m\n#term\n1", ""),
+    (
         "rules\n  next : x -> <s>\n  next-slot : y -> y\n#term\n1",
         "'next-slot' was taken as the operand of '<..>' on line 2; write (<..>)",
     ),
