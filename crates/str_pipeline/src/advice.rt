@@ -50,7 +50,8 @@ impl Advice {
             }
             Advice::SectionWord => "write 'rules' or 'strategies' before the first definition",
             Advice::LeftChoice => "write '<+' for a choice; '+' stands only in s1 < s2 + s3",
-            Advice::Assignment => "':=' is not supported; write where(!p => x) for x := p",
+            Advice::Assignment =>
+                "':=' is not supported; for x := p write where(!p => x), for x := <s> p write <s> p => x",
             Advice::TypedParameters => {
                 "types of parameters are not supported; leave out ':' and the type"
             }

@@ -109,6 +109,9 @@ pub(crate) fn findings_in<M: PrimMeaning>(
     let primitives = registry.names(alloc)?;
     let mut found = Notes::collecting(alloc);
     let signature = note_faults(alloc, &file, &primitives, &options.main, &mut found)?;
+    if found.first().is_some() && found.collected().is_empty() {
+        return Err(Fault::Memory);
+    }
     let mut remarks = Vec::new(alloc);
     add_faults(alloc, text, &file, &found, &primitives, &mut remarks)?;
     let definitions = Definitions {
@@ -116,6 +119,7 @@ pub(crate) fn findings_in<M: PrimMeaning>(
         file: &file,
         signature: &signature,
         main: &options.main,
+        is_sound: found.first().is_none(),
     };
     add_warnings(alloc, &definitions, &mut remarks)?;
     Ok(Explanation::new(remarks))

@@ -1,7 +1,7 @@
 //! The alternatives of definitions: those that are never called, never tried, or apart from the others.
 
 use crate::line::{MOST_OF_NAME, push_cut};
-use crate::warnings::{Alternative, Warning};
+use crate::warnings::{Alternative, Definitions, Warning};
 use std::alloc::{AllocError, Global};
 use str_syntax::{Arguments, DefinitionForm, DefinitionHead, Name, Parameters, Pattern, Rule};
 
@@ -33,10 +33,11 @@ impl<'a> Key<'a> {
     }
 }
 
-/// Adds the warnings about the alternatives of a file, of which this definition is applied, and whose definitions call these keys.
+/// Adds the warnings about these alternatives of definitions that call these keys. If something is wrong in the definitions, a call may have
+/// a misspelled name, so none is said not to be called.
 pub(crate) fn add_group_warnings(
     alloc: Global,
-    main: &[u8],
+    definitions: &Definitions<'_>,
     alternatives: &[Alternative<'_>],
     calls: &[Key<'_>],
     warnings: &mut Vec<Warning>,
@@ -54,7 +55,8 @@ pub(crate) fn add_group_warnings(
                 Some(earlier.with(alternative))
             }
             _ => {
-                if !is_applied(key.name, main) && called.binary_search(&key).is_err() {
+                let is_needed = !definitions.is_sound || is_applied(key.name, definitions.main);
+                if !is_needed && called.binary_search(&key).is_err() {
                     add_uncalled(alloc, alternative, warnings)?;
                 }
                 Some(Earlier::first(alternative))

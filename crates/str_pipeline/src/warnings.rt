@@ -43,13 +43,15 @@ impl<'a> Alternative<'a> {
     }
 }
 
-/// The definitions that warnings are about: their text, their file with its signature, and the name of the definition that is applied.
+/// The definitions that warnings are about: their text, their file with its signature, the name of the definition that is applied, and
+/// whether nothing is wrong in them.
 #[derive(Clone, Copy)]
 pub(crate) struct Definitions<'a> {
     pub(crate) text: &'a [u8],
     pub(crate) file: &'a File,
     pub(crate) signature: &'a Signature,
     pub(crate) main: &'a [u8],
+    pub(crate) is_sound: bool,
 }
 
 impl<'a> Definitions<'a> {
@@ -60,6 +62,7 @@ impl<'a> Definitions<'a> {
             file: checked.file(),
             signature: checked.signature(),
             main: checked.main(),
+            is_sound: true,
         }
     }
 }
@@ -77,13 +80,7 @@ pub(crate) fn add_warnings(
         walk.look_at(alternative.form)?;
     }
     let (calls, mut warnings) = walk.into_parts();
-    add_group_warnings(
-        alloc,
-        definitions.main,
-        &alternatives,
-        &calls,
-        &mut warnings,
-    )?;
+    add_group_warnings(alloc, definitions, &alternatives, &calls, &mut warnings)?;
     let count = warnings.len();
     let mut order = Vec::new(alloc);
     for warning in &warnings {

@@ -14,7 +14,7 @@ const ROWS: &[(&str, &str, u8, &str)] = &[
         "strc --check",
         "signature constructors A : T A : T F : T -> T\nstrategies\n  main = foo; ?G(1); !_; prim(\"nope\", 1)\n  f(s, s) = s\n  F = id\n  map(s) = s\n  g(s) = s\n  g(t) = t\n  g(u) = u",
         2,
-        "strc: DuplicateDeclaration\nstdin:1:30: constructor A is declared twice with the same sorts\nstdin:3:10: strategy foo with 0 strategy and 0 term parameters is not defined\nstdin:3:16: constructor G with 1 part is not declared\nstdin:3:23: pattern _ cannot be built\nstdin:4:8: duplicate name s\nstdin:5:3: name F is that of a declared constructor and of a strategy\nstdin:6:3: strategy map is a definition of the library\nstdin:8:3: strategy g has alternatives with other parameters\nstdin:9:3: strategy g has alternatives with other parameters\nstdin:3:26: primitive nope with 1 term is unknown\nstdin:4:3: warning: f is never called\nstdin:5:3: warning: F is never called\nstdin:6:3: warning: map is never called\nstdin:7:3: warning: g is never called\n",
+        "strc: DuplicateDeclaration\nstdin:1:30: constructor A is declared twice with the same sorts\nstdin:3:10: strategy foo with 0 strategy and 0 term parameters is not defined\nstdin:3:16: constructor G with 1 part is not declared\nstdin:3:23: pattern _ cannot be built\nstdin:4:8: duplicate name s\nstdin:5:3: name F is that of a declared constructor and of a strategy\nstdin:6:3: strategy map is a definition of the library\nstdin:8:3: strategy g has alternatives with other parameters\nstdin:9:3: strategy g has alternatives with other parameters\nstdin:3:26: primitive nope with 1 term is unknown\n",
     ),
     (
         "strc --check",
@@ -26,7 +26,7 @@ const ROWS: &[(&str, &str, u8, &str)] = &[
         "strc --check",
         "strategies f = id",
         2,
-        "strc: NoMain\nstdin:1:1: strategy main without parameters is not defined\nstdin:1:12: warning: f is never called\n",
+        "strc: NoMain\nstdin:1:1: strategy main without parameters is not defined\n",
     ),
     (
         "strc --check",
@@ -39,6 +39,18 @@ const ROWS: &[(&str, &str, u8, &str)] = &[
         "strategies main = prim(\"nope\", 1); !\"nope\"; prim(\"add\", 1); prim(\"nope\")",
         2,
         "strc: UnknownPrimitive\nstdin:1:19: primitive nope with 1 term is unknown\nstdin:1:45: primitive add with 1 term is unknown\n  hint: the primitive add has 2 terms\nstdin:1:61: primitive nope with 0 terms is unknown\n",
+    ),
+    (
+        "strc --check",
+        "strategies main = foo; !y f = id",
+        2,
+        "strc: UnknownStrategy\nstdin:1:19: strategy foo with 0 strategy and 0 term parameters is not defined\nstdin:1:25: warning: y is never bound: this build always fails\n",
+    ),
+    (
+        "strc --check",
+        "strategies main = !y f = id",
+        0,
+        "stdin:1:20: warning: y is never bound: this build always fails\nstdin:1:22: warning: f is never called\n",
     ),
     (
         "strc --check",

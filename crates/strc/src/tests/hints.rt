@@ -68,7 +68,7 @@ const ROWS: &[(&str, &str)] = &[
     ("strategies main = id < id\n#term\n1", ""),
     (
         "strategies main = x := 1\n#term\n1",
-        "':=' is not supported; write where(!p => x) for x := p",
+        "':=' is not supported; for x := p write where(!p => x), for x := <s> p write <s> p => x",
     ),
     (
         "strategies main = x\n: = 1\n#term\n1",
