@@ -32,6 +32,12 @@ const MOST_VARIABLES: usize = 8;
 // What is added to a failure inside a search.
 const LAST_IN_SEARCH: &[u8] = b", the last failure inside that call";
 
+// What the term is called on which a strategy of the file stands.
+const CURRENT: &[u8] = b"the current term: ";
+
+// What the last term is called to which a search of the library came.
+const LAST_TRIED: &[u8] = b"the last term that was tried: ";
+
 // What is added to a failure in front of the last one.
 const DEEPEST: &[u8] = b", the deepest failure before that, and maybe the cause";
 
@@ -225,7 +231,7 @@ impl<'a> Explainer<'a> {
             b"the run was here when the rules were spent".as_slice()
         })?;
         self.push_at(offset, text, remarks)?;
-        self.add_term(&stand.term, remarks)?;
+        self.add_term(CURRENT, &stand.term, remarks)?;
         self.add_callers(&sites[..waiting.min(sites.len())], remarks)
     }
 
@@ -281,10 +287,15 @@ impl<'a> Explainer<'a> {
         note: &[u8],
         remarks: &mut Vec<Remark>,
     ) -> Result<(), AllocError> {
+        let is_search = leaf.offset().is_none() && self.run.account.ending == Ending::Failed;
         if let Some(offset) = leaf.offset() {
             self.add_effect(leaf, offset, stand, note, remarks)?;
         }
-        self.add_term(&stand.term, remarks)?;
+        self.add_term(
+            if is_search { LAST_TRIED } else { CURRENT },
+            &stand.term,
+            remarks,
+        )?;
         self.add_variables(leaf, stand, remarks)
     }
 
@@ -353,9 +364,14 @@ impl<'a> Explainer<'a> {
         push_line(text, remarks)
     }
 
-    // Adds the text of the term, as much as stands on a line.
-    fn add_term(&self, term: &Term, remarks: &mut Vec<Remark>) -> Result<(), AllocError> {
-        let mut text = b"the current term: ".to_vec(self.alloc)?;
+    // Adds the text of the term, as much as stands on a line, after what it is called.
+    fn add_term(
+        &self,
+        name: &[u8],
+        term: &Term,
+        remarks: &mut Vec<Remark>,
+    ) -> Result<(), AllocError> {
+        let mut text = name.to_vec(self.alloc)?;
         push_term(self.alloc, term, &mut text)?;
         push_line(text, remarks)
     }

@@ -26,7 +26,7 @@ const EXPLAINED: &[Row] = &[
         "signature constructors F : T * T -> T S : T -> T Z : T \nstrategies\n  main = ?F(x, _); run\n  run = oncetd(r)\nrules\n  r : S(Z()) -> Z()\n#term\nF(Z,Z)",
         1,
         "#failed\n",
-        "stdin:4:9: in run: oncetd(r) fails\n  called from main\n  the current term: Z\n",
+        "stdin:4:9: in run: oncetd(r) fails\n  called from main\n  the last term that was tried: Z\n",
     ),
     (
         "strc --explain",
@@ -159,7 +159,7 @@ const EXPLAINED: &[Row] = &[
         "strategies\n  main = oncetd(?1)\n#term\n[\"éééééééééééééééééééééééééééééééééééééééééééééééééééééééééééé\"]",
         1,
         "#failed\n",
-        "stdin:2:10: in main: oncetd(?1) fails\n  the current term: \"ééééééééééééééééééééééééééééééééééééééééééééééééé..\n",
+        "stdin:2:10: in main: oncetd(?1) fails\n  the last term that was tried: \"ééééééééééééééééééééééééééééééééééééééééééééééééé..\n",
     ),
     (
         "strc --explain",
