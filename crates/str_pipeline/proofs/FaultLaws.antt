@@ -1,11 +1,12 @@
 -- Groups of faults, by their numbers.
-use Rattle.std.proofs.Common.{◌≡◌, ◌<◌, ◌≤◌, ℕ, Bool, List, Err, arith, inl, inr, length, refl, false}
+use Rattle.std.proofs.Common.{◌≡◌, ◌<◌, ◌≤◌, ℕ, Bool, List, Option, None, Some, Result, Ok, Err, arith, inl, inr, length, refl, subst, false}
+use Rattle.std.specs.Prelude.{IfOk, IfSome}
 use Rattle.term_model.specs.declared.fault.Fault.{Fault}
 use Rattle.term_model.specs.declared.fault.Fault.TheVariants as faults
 use Rattle.term_model.specs.Fault.{number_of}
 use Rattle.signature_core.specs.Signature.{Declared}
 use Rattle.str_pipeline.specs.Faults.{IsReadingFault, IsRefusal, IsOfDefinitions, is_read}
-use Rattle.str_pipeline.specs.Judged.{AreRefused}
+use Rattle.str_pipeline.specs.Judged.{AreRefused, IsVerdict}
 use Rattle.str_pipeline.specs.Limits.{max_definitions}
 use Rattle.str_pipeline.specs.Setting.{Setting}
 use Rattle.str_pipeline.specs.Steps.{IsStop, IsProgram, IsTermRead}
@@ -77,6 +78,13 @@ program_refused S defs (faults.ReservedWord at) short high made = (short, made)
 program_refused S defs (faults.Syntax at) short high made = (short, made)
 program_refused S defs (faults.Nesting at) short high made = (short, made)
 program_refused S defs _ short high made = (short, made)
+
+-- what is judged of a text is judged of what a reader told
+pub verdict_told : (S : Setting) (told : Option (List ℕ)) (text : List ℕ) (verdict : Result (Option Fault) Fault) →
+    IfSome told (λ bytes. text ≡ bytes) → IfOk verdict (IsVerdict S text) → IfOk verdict (λ v. IfSome told (λ bytes. IsVerdict S bytes v))
+verdict_told S told text (Err fault) same judged = tt
+verdict_told S None text (Ok v) same judged = tt
+verdict_told S (Some bytes) text (Ok v) same judged = subst (λ (b : List ℕ). IsVerdict S b v) same judged
 
 -- those of texts that are too long
 pub long_definitions_stop : IsStop faults.DefsTooLong

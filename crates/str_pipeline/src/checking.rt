@@ -1,7 +1,5 @@
 //! The check of definitions without a term.
 ghost use Rattle.std.specs.Prelude.{◌≡◌, ◌+◌, ◌≤◌, length, if◌then◌else◌, false, IfOk, IfErr, IfSome};
-ghost use Rattle.term_model.specs.Limits.{max_budget};
-ghost use Rattle.prim_registry.specs.Entries.{IsHonest};
 ghost use Rattle.str_pipeline.specs.Limits.{max_definitions};
 ghost use Rattle.str_pipeline.specs.Setting.{setting_of};
 ghost use Rattle.str_pipeline.specs.Judged.{IsVerdict};
@@ -12,7 +10,7 @@ use crate::explanation::{Explanation, Position, Remark};
 use crate::name_hints::{name_hint_in, primitive_place, whole_file};
 use crate::notes::RunNotes;
 use crate::pieces::position_in;
-use crate::program::noted_program;
+use crate::program::{Program, noted_program};
 use crate::source::{Source, read_all};
 use crate::status::Options;
 use crate::warnings::{Definitions, add_count, add_warnings};
@@ -28,7 +26,7 @@ use term_model::{Fault, PrimNames};
 /// reads are made.
 ///
 /// What a person wants to know is noted, and what was noted before is dropped: of a refusal what `transform_with_notes` notes; and as an
-/// explanation, for which the definitions are read once more, the places at which the checks refuse the file, each with a hint if there
+/// explanation, for which refused definitions are judged once more, the places at which the checks refuse the file, each with a hint if there
 /// is one, and warnings, the first hundred of each and how many there are. Definitions that are too long, or no file, have no explanation,
 /// and if memory for it is refused there is none.
 ///
@@ -71,8 +69,8 @@ fn judge<M: PrimMeaning>(
     ensures read { is_read_fault result ≡ false }
 {
     match noted_program(alloc, text, options, registry, notes) {
-        Ok(_) => {
-            note_findings(alloc, text, options, registry, notes);
+        Ok(program) => {
+            note_warnings(alloc, text, &program, notes);
             Ok(None)
         }
         Err(fault) => {
@@ -82,6 +80,15 @@ fn judge<M: PrimMeaning>(
             note_findings(alloc, text, options, registry, notes);
             Ok(Some(fault))
         }
+    }
+}
+
+/// Notes warnings about the definitions of this program, if memory for them is there.
+fn note_warnings(alloc: Global, text: &[u8], program: &Program, notes: &mut RunNotes) {
+    let definitions = Definitions::of_checked(text, &program.checked);
+    let mut remarks = Vec::new(alloc);
+    if add_warnings(alloc, &definitions, &mut remarks).is_ok() {
+        notes.note_explanation(Explanation::new(remarks));
     }
 }
 
