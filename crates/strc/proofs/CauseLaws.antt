@@ -68,7 +68,7 @@ writing_stopped r v w before after old new bad wrote told =
     told (record { before = v; after = w }) (omega arith)
 
 -- a line alone is one after which nothing more is told
-alone : (fault : Fault) (before after : ℕ) (old new : Option (List ℕ)) → Tells fault before after old new → TellsMore fault before after old new
+pub alone : (fault : Fault) (before after : ℕ) (old new : Option (List ℕ)) → Tells fault before after old new → TellsMore fault before after old new
 alone fault before after old new told = record {
   more = [];
   beginning = subst (λ line. GainsPrefix old new line) (sym (append-nil (diagnostic fault))) told.beginning;

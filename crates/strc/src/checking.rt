@@ -1,5 +1,5 @@
 //! The check of definitions without a term.
-ghost use Rattle.std.specs.Prelude.{◌≡◌, ◌+◌, ◌<◌, ◌≤◌, IfSome};
+ghost use Rattle.std.specs.Prelude.{◌≡◌, ◌+◌, ◌<◌, ◌≤◌, Option, IfSome};
 ghost use Rattle.term_model.specs.declared.fault.Fault.{Fault};
 ghost use Rattle.str_pipeline.specs.Setting.{setting_of};
 ghost use Rattle.str_pipeline.specs.Judged.{IsVerdict};
