@@ -62,6 +62,8 @@ pub(crate) struct Reporting<'a> {
     pub(crate) term: &'a str,
     pub(crate) has_stats: bool,
     pub(crate) explains: bool,
+    // Whether the strategy to apply has an empty name.
+    lacks_name: bool,
 }
 
 impl<'a> Reporting<'a> {
@@ -75,6 +77,7 @@ impl<'a> Reporting<'a> {
             term,
             has_stats: request.has_stats,
             explains: request.explains,
+            lacks_name: request.main.is_empty(),
         }
     }
 
@@ -117,15 +120,23 @@ fn explanation(alloc: Global, reporting: Reporting<'_>, notes: &RunNotes) -> Opt
         Some(place) => at_place(alloc, name, reason, place, notes.lines_before()),
         None => format!(in alloc; "{name}: {reason}\n"),
     };
-    with_hint(alloc, text.ok()?, notes)
+    with_hint(alloc, text.ok()?, reporting, notes)
 }
 
 /// Returns the lines with one more that says what was probably meant, if that is guessed and memory for it is there.
-fn with_hint(alloc: Global, text: String, notes: &RunNotes) -> Option<String> {
-    let Some(hint) = notes.hint() else {
-        return Some(text);
+fn with_hint(
+    alloc: Global,
+    text: String,
+    reporting: Reporting<'_>,
+    notes: &RunNotes,
+) -> Option<String> {
+    let whole = match notes.hint() {
+        Some(hint) => format!(in alloc; "{text}hint: {hint}\n"),
+        None if reporting.lacks_name => {
+            format!(in alloc; "{text}hint: --main needs the name of a strategy\n")
+        }
+        None => return Some(text),
     };
-    let whole = format!(in alloc; "{text}hint: {hint}\n");
     Some(whole.unwrap_or(text))
 }
 

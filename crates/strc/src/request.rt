@@ -223,9 +223,6 @@ fn texts_of<'a>(matches: &ArgMatches<'a>) -> Texts<'a> {
 
 /// Returns what is wrong with a request that has the right words, if anything is.
 pub(crate) fn misuse_of(request: &Request<'_>) -> Option<&'static str> {
-    if request.main.is_empty() {
-        return Some("error: --main needs the name of a strategy\n");
-    }
     match request.texts {
         Texts::Both(_, _) if request.checks => Some("error: --check takes no TERM\n"),
         _ => None,

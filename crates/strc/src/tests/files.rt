@@ -27,16 +27,16 @@ const RUNS: &[(&str, &str, u8, &str, &str)] = &[
     (
         "strc --main  first.str pair.trm",
         "",
-        5,
-        "",
-        "error: --main needs the name of a strategy\n",
+        2,
+        "#refused NoMain\n",
+        "strc: NoMain\nfirst.str: strategy  without parameters is not defined\nhint: --main needs the name of a strategy\n",
     ),
     (
         "strc --main=",
-        "strategies main = id",
-        5,
-        "",
-        "error: --main needs the name of a strategy\n",
+        "strategies main = id\n#term\n7",
+        2,
+        "#refused NoMain\n",
+        "strc: NoMain\nstdin: strategy  without parameters is not defined\nhint: --main needs the name of a strategy\n",
     ),
     (
         "strc --check id.str pair.trm",
