@@ -119,26 +119,33 @@ fn warnings_with_explanations(rt: HostRuntime) -> Result<(), Fail> {
     Ok(())
 }
 
-#[test]
-fn warnings_after_a_result(rt: HostRuntime) -> Result<(), Fail> {
-    let text = b"strategies main = id f = id\n#term\n7";
-    let ran = run_on(rt.alloc(), "strc --explain --stats", text, None, None, None)?;
-    let report =
-        b"stdin:1:22: warning: f is never called\nstrc: 2 rules, 4 steps, 1 shapes\n".as_slice();
-    if ran.status != 0 || ran.diagnostics.written() != report {
-        return Err(Fail::new("another status or report"));
-    }
-    Ok(())
+// Words of the command line, the joined form, and all that is reported of a run with a result.
+const RESULTS: &[(&str, &str, &str)] = &[
+    ("strc --explain", "strategies main = id\n#term\n7", ""),
+    (
+        "strc --explain --stats",
+        "strategies main = id f = id\n#term\n7",
+        "stdin:1:22: warning: f is never called\nstrc: 2 rules, 4 steps, 1 shapes\n",
+    ),
+    (
+        "strc --explain",
+        "rules\n  main : _ -> 1\n  main : 2 -> 3\n  main : 4 -> 5\n#term\n7",
+        "stdin:3:3: warning: this alternative of main is never reached: no term gets past that on line 2\nstdin:4:3: warning: this alternative of main is never reached: no term gets past that on line 2\n",
+    ),
+];
+
+/// Whether the run has a result, and this is all that is reported of it.
+fn is_reported(alloc: Global, line: &str, input: &str, report: &str) -> Result<bool, AllocError> {
+    let ran = run_on(alloc, line, input.as_bytes(), None, None, None)?;
+    Ok(ran.status == 0 && ran.diagnostics.written() == report.as_bytes())
 }
 
 #[test]
-fn alternatives_that_are_never_reached(rt: HostRuntime) -> Result<(), Fail> {
-    let text = b"rules\n  main : _ -> 1\n  main : 2 -> 3\n  main : 4 -> 5\n#term\n7";
-    let ran = run_on(rt.alloc(), "strc --explain", text, None, None, None)?;
-    let report =
-        b"stdin:3:3: warning: this alternative of main is never reached: no term gets past that on line 2\nstdin:4:3: warning: this alternative of main is never reached: no term gets past that on line 2\n".as_slice();
-    if ran.status != 0 || ran.diagnostics.written() != report {
-        return Err(Fail::new("another status or report"));
+fn warnings_after_results(rt: HostRuntime) -> Result<(), Fail> {
+    for (line, input, report) in RESULTS {
+        if !is_reported(rt.alloc(), line, input, report)? {
+            return Err(Fail::new(input));
+        }
     }
     Ok(())
 }
