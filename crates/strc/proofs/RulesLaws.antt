@@ -32,6 +32,10 @@ range = Signed (pos 0) (pos max_budget)
 pub other_letter : (a : Arg) (name : List ℕ) → a.id.now ≡ name → (slice_index name 0 ≡ 114 → ⊥) → IsRanged a
 other_letter a name named other = λ is. absurd (other (subst (λ (xs : List ℕ). slice_index xs 0 ≡ 114) (sym is ∙ named) refl))
 
+-- a name with another first letter is not that of rules
+pub other_name : (name : List ℕ) → (slice_index name 0 ≡ 114 → ⊥) → name ≡ codes "rules" → ⊥
+other_name name other is = other (subst (λ (xs : List ℕ). slice_index xs 0 ≡ 114) (sym is) refl)
+
 -- an argument that a command keeps is ranged as it was
 same_ranged : (a b : Arg) → SameRules a b → IsRanged a → IsRanged b
 same_ranged a b same ranged = λ is. same.parser _ (ranged (sym (ap (λ x. x.now) same.id) ∙ is))

@@ -1,5 +1,5 @@
 //! The words of the command line.
-ghost use Rattle.std.specs.Prelude.{◌≤◌, length, IfOk, IsOkAnd};
+ghost use Rattle.std.specs.Prelude.{◌≤◌, ◌≢◌, codes, length, IfOk, IsOkAnd};
 ghost use Rattle.term_model.specs.Limits.{max_budget};
 ghost use Rattle.strc.specs.Request.{IsPlainRequest, IsAsked};
 ghost use Rattle.strc.specs.Rules.{Fits, TakesRules, HasRules};
@@ -65,6 +65,16 @@ Exit status:
   4  reading, writing or memory failed
   5  the command line is wrong";
 
+/// What the flags do, in the help text.
+const STRICT: &str = "Refuse a term with an application that the definitions do not declare";
+
+const STATS: &str =
+    "Print on standard error how many rules, steps and shapes of terms the run took";
+
+const EXPLAIN: &str = "Say on standard error why the run has no result, and print warnings";
+
+const CHECK: &str = "Check the definitions alone: print all faults and warnings on standard error";
+
 /// Returns the option for the number of rules. Its range keeps the budget within what a run may be given.
 fn rules<'a>(alloc: Global) -> Arg<'a>
     ensures { Fits result }
@@ -89,48 +99,15 @@ fn main_name<'a>(alloc: Global) -> Arg<'a>
         .help("The strategy that is applied, one without parameters [default: main]")
 }
 
-/// Returns the flag of strict mode.
-#[tactic(auto, using(crate::proofs::RulesLaws::other_letter))]
-fn strict<'a>(alloc: Global) -> Arg<'a>
+/// Returns a flag of this name.
+fn flag<'a>(alloc: Global, name: &'a str, help: &'a str) -> Arg<'a>
+    requires { name.now ≢ codes "rules" }
     ensures { Fits result }
 {
-    Arg::new(alloc, "strict")
-        .long("strict")
+    Arg::new(alloc, name)
+        .long(name)
         .action(ArgAction::SetTrue)
-        .help("Refuse a term with an application that the definitions do not declare")
-}
-
-/// Returns the flag that asks for the numbers of the run.
-#[tactic(auto, using(crate::proofs::RulesLaws::other_letter))]
-fn stats<'a>(alloc: Global) -> Arg<'a>
-    ensures { Fits result }
-{
-    Arg::new(alloc, "stats")
-        .long("stats")
-        .action(ArgAction::SetTrue)
-        .help("Print on standard error how many rules, steps and shapes of terms the run took")
-}
-
-/// Returns the flag that asks for why the run has no result.
-#[tactic(auto, using(crate::proofs::RulesLaws::other_letter))]
-fn explain<'a>(alloc: Global) -> Arg<'a>
-    ensures { Fits result }
-{
-    Arg::new(alloc, "explain")
-        .long("explain")
-        .action(ArgAction::SetTrue)
-        .help("Say on standard error why the run has no result, and print warnings")
-}
-
-/// Returns the flag that asks for a check of the definitions alone.
-#[tactic(auto, using(crate::proofs::RulesLaws::other_letter))]
-fn check<'a>(alloc: Global) -> Arg<'a>
-    ensures { Fits result }
-{
-    Arg::new(alloc, "check")
-        .long("check")
-        .action(ArgAction::SetTrue)
-        .help("Check the definitions alone: print all faults and warnings on standard error")
+        .help(help)
 }
 
 /// Returns the path of the definitions.
@@ -161,15 +138,16 @@ fn described<'a>(alloc: Global) -> Command<'a>
 }
 
 /// Returns the program with its options and paths.
+#[tactic(auto, using(crate::proofs::RulesLaws::other_name))]
 fn command<'a>(alloc: Global) -> Result<Command<'a>, Error>
     ensures { IfOk result TakesRules }
 {
     let command = described(alloc).arg(rules(alloc))?;
     let command = command.arg(main_name(alloc))?;
-    let command = command.arg(strict(alloc))?;
-    let command = command.arg(stats(alloc))?;
-    let command = command.arg(explain(alloc))?;
-    let command = command.arg(check(alloc))?;
+    let command = command.arg(flag(alloc, "strict", STRICT))?;
+    let command = command.arg(flag(alloc, "stats", STATS))?;
+    let command = command.arg(flag(alloc, "explain", EXPLAIN))?;
+    let command = command.arg(flag(alloc, "check", CHECK))?;
     let command = command.arg(definitions(alloc))?;
     Ok(command.arg(term(alloc))?)
 }

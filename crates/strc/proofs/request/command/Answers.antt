@@ -5,9 +5,9 @@ pub returns : goal.returns
 returns c =
     let one = added c.described.result c.in_ok-command.command c.rules.result c.described.ensures c.rules.ensures c.in_ok-command.ensures in
     let two = added c.in_ok-command.command c.in_ok-command-2.command c.main_name.result one c.main_name.ensures c.in_ok-command-2.ensures in
-    let three = added c.in_ok-command-2.command c.in_ok-command-3.command c.strict.result two c.strict.ensures c.in_ok-command-3.ensures in
-    let four = added c.in_ok-command-3.command c.in_ok-command-4.command c.stats.result three c.stats.ensures c.in_ok-command-4.ensures in
-    let five = added c.in_ok-command-4.command c.in_ok-command-5.command c.explain.result four c.explain.ensures c.in_ok-command-5.ensures in
-    let six = added c.in_ok-command-5.command c.in_ok-command-6.command c.check.result five c.check.ensures c.in_ok-command-6.ensures in
+    let three = added c.in_ok-command-2.command c.in_ok-command-3.command c.flag.result two c.flag.ensures c.in_ok-command-3.ensures in
+    let four = added c.in_ok-command-3.command c.in_ok-command-4.command c.flag-2.result three c.flag-2.ensures c.in_ok-command-4.ensures in
+    let five = added c.in_ok-command-4.command c.in_ok-command-5.command c.flag-3.result four c.flag-3.ensures c.in_ok-command-5.ensures in
+    let six = added c.in_ok-command-5.command c.in_ok-command-6.command c.flag-4.result five c.flag-4.ensures c.in_ok-command-6.ensures in
     let seven = added c.in_ok-command-6.command c.in_ok-command-7.command c.definitions.result six c.definitions.ensures c.in_ok-command-7.ensures in
     added c.in_ok-command-7.command c.in_ok-arg.field-0 c.term.result seven c.term.ensures c.in_ok-arg.ensures
