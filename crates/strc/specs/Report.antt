@@ -6,6 +6,7 @@ use Rattle.term_model.specs.Fault.{word_of}
 use Rattle.str_pipeline.specs.declared.status.Status.{Status}
 use Rattle.str_pipeline.specs.declared.status.Status.TheVariants.{Rewritten, Failed, Oversize, Spent, Refused}
 use Rattle.str_pipeline.specs.Device.{Gains, GainsPrefix}
+use Rattle.str_pipeline.specs.Faults.{IsReadingFault}
 
 abbrev pub exit_of : Status → ℕ
 exit_of Rewritten = 0
@@ -67,6 +68,10 @@ pub record TellsMore (fault : Fault) (before after : ℕ) (old new : Option (Lis
 abbrev pub TellsFault : Fault → ℕ → ℕ → Option (List ℕ) → Option (List ℕ) → Type 0
 TellsFault Memory before after old new = Tells Memory before after old new
 TellsFault fault before after old new = TellsMore fault before after old new
+
+-- opening, reading or memory failed, and the fault is told
+abbrev pub IsUnread : ℕ → ℕ → Option (List ℕ) → Option (List ℕ) → Type 0
+IsUnread before after old new = (fault : Fault) × IsReadingFault fault × TellsFault fault before after old new
 
 -- nothing is told, of a write to the output that failed
 pub record IsSilent (writes : Failures) (fault : Fault) (before after : ℕ) (old new : Option (List ℕ)) : Type 0 where

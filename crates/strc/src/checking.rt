@@ -3,15 +3,14 @@ ghost use Rattle.std.specs.Prelude.{◌≡◌, ◌+◌, ◌<◌, ◌≤◌, Opti
 ghost use Rattle.term_model.specs.declared.fault.Fault.{Fault};
 ghost use Rattle.str_pipeline.specs.Setting.{setting_of};
 ghost use Rattle.str_pipeline.specs.Judged.{IsVerdict};
-ghost use Rattle.str_pipeline.specs.Faults.{IsReadingFault};
 ghost use Rattle.str_pipeline.specs.Limits.{max_definitions};
-ghost use Rattle.strc.specs.Report.{exit_of_verdict, TellsFault, TellsVerdict};
+ghost use Rattle.strc.specs.Report.{exit_of_verdict, IsUnread, TellsVerdict};
 ghost use Rattle.strc.specs.declared.request.Texts.TheVariants.{Joined};
 
 use crate::ending::{report_findings, write_remarks};
 use crate::failure::Failure;
 use crate::paths::Paths;
-use crate::program::stop_reading;
+use crate::program::{open_reader, stop_reading};
 use crate::report::{INPUT, Reporting};
 use crate::request::{Request, Texts};
 use prim_registry::{PrimMeaning, Registry};
@@ -58,8 +57,7 @@ fn check_reader<D: Source, E: Sink, M: PrimMeaning>(
         × IfSome (D.coming definitions.old) (λ d. IsVerdict (setting_of M.answer registry.now options.now) d verdict)
         × TellsVerdict verdict (E.failed_writes diagnostics.old) (E.failed_writes diagnostics.new)
         (E.written diagnostics.old) (E.written diagnostics.new) }
-    ensures stopped { result ≡ 4 → (fault : Fault) × IsReadingFault fault
-        × TellsFault fault (E.failed_writes diagnostics.old) (E.failed_writes diagnostics.new)
+    ensures stopped { result ≡ 4 → IsUnread (E.failed_writes diagnostics.old) (E.failed_writes diagnostics.new)
         (E.written diagnostics.old) (E.written diagnostics.new) }
     ensures bounded { D.reads definitions.new ≤ D.reads definitions.old + max_definitions + 1 }
 {
@@ -92,8 +90,7 @@ pub(crate) fn run_check<P: Paths, I: Source, E: Sink, M: PrimMeaning>(
     ensures told { result < 4 → (verdict : Option Fault) × (exit_of_verdict verdict ≡ result)
         × TellsVerdict verdict (E.failed_writes diagnostics.old) (E.failed_writes diagnostics.new)
         (E.written diagnostics.old) (E.written diagnostics.new) }
-    ensures stopped { result ≡ 4 → (fault : Fault) × IsReadingFault fault
-        × TellsFault fault (E.failed_writes diagnostics.old) (E.failed_writes diagnostics.new)
+    ensures stopped { result ≡ 4 → IsUnread (E.failed_writes diagnostics.old) (E.failed_writes diagnostics.new)
         (E.written diagnostics.old) (E.written diagnostics.new) }
     ensures bounded { I.reads input.new ≤ I.reads input.old + max_definitions + 1 }
 {
@@ -104,12 +101,9 @@ pub(crate) fn run_check<P: Paths, I: Source, E: Sink, M: PrimMeaning>(
         }
         Texts::Definitions(path) | Texts::Both(path, _) => path,
     };
-    let mut definitions = match paths.open(path) {
-        Ok(definitions) => definitions,
-        Err(fault) => {
-            let failure = Failure::of_opening(path, paths.failure());
-            return stop_reading(alloc, &fault, failure, diagnostics);
-        }
+    let mut definitions = match open_reader(alloc, paths, path, diagnostics) {
+        Ok(reader) => reader,
+        Err(status) => return status,
     };
     let reporting = Reporting::new(request, path, INPUT);
     check_reader(

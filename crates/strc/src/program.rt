@@ -1,5 +1,5 @@
 //! The work of the program, over any streams and files.
-ghost use Rattle.std.specs.Prelude.{◌≡◌, ◌+◌, ◌<◌, ◌≤◌, ℕ, List, length, IfSome};
+ghost use Rattle.std.specs.Prelude.{◌≡◌, ◌+◌, ◌<◌, ◌≤◌, ℕ, List, length, IfErr, IfOk, IfSome};
 ghost use Rattle.term_model.specs.declared.fault.Fault.{Fault};
 ghost use Rattle.term_model.specs.declared.fault.Fault.TheVariants.{Write};
 ghost use Rattle.term_model.specs.Limits.{max_budget};
@@ -11,7 +11,7 @@ ghost use Rattle.str_pipeline.specs.Setting.{setting_of};
 ghost use Rattle.str_pipeline.specs.Written.{HasWritten, HasBegun};
 ghost use Rattle.str_pipeline.specs.Faults.{HoldsRefusal, IsTransferFault};
 ghost use Rattle.str_pipeline.specs.Limits.{max_definitions, max_term};
-ghost use Rattle.strc.specs.Report.{AreSome, Failures, exit_of, IsCause, Tells, TellsFault, TellsStop, IsReported, IsReportedWith};
+ghost use Rattle.strc.specs.Report.{AreSome, Failures, exit_of, IsCause, IsUnread, Tells, TellsFault, TellsStop, IsReported, IsReportedWith};
 ghost use Rattle.strc.specs.Request.{ArePlain};
 ghost use Rattle.strc.specs.declared.request.Texts.TheVariants.{Joined};
 
@@ -60,6 +60,26 @@ pub(crate) fn stop_reading<E: Sink>(
             4
         }
         _ => stop(fault, diagnostics),
+    }
+}
+
+/// Opens the file at this path. If it cannot be opened, reports why, and returns 4 as the error.
+pub(crate) fn open_reader<P: Paths, E: Sink>(
+    alloc: Global,
+    paths: &mut P,
+    path: &str,
+    diagnostics: &mut E,
+) -> Result<P::Reader, u8>
+    ensures opened { IfOk result (λ reader. diagnostics.new ≡ diagnostics.old) }
+    ensures stopped { IfErr result (λ status. (status ≡ 4) × IsUnread (E.failed_writes diagnostics.old)
+        (E.failed_writes diagnostics.new) (E.written diagnostics.old) (E.written diagnostics.new)) }
+{
+    match paths.open(path) {
+        Ok(reader) => Ok(reader),
+        Err(fault) => {
+            let failure = Failure::of_opening(path, paths.failure());
+            Err(stop_reading(alloc, &fault, failure, diagnostics))
+        }
     }
 }
 
@@ -247,19 +267,13 @@ fn run_files<P: Paths, W: Sink, E: Sink, M: PrimMeaning>(
     ensures unwritten { result ≡ 4 → W.failed_writes out.new ≡ W.failed_writes out.old → out.new ≡ out.old }
     ensures write_failed { W.failed_writes out.old < W.failed_writes out.new → result ≡ 4 }
 {
-    let mut definitions = match paths.open(reporting.definitions) {
+    let mut definitions = match open_reader(alloc, paths, reporting.definitions, diagnostics) {
         Ok(reader) => reader,
-        Err(fault) => {
-            let failure = Failure::of_opening(reporting.definitions, paths.failure());
-            return stop_reading(alloc, &fault, failure, diagnostics);
-        }
+        Err(status) => return status,
     };
-    let mut term = match paths.open(reporting.term) {
+    let mut term = match open_reader(alloc, paths, reporting.term, diagnostics) {
         Ok(reader) => reader,
-        Err(fault) => {
-            let failure = Failure::of_opening(reporting.term, paths.failure());
-            return stop_reading(alloc, &fault, failure, diagnostics);
-        }
+        Err(status) => return status,
     };
     run_apart(
         alloc,
@@ -320,12 +334,9 @@ fn run_texts<P: Paths, I: Source, W: Sink, E: Sink, M: PrimMeaning>(
             run_joined(alloc, input, reporting, options, registry, out, diagnostics)
         }
         Texts::Definitions(path) => {
-            let mut definitions = match paths.open(path) {
-                Ok(definitions) => definitions,
-                Err(fault) => {
-                    let failure = Failure::of_opening(path, paths.failure());
-                    return stop_reading(alloc, &fault, failure, diagnostics);
-                }
+            let mut definitions = match open_reader(alloc, paths, path, diagnostics) {
+                Ok(reader) => reader,
+                Err(status) => return status,
             };
             let reporting = Reporting::new(request, path, INPUT);
             run_apart(
