@@ -1,7 +1,7 @@
 //! Runs of code, from a term in a space to the text of the term that it rewrites to.
 ghost use Rattle.std.specs.Prelude.{◌≡◌, IsTrue, IfOk, IfErr};
 ghost use Rattle.prim_registry.specs.Entries.{Covers, IsHonest};
-ghost use Rattle.strat_machine.specs.Outcomes.{OutcomeStands, outcome_tree};
+ghost use Rattle.strat_steps.specs.Outcomes.{OutcomeStands, outcome_tree};
 ghost use Rattle.str_pipeline.specs.Steps.{IsTextOf, IsTextOfRun};
 
 use crate::notes::{RunNotes, Used};

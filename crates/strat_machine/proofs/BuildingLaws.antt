@@ -23,7 +23,7 @@ use Rattle.strat_machine.specs.declared.building.Pushed.{Pushed}
 use Rattle.strat_machine.specs.declared.building.Pushed.TheVariants as pushed
 use Rattle.strat_machine.specs.declared.building.Elements.{Elements}
 use Rattle.strat_machine.specs.declared.building.Elements.TheVariants as elements
-use Rattle.strat_machine.specs.References.{Places, AllPlaces}
+use Rattle.strat_steps.specs.References.{Places, AllPlaces}
 
 -- what a variable has
 value_held : {R : Type 0} (f : R → Tree) (v : Option (Option R)) → value_at (option_map (option_map f) v) ≡ option_map f (held v)

@@ -12,7 +12,7 @@ use Rattle.strat_machine.specs.Builds.{instances_then, Builds, AreBuilt, AreArgu
 use Rattle.strat_machine.specs.declared.building.Built.TheVariants as built_forms
 use Rattle.strat_machine.specs.declared.building.Pushed.{Pushed}
 use Rattle.strat_machine.specs.declared.building.Pushed.TheVariants as pushed
-use Rattle.strat_machine.specs.References.{trees}
+use Rattle.strat_steps.specs.References.{trees}
 use Rattle.strat_machine.proofs.ElementLaws.{instances_are, front_end, puts_as, puts_nothing}
 
 module _ {W R : Type 0} (stands : W → R → Bool) (term_of : W → R → Tree) (w : W) (o : Option Tree) (e : Bindings) where

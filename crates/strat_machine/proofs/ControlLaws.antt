@@ -8,10 +8,10 @@ use Rattle.strat_code.specs.Code.{nodes_of}
 use Rattle.strat_code.specs.CodeOf.{instr_of, code_of}
 use Rattle.strat_code.specs.declared.instr.Case.{Case}
 use Rattle.strat_code.specs.declared.instr.Instr.{Instr}
-use Rattle.strat_machine.specs.State.{Frame}
-use Rattle.strat_machine.specs.Space.{Space}
-use Rattle.strat_machine.specs.References.{Places, RefRecord, RefState, ref_running}
-use Rattle.strat_machine.specs.ReferenceSteps.{Does, performs}
+use Rattle.strat_steps.specs.State.{Frame}
+use Rattle.strat_steps.specs.Space.{Space}
+use Rattle.strat_steps.specs.References.{Places, RefRecord, RefState, ref_running}
+use Rattle.strat_steps.specs.ReferenceSteps.{Does, performs}
 use Rattle.strat_machine.specs.Control.{HandlesPattern, OfOther, PerformsOr, Stays, StepsOr}
 use Rattle.strat_machine.specs.declared.stacks.Stacks.{Stacks}
 use Rattle.strat_machine.specs.declared.stacks.Phase.{Phase}

@@ -21,9 +21,9 @@ use Rattle.strat_machine.specs.declared.building.Pushed.{Pushed}
 use Rattle.strat_machine.specs.declared.building.Pushed.TheVariants as pushed
 use Rattle.strat_machine.specs.declared.building.Elements.{Elements}
 use Rattle.strat_machine.specs.declared.building.Elements.TheVariants as elements
-use Rattle.strat_machine.specs.References.{Places, AllPlaces, AllRefs}
+use Rattle.strat_steps.specs.References.{Places, AllPlaces, AllRefs}
 use Rattle.strat_machine.proofs.BuildingLaws.{slice_is}
-use Rattle.strat_machine.proofs.ReferenceSteps.{places_same}
+use Rattle.strat_steps.proofs.ReferenceSteps.{places_same}
 use Rattle.strat_machine.proofs.TraversalLaws.{refs_append, refs_of_all}
 
 -- what was put on a stack

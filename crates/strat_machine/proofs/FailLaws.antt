@@ -6,14 +6,14 @@ use Rattle.term_model.specs.Term.{Tree}
 use Rattle.term_model.specs.Flat.{Meaning}
 use Rattle.term_model.specs.Space as trait
 use Rattle.strat_code.specs.Code.{Code}
-use Rattle.strat_machine.specs.State as state
-use Rattle.strat_machine.specs.State.{Frame}
-use Rattle.strat_machine.specs.Binding.{undone, above, down_to}
-use Rattle.strat_machine.specs.Space.{Space, IsMark, GoesBack}
+use Rattle.strat_steps.specs.State as state
+use Rattle.strat_steps.specs.State.{Frame}
+use Rattle.strat_steps.specs.Binding.{undone, above, down_to}
+use Rattle.strat_steps.specs.Space.{Space, IsMark, GoesBack}
 use Rattle.strat_machine.specs.SpaceOf.{space_of}
-use Rattle.strat_machine.specs.References.{Places, RefRecord, ref_all, ref_one, ref_some, RefState, ref_running, ref_failing}
-use Rattle.strat_machine.specs.ReferenceSteps.{StepRef, fails_one_last, fails_one_next, fails_some_none, fails_some_last, fails_some_next}
-use Rattle.strat_machine.specs.Marks.{Safe}
+use Rattle.strat_steps.specs.References.{Places, RefRecord, ref_all, ref_one, ref_some, RefState, ref_running, ref_failing}
+use Rattle.strat_steps.specs.ReferenceSteps.{StepRef, fails_one_last, fails_one_next, fails_some_none, fails_some_last, fails_some_next}
+use Rattle.strat_steps.specs.Marks.{Safe}
 use Rattle.strat_machine.specs.PlaceStack.{PlaceStack}
 use Rattle.strat_machine.specs.RecordStack.{saved_of, records_in, records_of, with_record}
 use Rattle.strat_machine.specs.declared.records.Saved.{Saved}

@@ -4,8 +4,8 @@ use Rattle.std.specs.Option.{option_map}
 use Rattle.std.proofs.lemmas.Option.{slice_get-map}
 use Rattle.std.proofs.Math.Seq.{take-length, drop-append_seam}
 use Rattle.std.proofs.lemmas.List.{take-map, map-append, take_more, take-append-le, take_all, length-append, length-map, drop-map}
-use Rattle.strat_machine.specs.State as state
-use Rattle.strat_machine.specs.State.{around, frames_up, closure_in, closed}
+use Rattle.strat_steps.specs.State as state
+use Rattle.strat_steps.specs.State.{around, frames_up, closure_in, closed}
 use Rattle.strat_code.specs.Code as code
 use Rattle.strat_code.specs.CodeOf.{argument_of}
 use Rattle.strat_code.specs.declared.instr.Argument.{Argument}

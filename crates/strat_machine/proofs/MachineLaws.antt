@@ -11,9 +11,9 @@ use Rattle.core_lang.specs.Named.{Name}
 use Rattle.core_lang.specs.Program.{Definitions}
 use Rattle.core_lang.specs.Run.{IsOutcome}
 use Rattle.strat_code.specs.Code.{Code}
-use Rattle.strat_machine.specs.Outcomes.{Ran, end_ref}
-use Rattle.strat_machine.specs.ReferenceSteps.{StepsRef}
-use Rattle.strat_machine.specs.Run.{start_ref}
+use Rattle.strat_steps.specs.Outcomes.{Ran, end_ref}
+use Rattle.strat_steps.specs.ReferenceSteps.{StepsRef}
+use Rattle.strat_steps.specs.Run.{start_ref}
 use Rattle.strat_machine.specs.SpaceOf.{space_of}
 use Rattle.strat_machine.specs.Stacks.{KeepsNames}
 use Rattle.strat_machine.proofs.SpaceLaws.{keeps_all}

@@ -16,14 +16,14 @@ use Rattle.core_lang.specs.Environment.{Bindings}
 use Rattle.core_lang.specs.Program.{Pattern, anything, variable, alias, integer, applied, list, like, annotated}
 use Rattle.core_lang.specs.Roots.{are_many, count_of_patterns}
 use Rattle.core_lang.specs.Views.{patterns_in, elements_in}
-use Rattle.strat_machine.specs.Binding.{with_term, Attempt, attempt, bind_value, bind, and_go, only_if, attempted, all_attempted, elements_attempted}
+use Rattle.strat_steps.specs.Binding.{with_term, Attempt, attempt, bind_value, bind, and_go, only_if, attempted, all_attempted, elements_attempted}
 use Rattle.strat_machine.specs.Loaded.{loaded_of, rest_loaded_of, Known, AllKnown}
 use Rattle.strat_machine.specs.declared.loaded.LoadedPattern.{LoadedPattern}
-use Rattle.strat_machine.specs.Matches.{AreFirst, Goes, LeavesSpace, AllLeaveSpace, ElementsLeaveSpace, first_attempted, rest_attempted, sees_annotations}
+use Rattle.strat_steps.specs.Matches.{AreFirst, Goes, LeavesSpace, AllLeaveSpace, ElementsLeaveSpace, first_attempted, rest_attempted, sees_annotations}
 use Rattle.strat_machine.specs.PlaceStack.{PlaceStack}
-use Rattle.strat_machine.specs.References.{Places, AllPlaces, AllRefs, Binds, binds_none, binds_one}
-use Rattle.strat_machine.proofs.ReferenceLaws.{all_with}
-use Rattle.strat_machine.proofs.ReferenceSteps.{places_same}
+use Rattle.strat_steps.specs.References.{Places, AllPlaces, AllRefs, Binds, binds_none, binds_one}
+use Rattle.strat_steps.proofs.ReferenceLaws.{all_with}
+use Rattle.strat_steps.proofs.ReferenceSteps.{places_same}
 use Rattle.strat_machine.proofs.LoadedLaws.{loaded_same}
 use Rattle.strat_machine.proofs.TraversalLaws.{refs_of_all}
 

@@ -20,16 +20,16 @@ use Rattle.prim_registry.proofs.RegisteredLaws.{registered_same, covered}
 use Rattle.strat_code.specs.Code.{Code}
 use Rattle.strat_code.specs.CodeOf.{IsCode}
 use Rattle.strat_code.specs.StandsFor.{StandsFor}
-use Rattle.strat_machine.specs.Outcomes.{OutcomeStands, end_ref, outcome_tree}
-use Rattle.strat_machine.specs.ReferenceSteps.{StepsRef}
-use Rattle.strat_machine.specs.Run.{EndsSo, start_ref}
+use Rattle.strat_steps.specs.Outcomes.{OutcomeStands, end_ref, outcome_tree}
+use Rattle.strat_steps.specs.ReferenceSteps.{StepsRef}
+use Rattle.strat_steps.specs.Run.{EndsSo, start_ref}
 use Rattle.strat_machine.specs.Running.{phase_of, rules_of}
-use Rattle.strat_machine.specs.Space.{Space}
+use Rattle.strat_steps.specs.Space.{Space}
 use Rattle.strat_machine.specs.Stacks.{state_of}
 use Rattle.strat_machine.specs.declared.stacks.Stacks.{Stacks}
 use Rattle.strat_machine.specs.declared.stacks.Phase.{Phase}
-use Rattle.strat_machine.proofs.EndLaws.{holds_at_start, rewritten_says, stopped_says}
-use Rattle.strat_machine.proofs.ReferenceSteps.{steps_so}
+use Rattle.strat_steps.proofs.EndLaws.{holds_at_start, rewritten_says, stopped_says}
+use Rattle.strat_steps.proofs.ReferenceSteps.{steps_so}
 
 -- a program whose primitives mean the same is resolved to the one that the code stands for
 module _ {N M : Meaning} {P : Definitions Name (List Name)} {main : Name} {C : ResolvedDefinitions} {i : ℕ} (same : (f : List ℕ) (k : ℕ) → OccursInDefinitions f k C → AnswerSame N M f k) (resolved : ResolvesProgram P main C i) where

@@ -18,7 +18,7 @@ use Rattle.strat_code.specs.declared.instr.Argument.{Argument}
 use Rattle.strat_code.specs.declared.instr.Case.{Case}
 use Rattle.strat_code.specs.declared.instr.Instr.{Instr}
 use Rattle.strat_code.specs.declared.instr.Instr.TheVariants as forms
-use Rattle.strat_machine.specs.Space.{Space}
+use Rattle.strat_steps.specs.Space.{Space}
 use Rattle.strat_machine.specs.Stacks.{Performs}
 use Rattle.strat_machine.specs.Control.{HandlesPattern, HasPatternAt}
 use Rattle.strat_machine.specs.Loaded.{IsLoaded, AreLoaded, loaded_of, all_loaded_of}

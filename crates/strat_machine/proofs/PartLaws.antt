@@ -8,17 +8,18 @@ use Rattle.term_model.specs.Term.{Tree, more, list_of, parts_of}
 use Rattle.term_model.specs.Flat.{Meaning}
 use Rattle.core_lang.specs.Ending.{ok, oversize, rebuilt}
 use Rattle.strat_code.specs.Code.{Traversal, traverse, part_done, all_parts, one_part, some_parts}
-use Rattle.strat_machine.specs.State as state
-use Rattle.strat_machine.specs.State.{Frame, stuck}
-use Rattle.strat_machine.specs.Binding.{trimmed}
-use Rattle.strat_machine.specs.Step.{in_order}
-use Rattle.strat_machine.specs.Space.{Space}
-use Rattle.strat_machine.specs.References.{Places, RefRecord, RefState, ref_one, ref_some, ref_running, ref_stopped, record_tree, trees, AllRefs}
-use Rattle.strat_machine.specs.ReferenceSteps.{Does, begins_all, begins_one, begins_some, part_of_one, part_of_one_oversize, part_of_some, sticks, OnAll, OnOne, OnSome}
-use Rattle.strat_machine.specs.Marks.{Safe}
+use Rattle.strat_steps.specs.State as state
+use Rattle.strat_steps.specs.State.{Frame, stuck}
+use Rattle.strat_steps.specs.Binding.{trimmed}
+use Rattle.strat_steps.specs.Step.{in_order}
+use Rattle.strat_steps.specs.Space.{Space}
+use Rattle.strat_steps.specs.References.{Places, RefRecord, RefState, ref_one, ref_some, ref_running, ref_stopped, record_tree, trees, AllRefs}
+use Rattle.strat_steps.specs.ReferenceSteps.{Does, begins_all, begins_one, begins_some, part_of_one, part_of_one_oversize, part_of_some, sticks, OnAll, OnOne, OnSome}
+use Rattle.strat_steps.specs.Marks.{Safe}
 use Rattle.strat_machine.specs.PlaceStack.{PlaceStack}
 use Rattle.strat_machine.specs.RecordStack.{records_in, records_of}
-use Rattle.strat_machine.specs.Traversing.{RebuildsTo, rebuilds, rebuilds_none, OpensParts, HasTried, AllCounted}
+use Rattle.strat_machine.specs.Traversing.{RebuildsTo, rebuilds, rebuilds_none, OpensParts, HasTried}
+use Rattle.strat_steps.specs.Counted.{AllCounted}
 use Rattle.strat_machine.specs.declared.stacks.Stacks.{Stacks}
 use Rattle.strat_machine.specs.declared.records.Saved.{Saved}
 use Rattle.strat_machine.specs.declared.records.Traversed.{Traversed}

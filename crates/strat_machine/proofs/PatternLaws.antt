@@ -12,17 +12,17 @@ use Rattle.core_lang.specs.Program.{Pattern, Patterns}
 use Rattle.core_lang.specs.declared.coordinate.Coordinate.{Coordinate}
 use Rattle.core_lang.specs.Building.{instance, instances}
 use Rattle.strat_code.specs.Code.{Argument, match_term, build_term, call_definition}
-use Rattle.strat_machine.specs.State.{Frame, frame, place_at, frames_up, closed, run_oversize}
-use Rattle.strat_machine.specs.Binding.{attempt, attempted}
+use Rattle.strat_steps.specs.State.{Frame, frame, place_at, frames_up, closed, run_oversize}
+use Rattle.strat_steps.specs.Binding.{attempt, attempted}
 use Rattle.strat_machine.specs.SpaceOf.{space_of}
-use Rattle.strat_machine.specs.Matches.{Goes, LeavesSpace}
+use Rattle.strat_steps.specs.Matches.{Goes, LeavesSpace}
 use Rattle.strat_machine.specs.Builds.{Builds, AreArguments, Puts}
 use Rattle.strat_machine.specs.declared.building.Built.{Built}
 use Rattle.strat_machine.specs.declared.building.Built.TheVariants as built_forms
 use Rattle.strat_machine.specs.declared.building.Pushed.{Pushed}
 use Rattle.strat_machine.specs.declared.building.Pushed.TheVariants as pushed
-use Rattle.strat_machine.specs.References.{Places, RefRecord, ref_call, RefState, ref_running, ref_failing, ref_stopped}
-use Rattle.strat_machine.specs.ReferenceSteps.{Does, matches, matches_not, builds, builds_none, builds_oversize, calls, calls_none, calls_oversize}
+use Rattle.strat_steps.specs.References.{Places, RefRecord, ref_call, RefState, ref_running, ref_failing, ref_stopped}
+use Rattle.strat_steps.specs.ReferenceSteps.{Does, matches, matches_not, builds, builds_none, builds_oversize, calls, calls_none, calls_oversize}
 use Rattle.strat_machine.proofs.SpaceLaws.{keeps_grows}
 use Rattle.strat_machine.proofs.StepLaws.{does_to}
 use Rattle.strat_machine.proofs.BuiltLaws.{build_is_ok, build_fails, build_is_large, arguments_are_ok, arguments_fail, arguments_are_large}

@@ -3,8 +3,8 @@ use Rattle.std.proofs.Common.{◌≡◌, ℕ, zero, suc, ◌+◌, ◌-◌, ◌�
 use Rattle.std.proofs.lemmas.List.{length-reverse, length-append, length-take-le, take_more}
 use Rattle.std.proofs.Math.Seq.{take-append_seam, drop-append_seam, drop-cons}
 use Rattle.std.specs.Prelude.{slice_set, replicate}
-use Rattle.strat_machine.specs.Binding.{cleared, undone, above, down_to, trimmed, with_term}
-use Rattle.strat_machine.proofs.TrailLaws.{cleared_beyond, if_more, above_self, down_self}
+use Rattle.strat_steps.specs.Binding.{cleared, undone, above, down_to, trimmed, with_term}
+use Rattle.strat_steps.proofs.TrailLaws.{cleared_beyond, if_more, above_self, down_self}
 
 pub filled : {X : Type 0} (i : ℕ) (r : X) (e : List (Option X)) → slice_set e i (Some r) ≡ with_term i r e
 filled i r [] = refl

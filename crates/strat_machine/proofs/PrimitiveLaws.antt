@@ -18,7 +18,7 @@ use Rattle.core_lang.specs.Environment.{Bindings}
 use Rattle.core_lang.specs.Program.{Pattern, Patterns}
 use Rattle.core_lang.specs.Views.{patterns_in}
 use Rattle.strat_code.specs.Code.{apply_primitive}
-use Rattle.strat_machine.specs.State.{Frame, place_at, run_oversize}
+use Rattle.strat_steps.specs.State.{Frame, place_at, run_oversize}
 use Rattle.strat_machine.specs.SpaceOf.{space_of}
 use Rattle.strat_machine.specs.Stacks.{Performs, phase_with}
 use Rattle.strat_machine.specs.Builds.{Builds, AreArguments, Puts}
@@ -31,8 +31,8 @@ use Rattle.strat_machine.specs.declared.stacks.Stacks.{Stacks}
 use Rattle.strat_machine.specs.declared.stacks.Phase.{Phase}
 use Rattle.strat_machine.specs.declared.stacks.Phase.TheVariants as phases
 use Rattle.strat_machine.specs.declared.stacks.Stop.TheVariants as stops
-use Rattle.strat_machine.specs.References.{Places, trees, RefRecord, ref_running, ref_failing, ref_stopped}
-use Rattle.strat_machine.specs.ReferenceSteps.{Does, answers, answers_none, answers_oversize}
+use Rattle.strat_steps.specs.References.{Places, trees, RefRecord, ref_running, ref_failing, ref_stopped}
+use Rattle.strat_steps.specs.ReferenceSteps.{Does, answers, answers_none, answers_oversize}
 use Rattle.strat_machine.proofs.SpaceLaws.{keeps_grows, keeps_then}
 use Rattle.strat_machine.proofs.StepLaws.{does_to}
 use Rattle.strat_machine.proofs.ElementLaws.{put_are}

@@ -7,7 +7,7 @@ use Rattle.term_model.specs.Symbol.{Symbol}
 use Rattle.term_model.specs.Flat.{FlatValue, integer_of, flat_of, with_flat, all_flat}
 use Rattle.term_model.specs.Space.{Keeps}
 use Rattle.term_model.specs.Term.{Tree, node, trees_of, head_of}
-use Rattle.strat_machine.specs.References.{AllRefs}
+use Rattle.strat_steps.specs.References.{AllRefs}
 
 -- the term of a reference among others
 module _ {R : Type 0} (f : R → Tree) (rs : List R) (i : ℕ) where

@@ -11,15 +11,15 @@ use Rattle.strat_code.specs.Code.{Code}
 use Rattle.strat_code.specs.CodeOf.{IsCode, code_of, instr_of}
 use Rattle.strat_code.specs.declared.instr.Case.{Case}
 use Rattle.strat_code.specs.declared.instr.Instr.{Instr}
-use Rattle.strat_machine.specs.Space.{Space}
-use Rattle.strat_machine.specs.References.{ref_running, state_tree}
-use Rattle.strat_machine.specs.ReferenceSteps.{StepRef, StepsRef, performs, no_step_ref}
-use Rattle.strat_machine.specs.Run.{start_ref}
+use Rattle.strat_steps.specs.Space.{Space}
+use Rattle.strat_steps.specs.References.{ref_running, state_tree}
+use Rattle.strat_steps.specs.ReferenceSteps.{StepRef, StepsRef, performs, no_step_ref}
+use Rattle.strat_steps.specs.Run.{start_ref}
 use Rattle.strat_machine.specs.Running.{IsClear, GoesOn, HasEnded, UnderWay, phase_of}
-use Rattle.strat_machine.specs.Marks.{Holds, Lasts}
-use Rattle.strat_machine.specs.Step.{IsGoing}
+use Rattle.strat_steps.specs.Marks.{Holds, Lasts}
+use Rattle.strat_steps.specs.Step.{IsGoing}
 use Rattle.strat_machine.specs.Stacks.{KeepsNames, Performs, state_of}
-use Rattle.strat_machine.specs.Traversing.{StateCounted}
+use Rattle.strat_steps.specs.Counted.{StateCounted}
 use Rattle.strat_machine.specs.Control.{IsPaid}
 use Rattle.strat_machine.specs.Stepped.{PaidFrom, TakesFrom}
 use Rattle.strat_machine.specs.declared.stacks.Stacks.{Stacks}
@@ -27,9 +27,9 @@ use Rattle.strat_machine.specs.declared.stacks.Stop.TheVariants as stops
 use Rattle.strat_machine.specs.declared.stacks.Phase.{Phase}
 use Rattle.strat_machine.specs.declared.stacks.Phase.TheVariants as phases
 use Rattle.strat_machine.proofs.ControlLaws.{found_at}
-use Rattle.strat_machine.proofs.CountedLaws.{steps_keep, steps_then}
-use Rattle.strat_machine.proofs.EndLaws.{holds_at_start, ended_in_time, rewritten_says, stopped_says}
-use Rattle.strat_machine.proofs.ReferencesLast.{steps_last}
+use Rattle.strat_steps.proofs.CountedLaws.{steps_keep, steps_then}
+use Rattle.strat_steps.proofs.EndLaws.{holds_at_start, ended_in_time, rewritten_says, stopped_says}
+use Rattle.strat_steps.proofs.ReferencesLast.{steps_last}
 
 -- clear stacks are where a run begins
 pub started : {W R Y N : Type 0} (S : Space W R Y) (knows : W → N → Bool) (symbol_of : W → N → Symbol) (code : Code) (M : Meaning) (w : W) (t : R) (budget : ℕ) (m : Stacks R Y) → IsClear m →

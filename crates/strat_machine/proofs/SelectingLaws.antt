@@ -16,10 +16,10 @@ use Rattle.term_model.specs.Term.{Tree, node, Trees, end, more, head_of, list_of
 use Rattle.term_model.proofs.FitsLaws.{both}
 use Rattle.core_lang.specs.Roots.{Root, are_many, has_root, integer_root, symbol_root, list_root}
 use Rattle.strat_code.specs.Code.{select}
-use Rattle.strat_machine.specs.Space.{Space}
-use Rattle.strat_machine.specs.State.{Frame, run_spent, saved}
-use Rattle.strat_machine.specs.References.{Places, RefRecord, RefState, ref_choice, ref_running, ref_stopped}
-use Rattle.strat_machine.specs.ReferenceSteps.{Selecting, selects_none, selects_this, selects_later, selects_spent, selects}
+use Rattle.strat_steps.specs.Space.{Space}
+use Rattle.strat_steps.specs.State.{Frame, run_spent, saved}
+use Rattle.strat_steps.specs.References.{Places, RefRecord, RefState, ref_choice, ref_running, ref_stopped}
+use Rattle.strat_steps.specs.ReferenceSteps.{Selecting, selects_none, selects_this, selects_later, selects_spent, selects}
 use Rattle.strat_machine.specs.RecordStack.{records_of}
 use Rattle.strat_machine.specs.Stacks.{Performs, PutsChoice, state_of}
 use Rattle.strat_machine.specs.Indexing.{nodes_before, IsFirst}

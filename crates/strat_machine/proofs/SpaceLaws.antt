@@ -4,7 +4,7 @@ use Rattle.std.specs.Prelude.{◌≡◌, ◌↔◌, Bool, IsTrue}
 use Rattle.term_model.specs.Symbol.{Symbol}
 use Rattle.term_model.specs.Term.{Tree}
 use Rattle.term_model.specs.Space.{Keeps, MakesNone}
-use Rattle.strat_machine.specs.Space.{Grows, Same}
+use Rattle.strat_steps.specs.Space.{Grows, Same}
 use Rattle.strat_machine.specs.SpaceOf.{space_of}
 
 both_true : {a b : Bool} → a ≡ b → IsTrue a ↔ IsTrue b

@@ -6,12 +6,12 @@ use Rattle.term_model.specs.Term.{Tree}
 use Rattle.term_model.specs.Flat.{Meaning}
 use Rattle.term_model.specs.Space.{IsMarkOf}
 use Rattle.strat_code.specs.Code.{Instr, try, leave, commit, end_definition, end_argument}
-use Rattle.strat_machine.specs.State.{Frame, frame, Saved, saved, call_record, stuck, ended}
-use Rattle.strat_machine.specs.Step.{left, returned, out_of_argument, committed}
-use Rattle.strat_machine.specs.Space.{Space, IsMark}
+use Rattle.strat_steps.specs.State.{Frame, frame, Saved, saved, call_record, stuck, ended}
+use Rattle.strat_steps.specs.Step.{left, returned, out_of_argument, committed}
+use Rattle.strat_steps.specs.Space.{Space, IsMark}
 use Rattle.strat_machine.specs.SpaceOf.{space_of}
-use Rattle.strat_machine.specs.References.{Places, RefRecord, ref_call, ref_choice, ref_all, ref_one, ref_some, RefState, ref_running, ref_stopped, record_tree}
-use Rattle.strat_machine.specs.ReferenceSteps.{Does, tries, sticks}
+use Rattle.strat_steps.specs.References.{Places, RefRecord, ref_call, ref_choice, ref_all, ref_one, ref_some, RefState, ref_running, ref_stopped, record_tree}
+use Rattle.strat_steps.specs.ReferenceSteps.{Does, tries, sticks}
 use Rattle.strat_machine.specs.Frames.{IsBaseOf}
 use Rattle.strat_machine.specs.Stacks.{Performs, PutsChoice}
 use Rattle.strat_machine.specs.declared.stacks.Stacks.{Stacks}

@@ -14,13 +14,13 @@ use Rattle.term_model.proofs.FitsLaws.{fits-complete, fits-sound, not_true}
 use Rattle.core_lang.specs.Environment.{Bindings}
 use Rattle.core_lang.specs.Ending.{ok, oversize, if_fits, with_parts, rebuilt}
 use Rattle.core_lang.specs.Derivation.{parts}
-use Rattle.strat_machine.specs.Step.{in_order}
-use Rattle.strat_machine.specs.State as state
-use Rattle.strat_machine.specs.State.{Frame, run_oversize}
-use Rattle.strat_machine.specs.Space.{Space, IsMark}
+use Rattle.strat_steps.specs.Step.{in_order}
+use Rattle.strat_steps.specs.State as state
+use Rattle.strat_steps.specs.State.{Frame, run_oversize}
+use Rattle.strat_steps.specs.Space.{Space, IsMark}
 use Rattle.strat_machine.specs.SpaceOf.{space_of}
-use Rattle.strat_machine.specs.References.{Places, RefRecord, RefState, ref_all, ref_one, ref_some, ref_running, ref_failing, ref_stopped, trees, AllRefs}
-use Rattle.strat_machine.specs.ReferenceSteps.{OnAll, all_goes_on, all_whole, all_oversize, OnOne, one_goes_on, one_none, OnSome, some_goes_on, some_whole, some_oversize, some_none}
+use Rattle.strat_steps.specs.References.{Places, RefRecord, RefState, ref_all, ref_one, ref_some, ref_running, ref_failing, ref_stopped, trees, AllRefs}
+use Rattle.strat_steps.specs.ReferenceSteps.{OnAll, all_goes_on, all_whole, all_oversize, OnOne, one_goes_on, one_none, OnSome, some_goes_on, some_whole, some_oversize, some_none}
 use Rattle.strat_machine.specs.RecordStack.{saved_of, records_in, records_of, with_record}
 use Rattle.strat_machine.specs.Traversing.{RebuildsTo, rebuilds, rebuilds_none}
 use Rattle.strat_machine.proofs.SpaceLaws.{keeps_grows}

@@ -7,7 +7,7 @@ use Rattle.term_model.specs.Term.{Tree, Trees, head_of, parts_of, annos_of, tree
 use Rattle.core_lang.specs.Building.{with_front, instance}
 use Rattle.core_lang.specs.Environment.{Bindings}
 use Rattle.core_lang.specs.Program.{Pattern}
-use Rattle.strat_machine.specs.References.{AllRefs, trees}
+use Rattle.strat_steps.specs.References.{AllRefs, trees}
 use Rattle.strat_machine.specs.declared.building.Built.{Built}
 use Rattle.strat_machine.specs.declared.building.Built.TheVariants as built
 use Rattle.strat_machine.specs.declared.building.Pushed.{Pushed}

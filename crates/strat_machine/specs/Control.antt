@@ -7,9 +7,9 @@ use Rattle.strat_code.specs.Code.{nodes_of}
 use Rattle.strat_code.specs.declared.instr.Case.{Case}
 use Rattle.strat_code.specs.declared.instr.Instr.{Instr}
 use Rattle.strat_code.specs.declared.instr.Instr.TheVariants as forms
-use Rattle.strat_machine.specs.Space.{Space}
-use Rattle.strat_machine.specs.References.{ref_running}
-use Rattle.strat_machine.specs.ReferenceSteps.{StepRef}
+use Rattle.strat_steps.specs.Space.{Space}
+use Rattle.strat_steps.specs.References.{ref_running}
+use Rattle.strat_steps.specs.ReferenceSteps.{StepRef}
 use Rattle.strat_machine.specs.RecordStack.{records_of}
 use Rattle.strat_machine.specs.Stacks.{Performs, state_of}
 use Rattle.strat_machine.specs.declared.stacks.Stacks.{Stacks}

@@ -1,8 +1,8 @@
 -- The Rust machine at the beginning of a definition's code.
 use Rattle.std.specs.Prelude.{ℕ, Some, None, List, [], ◌∷◌, ◌++◌, length, map, replicate}
 use Rattle.strat_code.specs.Code.{Argument}
-use Rattle.strat_machine.specs.State.{frame, frames_up, closed}
-use Rattle.strat_machine.specs.References.{RefState, ref_call, ref_running}
+use Rattle.strat_steps.specs.State.{frame, frames_up, closed}
+use Rattle.strat_steps.specs.References.{RefState, ref_call, ref_running}
 use Rattle.strat_machine.specs.RecordStack.{records_of}
 use Rattle.strat_machine.specs.declared.stacks.Stacks.{Stacks}
 

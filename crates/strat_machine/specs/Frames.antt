@@ -1,7 +1,7 @@
 -- What the frames of the Rust machine are seen as.
 use Rattle.std.specs.Prelude.{◌≡◌, ℕ, ◌+◌, ◌≤◌, Option, Some, None, List, [], ◌∷◌, map, take, drop}
-use Rattle.strat_machine.specs.State as state
-use Rattle.strat_machine.specs.State.{frame}
+use Rattle.strat_steps.specs.State as state
+use Rattle.strat_steps.specs.State.{frame}
 use Rattle.strat_machine.specs.declared.frames.Closure.{Closure}
 use Rattle.strat_machine.specs.declared.frames.Frame.{Frame}
 

@@ -1,12 +1,3 @@
-pub mod State
-pub mod Binding
-pub mod Trail
-pub mod Step
-pub mod Run
-pub mod Space
-pub mod References
-pub mod ReferenceSteps
-pub mod Marks
 pub mod Frames
 pub mod PlaceStack
 pub mod SpaceOf
@@ -17,10 +8,8 @@ pub mod Traversing
 pub mod Control
 pub mod Entered
 pub mod Stepped
-pub mod Matches
 pub mod Builds
 pub mod Loaded
-pub mod Outcomes
 pub mod Running
 pub mod Operands
 pub mod Indexing

@@ -1,7 +1,7 @@
 -- What the control records of the Rust machine are seen as.
 use Rattle.std.specs.Prelude.{◌≡◌, ℕ, List, [], ◌∷◌, take, drop}
-use Rattle.strat_machine.specs.State as state
-use Rattle.strat_machine.specs.References.{RefRecord, ref_call, ref_choice, ref_all, ref_one, ref_some}
+use Rattle.strat_steps.specs.State as state
+use Rattle.strat_steps.specs.References.{RefRecord, ref_call, ref_choice, ref_all, ref_one, ref_some}
 use Rattle.strat_machine.specs.declared.records.Saved.{Saved}
 use Rattle.strat_machine.specs.declared.records.Record.{Record}
 use Rattle.strat_machine.specs.declared.records.Record.TheVariants as records

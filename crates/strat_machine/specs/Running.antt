@@ -5,9 +5,9 @@ use Rattle.term_model.specs.Symbol.{Symbol}
 use Rattle.core_lang.specs.declared.run.Outcome.{Outcome}
 use Rattle.core_lang.specs.declared.run.Outcome.TheVariants as outcomes
 use Rattle.strat_code.specs.Code.{Code}
-use Rattle.strat_machine.specs.Run.{start_ref}
-use Rattle.strat_machine.specs.Space.{Space}
-use Rattle.strat_machine.specs.ReferenceSteps.{StepsRef}
+use Rattle.strat_steps.specs.Run.{start_ref}
+use Rattle.strat_steps.specs.Space.{Space}
+use Rattle.strat_steps.specs.ReferenceSteps.{StepsRef}
 use Rattle.strat_machine.specs.RecordStack.{records_of}
 use Rattle.strat_machine.specs.Stacks.{KeepsNames, state_of}
 use Rattle.strat_machine.specs.declared.stacks.Stacks.{Stacks}

@@ -3,11 +3,11 @@ use Rattle.std.specs.Prelude.{◌≡◌, ℕ, Bool, IsTrue, List, ◌∷◌, len
 use Rattle.term_model.specs.Symbol.{Symbol}
 use Rattle.term_model.specs.Flat.{Meaning}
 use Rattle.strat_code.specs.Code.{Instr, Code}
-use Rattle.strat_machine.specs.State as state
-use Rattle.strat_machine.specs.Space.{Space, IsMark}
-use Rattle.strat_machine.specs.References.{RefRecord, RefState, ref_choice, ref_running, ref_failing, ref_rewritten, ref_stopped}
-use Rattle.strat_machine.specs.ReferenceSteps.{Does, StepRef}
-use Rattle.strat_machine.specs.Marks.{Safe}
+use Rattle.strat_steps.specs.State as state
+use Rattle.strat_steps.specs.Space.{Space, IsMark}
+use Rattle.strat_steps.specs.References.{RefRecord, RefState, ref_choice, ref_running, ref_failing, ref_rewritten, ref_stopped}
+use Rattle.strat_steps.specs.ReferenceSteps.{Does, StepRef}
+use Rattle.strat_steps.specs.Marks.{Safe}
 use Rattle.strat_machine.specs.RecordStack.{records_of, saved_of, with_record}
 use Rattle.strat_machine.specs.declared.building.Built.{Built}
 use Rattle.strat_machine.specs.declared.building.Built.TheVariants as built

@@ -5,8 +5,8 @@ use Rattle.term_model.specs.Flat.{Meaning}
 use Rattle.strat_code.specs.CodeOf.{code_of}
 use Rattle.strat_code.specs.declared.instr.Case.{Case}
 use Rattle.strat_code.specs.declared.instr.Instr.{Instr}
-use Rattle.strat_machine.specs.Space.{Space}
-use Rattle.strat_machine.specs.ReferenceSteps.{StepRef}
+use Rattle.strat_steps.specs.Space.{Space}
+use Rattle.strat_steps.specs.ReferenceSteps.{StepRef}
 use Rattle.strat_machine.specs.Stacks.{state_of}
 use Rattle.strat_machine.specs.Control.{IsPaid}
 use Rattle.strat_machine.specs.declared.stacks.Stacks.{Stacks}

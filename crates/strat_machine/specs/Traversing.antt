@@ -1,35 +1,18 @@
 -- What the steps of a traversal do to the Rust machine.
-use Rattle.std.specs.Prelude.{◌≡◌, ℕ, suc, ◌+◌, Bool, List, [], ◌∷◌, ◌++◌, length, map, take, drop}
+use Rattle.std.specs.Prelude.{◌≡◌, ℕ, suc, ◌+◌, Bool, List, ◌++◌, length, map, take, drop}
 use Rattle.std.specs.Option.{option_map}
-use Rattle.term_model.specs.Term.{list_of, parts_of}
+use Rattle.term_model.specs.Term.{parts_of}
 use Rattle.core_lang.specs.Ending.{ok, oversize, rebuilt}
-use Rattle.strat_machine.specs.State as state
-use Rattle.strat_machine.specs.Space.{Space, Grows}
-use Rattle.strat_machine.specs.References.{RefRecord, RefState, ref_running, ref_stopped, trees, AllRefs}
-use Rattle.strat_machine.specs.ReferenceSteps.{OnAll, OnOne, OnSome}
+use Rattle.strat_steps.specs.State.{run_oversize}
+use Rattle.strat_steps.specs.Space.{Space, Grows}
+use Rattle.strat_steps.specs.References.{RefRecord, RefState, ref_running, ref_stopped, trees, AllRefs}
+use Rattle.strat_steps.specs.ReferenceSteps.{OnAll, OnOne, OnSome}
 use Rattle.strat_machine.specs.RecordStack.{records_in}
 use Rattle.strat_machine.specs.Stacks.{state_of}
 use Rattle.strat_machine.specs.declared.stacks.Stacks.{Stacks}
 use Rattle.strat_machine.specs.declared.stacks.Phase.{Phase}
 use Rattle.strat_machine.specs.declared.records.Traversed.{Traversed}
 use Rattle.strat_machine.specs.declared.records.Records.{Records}
-
--- in each traversal the parts that are done, the one that is tried and those that are left are as many as the whole has
-abbrev pub IsCounted : state.Record → Type 0
-IsCounted (state.call_record a h) = Unit {0}
-IsCounted (state.choice_record a t s) = Unit {0}
-IsCounted (state.all_record body next t done left) = length (list_of done) + suc (length (list_of left)) ≡ length (parts_of t)
-IsCounted (state.one_record body next t done u left s) = length (list_of done) + suc (length (list_of left)) ≡ length (parts_of t)
-IsCounted (state.some_record body next t done u left found s) = length (list_of done) + suc (length (list_of left)) ≡ length (parts_of t)
-
-abbrev pub AllCounted : List state.Record → Type 0
-AllCounted [] = Unit {0}
-AllCounted (r ∷ K) = IsCounted r × AllCounted K
-
-abbrev pub StateCounted : state.State → Type 0
-StateCounted (state.running i p t e F T b K l) = AllCounted K
-StateCounted (state.failing e F T b K l) = AllCounted K
-StateCounted (state.ended r l) = Unit {0}
 
 module _ {W R Y : Type 0} (S : Space W R Y) (w : W) where
   -- the term is rebuilt of these parts, and the machine goes on with it at an address, or ends
@@ -38,7 +21,7 @@ module _ {W R Y : Type 0} (S : Space W R Y) (w : W) where
         rebuilt (S.term_of w t) (ok (trees (S.term_of w) parts) (map (option_map (S.term_of w)) m.places.slots)) ≡ ok (S.term_of w1 u) (map (option_map (S.term_of w)) m.places.slots) →
         RebuildsTo t parts m K next here w1 (ref_running next here u m.places.slots m.frames m.places.trail m.places.barrier K m.left)
     rebuilds_none : Grows S w w1 → rebuilt (S.term_of w t) (ok (trees (S.term_of w) parts) (map (option_map (S.term_of w)) m.places.slots)) ≡ oversize →
-        RebuildsTo t parts m K next here w1 (ref_stopped state.run_oversize m.left)
+        RebuildsTo t parts m K next here w1 (ref_stopped run_oversize m.left)
 
   -- the parts of a term are put where those that are left stand
   pub record OpensParts (t : R) (n : ℕ) (old new : Records R Y) : Type 0 where

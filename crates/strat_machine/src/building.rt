@@ -7,8 +7,8 @@ ghost use Rattle.term_model.specs.Space.{Keeps};
 ghost use Rattle.term_model.specs.Term.{Trees, end};
 ghost use Rattle.strat_machine.specs.Builds.{held_in, joined_elements, instances_then, Builds, IsKept, AreBuilt, AreArguments, AreElements, Puts};
 ghost use Rattle.strat_machine.specs.Loaded.{Known, AllKnown, RestKnown, all_loaded_of, loaded_of, rest_loaded_of};
-ghost use Rattle.strat_machine.specs.References.{AllPlaces, AllRefs};
-ghost use Rattle.strat_machine.specs.State.{place_at};
+ghost use Rattle.strat_steps.specs.References.{AllPlaces, AllRefs};
+ghost use Rattle.strat_steps.specs.State.{place_at};
 
 use crate::frames::Frames;
 use crate::loaded::LoadedPattern;

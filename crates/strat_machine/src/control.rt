@@ -2,10 +2,10 @@
 ghost use Rattle.std.specs.Prelude.{◌<◌, IfOk, IsTrue, map};
 ghost use Rattle.term_model.specs.Space.{Keeps};
 ghost use Rattle.strat_machine.specs.SpaceOf.{space_of};
-ghost use Rattle.strat_machine.specs.References.{record_tree};
+ghost use Rattle.strat_steps.specs.References.{record_tree};
 ghost use Rattle.strat_machine.specs.RecordStack.{records_of};
 ghost use Rattle.strat_machine.specs.Stacks.{IsSafe};
-ghost use Rattle.strat_machine.specs.Traversing.{AllCounted};
+ghost use Rattle.strat_steps.specs.Counted.{AllCounted};
 ghost use Rattle.strat_machine.specs.Control.{PerformsOr, OfOther, HandlesPattern, IsNoScope, IsNoRecord};
 
 use crate::stacks::{Phase, Stacks};

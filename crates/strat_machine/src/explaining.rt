@@ -1,9 +1,9 @@
 // What explanations of a run are made of: what it cost, how it ended, and where it stood.
 ghost use Rattle.std.specs.Prelude.{IsTrue};
 ghost use Rattle.prim_registry.specs.Entries.{IsHonest, entries_of};
-ghost use Rattle.strat_machine.specs.Marks.{Holds};
+ghost use Rattle.strat_steps.specs.Marks.{Holds};
 ghost use Rattle.strat_machine.specs.Operands.{IsLoadedCode};
-ghost use Rattle.strat_machine.specs.References.{AllPlaces};
+ghost use Rattle.strat_steps.specs.References.{AllPlaces};
 ghost use Rattle.strat_machine.specs.Running.{IsClear};
 ghost use Rattle.strat_machine.specs.SpaceOf.{space_of};
 ghost use Rattle.strat_machine.specs.Stacks.{state_of};

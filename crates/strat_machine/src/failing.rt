@@ -1,6 +1,6 @@
 // Steps after a failure.
 ghost use Rattle.std.specs.Prelude.{◌≡◌, IfOk, IsTrue};
-ghost use Rattle.strat_machine.specs.Marks.{MarksCover};
+ghost use Rattle.strat_steps.specs.Marks.{MarksCover};
 ghost use Rattle.term_model.specs.Flat.{Meaning};
 ghost use Rattle.strat_code.specs.Code.{Code};
 ghost use Rattle.strat_machine.specs.SpaceOf.{space_of};

@@ -1,8 +1,8 @@
 // The frames of calls and scopes, and the closures of their strategy parameters.
 ghost use Rattle.std.specs.Prelude.{◌≡◌, ◌+◌, ◌<◌, ◌≤◌, ℕ, Some, MatchOption, OnOk, OnErr, [], ◌∷◌, ◌++◌, length, map, take, slice_get};
 ghost use Rattle.strat_code.specs.CodeOf.{argument_of};
-ghost use Rattle.strat_machine.specs.State as state;
-ghost use Rattle.strat_machine.specs.State.{around, frames_up, place_at, closure_in, closed};
+ghost use Rattle.strat_steps.specs.State as state;
+ghost use Rattle.strat_steps.specs.State.{around, frames_up, place_at, closure_in, closed};
 ghost use Rattle.strat_machine.specs.Frames.{closure_of, frames_in, IsBaseOf, AreLaid};
 
 use core_lang::Coordinate;
@@ -35,7 +35,7 @@ pub(crate) struct Frames {
 
 impl Model for Frames {
     ghost use Rattle.std.specs.Prelude.{List, length};
-    ghost use Rattle.strat_machine.specs.State as model;
+    ghost use Rattle.strat_steps.specs.State as model;
     ghost use Rattle.strat_machine.specs.Frames.{frames_in, AreLaid};
 
     ghost Value = { List model.Frame };

@@ -6,12 +6,12 @@ ghost use Rattle.term_model.specs.Space.{Keeps};
 ghost use Rattle.strat_code.specs.Code.{nodes_of};
 ghost use Rattle.strat_code.specs.CodeOf.{instr_of};
 ghost use Rattle.strat_machine.specs.SpaceOf.{space_of};
-ghost use Rattle.strat_machine.specs.References.{record_tree, state_tree};
+ghost use Rattle.strat_steps.specs.References.{record_tree, state_tree};
 ghost use Rattle.strat_machine.specs.RecordStack.{records_of};
 ghost use Rattle.strat_machine.specs.Stacks.{IsSafe, KeepsNames, state_of};
-ghost use Rattle.strat_machine.specs.Marks.{Holds, Lasts};
+ghost use Rattle.strat_steps.specs.Marks.{Holds, Lasts};
 ghost use Rattle.strat_machine.specs.Stepped.{StepsFrom};
-ghost use Rattle.strat_machine.specs.Traversing.{AllCounted, StateCounted};
+ghost use Rattle.strat_steps.specs.Counted.{AllCounted, StateCounted};
 ghost use Rattle.strat_machine.specs.Control.{StepsOr};
 
 use crate::control::{Control, perform_control};

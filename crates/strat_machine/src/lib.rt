@@ -1,4 +1,4 @@
-//! The machine that runs code: its states, its steps, and what its runs do.
+//! The machine that runs code, over every space of terms.
 #![tactic(auto)]
 
 mod annotations;
@@ -12,7 +12,6 @@ mod flat_values;
 mod frames;
 mod index;
 mod instructions;
-mod laws;
 mod loaded;
 mod machine;
 mod making;
@@ -37,5 +36,4 @@ mod tries;
 mod variables;
 
 pub use explaining::{Account, Ending, Stand};
-pub use laws::{code_runs, records_restore, references_step, runs_are_unique};
 pub use machine::Machine;

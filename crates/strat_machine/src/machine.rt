@@ -10,7 +10,7 @@ ghost use Rattle.core_lang.specs.Run.{IsOutcome};
 ghost use Rattle.prim_registry.specs.Entries.{Covers, IsHonest};
 ghost use Rattle.strat_code.specs.CodeOf.{code_of};
 ghost use Rattle.strat_code.specs.StandsFor.{StandsFor};
-ghost use Rattle.strat_machine.specs.Outcomes.{OutcomeStands, Ran, outcome_tree};
+ghost use Rattle.strat_steps.specs.Outcomes.{OutcomeStands, Ran, outcome_tree};
 ghost use Rattle.prim_registry.specs.Registered.{meaning_of};
 ghost use Rattle.strat_machine.specs.SpaceOf.{space_of};
 ghost use Rattle.strat_machine.specs.Stacks.{KeepsNames};

@@ -5,7 +5,7 @@ ghost use Rattle.term_model.specs.Space.{Keeps};
 ghost use Rattle.term_model.specs.Term.{Tree, Trees, end};
 ghost use Rattle.strat_machine.specs.Builds.{made_built, large_with, AreBuilt, AreElements, Builds, BuiltStands, IsBare, TailStands};
 ghost use Rattle.strat_machine.specs.declared.building.Pushed.TheVariants as forms;
-ghost use Rattle.strat_machine.specs.References.{AllRefs};
+ghost use Rattle.strat_steps.specs.References.{AllRefs};
 
 use crate::building::{Built, Elements, Pushed};
 use std::alloc::{AllocError, Global};

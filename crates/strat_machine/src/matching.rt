@@ -6,11 +6,11 @@ ghost use Rattle.term_model.specs.Symbol.{Symbol};
 ghost use Rattle.term_model.specs.Term.{annos_of, head_of, parts_of, term};
 ghost use Rattle.term_model.specs.Same.{same_head};
 ghost use Rattle.term_model.specs.Space.{Keeps};
-ghost use Rattle.strat_machine.specs.Binding.{attempt, attempted, bind};
+ghost use Rattle.strat_steps.specs.Binding.{attempt, attempted, bind};
 ghost use Rattle.strat_machine.specs.Loaded.{Known, AllKnown, RestKnown, all_loaded_of, loaded_of, rest_loaded_of};
-ghost use Rattle.strat_machine.specs.Matches.{Goes, LeavesSpace, AllLeaveSpace, first_attempted, rest_attempted, sees_annotations};
-ghost use Rattle.strat_machine.specs.References.{AllPlaces, AllRefs};
-ghost use Rattle.strat_machine.specs.State.{place_at};
+ghost use Rattle.strat_steps.specs.Matches.{Goes, LeavesSpace, AllLeaveSpace, first_attempted, rest_attempted, sees_annotations};
+ghost use Rattle.strat_steps.specs.References.{AllPlaces, AllRefs};
+ghost use Rattle.strat_steps.specs.State.{place_at};
 
 use crate::annotations::{anno, anno_count, bare};
 use crate::first_parts::first_parts;

@@ -1,7 +1,7 @@
 // The first steps of a run, and what is noted of them.
 ghost use Rattle.std.specs.Prelude.{◌≡◌, IsTrue, IfOk};
 ghost use Rattle.prim_registry.specs.Entries.{IsHonest, entries_of};
-ghost use Rattle.strat_machine.specs.Marks.{Holds};
+ghost use Rattle.strat_steps.specs.Marks.{Holds};
 ghost use Rattle.strat_machine.specs.Operands.{IsLoadedCode};
 ghost use Rattle.strat_machine.specs.Running.{IsClear};
 ghost use Rattle.strat_machine.specs.SpaceOf.{space_of};

@@ -1,6 +1,6 @@
 // The places of variables, and the trail of those that a failure empties again.
 ghost use Rattle.std.specs.Prelude.{◌≡◌, ◌<◌, ◌-◌, List, Option, drop, nat_lt, if◌then◌else◌, Some, None, MatchOption, OnOk, [], ◌∷◌, ◌++◌, length, map, replicate, reverse, take, slice_get};
-ghost use Rattle.strat_machine.specs.Binding.{cleared, undone, above, down_to, trimmed, with_term};
+ghost use Rattle.strat_steps.specs.Binding.{cleared, undone, above, down_to, trimmed, with_term};
 ghost use Rattle.strat_machine.specs.PlaceStack.{PlaceStack};
 
 use std::alloc::{AllocError, Global};

@@ -10,7 +10,7 @@ ghost use Rattle.prim_registry.specs.Registered.{meaning_of};
 ghost use Rattle.prim_registry.specs.Values.{answer_of};
 ghost use Rattle.strat_code.specs.Code.{apply_primitive};
 ghost use Rattle.strat_machine.specs.Builds.{Builds};
-ghost use Rattle.strat_machine.specs.References.{AllRefs};
+ghost use Rattle.strat_steps.specs.References.{AllRefs};
 ghost use Rattle.strat_machine.specs.Loaded.{AllKnown, all_loaded_of};
 ghost use Rattle.strat_machine.specs.Operands.{IsPosition};
 ghost use Rattle.strat_machine.specs.SpaceOf.{space_of};

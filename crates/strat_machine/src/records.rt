@@ -1,6 +1,6 @@
 // Control records, and the parts of the terms that are traversed.
 ghost use Rattle.std.specs.Prelude.{◌≡◌, ◌+◌, ◌-◌, suc, MatchOption, IfOk, [], ◌∷◌, take, drop};
-ghost use Rattle.strat_machine.specs.References.{ref_call};
+ghost use Rattle.strat_steps.specs.References.{ref_call};
 ghost use Rattle.strat_machine.specs.RecordStack.{records_of, saved_of, IsNoCall, IsNoChoice, IsChoice};
 
 use crate::stack::Stack;

@@ -3,17 +3,17 @@ ghost use Rattle.std.specs.Prelude.{◌≡◌, ◌↔◌, ◌+◌, ◌*◌, ◌�
 ghost use Rattle.core_lang.specs.declared.run.Outcome.TheVariants as outcomes;
 ghost use Rattle.prim_registry.specs.Entries.{IsHonest, entries_of};
 ghost use Rattle.strat_code.specs.CodeOf.{code_of};
-ghost use Rattle.strat_machine.specs.Marks.{Holds, Lasts};
-ghost use Rattle.strat_machine.specs.Outcomes.{OutcomeStands, end_ref};
+ghost use Rattle.strat_steps.specs.Marks.{Holds, Lasts};
+ghost use Rattle.strat_steps.specs.Outcomes.{OutcomeStands, end_ref};
 ghost use Rattle.strat_machine.specs.Operands.{IsLoadedCode};
-ghost use Rattle.strat_machine.specs.References.{state_tree};
-ghost use Rattle.strat_machine.specs.ReferenceSteps.{StepRef, StepsRef};
+ghost use Rattle.strat_steps.specs.References.{state_tree};
+ghost use Rattle.strat_steps.specs.ReferenceSteps.{StepRef, StepsRef};
 ghost use Rattle.prim_registry.specs.Registered.{meaning_of};
-ghost use Rattle.strat_machine.specs.Run.{start_ref};
+ghost use Rattle.strat_steps.specs.Run.{start_ref};
 ghost use Rattle.strat_machine.specs.Running.{IsClear, GoesOn, HasEnded, phase_of, rules_of};
 ghost use Rattle.strat_machine.specs.SpaceOf.{space_of};
 ghost use Rattle.strat_machine.specs.Stacks.{KeepsNames, state_of};
-ghost use Rattle.strat_machine.specs.Traversing.{StateCounted};
+ghost use Rattle.strat_steps.specs.Counted.{StateCounted};
 
 use crate::instructions::{Stepped, step};
 use crate::paid::perform_paid;

@@ -2,7 +2,7 @@
 ghost use Rattle.std.specs.Prelude.{◌≡◌, length};
 ghost use Rattle.strat_machine.specs.RecordStack.{saved_of};
 ghost use Rattle.strat_machine.specs.Running.{IsClear};
-ghost use Rattle.strat_machine.specs.State as state;
+ghost use Rattle.strat_steps.specs.State as state;
 
 use crate::frames::Frames;
 use crate::places::Places;

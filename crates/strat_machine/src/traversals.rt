@@ -6,10 +6,11 @@ ghost use Rattle.term_model.specs.Term.{parts_of};
 ghost use Rattle.strat_code.specs.Code.{traverse, part_done};
 ghost use Rattle.strat_code.specs.CodeOf.{traversal_of};
 ghost use Rattle.strat_machine.specs.SpaceOf.{space_of};
-ghost use Rattle.strat_machine.specs.References.{AllRefs, record_tree};
+ghost use Rattle.strat_steps.specs.References.{AllRefs, record_tree};
 ghost use Rattle.strat_machine.specs.RecordStack.{records_of, records_in};
 ghost use Rattle.strat_machine.specs.Stacks.{Performs, IsSafe, state_of};
-ghost use Rattle.strat_machine.specs.Traversing.{RebuildsTo, OpensParts, GoesOnAll, GoesOnOne, GoesOnSome, HasParts, HasTried, AllCounted};
+ghost use Rattle.strat_machine.specs.Traversing.{RebuildsTo, OpensParts, GoesOnAll, GoesOnOne, GoesOnSome, HasParts, HasTried};
+ghost use Rattle.strat_steps.specs.Counted.{AllCounted};
 
 use crate::records::{Record, Records, Traversed};
 use crate::stack::push_parts_of;

@@ -3,7 +3,7 @@ use Rattle.std.specs.Option.{option_map}
 use Rattle.term_model.specs.Space.{Keeps}
 use Rattle.strat_machine.specs.Builds.{instances_then, AreBuiltBefore, Puts}
 use Rattle.strat_machine.specs.Loaded.{loaded_of}
-use Rattle.strat_machine.specs.State.{place_at}
+use Rattle.strat_steps.specs.State.{place_at}
 use Rattle.strat_machine.proofs.building.+building.Given as goal
 
 abbrev pub invariant-push_all-loop-p : goal.invariant-push_all-loop-p

@@ -2,7 +2,7 @@ use Rattle.std.proofs.Common.{◌≡◌, ◌∙◌, length, map, sym}
 use Rattle.std.specs.Option.{option_map}
 use Rattle.std.specs.Cmp.{unsigned_Decides}
 use Rattle.strat_machine.specs.Loaded.{loaded_of}
-use Rattle.strat_machine.specs.State.{place_at}
+use Rattle.strat_steps.specs.State.{place_at}
 use Rattle.strat_machine.proofs.BuiltLaws.{arguments_put, no_arguments, large_arguments, nothing_put}
 use Rattle.strat_machine.proofs.ElementLaws.{puts_nothing_at, kept_is}
 use Rattle.strat_machine.proofs.building.build_all.Goals as goal

@@ -1,4 +1,4 @@
-use Rattle.strat_machine.specs.State.{place_at}
+use Rattle.strat_steps.specs.State.{place_at}
 use Rattle.strat_machine.proofs.BuildingLaws.{value_known}
 use Rattle.strat_machine.proofs.building.value.Goals as goal
 

@@ -1,7 +1,7 @@
 use Rattle.std.proofs.Common.{◌∷◌, [], ◌++◌, length, map, append_assoc, Some, None, drop, refl, ◌∙◌, ap}
 use Rattle.std.specs.Prelude.{replicate}
 use Rattle.strat_code.specs.CodeOf.{argument_of}
-use Rattle.strat_machine.specs.State.{frame, closed}
+use Rattle.strat_steps.specs.State.{frame, closed}
 use Rattle.strat_machine.specs.RecordStack.{records_in}
 use Rattle.strat_machine.proofs.StepLaws.{same_run}
 use Rattle.strat_machine.proofs.calls.enter_definition.Goals as goal

@@ -1,10 +1,10 @@
 use Rattle.std.proofs.Common.{map}
 use Rattle.std.specs.Prelude.{IsTrue}
 use Rattle.strat_machine.specs.SpaceOf.{space_of}
-use Rattle.strat_machine.specs.References.{record_tree}
+use Rattle.strat_steps.specs.References.{record_tree}
 use Rattle.strat_machine.specs.RecordStack.{records_of}
 use Rattle.strat_machine.specs.Stacks.{IsSafe}
-use Rattle.strat_machine.specs.Traversing.{AllCounted}
+use Rattle.strat_steps.specs.Counted.{AllCounted}
 use Rattle.strat_machine.proofs.ControlLaws.{stays, term_still, stacks_still, performs_still, performs_so}
 use Rattle.strat_machine.proofs.control.perform_control.Goals as goal
 

@@ -1,4 +1,4 @@
-use Rattle.strat_machine.specs.ReferenceSteps.{counts, gives_up_so, jumps, finishes}
+use Rattle.strat_steps.specs.ReferenceSteps.{counts, gives_up_so, jumps, finishes}
 use Rattle.strat_machine.proofs.StepLaws.{does_to}
 use Rattle.strat_machine.proofs.ControlLaws.{as_instr, next_run}
 use Rattle.strat_machine.proofs.control.perform_scope.Goals as goal

@@ -1,7 +1,7 @@
 use Rattle.std.proofs.Common.{sym, ap, refl}
-use Rattle.strat_machine.specs.References.{ref_failing}
+use Rattle.strat_steps.specs.References.{ref_failing}
 use Rattle.strat_machine.specs.RecordStack.{records_in, records_of}
-use Rattle.strat_machine.specs.ReferenceSteps.{fails_whole, fails_call, fails_all}
+use Rattle.strat_steps.specs.ReferenceSteps.{fails_whole, fails_call, fails_all}
 use Rattle.strat_machine.proofs.FailLaws.{step_from, step_to, step_at, same_failing}
 use Rattle.strat_machine.proofs.failing.fail.Goals as goal
 

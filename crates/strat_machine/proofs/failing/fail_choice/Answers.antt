@@ -1,5 +1,5 @@
 use Rattle.std.proofs.Common.{sym, ap, refl}
-use Rattle.strat_machine.specs.ReferenceSteps.{fails_choice}
+use Rattle.strat_steps.specs.ReferenceSteps.{fails_choice}
 use Rattle.strat_machine.proofs.FailLaws.{back_is, step_to, same_running}
 use Rattle.strat_machine.proofs.failing.fail_choice.Goals as goal
 

@@ -1,6 +1,6 @@
 use Rattle.std.proofs.Common.{◌≡◌, ◌≤◌, ◌++◌, All, IsTrue, length, map}
 use Rattle.term_model.specs.Term.{parts_of}
-use Rattle.strat_machine.specs.References.{AllRefs}
+use Rattle.strat_steps.specs.References.{AllRefs}
 use Rattle.strat_machine.proofs.first_parts.first_parts.Given as goal
 
 abbrev pub invariant-loop-part : goal.invariant-loop-part

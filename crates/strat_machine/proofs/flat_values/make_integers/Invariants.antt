@@ -2,7 +2,7 @@ use Rattle.std.proofs.Common.{◌≡◌, map, take}
 use Rattle.std.specs.Prelude.{IsTrue}
 use Rattle.term_model.specs.Space.{Keeps}
 use Rattle.prim_registry.proofs.FlatLaws.{integer_term}
-use Rattle.strat_machine.specs.References.{AllRefs}
+use Rattle.strat_steps.specs.References.{AllRefs}
 use Rattle.strat_machine.proofs.flat_values.make_integers.Given as goal
 
 abbrev pub invariant-loop-number : goal.invariant-loop-number

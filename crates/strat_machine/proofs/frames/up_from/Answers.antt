@@ -1,7 +1,7 @@
 use Rattle.std.proofs.Common.{◌≡◌, ◌∙◌, ◌-◌, ◌+◌, Some, None, length, refl, sym, ap}
 use Rattle.std.specs.Prelude.{slice_get}
 use Rattle.std.proofs.lemmas.Option.{slice_get_past, slice_get_read}
-use Rattle.strat_machine.specs.State.{frames_up}
+use Rattle.strat_steps.specs.State.{frames_up}
 use Rattle.strat_machine.specs.Frames.{frames_in}
 use Rattle.strat_machine.proofs.FrameLaws.{up_one, up_stays, up_next}
 use Rattle.strat_machine.proofs.frames.up_from.Goals as goal

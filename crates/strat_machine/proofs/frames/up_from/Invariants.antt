@@ -1,5 +1,5 @@
 use Rattle.std.proofs.Common.{◌≡◌, ◌-◌}
-use Rattle.strat_machine.specs.State.{frames_up}
+use Rattle.strat_steps.specs.State.{frames_up}
 use Rattle.strat_machine.specs.Frames.{frames_in}
 use Rattle.strat_machine.proofs.frames.up_from.Given as goal
 

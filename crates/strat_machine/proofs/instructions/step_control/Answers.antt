@@ -2,7 +2,7 @@ use Rattle.std.proofs.Common.{◌<◌, ◌≤◌, length, arith}
 use Rattle.strat_code.specs.Code.{nodes_of}
 use Rattle.strat_code.specs.CodeOf.{instr_of}
 use Rattle.strat_machine.specs.SpaceOf.{space_of}
-use Rattle.strat_machine.specs.ReferenceSteps.{leaves_code, cannot_pay}
+use Rattle.strat_steps.specs.ReferenceSteps.{leaves_code, cannot_pay}
 use Rattle.strat_machine.proofs.ControlLaws.{none_at, found_at, steps_or}
 use Rattle.strat_machine.proofs.instructions.step_control.Goals as goal
 

@@ -5,8 +5,8 @@ use Rattle.std.proofs.lemmas.List.{length-map}
 use Rattle.term_model.specs.Same.{same_head-true}
 use Rattle.term_model.specs.Term.{term, head_of, parts_of, annos_of}
 use Rattle.strat_machine.specs.Loaded.{loaded_of, rest_loaded_of}
-use Rattle.strat_machine.specs.State.{place_at}
-use Rattle.strat_machine.proofs.ReferenceLaws.{all_changed}
+use Rattle.strat_steps.specs.State.{place_at}
+use Rattle.strat_steps.proofs.ReferenceLaws.{all_changed}
 use Rattle.strat_machine.proofs.SpaceLaws.{keeps_same, keeps_then}
 use Rattle.strat_machine.proofs.LoadedLaws.{loaded_as_anything, loaded_as_alias, loaded_as_integer, loaded_as_like, loaded_as_applied, loaded_as_list, loaded_same, all_loaded_same, rest_loaded_same, loaded_as_annotated, known_as_applied, known_as_list, known_as_annotated, known_later, all_known_later, rest_known_later, rest_known_some, rest_loaded_some}
 use Rattle.strat_machine.proofs.MatchingLaws.{goes_at_once, goes_as_pattern, match_lacks, match_stops, match_next, known_at, part_was, ref_stands, ref_was, pushed_stand, pushed_goes, first_stand, first_goes, first_enough, alias_goes, integer_tested, applied_none, applied_fails, applied_ends, list_none, list_fails, list_goes, no_rest, rest_goes, annotated_none, annotated_fails, annotated_goes, unseen_goes, bare_goes, applied_leaves, list_leaves, part_leaves}

@@ -3,8 +3,8 @@ use Rattle.core_lang.specs.Views.{patterns_in}
 use Rattle.term_model.specs.Space.{Keeps}
 use Rattle.term_model.specs.Term.{parts_of, annos_of}
 use Rattle.strat_machine.specs.Loaded.{loaded_of}
-use Rattle.strat_machine.specs.Matches.{Goes, AllLeaveSpace, first_attempted}
-use Rattle.strat_machine.specs.State.{place_at}
+use Rattle.strat_steps.specs.Matches.{Goes, AllLeaveSpace, first_attempted}
+use Rattle.strat_steps.specs.State.{place_at}
 use Rattle.strat_machine.proofs.matching.+matching.Given as goal
 
 abbrev pub invariant-match_first-loop-i : goal.invariant-match_first-loop-i

@@ -1,5 +1,5 @@
 use Rattle.std.proofs.Common.{IsTrue}
-use Rattle.strat_machine.specs.State.{place_at}
+use Rattle.strat_steps.specs.State.{place_at}
 use Rattle.strat_machine.proofs.MatchingLaws.{goes_at_once, goes_given, bind_nowhere, bind_no_place, bind_held, held_stands}
 use Rattle.strat_machine.proofs.matching.bind_variable.Goals as goal
 

@@ -1,5 +1,5 @@
 use Rattle.std.proofs.Common.{◌≡◌, length, reverse}
-use Rattle.strat_machine.specs.Binding.{trimmed}
+use Rattle.strat_steps.specs.Binding.{trimmed}
 use Rattle.strat_machine.proofs.places.trim_trail.Given as goal
 
 abbrev pub invariant-loop-trail : goal.invariant-loop-trail

@@ -6,7 +6,7 @@ use Rattle.term_model.specs.Term.{trees_of}
 use Rattle.prim_registry.specs.Entries.{entries_of}
 use Rattle.prim_registry.specs.Registered.{meaning_of}
 use Rattle.strat_code.specs.Code.{apply_primitive}
-use Rattle.strat_machine.specs.State.{place_at}
+use Rattle.strat_steps.specs.State.{place_at}
 use Rattle.strat_machine.specs.Loaded.{loaded_of, all_loaded_of}
 use Rattle.strat_machine.specs.Operands.{IsPosition}
 use Rattle.strat_machine.proofs.SpaceLaws.{keeps_then}

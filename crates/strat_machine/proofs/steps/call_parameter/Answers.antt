@@ -1,6 +1,6 @@
 use Rattle.std.proofs.Common.{sym, ap, ◌∙◌, ◌∷◌, refl}
-use Rattle.strat_machine.specs.ReferenceSteps.{calls_closure}
-use Rattle.strat_machine.specs.References.{ref_call}
+use Rattle.strat_steps.specs.ReferenceSteps.{calls_closure}
+use Rattle.strat_steps.specs.References.{ref_call}
 use Rattle.strat_machine.specs.RecordStack.{records_in, records_of}
 use Rattle.strat_machine.proofs.StepLaws.{does_to, same_run}
 use Rattle.strat_machine.proofs.steps.call_parameter.Goals as goal

@@ -1,5 +1,5 @@
 use Rattle.std.proofs.Common.{sym, ap, refl}
-use Rattle.strat_machine.specs.ReferenceSteps.{commits}
+use Rattle.strat_steps.specs.ReferenceSteps.{commits}
 use Rattle.strat_machine.proofs.StepLaws.{does_to, same_run, commits_nothing, commits_this}
 use Rattle.strat_machine.proofs.steps.commit_choice.Goals as goal
 

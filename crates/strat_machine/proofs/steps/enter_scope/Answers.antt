@@ -1,6 +1,6 @@
 use Rattle.std.proofs.Common.{sym, ◌∙◌, ap, ◌++◌, ◌∷◌, [], refl}
-use Rattle.strat_machine.specs.State.{frame}
-use Rattle.strat_machine.specs.ReferenceSteps.{enters}
+use Rattle.strat_steps.specs.State.{frame}
+use Rattle.strat_steps.specs.ReferenceSteps.{enters}
 use Rattle.strat_machine.proofs.StepLaws.{does_to, same_run}
 use Rattle.strat_machine.proofs.steps.enter_scope.Goals as goal
 

@@ -1,5 +1,5 @@
 use Rattle.std.proofs.Common.{sym, ap, refl}
-use Rattle.strat_machine.specs.ReferenceSteps.{extends}
+use Rattle.strat_steps.specs.ReferenceSteps.{extends}
 use Rattle.strat_machine.proofs.StepLaws.{does_to, same_run}
 use Rattle.strat_machine.proofs.steps.extend_scope.Goals as goal
 

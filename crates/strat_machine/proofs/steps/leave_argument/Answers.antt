@@ -1,4 +1,4 @@
-use Rattle.strat_machine.specs.ReferenceSteps.{ends_argument}
+use Rattle.strat_steps.specs.ReferenceSteps.{ends_argument}
 use Rattle.strat_machine.proofs.StepLaws.{ends_no_argument, after_call}
 use Rattle.strat_machine.proofs.steps.leave_argument.Goals as goal
 

@@ -1,5 +1,5 @@
 use Rattle.std.proofs.Common.{sym, ap, refl, arith}
-use Rattle.strat_machine.specs.ReferenceSteps.{ends_definition, ends_definition_low}
+use Rattle.strat_steps.specs.ReferenceSteps.{ends_definition, ends_definition_low}
 use Rattle.strat_machine.proofs.StepLaws.{does_to, same_run, no_frame, some_frame, ends_no_definition, ends_without_frame, after_call}
 use Rattle.strat_machine.proofs.steps.leave_definition.Goals as goal
 

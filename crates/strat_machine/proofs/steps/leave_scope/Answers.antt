@@ -1,5 +1,5 @@
 use Rattle.std.proofs.Common.{sym, ap, refl, arith}
-use Rattle.strat_machine.specs.ReferenceSteps.{leaves, leaves_low}
+use Rattle.strat_steps.specs.ReferenceSteps.{leaves, leaves_low}
 use Rattle.strat_machine.proofs.StepLaws.{does_to, same_run, no_frame, some_frame, leaves_nothing}
 use Rattle.strat_machine.proofs.steps.leave_scope.Goals as goal
 

@@ -1,5 +1,5 @@
 use Rattle.std.proofs.Common.{◌∷◌, sym, ap, ◌∙◌, refl}
-use Rattle.strat_machine.specs.References.{ref_choice}
+use Rattle.strat_steps.specs.References.{ref_choice}
 use Rattle.strat_machine.specs.RecordStack.{saved_of, records_in, records_of}
 use Rattle.strat_machine.proofs.StepLaws.{same_run, mark_is}
 use Rattle.strat_machine.proofs.steps.put_choice.Goals as goal

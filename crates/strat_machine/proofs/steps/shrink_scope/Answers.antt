@@ -1,5 +1,5 @@
 use Rattle.std.proofs.Common.{◌≡◌, ◌-◌, ◌∙◌, sym, ap, refl, arith, length, take}
-use Rattle.strat_machine.specs.ReferenceSteps.{shrinks, shrinks_low}
+use Rattle.strat_steps.specs.ReferenceSteps.{shrinks, shrinks_low}
 use Rattle.strat_machine.proofs.StepLaws.{does_to, same_run}
 use Rattle.strat_machine.proofs.steps.shrink_scope.Goals as goal
 

@@ -1,4 +1,4 @@
-use Rattle.strat_machine.specs.ReferenceSteps.{part_of_all}
+use Rattle.strat_steps.specs.ReferenceSteps.{part_of_all}
 use Rattle.strat_machine.proofs.PartLaws.{all_tried, one_tried, some_tried, part_at, part_of_nothing, part_of_call, part_of_choice, one_made, some_ended}
 use Rattle.strat_machine.proofs.traversals.end_part.Goals as goal
 

@@ -1,6 +1,6 @@
 use Rattle.std.proofs.Common.{sym, ap, subst, refl, take}
 use Rattle.std.specs.Prelude.{IsTrue}
-use Rattle.strat_machine.specs.References.{AllRefs}
+use Rattle.strat_steps.specs.References.{AllRefs}
 use Rattle.strat_machine.proofs.PartLaws.{parts_stand, whole_of_one}
 use Rattle.strat_machine.proofs.traversals.end_part_of_one.Goals as goal
 

@@ -7,8 +7,8 @@ use Rattle.core_lang.specs.Views.{elements_in}
 use Rattle.strat_machine.specs.declared.loaded.LoadedPattern.TheViews.{the_lemmas}
 use Rattle.strat_machine.specs.Builds.{instances_then, AreElements, IsKept, Puts}
 use Rattle.strat_machine.specs.Loaded.{loaded_of, all_loaded_of, rest_loaded_of}
-use Rattle.strat_machine.specs.State.{place_at}
-use Rattle.strat_machine.proofs.ReferenceLaws.{all_changed}
+use Rattle.strat_steps.specs.State.{place_at}
+use Rattle.strat_steps.proofs.ReferenceLaws.{all_changed}
 use Rattle.strat_machine.proofs.SpaceLaws.{keeps_same, keeps_then}
 use Rattle.strat_machine.proofs.MatchingLaws.{known_at}
 use Rattle.strat_machine.proofs.LoadedLaws.{loaded_as_anything, loaded_as_variable, loaded_as_alias, loaded_as_integer, loaded_as_like, loaded_as_applied, loaded_as_list, loaded_as_annotated, loaded_same, known_as_list, known_as_annotated, known_later, rest_known_later, rest_loaded_same, rest_known_some, rest_loaded_some}

@@ -8,8 +8,8 @@ use Rattle.term_model.specs.Term.{end}
 use Rattle.strat_machine.specs.declared.loaded.LoadedPattern.TheViews.{the_lemmas}
 use Rattle.strat_machine.specs.Builds.{instances_then}
 use Rattle.strat_machine.specs.Loaded.{loaded_of, rest_loaded_of}
-use Rattle.strat_machine.specs.State.{place_at}
-use Rattle.strat_machine.proofs.ReferenceLaws.{all_changed}
+use Rattle.strat_steps.specs.State.{place_at}
+use Rattle.strat_steps.proofs.ReferenceLaws.{all_changed}
 use Rattle.strat_machine.proofs.SpaceLaws.{keeps_then}
 use Rattle.strat_machine.proofs.LoadedLaws.{loaded_as_applied, loaded_as_list, loaded_as_annotated, loaded_same, known_as_applied, known_as_list, known_as_annotated, known_later, rest_known_later, rest_loaded_same}
 use Rattle.strat_machine.proofs.ElementLaws.{put_stands, put_are, put_within, kept_is, tail_stands, list_puts, builds_as, instance_applied, instance_list, instance_annotated, same_instance}

@@ -8,9 +8,9 @@ use Rattle.term_model.specs.Term.{annos_of, end}
 use Rattle.strat_machine.specs.declared.loaded.LoadedPattern.TheViews.{the_lemmas}
 use Rattle.strat_machine.specs.Builds.{in_front, AreBuilt}
 use Rattle.strat_machine.specs.Loaded.{loaded_of, all_loaded_of, rest_loaded_of}
-use Rattle.strat_machine.specs.References.{AllRefs}
-use Rattle.strat_machine.specs.State.{place_at}
-use Rattle.strat_machine.proofs.ReferenceLaws.{all_changed}
+use Rattle.strat_steps.specs.References.{AllRefs}
+use Rattle.strat_steps.specs.State.{place_at}
+use Rattle.strat_steps.proofs.ReferenceLaws.{all_changed}
 use Rattle.strat_machine.proofs.SpaceLaws.{keeps_then}
 use Rattle.strat_machine.proofs.LoadedLaws.{loaded_as_variable, loaded_as_integer, loaded_as_like, loaded_as_applied, loaded_as_list, loaded_as_annotated, loaded_same, known_as_annotated, known_later}
 use Rattle.strat_machine.proofs.BuildingLaws.{some_held}

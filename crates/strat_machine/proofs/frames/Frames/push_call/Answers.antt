@@ -1,5 +1,5 @@
 use Rattle.std.proofs.Common.{◌≡◌, ◌++◌, ◌∷◌, [], map, length, sym, subst, ◌∙◌, ap, refl, arith}
-use Rattle.strat_machine.specs.State.{frame, closed}
+use Rattle.strat_steps.specs.State.{frame, closed}
 use Rattle.strat_code.specs.CodeOf.{argument_of}
 use Rattle.strat_machine.specs.Frames.{AreLaid, frames_in}
 use Rattle.strat_machine.proofs.ResultLaws.{on_err}

@@ -1,0 +1,12 @@
+pub mod State
+pub mod Binding
+pub mod Trail
+pub mod Step
+pub mod Run
+pub mod Space
+pub mod References
+pub mod ReferenceSteps
+pub mod Marks
+pub mod Counted
+pub mod Matches
+pub mod Outcomes

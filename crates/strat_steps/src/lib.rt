@@ -1,0 +1,6 @@
+//! The machine as a definition: its states, its steps, and the laws of its runs.
+#![tactic(auto)]
+
+mod laws;
+
+pub use laws::{code_runs, records_restore, references_step, runs_are_unique};
