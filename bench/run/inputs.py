@@ -6,6 +6,8 @@ from pathlib import Path
 
 HERE = Path(__file__).resolve().parent
 RULES = 1000
+# The constructor C<i> of rdispatch has i % WIDTHS parts.
+WIDTHS = 4
 
 
 class Out:
@@ -43,6 +45,26 @@ def apply(out, name, parts):
             out.put(",")
         part()
     out.put(")")
+
+
+def elements(out, count, write):
+    """A list of so many elements; `write` writes the one of each index."""
+    out.leaf("[")
+    for index in range(count):
+        out.put("," if index > 0 else "")
+        write(index)
+    out.put("]")
+
+
+def written(out, term):
+    """A term given as text without parts, as a list, or as a name and parts: `("Plus", "1", "2")` is `Plus(1,2)`."""
+    if isinstance(term, str):
+        out.leaf(term)
+    elif isinstance(term, list):
+        elements(out, len(term), lambda index: written(out, term[index]))
+    else:
+        name, *parts = term
+        apply(out, name, [lambda part=part: written(out, part) for part in parts])
 
 
 def word(out, letter, count):
@@ -108,7 +130,7 @@ def scope(out, size):
 
 
 def expression(out, size):
-    """An expression of statements."""
+    """For codegen, and in the statements for desugar."""
     source = out.source
     if size < 5:
         if source.random() < 0.5:
@@ -159,8 +181,24 @@ def formula(out, size):
     apply(out, kind, [lambda: formula(out, left), lambda: formula(out, right)])
 
 
+def clause(source):
+    """A disjunction of two literals, or the negation of a conjunction of two."""
+    atoms = [("Atom", f'"p{source.randrange(100)}"') for _ in range(2)]
+    literals = [("Not", atom) if source.random() < 0.5 else atom for atom in atoms]
+    return ("Or", *literals) if source.random() < 0.5 else ("Not", ("And", *literals))
+
+
+def clauses(out, count):
+    """For bool_dnf and bool_oncetd: a conjunction of so many clauses."""
+    if count == 1:
+        written(out, clause(out.source))
+        return
+    left = out.source.randint(1, count - 1)
+    apply(out, "And", [lambda: clauses(out, left), lambda: clauses(out, count - left)])
+
+
 def rows(out, count):
-    """For backtrack: a tree of so many rows, in each of which only the last number does not ascend."""
+    """A tree of so many rows, in each of which only the last number does not ascend."""
     source = out.source
     if count > 1:
         left = source.randint(1, count - 1)
@@ -179,17 +217,23 @@ def listed(out, numbers):
 
 
 def backtrack(out, count):
-    """The row that is found is the last one."""
+    """For backtrack and rbacktrack: the row that is found is the last one."""
     apply(out, "Node", [lambda: rows(out, count - 1), lambda: apply(out, "Row", [lambda: listed(out, range(8))])])
 
 
 def dispatch(out, count):
     """A list of applications of a thousand constructors."""
-    out.leaf("[")
-    for index in range(count):
-        out.put("," if index > 0 else "")
-        apply(out, f"C{out.source.randrange(RULES)}", [lambda: out.leaf(str(index))])
-    out.put("]")
+    elements(out, count, lambda index: written(out, (f"C{out.source.randrange(RULES)}", str(index))))
+
+
+def rdispatch(out, size):
+    """A tree of applications of a thousand constructors."""
+    count = out.source.randint(1, min(WIDTHS - 1, (size - 1) // 2)) if size > 2 else 0
+    name = f"C{WIDTHS * out.source.randrange(RULES // WIDTHS) + count}"
+    if count == 0:
+        out.leaf(name)
+    else:
+        apply(out, name, [lambda part=part: rdispatch(out, part) for part in parted(out.source, size - 1, count)])
 
 
 def numbers(out, count):
@@ -197,50 +241,133 @@ def numbers(out, count):
     listed(out, [out.source.randint(-1_000_000, 1_000_000) for _ in range(count)])
 
 
+def pair(out):
+    """A string and a number."""
+    apply(out, "", [lambda: word(out, "k", 100), lambda: out.leaf(str(out.source.randint(0, 999)))])
+
+
+def lists(out, size):
+    """For maplist: lists of up to 20 pairs, with some 31 nodes each."""
+    elements(out, size // 31, lambda _: elements(out, out.source.randint(0, 20), lambda _: pair(out)))
+
+
+def unary(out, number):
+    out.put("Succ(" * number + "Zero" + ")" * number)
+    out.nodes += number + 1
+
+
 def naturals(out, count):
     """For peano: numbers from 12 to 16 in unary."""
-    out.leaf("[")
-    for index in range(count):
-        number = 12 + index % 5
-        out.put("," if index > 0 else "")
-        out.put("Succ(" * number + "Zero" + ")" * number)
-        out.nodes += number + 1
-    out.put("]")
+    elements(out, count, lambda index: unary(out, 12 + index % 5))
+
+
+def fibonacci(out, count):
+    """For peano_fib: the Fibonacci numbers of 10 to 14 in unary."""
+    elements(out, count, lambda index: apply(out, "Fib", [lambda: unary(out, 10 + index % 5)]))
+
+
+def board(out, count):
+    """For queens: the columns of a board."""
+    listed(out, range(1, count + 1))
+
+
+def doublings(out, count):
+    """For sharing: a small tree, and how many times it is doubled."""
+    written(out, ("", str(count), ("Node", ("Leaf", "1"), ("Leaf", "2"))))
+
+
+def countdown(out, count):
+    """For loop: a number to count down from, and a total."""
+    written(out, ("", str(count), "0"))
+
+
+def program(out, rounds):
+    """For interp: a program with a loop of so many rounds, and an empty memory."""
+
+    def add(variable, value):
+        return ("Assign", variable, ("Add", ("Var", variable), value))
+
+    n, total, threes = '"n"', '"total"', '"threes"'
+    is_three = ("Less", ("Mod", ("Var", n), ("Num", "3")), ("Num", "1"))
+    choice = ("If", is_three, add(threes, ("Num", "1")), add(total, ("Var", n)))
+    less = ("Assign", n, ("Sub", ("Var", n), ("Num", "1")))
+    loop = ("While", ("Less", ("Num", "0"), ("Var", n)), ("Seq", [choice, less]))
+    begin = [("Assign", variable, ("Num", str(value))) for variable, value in [(total, 0), (threes, 0), (n, rounds)]]
+    written(out, ("", ("Seq", [*begin, loop]), []))
 
 
 # What makes the term of each program, and how much more than its nodes it has to be asked for.
 TERMS = {
+    # The size is about the number of nodes.
     "simplify": (sum_or_product, 1.156),
     "rename": (scope, 1.149),
     "desugar": (statement, 1.371),
-    "dispatch": (dispatch, 1),
-    "backtrack": (backtrack, 1),
     "normal": (formula, 1.215),
+    "rdispatch": (rdispatch, 1.364),
+    "codegen": (expression, 1.216),
+    "maplist": (lists, 1),
+    # It is the number of elements of a list.
+    "dispatch": (dispatch, 1),
     "map": (numbers, 1),
     "peano": (naturals, 1),
+    "peano_fib": (fibonacci, 1),
+    # It is the number of rows, of clauses, of columns, of doublings, or of rounds.
+    "backtrack": (backtrack, 1),
+    "rbacktrack": (backtrack, 1),
+    "bool_dnf": (clauses, 1),
+    "bool_oncetd": (clauses, 1),
+    "queens": (board, 1),
+    "sharing": (doublings, 1),
+    "interp": (program, 1),
+    "loop": (countdown, 1),
 }
 
 
 def term_of(name, size):
-    """The text of the program's term of this size, and its number of nodes. The size is about that number; for dispatch, map and peano
-    it is the number of elements, and for backtrack that of rows."""
+    """The text of the program's term of this size, and its number of nodes. TERMS says what the size is the number of."""
     out = Out(name)
     write, more = TERMS[name]
     write(out, int(more * size))
     return "".join(out.pieces), out.nodes
 
 
+def thousand_rules(declared, rule, strategy):
+    """Definitions with declarations and a rule for each number below RULES, as `declared` and `rule` write them."""
+    lines = ["signature", "  sorts S T", "  constructors"]
+    lines += [f"    {declaration}" for i in range(RULES) for declaration in declared(i)]
+    lines += ["", "rules"]
+    lines += [f"  {rule(i)}" for i in range(RULES)]
+    lines += ["", "strategies", f"  main = {strategy}", "  keep = id"]
+    return "\n".join(lines) + "\n"
+
+
+def definitions_of_dispatch():
+    def declared(i):
+        return [f"C{i} : S -> T", f"D{i} : S -> T"]
+
+    return thousand_rules(declared, lambda i: f"replace : C{i}(x) -> D{i}(x)", "map(replace)")
+
+
+def definitions_of_rdispatch():
+    def declared(i):
+        sorts = " * ".join(["T"] * (i % WIDTHS))
+        return [f"{letter}{i} : {sorts}{' -> ' if sorts else ''}T" for letter in "CD"]
+
+    def rule(i):
+        parts = ["x", "y", "z"][: i % WIDTHS]
+        replaced = [f"<replace> {part}" for part in reversed(parts)]
+        return f"replace : C{i}({', '.join(parts)}) -> D{i}({', '.join(replaced)})"
+
+    return thousand_rules(declared, rule, "replace")
+
+
 def definitions_of(name):
     """The definitions of the program."""
-    if name != "dispatch":
-        return (HERE / "definitions" / f"{name}.str").read_text(encoding="ascii")
-    numbers = range(RULES)
-    lines = ["signature", "  sorts S T", "  constructors"]
-    lines += [f"    C{i} : S -> T\n    D{i} : S -> T" for i in numbers]
-    lines += ["", "rules"]
-    lines += [f"  replace : C{i}(x) -> D{i}(x)" for i in numbers]
-    lines += ["", "strategies", "  main = map(replace)", "  keep = id"]
-    return "\n".join(lines) + "\n"
+    if name == "dispatch":
+        return definitions_of_dispatch()
+    if name == "rdispatch":
+        return definitions_of_rdispatch()
+    return (HERE / "definitions" / f"{name}.str").read_text(encoding="ascii")
 
 
 def main():

@@ -1,13 +1,13 @@
 //! Finds the first row of a tree whose numbers ascend.
 
-use crate::term::{Sym, Term, app, applied, parts_of, with_parts};
+use crate::term::{Sym, Term, app, applied, once_topdown};
 use std::rc::Rc;
 
 pub const NAMES: &[&str] = &["Row", "Found"];
 const ROW: Sym = 0;
 const FOUND: Sym = 1;
 
-fn ascends(row: &[Rc<Term>]) -> bool {
+pub fn ascends(row: &[Rc<Term>]) -> bool {
     !row.is_empty()
         && row.windows(2).all(|pair| match (&*pair[0], &*pair[1]) {
             (Term::Int(one), Term::Int(other)) => one < other,
@@ -26,15 +26,5 @@ fn accepted(term: &Term) -> Option<Rc<Term>> {
 }
 
 pub fn run(term: &Rc<Term>) -> Option<Rc<Term>> {
-    if let Some(found) = accepted(term) {
-        return Some(found);
-    }
-    for (index, part) in parts_of(term).iter().enumerate() {
-        if let Some(found) = run(part) {
-            let mut parts = parts_of(term).to_vec();
-            parts[index] = found;
-            return Some(with_parts(term, parts));
-        }
-    }
-    None
+    once_topdown(term, accepted)
 }

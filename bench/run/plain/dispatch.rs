@@ -1,9 +1,9 @@
 //! Replaces each constructor C<i> of a list by D<i>.
 
-use crate::term::{Sym, Term};
+use crate::term::{Sym, Term, map};
 use std::rc::Rc;
 
-const RULES: Sym = 1000;
+pub const RULES: Sym = 1000;
 
 /// The constructors C<i>, and then the constructors D<i>.
 pub fn names() -> Vec<String> {
@@ -21,9 +21,5 @@ fn replace(term: &Rc<Term>) -> Option<Rc<Term>> {
 }
 
 pub fn run(term: &Rc<Term>) -> Option<Rc<Term>> {
-    let Term::List(elements) = &**term else {
-        return None;
-    };
-    let replaced = elements.iter().map(replace).collect::<Option<_>>()?;
-    Some(Rc::new(Term::List(replaced)))
+    map(term, replace)
 }

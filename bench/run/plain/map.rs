@@ -1,6 +1,6 @@
 //! Adds one to each number of a list.
 
-use crate::term::{Term, int};
+use crate::term::{Term, int, map};
 use std::rc::Rc;
 
 fn next(term: &Rc<Term>) -> Option<Rc<Term>> {
@@ -11,9 +11,5 @@ fn next(term: &Rc<Term>) -> Option<Rc<Term>> {
 }
 
 pub fn run(term: &Rc<Term>) -> Option<Rc<Term>> {
-    let Term::List(elements) = &**term else {
-        return None;
-    };
-    let mapped = elements.iter().map(next).collect::<Option<_>>()?;
-    Some(Rc::new(Term::List(mapped)))
+    map(term, next)
 }

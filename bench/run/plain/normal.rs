@@ -1,6 +1,6 @@
 //! Brings a formula into negation normal form, innermost places first.
 
-use crate::term::{Sym, Term, all, app, applied};
+use crate::term::{Sym, Term, app, applied, innermost};
 use std::rc::Rc;
 
 pub const NAMES: &[&str] = &["Not", "And", "Or", "Implies"];
@@ -26,11 +26,6 @@ fn push(term: &Term) -> Option<Rc<Term>> {
     }
 }
 
-/// As `innermost` goes: what a rule gives is gone through again as a whole.
 pub fn run(term: &Rc<Term>) -> Rc<Term> {
-    let term = all(term, run);
-    match push(&term) {
-        Some(next) => run(&next),
-        None => term,
-    }
+    innermost(term, push)
 }

@@ -1,6 +1,6 @@
 //! The Fibonacci numbers of a list, in unary.
 
-use crate::term::{Sym, Term, app, applied};
+use crate::term::{Sym, Term, app, applied, map};
 use std::rc::Rc;
 
 pub const NAMES: &[&str] = &["Zero", "Succ"];
@@ -28,9 +28,5 @@ fn fib(number: &Rc<Term>) -> Option<Rc<Term>> {
 }
 
 pub fn run(term: &Rc<Term>) -> Option<Rc<Term>> {
-    let Term::List(elements) = &**term else {
-        return None;
-    };
-    let mapped = elements.iter().map(fib).collect::<Option<_>>()?;
-    Some(Rc::new(Term::List(mapped)))
+    map(term, fib)
 }

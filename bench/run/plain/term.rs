@@ -5,6 +5,8 @@ use std::rc::Rc;
 
 pub type Sym = u32;
 
+/// Two terms are equal if they have the same parts; those that are one in memory are not compared.
+#[derive(PartialEq, Eq)]
 pub enum Term {
     Int(i64),
     App(Sym, Vec<Rc<Term>>),
@@ -46,6 +48,26 @@ pub fn int(value: i64) -> Rc<Term> {
 
 pub fn app<const N: usize>(name: Sym, parts: [Rc<Term>; N]) -> Rc<Term> {
     Rc::new(App(name, parts.into()))
+}
+
+pub fn list(elements: Vec<Rc<Term>>) -> Rc<Term> {
+    Rc::new(List(elements))
+}
+
+/// The number, where the term is an integer.
+pub fn integer(term: &Term) -> Option<i64> {
+    match term {
+        Int(value) => Some(*value),
+        _ => None,
+    }
+}
+
+/// The elements, where the term is a list.
+pub fn elements_of(term: &Term) -> Option<&[Rc<Term>]> {
+    match term {
+        List(elements) => Some(elements),
+        _ => None,
+    }
 }
 
 /// The symbol and the parts, where the term is an application.
@@ -92,4 +114,33 @@ pub fn all(term: &Rc<Term>, mut change: impl FnMut(&Rc<Term>) -> Rc<Term>) -> Rc
         Some(parts) => with_parts(term, parts),
         None => term.clone(),
     }
+}
+
+/// The term after a step at each place, innermost places first, until there is no step. What a step gives is gone through again as a whole.
+pub fn innermost(term: &Rc<Term>, step: impl Fn(&Term) -> Option<Rc<Term>> + Copy) -> Rc<Term> {
+    let term = all(term, |part| innermost(part, step));
+    match step(&term) {
+        Some(next) => innermost(&next, step),
+        None => term,
+    }
+}
+
+/// The term after a step at the first place, from the outside in, at which there is one.
+pub fn once_topdown(term: &Rc<Term>, step: impl Fn(&Term) -> Option<Rc<Term>> + Copy) -> Option<Rc<Term>> {
+    if let Some(next) = step(term) {
+        return Some(next);
+    }
+    for (index, part) in parts_of(term).iter().enumerate() {
+        if let Some(changed) = once_topdown(part, step) {
+            let mut parts = parts_of(term).to_vec();
+            parts[index] = changed;
+            return Some(with_parts(term, parts));
+        }
+    }
+    None
+}
+
+/// The list after a change of each element, if each of them can be changed.
+pub fn map(term: &Term, change: impl Fn(&Rc<Term>) -> Option<Rc<Term>>) -> Option<Rc<Term>> {
+    Some(list(elements_of(term)?.iter().map(change).collect::<Option<_>>()?))
 }
