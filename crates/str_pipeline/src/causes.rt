@@ -160,6 +160,14 @@ fn push_giving_up(listing: &Listing, leaf: &Leaf, line: &mut Vec<u8>) -> Result<
     })
 }
 
+/// Whether what fails is a `not`, whose strategy has made a term.
+pub(crate) fn is_negation(listing: &Listing, leaf: &Leaf) -> bool {
+    match (leaf.instr, leaf.phrase) {
+        (Instr::GiveUp { .. }, Some(phrase)) => !is_fail(listing, phrase),
+        _ => false,
+    }
+}
+
 // Whether a phrase is `fail`.
 fn is_fail(listing: &Listing, phrase: Phrase) -> bool {
     listing.text_of(phrase) == b"fail".as_slice()

@@ -2,7 +2,7 @@
 ghost use Rattle.prim_registry.specs.Entries.{Covers, IsHonest};
 
 use crate::callers::{call_sites, callers_line, search_site};
-use crate::causes::{Leaf, push_excess, push_failure, push_phrase, variables};
+use crate::causes::{Leaf, is_negation, push_excess, push_failure, push_phrase, variables};
 use crate::checking::findings_in;
 use crate::explanation::{Explanation, Remark};
 use crate::followed::FollowedSpace;
@@ -34,6 +34,9 @@ const LAST_IN_SEARCH: &[u8] = b", the last failure inside that call";
 
 // What the term is called on which a strategy of the file stands.
 const CURRENT: &[u8] = b"the current term: ";
+
+// What the term is called that the strategy of a `not` made.
+const MADE: &[u8] = b"the term that its strategy made: ";
 
 // What the last term is called to which a search of the library came.
 const LAST_TRIED: &[u8] = b"the last term that was tried: ";
@@ -287,16 +290,24 @@ impl<'a> Explainer<'a> {
         note: &[u8],
         remarks: &mut Vec<Remark>,
     ) -> Result<(), AllocError> {
-        let is_search = leaf.offset().is_none() && self.run.account.ending == Ending::Failed;
         if let Some(offset) = leaf.offset() {
             self.add_effect(leaf, offset, stand, note, remarks)?;
         }
-        self.add_term(
-            if is_search { LAST_TRIED } else { CURRENT },
-            &stand.term,
-            remarks,
-        )?;
+        self.add_term(self.name_of_term(leaf), &stand.term, remarks)?;
         self.add_variables(leaf, stand, remarks)
+    }
+
+    // What the term is called that stands where an instruction is.
+    fn name_of_term(&self, leaf: &Leaf<'_>) -> &'static [u8] {
+        if self.run.account.ending != Ending::Failed {
+            CURRENT
+        } else if leaf.offset().is_none() {
+            LAST_TRIED
+        } else if is_negation(self.listing, leaf) {
+            MADE
+        } else {
+            CURRENT
+        }
     }
 
     // Adds that the call at this index fails, in which the library searches, and what waits for it.

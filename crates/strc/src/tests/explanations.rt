@@ -82,7 +82,14 @@ const EXPLAINED: &[Row] = &[
         "strategies\n  main = not(?1)\n#term\n1",
         1,
         "#failed\n",
-        "stdin:2:10: in main: not(?1) fails\n  the current term: 1\n",
+        "stdin:2:10: in main: not(?1) fails\n  the term that its strategy made: 1\n",
+    ),
+    (
+        "strc --explain",
+        "strategies\n  main = not(prim(\"less\", 1, 7))\n#term\n3",
+        1,
+        "#failed\n",
+        "stdin:2:10: in main: not(prim(\"less\", 1, 7)) fails\n  the term that its strategy made: 1\n",
     ),
     (
         "strc --explain",
