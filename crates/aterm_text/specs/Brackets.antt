@@ -2,6 +2,7 @@
 use Rattle.std.specs.Prelude.{◌≡◌, ◌==◌, ℕ, ◌≤◌, take, if◌then◌else◌, Bool, true, false, IsTrue, List, [], ◌∷◌, ◌++◌, length, map, reverse, All}
 use Rattle.term_model.specs.declared.made.Made.{Made}
 use Rattle.term_model.specs.declared.made.Made.TheVariants as made
+use Rattle.term_model.specs.Space.{Space}
 use Rattle.term_model.specs.Symbol.{Symbol}
 use Rattle.term_model.specs.Term.{Tree, node, end, trees_of, all_fit}
 use Rattle.aterm_text.specs.Depth.{Opening, Applied, Elements, Annotations, Open}
@@ -42,13 +43,13 @@ module _ {N : Type 0} (knows : N → Bool) (symbol_of : N → Symbol) where
   AreOpen fits (b ∷ bs) (o ∷ s) = IsOpen fits b o s × AreOpen fits bs s
   AreOpen fits _ _ = ⊥
 
-module _ {W R N : Type 0} (stands : W → R → Bool) (term_of : W → R → Tree) (knows : W → N → Bool) (symbol_of : W → N → Symbol) (space : W) where
+module _ {W R M N : Type 0} (S : Space W R M N) (space : W) where
   -- the reader keeps the brackets, and the terms in them and these at hand, unless one of all these does not fit
   pub record Keeping (reader : Reader R N) (s : List Open) (hand : List Tree) : Type 0 where
-    pub brackets : AreOpen (knows space) (symbol_of space) reader.fits (reverse reader.open.items) s
+    pub brackets : AreOpen (S.knows space) (S.symbol_of space) reader.fits (reverse reader.open.items) s
     pub fit : reader.fits ≡ all_fit (trees_of (terms_of s ++ hand))
-    pub stand : All (λ r. IsTrue (stands space r)) reader.terms.items
-    pub terms : reader.fits ≡ true → map (term_of space) reader.terms.items ≡ terms_of s ++ hand
+    pub stand : All (λ r. IsTrue (S.stands space r)) reader.terms.items
+    pub terms : reader.fits ≡ true → map (S.term_of space) reader.terms.items ≡ terms_of s ++ hand
 
   pub data IsAt (reader : Reader R N) : Next → State → Type 0 where
     at_term : {s : List Open} → Keeping reader s [] → IsAt reader nexts.Term (Expect s)
@@ -105,15 +106,15 @@ pub record IsPushed {R N : Type 0} (enclosing : Enclosing N) (old new : Reader R
   pub terms : new.terms ≡ old.terms
   pub fits : new.fits ≡ old.fits
 
-module _ {W R N : Type 0} (stands : W → R → Bool) (term_of : W → R → Tree) (knows : W → N → Bool) (symbol_of : W → N → Symbol) (space : W) where
+module _ {W R M N : Type 0} (S : Space W R M N) (space : W) where
   -- the bracket was taken off, and these terms are in it
   pub record Closing (reader : Reader R N) (b : Bracket N) (o : Open) (s : List Open) (ts : List Tree) : Type 0 where
-    pub bracket : IsOpen (knows space) (symbol_of space) reader.fits b o s
-    pub keeping : Keeping stands term_of knows symbol_of space reader s (taken o.opening ++ ts)
+    pub bracket : IsOpen (S.knows space) (S.symbol_of space) reader.fits b o s
+    pub keeping : Keeping S space reader s (taken o.opening ++ ts)
 
   -- the reader has these terms at hand, and the text has the outcome of such a state at the index
   pub record Holds (text : List ℕ) (reader : Reader R N) (hand : List Tree) (state : List Open → State) (index : ℕ) : Type 0 where
     pub brackets : List Open
-    pub keeping : Keeping stands term_of knows symbol_of space reader brackets hand
+    pub keeping : Keeping S space reader brackets hand
     pub outcome : outcome_of text ≡ outcome_from text (state brackets) index
     pub within : index ≤ length text

@@ -72,11 +72,11 @@ pub(crate) fn close<S: TermSpace>(
     bracket: Bracket<S::Name>,
 ) -> Result<Next, AllocError>
     requires { (o : Open) × (s : List Open) × (ts : List Tree) ×
-        Closing S.stands S.term_of S.knows S.symbol_of space.old reader.old bracket o s ts }
-    ensures keeps { Keeps S.stands S.term_of S.is_valid S.knows S.symbol_of space.old space.new }
+        Closing S.space space.old reader.old bracket o s ts }
+    ensures keeps { Keeps S.space space.old space.new }
     ensures closed { (o : Open) (s : List Open) (ts : List Tree) →
-        Closing S.stands S.term_of S.knows S.symbol_of space.old reader.old bracket o s ts →
-        IfOk result (λ next. IsAt S.stands S.term_of S.knows S.symbol_of space.new reader.new next
+        Closing S.space space.old reader.old bracket o s ts →
+        IfOk result (λ next. IsAt S.space space.new reader.new next
         (closed o.opening ts s)) }
 {
     if !reader.fits {
@@ -113,12 +113,12 @@ pub(crate) fn apply<S: TermSpace>(
     text: &[u8],
     index: usize,
 ) -> Result<(Next, usize), AllocError>
-    requires known { IsTrue (S.knows space.old name) }
-    requires at { Holds S.stands S.term_of S.knows S.symbol_of space.old text.now reader.old []
-        (Named (S.symbol_of space.old name)) index }
-    ensures keeps { Keeps S.stands S.term_of S.is_valid S.knows S.symbol_of space.old space.new }
+    requires known { IsTrue (S.space.knows space.old name) }
+    requires at { Holds S.space space.old text.now reader.old []
+        (Named (S.space.symbol_of space.old name)) index }
+    ensures keeps { Keeps S.space space.old space.new }
     ensures low { IfOk result (λ r. index ≤ r.1) }
-    ensures reached { IfOk result (λ r. Reached S.stands S.term_of S.knows S.symbol_of space.new
+    ensures reached { IfOk result (λ r. Reached S.space space.new
         text.now reader.new r.0 r.1) }
 {
     let index = blanks_end(text, index);
@@ -148,13 +148,13 @@ fn add_symbol<S: TermSpace>(
     reader: &mut Reader<S::Ref, S::Name>,
     name: &S::Name,
 ) -> Result<(), AllocError>
-    requires known { IsTrue (S.knows space.old name.now) }
-    requires at { (s : List Open) × Keeping S.stands S.term_of S.knows S.symbol_of space.old
+    requires known { IsTrue (S.space.knows space.old name.now) }
+    requires at { (s : List Open) × Keeping S.space space.old
         reader.old s [] }
-    ensures keeps { Keeps S.stands S.term_of S.is_valid S.knows S.symbol_of space.old space.new }
-    ensures added { (s : List Open) → Keeping S.stands S.term_of S.knows S.symbol_of space.old
-        reader.old s [] → OnOk result (Keeping S.stands S.term_of S.knows S.symbol_of space.new
-        reader.new s (node (App (S.symbol_of space.old name.now)) end end ∷ [])) }
+    ensures keeps { Keeps S.space space.old space.new }
+    ensures added { (s : List Open) → Keeping S.space space.old
+        reader.old s [] → OnOk result (Keeping S.space space.new
+        reader.new s (node (App (S.space.symbol_of space.old name.now)) end end ∷ [])) }
 {
     if !reader.fits {
         return Ok(());

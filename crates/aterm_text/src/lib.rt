@@ -50,9 +50,9 @@ pub fn read_term(alloc: Global, text: &[u8]) -> Result<Term, Fault>
 /// Those of `read_term`. What stood in the space stands, which may then hold more than before.
 #[tactic(auto, using(crate::proofs::Meaning::reading))]
 pub fn read_in<S: TermSpace>(space: &mut S, alloc: Global, text: &[u8]) -> Result<S::Ref, Fault>
-    ensures keeps { Keeps S.stands S.term_of S.is_valid S.knows S.symbol_of space.old space.new }
-    ensures stands { IfOk result (λ r. IsTrue (S.stands space.new r)) }
-    ensures reading { IsReading text.now (map_ok (S.term_of space.new) result) }
+    ensures keeps { Keeps S.space space.old space.new }
+    ensures stands { IfOk result (λ r. IsTrue (S.space.stands space.new r)) }
+    ensures reading { IsReading text.now (map_ok (S.space.term_of space.new) result) }
 {
     reader::read_in(space, alloc, text)
 }
@@ -62,9 +62,11 @@ pub fn read_in<S: TermSpace>(space: &mut S, alloc: Global, text: &[u8]) -> Resul
 ///
 /// # Errors
 /// Where a growth was refused; the vector then holds what it held before.
+#[tactic(auto, using(term_model::proofs::SpaceLemmas::standing))]
 pub fn write_term(term: &Term, out: &mut Vec<u8>) -> Result<(), AllocError>
     ensures { out.new.items ≡ (if is_ok result then out.old.items ++ text term.now else out.old.items) }
 {
+    term.fits();
     write_out(&RcSpace, term, out)
 }
 
@@ -74,9 +76,9 @@ pub fn write_term(term: &Term, out: &mut Vec<u8>) -> Result<(), AllocError>
 /// # Errors
 /// Where a growth was refused; the vector then holds what it held before.
 pub fn write_out<S: TermSpace>(space: &S, at: &S::Ref, out: &mut Vec<u8>) -> Result<(), AllocError>
-    requires { IsTrue (S.stands space.now at.now) }
+    requires { IsTrue (S.space.stands space.now at.now) }
     ensures { out.new.items ≡ (if is_ok result then out.old.items ++
-        text (S.term_of space.now at.now) else out.old.items) }
+        text (S.space.term_of space.now at.now) else out.old.items) }
 {
     writer::write(space, at, out)
 }

@@ -27,11 +27,11 @@ pub(crate) fn read_number<S: TermSpace>(
 ) -> Result<(Next, usize), Fault>
     requires within { index < length text.now }
     requires digit { is_digit (slice_index text.now index) ≡ true }
-    requires at { Holds S.stands S.term_of S.knows S.symbol_of space.old text.now reader.old []
+    requires at { Holds S.space space.old text.now reader.old []
         (InDigits negative 0) index }
-    ensures keeps { Keeps S.stands S.term_of S.is_valid S.knows S.symbol_of space.old space.new }
+    ensures keeps { Keeps S.space space.old space.new }
     ensures past { IfOk result (λ r. index < r.1) }
-    ensures reached { IfOk result (λ r. Reached S.stands S.term_of S.knows S.symbol_of space.new
+    ensures reached { IfOk result (λ r. Reached S.space space.new
         text.now reader.new r.0 r.1) }
     ensures err { IfErr result (λ e. Refuses e (outcome_of text.now)) }
 {
@@ -48,11 +48,11 @@ fn add_int<S: TermSpace>(
     reader: &mut Reader<S::Ref, S::Name>,
     value: i64,
 ) -> Result<(), AllocError>
-    requires at { (s : List Open) × Keeping S.stands S.term_of S.knows S.symbol_of space.old
+    requires at { (s : List Open) × Keeping S.space space.old
         reader.old s [] }
-    ensures keeps { Keeps S.stands S.term_of S.is_valid S.knows S.symbol_of space.old space.new }
-    ensures added { (s : List Open) → Keeping S.stands S.term_of S.knows S.symbol_of space.old
-        reader.old s [] → OnOk result (Keeping S.stands S.term_of S.knows S.symbol_of space.new
+    ensures keeps { Keeps S.space space.old space.new }
+    ensures added { (s : List Open) → Keeping S.space space.old
+        reader.old s [] → OnOk result (Keeping S.space space.new
         reader.new s (node (Int value) end end ∷ [])) }
 {
     if !reader.fits {
@@ -73,11 +73,11 @@ pub(crate) fn read_negative<S: TermSpace>(
     text: &[u8],
     index: usize,
 ) -> Result<(Next, usize), Fault>
-    requires at { Holds S.stands S.term_of S.knows S.symbol_of space.old text.now reader.old []
+    requires at { Holds S.space space.old text.now reader.old []
         InSign index }
-    ensures keeps { Keeps S.stands S.term_of S.is_valid S.knows S.symbol_of space.old space.new }
+    ensures keeps { Keeps S.space space.old space.new }
     ensures past { IfOk result (λ r. index < r.1) }
-    ensures reached { IfOk result (λ r. Reached S.stands S.term_of S.knows S.symbol_of space.new
+    ensures reached { IfOk result (λ r. Reached S.space space.new
         text.now reader.new r.0 r.1) }
     ensures err { IfErr result (λ e. Refuses e (outcome_of text.now)) }
 {

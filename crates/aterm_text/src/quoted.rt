@@ -22,13 +22,13 @@ pub(crate) fn read_plain<S: TermSpace>(
 ) -> Result<(S::Name, usize), AllocError>
     requires within { index < length text.now }
     requires begins { begins_name (slice_index text.now index) ≡ true }
-    ensures keeps { Keeps S.stands S.term_of S.is_valid S.knows S.symbol_of space.old space.new }
-    ensures known { IfOk result (λ r. IsTrue (S.knows space.new r.0)) }
+    ensures keeps { Keeps S.space space.old space.new }
+    ensures known { IfOk result (λ r. IsTrue (S.space.knows space.new r.0)) }
     ensures past { IfOk result (λ r. index < r.1) }
     ensures within { IfOk result (λ r. r.1 ≤ length text.now) }
     ensures read { (s : List Open) → IfOk result
         (λ r. outcome_from text.now (first s (slice_index text.now index)) (index + 1) ≡
-        outcome_from text.now (Named (S.symbol_of space.new r.0) s) r.1) }
+        outcome_from text.now (Named (S.space.symbol_of space.new r.0) s) r.1) }
 {
     let end = name_end(text, index + 1);
     let name = space.name_spelled(alloc, Kind::Plain, &text[index..end])?;
@@ -44,13 +44,13 @@ pub(crate) fn read_quoted<S: TermSpace>(
     index: usize,
 ) -> Result<(S::Name, usize), Fault>
     requires within { index ≤ length text.now }
-    ensures keeps { Keeps S.stands S.term_of S.is_valid S.knows S.symbol_of space.old space.new }
-    ensures known { IfOk result (λ r. IsTrue (S.knows space.new r.0)) }
+    ensures keeps { Keeps S.space space.old space.new }
+    ensures known { IfOk result (λ r. IsTrue (S.space.knows space.new r.0)) }
     ensures past { IfOk result (λ r. index < r.1) }
     ensures within { IfOk result (λ r. r.1 ≤ length text.now) }
     ensures read { (s : List Open) → IfOk result
         (λ r. outcome_from text.now (InText [] s) index ≡
-        outcome_from text.now (Named (S.symbol_of space.new r.0) s) r.1) }
+        outcome_from text.now (Named (S.space.symbol_of space.new r.0) s) r.1) }
     ensures err { (s : List Open) → IfErr result
         (λ e. Refuses e (outcome_from text.now (InText [] s) index)) }
 {

@@ -39,12 +39,12 @@ fn close_at<S: TermSpace>(
     index: usize,
 ) -> Result<(Next, usize), Fault>
     requires within { index < length text.now }
-    requires at { (hand : List Tree) × Holds S.stands S.term_of S.knows S.symbol_of space.old
+    requires at { (hand : List Tree) × Holds S.space space.old
         text.now reader.old hand (λ s. closing_state hand s (slice_index text.now index))
         (index + 1) }
-    ensures keeps { Keeps S.stands S.term_of S.is_valid S.knows S.symbol_of space.old space.new }
+    ensures keeps { Keeps S.space space.old space.new }
     ensures past { IfOk result (λ r. index < r.1) }
-    ensures reached { IfOk result (λ r. Reached S.stands S.term_of S.knows S.symbol_of space.new
+    ensures reached { IfOk result (λ r. Reached S.space space.new
         text.now reader.new r.0 r.1) }
     ensures err { IfErr result (λ e. Refuses e (outcome_of text.now)) }
 {
@@ -67,11 +67,11 @@ fn read_first_byte<S: TermSpace>(
     index: usize,
 ) -> Result<(Next, usize), Fault>
     requires within { index < length text.now }
-    requires at { Holds S.stands S.term_of S.knows S.symbol_of space.old text.now reader.old []
+    requires at { Holds S.space space.old text.now reader.old []
         (λ s. first_state s (slice_index text.now index)) (index + 1) }
-    ensures keeps { Keeps S.stands S.term_of S.is_valid S.knows S.symbol_of space.old space.new }
+    ensures keeps { Keeps S.space space.old space.new }
     ensures past { IfOk result (λ r. index < r.1) }
-    ensures reached { IfOk result (λ r. Reached S.stands S.term_of S.knows S.symbol_of space.new
+    ensures reached { IfOk result (λ r. Reached S.space space.new
         text.now reader.new r.0 r.1) }
     ensures err { IfErr result (λ e. Refuses e (outcome_of text.now)) }
 {
@@ -112,11 +112,11 @@ fn begin_term<S: TermSpace>(
 ) -> Result<(Next, usize), Fault>
     requires within { index < length text.now }
     requires mark { is_blank (slice_index text.now index) ≡ false }
-    requires at { Reached S.stands S.term_of S.knows S.symbol_of space.old text.now reader.old
+    requires at { Reached S.space space.old text.now reader.old
         nexts.Term index }
-    ensures keeps { Keeps S.stands S.term_of S.is_valid S.knows S.symbol_of space.old space.new }
+    ensures keeps { Keeps S.space space.old space.new }
     ensures past { IfOk result (λ r. index < r.1) }
-    ensures reached { IfOk result (λ r. Reached S.stands S.term_of S.knows S.symbol_of space.new
+    ensures reached { IfOk result (λ r. Reached S.space space.new
         text.now reader.new r.0 r.1) }
     ensures err { IfErr result (λ e. Refuses e (outcome_of text.now)) }
 {
@@ -139,11 +139,11 @@ fn begin_or_close<S: TermSpace>(
 ) -> Result<(Next, usize), Fault>
     requires within { index < length text.now }
     requires mark { is_blank (slice_index text.now index) ≡ false }
-    requires at { Reached S.stands S.term_of S.knows S.symbol_of space.old text.now reader.old
+    requires at { Reached S.space space.old text.now reader.old
         nexts.First index }
-    ensures keeps { Keeps S.stands S.term_of S.is_valid S.knows S.symbol_of space.old space.new }
+    ensures keeps { Keeps S.space space.old space.new }
     ensures past { IfOk result (λ r. index < r.1) }
-    ensures reached { IfOk result (λ r. Reached S.stands S.term_of S.knows S.symbol_of space.new
+    ensures reached { IfOk result (λ r. Reached S.space space.new
         text.now reader.new r.0 r.1) }
     ensures err { IfErr result (λ e. Refuses e (outcome_of text.now)) }
 {
@@ -162,11 +162,11 @@ fn follow<S: TermSpace>(
     index: usize,
 ) -> Result<(Next, usize), Fault>
     requires within { index < length text.now }
-    requires at { (t : Tree) × Holds S.stands S.term_of S.knows S.symbol_of space.old text.now
+    requires at { (t : Tree) × Holds S.space space.old text.now
         reader.old (t ∷ []) (λ s. next_state t s (slice_index text.now index)) (index + 1) }
-    ensures keeps { Keeps S.stands S.term_of S.is_valid S.knows S.symbol_of space.old space.new }
+    ensures keeps { Keeps S.space space.old space.new }
     ensures past { IfOk result (λ r. index < r.1) }
-    ensures reached { IfOk result (λ r. Reached S.stands S.term_of S.knows S.symbol_of space.new
+    ensures reached { IfOk result (λ r. Reached S.space space.new
         text.now reader.new r.0 r.1) }
     ensures err { IfErr result (λ e. Refuses e (outcome_of text.now)) }
 {
@@ -189,11 +189,11 @@ fn annotate_or_follow<S: TermSpace>(
 ) -> Result<(Next, usize), Fault>
     requires within { index < length text.now }
     requires mark { is_blank (slice_index text.now index) ≡ false }
-    requires at { Reached S.stands S.term_of S.knows S.symbol_of space.old text.now reader.old
+    requires at { Reached S.space space.old text.now reader.old
         nexts.Whole index }
-    ensures keeps { Keeps S.stands S.term_of S.is_valid S.knows S.symbol_of space.old space.new }
+    ensures keeps { Keeps S.space space.old space.new }
     ensures past { IfOk result (λ r. index < r.1) }
-    ensures reached { IfOk result (λ r. Reached S.stands S.term_of S.knows S.symbol_of space.new
+    ensures reached { IfOk result (λ r. Reached S.space space.new
         text.now reader.new r.0 r.1) }
     ensures err { IfErr result (λ e. Refuses e (outcome_of text.now)) }
 {
@@ -215,11 +215,11 @@ fn step<S: TermSpace>(
 ) -> Result<(Next, usize), Fault>
     requires within { index < length text.now }
     requires mark { is_blank (slice_index text.now index) ≡ false }
-    requires at { Reached S.stands S.term_of S.knows S.symbol_of space.old text.now reader.old next
+    requires at { Reached S.space space.old text.now reader.old next
         index }
-    ensures keeps { Keeps S.stands S.term_of S.is_valid S.knows S.symbol_of space.old space.new }
+    ensures keeps { Keeps S.space space.old space.new }
     ensures past { IfOk result (λ r. index < r.1) }
-    ensures reached { IfOk result (λ r. Reached S.stands S.term_of S.knows S.symbol_of space.new
+    ensures reached { IfOk result (λ r. Reached S.space space.new
         text.now reader.new r.0 r.1) }
     ensures err { IfErr result (λ e. Refuses e (outcome_of text.now)) }
 {
@@ -238,10 +238,10 @@ fn finish<S: TermSpace>(
     next: Next,
     text: &[u8],
 ) -> Result<S::Ref, Fault>
-    requires at { Reached S.stands S.term_of S.knows S.symbol_of space.now text.now reader next
+    requires at { Reached S.space space.now text.now reader next
         (length text.now) }
-    ensures stands { IfOk result (λ r. IsTrue (S.stands space.now r)) }
-    ensures answers { Answers (map_ok (S.term_of space.now) result) (outcome_of text.now) }
+    ensures stands { IfOk result (λ r. IsTrue (S.space.stands space.now r)) }
+    ensures answers { Answers (map_ok (S.space.term_of space.now) result) (outcome_of text.now) }
 {
     let _ = space;
     let at = text.len() as u64;
@@ -277,9 +277,9 @@ pub(crate) fn read_in<S: TermSpace>(
     alloc: Global,
     text: &[u8],
 ) -> Result<S::Ref, Fault>
-    ensures keeps { Keeps S.stands S.term_of S.is_valid S.knows S.symbol_of space.old space.new }
-    ensures stands { IfOk result (λ r. IsTrue (S.stands space.new r)) }
-    ensures answers { Answers (map_ok (S.term_of space.new) result) (outcome_of text.now) }
+    ensures keeps { Keeps S.space space.old space.new }
+    ensures stands { IfOk result (λ r. IsTrue (S.space.stands space.new r)) }
+    ensures answers { Answers (map_ok (S.space.term_of space.new) result) (outcome_of text.now) }
 {
     let mut reader = Reader::new(alloc);
     let mut next = Next::Term;

@@ -16,9 +16,9 @@ pub(crate) fn write<S: TermSpace>(
     at: &S::Ref,
     out: &mut Vec<u8>,
 ) -> Result<(), AllocError>
-    requires { IsTrue (S.stands space.now at.now) }
+    requires { IsTrue (S.space.stands space.now at.now) }
     ensures { out.new.items ≡ (if is_ok result then out.old.items ++
-        text (S.term_of space.now at.now) else out.old.items) }
+        text (S.space.term_of space.now at.now) else out.old.items) }
 {
     let length = out.len();
     let written = push_term(space, at, out);
@@ -31,9 +31,9 @@ pub(crate) fn write<S: TermSpace>(
 #[cycle(write)]
 #[tactic(auto, using(crate::proofs::WriteLemmas::writing))]
 fn push_term<S: TermSpace>(space: &S, at: &S::Ref, out: &mut Vec<u8>) -> Result<(), AllocError>
-    requires { IsTrue (S.stands space.now at.now) }
+    requires { IsTrue (S.space.stands space.now at.now) }
     ensures written { OnOk result (out.new.items ≡ out.old.items ++
-        text (S.term_of space.now at.now)) }
+        text (S.space.term_of space.now at.now)) }
     ensures kept { Extends out.old.items out.new.items }
 {
     push_bare(space, at, out)?;
@@ -45,9 +45,9 @@ fn push_term<S: TermSpace>(space: &S, at: &S::Ref, out: &mut Vec<u8>) -> Result<
 #[cycle(write)]
 #[tactic(auto, using(crate::proofs::WriteLemmas::writing))]
 fn push_bare<S: TermSpace>(space: &S, at: &S::Ref, out: &mut Vec<u8>) -> Result<(), AllocError>
-    requires { IsTrue (S.stands space.now at.now) }
+    requires { IsTrue (S.space.stands space.now at.now) }
     ensures written { OnOk result (out.new.items ≡ out.old.items ++
-        bare_text_of (S.term_of space.now at.now)) }
+        bare_text_of (S.space.term_of space.now at.now)) }
     ensures kept { Extends out.old.items out.new.items }
 {
     match space.head(at) {
@@ -77,9 +77,9 @@ fn push_enclosed<S: TermSpace>(
     right: u8,
     out: &mut Vec<u8>,
 ) -> Result<(), AllocError>
-    requires { All (λ r. IsTrue (S.stands space.now r)) terms.now }
+    requires { All (λ r. IsTrue (S.space.stands space.now r)) terms.now }
     ensures written { OnOk result (out.new.items ≡ out.old.items ++
-        enclosed_in S.term_of space.now terms.now left right) }
+        enclosed_in S.space.term_of space.now terms.now left right) }
     ensures kept { Extends out.old.items out.new.items }
 {
     if terms.is_empty() {
@@ -99,9 +99,9 @@ fn push_between<S: TermSpace>(
     right: u8,
     out: &mut Vec<u8>,
 ) -> Result<(), AllocError>
-    requires { All (λ r. IsTrue (S.stands space.now r)) terms.now }
+    requires { All (λ r. IsTrue (S.space.stands space.now r)) terms.now }
     ensures written { OnOk result (out.new.items ≡ out.old.items ++ left ∷
-        (texts_in S.term_of space.now terms.now ++ right ∷ [])) }
+        (texts_in S.space.term_of space.now terms.now ++ right ∷ [])) }
     ensures kept { Extends out.old.items out.new.items }
 {
     push_byte(left, out)?;
@@ -118,9 +118,9 @@ fn push_all<S: TermSpace>(
     terms: &Parts<'_, S::Ref>,
     out: &mut Vec<u8>,
 ) -> Result<(), AllocError>
-    requires { All (λ r. IsTrue (S.stands space.now r)) terms.now }
+    requires { All (λ r. IsTrue (S.space.stands space.now r)) terms.now }
     ensures written { OnOk result (out.new.items ≡ out.old.items ++
-        texts_in S.term_of space.now terms.now) }
+        texts_in S.space.term_of space.now terms.now) }
     ensures kept { Extends out.old.items out.new.items }
 {
     let mut left = terms.walk();

@@ -97,19 +97,21 @@ impl Signature {
     /// application of a plain name is declared with its number of parts, and a quoted symbol with parts never is; integers, lists,
     /// tuples and quoted symbols without parts need no declaration. Calls itself no deeper than the term is deep, and takes no
     /// memory.
+    #[tactic(auto, using(term_model::proofs::SpaceLemmas::standing))]
     pub fn check_term(&self, term: &Term) -> Result<(), Fault>
         ensures declared { IsOk result ↔ IsTrue (term_is_declared self.now term.now) }
         ensures fault { IfErr result (λ fault. fault ≡ TermUndeclared) }
     {
+        term.fits();
         self.check_in(&RcSpace, term)
     }
 
     /// The same of a term of a space, which stays in the space: `Ok` exactly where each application in it is declared, at any
     /// depth and in annotations; else `TermUndeclared`. Calls itself no deeper than the term is deep, and takes no memory.
     pub fn check_in<S: TermSpace>(&self, space: &S, at: &S::Ref) -> Result<(), Fault>
-        requires { IsTrue (S.stands space.now at.now) }
+        requires { IsTrue (S.space.stands space.now at.now) }
         ensures declared { IsOk result ↔ IsTrue
-            (term_is_declared self.now (S.term_of space.now at.now)) }
+            (term_is_declared self.now (S.space.term_of space.now at.now)) }
         ensures fault { IfErr result (λ fault. fault ≡ TermUndeclared) }
     {
         if !self.covers(space, at) {
@@ -122,8 +124,8 @@ impl Signature {
     #[cycle(covers)]
     #[tactic(auto, using(crate::proofs::TermLaws::parts))]
     fn covers<S: TermSpace>(&self, space: &S, at: &S::Ref) -> bool
-        requires { IsTrue (S.stands space.now at.now) }
-        ensures { result ≡ term_is_declared self.now (S.term_of space.now at.now) }
+        requires { IsTrue (S.space.stands space.now at.now) }
+        ensures { result ≡ term_is_declared self.now (S.space.term_of space.now at.now) }
     {
         self.covers_root(space, at)
             && self.covers_all(space, &space.parts(at))
@@ -134,9 +136,9 @@ impl Signature {
     #[cycle(covers)]
     #[tactic(auto, using(crate::proofs::TermLaws::parts))]
     fn covers_all<S: TermSpace>(&self, space: &S, terms: &Parts<'_, S::Ref>) -> bool
-        requires { All (λ r. IsTrue (S.stands space.now r)) terms.now }
+        requires { All (λ r. IsTrue (S.space.stands space.now r)) terms.now }
         ensures { result ≡ all_are_declared self.now
-            (trees_of (map (S.term_of space.now) terms.now)) }
+            (trees_of (map (S.space.term_of space.now) terms.now)) }
     {
         for term in terms.walk() {
             if !self.covers(space, term) {
@@ -148,8 +150,8 @@ impl Signature {
 
     // Whether the root of the term may have as many parts as it has.
     fn covers_root<S: TermSpace>(&self, space: &S, at: &S::Ref) -> bool
-        requires { IsTrue (S.stands space.now at.now) }
-        ensures { result ≡ root_is_declared self.now (S.term_of space.now at.now) }
+        requires { IsTrue (S.space.stands space.now at.now) }
+        ensures { result ≡ root_is_declared self.now (S.space.term_of space.now at.now) }
     {
         let Top::App(symbol) = space.head(at) else {
             return true;

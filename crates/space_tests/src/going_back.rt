@@ -1,7 +1,7 @@
 // Runs of the machine that go back, over a store that counts it; what is expected was worked out by hand.
 ghost use Rattle.std.specs.Prelude.{◌≡◌, All, map, IsTrue, IfOk, Some};
 ghost use Rattle.term_model.specs.Term.{term};
-ghost use Rattle.term_model.specs.Space.{Keeps, Makes, MayHave};
+ghost use Rattle.term_model.specs.Space.{Keeps, Makes, MayHave, space_in};
 
 use crate::single_calls::code_of;
 use crate::spaces::Holds;
@@ -51,25 +51,9 @@ impl<S: TermSpace + Drop> TermSpace for Counting<S> {
 
     type Name = S::Name;
 
-    ghost stands = { λ c r. S.stands c.space r };
+    ghost space = { space_in (λ c. c.space) S.space };
 
-    ghost term_of = { λ c r. S.term_of c.space r };
-
-    ghost is_valid = { λ c m. S.is_valid c.space m };
-
-    ghost covers = { λ m r. S.covers m r };
-
-    ghost covers_mark = { λ m n. S.covers_mark m n };
-
-    ghost knows = { λ c n. S.knows c.space n };
-
-    ghost symbol_of = { λ c n. S.symbol_of c.space n };
-
-    ghost number_of = { λ n. S.number_of n };
-
-    fn fits(&self, at: &S::Ref) {
-        self.space.fits(at);
-    }
+    ghost fits = { λ c r stands. S.fits c.space r stands };
 
     fn shape<'a>(&'a self, at: &'a S::Ref) -> Shape<'a, S::Ref> {
         self.space.shape(at)
@@ -200,10 +184,10 @@ impl<S: TermSpace + Drop> TermSpace for Counting<S> {
         annos: Vec<S::Ref>,
     ) -> Result<Made<S::Ref>, AllocError>
         requires head { MayHave head parts.items }
-        requires parts { All (λ r. IsTrue (S.stands self.old.space r)) parts.items }
-        requires annos { All (λ r. IsTrue (S.stands self.old.space r)) annos.items }
-        ensures keeps { Keeps ⟦<Counting<S> as TermSpace>⟧.stands ⟦<Counting<S> as TermSpace>⟧.term_of ⟦<Counting<S> as TermSpace>⟧.is_valid ⟦<Counting<S> as TermSpace>⟧.knows ⟦<Counting<S> as TermSpace>⟧.symbol_of self.old self.new }
-        ensures made { IfOk result (Makes ⟦<Counting<S> as TermSpace>⟧.stands ⟦<Counting<S> as TermSpace>⟧.term_of self.new (term head (map (S.term_of self.old.space) parts.items) (map (S.term_of self.old.space) annos.items))) }
+        requires parts { All (λ r. IsTrue (S.space.stands self.old.space r)) parts.items }
+        requires annos { All (λ r. IsTrue (S.space.stands self.old.space r)) annos.items }
+        ensures keeps { Keeps ⟦<Counting<S> as TermSpace>⟧.space self.old self.new }
+        ensures made { IfOk result (Makes ⟦<Counting<S> as TermSpace>⟧.space self.new (term head (map (S.space.term_of self.old.space) parts.items) (map (S.space.term_of self.old.space) annos.items))) }
     {
         self.space.make(alloc, head, parts, annos)
     }

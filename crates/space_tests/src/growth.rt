@@ -49,7 +49,7 @@ fn has_term<S: TermSpace>(
     at: &S::Ref,
     term: &Term,
 ) -> Result<bool, AllocError>
-    requires { IsTrue (S.stands space.now at.now) }
+    requires { IsTrue (S.space.stands space.now at.now) }
 {
     if let Ok(left) = space.leave(alloc, at) {
         return Ok(left == *term);
@@ -75,8 +75,8 @@ fn enter<S: TermSpace>(
     term: &Term,
     value: i64,
 ) -> Result<bool, AllocError>
-    requires { IsTrue (S.stands space.old older.now) }
-    ensures { IsTrue (S.stands space.new older.now) }
+    requires { IsTrue (S.space.stands space.old older.now) }
+    ensures { IsTrue (S.space.stands space.new older.now) }
 {
     let Made::Fits(pair) = pair_of(alloc, term, value)? else {
         return Ok(false);
@@ -92,8 +92,8 @@ fn make<S: TermSpace>(
     older: &S::Ref,
     value: i64,
 ) -> Result<bool, AllocError>
-    requires { IsTrue (S.stands space.old older.now) }
-    ensures { IsTrue (S.stands space.new older.now) }
+    requires { IsTrue (S.space.stands space.old older.now) }
+    ensures { IsTrue (S.space.stands space.new older.now) }
 {
     let mut parts = Vec::with_capacity(alloc, 2)?;
     parts.push(space.int(alloc, value)?)?;
@@ -112,8 +112,8 @@ fn prepend<S: TermSpace>(
     older: &S::Ref,
     value: i64,
 ) -> Result<bool, AllocError>
-    requires { IsTrue (S.stands space.old older.now) }
-    ensures { IsTrue (S.stands space.new older.now) }
+    requires { IsTrue (S.space.stands space.old older.now) }
+    ensures { IsTrue (S.space.stands space.new older.now) }
 {
     let mut elements = Vec::with_capacity(alloc, 2)?;
     elements.push(space.int(alloc, value.wrapping_neg())?)?;
@@ -132,8 +132,8 @@ fn rest<S: TermSpace>(
     older: &S::Ref,
     value: i64,
 ) -> Result<bool, AllocError>
-    requires { IsTrue (S.stands space.old older.now) }
-    ensures { IsTrue (S.stands space.new older.now) }
+    requires { IsTrue (S.space.stands space.old older.now) }
+    ensures { IsTrue (S.space.stands space.new older.now) }
 {
     let Some(length) = space.list_len(older) else {
         return Ok(false);
@@ -152,8 +152,8 @@ fn step<S: TermSpace>(
     term: &Term,
     value: i64,
 ) -> Result<bool, AllocError>
-    requires { IsTrue (S.stands space.old older.now) }
-    ensures { IsTrue (S.stands space.new older.now) }
+    requires { IsTrue (S.space.stands space.old older.now) }
+    ensures { IsTrue (S.space.stands space.new older.now) }
 {
     match row {
         Row::Enter => enter(alloc, space, older, term, value),
@@ -245,7 +245,7 @@ fn weight_after<S: TermSpace + Drop>(
     code: &Code,
     term: &Term,
 ) -> Result<u32, Fault>
-    ensures { (r : S.Ref) → IsTrue (S.stands machine.old r) → IsTrue (S.stands machine.new r) }
+    ensures { (r : S.Ref) → IsTrue (S.space.stands machine.old r) → IsTrue (S.space.stands machine.new r) }
 {
     let registry = Registry::<Standard>::new(alloc);
     if !registry.covers(code.prims()) {

@@ -30,8 +30,8 @@ fn is_refused<S: TermSpace + Drop>(
     registry: &Registry<Standard>,
 ) -> Result<bool, Fault>
     requires honest { IsHonest ⟦<Standard as PrimMeaning>⟧.answer registry.now }
-    requires stands { IsTrue (S.stands machine.old entered.now) }
-    ensures { (r : S.Ref) → IsTrue (S.stands machine.old r) → IsTrue (S.stands machine.new r) }
+    requires stands { IsTrue (S.space.stands machine.old entered.now) }
+    ensures { (r : S.Ref) → IsTrue (S.space.stands machine.old r) → IsTrue (S.space.stands machine.new r) }
 {
     if !registry.covers(adding.prims()) {
         return Err(Fault::UnknownPrimitive);

@@ -97,8 +97,8 @@ fn takes_five<S: TermSpace + Drop>(
     code: &Code,
     entered: &S::Ref,
 ) -> Result<bool, Fault>
-    requires { IsTrue (S.stands machine.old entered.now) }
-    ensures { (r : S.Ref) → IsTrue (S.stands machine.old r) → IsTrue (S.stands machine.new r) }
+    requires { IsTrue (S.space.stands machine.old entered.now) }
+    ensures { (r : S.Ref) → IsTrue (S.space.stands machine.old r) → IsTrue (S.space.stands machine.new r) }
 {
     let registry = Registry::<Standard>::new(alloc);
     if !registry.covers(code.prims()) {
@@ -122,8 +122,8 @@ pub(crate) fn takes_five_at_last<S: TermSpace + Drop>(
     entered: &S::Ref,
     term: &Term,
 ) -> Result<bool, Fault>
-    requires { IsTrue (S.stands machine.old entered.now) }
-    ensures { (r : S.Ref) → IsTrue (S.stands machine.old r) → IsTrue (S.stands machine.new r) }
+    requires { IsTrue (S.space.stands machine.old entered.now) }
+    ensures { (r : S.Ref) → IsTrue (S.space.stands machine.old r) → IsTrue (S.space.stands machine.new r) }
 {
     if let Ok(is_seven) = takes_five(alloc, machine, code, entered) {
         return Ok(is_seven);

@@ -42,8 +42,8 @@ fn built<S: TermSpace>(
     left: i64,
     right: i64,
 ) -> Result<Option<S::Ref>, AllocError>
-    ensures stands { IfOk result (λ made. IfSome made (λ r. IsTrue (S.stands space.new r))) }
-    ensures term { IfOk result (λ made. IfSome made (λ r. S.term_of space.new r ≡ term heads.List (term (heads.Int right) [] [] ∷ term (heads.App symbol.now) (term (heads.Int left) [] [] ∷ term (heads.Int right) [] [] ∷ []) [] ∷ []) (term (heads.Int left) [] [] ∷ []))) }
+    ensures stands { IfOk result (λ made. IfSome made (λ r. IsTrue (S.space.stands space.new r))) }
+    ensures term { IfOk result (λ made. IfSome made (λ r. S.space.term_of space.new r ≡ term heads.List (term (heads.Int right) [] [] ∷ term (heads.App symbol.now) (term (heads.Int left) [] [] ∷ term (heads.Int right) [] [] ∷ []) [] ∷ []) (term (heads.Int left) [] [] ∷ []))) }
 {
     let name = space.name(alloc, symbol)?;
     let mut stack = Vec::new(alloc);

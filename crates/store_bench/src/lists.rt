@@ -10,7 +10,7 @@ pub(crate) fn numbered<S: TermSpace>(
     space: &mut S,
     size: u32,
 ) -> Result<S::Ref, AllocError>
-    ensures { IfOk result (λ r. IsTrue (S.stands space.new r)) }
+    ensures { IfOk result (λ r. IsTrue (S.space.stands space.new r)) }
 {
     let mut elements = Vec::new(alloc);
     for value in 0..size {
@@ -29,7 +29,7 @@ pub(crate) fn taken_apart<S: TermSpace>(
     space: &mut S,
     list: &S::Ref,
 ) -> Result<usize, AllocError>
-    requires { IsTrue (S.stands space.old list.now) }
+    requires { IsTrue (S.space.stands space.old list.now) }
 {
     let mut tail = space.dup(list)?;
     let count = space.count(&tail);

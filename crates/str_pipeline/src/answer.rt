@@ -44,9 +44,9 @@ fn term_of<S: TermSpace>(
     text: &[u8],
     is_strict: bool,
 ) -> Result<S::Ref, Fault>
-    ensures stands { IfOk result (λ r. IsTrue (S.stands space.new r)) }
+    ensures stands { IfOk result (λ r. IsTrue (S.space.stands space.new r)) }
     ensures read { IsTermRead is_strict signature.now text.now
-        (map_ok (S.term_of space.new) result) }
+        (map_ok (S.space.term_of space.new) result) }
 {
     let term = read_in(space, alloc, text)?;
     if is_strict {
@@ -64,9 +64,9 @@ fn noted_term<S: TermSpace>(
     is_strict: bool,
     notes: &mut RunNotes,
 ) -> Result<S::Ref, Fault>
-    ensures stands { IfOk result (λ r. IsTrue (S.stands space.new r)) }
+    ensures stands { IfOk result (λ r. IsTrue (S.space.stands space.new r)) }
     ensures read { IsTermRead is_strict signature.now text.now
-        (map_ok (S.term_of space.new) result) }
+        (map_ok (S.space.term_of space.new) result) }
 {
     let term = term_of(alloc, space, signature, text, is_strict);
     if let Err(fault) = &term {
@@ -87,9 +87,9 @@ fn term_alone<S: TermSpace>(
     is_strict: bool,
     notes: &mut RunNotes,
 ) -> Result<S::Ref, Fault>
-    ensures stands { IfOk result (λ r. IsTrue (S.stands space.new r)) }
+    ensures stands { IfOk result (λ r. IsTrue (S.space.stands space.new r)) }
     ensures read { IsTermRead is_strict checked.declarations text.items
-        (map_ok (S.term_of space.new) result) }
+        (map_ok (S.space.term_of space.new) result) }
 {
     let term = noted_term(alloc, space, checked.signature(), &text, is_strict, notes)?;
     notes.keep_term(text);

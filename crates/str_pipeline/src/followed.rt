@@ -1,6 +1,6 @@
 //! The space of the runs that explanations follow.
 ghost use Rattle.std.specs.Prelude.{All, IfOk, IsTrue, map};
-ghost use Rattle.term_model.specs.Space.{Keeps, Makes, MayHave};
+ghost use Rattle.term_model.specs.Space.{Keeps, Makes, MayHave, space_in};
 ghost use Rattle.term_model.specs.Term.{term};
 
 use std::alloc::{AllocError, Global};
@@ -32,25 +32,9 @@ impl TermSpace for FollowedSpace {
 
     type Name = u32;
 
-    ghost stands = { λ s r. ⟦<StoreSpace as TermSpace>⟧.stands s.store r };
+    ghost space = { space_in (λ s. s.store) ⟦<StoreSpace as TermSpace>⟧.space };
 
-    ghost term_of = { λ s r. ⟦<StoreSpace as TermSpace>⟧.term_of s.store r };
-
-    ghost is_valid = { λ s m. ⟦<StoreSpace as TermSpace>⟧.is_valid s.store m };
-
-    ghost covers = { ⟦<StoreSpace as TermSpace>⟧.covers };
-
-    ghost covers_mark = { ⟦<StoreSpace as TermSpace>⟧.covers_mark };
-
-    ghost knows = { λ s n. ⟦<StoreSpace as TermSpace>⟧.knows s.store n };
-
-    ghost symbol_of = { λ s n. ⟦<StoreSpace as TermSpace>⟧.symbol_of s.store n };
-
-    ghost number_of = { ⟦<StoreSpace as TermSpace>⟧.number_of };
-
-    fn fits(&self, at: &u32) {
-        self.store.fits(at);
-    }
+    ghost fits = { λ s r stands. ⟦<StoreSpace as TermSpace>⟧.fits s.store r stands };
 
     fn shape<'a>(&'a self, at: &'a u32) -> Shape<'a, u32> {
         self.store.shape(at)
@@ -166,18 +150,14 @@ impl TermSpace for FollowedSpace {
         annos: Vec<u32>,
     ) -> Result<Made<u32>, AllocError>
         requires head { MayHave head parts.items }
-        requires parts { All (λ r. IsTrue (⟦<FollowedSpace as TermSpace>⟧.stands self.old r))
+        requires parts { All (λ r. IsTrue (⟦<FollowedSpace as TermSpace>⟧.space.stands self.old r))
             parts.items }
-        requires annos { All (λ r. IsTrue (⟦<FollowedSpace as TermSpace>⟧.stands self.old r))
+        requires annos { All (λ r. IsTrue (⟦<FollowedSpace as TermSpace>⟧.space.stands self.old r))
             annos.items }
-        ensures keeps { Keeps ⟦<FollowedSpace as TermSpace>⟧.stands
-            ⟦<FollowedSpace as TermSpace>⟧.term_of ⟦<FollowedSpace as TermSpace>⟧.is_valid
-            ⟦<FollowedSpace as TermSpace>⟧.knows ⟦<FollowedSpace as TermSpace>⟧.symbol_of
-            self.old self.new }
-        ensures made { IfOk result (Makes ⟦<FollowedSpace as TermSpace>⟧.stands
-            ⟦<FollowedSpace as TermSpace>⟧.term_of self.new
-            (term head (map (⟦<FollowedSpace as TermSpace>⟧.term_of self.old) parts.items)
-            (map (⟦<FollowedSpace as TermSpace>⟧.term_of self.old) annos.items))) }
+        ensures keeps { Keeps ⟦<FollowedSpace as TermSpace>⟧.space self.old self.new }
+        ensures made { IfOk result (Makes ⟦<FollowedSpace as TermSpace>⟧.space self.new
+            (term head (map (⟦<FollowedSpace as TermSpace>⟧.space.term_of self.old) parts.items)
+            (map (⟦<FollowedSpace as TermSpace>⟧.space.term_of self.old) annos.items))) }
     {
         self.store.make(alloc, head, parts, annos)
     }

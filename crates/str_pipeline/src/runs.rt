@@ -42,11 +42,11 @@ pub(crate) fn run_code<S: TermSpace + Holds + Drop, M: PrimMeaning>(
     registry: &Registry<M>,
     notes: &mut RunNotes,
 ) -> Result<Outcome<Vec<u8>>, Fault>
-    requires stands { IsTrue (S.stands space term) }
+    requires stands { IsTrue (S.space.stands space term) }
     requires honest { IsHonest M.answer registry.now }
     requires covers { Covers registry.now code.now.prims }
     ensures outcome { IfOk result (λ told.
-        IsTextOfRun M.answer code.now (S.term_of space term) budget told) }
+        IsTextOfRun M.answer code.now (S.space.term_of space term) budget told) }
     ensures fault { IfErr result (λ fault. fault ≡ Fault.Memory) }
 {
     let mut machine = Machine::new(alloc, space);
@@ -69,8 +69,8 @@ fn in_text<S: TermSpace>(
     space: &S,
     outcome: &Outcome<S::Ref>,
 ) -> Result<Outcome<Vec<u8>>, AllocError>
-    requires { OutcomeStands (λ r. IsTrue (S.stands space.now r)) outcome.now }
-    ensures { IfOk result (λ told. IsTextOf told (outcome_tree (S.term_of space.now) outcome.now)) }
+    requires { OutcomeStands (λ r. IsTrue (S.space.stands space.now r)) outcome.now }
+    ensures { IfOk result (λ told. IsTextOf told (outcome_tree (S.space.term_of space.now) outcome.now)) }
 {
     match outcome {
         Outcome::Rewritten(reference) => {

@@ -1,6 +1,6 @@
 -- What building over references makes.
 use Rattle.std.proofs.Common.{◌≡◌, ℕ, zero, suc, ◌-◌, arith, Option, Some, None, List, [], ◌∷◌, ◌++◌, length, map, drop, take, refl, sym, ◌∙◌, ap, subst}
-use Rattle.std.specs.Prelude.{Bool, true, false, IsTrue, MatchOption, is_some, slice_get}
+use Rattle.std.specs.Prelude.{true, false, IsTrue, MatchOption, is_some, slice_get}
 use Rattle.std.specs.Borrow.{Bor}
 use Rattle.std.specs.Option.{option_map}
 use Rattle.std.proofs.lemmas.Option.{slice_get-map}
@@ -12,7 +12,7 @@ use Rattle.term_model.specs.declared.term.Head.TheVariants as heads
 use Rattle.term_model.specs.declared.made.Made.{Made}
 use Rattle.term_model.specs.declared.made.Made.TheVariants as made
 use Rattle.term_model.specs.Symbol.{Symbol}
-use Rattle.term_model.specs.Space.{Makes}
+use Rattle.term_model.specs.Space.{Space, Makes}
 use Rattle.term_model.specs.Term.{Tree, node, Trees, end, more, term, head_of, parts_of, annos_of, list_of, trees_of, fits, Fits, all_fit}
 use Rattle.term_model.proofs.FitsLaws.{fits-complete, fits-sound, not_true, large_part, large_annotation, bare_fits, bare_large}
 use Rattle.term_model.proofs.TermLemmas.{trees_of-list_of}
@@ -45,20 +45,20 @@ held_stands_in : {R : Type 0} (P : R → Type 0) (e : Places R) (o : Option ℕ)
 held_stands_in P e None r h is = absurd (cc)
 held_stands_in P e (Some i) r h is = place_stands P e i r h is
 
-pub value_known : {W R : Type 0} (stands : W → R → Bool) (term_of : W → R → Tree) (w : W) (o : Option ℕ) (e : Places R) (v : Option (Bor R)) → AllPlaces (λ r. IsTrue (stands w r)) e → MatchOption v (held_in o e ≡ None) (λ r. held_in o e ≡ Some r.now) →
-    MatchOption v (value_in o (map (option_map (term_of w)) e) ≡ None) (λ r. IsTrue (stands w r.now) × (value_in o (map (option_map (term_of w)) e) ≡ Some (term_of w r.now)))
-value_known stands term_of w o e None h is = value_is (term_of w) o e ∙ ap (option_map (term_of w)) is
-value_known stands term_of w o e (Some r) h is = (held_stands_in (λ u. IsTrue (stands w u)) e o r.now h is, value_is (term_of w) o e ∙ ap (option_map (term_of w)) is)
+pub value_known : {W R Y N : Type 0} (S : Space W R Y N) (w : W) (o : Option ℕ) (e : Places R) (v : Option (Bor R)) → AllPlaces (λ r. IsTrue (S.stands w r)) e → MatchOption v (held_in o e ≡ None) (λ r. held_in o e ≡ Some r.now) →
+    MatchOption v (value_in o (map (option_map (S.term_of w)) e) ≡ None) (λ r. IsTrue (S.stands w r.now) × (value_in o (map (option_map (S.term_of w)) e) ≡ Some (S.term_of w r.now)))
+value_known S w o e None h is = value_is (S.term_of w) o e ∙ ap (option_map (S.term_of w)) is
+value_known S w o e (Some r) h is = (held_stands_in (λ u. IsTrue (S.stands w u)) e o r.now h is, value_is (S.term_of w) o e ∙ ap (option_map (S.term_of w)) is)
 
 pub some_held : {R : Type 0} (P : R → Type 0) (f : R → Tree) (o : Option Tree) (v : Option (Bor R)) → MatchOption v (o ≡ None) (λ r. P r.now × (o ≡ Some (f r.now))) → is_some v ≡ true → (t : Tree) × (o ≡ Some t)
 some_held P f o None h is = absurd (cc)
 some_held P f o (Some r) h is = (f r.now, h.1)
 
 -- what was made is built
-pub outcome_is : {W R : Type 0} (stands : W → R → Bool) (term_of : W → R → Tree) (w : W) (o : Option Tree) (t : Tree) (m : Made R) (v : Built R) → Makes stands term_of w t m → o ≡ Some t → v ≡ made_built m → Builds stands term_of w o v
-outcome_is stands term_of w o t m v h is same = subst (λ x. Builds stands term_of w o x) (sym same) (by_made m h)
+pub outcome_is : {W R Y N : Type 0} (S : Space W R Y N) (w : W) (o : Option Tree) (t : Tree) (m : Made R) (v : Built R) → Makes S w t m → o ≡ Some t → v ≡ made_built m → Builds S w o v
+outcome_is S w o t m v h is same = subst (λ x. Builds S w o x) (sym same) (by_made m h)
   where
-    by_made : (m : Made _) → Makes stands term_of w t m → Builds stands term_of w o (made_built m)
+    by_made : (m : Made _) → Makes S w t m → Builds S w o (made_built m)
     by_made (made.Fits r) h = (h.0, is ∙ ap (λ u. Some u) (sym h.1), subst (λ u. fits u ≡ true) (sym h.1) (fits-complete t h.2))
     by_made made.Oversize h = (t, is, not_true (fits t) (λ e. h (fits-sound t e)))
 
@@ -107,93 +107,93 @@ in_front_all : (ts : List Tree) → in_front ts (Some end) ≡ Some (trees_of ts
 in_front_all [] = refl
 in_front_all (t ∷ ts) = ap (λ o. with_front (Some t) o) (in_front_all ts)
 
-module _ {W R : Type 0} (stands : W → R → Bool) (term_of : W → R → Tree) (w w1 : W) (all : Option Trees → Option Trees) (rs : List R) (p : Pushed) (built_so : AreBuilt term_of w all rs p) where
+module _ {W R Y N : Type 0} (S : Space W R Y N) (w w1 : W) (all : Option Trees → Option Trees) (rs : List R) (p : Pushed) (built_so : AreBuilt S.term_of w all rs p) where
   -- a term that is given annotations
-  pub given_none : (t : Tree) → p ≡ pushed.NoInstance → Builds stands term_of w1 (made_with (Some t) (all (Some end))) built.NoInstance
-  given_none t is = let none = subst (λ x. AreBuilt term_of w all rs x) is built_so in ap (made_with (Some t)) (none (Some end))
+  pub given_none : (t : Tree) → p ≡ pushed.NoInstance → Builds S w1 (made_with (Some t) (all (Some end))) built.NoInstance
+  given_none t is = let none = subst (λ x. AreBuilt S.term_of w all rs x) is built_so in ap (made_with (Some t)) (none (Some end))
 
-  pub given_large : (t : Tree) → p ≡ pushed.Oversize → Builds stands term_of w1 (made_with (Some t) (all (Some end))) built.Oversize
+  pub given_large : (t : Tree) → p ≡ pushed.Oversize → Builds S w1 (made_with (Some t) (all (Some end))) built.Oversize
   given_large t is =
-      let large = subst (λ x. AreBuilt term_of w all rs x) is built_so in
+      let large = subst (λ x. AreBuilt S.term_of w all rs x) is built_so in
       let whole = large_with_these t (trees_of large.0) large.2 in
       (whole.0, ap (made_with (Some t)) (large.1 (Some end) ∙ in_front_all large.0) ∙ whole.1, whole.2)
 
-  pub given_all : (t : Tree) (m : Made R) (v : Built R) → p ≡ pushed.All → Makes stands term_of w1 (term (head_of t) (parts_of t) (map (term_of w) rs)) m → v ≡ made_built m → Builds stands term_of w1 (made_with (Some t) (all (Some end))) v
+  pub given_all : (t : Tree) (m : Made R) (v : Built R) → p ≡ pushed.All → Makes S w1 (term (head_of t) (parts_of t) (map (S.term_of w) rs)) m → v ≡ made_built m → Builds S w1 (made_with (Some t) (all (Some end))) v
   given_all t m v is k at =
-      let fit = subst (λ x. AreBuilt term_of w all rs x) is built_so in
-      outcome_is stands term_of w1 (made_with (Some t) (all (Some end))) (term (head_of t) (parts_of t) (map (term_of w) rs)) m v k
-      (ap (made_with (Some t)) (fit.0 (Some end) ∙ in_front_all (map (term_of w) rs)) ∙ with_is t (map (term_of w) rs)) at
+      let fit = subst (λ x. AreBuilt S.term_of w all rs x) is built_so in
+      outcome_is S w1 (made_with (Some t) (all (Some end))) (term (head_of t) (parts_of t) (map (S.term_of w) rs)) m v k
+      (ap (made_with (Some t)) (fit.0 (Some end) ∙ in_front_all (map (S.term_of w) rs)) ∙ with_is t (map (S.term_of w) rs)) at
 
   -- what was built without annotations
-  module _ (o : Option Tree) (bare : IsBare o) (b : Built R) (made : Builds stands term_of w o b) where
-    pub none_given : b ≡ built.NoInstance → Builds stands term_of w1 (made_with o (all (Some end))) built.NoInstance
-    none_given is = ap (λ x. made_with x (all (Some end))) (subst (λ x. Builds stands term_of w o x) is made)
+  module _ (o : Option Tree) (bare : IsBare o) (b : Built R) (made : Builds S w o b) where
+    pub none_given : b ≡ built.NoInstance → Builds S w1 (made_with o (all (Some end))) built.NoInstance
+    none_given is = ap (λ x. made_with x (all (Some end))) (subst (λ x. Builds S w o x) is made)
 
-    pub large_given : (v : Built R) → b ≡ built.Oversize → v ≡ large_with p → Builds stands term_of w1 (made_with o (all (Some end))) v
-    large_given v is at = subst (λ x. Builds stands term_of w1 (made_with o (all (Some end))) x) (sym at) (by_annos p built_so)
+    pub large_given : (v : Built R) → b ≡ built.Oversize → v ≡ large_with p → Builds S w1 (made_with o (all (Some end))) v
+    large_given v is at = subst (λ x. Builds S w1 (made_with o (all (Some end))) x) (sym at) (by_annos p built_so)
       where
-        large : Builds stands term_of w o built.Oversize
-        large = subst (λ x. Builds stands term_of w o x) is made
+        large : Builds S w o built.Oversize
+        large = subst (λ x. Builds S w o x) is made
 
-        with_these : (us : List Tree) → all (Some end) ≡ in_front us (Some end) → Builds stands term_of w1 (made_with o (all (Some end))) built.Oversize
+        with_these : (us : List Tree) → all (Some end) ≡ in_front us (Some end) → Builds S w1 (made_with o (all (Some end))) built.Oversize
         with_these us are =
             let whole = large_with_any large.0 (trees_of us) (subst IsBare large.1 bare) large.2 in
             (whole.0, ap (λ x. made_with x (all (Some end))) large.1 ∙ (ap (made_with (Some large.0)) (are ∙ in_front_all us) ∙ whole.1), whole.2)
 
-        by_annos : (p : Pushed) → AreBuilt term_of w all rs p → Builds stands term_of w1 (made_with o (all (Some end))) (large_with p)
-        by_annos pushed.All h = with_these (map (term_of w) rs) (h.0 (Some end))
+        by_annos : (p : Pushed) → AreBuilt S.term_of w all rs p → Builds S w1 (made_with o (all (Some end))) (large_with p)
+        by_annos pushed.All h = with_these (map (S.term_of w) rs) (h.0 (Some end))
         by_annos pushed.NoInstance h = ap (made_with o) (h (Some end)) ∙ with_none o
         by_annos pushed.Oversize h = with_these h.0 (h.1 (Some end))
 
-    pub nothing_given : (r : R) → b ≡ built.Made r → p ≡ pushed.All → length rs ≡ 0 → Builds stands term_of w (made_with o (all (Some end))) (built.Made r)
+    pub nothing_given : (r : R) → b ≡ built.Made r → p ≡ pushed.All → length rs ≡ 0 → Builds S w (made_with o (all (Some end))) (built.Made r)
     nothing_given r is every few =
-        let one = subst (λ x. Builds stands term_of w o x) is made in
-        let fit = subst (λ x. AreBuilt term_of w all rs x) every built_so in
-        (one.0, ap (λ x. made_with x (all (Some end))) one.1 ∙ (ap (made_with (Some (term_of w r))) (fit.0 (Some end) ∙ nothing rs few) ∙ with_nothing (term_of w r) (subst IsBare one.1 bare)), one.2)
+        let one = subst (λ x. Builds S w o x) is made in
+        let fit = subst (λ x. AreBuilt S.term_of w all rs x) every built_so in
+        (one.0, ap (λ x. made_with x (all (Some end))) one.1 ∙ (ap (made_with (Some (S.term_of w r))) (fit.0 (Some end) ∙ nothing rs few) ∙ with_nothing (S.term_of w r) (subst IsBare one.1 bare)), one.2)
       where
-        nothing : (rs : List R) → length rs ≡ 0 → in_front (map (term_of w) rs) (Some end) ≡ Some end
+        nothing : (rs : List R) → length rs ≡ 0 → in_front (map (S.term_of w) rs) (Some end) ≡ Some end
         nothing [] h = refl
         nothing (x ∷ xs) h = absurd (omega arith)
 
-    pub one_given : (r : R) (v : Built R) → b ≡ built.Made r → Builds stands term_of w1 (made_with (Some (term_of w r)) (all (Some end))) v → Builds stands term_of w1 (made_with o (all (Some end))) v
+    pub one_given : (r : R) (v : Built R) → b ≡ built.Made r → Builds S w1 (made_with (Some (S.term_of w r)) (all (Some end))) v → Builds S w1 (made_with o (all (Some end))) v
     one_given r v is k =
-        let one = subst (λ x. Builds stands term_of w o x) is made in
-        subst (λ x. Builds stands term_of w1 (made_with x (all (Some end))) v) (sym one.1) k
+        let one = subst (λ x. Builds S w o x) is made in
+        subst (λ x. Builds S w1 (made_with x (all (Some end))) v) (sym one.1) k
 
-module _ {W R : Type 0} (stands : W → R → Bool) (term_of : W → R → Tree) (w w1 : W) (all : Option Trees → Option Trees) (rs : List R) (p : Pushed) (s : Symbol) where
-  pub apply_none : p ≡ pushed.NoInstance → AreBuilt term_of w all rs p → Builds stands term_of w1 (applied_to (all (Some end)) s) built.NoInstance
-  apply_none is h = let none = subst (λ x. AreBuilt term_of w all rs x) is h in ap (λ o. applied_to o s) (none (Some end))
+module _ {W R Y N : Type 0} (S : Space W R Y N) (w w1 : W) (all : Option Trees → Option Trees) (rs : List R) (p : Pushed) (s : Symbol) where
+  pub apply_none : p ≡ pushed.NoInstance → AreBuilt S.term_of w all rs p → Builds S w1 (applied_to (all (Some end)) s) built.NoInstance
+  apply_none is h = let none = subst (λ x. AreBuilt S.term_of w all rs x) is h in ap (λ o. applied_to o s) (none (Some end))
 
-  pub apply_large : p ≡ pushed.Oversize → AreBuilt term_of w all rs p → Builds stands term_of w1 (applied_to (all (Some end)) s) built.Oversize
+  pub apply_large : p ≡ pushed.Oversize → AreBuilt S.term_of w all rs p → Builds S w1 (applied_to (all (Some end)) s) built.Oversize
   apply_large is h =
-      let large = subst (λ x. AreBuilt term_of w all rs x) is h in
+      let large = subst (λ x. AreBuilt S.term_of w all rs x) is h in
       (node (heads.App s) (trees_of large.0) end, ap (λ o. applied_to o s) (large.1 (Some end) ∙ in_front_all large.0), large_part (heads.App s) (trees_of large.0) end large.2)
 
-  pub apply_all : (xs : List R) (m : Made R) (v : Built R) → p ≡ pushed.All → AreBuilt term_of w all rs p → xs ≡ rs → Makes stands term_of w1 (term (heads.App s) (map (term_of w) xs) []) m → v ≡ made_built m → Builds stands term_of w1 (applied_to (all (Some end)) s) v
+  pub apply_all : (xs : List R) (m : Made R) (v : Built R) → p ≡ pushed.All → AreBuilt S.term_of w all rs p → xs ≡ rs → Makes S w1 (term (heads.App s) (map (S.term_of w) xs) []) m → v ≡ made_built m → Builds S w1 (applied_to (all (Some end)) s) v
   apply_all xs m v is h same k at =
-      let fit = subst (λ x. AreBuilt term_of w all rs x) is h in
-      outcome_is stands term_of w1 (applied_to (all (Some end)) s) (term (heads.App s) (map (term_of w) xs) []) m v k
-      (ap (λ o. applied_to o s) (fit.0 (Some end) ∙ in_front_all (map (term_of w) rs)) ∙ ap (λ ys. Some (term (heads.App s) (map (term_of w) ys) [])) (sym same)) at
+      let fit = subst (λ x. AreBuilt S.term_of w all rs x) is h in
+      outcome_is S w1 (applied_to (all (Some end)) s) (term (heads.App s) (map (S.term_of w) xs) []) m v k
+      (ap (λ o. applied_to o s) (fit.0 (Some end) ∙ in_front_all (map (S.term_of w) rs)) ∙ ap (λ ys. Some (term (heads.App s) (map (S.term_of w) ys) [])) (sym same)) at
 
-module _ {W R : Type 0} (stands : W → R → Bool) (term_of : W → R → Tree) (w w1 : W) (all : Option Trees) (rs : List R) (e : Elements R) where
-  pub list_no_instance : e ≡ elements.NoInstance → AreElements stands term_of w all rs e → Builds stands term_of w1 (list_term all) built.NoInstance
-  list_no_instance is h = let none = subst (λ x. AreElements stands term_of w all rs x) is h in ap list_term none
+module _ {W R Y N : Type 0} (S : Space W R Y N) (w w1 : W) (all : Option Trees) (rs : List R) (e : Elements R) where
+  pub list_no_instance : e ≡ elements.NoInstance → AreElements S w all rs e → Builds S w1 (list_term all) built.NoInstance
+  list_no_instance is h = let none = subst (λ x. AreElements S w all rs x) is h in ap list_term none
 
-  pub list_large : e ≡ elements.Oversize → AreElements stands term_of w all rs e → Builds stands term_of w1 (list_term all) built.Oversize
+  pub list_large : e ≡ elements.Oversize → AreElements S w all rs e → Builds S w1 (list_term all) built.Oversize
   list_large is h =
-      let large = subst (λ x. AreElements stands term_of w all rs x) is h in
+      let large = subst (λ x. AreElements S w all rs x) is h in
       (node heads.List large.0 end, ap list_term large.1, large_part heads.List large.0 end large.2)
 
-  pub list_all : (xs : List R) (m : Made R) (v : Built R) → e ≡ elements.All → AreElements stands term_of w all rs e → xs ≡ rs → Makes stands term_of w1 (term heads.List (map (term_of w) xs) []) m → v ≡ made_built m → Builds stands term_of w1 (list_term all) v
+  pub list_all : (xs : List R) (m : Made R) (v : Built R) → e ≡ elements.All → AreElements S w all rs e → xs ≡ rs → Makes S w1 (term heads.List (map (S.term_of w) xs) []) m → v ≡ made_built m → Builds S w1 (list_term all) v
   list_all xs m v is h same k at =
-      let fit = subst (λ x. AreElements stands term_of w all rs x) is h in
-      outcome_is stands term_of w1 (list_term all) (term heads.List (map (term_of w) xs) []) m v k (ap list_term fit ∙ ap (λ ys. Some (term heads.List (map (term_of w) ys) [])) (sym same)) at
+      let fit = subst (λ x. AreElements S w all rs x) is h in
+      outcome_is S w1 (list_term all) (term heads.List (map (S.term_of w) xs) []) m v k (ap list_term fit ∙ ap (λ ys. Some (term heads.List (map (S.term_of w) ys) [])) (sym same)) at
 
-  pub list_open : (xs : List R) (tail : R) (m : Made R) (v : Built R) → e ≡ elements.Before tail → AreElements stands term_of w all rs e → xs ≡ rs → Makes stands term_of w1 (term heads.List (map (term_of w) xs ++ parts_of (term_of w tail)) []) m → v ≡ made_built m →
-      Builds stands term_of w1 (list_term all) v
+  pub list_open : (xs : List R) (tail : R) (m : Made R) (v : Built R) → e ≡ elements.Before tail → AreElements S w all rs e → xs ≡ rs → Makes S w1 (term heads.List (map (S.term_of w) xs ++ parts_of (S.term_of w tail)) []) m → v ≡ made_built m →
+      Builds S w1 (list_term all) v
   list_open xs tail m v is h same k at =
-      let fit = subst (λ x. AreElements stands term_of w all rs x) is h in
-      outcome_is stands term_of w1 (list_term all) (term heads.List (map (term_of w) xs ++ parts_of (term_of w tail)) []) m v k (ap list_term fit.2 ∙ ap (λ ys. Some (term heads.List (map (term_of w) ys ++ parts_of (term_of w tail)) [])) (sym same)) at
+      let fit = subst (λ x. AreElements S w all rs x) is h in
+      outcome_is S w1 (list_term all) (term heads.List (map (S.term_of w) xs ++ parts_of (S.term_of w tail)) []) m v k (ap list_term fit.2 ∙ ap (λ ys. Some (term heads.List (map (S.term_of w) ys ++ parts_of (S.term_of w tail)) [])) (sym same)) at
 
 -- the elements of a list that a variable has
 pub list_elements : (t u : Tree) → head_of t ≡ heads.List → u ≡ t → elements_of (Some t) ≡ Some (trees_of (parts_of u))

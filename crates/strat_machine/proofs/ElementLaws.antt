@@ -10,7 +10,7 @@ use Rattle.core_lang.specs.Program.{Pattern, anything, variable, alias, integer,
 use Rattle.core_lang.specs.Views.{patterns_in, elements_in}
 use Rattle.core_lang.proofs.ElementLaws.{elements_of_list, elements_of_application, elements_annotated, annotated_without, elements_with, with_none, with_again, like_with}
 use Rattle.term_model.specs.Symbol.{Symbol}
-use Rattle.term_model.specs.Space.{Pushes}
+use Rattle.term_model.specs.Space.{Space, Pushes}
 use Rattle.term_model.specs.Term.{Tree, Trees, end, parts_of, annos_of, list_of, trees_of, fits, Fits, all_fit}
 use Rattle.term_model.proofs.FitsLaws.{all_fit-last, annos_fit}
 use Rattle.term_model.proofs.TermLemmas.{trees_of-list_of}
@@ -47,7 +47,7 @@ append_assoc : {X : Type 0} (xs ys zs : List X) → (xs ++ ys) ++ zs ≡ xs ++ (
 append_assoc [] ys zs = refl
 append_assoc (x ∷ xs) ys zs = ap (λ us. x ∷ us) (append_assoc xs ys zs)
 
-module _ {W R : Type 0} {stands : W → R → Bool} {w : W} {old new : List R} {Are : List R → Type 0} (p : Puts stands w old new Are) (from : ℕ) (at : from ≡ length old) where
+module _ {W R Y N : Type 0} {S : Space W R Y N} {w : W} {old new : List R} {Are : List R → Type 0} (p : Puts S w old new Are) (from : ℕ) (at : from ≡ length old) where
   put_is : drop from new ≡ p.put
   put_is = ap (λ k. drop k new) at ∙ (ap (drop (length old)) p.after ∙ drop_put old p.put)
 
@@ -57,19 +57,19 @@ module _ {W R : Type 0} {stands : W → R → Bool} {w : W} {old new : List R} {
   pub put_within : from ≤ length new
   put_within = subst (λ xs. from ≤ length xs) (sym p.after) (subst (λ k. k ≤ length (old ++ p.put)) (sym at) (long_put old p.put))
 
-  pub put_stands : AllRefs (λ r. IsTrue (stands w r)) (drop from new)
-  put_stands = subst (λ xs. AllRefs (λ r. IsTrue (stands w r)) xs) (sym put_is) p.standing
+  pub put_stands : AllRefs (λ r. IsTrue (S.stands w r)) (drop from new)
+  put_stands = subst (λ xs. AllRefs (λ r. IsTrue (S.stands w r)) xs) (sym put_is) p.standing
 
   pub put_are : Are (drop from new)
   put_are = subst Are (sym put_is) p.are
 
-pub puts_nothing : {W R : Type 0} (stands : W → R → Bool) (w : W) (old : List R) (Are : List R → Type 0) → Are [] → Puts stands w old old Are
-puts_nothing stands w old Are h = record { put = []; after = append_nothing old; standing = tt; are = h }
+pub puts_nothing : {W R Y N : Type 0} (S : Space W R Y N) (w : W) (old : List R) (Are : List R → Type 0) → Are [] → Puts S w old old Are
+puts_nothing S w old Are h = record { put = []; after = append_nothing old; standing = tt; are = h }
 
-pub puts_nothing_at : {W R : Type 0} (stands : W → R → Bool) (w : W) (old new : List R) → new ≡ old → (Are : List R → Type 0) → Are [] → Puts stands w old new Are
-puts_nothing_at stands w old new is Are h = record { put = []; after = is ∙ append_nothing old; standing = tt; are = h }
+pub puts_nothing_at : {W R Y N : Type 0} (S : Space W R Y N) (w : W) (old new : List R) → new ≡ old → (Are : List R → Type 0) → Are [] → Puts S w old new Are
+puts_nothing_at S w old new is Are h = record { put = []; after = is ∙ append_nothing old; standing = tt; are = h }
 
-pub puts_as : {W R : Type 0} {stands : W → R → Bool} {w : W} {old new : List R} {Are Be : List R → Type 0} → ((rs : List R) → Are rs → Be rs) → Puts stands w old new Are → Puts stands w old new Be
+pub puts_as : {W R Y N : Type 0} {S : Space W R Y N} {w : W} {old new : List R} {Are Be : List R → Type 0} → ((rs : List R) → Are rs → Be rs) → Puts S w old new Are → Puts S w old new Be
 puts_as g p = record { put = p.put; after = p.after; standing = p.standing; are = g p.put p.are }
 
 pub refs_later : {R : Type 0} {P Q : R → Type 0} → ((r : R) → P r → Q r) → (rs : List R) → AllRefs P rs → AllRefs Q rs
@@ -81,25 +81,25 @@ refs_same same [] h = refl
 refs_same {f = f} {g} same (r ∷ rs) h = ap (λ t. t ∷ map g rs) (same r h.0) ∙ ap (λ ts. f r ∷ ts) (refs_same same rs h.1)
 
 -- annotations that were put on a stack
-pub pushes_put : {W R : Type 0} {stands : W → R → Bool} {term_of : W → R → Tree} {w : W} {ts : List Tree} {old new : List R} → Pushes stands term_of w ts old new → Puts stands w old new (λ rs. map (term_of w) rs ≡ ts)
-pushes_put {stands = stands} {w = w} p = record { put = p.pushed; after = p.after; standing = refs_of_all (λ r. IsTrue (stands w r)) p.pushed p.standing; are = p.are }
+pub pushes_put : {W R Y N : Type 0} {S : Space W R Y N} {w : W} {ts : List Tree} {old new : List R} → Pushes S w ts old new → Puts S w old new (λ rs. map (S.term_of w) rs ≡ ts)
+pushes_put {S = S} {w = w} p = record { put = p.pushed; after = p.after; standing = refs_of_all (λ r. IsTrue (S.stands w r)) p.pushed p.standing; are = p.are }
 
 pub annos_built : {W R : Type 0} (term_of : W → R → Tree) (w : W) (v : Tree) (rs : List R) → Fits v → map (term_of w) rs ≡ annos_of v → AreBuilt term_of w (in_front (annos_of v)) rs pushed.All
 annos_built term_of w v rs f is = (λ o. ap (λ ts. in_front ts o) (sym is), ap (λ ts. all_fit (trees_of ts)) is ∙ annos_fit v f)
 
-pub are_built_later : {W R : Type 0} (stands : W → R → Bool) (term_of : W → R → Tree) (w w1 : W) (all : Option Trees → Option Trees) (rs : List R) (p : Pushed) → ((r : R) → IsTrue (stands w r) → term_of w1 r ≡ term_of w r) → AllRefs (λ r. IsTrue (stands w r)) rs →
-    AreBuilt term_of w all rs p → AreBuilt term_of w1 all rs p
-are_built_later stands term_of w w1 all rs pushed.All same h k = let them = refs_same same rs h in (λ o. k.0 o ∙ ap (λ ts. in_front ts o) (sym them), ap (λ ts. all_fit (trees_of ts)) them ∙ k.1)
-are_built_later stands term_of w w1 all rs pushed.NoInstance same h k = k
-are_built_later stands term_of w w1 all rs pushed.Oversize same h k = k
+pub are_built_later : {W R Y N : Type 0} (S : Space W R Y N) (w w1 : W) (all : Option Trees → Option Trees) (rs : List R) (p : Pushed) → ((r : R) → IsTrue (S.stands w r) → S.term_of w1 r ≡ S.term_of w r) → AllRefs (λ r. IsTrue (S.stands w r)) rs →
+    AreBuilt S.term_of w all rs p → AreBuilt S.term_of w1 all rs p
+are_built_later S w w1 all rs pushed.All same h k = let them = refs_same same rs h in (λ o. k.0 o ∙ ap (λ ts. in_front ts o) (sym them), ap (λ ts. all_fit (trees_of ts)) them ∙ k.1)
+are_built_later S w w1 all rs pushed.NoInstance same h k = k
+are_built_later S w w1 all rs pushed.Oversize same h k = k
 
 -- what stands on a stack from an index on, as a slice of a stack with the same references
-module _ {W R : Type 0} (stands : W → R → Bool) (w w1 : W) (from : ℕ) (xs old : List R) (is : xs ≡ old) (all_stand : AllRefs (λ r. IsTrue (stands w r)) (drop from old)) where
-  pub slice_stands : ((r : R) → IsTrue (stands w r) → IsTrue (stands w1 r)) → AllRefs (λ r. IsTrue (stands w1 r)) (take (length xs - from) (drop from xs))
-  slice_stands later = subst (λ rs. AllRefs (λ r. IsTrue (stands w1 r)) rs) (sym (slice_is from xs old is)) (refs_later later (drop from old) all_stand)
+module _ {W R Y N : Type 0} (S : Space W R Y N) (w w1 : W) (from : ℕ) (xs old : List R) (is : xs ≡ old) (all_stand : AllRefs (λ r. IsTrue (S.stands w r)) (drop from old)) where
+  pub slice_stands : ((r : R) → IsTrue (S.stands w r) → IsTrue (S.stands w1 r)) → AllRefs (λ r. IsTrue (S.stands w1 r)) (take (length xs - from) (drop from xs))
+  slice_stands later = subst (λ rs. AllRefs (λ r. IsTrue (S.stands w1 r)) rs) (sym (slice_is from xs old is)) (refs_later later (drop from old) all_stand)
 
-  pub slice_built : (term_of : W → R → Tree) (all : Option Trees → Option Trees) (p : Pushed) → ((r : R) → IsTrue (stands w r) → term_of w1 r ≡ term_of w r) → AreBuilt term_of w all (drop from old) p → AreBuilt term_of w1 all (take (length xs - from) (drop from xs)) p
-  slice_built term_of all p same h = subst (λ rs. AreBuilt term_of w1 all rs p) (sym (slice_is from xs old is)) (are_built_later stands term_of w w1 all (drop from old) p same all_stand h)
+  pub slice_built : (all : Option Trees → Option Trees) (p : Pushed) → ((r : R) → IsTrue (S.stands w r) → S.term_of w1 r ≡ S.term_of w r) → AreBuilt S.term_of w all (drop from old) p → AreBuilt S.term_of w1 all (take (length xs - from) (drop from xs)) p
+  slice_built all p same h = subst (λ rs. AreBuilt S.term_of w1 all rs p) (sym (slice_is from xs old is)) (are_built_later S w w1 all (drop from old) p same all_stand h)
 
 -- terms in front of others
 front_none : (ts : List Tree) → in_front ts None ≡ None
@@ -134,24 +134,24 @@ large_after [] us h = h
 large_after (t ∷ ts) us h = ap (λ b. fits t && b) (large_after ts us h) ∙ false_and (fits t)
 
 -- the first elements of a list, and the others
-module _ {W R : Type 0} (stands : W → R → Bool) (term_of : W → R → Tree) (w : W) (f : Option Trees → Option Trees) where
-  ended : (rs : List R) (p : Pushed) → AreBuilt term_of w f rs p → AreElements stands term_of w (f (Some end)) rs (joined_elements p elements.All)
-  ended rs pushed.All h = h.0 (Some end) ∙ front_end (map (term_of w) rs)
+module _ {W R Y N : Type 0} (S : Space W R Y N) (w : W) (f : Option Trees → Option Trees) where
+  ended : (rs : List R) (p : Pushed) → AreBuilt S.term_of w f rs p → AreElements S w (f (Some end)) rs (joined_elements p elements.All)
+  ended rs pushed.All h = h.0 (Some end) ∙ front_end (map (S.term_of w) rs)
   ended rs pushed.NoInstance h = h (Some end)
   ended rs pushed.Oversize h = (trees_of h.0, h.1 (Some end) ∙ front_end h.0, h.2)
 
-  pub ended_puts : (all : Option Trees) (p : Pushed) (v : Elements R) (old new : List R) → all ≡ f (Some end) → v ≡ joined_elements p elements.All → Puts stands w old new (λ rs. AreBuilt term_of w f rs p) →
-      Puts stands w old new (λ rs. AreElements stands term_of w all rs v)
-  ended_puts all p v old new is at x = puts_as (λ rs h. subst (λ e. AreElements stands term_of w all rs e) (sym at) (subst (λ o. AreElements stands term_of w o rs (joined_elements p elements.All)) (sym is) (ended rs p h))) x
+  pub ended_puts : (all : Option Trees) (p : Pushed) (v : Elements R) (old new : List R) → all ≡ f (Some end) → v ≡ joined_elements p elements.All → Puts S w old new (λ rs. AreBuilt S.term_of w f rs p) →
+      Puts S w old new (λ rs. AreElements S w all rs v)
+  ended_puts all p v old new is at x = puts_as (λ rs h. subst (λ e. AreElements S w all rs e) (sym at) (subst (λ o. AreElements S w o rs (joined_elements p elements.All)) (sym is) (ended rs p h))) x
 
-  joined_so : (o : Option Trees) (ts : List Tree) (rs us : List R) (others : Elements R) → ts ≡ map (term_of w) rs → ((o : Option Trees) → f o ≡ in_front ts o) → AreElements stands term_of w o us others →
-      AreElements stands term_of w (f o) (rs ++ us) others
-  joined_so o ts rs us elements.All same h k = h o ∙ (ap (in_front ts) k ∙ (front_all ts (map (term_of w) us) ∙ ap (λ xs. Some (trees_of xs)) (ap (λ xs. xs ++ map (term_of w) us) same ∙ sym (map-append (term_of w) rs us))))
+  joined_so : (o : Option Trees) (ts : List Tree) (rs us : List R) (others : Elements R) → ts ≡ map (S.term_of w) rs → ((o : Option Trees) → f o ≡ in_front ts o) → AreElements S w o us others →
+      AreElements S w (f o) (rs ++ us) others
+  joined_so o ts rs us elements.All same h k = h o ∙ (ap (in_front ts) k ∙ (front_all ts (map (S.term_of w) us) ∙ ap (λ xs. Some (trees_of xs)) (ap (λ xs. xs ++ map (S.term_of w) us) same ∙ sym (map-append (S.term_of w) rs us))))
   joined_so o ts rs us (elements.Before r) same h k = (
     k.0,
     k.1,
-    h o ∙ (ap (in_front ts) k.2 ∙ (front_all ts (map (term_of w) us ++ parts_of (term_of w r)) ∙
-        ap (λ xs. Some (trees_of xs)) (sym (append_assoc ts (map (term_of w) us) (parts_of (term_of w r))) ∙ ap (λ xs. xs ++ parts_of (term_of w r)) (ap (λ xs. xs ++ map (term_of w) us) same ∙ sym (map-append (term_of w) rs us))))),
+    h o ∙ (ap (in_front ts) k.2 ∙ (front_all ts (map (S.term_of w) us ++ parts_of (S.term_of w r)) ∙
+        ap (λ xs. Some (trees_of xs)) (sym (append_assoc ts (map (S.term_of w) us) (parts_of (S.term_of w r))) ∙ ap (λ xs. xs ++ parts_of (S.term_of w r)) (ap (λ xs. xs ++ map (S.term_of w) us) same ∙ sym (map-append (S.term_of w) rs us))))),
   )
   joined_so o ts rs us elements.NoInstance same h k = h o ∙ (ap (in_front ts) k ∙ front_none ts)
   joined_so o ts rs us elements.Oversize same h k = (
@@ -160,84 +160,84 @@ module _ {W R : Type 0} (stands : W → R → Bool) (term_of : W → R → Tree)
     large_after ts (list_of k.0) (ap all_fit (trees_of-list_of k.0) ∙ k.2),
   )
 
-  joined_large : (o : Option Trees) (ts : List Tree) (rs us : List R) (others : Elements R) → ((o : Option Trees) → f o ≡ in_front ts o) → all_fit (trees_of ts) ≡ false → AreElements stands term_of w o us others →
-      AreElements stands term_of w (f o) (rs ++ us) (joined_elements pushed.Oversize others)
-  joined_large o ts rs us elements.All h large k = (trees_of (ts ++ map (term_of w) us), h o ∙ (ap (in_front ts) k ∙ front_all ts (map (term_of w) us)), large_before ts (map (term_of w) us) large)
+  joined_large : (o : Option Trees) (ts : List Tree) (rs us : List R) (others : Elements R) → ((o : Option Trees) → f o ≡ in_front ts o) → all_fit (trees_of ts) ≡ false → AreElements S w o us others →
+      AreElements S w (f o) (rs ++ us) (joined_elements pushed.Oversize others)
+  joined_large o ts rs us elements.All h large k = (trees_of (ts ++ map (S.term_of w) us), h o ∙ (ap (in_front ts) k ∙ front_all ts (map (S.term_of w) us)), large_before ts (map (S.term_of w) us) large)
   joined_large o ts rs us (elements.Before r) h large k =
-      (trees_of (ts ++ (map (term_of w) us ++ parts_of (term_of w r))), h o ∙ (ap (in_front ts) k.2 ∙ front_all ts (map (term_of w) us ++ parts_of (term_of w r))), large_before ts (map (term_of w) us ++ parts_of (term_of w r)) large)
+      (trees_of (ts ++ (map (S.term_of w) us ++ parts_of (S.term_of w r))), h o ∙ (ap (in_front ts) k.2 ∙ front_all ts (map (S.term_of w) us ++ parts_of (S.term_of w r))), large_before ts (map (S.term_of w) us ++ parts_of (S.term_of w r)) large)
   joined_large o ts rs us elements.NoInstance h large k = h o ∙ (ap (in_front ts) k ∙ front_none ts)
   joined_large o ts rs us elements.Oversize h large k =
       (trees_of (ts ++ list_of k.0), h o ∙ (ap (in_front ts) (k.1 ∙ ap (λ x. Some x) (sym (trees_of-list_of k.0))) ∙ front_all ts (list_of k.0)), large_before ts (list_of k.0) large)
 
-  joined_are : (w1 : W) (o : Option Trees) (rs us : List R) (p : Pushed) (others : Elements R) → map (term_of w) rs ≡ map (term_of w1) rs → AreBuilt term_of w1 f rs p → AreElements stands term_of w o us others →
-      AreElements stands term_of w (f o) (rs ++ us) (joined_elements p others)
-  joined_are w1 o rs us pushed.All others same h k = joined_so o (map (term_of w1) rs) rs us others (sym same) h.0 k
+  joined_are : (w1 : W) (o : Option Trees) (rs us : List R) (p : Pushed) (others : Elements R) → map (S.term_of w) rs ≡ map (S.term_of w1) rs → AreBuilt S.term_of w1 f rs p → AreElements S w o us others →
+      AreElements S w (f o) (rs ++ us) (joined_elements p others)
+  joined_are w1 o rs us pushed.All others same h k = joined_so o (map (S.term_of w1) rs) rs us others (sym same) h.0 k
   joined_are w1 o rs us pushed.NoInstance others same h k = h o
   joined_are w1 o rs us pushed.Oversize others same h k = joined_large o h.0 rs us others h.1 h.2 k
 
-  pub joined_puts : (w1 : W) (all o : Option Trees) (p : Pushed) (others v : Elements R) (old middle new : List R) → ((r : R) → IsTrue (stands w1 r) → IsTrue (stands w r)) → ((r : R) → IsTrue (stands w1 r) → term_of w r ≡ term_of w1 r) → all ≡ f o → v ≡ joined_elements p others →
-      Puts stands w1 old middle (λ rs. AreBuilt term_of w1 f rs p) → Puts stands w middle new (λ rs. AreElements stands term_of w o rs others) → Puts stands w old new (λ rs. AreElements stands term_of w all rs v)
+  pub joined_puts : (w1 : W) (all o : Option Trees) (p : Pushed) (others v : Elements R) (old middle new : List R) → ((r : R) → IsTrue (S.stands w1 r) → IsTrue (S.stands w r)) → ((r : R) → IsTrue (S.stands w1 r) → S.term_of w r ≡ S.term_of w1 r) → all ≡ f o → v ≡ joined_elements p others →
+      Puts S w1 old middle (λ rs. AreBuilt S.term_of w1 f rs p) → Puts S w middle new (λ rs. AreElements S w o rs others) → Puts S w old new (λ rs. AreElements S w all rs v)
   joined_puts w1 all o p others v old middle new later same is at x y = record {
     put = x.put ++ y.put;
     after = y.after ∙ (ap (λ xs. xs ++ y.put) x.after ∙ append_assoc old x.put y.put);
-    standing = refs_append (λ r. IsTrue (stands w r)) x.put y.put (refs_later later x.put x.standing) y.standing;
+    standing = refs_append (λ r. IsTrue (S.stands w r)) x.put y.put (refs_later later x.put x.standing) y.standing;
     are =
-        subst (λ e. AreElements stands term_of w all (x.put ++ y.put) e) (sym at)
-        (subst (λ q. AreElements stands term_of w q (x.put ++ y.put) (joined_elements p others)) (sym is) (joined_are w1 o x.put y.put p others (refs_same same x.put x.standing) x.are y.are));
+        subst (λ e. AreElements S w all (x.put ++ y.put) e) (sym at)
+        (subst (λ q. AreElements S w q (x.put ++ y.put) (joined_elements p others)) (sym is) (joined_are w1 o x.put y.put p others (refs_same same x.put x.standing) x.are y.are));
   }
 
 -- several patterns, one after another
-module _ {W R : Type 0} (stands : W → R → Bool) (term_of : W → R → Tree) where
-  pub building_starts : (w : W) (all : Option Trees → Option Trees) (old : List R) → Puts stands w old old (λ rs. AreBuiltBefore term_of w all all rs true)
-  building_starts w all old = puts_nothing stands w old (λ rs. AreBuiltBefore term_of w all all rs true) (λ o. refl, refl)
+module _ {W R Y N : Type 0} (S : Space W R Y N) where
+  pub building_starts : (w : W) (all : Option Trees → Option Trees) (old : List R) → Puts S w old old (λ rs. AreBuiltBefore S.term_of w all all rs true)
+  building_starts w all old = puts_nothing S w old (λ rs. AreBuiltBefore S.term_of w all all rs true) (λ o. refl, refl)
 
-  all_built : (w : W) (all rest : Option Trees → Option Trees) (rs : List R) (fit : Bool) → ((v : Option Trees) → rest v ≡ v) → fit ≡ true → AreBuiltBefore term_of w all rest rs fit → AreBuilt term_of w all rs pushed.All
-  all_built w all rest rs true is so h = (λ v. h.0 v ∙ ap (in_front (map (term_of w) rs)) (is v), h.1)
+  all_built : (w : W) (all rest : Option Trees → Option Trees) (rs : List R) (fit : Bool) → ((v : Option Trees) → rest v ≡ v) → fit ≡ true → AreBuiltBefore S.term_of w all rest rs fit → AreBuilt S.term_of w all rs pushed.All
+  all_built w all rest rs true is so h = (λ v. h.0 v ∙ ap (in_front (map (S.term_of w) rs)) (is v), h.1)
   all_built w all rest rs false is so h = absurd (cc)
 
-  one_too_large : (w : W) (all rest : Option Trees → Option Trees) (rs : List R) (fit : Bool) → ((v : Option Trees) → rest v ≡ v) → fit ≡ false → AreBuiltBefore term_of w all rest rs fit → AreBuilt term_of w all rs pushed.Oversize
+  one_too_large : (w : W) (all rest : Option Trees → Option Trees) (rs : List R) (fit : Bool) → ((v : Option Trees) → rest v ≡ v) → fit ≡ false → AreBuiltBefore S.term_of w all rest rs fit → AreBuilt S.term_of w all rs pushed.Oversize
   one_too_large w all rest rs true is so h = absurd (cc)
   one_too_large w all rest rs false is so h = (h.0, λ v. h.1 v ∙ ap (in_front h.0) (is v), h.2)
 
-  pub building_ends : (w : W) (all rest : Option Trees → Option Trees) (old new : List R) (fit : Bool) → ((v : Option Trees) → rest v ≡ v) → fit ≡ true → Puts stands w old new (λ rs. AreBuiltBefore term_of w all rest rs fit) → Puts stands w old new (λ rs. AreBuilt term_of w all rs pushed.All)
+  pub building_ends : (w : W) (all rest : Option Trees → Option Trees) (old new : List R) (fit : Bool) → ((v : Option Trees) → rest v ≡ v) → fit ≡ true → Puts S w old new (λ rs. AreBuiltBefore S.term_of w all rest rs fit) → Puts S w old new (λ rs. AreBuilt S.term_of w all rs pushed.All)
   building_ends w all rest old new fit is so x = puts_as (λ rs h. all_built w all rest rs fit is so h) x
 
-  pub building_large : (w : W) (all rest : Option Trees → Option Trees) (old new : List R) (fit : Bool) → ((v : Option Trees) → rest v ≡ v) → fit ≡ false → Puts stands w old new (λ rs. AreBuiltBefore term_of w all rest rs fit) → Puts stands w old new (λ rs. AreBuilt term_of w all rs pushed.Oversize)
+  pub building_large : (w : W) (all rest : Option Trees → Option Trees) (old new : List R) (fit : Bool) → ((v : Option Trees) → rest v ≡ v) → fit ≡ false → Puts S w old new (λ rs. AreBuiltBefore S.term_of w all rest rs fit) → Puts S w old new (λ rs. AreBuilt S.term_of w all rs pushed.Oversize)
   building_large w all rest old new fit is so x = puts_as (λ rs h. one_too_large w all rest rs fit is so h) x
 
-  module _ (w w1 : W) (all rest next : Option Trees → Option Trees) (later : (r : R) → IsTrue (stands w r) → IsTrue (stands w1 r)) (same : (r : R) → IsTrue (stands w r) → term_of w1 r ≡ term_of w r) (o : Option Tree) (is : (v : Option Trees) → rest v ≡ with_front o (next v)) where
-    one_made : (rs : List R) (r : R) (fit : Bool) → map (term_of w1) rs ≡ map (term_of w) rs → o ≡ Some (term_of w1 r) → fits (term_of w1 r) ≡ true → AreBuiltBefore term_of w all rest rs fit → AreBuiltBefore term_of w1 all next (rs ++ r ∷ []) fit
+  module _ (w w1 : W) (all rest next : Option Trees → Option Trees) (later : (r : R) → IsTrue (S.stands w r) → IsTrue (S.stands w1 r)) (same : (r : R) → IsTrue (S.stands w r) → S.term_of w1 r ≡ S.term_of w r) (o : Option Tree) (is : (v : Option Trees) → rest v ≡ with_front o (next v)) where
+    one_made : (rs : List R) (r : R) (fit : Bool) → map (S.term_of w1) rs ≡ map (S.term_of w) rs → o ≡ Some (S.term_of w1 r) → fits (S.term_of w1 r) ≡ true → AreBuiltBefore S.term_of w all rest rs fit → AreBuiltBefore S.term_of w1 all next (rs ++ r ∷ []) fit
     one_made rs r true terms at fit h =
-        let them : map (term_of w1) (rs ++ r ∷ []) ≡ map (term_of w) rs ++ term_of w1 r ∷ [] = map-append (term_of w1) rs (r ∷ []) ∙ ap (λ ts. ts ++ term_of w1 r ∷ []) terms in (
-          λ v. h.0 v ∙ (ap (in_front (map (term_of w) rs)) (is v ∙ ap (λ x. with_front x (next v)) at) ∙ (front_push (map (term_of w) rs) (term_of w1 r) (next v) ∙ ap (λ ts. in_front ts (next v)) (sym them))),
-          ap (λ ts. all_fit (trees_of ts)) them ∙ (all_fit-last (map (term_of w) rs) (term_of w1 r) ∙ (ap (λ b. b && fits (term_of w1 r)) h.1 ∙ fit)),
+        let them : map (S.term_of w1) (rs ++ r ∷ []) ≡ map (S.term_of w) rs ++ S.term_of w1 r ∷ [] = map-append (S.term_of w1) rs (r ∷ []) ∙ ap (λ ts. ts ++ S.term_of w1 r ∷ []) terms in (
+          λ v. h.0 v ∙ (ap (in_front (map (S.term_of w) rs)) (is v ∙ ap (λ x. with_front x (next v)) at) ∙ (front_push (map (S.term_of w) rs) (S.term_of w1 r) (next v) ∙ ap (λ ts. in_front ts (next v)) (sym them))),
+          ap (λ ts. all_fit (trees_of ts)) them ∙ (all_fit-last (map (S.term_of w) rs) (S.term_of w1 r) ∙ (ap (λ b. b && fits (S.term_of w1 r)) h.1 ∙ fit)),
         )
     one_made rs r false terms at fit h =
-        (h.0 ++ term_of w1 r ∷ [], λ v. h.1 v ∙ (ap (in_front h.0) (is v ∙ ap (λ x. with_front x (next v)) at) ∙ front_push h.0 (term_of w1 r) (next v)), large_before h.0 (term_of w1 r ∷ []) h.2)
+        (h.0 ++ S.term_of w1 r ∷ [], λ v. h.1 v ∙ (ap (in_front h.0) (is v ∙ ap (λ x. with_front x (next v)) at) ∙ front_push h.0 (S.term_of w1 r) (next v)), large_before h.0 (S.term_of w1 r ∷ []) h.2)
 
-    one_large : (rs : List R) (t : Tree) (fit : Bool) → o ≡ Some t → fits t ≡ false → AreBuiltBefore term_of w all rest rs fit → AreBuiltBefore term_of w1 all next rs false
+    one_large : (rs : List R) (t : Tree) (fit : Bool) → o ≡ Some t → fits t ≡ false → AreBuiltBefore S.term_of w all rest rs fit → AreBuiltBefore S.term_of w1 all next rs false
     one_large rs t true at large h = (
-      map (term_of w) rs ++ t ∷ [],
-      λ v. h.0 v ∙ (ap (in_front (map (term_of w) rs)) (is v ∙ ap (λ x. with_front x (next v)) at) ∙ front_push (map (term_of w) rs) t (next v)),
-      all_fit-last (map (term_of w) rs) t ∙ (ap (λ b. all_fit (trees_of (map (term_of w) rs)) && b) large ∙ false_and (all_fit (trees_of (map (term_of w) rs)))),
+      map (S.term_of w) rs ++ t ∷ [],
+      λ v. h.0 v ∙ (ap (in_front (map (S.term_of w) rs)) (is v ∙ ap (λ x. with_front x (next v)) at) ∙ front_push (map (S.term_of w) rs) t (next v)),
+      all_fit-last (map (S.term_of w) rs) t ∙ (ap (λ b. all_fit (trees_of (map (S.term_of w) rs)) && b) large ∙ false_and (all_fit (trees_of (map (S.term_of w) rs)))),
     )
     one_large rs t false at large h =
         (h.0 ++ t ∷ [], λ v. h.1 v ∙ (ap (in_front h.0) (is v ∙ ap (λ x. with_front x (next v)) at) ∙ front_push h.0 t (next v)), large_before h.0 (t ∷ []) h.2)
 
-    one_none : (rs : List R) (fit : Bool) → o ≡ None → AreBuiltBefore term_of w all rest rs fit → AreBuilt term_of w1 all rs pushed.NoInstance
-    one_none rs true at h = λ v. h.0 v ∙ (ap (in_front (map (term_of w) rs)) (is v ∙ ap (λ x. with_front x (next v)) at) ∙ front_none (map (term_of w) rs))
+    one_none : (rs : List R) (fit : Bool) → o ≡ None → AreBuiltBefore S.term_of w all rest rs fit → AreBuilt S.term_of w1 all rs pushed.NoInstance
+    one_none rs true at h = λ v. h.0 v ∙ (ap (in_front (map (S.term_of w) rs)) (is v ∙ ap (λ x. with_front x (next v)) at) ∙ front_none (map (S.term_of w) rs))
     one_none rs false at h = λ v. h.1 v ∙ (ap (in_front h.0) (is v ∙ ap (λ x. with_front x (next v)) at) ∙ front_none h.0)
 
-    pub building_next : (old middle new : List R) (b : Built R) (kept : Option Bool) (this fit now_fit : Bool) → Builds stands term_of w1 o b → IsKept b kept middle new → kept ≡ Some this → now_fit ≡ (fit && this) →
-        Puts stands w old middle (λ rs. AreBuiltBefore term_of w all rest rs fit) → Puts stands w1 old new (λ rs. AreBuiltBefore term_of w1 all next rs now_fit)
+    pub building_next : (old middle new : List R) (b : Built R) (kept : Option Bool) (this fit now_fit : Bool) → Builds S w1 o b → IsKept b kept middle new → kept ≡ Some this → now_fit ≡ (fit && this) →
+        Puts S w old middle (λ rs. AreBuiltBefore S.term_of w all rest rs fit) → Puts S w1 old new (λ rs. AreBuiltBefore S.term_of w1 all next rs now_fit)
     building_next old middle new (built.Made r) kept this fit now_fit made k at test x =
         let yes_so : this ≡ true = some_same (sym at ∙ k.0) in
         let as_before : now_fit ≡ fit = test ∙ (ap (λ b. fit && b) yes_so ∙ and_true fit) in
         record {
           put = x.put ++ r ∷ [];
           after = k.1 ∙ (ap (λ xs. xs ++ r ∷ []) x.after ∙ append_assoc old x.put (r ∷ []));
-          standing = refs_append (λ u. IsTrue (stands w1 u)) x.put (r ∷ []) (refs_later later x.put x.standing) (made.0, tt);
-          are = subst (λ b. AreBuiltBefore term_of w1 all next (x.put ++ r ∷ []) b) (sym as_before) (one_made x.put r fit (refs_same same x.put x.standing) made.1 made.2 x.are);
+          standing = refs_append (λ u. IsTrue (S.stands w1 u)) x.put (r ∷ []) (refs_later later x.put x.standing) (made.0, tt);
+          are = subst (λ b. AreBuiltBefore S.term_of w1 all next (x.put ++ r ∷ []) b) (sym as_before) (one_made x.put r fit (refs_same same x.put x.standing) made.1 made.2 x.are);
         }
       where
         some_same : {a b : Bool} → Some a ≡ Some b → a ≡ b
@@ -257,14 +257,14 @@ module _ {W R : Type 0} (stands : W → R → Bool) (term_of : W → R → Tree)
           put = x.put;
           after = k.1 ∙ x.after;
           standing = refs_later later x.put x.standing;
-          are = subst (λ b. AreBuiltBefore term_of w1 all next x.put b) (sym not_now) (one_large x.put made.0 fit made.1 made.2 x.are);
+          are = subst (λ b. AreBuiltBefore S.term_of w1 all next x.put b) (sym not_now) (one_large x.put made.0 fit made.1 made.2 x.are);
         }
       where
         some_same : {a b : Bool} → Some a ≡ Some b → a ≡ b
         some_same e = cc
 
-    pub building_stops : (old middle new : List R) (b : Built R) (kept : Option Bool) (fit : Bool) → Builds stands term_of w1 o b → IsKept b kept middle new → kept ≡ None →
-        Puts stands w old middle (λ rs. AreBuiltBefore term_of w all rest rs fit) → Puts stands w1 old new (λ rs. AreBuilt term_of w1 all rs pushed.NoInstance)
+    pub building_stops : (old middle new : List R) (b : Built R) (kept : Option Bool) (fit : Bool) → Builds S w1 o b → IsKept b kept middle new → kept ≡ None →
+        Puts S w old middle (λ rs. AreBuiltBefore S.term_of w all rest rs fit) → Puts S w1 old new (λ rs. AreBuilt S.term_of w1 all rs pushed.NoInstance)
     building_stops old middle new (built.Made r) kept fit made k at x = absurd (differ (sym k.0 ∙ at))
       where
         differ : Some true ≡ None → ⊥
@@ -276,8 +276,8 @@ module _ {W R : Type 0} (stands : W → R → Bool) (term_of : W → R → Tree)
         differ e = cc
 
 -- what was built, for another name of the instance
-pub builds_as : {W R : Type 0} (stands : W → R → Bool) (term_of : W → R → Tree) (w : W) (o other : Option Tree) (b : Built R) → other ≡ o → Builds stands term_of w o b → Builds stands term_of w other b
-builds_as stands term_of w o other b is h = subst (λ x. Builds stands term_of w x b) (sym is) h
+pub builds_as : {W R Y N : Type 0} (S : Space W R Y N) (w : W) (o other : Option Tree) (b : Built R) → other ≡ o → Builds S w o b → Builds S w other b
+builds_as S w o other b is h = subst (λ x. Builds S w x b) (sym is) h
 
 module _ (place : Coordinate → Option ℕ) (e : Bindings) where
   pub instances_are : (ps : List (Pattern Coordinate)) → instances place (patterns_in ps) e ≡ instances_then place e ps (Some end)
@@ -398,25 +398,25 @@ module _ {W R : Type 0} (term_of : W → R → Tree) (w : W) (place : Coordinate
   one_is_large is = let large = subst (λ x. AreBuilt term_of w (instances_then place e ps) rs x) is built_so in sym (ap is_some (instances_are place e ps ∙ (large.1 (Some end) ∙ front_end large.0)))
 
 -- an instance in a later state of the space
-pub same_instance : {W R : Type 0} (stands : W → R → Bool) (term_of : W → R → Tree) (w w1 : W) (place : Coordinate → Option ℕ) (p q : Pattern Coordinate) (slots : Places R) → ((r : R) → IsTrue (stands w r) → term_of w1 r ≡ term_of w r) → AllPlaces (λ r. IsTrue (stands w r)) slots → q ≡ p →
-    instance place q (map (option_map (term_of w1)) slots) ≡ instance place p (map (option_map (term_of w)) slots)
-same_instance stands term_of w w1 place p q slots same all is = ap (λ r. instance place r (map (option_map (term_of w1)) slots)) is ∙ ap (λ e. instance place p e) (places_same (λ r. IsTrue (stands w r)) (term_of w) (term_of w1) same slots all)
+pub same_instance : {W R Y N : Type 0} (S : Space W R Y N) (w w1 : W) (place : Coordinate → Option ℕ) (p q : Pattern Coordinate) (slots : Places R) → ((r : R) → IsTrue (S.stands w r) → S.term_of w1 r ≡ S.term_of w r) → AllPlaces (λ r. IsTrue (S.stands w r)) slots → q ≡ p →
+    instance place q (map (option_map (S.term_of w1)) slots) ≡ instance place p (map (option_map (S.term_of w)) slots)
+same_instance S w w1 place p q slots same all is = ap (λ r. instance place r (map (option_map (S.term_of w1)) slots)) is ∙ ap (λ e. instance place p e) (places_same (λ r. IsTrue (S.stands w r)) (S.term_of w) (S.term_of w1) same slots all)
 
 -- the list at the end of elements stands
-pub tail_stands : {W R : Type 0} (stands : W → R → Bool) (term_of : W → R → Tree) (w : W) (all : Option Trees) (rs : List R) (e : Elements R) → AreElements stands term_of w all rs e → TailStands stands term_of w e
-tail_stands stands term_of w all rs elements.All h = tt
-tail_stands stands term_of w all rs (elements.Before r) h = (h.0, h.1)
-tail_stands stands term_of w all rs elements.NoInstance h = tt
-tail_stands stands term_of w all rs elements.Oversize h = tt
+pub tail_stands : {W R Y N : Type 0} (S : Space W R Y N) (w : W) (all : Option Trees) (rs : List R) (e : Elements R) → AreElements S w all rs e → TailStands S w e
+tail_stands S w all rs elements.All h = tt
+tail_stands S w all rs (elements.Before r) h = (h.0, h.1)
+tail_stands S w all rs elements.NoInstance h = tt
+tail_stands S w all rs elements.Oversize h = tt
 
-pub built_stands : {W R : Type 0} (stands : W → R → Bool) (term_of : W → R → Tree) (w : W) (o : Option Tree) (b : Built R) → Builds stands term_of w o b → BuiltStands (λ r. IsTrue (stands w r)) b
-built_stands stands term_of w o (built.Made r) h = h.0
-built_stands stands term_of w o built.NoInstance h = tt
-built_stands stands term_of w o built.Oversize h = tt
+pub built_stands : {W R Y N : Type 0} (S : Space W R Y N) (w : W) (o : Option Tree) (b : Built R) → Builds S w o b → BuiltStands (λ r. IsTrue (S.stands w r)) b
+built_stands S w o (built.Made r) h = h.0
+built_stands S w o built.NoInstance h = tt
+built_stands S w o built.Oversize h = tt
 
 -- elements, for another name of them
-pub elements_as : {W R : Type 0} (stands : W → R → Bool) (term_of : W → R → Tree) (w : W) (o other : Option Trees) (rs : List R) (e : Elements R) → other ≡ o → AreElements stands term_of w o rs e → AreElements stands term_of w other rs e
-elements_as stands term_of w o other rs e is h = subst (λ x. AreElements stands term_of w x rs e) (sym is) h
+pub elements_as : {W R Y N : Type 0} (S : Space W R Y N) (w : W) (o other : Option Trees) (rs : List R) (e : Elements R) → other ≡ o → AreElements S w o rs e → AreElements S w other rs e
+elements_as S w o other rs e is h = subst (λ x. AreElements S w x rs e) (sym is) h
 
 module _ (place : Coordinate → Option ℕ) (e : Bindings) where
   pub elements_of_list_pattern : (p : Pattern Coordinate) (ps : List (Pattern Coordinate)) (rest : Option (Pattern Coordinate)) → p ≡ list (elements_in ps rest) → elements_of (instance place p e) ≡ element_instances place (elements_in ps rest) e
@@ -447,12 +447,12 @@ module _ (place : Coordinate → Option ℕ) (e : Bindings) where
   rest_goes_on rest p is = ap (λ r. element_instances place (elements_in [] r) e) is
 
 -- the elements of a list: the first ones, and those of the rest in a later state of the space
-pub list_puts : {W R : Type 0} (stands : W → R → Bool) (term_of : W → R → Tree) (w w1 w2 : W) (place : Coordinate → Option ℕ) (slots : Places R) (ps : List (Pattern Coordinate)) (r r1 : Option (Pattern Coordinate)) (p : Pushed) (others v : Elements R) (old middle new : List R) →
-    AllPlaces (λ u. IsTrue (stands w u)) slots → ((u : R) → IsTrue (stands w u) → term_of w1 u ≡ term_of w u) → r1 ≡ r → ((u : R) → IsTrue (stands w1 u) → IsTrue (stands w2 u)) → ((u : R) → IsTrue (stands w1 u) → term_of w2 u ≡ term_of w1 u) → v ≡ joined_elements p others →
-    Puts stands w1 old middle (λ rs. AreBuilt term_of w1 (instances_then place (map (option_map (term_of w)) slots) ps) rs p) →
-    Puts stands w2 middle new (λ rs. AreElements stands term_of w2 (element_instances place (elements_in [] r1) (map (option_map (term_of w1)) slots)) rs others) →
-    Puts stands w2 old new (λ rs. AreElements stands term_of w2 (element_instances place (elements_in ps r) (map (option_map (term_of w)) slots)) rs v)
-list_puts stands term_of w w1 w2 place slots ps r r1 p others v old middle new all same same_rest later same_later at x y =
-    joined_puts stands term_of w2 (instances_then place (map (option_map (term_of w)) slots) ps) w1 (element_instances place (elements_in ps r) (map (option_map (term_of w)) slots)) (element_instances place (elements_in [] r1) (map (option_map (term_of w1)) slots)) p others v old middle new later same_later
-    (elements_are place (map (option_map (term_of w)) slots) ps r ∙ ap (instances_then place (map (option_map (term_of w)) slots) ps)
-    (ap (λ q. element_instances place (elements_in [] q) (map (option_map (term_of w)) slots)) (sym same_rest) ∙ ap (λ e. element_instances place (elements_in [] r1) e) (sym (places_same (λ u. IsTrue (stands w u)) (term_of w) (term_of w1) same slots all)))) at x y
+pub list_puts : {W R Y N : Type 0} (S : Space W R Y N) (w w1 w2 : W) (place : Coordinate → Option ℕ) (slots : Places R) (ps : List (Pattern Coordinate)) (r r1 : Option (Pattern Coordinate)) (p : Pushed) (others v : Elements R) (old middle new : List R) →
+    AllPlaces (λ u. IsTrue (S.stands w u)) slots → ((u : R) → IsTrue (S.stands w u) → S.term_of w1 u ≡ S.term_of w u) → r1 ≡ r → ((u : R) → IsTrue (S.stands w1 u) → IsTrue (S.stands w2 u)) → ((u : R) → IsTrue (S.stands w1 u) → S.term_of w2 u ≡ S.term_of w1 u) → v ≡ joined_elements p others →
+    Puts S w1 old middle (λ rs. AreBuilt S.term_of w1 (instances_then place (map (option_map (S.term_of w)) slots) ps) rs p) →
+    Puts S w2 middle new (λ rs. AreElements S w2 (element_instances place (elements_in [] r1) (map (option_map (S.term_of w1)) slots)) rs others) →
+    Puts S w2 old new (λ rs. AreElements S w2 (element_instances place (elements_in ps r) (map (option_map (S.term_of w)) slots)) rs v)
+list_puts S w w1 w2 place slots ps r r1 p others v old middle new all same same_rest later same_later at x y =
+    joined_puts S w2 (instances_then place (map (option_map (S.term_of w)) slots) ps) w1 (element_instances place (elements_in ps r) (map (option_map (S.term_of w)) slots)) (element_instances place (elements_in [] r1) (map (option_map (S.term_of w1)) slots)) p others v old middle new later same_later
+    (elements_are place (map (option_map (S.term_of w)) slots) ps r ∙ ap (instances_then place (map (option_map (S.term_of w)) slots) ps)
+    (ap (λ q. element_instances place (elements_in [] q) (map (option_map (S.term_of w)) slots)) (sym same_rest) ∙ ap (λ e. element_instances place (elements_in [] r1) e) (sym (places_same (λ u. IsTrue (S.stands w u)) (S.term_of w) (S.term_of w1) same slots all)))) at x y

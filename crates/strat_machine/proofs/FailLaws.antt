@@ -1,20 +1,17 @@
 -- Steps after a failure, of the Rust machine.
 use Rattle.std.proofs.Common.{◌≡◌, ℕ, zero, suc, ◌-◌, Option, Some, None, List, [], ◌∷◌, length, take, drop, refl, sym, ◌∙◌, ap, subst, arith}
-use Rattle.std.specs.Prelude.{Bool, true, false, IsTrue, MatchOption}
-use Rattle.term_model.specs.Symbol.{Symbol}
-use Rattle.term_model.specs.Term.{Tree}
+use Rattle.std.specs.Prelude.{Bool, true, false, MatchOption}
 use Rattle.term_model.specs.Flat.{Meaning}
-use Rattle.term_model.specs.Space as trait
 use Rattle.strat_code.specs.Code.{Code}
 use Rattle.strat_steps.specs.State as state
 use Rattle.strat_steps.specs.State.{Frame}
 use Rattle.strat_steps.specs.Binding.{undone, above, down_to}
-use Rattle.strat_steps.specs.Space.{Space, IsMark, GoesBack}
-use Rattle.strat_machine.specs.SpaceOf.{space_of}
+use Rattle.term_model.specs.Space.{Space, GoesBack, IsMark}
 use Rattle.strat_steps.specs.References.{Places, RefRecord, ref_all, ref_one, ref_some, RefState, ref_running, ref_failing}
-use Rattle.strat_steps.specs.ReferenceSteps.{StepRef, fails_one_last, fails_one_next, fails_some_none, fails_some_last, fails_some_next}
+use Rattle.strat_steps.specs.ReferenceSteps.{StepRef, fails_call, fails_one_last, fails_one_next, fails_some_none, fails_some_last, fails_some_next}
 use Rattle.strat_steps.specs.Marks.{Safe}
 use Rattle.strat_machine.specs.PlaceStack.{PlaceStack}
+use Rattle.strat_machine.specs.CompactRecords.{HasNoCall}
 use Rattle.strat_machine.specs.RecordStack.{saved_of, records_in, records_of, with_record}
 use Rattle.strat_machine.specs.declared.records.Saved.{Saved}
 use Rattle.strat_machine.specs.declared.records.Traversed.{Traversed}
@@ -36,17 +33,6 @@ part_taken (suc n) old new (Some r) some h =
       ap (take (suc n)) h ∙ ap (λ j. r ∷ take j new) (sym k),
       ap (drop (suc n)) h ∙ ap (λ j. drop j new) (sym k),
     )
-
--- going back in a space
-pub back_is : {W R Y N : Type 0} {stands : W → R → Bool} {term_of : W → R → Tree} {is_valid : W → Y → Bool} {knows : W → N → Bool} {symbol_of : W → N → Symbol} {covers : Y → R → Bool} {covers_mark : Y → Y → Bool} {m : Y} {w w1 : W} →
-    IsTrue (is_valid w m) → trait.GoesBack stands term_of is_valid knows symbol_of covers covers_mark m w w1 → GoesBack (space_of stands term_of is_valid covers covers_mark) w m w1
-back_is v h = record {
-  was_valid = v;
-  stands = λ r c. (h.exactly r).1 c;
-  only = λ r s. (h.exactly r).0 s;
-  terms = h.terms;
-  marks = h.valid;
-}
 
 -- the same parts after a traversal's record is off
 module _ {R Y : Type 0} (rs np : Records R Y) (kept : np ≡ record rs { left = np.left }) where
@@ -118,14 +104,14 @@ pub same_running : {R Y : Type 0} {i p b d l : ℕ} {t : R} {e f : Places R} {F 
     ref_running i p t e F T b K l ≡ ref_running i p t f G U d L l
 same_running e F T b K = cc
 
-module _ {W R Y : Type 0} {S : Space W R Y} {code : Code} {M : Meaning} {w w1 : W} where
+module _ {W R Y N : Type 0} {S : Space W R Y N} {code : Code} {M : Meaning} {w w1 : W} where
   pub step_to : {m n n1 : RefState R Y} → StepRef S code M w m w1 n → n ≡ n1 → StepRef S code M w m w1 n1
   step_to {m} x is = subst (λ n. StepRef S code M w m w1 n) is x
 
   pub step_from : {m m1 n : RefState R Y} → StepRef S code M w m w1 n → m ≡ m1 → StepRef S code M w m1 w1 n
   step_from {n = n} x is = subst (λ m. StepRef S code M w m w1 n) is x
 
-module _ {W R Y : Type 0} {S : Space W R Y} {code : Code} {M : Meaning} {w w1 : W} {e : Places R} {F F1 : List Frame} {T : List ℕ} {b l q k h d : ℕ} {P : PlaceStack R} (mark : Y) (back : GoesBack S w mark w1)
+module _ {W R Y N : Type 0} {S : Space W R Y N} {code : Code} {M : Meaning} {w w1 : W} {e : Places R} {F F1 : List Frame} {T : List ℕ} {b l q k h d : ℕ} {P : PlaceStack R} (mark : Y) (back : GoesBack S w mark w1)
     (restored : P ≡ record { slots = take b (undone (above h T) e); trail = down_to h T; barrier = d }) (fewer : F1 ≡ take k F) (rs : Records R Y) {np : Records R Y} (kept : np ≡ record rs { left = np.left }) (v : Traversed R) (part : R) where
   pub one_ends : (cut : Records R Y) → take v.left rs.left ≡ [] → np.left ≡ rs.left → cut ≡ record { records = np.records; done = drop v.done np.done; left = drop v.left np.left } →
       StepRef S code M w (ref_failing e F T b (with_record (records.One v part (record { frame = q; frames = k; height = h; barrier = d }) mark) rs) l) w1 (ref_failing P.slots F1 P.trail P.barrier (records_of cut) l)
@@ -195,10 +181,16 @@ module _ {W R Y : Type 0} {S : Space W R Y} {code : Code} {M : Meaning} {w w1 : 
         (ap (λ us. ref_failing e F T b (ref_some v.body v.next_address v.whole (take v.done rs.done) part us found (state.saved q k h d) mark ∷ K0) l) (sym taken))
 
 -- the newest record is taken off
-module _ {W R Y : Type 0} {S : Space W R Y} {w : W} {e : Places R} {T : List ℕ} {b : ℕ} {old new : List (Record R Y)} {r v : Record R Y} (D E : List R) where
+module _ {W R Y N : Type 0} {S : Space W R Y N} {w : W} {e : Places R} {T : List ℕ} {b : ℕ} {old new : List (Record R Y)} {r v : Record R Y} (D E : List R) where
   pub safe_at : Safe S w e T b (records_in old D E) → old ≡ v ∷ new → v ≡ r → Safe S w e T b (records_in (r ∷ new) D E)
   safe_at safe popped is = subst (λ x. Safe S w e T b (records_in (x ∷ new) D E)) is (subst (λ rs. Safe S w e T b (records_in rs D E)) popped safe)
 
   pub step_at : {code : Code} {M : Meaning} {w1 : W} {F : List Frame} {l : ℕ} {n : RefState R Y} → StepRef S code M w (ref_failing e F T b (records_in (r ∷ new) D E) l) w1 n → old ≡ v ∷ new → v ≡ r →
       StepRef S code M w (ref_failing e F T b (records_in old D E) l) w1 n
   step_at {F = F} {l} x popped is = step_from x (ap (λ y. ref_failing e F T b (records_in (y ∷ new) D E) l) (sym is) ∙ ap (λ rs. ref_failing e F T b (records_in rs D E) l) (sym popped))
+
+-- the record of a call is taken off
+pub fails_popped : {W R Y N : Type 0} {S : Space W R Y N} {code : Code} {M : Meaning} {w : W} {e : Places R} {F : List Frame} {T : List ℕ} {b l : ℕ} (L K : List (Record R Y)) (D E : List R) (o : Option (ℕ × ℕ)) →
+    MatchOption o ((K ≡ L) × HasNoCall L) (λ c. L ≡ records.Call c.0 c.1 ∷ K) → (HasNoCall L → ⊥) → StepRef S code M w (ref_failing e F T b (records_in L D E) l) w (ref_failing e F T b (records_in K D E) l)
+fails_popped L K D E None h call = absurd (call h.1)
+fails_popped {e = e} {F} {T} {b} {l} L K D E (Some c) h call = step_from fails_call (ap (λ rs. ref_failing e F T b (records_in rs D E) l) (sym h))

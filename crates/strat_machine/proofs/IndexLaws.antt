@@ -13,7 +13,7 @@ use Rattle.std.proofs.lemmas.Option.{slice_get_within}
 use Rattle.strat_machine.specs.declared.tables.LoadedCase.{LoadedCase}
 use Rattle.strat_machine.specs.declared.index.Groups.{Groups}
 use Rattle.strat_machine.specs.Indexing.{nodes_before, sums_from, group_at, entries_for, OneMore, as_before, one_added, PutsInto, number_in, AreGrouped, IsFirstIn, IsFirst}
-use Rattle.strat_machine.proofs.OperandLaws.{taken}
+use Rattle.strat_machine.proofs.TableLaws.{taken}
 
 -- sums of nodes
 module _ {N : Type 0} where

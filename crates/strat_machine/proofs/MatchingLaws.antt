@@ -9,7 +9,7 @@ use Rattle.term_model.specs.Symbol.{Symbol}
 use Rattle.term_model.specs.declared.term.Head.TheVariants as heads
 use Rattle.term_model.specs.Term.{Tree, node, Trees, end, more, term, head_of, parts_of, annos_of, list_of, trees_of}
 use Rattle.term_model.specs.Same.{same, same_head, same-refl, same-true}
-use Rattle.term_model.specs.Space.{Keeps, Pushes}
+use Rattle.term_model.specs.Space.{Space, Keeps, Pushes}
 use Rattle.term_model.proofs.TermLemmas.{trees_of-list_of}
 use Rattle.core_lang.specs.declared.coordinate.Coordinate.{Coordinate}
 use Rattle.core_lang.specs.Environment.{Bindings}
@@ -36,26 +36,26 @@ binds_then : {R : Type 0} {P : R → Type 0} {b : ℕ} {e f g : Places R} {T U V
 binds_then binds_none y = y
 binds_then (binds_one i r free p x) y = binds_one i r free p (binds_then x y)
 
-module _ {W R : Type 0} {stands : W → R → Bool} {term_of : W → R → Tree} {b : ℕ} where
-  pub goes_at_once : {whole rest : Bindings → List ℕ → Attempt} {w : W} {e : Places R} {T : List ℕ} → AllPlaces (λ r. IsTrue (stands w r)) e →
-      whole (map (option_map (term_of w)) e) T ≡ rest (map (option_map (term_of w)) e) T → Goes stands term_of b whole rest w e T w e T
+module _ {W R Y N : Type 0} {S : Space W R Y N} {b : ℕ} where
+  pub goes_at_once : {whole rest : Bindings → List ℕ → Attempt} {w : W} {e : Places R} {T : List ℕ} → AllPlaces (λ r. IsTrue (S.stands w r)) e →
+      whole (map (option_map (S.term_of w)) e) T ≡ rest (map (option_map (S.term_of w)) e) T → Goes S b whole rest w e T w e T
   goes_at_once all is = record { bound = binds_none; standing = all; comes_to = is }
 
-  pub goes_then : {whole middle rest : Bindings → List ℕ → Attempt} {w w1 w2 : W} {e f g : Places R} {T U V : List ℕ} → Goes stands term_of b whole middle w e T w1 f U → ((r : R) → IsTrue (stands w1 r) → IsTrue (stands w2 r)) →
-      Goes stands term_of b middle rest w1 f U w2 g V → Goes stands term_of b whole rest w e T w2 g V
+  pub goes_then : {whole middle rest : Bindings → List ℕ → Attempt} {w w1 w2 : W} {e f g : Places R} {T U V : List ℕ} → Goes S b whole middle w e T w1 f U → ((r : R) → IsTrue (S.stands w1 r) → IsTrue (S.stands w2 r)) →
+      Goes S b middle rest w1 f U w2 g V → Goes S b whole rest w e T w2 g V
   goes_then x later y = record { bound = binds_then (binds_later later x.bound) y.bound; standing = y.standing; comes_to = x.comes_to ∙ y.comes_to }
 
   pub goes_as : {whole whole1 rest rest1 : Bindings → List ℕ → Attempt} {w w1 : W} {e f : Places R} {T U : List ℕ} → ((g : Bindings) (V : List ℕ) → whole1 g V ≡ whole g V) → ((g : Bindings) (V : List ℕ) → rest g V ≡ rest1 g V) →
-      Goes stands term_of b whole rest w e T w1 f U → Goes stands term_of b whole1 rest1 w e T w1 f U
+      Goes S b whole rest w e T w1 f U → Goes S b whole1 rest1 w e T w1 f U
   goes_as before after x = record { bound = x.bound; standing = x.standing; comes_to = before _ _ ∙ (x.comes_to ∙ after _ _) }
 
-  pub goes_and : {one : Bindings → List ℕ → Attempt} {w w1 : W} {e f : Places R} {T U : List ℕ} (go : Bindings → List ℕ → Attempt) (test : Bool) → test ≡ true → Goes stands term_of b one (attempt test) w e T w1 f U →
-      Goes stands term_of b (λ g V. and_go (one g V) go) go w e T w1 f U
+  pub goes_and : {one : Bindings → List ℕ → Attempt} {w w1 : W} {e f : Places R} {T U : List ℕ} (go : Bindings → List ℕ → Attempt) (test : Bool) → test ≡ true → Goes S b one (attempt test) w e T w1 f U →
+      Goes S b (λ g V. and_go (one g V) go) go w e T w1 f U
   goes_and go true is x = record { bound = x.bound; standing = x.standing; comes_to = ap (λ a. and_go a go) x.comes_to }
   goes_and go false is x = absurd (cc)
 
-  pub goes_not : {one : Bindings → List ℕ → Attempt} {w w1 : W} {e f : Places R} {T U : List ℕ} (go : Bindings → List ℕ → Attempt) (test : Bool) → test ≡ false → Goes stands term_of b one (attempt test) w e T w1 f U →
-      Goes stands term_of b (λ g V. and_go (one g V) go) (attempt false) w e T w1 f U
+  pub goes_not : {one : Bindings → List ℕ → Attempt} {w w1 : W} {e f : Places R} {T U : List ℕ} (go : Bindings → List ℕ → Attempt) (test : Bool) → test ≡ false → Goes S b one (attempt test) w e T w1 f U →
+      Goes S b (λ g V. and_go (one g V) go) (attempt false) w e T w1 f U
   goes_not go true is x = absurd (cc)
   goes_not go false is x = record { bound = x.bound; standing = x.standing; comes_to = ap (λ a. and_go a go) x.comes_to }
 
@@ -106,14 +106,14 @@ held_stands P (Some u ∷ e) zero r h is = let q : u ≡ r = cc in subst P q h.0
 held_stands P (None ∷ e) (suc i) r h is = held_stands P e i r h is
 held_stands P (Some u ∷ e) (suc i) r h is = held_stands P e i r h.1 is
 
-module _ {W R : Type 0} {stands : W → R → Bool} {term_of : W → R → Tree} {w : W} where
-  pub goes_given : (o : Option ℕ) (t : Tree) (old new : PlaceStack R) (i : ℕ) (r : R) → AllPlaces (λ u. IsTrue (stands w u)) old.slots → o ≡ Some i → slice_get old.slots i ≡ Some None → IsTrue (stands w r) → term_of w r ≡ t →
+module _ {W R Y N : Type 0} {S : Space W R Y N} {w : W} where
+  pub goes_given : (o : Option ℕ) (t : Tree) (old new : PlaceStack R) (i : ℕ) (r : R) → AllPlaces (λ u. IsTrue (S.stands w u)) old.slots → o ≡ Some i → slice_get old.slots i ≡ Some None → IsTrue (S.stands w r) → S.term_of w r ≡ t →
       new ≡ record old { slots = with_term i r old.slots; trail = (if nat_lt i old.barrier then i ∷ old.trail else old.trail) } →
-      Goes stands term_of old.barrier (bind old.barrier o t) (attempt true) w old.slots old.trail w new.slots new.trail
-  goes_given o t old new i r all is at stands_too same becomes = subst (λ n. Goes stands term_of old.barrier (bind old.barrier o t) (attempt true) w old.slots old.trail w n.slots n.trail) (sym becomes) (record {
+      Goes S old.barrier (bind old.barrier o t) (attempt true) w old.slots old.trail w new.slots new.trail
+  goes_given o t old new i r all is at stands_too same becomes = subst (λ n. Goes S old.barrier (bind old.barrier o t) (attempt true) w old.slots old.trail w n.slots n.trail) (sym becomes) (record {
     bound = binds_one i r at stands_too binds_none;
-    standing = all_with (λ u. IsTrue (stands w u)) i r old.slots stands_too all;
-    comes_to = bind_free (term_of w) old.barrier o t old.slots old.trail i r is at same;
+    standing = all_with (λ u. IsTrue (S.stands w u)) i r old.slots stands_too all;
+    comes_to = bind_free (S.term_of w) old.barrier o t old.slots old.trail i r is at same;
   })
 
 -- several patterns with the parts of a term
@@ -283,80 +283,80 @@ mapped_at f [] i x h is = absurd (omega arith)
 mapped_at f (y ∷ xs) zero x h is = ap (λ z. Some (f z)) (sym is)
 mapped_at f (y ∷ xs) (suc i) x h is = mapped_at f xs i x (omega arith) is
 
-module _ {W R M N : Type 0} {stands : W → R → Bool} {term_of : W → R → Tree} {is_valid : W → M → Bool} {knows : W → N → Bool} {symbol_of : W → N → Symbol} where
+module _ {W R Y N : Type 0} {S : Space W R Y N} where
   -- a part of a term, or an annotation, is that of the term as it was
-  pub part_was : {w w1 : W} {t : Tree} (some_of : Tree → List Tree) (at : R) (i : ℕ) → Keeps stands term_of is_valid knows symbol_of w w1 → IsTrue (stands w at) → slice_get (some_of (term_of w1 at)) i ≡ Some t → slice_get (some_of (term_of w at)) i ≡ Some t
+  pub part_was : {w w1 : W} {t : Tree} (some_of : Tree → List Tree) (at : R) (i : ℕ) → Keeps S w w1 → IsTrue (S.stands w at) → slice_get (some_of (S.term_of w1 at)) i ≡ Some t → slice_get (some_of (S.term_of w at)) i ≡ Some t
   part_was some_of at i keeps here_at part = ap (λ u. slice_get (some_of u) i) (sym (keeps.terms at here_at)) ∙ part
 
   -- a reference of several stands, and its term is as it was
-  pub ref_stands : {w w1 : W} (rs : List R) (i : ℕ) (r : R) → Keeps stands term_of is_valid knows symbol_of w w1 → AllRefs (λ u. IsTrue (stands w u)) rs → i < length rs → r ≡ get_or rs i r → IsTrue (stands w1 r)
-  ref_stands {w} rs i r keeps all within is = keeps.standing r (ref_at (λ u. IsTrue (stands w u)) rs i r all within is)
+  pub ref_stands : {w w1 : W} (rs : List R) (i : ℕ) (r : R) → Keeps S w w1 → AllRefs (λ u. IsTrue (S.stands w u)) rs → i < length rs → r ≡ get_or rs i r → IsTrue (S.stands w1 r)
+  ref_stands {w} rs i r keeps all within is = keeps.standing r (ref_at (λ u. IsTrue (S.stands w u)) rs i r all within is)
 
-  pub ref_was : {w w1 : W} (rs : List R) (i : ℕ) (r : R) → Keeps stands term_of is_valid knows symbol_of w w1 → AllRefs (λ u. IsTrue (stands w u)) rs → i < length rs → r ≡ get_or rs i r → slice_get (map (term_of w) rs) i ≡ Some (term_of w1 r)
-  ref_was {w} rs i r keeps all within is = mapped_at (term_of w) rs i r within is ∙ ap (λ t. Some t) (sym (keeps.terms r (ref_at (λ u. IsTrue (stands w u)) rs i r all within is)))
+  pub ref_was : {w w1 : W} (rs : List R) (i : ℕ) (r : R) → Keeps S w w1 → AllRefs (λ u. IsTrue (S.stands w u)) rs → i < length rs → r ≡ get_or rs i r → slice_get (map (S.term_of w) rs) i ≡ Some (S.term_of w1 r)
+  ref_was {w} rs i r keeps all within is = mapped_at (S.term_of w) rs i r within is ∙ ap (λ t. Some t) (sym (keeps.terms r (ref_at (λ u. IsTrue (S.stands w u)) rs i r all within is)))
 
-module _ {W R M N : Type 0} {stands : W → R → Bool} {term_of : W → R → Tree} {is_valid : W → M → Bool} {knows : W → N → Bool} {symbol_of : W → N → Symbol} (place : Coordinate → Option ℕ) where
+module _ {W R Y N : Type 0} {S : Space W R Y N} (place : Coordinate → Option ℕ) where
   -- one pattern of several, and the others after it, with several terms
-  one_goes : {w w1 : W} {e f : Places R} {T U : List ℕ} {b : ℕ} (ps : List (LoadedPattern N)) (ts : List Tree) (i : ℕ) (p : LoadedPattern N) (t : Tree) → AllKnown (knows w) ps → Keeps stands term_of is_valid knows symbol_of w w1 →
+  one_goes : {w w1 : W} {e f : Places R} {T U : List ℕ} {b : ℕ} (ps : List (LoadedPattern N)) (ts : List Tree) (i : ℕ) (p : LoadedPattern N) (t : Tree) → AllKnown (S.knows w) ps → Keeps S w w1 →
       i < length ps → p ≡ get_or ps i p → slice_get ts i ≡ Some t →
-      Goes stands term_of b (first_attempted place b (map (loaded_of (symbol_of w)) ps) ts) (first_attempted place b (drop i (map (loaded_of (symbol_of w)) ps)) (drop i ts)) w e T w1 f U →
-      Goes stands term_of b (first_attempted place b (map (loaded_of (symbol_of w)) ps) ts)
-      (λ g V. and_go (attempted place b (loaded_of (symbol_of w1) p) t g V) (λ g1 V1. first_attempted place b (drop (suc i) (map (loaded_of (symbol_of w)) ps)) (drop (suc i) ts) g1 V1)) w e T w1 f U
+      Goes S b (first_attempted place b (map (loaded_of (S.symbol_of w)) ps) ts) (first_attempted place b (drop i (map (loaded_of (S.symbol_of w)) ps)) (drop i ts)) w e T w1 f U →
+      Goes S b (first_attempted place b (map (loaded_of (S.symbol_of w)) ps) ts)
+      (λ g V. and_go (attempted place b (loaded_of (S.symbol_of w1) p) t g V) (λ g1 V1. first_attempted place b (drop (suc i) (map (loaded_of (S.symbol_of w)) ps)) (drop (suc i) ts) g1 V1)) w e T w1 f U
   one_goes {w} {w1} {b = b} ps ts i p t known keeps within is part x =
-      let pattern = mapped_at (loaded_of (symbol_of w)) ps i p within is ∙ ap (λ q. Some q) (sym (loaded_same (knows w) (symbol_of w) (symbol_of w1) keeps.symbols p (known_at (knows w) ps i p known within is))) in
-      goes_as (λ g V. refl) (λ g V. first_step place b (map (loaded_of (symbol_of w)) ps) ts i (loaded_of (symbol_of w1) p) t g V pattern part) x
+      let pattern = mapped_at (loaded_of (S.symbol_of w)) ps i p within is ∙ ap (λ q. Some q) (sym (loaded_same (S.knows w) (S.symbol_of w) (S.symbol_of w1) keeps.symbols p (known_at (S.knows w) ps i p known within is))) in
+      goes_as (λ g V. refl) (λ g V. first_step place b (map (loaded_of (S.symbol_of w)) ps) ts i (loaded_of (S.symbol_of w1) p) t g V pattern part) x
 
-  pub match_next : {w w1 w2 : W} {e f g : Places R} {T U V : List ℕ} {b : ℕ} (ps : List (LoadedPattern N)) (ts : List Tree) (i : ℕ) (p : LoadedPattern N) (t : Tree) (test : Bool) (d : ℕ) → AllKnown (knows w) ps → Keeps stands term_of is_valid knows symbol_of w w1 →
+  pub match_next : {w w1 w2 : W} {e f g : Places R} {T U V : List ℕ} {b : ℕ} (ps : List (LoadedPattern N)) (ts : List Tree) (i : ℕ) (p : LoadedPattern N) (t : Tree) (test : Bool) (d : ℕ) → AllKnown (S.knows w) ps → Keeps S w w1 →
       i < length ps → p ≡ get_or ps i p → slice_get ts i ≡ Some t →
-      Goes stands term_of b (first_attempted place b (map (loaded_of (symbol_of w)) ps) ts) (first_attempted place b (drop i (map (loaded_of (symbol_of w)) ps)) (drop i ts)) w e T w1 f U →
-      Keeps stands term_of is_valid knows symbol_of w1 w2 → d ≡ b → test ≡ true → Goes stands term_of d (attempted place d (loaded_of (symbol_of w1) p) t) (attempt test) w1 f U w2 g V →
-      Goes stands term_of b (first_attempted place b (map (loaded_of (symbol_of w)) ps) ts) (first_attempted place b (drop (i + 1) (map (loaded_of (symbol_of w)) ps)) (drop (i + 1) ts)) w e T w2 g V
+      Goes S b (first_attempted place b (map (loaded_of (S.symbol_of w)) ps) ts) (first_attempted place b (drop i (map (loaded_of (S.symbol_of w)) ps)) (drop i ts)) w e T w1 f U →
+      Keeps S w1 w2 → d ≡ b → test ≡ true → Goes S d (attempted place d (loaded_of (S.symbol_of w1) p) t) (attempt test) w1 f U w2 g V →
+      Goes S b (first_attempted place b (map (loaded_of (S.symbol_of w)) ps) ts) (first_attempted place b (drop (i + 1) (map (loaded_of (S.symbol_of w)) ps)) (drop (i + 1) ts)) w e T w2 g V
   match_next {w} {w1} {w2} {f = f} {g = g} {U = U} {V = V} {b = b} ps ts i p t test d known keeps within is part x later same_barrier so y =
-      let own = subst (λ d. Goes stands term_of d (attempted place d (loaded_of (symbol_of w1) p) t) (attempt test) w1 f U w2 g V) same_barrier y in
-      rw add-one (goes_then (one_goes ps ts i p t known keeps within is part x) later.standing (goes_and (λ g1 V1. first_attempted place b (drop (suc i) (map (loaded_of (symbol_of w)) ps)) (drop (suc i) ts) g1 V1) test so own))
+      let own = subst (λ d. Goes S d (attempted place d (loaded_of (S.symbol_of w1) p) t) (attempt test) w1 f U w2 g V) same_barrier y in
+      rw add-one (goes_then (one_goes ps ts i p t known keeps within is part x) later.standing (goes_and (λ g1 V1. first_attempted place b (drop (suc i) (map (loaded_of (S.symbol_of w)) ps)) (drop (suc i) ts) g1 V1) test so own))
 
-  pub match_stops : {w w1 w2 : W} {e f g : Places R} {T U V : List ℕ} {b : ℕ} (ps : List (LoadedPattern N)) (ts : List Tree) (i : ℕ) (p : LoadedPattern N) (t : Tree) (test : Bool) (d : ℕ) → AllKnown (knows w) ps → Keeps stands term_of is_valid knows symbol_of w w1 →
+  pub match_stops : {w w1 w2 : W} {e f g : Places R} {T U V : List ℕ} {b : ℕ} (ps : List (LoadedPattern N)) (ts : List Tree) (i : ℕ) (p : LoadedPattern N) (t : Tree) (test : Bool) (d : ℕ) → AllKnown (S.knows w) ps → Keeps S w w1 →
       i < length ps → p ≡ get_or ps i p → slice_get ts i ≡ Some t →
-      Goes stands term_of b (first_attempted place b (map (loaded_of (symbol_of w)) ps) ts) (first_attempted place b (drop i (map (loaded_of (symbol_of w)) ps)) (drop i ts)) w e T w1 f U →
-      Keeps stands term_of is_valid knows symbol_of w1 w2 → d ≡ b → test ≡ false → Goes stands term_of d (attempted place d (loaded_of (symbol_of w1) p) t) (attempt test) w1 f U w2 g V →
-      Goes stands term_of b (first_attempted place b (map (loaded_of (symbol_of w)) ps) ts) (attempt false) w e T w2 g V
+      Goes S b (first_attempted place b (map (loaded_of (S.symbol_of w)) ps) ts) (first_attempted place b (drop i (map (loaded_of (S.symbol_of w)) ps)) (drop i ts)) w e T w1 f U →
+      Keeps S w1 w2 → d ≡ b → test ≡ false → Goes S d (attempted place d (loaded_of (S.symbol_of w1) p) t) (attempt test) w1 f U w2 g V →
+      Goes S b (first_attempted place b (map (loaded_of (S.symbol_of w)) ps) ts) (attempt false) w e T w2 g V
   match_stops {w} {w1} {w2} {f = f} {g = g} {U = U} {V = V} {b = b} ps ts i p t test d known keeps within is part x later same_barrier so y =
-      let own = subst (λ d. Goes stands term_of d (attempted place d (loaded_of (symbol_of w1) p) t) (attempt test) w1 f U w2 g V) same_barrier y in
-      goes_then (one_goes ps ts i p t known keeps within is part x) later.standing (goes_not (λ g1 V1. first_attempted place b (drop (suc i) (map (loaded_of (symbol_of w)) ps)) (drop (suc i) ts) g1 V1) test so own)
+      let own = subst (λ d. Goes S d (attempted place d (loaded_of (S.symbol_of w1) p) t) (attempt test) w1 f U w2 g V) same_barrier y in
+      goes_then (one_goes ps ts i p t known keeps within is part x) later.standing (goes_not (λ g1 V1. first_attempted place b (drop (suc i) (map (loaded_of (S.symbol_of w)) ps)) (drop (suc i) ts) g1 V1) test so own)
 
 -- several patterns with references that were pushed
-module _ {W R : Type 0} {stands : W → R → Bool} {term_of : W → R → Tree} {w : W} {ts : List Tree} {old new rs : List R} (pushed : Pushes stands term_of w ts old new) (none : old ≡ []) (same : rs ≡ new) where
+module _ {W R Y N : Type 0} {S : Space W R Y N} {w : W} {ts : List Tree} {old new rs : List R} (pushed : Pushes S w ts old new) (none : old ≡ []) (same : rs ≡ new) where
   pushed_is : rs ≡ pushed.pushed
   pushed_is = same ∙ (pushed.after ∙ ap (λ us. us ++ pushed.pushed) none)
 
-  pushed_are : map (term_of w) rs ≡ ts
-  pushed_are = ap (λ us. map (term_of w) us) pushed_is ∙ pushed.are
+  pushed_are : map (S.term_of w) rs ≡ ts
+  pushed_are = ap (λ us. map (S.term_of w) us) pushed_is ∙ pushed.are
 
-  pub pushed_stand : AllRefs (λ r. IsTrue (stands w r)) rs
-  pushed_stand = subst (λ us. AllRefs (λ r. IsTrue (stands w r)) us) (sym pushed_is) (refs_of_all (λ r. IsTrue (stands w r)) pushed.pushed pushed.standing)
+  pub pushed_stand : AllRefs (λ r. IsTrue (S.stands w r)) rs
+  pushed_stand = subst (λ us. AllRefs (λ r. IsTrue (S.stands w r)) us) (sym pushed_is) (refs_of_all (λ r. IsTrue (S.stands w r)) pushed.pushed pushed.standing)
 
-  pub pushed_goes : {w1 : W} {e f : Places R} {T U : List ℕ} {b : ℕ} (place : Coordinate → Option ℕ) (ps : List (Pattern Coordinate)) (test : Bool) → Goes stands term_of b (first_attempted place b ps (map (term_of w) rs)) (attempt test) w e T w1 f U →
-      Goes stands term_of b (first_attempted place b ps ts) (attempt test) w e T w1 f U
-  pushed_goes {w1} {e} {f} {T} {U} {b} place ps test x = subst (λ us. Goes stands term_of b (first_attempted place b ps us) (attempt test) w e T w1 f U) pushed_are x
+  pub pushed_goes : {w1 : W} {e f : Places R} {T U : List ℕ} {b : ℕ} (place : Coordinate → Option ℕ) (ps : List (Pattern Coordinate)) (test : Bool) → Goes S b (first_attempted place b ps (map (S.term_of w) rs)) (attempt test) w e T w1 f U →
+      Goes S b (first_attempted place b ps ts) (attempt test) w e T w1 f U
+  pushed_goes {w1} {e} {f} {T} {U} {b} place ps test x = subst (λ us. Goes S b (first_attempted place b ps us) (attempt test) w e T w1 f U) pushed_are x
 
 -- several patterns with references to the first terms, as many as there are patterns
-module _ {W R : Type 0} {stands : W → R → Bool} {term_of : W → R → Tree} {w : W} {ts : List Tree} {n : ℕ} {us rs : List R} (first : AreFirst stands term_of w ts n rs) (same : us ≡ rs) where
-  pub first_stand : AllRefs (λ r. IsTrue (stands w r)) us
-  first_stand = subst (λ vs. AllRefs (λ r. IsTrue (stands w r)) vs) (sym same) first.standing
+module _ {W R Y N : Type 0} {S : Space W R Y N} {w : W} {ts : List Tree} {n : ℕ} {us rs : List R} (first : AreFirst S w ts n rs) (same : us ≡ rs) where
+  pub first_stand : AllRefs (λ r. IsTrue (S.stands w r)) us
+  first_stand = subst (λ vs. AllRefs (λ r. IsTrue (S.stands w r)) vs) (sym same) first.standing
 
-  pub first_goes : {w1 : W} {e f : Places R} {T U : List ℕ} {b : ℕ} (place : Coordinate → Option ℕ) (ps : List (Pattern Coordinate)) (test : Bool) → length ps ≡ n → Goes stands term_of b (first_attempted place b ps (map (term_of w) us)) (attempt test) w e T w1 f U →
-      Goes stands term_of b (first_attempted place b ps ts) (attempt test) w e T w1 f U
+  pub first_goes : {w1 : W} {e f : Places R} {T U : List ℕ} {b : ℕ} (place : Coordinate → Option ℕ) (ps : List (Pattern Coordinate)) (test : Bool) → length ps ≡ n → Goes S b (first_attempted place b ps (map (S.term_of w) us)) (attempt test) w e T w1 f U →
+      Goes S b (first_attempted place b ps ts) (attempt test) w e T w1 f U
   first_goes {e = e} {T = T} {b = b} place ps test many x = record {
     bound = x.bound;
     standing = x.standing;
     comes_to =
-        let e1 = map (option_map (term_of w)) e in
-        sym (first_of_first place b ps ts e1 T) ∙ ap (λ k. first_attempted place b ps (take k ts) e1 T) many ∙ ap (λ vs. first_attempted place b ps vs e1 T) (sym first.are) ∙ ap (λ vs. first_attempted place b ps (map (term_of w) vs) e1 T) (sym same) ∙ x.comes_to;
+        let e1 = map (option_map (S.term_of w)) e in
+        sym (first_of_first place b ps ts e1 T) ∙ ap (λ k. first_attempted place b ps (take k ts) e1 T) many ∙ ap (λ vs. first_attempted place b ps vs e1 T) (sym first.are) ∙ ap (λ vs. first_attempted place b ps (map (S.term_of w) vs) e1 T) (sym same) ∙ x.comes_to;
   }
 
   pub first_enough : n ≤ length us → n ≤ length ts
   first_enough enough =
-      let many : length us ≡ min n (length ts) = ap length same ∙ sym (length-map rs (term_of w)) ∙ ap length first.are ∙ length-take n ts in
+      let many : length us ≡ min n (length ts) = ap length same ∙ sym (length-map rs (S.term_of w)) ∙ ap length first.are ∙ length-take n ts in
       omega (arith, many, enough)
 
 -- patterns whose matches make no term
@@ -387,99 +387,99 @@ part_leaves knows symbol_of symbol_of1 same ps i p known k is h =
     subst LeavesSpace (sym (loaded_same knows symbol_of symbol_of1 same p (known_at knows ps i p known k is))) (one_leaves (loaded_of symbol_of) ps i p h k is)
 
 -- a whole pattern
-module _ {W R : Type 0} {stands : W → R → Bool} {term_of : W → R → Tree} (place : Coordinate → Option ℕ) where
-  pub goes_as_pattern : {w : W} {e : Places R} {T : List ℕ} {b : ℕ} (p q : Pattern Coordinate) (t : Tree) (test : Bool) → p ≡ q → AllPlaces (λ r. IsTrue (stands w r)) e → ((f : Bindings) (U : List ℕ) → attempted place b q t f U ≡ attempt test f U) →
-      Goes stands term_of b (attempted place b p t) (attempt test) w e T w e T
-  goes_as_pattern {w} {e} {T} {b} p q t test is all h = goes_at_once all (ap (λ x. attempted place b x t (map (option_map (term_of w)) e) T) is ∙ h (map (option_map (term_of w)) e) T)
+module _ {W R Y N : Type 0} {S : Space W R Y N} (place : Coordinate → Option ℕ) where
+  pub goes_as_pattern : {w : W} {e : Places R} {T : List ℕ} {b : ℕ} (p q : Pattern Coordinate) (t : Tree) (test : Bool) → p ≡ q → AllPlaces (λ r. IsTrue (S.stands w r)) e → ((f : Bindings) (U : List ℕ) → attempted place b q t f U ≡ attempt test f U) →
+      Goes S b (attempted place b p t) (attempt test) w e T w e T
+  goes_as_pattern {w} {e} {T} {b} p q t test is all h = goes_at_once all (ap (λ x. attempted place b x t (map (option_map (S.term_of w)) e) T) is ∙ h (map (option_map (S.term_of w)) e) T)
 
   pub applied_none : {w : W} {e : Places R} {T : List ℕ} {b : ℕ} (p : Pattern Coordinate) (s : Symbol) (ps : List (Pattern Coordinate)) (t : Tree) (test : Bool) → p ≡ applied s (patterns_in ps) → test ≡ same_head (head_of t) (heads.App s) → test ≡ false →
-      AllPlaces (λ r. IsTrue (stands w r)) e → Goes stands term_of b (attempted place b p t) (attempt false) w e T w e T
-  applied_none {w} {e} {T} {b} p s ps t test is at no_so all = goes_at_once all (applied_stops place b p s ps t test is at no_so (map (option_map (term_of w)) e) T)
+      AllPlaces (λ r. IsTrue (S.stands w r)) e → Goes S b (attempted place b p t) (attempt false) w e T w e T
+  applied_none {w} {e} {T} {b} p s ps t test is at no_so all = goes_at_once all (applied_stops place b p s ps t test is at no_so (map (option_map (S.term_of w)) e) T)
 
   pub list_none : {w : W} {e : Places R} {T : List ℕ} {b : ℕ} (p : Pattern Coordinate) (ps : List (Pattern Coordinate)) (rest : Option (Pattern Coordinate)) (t : Tree) (test : Bool) → p ≡ list (elements_in ps rest) → test ≡ same_head (head_of t) heads.List → test ≡ false →
-      AllPlaces (λ r. IsTrue (stands w r)) e → Goes stands term_of b (attempted place b p t) (attempt false) w e T w e T
-  list_none {w} {e} {T} {b} p ps rest t test is at no_so all = goes_at_once all (list_stops place b p ps rest t test is at no_so (map (option_map (term_of w)) e) T)
+      AllPlaces (λ r. IsTrue (S.stands w r)) e → Goes S b (attempted place b p t) (attempt false) w e T w e T
+  list_none {w} {e} {T} {b} p ps rest t test is at no_so all = goes_at_once all (list_stops place b p ps rest t test is at no_so (map (option_map (S.term_of w)) e) T)
 
-  pub alias_goes : {w w1 : W} {e f g : Places R} {T U V : List ℕ} {b : ℕ} (p q : Pattern Coordinate) (x : Coordinate) (t : Tree) (held test : Bool) (d : ℕ) → p ≡ alias x q → held ≡ true → Goes stands term_of b (bind b (place x) t) (attempt held) w e T w f U →
-      ((r : R) → IsTrue (stands w r) → IsTrue (stands w1 r)) → d ≡ b → Goes stands term_of d (attempted place d q t) (attempt test) w f U w1 g V → Goes stands term_of b (attempted place b p t) (attempt test) w e T w1 g V
+  pub alias_goes : {w w1 : W} {e f g : Places R} {T U V : List ℕ} {b : ℕ} (p q : Pattern Coordinate) (x : Coordinate) (t : Tree) (held test : Bool) (d : ℕ) → p ≡ alias x q → held ≡ true → Goes S b (bind b (place x) t) (attempt held) w e T w f U →
+      ((r : R) → IsTrue (S.stands w r) → IsTrue (S.stands w1 r)) → d ≡ b → Goes S d (attempted place d q t) (attempt test) w f U w1 g V → Goes S b (attempted place b p t) (attempt test) w e T w1 g V
   alias_goes {w} {w1} {f = f} {g} {U = U} {V} {b} p q x t held test d is so y later same_barrier z =
       goes_then (goes_as (λ h H. ap (λ r. attempted place b r t h H) is) (λ h H. refl) (goes_and (λ h H. attempted place b q t h H) held so y)) later
-      (subst (λ d. Goes stands term_of d (attempted place d q t) (attempt test) w f U w1 g V) same_barrier z)
+      (subst (λ d. Goes S d (attempted place d q t) (attempt test) w f U w1 g V) same_barrier z)
 
-  module _ {w w1 : W} {e f : Places R} {T U : List ℕ} {b : ℕ} (p : Pattern Coordinate) (ps : List (Pattern Coordinate)) (t : Tree) (test first : Bool) (x : Goes stands term_of b (first_attempted place b ps (parts_of t)) (attempt first) w e T w1 f U) where
-    pub applied_fails : (s : Symbol) → p ≡ applied s (patterns_in ps) → test ≡ same_head (head_of t) (heads.App s) → test ≡ true → first ≡ false → Goes stands term_of b (attempted place b p t) (attempt false) w e T w1 f U
+  module _ {w w1 : W} {e f : Places R} {T U : List ℕ} {b : ℕ} (p : Pattern Coordinate) (ps : List (Pattern Coordinate)) (t : Tree) (test first : Bool) (x : Goes S b (first_attempted place b ps (parts_of t)) (attempt first) w e T w1 f U) where
+    pub applied_fails : (s : Symbol) → p ≡ applied s (patterns_in ps) → test ≡ same_head (head_of t) (heads.App s) → test ≡ true → first ≡ false → Goes S b (attempted place b p t) (attempt false) w e T w1 f U
     applied_fails s is at so no_so = goes_as (λ g V. applied_goes_on place b p s ps t test is at so g V) (λ g V. refl) (goes_not (λ g V. rest_attempted place b None (drop (length ps) (parts_of t)) g V) first no_so x)
 
     pub applied_ends : (s : Symbol) (all : Bool) (n m : ℕ) → p ≡ applied s (patterns_in ps) → test ≡ same_head (head_of t) (heads.App s) → test ≡ true → first ≡ true → n ≤ length (parts_of t) → n ≡ length ps → m ≡ length (parts_of t) → all ≡ nat_eq n m →
-        Goes stands term_of b (attempted place b p t) (attempt all) w e T w1 f U
+        Goes S b (attempted place b p t) (attempt all) w e T w1 f U
     applied_ends s all n m is at so so_too enough same_n same_m ends =
         goes_as (λ g V. applied_goes_on place b p s ps t test is at so g V)
         (λ g V. ap (λ k. rest_attempted place b None (drop k (parts_of t)) g V) (sym same_n) ∙ none_left place b (parts_of t) n all enough (ends ∙ ap (nat_eq n) same_m) g V)
         (goes_and (λ g V. rest_attempted place b None (drop (length ps) (parts_of t)) g V) first so_too x)
 
-    pub list_fails : (rest : Option (Pattern Coordinate)) → p ≡ list (elements_in ps rest) → test ≡ same_head (head_of t) heads.List → test ≡ true → first ≡ false → Goes stands term_of b (attempted place b p t) (attempt false) w e T w1 f U
+    pub list_fails : (rest : Option (Pattern Coordinate)) → p ≡ list (elements_in ps rest) → test ≡ same_head (head_of t) heads.List → test ≡ true → first ≡ false → Goes S b (attempted place b p t) (attempt false) w e T w1 f U
     list_fails rest is at so no_so = goes_as (λ g V. list_goes_on place b p ps rest t test is at so g V) (λ g V. refl) (goes_not (λ g V. rest_attempted place b rest (drop (length ps) (parts_of t)) g V) first no_so x)
 
     pub list_goes : {w2 : W} {g : Places R} {V : List ℕ} (rest other : Option (Pattern Coordinate)) (t1 : Tree) (all : Bool) (n d : ℕ) → p ≡ list (elements_in ps rest) → test ≡ same_head (head_of t) heads.List → test ≡ true → first ≡ true →
-        n ≡ length ps → other ≡ rest → t1 ≡ t → d ≡ b → ((r : R) → IsTrue (stands w1 r) → IsTrue (stands w2 r)) → Goes stands term_of d (rest_attempted place d other (drop n (parts_of t1))) (attempt all) w1 f U w2 g V →
-        Goes stands term_of b (attempted place b p t) (attempt all) w e T w2 g V
+        n ≡ length ps → other ≡ rest → t1 ≡ t → d ≡ b → ((r : R) → IsTrue (S.stands w1 r) → IsTrue (S.stands w2 r)) → Goes S d (rest_attempted place d other (drop n (parts_of t1))) (attempt all) w1 f U w2 g V →
+        Goes S b (attempted place b p t) (attempt all) w e T w2 g V
     list_goes {w2} {g} {V} rest other t1 all n d is at so so_too same_n same_rest same_t same_barrier later y =
-        let own = subst (λ d. Goes stands term_of d (rest_attempted place d other (drop n (parts_of t1))) (attempt all) w1 f U w2 g V) same_barrier y in
+        let own = subst (λ d. Goes S d (rest_attempted place d other (drop n (parts_of t1))) (attempt all) w1 f U w2 g V) same_barrier y in
         goes_then (goes_as (λ h H. list_goes_on place b p ps rest t test is at so h H)
         (λ h H. ap (λ k. rest_attempted place b rest (drop k (parts_of t)) h H) (sym same_n) ∙ (ap (λ o. rest_attempted place b o (drop n (parts_of t)) h H) (sym same_rest) ∙ ap (λ u. rest_attempted place b other (drop n (parts_of u)) h H) (sym same_t)))
         (goes_and (λ h H. rest_attempted place b rest (drop (length ps) (parts_of t)) h H) first so_too x)) later own
 
-  pub no_rest : {w : W} {e : Places R} {T : List ℕ} {b : ℕ} (rest : Option (Pattern Coordinate)) (ts : List Tree) (n m : ℕ) (all : Bool) → AllPlaces (λ r. IsTrue (stands w r)) e → rest ≡ None → n ≤ length ts → m ≡ length ts → all ≡ nat_eq n m →
-      Goes stands term_of b (rest_attempted place b rest (drop n ts)) (attempt all) w e T w e T
-  no_rest {w} {e} {T} {b} rest ts n m all standing is h at ends = goes_at_once standing (ap (λ o. rest_attempted place b o (drop n ts) (map (option_map (term_of w)) e) T) is ∙ none_left place b ts n all h (ends ∙ ap (nat_eq n) at) (map (option_map (term_of w)) e) T)
+  pub no_rest : {w : W} {e : Places R} {T : List ℕ} {b : ℕ} (rest : Option (Pattern Coordinate)) (ts : List Tree) (n m : ℕ) (all : Bool) → AllPlaces (λ r. IsTrue (S.stands w r)) e → rest ≡ None → n ≤ length ts → m ≡ length ts → all ≡ nat_eq n m →
+      Goes S b (rest_attempted place b rest (drop n ts)) (attempt all) w e T w e T
+  no_rest {w} {e} {T} {b} rest ts n m all standing is h at ends = goes_at_once standing (ap (λ o. rest_attempted place b o (drop n ts) (map (option_map (S.term_of w)) e) T) is ∙ none_left place b ts n all h (ends ∙ ap (nat_eq n) at) (map (option_map (S.term_of w)) e) T)
 
-  pub rest_goes : {w w1 w2 : W} {e f : Places R} {T U : List ℕ} {b : ℕ} (rest : Option (Pattern Coordinate)) (p q : Pattern Coordinate) (ts : List Tree) (t : Tree) (all : Bool) → AllPlaces (λ r. IsTrue (stands w r)) e → ((r : R) → IsTrue (stands w r) → term_of w1 r ≡ term_of w r) →
-      rest ≡ Some p → q ≡ p → t ≡ term heads.List ts [] → Goes stands term_of b (attempted place b q t) (attempt all) w1 e T w2 f U → Goes stands term_of b (rest_attempted place b rest ts) (attempt all) w e T w2 f U
+  pub rest_goes : {w w1 w2 : W} {e f : Places R} {T U : List ℕ} {b : ℕ} (rest : Option (Pattern Coordinate)) (p q : Pattern Coordinate) (ts : List Tree) (t : Tree) (all : Bool) → AllPlaces (λ r. IsTrue (S.stands w r)) e → ((r : R) → IsTrue (S.stands w r) → S.term_of w1 r ≡ S.term_of w r) →
+      rest ≡ Some p → q ≡ p → t ≡ term heads.List ts [] → Goes S b (attempted place b q t) (attempt all) w1 e T w2 f U → Goes S b (rest_attempted place b rest ts) (attempt all) w e T w2 f U
   rest_goes {w} {w1} {e = e} {T = T} {b = b} rest p q ts t all standing same is same_pattern same_term y = record {
     bound = y.bound;
     standing = y.standing;
     comes_to =
-        ap (λ o. rest_attempted place b o ts (map (option_map (term_of w)) e) T) is ∙
-        (ap (λ u. attempted place b p u (map (option_map (term_of w)) e) T) (sym same_term) ∙
-        (ap (λ r. attempted place b r t (map (option_map (term_of w)) e) T) (sym same_pattern) ∙
-        (ap (λ h. attempted place b q t h T) (sym (places_same (λ r. IsTrue (stands w r)) (term_of w) (term_of w1) same e standing)) ∙ y.comes_to)));
+        ap (λ o. rest_attempted place b o ts (map (option_map (S.term_of w)) e) T) is ∙
+        (ap (λ u. attempted place b p u (map (option_map (S.term_of w)) e) T) (sym same_term) ∙
+        (ap (λ r. attempted place b r t (map (option_map (S.term_of w)) e) T) (sym same_pattern) ∙
+        (ap (λ h. attempted place b q t h T) (sym (places_same (λ r. IsTrue (S.stands w r)) (S.term_of w) (S.term_of w1) same e standing)) ∙ y.comes_to)));
   }
 
   -- a pattern with others of the annotations
-  pub annotated_none : {w : W} {e : Places R} {T : List ℕ} {b : ℕ} (p q : Pattern Coordinate) (qs : List (Pattern Coordinate)) (t : Tree) → p ≡ annotated q (patterns_in qs) → (length (annos_of t) ≡ length qs → ⊥) → AllPlaces (λ r. IsTrue (stands w r)) e →
-      Goes stands term_of b (attempted place b p t) (attempt false) w e T w e T
-  annotated_none {w} {e} {T} {b} p q qs t is differ all = goes_at_once all (annotated_stops place b p q qs t is differ (map (option_map (term_of w)) e) T)
+  pub annotated_none : {w : W} {e : Places R} {T : List ℕ} {b : ℕ} (p q : Pattern Coordinate) (qs : List (Pattern Coordinate)) (t : Tree) → p ≡ annotated q (patterns_in qs) → (length (annos_of t) ≡ length qs → ⊥) → AllPlaces (λ r. IsTrue (S.stands w r)) e →
+      Goes S b (attempted place b p t) (attempt false) w e T w e T
+  annotated_none {w} {e} {T} {b} p q qs t is differ all = goes_at_once all (annotated_stops place b p q qs t is differ (map (option_map (S.term_of w)) e) T)
 
   module _ {w w1 : W} {e f : Places R} {T U : List ℕ} {b : ℕ} (p q : Pattern Coordinate) (qs : List (Pattern Coordinate)) (t : Tree) (held : Bool) (is : p ≡ annotated q (patterns_in qs)) (many : length (annos_of t) ≡ length qs)
-      (x : Goes stands term_of b (attempted place b q (term (head_of t) (parts_of t) [])) (attempt held) w e T w1 f U) where
-    pub annotated_fails : held ≡ false → Goes stands term_of b (attempted place b p t) (attempt false) w e T w1 f U
+      (x : Goes S b (attempted place b q (term (head_of t) (parts_of t) [])) (attempt held) w e T w1 f U) where
+    pub annotated_fails : held ≡ false → Goes S b (attempted place b p t) (attempt false) w e T w1 f U
     annotated_fails no_so = goes_as (λ g V. annotated_goes_on place b p q qs t is many g V) (λ g V. refl) (goes_not (λ g V. first_attempted place b qs (annos_of t) g V) held no_so x)
 
-    pub annotated_goes : {w2 : W} {g : Places R} {V : List ℕ} (others : List (Pattern Coordinate)) (u : Tree) (all : Bool) (d : ℕ) → held ≡ true → ((r : R) → IsTrue (stands w1 r) → IsTrue (stands w2 r)) → others ≡ qs → u ≡ t → d ≡ b →
-        Goes stands term_of d (first_attempted place d others (annos_of u)) (attempt all) w1 f U w2 g V → Goes stands term_of b (attempted place b p t) (attempt all) w e T w2 g V
+    pub annotated_goes : {w2 : W} {g : Places R} {V : List ℕ} (others : List (Pattern Coordinate)) (u : Tree) (all : Bool) (d : ℕ) → held ≡ true → ((r : R) → IsTrue (S.stands w1 r) → IsTrue (S.stands w2 r)) → others ≡ qs → u ≡ t → d ≡ b →
+        Goes S d (first_attempted place d others (annos_of u)) (attempt all) w1 f U w2 g V → Goes S b (attempted place b p t) (attempt all) w e T w2 g V
     annotated_goes {w2} {g} {V} others u all d so later same_patterns same_term same_barrier y =
         goes_then (goes_as (λ h H. annotated_goes_on place b p q qs t is many h H)
         (λ h H. ap (λ os. first_attempted place b os (annos_of t) h H) (sym same_patterns) ∙ ap (λ v. first_attempted place b others (annos_of v) h H) (sym same_term))
         (goes_and (λ h H. first_attempted place b qs (annos_of t) h H) held so x)) later
-        (subst (λ d. Goes stands term_of d (first_attempted place d others (annos_of u)) (attempt all) w1 f U w2 g V) same_barrier y)
+        (subst (λ d. Goes S d (first_attempted place d others (annos_of u)) (attempt all) w1 f U w2 g V) same_barrier y)
 
   -- the term without its annotations: the term itself where they do not matter, or one that was made
-  pub unseen_goes : {w w1 : W} {e f : Places R} {T U : List ℕ} {b : ℕ} (p : Pattern Coordinate) (t : Tree) (test all : Bool) → test ≡ sees_annotations p → test ≡ false → Goes stands term_of b (attempted place b p t) (attempt all) w e T w1 f U →
-      Goes stands term_of b (attempted place b p (term (head_of t) (parts_of t) [])) (attempt all) w e T w1 f U
+  pub unseen_goes : {w w1 : W} {e f : Places R} {T U : List ℕ} {b : ℕ} (p : Pattern Coordinate) (t : Tree) (test all : Bool) → test ≡ sees_annotations p → test ≡ false → Goes S b (attempted place b p t) (attempt all) w e T w1 f U →
+      Goes S b (attempted place b p (term (head_of t) (parts_of t) [])) (attempt all) w e T w1 f U
   unseen_goes {b = b} p t test all is no_so x = goes_as (λ g V. bare_alike place b p t (sym is ∙ no_so) g V) (λ g V. refl) x
 
-  pub bare_goes : {w w1 w2 : W} {e f : Places R} {T U : List ℕ} {b : ℕ} (p q : Pattern Coordinate) (t u : Tree) (all : Bool) → AllPlaces (λ r. IsTrue (stands w r)) e → ((r : R) → IsTrue (stands w r) → term_of w1 r ≡ term_of w r) →
-      q ≡ p → u ≡ t → Goes stands term_of b (attempted place b q u) (attempt all) w1 e T w2 f U → Goes stands term_of b (attempted place b p t) (attempt all) w e T w2 f U
+  pub bare_goes : {w w1 w2 : W} {e f : Places R} {T U : List ℕ} {b : ℕ} (p q : Pattern Coordinate) (t u : Tree) (all : Bool) → AllPlaces (λ r. IsTrue (S.stands w r)) e → ((r : R) → IsTrue (S.stands w r) → S.term_of w1 r ≡ S.term_of w r) →
+      q ≡ p → u ≡ t → Goes S b (attempted place b q u) (attempt all) w1 e T w2 f U → Goes S b (attempted place b p t) (attempt all) w e T w2 f U
   bare_goes {w} {w1} {e = e} {T = T} {b = b} p q t u all standing same same_pattern same_term y = record {
     bound = y.bound;
     standing = y.standing;
     comes_to =
-        ap (λ x. attempted place b p x (map (option_map (term_of w)) e) T) (sym same_term) ∙
-        (ap (λ r. attempted place b r u (map (option_map (term_of w)) e) T) (sym same_pattern) ∙
-        (ap (λ h. attempted place b q u h T) (sym (places_same (λ r. IsTrue (stands w r)) (term_of w) (term_of w1) same e standing)) ∙ y.comes_to));
+        ap (λ x. attempted place b p x (map (option_map (S.term_of w)) e) T) (sym same_term) ∙
+        (ap (λ r. attempted place b r u (map (option_map (S.term_of w)) e) T) (sym same_pattern) ∙
+        (ap (λ h. attempted place b q u h T) (sym (places_same (λ r. IsTrue (S.stands w r)) (S.term_of w) (S.term_of w1) same e standing)) ∙ y.comes_to));
   }
 
   -- several patterns that are all done, or more than there are parts
   pub match_lacks : {N : Type 0} {w w1 : W} {e f : Places R} {T U : List ℕ} {b : ℕ} (as_pattern : N → Pattern Coordinate) (ps : List N) (ts : List Tree) (i n : ℕ) → i < length ps → n ≡ length ts → n ≤ i →
-      Goes stands term_of b (first_attempted place b (map as_pattern ps) ts) (first_attempted place b (drop i (map as_pattern ps)) (drop i ts)) w e T w1 f U → Goes stands term_of b (first_attempted place b (map as_pattern ps) ts) (attempt false) w e T w1 f U
+      Goes S b (first_attempted place b (map as_pattern ps) ts) (first_attempted place b (drop i (map as_pattern ps)) (drop i ts)) w e T w1 f U → Goes S b (first_attempted place b (map as_pattern ps) ts) (attempt false) w e T w1 f U
   match_lacks {b = b} as_pattern ps ts i n h is k x = let long = length-map ps as_pattern in goes_as (λ g V. refl) (λ g V. first_lacks place b (map as_pattern ps) ts i g V (omega arith) (omega arith)) x

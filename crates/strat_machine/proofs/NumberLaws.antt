@@ -9,7 +9,7 @@ use Rattle.term_model.specs.Term.{Tree, node, head_of}
 use Rattle.term_model.proofs.FitsLaws.{both}
 use Rattle.core_lang.specs.Roots.{has_root, are_many, integer_root, list_root}
 use Rattle.strat_machine.specs.Indexing.{number_in}
-use Rattle.strat_machine.specs.Operands.{root_meant, RootKnown, CasesKnown}
+use Rattle.strat_machine.specs.Tables.{root_meant, RootKnown, CasesKnown}
 use Rattle.strat_machine.specs.declared.tables.LoadedRoot.{LoadedRoot}
 use Rattle.strat_machine.specs.declared.tables.LoadedRoot.TheVariants as roots
 use Rattle.strat_machine.specs.declared.tables.LoadedCase.{LoadedCase}

@@ -4,17 +4,15 @@ use Rattle.std.proofs.lemmas.List.{append-nil}
 use Rattle.std.proofs.Math.Seq.{take-append_seam, drop-append_seam}
 use Rattle.std.specs.Prelude.{Bool, true, false, ◌∷◌, [], ◌++◌, length, take, drop, replicate, Some, None}
 use Rattle.std.specs.Option.{option_map}
-use Rattle.term_model.specs.Symbol.{Symbol}
 use Rattle.term_model.specs.Term.{Tree, Trees}
 use Rattle.term_model.specs.Flat.{Meaning}
-use Rattle.term_model.specs.Space.{Keeps}
+use Rattle.term_model.specs.Space.{Space, Keeps}
 use Rattle.core_lang.specs.Program.{Pattern, Patterns}
 use Rattle.core_lang.specs.declared.coordinate.Coordinate.{Coordinate}
 use Rattle.core_lang.specs.Building.{instance, instances}
 use Rattle.strat_code.specs.Code.{Argument, match_term, build_term, call_definition}
 use Rattle.strat_steps.specs.State.{Frame, frame, place_at, frames_up, closed, run_oversize}
 use Rattle.strat_steps.specs.Binding.{attempt, attempted}
-use Rattle.strat_machine.specs.SpaceOf.{space_of}
 use Rattle.strat_steps.specs.Matches.{Goes, LeavesSpace}
 use Rattle.strat_machine.specs.Builds.{Builds, AreArguments, Puts}
 use Rattle.strat_machine.specs.declared.building.Built.{Built}
@@ -23,78 +21,77 @@ use Rattle.strat_machine.specs.declared.building.Pushed.{Pushed}
 use Rattle.strat_machine.specs.declared.building.Pushed.TheVariants as pushed
 use Rattle.strat_steps.specs.References.{Places, RefRecord, ref_call, RefState, ref_running, ref_failing, ref_stopped}
 use Rattle.strat_steps.specs.ReferenceSteps.{Does, matches, matches_not, builds, builds_none, builds_oversize, calls, calls_none, calls_oversize}
-use Rattle.strat_machine.proofs.SpaceLaws.{keeps_grows}
 use Rattle.strat_machine.proofs.StepLaws.{does_to}
 use Rattle.strat_machine.proofs.BuiltLaws.{build_is_ok, build_fails, build_is_large, arguments_are_ok, arguments_fail, arguments_are_large}
 
-module _ {W R Y N : Type 0} {stands : W → R → Bool} {term_of : W → R → Tree} {is_valid : W → Y → Bool} {knows : W → N → Bool} {symbol_of : W → N → Symbol} (covers : Y → R → Bool) (covers_mark : Y → Y → Bool) {M : Meaning} {w w1 : W}
-    (n : ℕ) {i p b d l : ℕ} {q : Pattern Coordinate} {t : R} {e f : Places R} {F : List Frame} {T U : List ℕ} {K : List (RefRecord R Y)} {y : Bool} (keeps : Keeps stands term_of is_valid knows symbol_of w w1) (unchanged : LeavesSpace q → w1 ≡ w)
-    (goes : Goes stands term_of b (attempted (place_at F p) b q (term_of w t)) (attempt y) w e T w1 f U) (same : d ≡ b) where
-  pub matches_so : {next : ℕ} → y ≡ true → next ≡ suc i → Does (space_of stands term_of is_valid covers covers_mark) M w (match_term n q) i p t e F T b K l w1 (ref_running next p t f F U d K l)
+module _ {W R Y N : Type 0} {S : Space W R Y N} {M : Meaning} {w w1 : W}
+    (n : ℕ) {i p b d l : ℕ} {q : Pattern Coordinate} {t : R} {e f : Places R} {F : List Frame} {T U : List ℕ} {K : List (RefRecord R Y)} {y : Bool} (keeps : Keeps S w w1) (unchanged : LeavesSpace q → w1 ≡ w)
+    (goes : Goes S b (attempted (place_at F p) b q (S.term_of w t)) (attempt y) w e T w1 f U) (same : d ≡ b) where
+  pub matches_so : {next : ℕ} → y ≡ true → next ≡ suc i → Does S M w (match_term n q) i p t e F T b K l w1 (ref_running next p t f F U d K l)
   matches_so {next} is at =
-      does_to (matches (keeps_grows covers covers_mark keeps) unchanged goes.bound (goes.comes_to ∙ ap (λ v. attempt v (map (option_map (term_of w1)) f) U) is))
+      does_to (matches keeps unchanged goes.bound (goes.comes_to ∙ ap (λ v. attempt v (map (option_map (S.term_of w1)) f) U) is))
       (ap (λ a. ref_running a p t f F U b K l) (sym at) ∙ ap (λ c. ref_running next p t f F U c K l) (sym same))
 
-  pub matches_not_so : y ≡ false → Does (space_of stands term_of is_valid covers covers_mark) M w (match_term n q) i p t e F T b K l w1 (ref_failing f F U d K l)
+  pub matches_not_so : y ≡ false → Does S M w (match_term n q) i p t e F T b K l w1 (ref_failing f F U d K l)
   matches_not_so is =
-      does_to (matches_not (keeps_grows covers covers_mark keeps) unchanged goes.bound (goes.comes_to ∙ ap (λ v. attempt v (map (option_map (term_of w1)) f) U) is)) (ap (λ c. ref_failing f F U c K l) (sym same))
+      does_to (matches_not keeps unchanged goes.bound (goes.comes_to ∙ ap (λ v. attempt v (map (option_map (S.term_of w1)) f) U) is)) (ap (λ c. ref_failing f F U c K l) (sym same))
 
-built_as : {W R : Type 0} (stands : W → R → Bool) (term_of : W → R → Tree) (w : W) {o v : Option Tree} {made m : Built R} → o ≡ v → made ≡ m → Builds stands term_of w o made → Builds stands term_of w v m
-built_as stands term_of w {o} {v} {made} {m} same is h = subst (λ x. Builds stands term_of w x m) same (subst (λ x. Builds stands term_of w o x) is h)
+built_as : {W R Y N : Type 0} (S : Space W R Y N) (w : W) {o v : Option Tree} {made m : Built R} → o ≡ v → made ≡ m → Builds S w o made → Builds S w v m
+built_as S w {o} {v} {made} {m} same is h = subst (λ x. Builds S w x m) same (subst (λ x. Builds S w o x) is h)
 
-module _ {W R Y N : Type 0} {stands : W → R → Bool} {term_of : W → R → Tree} {is_valid : W → Y → Bool} {knows : W → N → Bool} {symbol_of : W → N → Symbol} (covers : Y → R → Bool) (covers_mark : Y → Y → Bool) {M : Meaning} {w w1 : W}
-    (n : ℕ) {i b l : ℕ} (p : ℕ) (q : Pattern Coordinate) (F : List Frame) {t : R} {e s : Places R} {T : List ℕ} {K : List (RefRecord R Y)} {made : Built R} (keeps : Keeps stands term_of is_valid knows symbol_of w w1)
-    (same : s ≡ e) (made_so : Builds stands term_of w1 (instance (place_at F p) q (map (option_map (term_of w)) s)) made) where
-  pub builds_so : {next : ℕ} {u : R} → made ≡ built_forms.Made u → next ≡ suc i → Does (space_of stands term_of is_valid covers covers_mark) M w (build_term n q) i p t e F T b K l w1 (ref_running next p u e F T b K l)
+module _ {W R Y N : Type 0} {S : Space W R Y N} {M : Meaning} {w w1 : W}
+    (n : ℕ) {i b l : ℕ} (p : ℕ) (q : Pattern Coordinate) (F : List Frame) {t : R} {e s : Places R} {T : List ℕ} {K : List (RefRecord R Y)} {made : Built R} (keeps : Keeps S w w1)
+    (same : s ≡ e) (made_so : Builds S w1 (instance (place_at F p) q (map (option_map (S.term_of w)) s)) made) where
+  pub builds_so : {next : ℕ} {u : R} → made ≡ built_forms.Made u → next ≡ suc i → Does S M w (build_term n q) i p t e F T b K l w1 (ref_running next p u e F T b K l)
   builds_so {next} {u} is at =
-      does_to (builds (keeps_grows covers covers_mark keeps) (built_as stands term_of w1 (ap (λ x. instance (place_at F p) q (map (option_map (term_of w)) x)) same) is made_so).0
-      (build_is_ok stands term_of w1 (instance (place_at F p) q (map (option_map (term_of w)) e)) (map (option_map (term_of w)) e) u (built_as stands term_of w1 (ap (λ x. instance (place_at F p) q (map (option_map (term_of w)) x)) same) is made_so)))
+      does_to (builds keeps (built_as S w1 (ap (λ x. instance (place_at F p) q (map (option_map (S.term_of w)) x)) same) is made_so).0
+      (build_is_ok S w1 (instance (place_at F p) q (map (option_map (S.term_of w)) e)) (map (option_map (S.term_of w)) e) u (built_as S w1 (ap (λ x. instance (place_at F p) q (map (option_map (S.term_of w)) x)) same) is made_so)))
       (ap (λ a. ref_running a p u e F T b K l) (sym at))
 
-  pub builds_none_so : made ≡ built_forms.NoInstance → Does (space_of stands term_of is_valid covers covers_mark) M w (build_term n q) i p t e F T b K l w1 (ref_failing e F T b K l)
-  builds_none_so is = builds_none (keeps_grows covers covers_mark keeps)
-      (build_fails stands term_of w1 (instance (place_at F p) q (map (option_map (term_of w)) e)) (map (option_map (term_of w)) e) (built_as stands term_of w1 (ap (λ x. instance (place_at F p) q (map (option_map (term_of w)) x)) same) is made_so))
+  pub builds_none_so : made ≡ built_forms.NoInstance → Does S M w (build_term n q) i p t e F T b K l w1 (ref_failing e F T b K l)
+  builds_none_so is = builds_none keeps
+      (build_fails S w1 (instance (place_at F p) q (map (option_map (S.term_of w)) e)) (map (option_map (S.term_of w)) e) (built_as S w1 (ap (λ x. instance (place_at F p) q (map (option_map (S.term_of w)) x)) same) is made_so))
 
-  pub builds_large_so : made ≡ built_forms.Oversize → Does (space_of stands term_of is_valid covers covers_mark) M w (build_term n q) i p t e F T b K l w1 (ref_stopped run_oversize l)
-  builds_large_so is = builds_oversize (keeps_grows covers covers_mark keeps)
-      (build_is_large stands term_of w1 (instance (place_at F p) q (map (option_map (term_of w)) e)) (map (option_map (term_of w)) e) (built_as stands term_of w1 (ap (λ x. instance (place_at F p) q (map (option_map (term_of w)) x)) same) is made_so))
+  pub builds_large_so : made ≡ built_forms.Oversize → Does S M w (build_term n q) i p t e F T b K l w1 (ref_stopped run_oversize l)
+  builds_large_so is = builds_oversize keeps
+      (build_is_large S w1 (instance (place_at F p) q (map (option_map (S.term_of w)) e)) (map (option_map (S.term_of w)) e) (built_as S w1 (ap (λ x. instance (place_at F p) q (map (option_map (S.term_of w)) x)) same) is made_so))
 
-module _ {W R : Type 0} (stands : W → R → Bool) (term_of : W → R → Tree) (w : W) {old new : List R} {o v : Option Trees} {made m : Pushed} where
-  pub arguments_as : o ≡ v → made ≡ m → Puts stands w old new (λ rs. AreArguments term_of w o rs made) → Puts stands w old new (λ rs. AreArguments term_of w v rs m)
-  arguments_as same is h = subst (λ x. Puts stands w old new (λ rs. AreArguments term_of w x rs m)) same (subst (λ x. Puts stands w old new (λ rs. AreArguments term_of w o rs x)) is h)
+module _ {W R Y N : Type 0} (S : Space W R Y N) (w : W) {old new : List R} {o v : Option Trees} {made m : Pushed} where
+  pub arguments_as : o ≡ v → made ≡ m → Puts S w old new (λ rs. AreArguments S.term_of w o rs made) → Puts S w old new (λ rs. AreArguments S.term_of w v rs m)
+  arguments_as same is h = subst (λ x. Puts S w old new (λ rs. AreArguments S.term_of w x rs m)) same (subst (λ x. Puts S w old new (λ rs. AreArguments S.term_of w o rs x)) is h)
 
-module _ {W R Y N : Type 0} {stands : W → R → Bool} {term_of : W → R → Tree} {is_valid : W → Y → Bool} {knows : W → N → Bool} {symbol_of : W → N → Symbol} (covers : Y → R → Bool) (covers_mark : Y → Y → Bool) {M : Meaning} {w w1 : W}
+module _ {W R Y N : Type 0} {S : Space W R Y N} {M : Meaning} {w w1 : W}
     (n : ℕ) {h a k to i b l : ℕ} {us : List Argument} (p : ℕ) (ps : Patterns Coordinate) (F : List Frame) {t : R} {e s : Places R} {T : List ℕ} {K : List (RefRecord R Y)} {made : Pushed} {old new : List R}
-    (keeps : Keeps stands term_of is_valid knows symbol_of w w1) (same : s ≡ e) (put_so : Puts stands w1 old new (λ rs. AreArguments term_of w1 (instances (place_at F p) ps (map (option_map (term_of w)) s)) rs made)) where
+    (keeps : Keeps S w w1) (same : s ≡ e) (put_so : Puts S w1 old new (λ rs. AreArguments S.term_of w1 (instances (place_at F p) ps (map (option_map (S.term_of w)) s)) rs made)) where
   pub calls_so : {from : ℕ} {m1 : RefState R Y} → made ≡ pushed.All → from ≡ length old →
       m1 ≡ ref_running a (length F) t (e ++ (map (λ r. Some r) (drop from new) ++ replicate k None)) (F ++ frame (length e) (frames_up F p h) (closed F p us) ∷ []) T b (ref_call to p ∷ K) l →
-      Does (space_of stands term_of is_valid covers covers_mark) M w (call_definition n h a k to us ps) i p t e F T b K l w1 m1
+      Does S M w (call_definition n h a k to us ps) i p t e F T b K l w1 m1
   calls_so {from} {m1} is at state =
-      let x = arguments_as stands term_of w1 (ap (λ x. instances (place_at F p) ps (map (option_map (term_of w)) x)) same) is put_so in
-      does_to (calls x.put (keeps_grows covers covers_mark keeps) x.standing (arguments_are_ok term_of w1 (instances (place_at F p) ps (map (option_map (term_of w)) e)) (map (option_map (term_of w)) e) x.put x.are))
+      let x = arguments_as S w1 (ap (λ x. instances (place_at F p) ps (map (option_map (S.term_of w)) x)) same) is put_so in
+      does_to (calls x.put keeps x.standing (arguments_are_ok S.term_of w1 (instances (place_at F p) ps (map (option_map (S.term_of w)) e)) (map (option_map (S.term_of w)) e) x.put x.are))
       (ap (λ rs. ref_running a (length F) t (e ++ (map (λ r. Some r) rs ++ replicate k None)) (F ++ frame (length e) (frames_up F p h) (closed F p us) ∷ []) T b (ref_call to p ∷ K) l)
       (sym (ap (λ j. drop j new) at ∙ (ap (drop (length old)) x.after ∙ drop-append_seam old x.put))) ∙ sym state)
 
-  pub calls_none_so : made ≡ pushed.NoInstance → Does (space_of stands term_of is_valid covers covers_mark) M w (call_definition n h a k to us ps) i p t e F T b K l w1 (ref_failing e F T b K l)
+  pub calls_none_so : made ≡ pushed.NoInstance → Does S M w (call_definition n h a k to us ps) i p t e F T b K l w1 (ref_failing e F T b K l)
   calls_none_so is =
-      let x = arguments_as stands term_of w1 (ap (λ x. instances (place_at F p) ps (map (option_map (term_of w)) x)) same) is put_so in
-      calls_none (keeps_grows covers covers_mark keeps) (arguments_fail term_of w1 (instances (place_at F p) ps (map (option_map (term_of w)) e)) (map (option_map (term_of w)) e) x.put x.are)
+      let x = arguments_as S w1 (ap (λ x. instances (place_at F p) ps (map (option_map (S.term_of w)) x)) same) is put_so in
+      calls_none keeps (arguments_fail S.term_of w1 (instances (place_at F p) ps (map (option_map (S.term_of w)) e)) (map (option_map (S.term_of w)) e) x.put x.are)
 
-  pub calls_large_so : made ≡ pushed.Oversize → Does (space_of stands term_of is_valid covers covers_mark) M w (call_definition n h a k to us ps) i p t e F T b K l w1 (ref_stopped run_oversize l)
+  pub calls_large_so : made ≡ pushed.Oversize → Does S M w (call_definition n h a k to us ps) i p t e F T b K l w1 (ref_stopped run_oversize l)
   calls_large_so is =
-      let x = arguments_as stands term_of w1 (ap (λ x. instances (place_at F p) ps (map (option_map (term_of w)) x)) same) is put_so in
-      calls_oversize (keeps_grows covers covers_mark keeps) (arguments_are_large term_of w1 (instances (place_at F p) ps (map (option_map (term_of w)) e)) (map (option_map (term_of w)) e) x.put x.are)
+      let x = arguments_as S w1 (ap (λ x. instances (place_at F p) ps (map (option_map (S.term_of w)) x)) same) is put_so in
+      calls_oversize keeps (arguments_are_large S.term_of w1 (instances (place_at F p) ps (map (option_map (S.term_of w)) e)) (map (option_map (S.term_of w)) e) x.put x.are)
 
-module _ {W R : Type 0} (stands : W → R → Bool) (term_of : W → R → Tree) (w : W) (o : Option Trees) {old new : List R} {made : Pushed} (put_so : Puts stands w old new (λ rs. AreArguments term_of w o rs made)) where
+module _ {W R Y N : Type 0} (S : Space W R Y N) (w : W) (o : Option Trees) {old new : List R} {made : Pushed} (put_so : Puts S w old new (λ rs. AreArguments S.term_of w o rs made)) where
   pub none_left : made ≡ pushed.NoInstance → new ≡ old
   none_left is =
-      let x = arguments_as stands term_of w refl is put_so in
+      let x = arguments_as S w refl is put_so in
       x.after ∙ (ap (λ rs. old ++ rs) x.are.1 ∙ append-nil old)
 
   pub large_left : made ≡ pushed.Oversize → new ≡ old
   large_left is =
-      let x = arguments_as stands term_of w refl is put_so in
+      let x = arguments_as S w refl is put_so in
       x.after ∙ (ap (λ rs. old ++ rs) x.are.3 ∙ append-nil old)
 
-pub moved_out : {W R : Type 0} (stands : W → R → Bool) (w : W) {old new last : List R} {Are : List R → Type 0} {from : ℕ} → Puts stands w old new Are → from ≡ length old → last ≡ take from new → last ≡ old
-moved_out stands w {old} {new} x at is = is ∙ (ap (λ j. take j new) at ∙ (ap (take (length old)) x.after ∙ take-append_seam old x.put))
+pub moved_out : {W R Y N : Type 0} (S : Space W R Y N) (w : W) {old new last : List R} {Are : List R → Type 0} {from : ℕ} → Puts S w old new Are → from ≡ length old → last ≡ take from new → last ≡ old
+moved_out S w {old} {new} x at is = is ∙ (ap (λ j. take j new) at ∙ (ap (take (length old)) x.after ∙ take-append_seam old x.put))

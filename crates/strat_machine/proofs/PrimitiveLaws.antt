@@ -1,13 +1,11 @@
 -- Primitives that are applied to the instances of patterns, of the Rust machine.
 use Rattle.std.proofs.Common.{◌≡◌, ◌<◌, ℕ, suc, Option, Some, None, List, [], ◌∷◌, length, drop, map, Contains, refl, sym, ◌∙◌, ap, subst}
-use Rattle.std.specs.Prelude.{Bool}
 use Rattle.std.specs.Option.{option_map, option_and_then, IfSome}
 use Rattle.std.proofs.lemmas.List.{length-map}
-use Rattle.term_model.specs.Symbol.{Symbol}
 use Rattle.term_model.specs.Flat.{FlatValue, Meaning, all_flat}
 use Rattle.term_model.specs.Flat as flat
 use Rattle.term_model.specs.PrimNames.{NameKey, key_at}
-use Rattle.term_model.specs.Space.{Keeps}
+use Rattle.term_model.specs.Space.{Space, Keeps}
 use Rattle.term_model.specs.Term.{Tree, Trees, trees_of}
 use Rattle.prim_registry.specs.Registered.{registered}
 use Rattle.prim_registry.proofs.RegisteredLaws.{registered_call, registered_none, at_default}
@@ -19,21 +17,20 @@ use Rattle.core_lang.specs.Program.{Pattern, Patterns}
 use Rattle.core_lang.specs.Views.{patterns_in}
 use Rattle.strat_code.specs.Code.{apply_primitive}
 use Rattle.strat_steps.specs.State.{Frame, place_at, run_oversize}
-use Rattle.strat_machine.specs.SpaceOf.{space_of}
-use Rattle.strat_machine.specs.Stacks.{Performs, phase_with}
+use Rattle.strat_machine.specs.Stacks.{Performs, next_with, position_with}
 use Rattle.strat_machine.specs.Builds.{Builds, AreArguments, Puts}
-use Rattle.strat_machine.specs.Operands.{IsPosition}
+use Rattle.strat_machine.specs.Tables.{IsPosition}
 use Rattle.strat_machine.specs.declared.building.Built.{Built}
 use Rattle.strat_machine.specs.declared.building.Built.TheVariants as built_forms
 use Rattle.strat_machine.specs.declared.building.Pushed.{Pushed}
 use Rattle.strat_machine.specs.declared.building.Pushed.TheVariants as pushed
 use Rattle.strat_machine.specs.declared.stacks.Stacks.{Stacks}
-use Rattle.strat_machine.specs.declared.stacks.Phase.{Phase}
-use Rattle.strat_machine.specs.declared.stacks.Phase.TheVariants as phases
-use Rattle.strat_machine.specs.declared.stacks.Stop.TheVariants as stops
+use Rattle.strat_machine.specs.declared.stacks.Position.{Position}
+use Rattle.strat_machine.specs.declared.stacks.Next.{Next}
+use Rattle.strat_machine.specs.declared.stacks.Next.TheVariants.{Running, Failing, Oversize}
 use Rattle.strat_steps.specs.References.{Places, trees, RefRecord, ref_running, ref_failing, ref_stopped}
 use Rattle.strat_steps.specs.ReferenceSteps.{Does, answers, answers_none, answers_oversize}
-use Rattle.strat_machine.proofs.SpaceLaws.{keeps_grows, keeps_then}
+use Rattle.term_model.proofs.SpaceLaws.{keeps_then}
 use Rattle.strat_machine.proofs.StepLaws.{does_to}
 use Rattle.strat_machine.proofs.ElementLaws.{put_are}
 use Rattle.strat_machine.proofs.BuiltLaws.{trees_are, build_is_ok, build_fails, build_is_large, arguments_are_ok, arguments_fail, arguments_are_large}
@@ -79,65 +76,65 @@ as_many_instances f place e (p ∷ ps) rs is = by (instance place p e) (instance
     by (Some t) (Some ts) [] is rest = absurd (cc)
     by (Some t) (Some ts) (r ∷ rs) is rest = let same : ts ≡ trees f rs = cc in ap (λ n. suc n) (rest rs (ap (λ us. Some us) same))
 
-pub as_many_put : {W R N : Type 0} (stands : W → R → Bool) (term_of : W → R → Tree) (w : W) (place : Coordinate → Option ℕ) (e : Bindings) (meant : N → Pattern Coordinate) (ps : List N) (old new : List R) (made : Pushed) (from : ℕ) (rs : List R) →
-    Puts stands w old new (λ rs. AreArguments term_of w (instances place (patterns_in (map meant ps)) e) rs made) → made ≡ pushed.All → from ≡ length old → rs ≡ drop from new → length ps ≡ length rs
-as_many_put stands term_of w place e meant ps old new made from rs put is at same =
-    let are = put_are (arguments_as stands term_of w refl is put) from at in
-    sym (ap length same ∙ (as_many_instances (term_of w) place e (map meant ps) (drop from new) are.0 ∙ length-map ps meant))
+pub as_many_put : {W R Y N : Type 0} {X : Type 0} (S : Space W R Y N) (w : W) (place : Coordinate → Option ℕ) (e : Bindings) (meant : X → Pattern Coordinate) (ps : List X) (old new : List R) (made : Pushed) (from : ℕ) (rs : List R) →
+    Puts S w old new (λ rs. AreArguments S.term_of w (instances place (patterns_in (map meant ps)) e) rs made) → made ≡ pushed.All → from ≡ length old → rs ≡ drop from new → length ps ≡ length rs
+as_many_put S w place e meant ps old new made from rs put is at same =
+    let are = put_are (arguments_as S w refl is put) from at in
+    sym (ap length same ∙ (as_many_instances (S.term_of w) place e (map meant ps) (drop from new) are.0 ∙ length-map ps meant))
 
 pub takes_them : (keys : List NameKey) (at : Option ℕ) {m n : ℕ} → m ≡ n → IfSome at (λ k. (k < length keys) × ((key_at keys k).1 ≡ m)) → IfSome at (λ k. (k < length keys) × ((key_at keys k).1 ≡ n))
 takes_them keys at is h = subst (λ n. IfSome at (λ k. (k < length keys) × ((key_at keys k).1 ≡ n))) is h
 
 -- what a primitive is asked for
-asked : {W R : Type 0} (stands : W → R → Bool) (term_of : W → R → Tree) (w : W) (answer : List FlatValue → Option FlatValue) (o : Option Trees) (e : Bindings) (old new : List R) (from : ℕ) (rs : List R) →
-    Puts stands w old new (λ us. AreArguments term_of w o us pushed.All) → from ≡ length old → rs ≡ drop from new →
-    answered answer (arguments o e) ≡ built (option_map flat.term_of (option_and_then answer (all_flat (trees_of (map (term_of w) rs))))) e
-asked stands term_of w answer o e old new from rs put at slice =
-    ap (answered answer) (arguments_are_ok term_of w o e (drop from new) (put_are put from at)) ∙
-    ap (λ us. built (option_map flat.term_of (option_and_then answer (all_flat us))) e) (trees_are (term_of w) (drop from new) ∙ ap (λ ys. trees_of (map (term_of w) ys)) (sym slice))
+asked : {W R Y N : Type 0} (S : Space W R Y N) (w : W) (answer : List FlatValue → Option FlatValue) (o : Option Trees) (e : Bindings) (old new : List R) (from : ℕ) (rs : List R) →
+    Puts S w old new (λ us. AreArguments S.term_of w o us pushed.All) → from ≡ length old → rs ≡ drop from new →
+    answered answer (arguments o e) ≡ built (option_map flat.term_of (option_and_then answer (all_flat (trees_of (map (S.term_of w) rs))))) e
+asked S w answer o e old new from rs put at slice =
+    ap (answered answer) (arguments_are_ok S.term_of w o e (drop from new) (put_are put from at)) ∙
+    ap (λ us. built (option_map flat.term_of (option_and_then answer (all_flat us))) e) (trees_are (S.term_of w) (drop from new) ∙ ap (λ ys. trees_of (map (S.term_of w) ys)) (sym slice))
 
-module _ {W R Y N : Type 0} {stands : W → R → Bool} {term_of : W → R → Tree} {is_valid : W → Y → Bool} {knows : W → N → Bool} {symbol_of : W → N → Symbol} (covers : Y → R → Bool) (covers_mark : Y → Y → Bool) {M : Meaning} {w w1 : W}
+module _ {W R Y N : Type 0} {S : Space W R Y N} {M : Meaning} {w w1 : W}
     (n : ℕ) (f : List ℕ) {i b l : ℕ} (p : ℕ) (ps : Patterns Coordinate) (F : List Frame) {t : R} {e s : Places R} {T : List ℕ} {K : List (RefRecord R Y)} {made : Pushed} {old new : List R}
-    (keeps : Keeps stands term_of is_valid knows symbol_of w w1) (same : s ≡ e) (put_so : Puts stands w1 old new (λ rs. AreArguments term_of w1 (instances (place_at F p) ps (map (option_map (term_of w)) s)) rs made)) where
-  pub answers_none_so : made ≡ pushed.NoInstance → Does (space_of stands term_of is_valid covers covers_mark) M w (apply_primitive n f ps) i p t e F T b K l w1 (ref_failing e F T b K l)
+    (keeps : Keeps S w w1) (same : s ≡ e) (put_so : Puts S w1 old new (λ rs. AreArguments S.term_of w1 (instances (place_at F p) ps (map (option_map (S.term_of w)) s)) rs made)) where
+  pub answers_none_so : made ≡ pushed.NoInstance → Does S M w (apply_primitive n f ps) i p t e F T b K l w1 (ref_failing e F T b K l)
   answers_none_so is =
-      let x = arguments_as stands term_of w1 (ap (λ x. instances (place_at F p) ps (map (option_map (term_of w)) x)) same) is put_so in
-      answers_none (keeps_grows covers covers_mark keeps) (ap (answered (M f)) (arguments_fail term_of w1 (instances (place_at F p) ps (map (option_map (term_of w)) e)) (map (option_map (term_of w)) e) x.put x.are))
+      let x = arguments_as S w1 (ap (λ x. instances (place_at F p) ps (map (option_map (S.term_of w)) x)) same) is put_so in
+      answers_none keeps (ap (answered (M f)) (arguments_fail S.term_of w1 (instances (place_at F p) ps (map (option_map (S.term_of w)) e)) (map (option_map (S.term_of w)) e) x.put x.are))
 
-  pub answers_large_so : made ≡ pushed.Oversize → Does (space_of stands term_of is_valid covers covers_mark) M w (apply_primitive n f ps) i p t e F T b K l w1 (ref_stopped run_oversize l)
+  pub answers_large_so : made ≡ pushed.Oversize → Does S M w (apply_primitive n f ps) i p t e F T b K l w1 (ref_stopped run_oversize l)
   answers_large_so is =
-      let x = arguments_as stands term_of w1 (ap (λ x. instances (place_at F p) ps (map (option_map (term_of w)) x)) same) is put_so in
-      answers_oversize (keeps_grows covers covers_mark keeps) (ap (answered (M f)) (arguments_are_large term_of w1 (instances (place_at F p) ps (map (option_map (term_of w)) e)) (map (option_map (term_of w)) e) x.put x.are))
+      let x = arguments_as S w1 (ap (λ x. instances (place_at F p) ps (map (option_map (S.term_of w)) x)) same) is put_so in
+      answers_oversize keeps (ap (answered (M f)) (arguments_are_large S.term_of w1 (instances (place_at F p) ps (map (option_map (S.term_of w)) e)) (map (option_map (S.term_of w)) e) x.put x.are))
 
-  module _ (w2 : W) (from : ℕ) (rs : List R) (is : made ≡ pushed.All) (at : from ≡ length old) (slice : rs ≡ drop from new) (later : Keeps stands term_of is_valid knows symbol_of w1 w2) where
-    pub answers_so : {next u : _} → Builds stands term_of w2 (option_map flat.term_of (option_and_then (M f) (all_flat (trees_of (map (term_of w1) rs))))) (built_forms.Made u) → next ≡ suc i →
-        Does (space_of stands term_of is_valid covers covers_mark) M w (apply_primitive n f ps) i p t e F T b K l w2 (ref_running next p u e F T b K l)
+  module _ (w2 : W) (from : ℕ) (rs : List R) (is : made ≡ pushed.All) (at : from ≡ length old) (slice : rs ≡ drop from new) (later : Keeps S w1 w2) where
+    pub answers_so : {next u : _} → Builds S w2 (option_map flat.term_of (option_and_then (M f) (all_flat (trees_of (map (S.term_of w1) rs))))) (built_forms.Made u) → next ≡ suc i →
+        Does S M w (apply_primitive n f ps) i p t e F T b K l w2 (ref_running next p u e F T b K l)
     answers_so {next} {u} h step =
-        does_to (answers (keeps_grows covers covers_mark (keeps_then keeps later)) h.0 (asked stands term_of w1 (M f) (instances (place_at F p) ps (map (option_map (term_of w)) e)) (map (option_map (term_of w)) e) old new from rs
-        (arguments_as stands term_of w1 (ap (λ x. instances (place_at F p) ps (map (option_map (term_of w)) x)) same) is put_so) at slice ∙ build_is_ok stands term_of w2 (option_map flat.term_of (option_and_then (M f) (all_flat (trees_of (map (term_of w1) rs))))) (map (option_map (term_of w)) e) u h))
+        does_to (answers (keeps_then keeps later) h.0 (asked S w1 (M f) (instances (place_at F p) ps (map (option_map (S.term_of w)) e)) (map (option_map (S.term_of w)) e) old new from rs
+        (arguments_as S w1 (ap (λ x. instances (place_at F p) ps (map (option_map (S.term_of w)) x)) same) is put_so) at slice ∙ build_is_ok S w2 (option_map flat.term_of (option_and_then (M f) (all_flat (trees_of (map (S.term_of w1) rs))))) (map (option_map (S.term_of w)) e) u h))
         (ap (λ a. ref_running a p u e F T b K l) (sym step))
 
-    pub answers_nothing_so : Builds stands term_of w2 (option_map flat.term_of (option_and_then (M f) (all_flat (trees_of (map (term_of w1) rs))))) built_forms.NoInstance →
-        Does (space_of stands term_of is_valid covers covers_mark) M w (apply_primitive n f ps) i p t e F T b K l w2 (ref_failing e F T b K l)
-    answers_nothing_so h = answers_none (keeps_grows covers covers_mark (keeps_then keeps later)) (asked stands term_of w1 (M f) (instances (place_at F p) ps (map (option_map (term_of w)) e)) (map (option_map (term_of w)) e) old new from rs
-        (arguments_as stands term_of w1 (ap (λ x. instances (place_at F p) ps (map (option_map (term_of w)) x)) same) is put_so) at slice ∙ build_fails stands term_of w2 (option_map flat.term_of (option_and_then (M f) (all_flat (trees_of (map (term_of w1) rs))))) (map (option_map (term_of w)) e) h)
+    pub answers_nothing_so : Builds S w2 (option_map flat.term_of (option_and_then (M f) (all_flat (trees_of (map (S.term_of w1) rs))))) built_forms.NoInstance →
+        Does S M w (apply_primitive n f ps) i p t e F T b K l w2 (ref_failing e F T b K l)
+    answers_nothing_so h = answers_none (keeps_then keeps later) (asked S w1 (M f) (instances (place_at F p) ps (map (option_map (S.term_of w)) e)) (map (option_map (S.term_of w)) e) old new from rs
+        (arguments_as S w1 (ap (λ x. instances (place_at F p) ps (map (option_map (S.term_of w)) x)) same) is put_so) at slice ∙ build_fails S w2 (option_map flat.term_of (option_and_then (M f) (all_flat (trees_of (map (S.term_of w1) rs))))) (map (option_map (S.term_of w)) e) h)
 
-    pub answers_too_large_so : Builds stands term_of w2 (option_map flat.term_of (option_and_then (M f) (all_flat (trees_of (map (term_of w1) rs))))) built_forms.Oversize →
-        Does (space_of stands term_of is_valid covers covers_mark) M w (apply_primitive n f ps) i p t e F T b K l w2 (ref_stopped run_oversize l)
-    answers_too_large_so h = answers_oversize (keeps_grows covers covers_mark (keeps_then keeps later)) (asked stands term_of w1 (M f) (instances (place_at F p) ps (map (option_map (term_of w)) e)) (map (option_map (term_of w)) e) old new from rs
-        (arguments_as stands term_of w1 (ap (λ x. instances (place_at F p) ps (map (option_map (term_of w)) x)) same) is put_so) at slice ∙ build_is_large stands term_of w2 (option_map flat.term_of (option_and_then (M f) (all_flat (trees_of (map (term_of w1) rs))))) (map (option_map (term_of w)) e) h)
+    pub answers_too_large_so : Builds S w2 (option_map flat.term_of (option_and_then (M f) (all_flat (trees_of (map (S.term_of w1) rs))))) built_forms.Oversize →
+        Does S M w (apply_primitive n f ps) i p t e F T b K l w2 (ref_stopped run_oversize l)
+    answers_too_large_so h = answers_oversize (keeps_then keeps later) (asked S w1 (M f) (instances (place_at F p) ps (map (option_map (S.term_of w)) e)) (map (option_map (S.term_of w)) e) old new from rs
+        (arguments_as S w1 (ap (λ x. instances (place_at F p) ps (map (option_map (S.term_of w)) x)) same) is put_so) at slice ∙ build_is_large S w2 (option_map flat.term_of (option_and_then (M f) (all_flat (trees_of (map (S.term_of w1) rs))))) (map (option_map (S.term_of w)) e) h)
 
 -- the run goes on with what was built
-pub goes_on_so : {W R Y : Type 0} (stands : W → R → Bool) (term_of : W → R → Tree) (is_valid : W → Y → Bool) (covers : Y → R → Bool) (covers_mark : Y → Y → Bool) (M : Meaning) (w w2 : W) (v : _) (i p next : ℕ) (t : R) (m : Stacks R Y) (o : Option Tree) (phase : Phase R) (b : Built R) →
-    phase ≡ phase_with next p b → Builds stands term_of w2 o b →
-    ((u : R) → Builds stands term_of w2 o (built_forms.Made u) → Performs (space_of stands term_of is_valid covers covers_mark) M v i p t w m w2 (phases.Running next p u) m) →
-    (Builds stands term_of w2 o built_forms.NoInstance → Performs (space_of stands term_of is_valid covers covers_mark) M v i p t w m w2 phases.Failing m) →
-    (Builds stands term_of w2 o built_forms.Oversize → Performs (space_of stands term_of is_valid covers covers_mark) M v i p t w m w2 (phases.Stopped stops.Oversize) m) →
-    Performs (space_of stands term_of is_valid covers covers_mark) M v i p t w m w2 phase m
-goes_on_so stands term_of is_valid covers covers_mark M w w2 v i p next t m o phase b is built one none large =
-    subst (λ x. Performs (space_of stands term_of is_valid covers covers_mark) M v i p t w m w2 x m) (sym is) (by b built)
+pub goes_on_so : {W R Y N : Type 0} (S : Space W R Y N) (M : Meaning) (w w2 : W) (v : _) (i : ℕ) (p q : Position R) (m : Stacks R Y) (o : Option Tree) (next : Next) (b : Built R) →
+    next ≡ next_with b → q ≡ position_with p b → Builds S w2 o b →
+    ((u : R) → Builds S w2 o (built_forms.Made u) → Performs S M v i p w m w2 Running (record p { term = u }) m) →
+    (Builds S w2 o built_forms.NoInstance → Performs S M v i p w m w2 Failing p m) →
+    (Builds S w2 o built_forms.Oversize → Performs S M v i p w m w2 Oversize p m) →
+    Performs S M v i p w m w2 next q m
+goes_on_so S M w w2 v i p q m o next b is at built one none large =
+    subst (λ x. Performs S M v i p w m w2 x q m) (sym is) (subst (λ x. Performs S M v i p w m w2 (next_with b) x m) (sym at) (by b built))
   where
-    by : (x : Built _) → Builds stands term_of w2 o x → Performs (space_of stands term_of is_valid covers covers_mark) M v i p t w m w2 (phase_with next p x) m
+    by : (x : Built _) → Builds S w2 o x → Performs S M v i p w m w2 (next_with x) (position_with p x) m
     by (built_forms.Made u) h = one u h
     by built_forms.NoInstance h = none h
     by built_forms.Oversize h = large h

@@ -1,11 +1,10 @@
 -- References as flat values.
 use Rattle.std.proofs.Common.{◌≡◌, ◌<◌, ℕ, ℤ, suc, Option, Some, None, List, [], ◌∷◌, ◌++◌, length, get_or, map, refl, sym, ◌∙◌, ap, subst, arith}
-use Rattle.std.specs.Prelude.{Bool, IsTrue}
+use Rattle.std.specs.Prelude.{IsTrue}
 use Rattle.std.proofs.lemmas.List.{get_or-map, length-map, map-append}
 use Rattle.term_model.specs.declared.term.Head.TheVariants as heads
-use Rattle.term_model.specs.Symbol.{Symbol}
 use Rattle.term_model.specs.Flat.{FlatValue, integer_of, flat_of, with_flat, all_flat}
-use Rattle.term_model.specs.Space.{Keeps}
+use Rattle.term_model.specs.Space.{Space, Keeps}
 use Rattle.term_model.specs.Term.{Tree, node, trees_of, head_of}
 use Rattle.strat_steps.specs.References.{AllRefs}
 
@@ -37,14 +36,14 @@ as_many_flat (t ∷ ts) vs is = by (flat_of t) (all_flat (trees_of ts)) vs is (�
     by (Some v) (Some us) vs is rest = let same : vs ≡ v ∷ us = cc in ap length same ∙ ap (λ n. suc n) (rest us refl)
 
 -- references as a space grows
-module _ {W R Y N : Type 0} {stands : W → R → Bool} {term_of : W → R → Tree} {is_valid : W → Y → Bool} {knows : W → N → Bool} {symbol_of : W → N → Symbol} {w w1 : W} (keeps : Keeps stands term_of is_valid knows symbol_of w w1) where
-  pub standing_later : (rs : List R) → AllRefs (λ r. IsTrue (stands w r)) rs → AllRefs (λ r. IsTrue (stands w1 r)) rs
+module _ {W R Y N : Type 0} {S : Space W R Y N} {w w1 : W} (keeps : Keeps S w w1) where
+  pub standing_later : (rs : List R) → AllRefs (λ r. IsTrue (S.stands w r)) rs → AllRefs (λ r. IsTrue (S.stands w1 r)) rs
   standing_later [] h = tt
   standing_later (r ∷ rs) h = (keeps.standing r h.0, standing_later rs h.1)
 
-  pub terms_later : (rs : List R) → AllRefs (λ r. IsTrue (stands w r)) rs → map (term_of w1) rs ≡ map (term_of w) rs
+  pub terms_later : (rs : List R) → AllRefs (λ r. IsTrue (S.stands w r)) rs → map (S.term_of w1) rs ≡ map (S.term_of w) rs
   terms_later [] h = refl
-  terms_later (r ∷ rs) h = ap (λ t. t ∷ map (term_of w1) rs) (keeps.terms r h.0) ∙ ap (λ ts. term_of w r ∷ ts) (terms_later rs h.1)
+  terms_later (r ∷ rs) h = ap (λ t. t ∷ map (S.term_of w1) rs) (keeps.terms r h.0) ∙ ap (λ ts. S.term_of w r ∷ ts) (terms_later rs h.1)
 
 pub standing_push : {R : Type 0} (P : R → Type 0) (rs new : List R) (r : R) → AllRefs P rs → P r → new ≡ rs ++ r ∷ [] → AllRefs P new
 standing_push P rs new r h k is = subst (AllRefs P) (sym is) (by rs h)

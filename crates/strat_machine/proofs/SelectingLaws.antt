@@ -11,26 +11,25 @@ use Rattle.term_model.specs.declared.term.Head.TheVariants as heads
 use Rattle.term_model.specs.Symbol.{Symbol}
 use Rattle.term_model.specs.Flat.{Meaning}
 use Rattle.term_model.specs.Same.{same_head, same_head-Decides}
-use Rattle.term_model.specs.Space.{IsApplied, IsList}
+use Rattle.term_model.specs.Space.{Space, IsApplied, IsList}
 use Rattle.term_model.specs.Term.{Tree, node, Trees, end, more, head_of, list_of}
 use Rattle.term_model.proofs.FitsLaws.{both}
 use Rattle.core_lang.specs.Roots.{Root, are_many, has_root, integer_root, symbol_root, list_root}
 use Rattle.strat_code.specs.Code.{select}
-use Rattle.strat_steps.specs.Space.{Space}
 use Rattle.strat_steps.specs.State.{Frame, run_spent, saved}
 use Rattle.strat_steps.specs.References.{Places, RefRecord, RefState, ref_choice, ref_running, ref_stopped}
 use Rattle.strat_steps.specs.ReferenceSteps.{Selecting, selects_none, selects_this, selects_later, selects_spent, selects}
 use Rattle.strat_machine.specs.RecordStack.{records_of}
 use Rattle.strat_machine.specs.Stacks.{Performs, PutsChoice, state_of}
 use Rattle.strat_machine.specs.Indexing.{nodes_before, IsFirst}
-use Rattle.strat_machine.specs.Operands.{root_meant, case_has, case_meant, cases_meant, loaded_at, RootKnown, CasesKnown, TableKnown, TablesKnown}
+use Rattle.strat_machine.specs.Tables.{root_meant, case_has, case_meant, cases_meant, loaded_at, RootKnown, CasesKnown, TableKnown, TablesKnown}
 use Rattle.strat_machine.proofs.StepLaws.{does_to}
 use Rattle.strat_machine.specs.declared.tables.LoadedCase.{LoadedCase}
 use Rattle.strat_machine.specs.declared.tables.LoadedTable.{LoadedTable}
 use Rattle.strat_machine.specs.declared.stacks.Stacks.{Stacks}
-use Rattle.strat_machine.specs.declared.stacks.Phase.{Phase}
-use Rattle.strat_machine.specs.declared.stacks.Phase.TheVariants as phases
-use Rattle.strat_machine.specs.declared.stacks.Stop.TheVariants as stops
+use Rattle.strat_machine.specs.declared.stacks.Position.{Position}
+use Rattle.strat_machine.specs.declared.stacks.Next.{Next}
+use Rattle.strat_machine.specs.declared.stacks.Next.TheVariants.{Running, Spent}
 
 -- roots
 pub integer_is : (t : Tree) (z : ℤ) → has_root (integer_root z) t ≡ same_head (head_of t) (heads.Int z)
@@ -82,32 +81,32 @@ module _ (t : Tree) (n : ℕ) where
       )
 
 -- the walk over the cases: those before this one were passed by and paid for
-module _ {W R Y N : Type 0} (S : Space W R Y) (symbol_of : N → Symbol) (w : W) (last p : ℕ) (t : R) (cs : List (LoadedCase N)) (m : Stacks R Y) where
+module _ {W R Y N : Type 0} (S : Space W R Y N) (symbol_of : N → Symbol) (w : W) (last : ℕ) (p : Position R) (cs : List (LoadedCase N)) (m : Stacks R Y) where
   pub record Passed (i : ℕ) (m1 : Stacks R Y) : Type 0 where
     pub kept : m1 ≡ record m { left = m1.left }
-    pub comes : (u : RefState R Y) → Selecting S w last p t m.places.slots m.frames m.places.trail m.places.barrier (records_of m.records) (map (case_meant symbol_of) (drop i cs)) m1.left u →
-        Selecting S w last p t m.places.slots m.frames m.places.trail m.places.barrier (records_of m.records) (map (case_meant symbol_of) cs) m.left u
+    pub comes : (u : RefState R Y) → Selecting S w last p.frame p.term m.places.slots m.frames m.places.trail m.places.barrier (records_of m.records) (map (case_meant symbol_of) (drop i cs)) m1.left u →
+        Selecting S w last p.frame p.term m.places.slots m.frames m.places.trail m.places.barrier (records_of m.records) (map (case_meant symbol_of) cs) m.left u
 
   pub nothing_passed : Passed 0 m
   nothing_passed = record { kept = refl; comes = λ u h. h }
 
   module _ (i : ℕ) (m1 : Stacks R Y) (so_far : Passed i m1) where
-    pub passed_all : (M : Meaning) (n j : ℕ) → length cs ≤ i → Performs S M (select n (map (case_meant symbol_of) cs) last) j p t w m w (phases.Running last p t) m1
+    pub passed_all : (M : Meaning) (n j : ℕ) → length cs ≤ i → Performs S M (select n (map (case_meant symbol_of) cs) last) j p w m w Running (record p { address = last }) m1
     passed_all M n j past =
-        let u : RefState R Y = ref_running last p t m.places.slots m.frames m.places.trail m.places.barrier (records_of m.records) m1.left in
-        let none : Selecting S w last p t m.places.slots m.frames m.places.trail m.places.barrier (records_of m.records) (map (case_meant symbol_of) (drop i cs)) m1.left u =
-        subst (λ ds. Selecting S w last p t m.places.slots m.frames m.places.trail m.places.barrier (records_of m.records) (map (case_meant symbol_of) ds) m1.left u) (sym (drop_all i cs past)) selects_none in
-        does_to (selects (so_far.comes u none)) (sym (ap (λ x. state_of (phases.Running last p t) x) so_far.kept))
+        let u : RefState R Y = ref_running last p.frame p.term m.places.slots m.frames m.places.trail m.places.barrier (records_of m.records) m1.left in
+        let none : Selecting S w last p.frame p.term m.places.slots m.frames m.places.trail m.places.barrier (records_of m.records) (map (case_meant symbol_of) (drop i cs)) m1.left u =
+        subst (λ ds. Selecting S w last p.frame p.term m.places.slots m.frames m.places.trail m.places.barrier (records_of m.records) (map (case_meant symbol_of) ds) m1.left u) (sym (drop_all i cs past)) selects_none in
+        does_to (selects (so_far.comes u none)) (sym (ap (λ x. state_of Running (record p { address = last }) x) so_far.kept))
 
     module _ (c : LoadedCase N) (below : i < length cs) (read : c ≡ get_or cs i c) where
       cut : drop i cs ≡ c ∷ drop (i + 1) cs
       cut = rw add-one (drop-cons cs i c below ∙ ap (λ u. u ∷ drop (suc i) cs) (sym read))
 
-      comes_here : (u : RefState R Y) → Selecting S w last p t m.places.slots m.frames m.places.trail m.places.barrier (records_of m.records) (case_meant symbol_of c ∷ map (case_meant symbol_of) (drop (i + 1) cs)) m1.left u →
-          Selecting S w last p t m.places.slots m.frames m.places.trail m.places.barrier (records_of m.records) (map (case_meant symbol_of) cs) m.left u
-      comes_here u h = so_far.comes u (subst (λ ds. Selecting S w last p t m.places.slots m.frames m.places.trail m.places.barrier (records_of m.records) (map (case_meant symbol_of) ds) m1.left u) (sym cut) h)
+      comes_here : (u : RefState R Y) → Selecting S w last p.frame p.term m.places.slots m.frames m.places.trail m.places.barrier (records_of m.records) (case_meant symbol_of c ∷ map (case_meant symbol_of) (drop (i + 1) cs)) m1.left u →
+          Selecting S w last p.frame p.term m.places.slots m.frames m.places.trail m.places.barrier (records_of m.records) (map (case_meant symbol_of) cs) m.left u
+      comes_here u h = so_far.comes u (subst (λ ds. Selecting S w last p.frame p.term m.places.slots m.frames m.places.trail m.places.barrier (records_of m.records) (map (case_meant symbol_of) ds) m1.left u) (sym cut) h)
 
-      pub passes_case : (m2 : Stacks R Y) → has_root (root_meant symbol_of c.root) (S.term_of w t) ≡ false → c.nodes ≤ m1.left → m2 ≡ record m1 { left = m1.left - c.nodes } → Passed (i + 1) m2
+      pub passes_case : (m2 : Stacks R Y) → has_root (root_meant symbol_of c.root) (S.term_of w p.term) ≡ false → c.nodes ≤ m1.left → m2 ≡ record m1 { left = m1.left - c.nodes } → Passed (i + 1) m2
       passes_case m2 other low is =
           let left : m2.left ≡ m1.left - c.nodes = ap (λ x. x.left) is in
           let paid : Stacks R Y → Stacks R Y = λ x. record x { left = m1.left - c.nodes } in
@@ -115,19 +114,19 @@ module _ {W R Y N : Type 0} (S : Space W R Y) (symbol_of : N → Symbol) (w : W)
           record {
             kept = is ∙ (ap paid so_far.kept ∙ ap with (sym left));
             comes = λ u h. comes_here u (selects_later other low
-                (subst (λ l. Selecting S w last p t m.places.slots m.frames m.places.trail m.places.barrier (records_of m.records) (map (case_meant symbol_of) (drop (i + 1) cs)) l u) left h));
+                (subst (λ l. Selecting S w last p.frame p.term m.places.slots m.frames m.places.trail m.places.barrier (records_of m.records) (map (case_meant symbol_of) (drop (i + 1) cs)) l u) left h));
           }
 
-      pub spent_at_case : (M : Meaning) (n j : ℕ) → has_root (root_meant symbol_of c.root) (S.term_of w t) ≡ false → m1.left < c.nodes →
-          Performs S M (select n (map (case_meant symbol_of) cs) last) j p t w m w (phases.Stopped stops.Spent) m1
+      pub spent_at_case : (M : Meaning) (n j : ℕ) → has_root (root_meant symbol_of c.root) (S.term_of w p.term) ≡ false → m1.left < c.nodes →
+          Performs S M (select n (map (case_meant symbol_of) cs) last) j p w m w Spent p m1
       spent_at_case M n j other low = selects (comes_here (ref_stopped run_spent m1.left) (selects_spent other low))
 
-      pub selects_case : (M : Meaning) (n j : ℕ) (phase : Phase R) (m2 : Stacks R Y) → has_root (root_meant symbol_of c.root) (S.term_of w t) ≡ true → PutsChoice S w m1 c.otherwise c.body p t phase m2 →
-          Performs S M (select n (map (case_meant symbol_of) cs) last) j p t w m w phase m2
-      selects_case M n j phase m2 has x =
-          let run : Stacks R Y → RefState R Y = λ v. ref_running c.body p t v.places.slots v.frames v.places.trail (length v.places.slots)
-          (ref_choice c.otherwise t (saved p (length v.frames) (length v.places.trail) v.places.barrier) x.mark ∷ records_of v.records) v.left in
-          does_to (selects (comes_here (run (record m { left = m1.left })) (selects_this has x.marks))) (sym (x.leads ∙ ap run so_far.kept))
+      pub selects_case : (M : Meaning) (n j : ℕ) (m2 : Stacks R Y) → has_root (root_meant symbol_of c.root) (S.term_of w p.term) ≡ true → PutsChoice S w m1 c.otherwise p m2 →
+          Performs S M (select n (map (case_meant symbol_of) cs) last) j p w m w Running (record p { address = c.body }) m2
+      selects_case M n j m2 has x =
+          let run : Stacks R Y → RefState R Y = λ v. ref_running c.body p.frame p.term v.places.slots v.frames v.places.trail (length v.places.slots)
+          (ref_choice c.otherwise p.term (saved p.frame (length v.frames) (length v.places.trail) v.places.barrier) x.mark ∷ records_of v.records) v.left in
+          does_to (selects (comes_here (run (record m { left = m1.left })) (selects_this has x.marks))) (sym (x.leads c.body ∙ ap run so_far.kept))
 
 -- the names of each case are known
 pub case_known : {N : Type 0} (knows : N → Bool) (cs : List (LoadedCase N)) (i : ℕ) (c : LoadedCase N) → CasesKnown knows cs → i < length cs → c ≡ get_or cs i c → RootKnown knows c.root
@@ -160,7 +159,7 @@ module _ (t : Tree) (b : Bool) where
       )
 
 -- cases that lack the root are passed at once
-module _ {W R Y N : Type 0} (S : Space W R Y) (symbol_of : N → Symbol) (w : W) (last p : ℕ) (t : R) (e : Places R) (F : List Frame) (T : List ℕ) (b : ℕ) (K : List (RefRecord R Y)) where
+module _ {W R Y N : Type 0} (S : Space W R Y N) (symbol_of : N → Symbol) (w : W) (last p : ℕ) (t : R) (e : Places R) (F : List Frame) (T : List ℕ) (b : ℕ) (K : List (RefRecord R Y)) where
   abbrev pub At : List (LoadedCase N) → ℕ → RefState R Y → Type 0
   At cs l u = Selecting S w last p t e F T b K (map (case_meant symbol_of) cs) l u
 
@@ -201,41 +200,41 @@ drop_at xs i x is =
     let below : i < length xs = slice_get_within xs i x is in
     drop_more xs i x below ∙ ap (λ y. y ∷ drop (i + 1) xs) (get_or_from_slice_get xs i x x is)
 
-module _ {W R Y N : Type 0} (S : Space W R Y) (symbol_of : N → Symbol) (w : W) (last p : ℕ) (t : R) (cs : List (LoadedCase N)) (m : Stacks R Y) where
+module _ {W R Y N : Type 0} (S : Space W R Y N) (symbol_of : N → Symbol) (w : W) (last : ℕ) (p : Position R) (cs : List (LoadedCase N)) (m : Stacks R Y) where
   -- a walk over the cases from number k on
-  pub walks_rest : (M : Meaning) (n j k : ℕ) (rest : List (LoadedCase N)) (phase : Phase R) (m1 : Stacks R Y) → rest ≡ drop k cs → Performs S M (select n (map (case_meant symbol_of) rest) last) j p t w m w phase m1 →
-      Performs S M (select n (drop k (map (case_meant symbol_of) cs)) last) j p t w m w phase m1
-  walks_rest M n j k rest phase m1 are h = subst (λ ds. Performs S M (select n ds last) j p t w m w phase m1) (ap (map (case_meant symbol_of)) are ∙ map_drop (case_meant symbol_of) k cs) h
+  pub walks_rest : (M : Meaning) (n j k : ℕ) (rest : List (LoadedCase N)) (next : Next) (q : Position R) (m1 : Stacks R Y) → rest ≡ drop k cs → Performs S M (select n (map (case_meant symbol_of) rest) last) j p w m w next q m1 →
+      Performs S M (select n (drop k (map (case_meant symbol_of) cs)) last) j p w m w next q m1
+  walks_rest M n j k rest next q m1 are h = subst (λ ds. Performs S M (select n ds last) j p w m w next q m1) (ap (map (case_meant symbol_of)) are ∙ map_drop (case_meant symbol_of) k cs) h
 
-  pub nothing_left : (M : Meaning) (n j k : ℕ) → length cs ≤ k → Performs S M (select n (drop k (map (case_meant symbol_of) cs)) last) j p t w m w (phases.Running last p t) m
+  pub nothing_left : (M : Meaning) (n j k : ℕ) → length cs ≤ k → Performs S M (select n (drop k (map (case_meant symbol_of) cs)) last) j p w m w Running (record p { address = last }) m
   nothing_left M n j k past =
       let none : map (case_meant symbol_of) (drop k cs) ≡ [] = ap (map (case_meant symbol_of)) (drop_all k cs past) in
-      subst (λ ds. Performs S M (select n ds last) j p t w m w (phases.Running last p t) m) (sym none ∙ map_drop (case_meant symbol_of) k cs) (selects selects_none)
+      subst (λ ds. Performs S M (select n ds last) j p w m w Running (record p { address = last }) m) (sym none ∙ map_drop (case_meant symbol_of) k cs) (selects selects_none)
 
-  module _ (k i cost : ℕ) (first : IsFirst (case_has symbol_of (S.term_of w t)) cs k i) (is : cost + nodes_before cs k ≡ nodes_before cs i) (low : cost ≤ m.left) where
-    comes_to : (M : Meaning) (n j : ℕ) (phase : Phase R) (m1 : Stacks R Y) → Selecting S w last p t m.places.slots m.frames m.places.trail m.places.barrier (records_of m.records) (map (case_meant symbol_of) (drop i cs)) (m.left - cost) (state_of phase m1) →
-        Performs S M (select n (drop k (map (case_meant symbol_of) cs)) last) j p t w m w phase m1
-    comes_to M n j phase m1 h =
+  module _ (k i cost : ℕ) (first : IsFirst (case_has symbol_of (S.term_of w p.term)) cs k i) (is : cost + nodes_before cs k ≡ nodes_before cs i) (low : cost ≤ m.left) where
+    comes_to : (M : Meaning) (n j : ℕ) (next : Next) (q : Position R) (m1 : Stacks R Y) → Selecting S w last p.frame p.term m.places.slots m.frames m.places.trail m.places.barrier (records_of m.records) (map (case_meant symbol_of) (drop i cs)) (m.left - cost) (state_of next q m1) →
+        Performs S M (select n (drop k (map (case_meant symbol_of) cs)) last) j p w m w next q m1
+    comes_to M n j next q m1 h =
         let paid : cost ≡ nodes_before cs i - nodes_before cs k = omega (arith, is) in
-        let left : Selecting S w last p t m.places.slots m.frames m.places.trail m.places.barrier (records_of m.records) (map (case_meant symbol_of) (drop i cs)) (m.left - (nodes_before cs i - nodes_before cs k)) (state_of phase m1) =
-        subst (λ x. Selecting S w last p t m.places.slots m.frames m.places.trail m.places.barrier (records_of m.records) (map (case_meant symbol_of) (drop i cs)) (m.left - x) (state_of phase m1)) paid h in
-        subst (λ ds. Performs S M (select n ds last) j p t w m w phase m1) (map_drop (case_meant symbol_of) k cs)
-        (selects (passes_from S symbol_of w last p t m.places.slots m.frames m.places.trail m.places.barrier (records_of m.records) cs k i m.left (state_of phase m1) first.from first.within first.passed (omega (arith, paid, low)) left))
+        let left : Selecting S w last p.frame p.term m.places.slots m.frames m.places.trail m.places.barrier (records_of m.records) (map (case_meant symbol_of) (drop i cs)) (m.left - (nodes_before cs i - nodes_before cs k)) (state_of next q m1) =
+        subst (λ x. Selecting S w last p.frame p.term m.places.slots m.frames m.places.trail m.places.barrier (records_of m.records) (map (case_meant symbol_of) (drop i cs)) (m.left - x) (state_of next q m1)) paid h in
+        subst (λ ds. Performs S M (select n ds last) j p w m w next q m1) (map_drop (case_meant symbol_of) k cs)
+        (selects (passes_from S symbol_of w last p.frame p.term m.places.slots m.frames m.places.trail m.places.barrier (records_of m.records) cs k i m.left (state_of next q m1) first.from first.within first.passed (omega (arith, paid, low)) left))
 
-    pub passes_all : (M : Meaning) (n j : ℕ) → length cs ≤ i → Performs S M (select n (drop k (map (case_meant symbol_of) cs)) last) j p t w m w (phases.Running last p t) (record m { left = m.left - cost })
+    pub passes_all : (M : Meaning) (n j : ℕ) → length cs ≤ i → Performs S M (select n (drop k (map (case_meant symbol_of) cs)) last) j p w m w Running (record p { address = last }) (record m { left = m.left - cost })
     passes_all M n j past =
-        comes_to M n j (phases.Running last p t) (record m { left = m.left - cost })
-        (subst (λ ds. Selecting S w last p t m.places.slots m.frames m.places.trail m.places.barrier (records_of m.records) (map (case_meant symbol_of) ds) (m.left - cost) (ref_running last p t m.places.slots m.frames m.places.trail m.places.barrier (records_of m.records) (m.left - cost)))
+        comes_to M n j Running (record p { address = last }) (record m { left = m.left - cost })
+        (subst (λ ds. Selecting S w last p.frame p.term m.places.slots m.frames m.places.trail m.places.barrier (records_of m.records) (map (case_meant symbol_of) ds) (m.left - cost) (ref_running last p.frame p.term m.places.slots m.frames m.places.trail m.places.barrier (records_of m.records) (m.left - cost)))
         (sym (drop_all i cs past)) selects_none)
 
-    pub comes_to_case : (c : LoadedCase N) → slice_get cs i ≡ Some c → (M : Meaning) (n j : ℕ) (phase : Phase R) (m2 : Stacks R Y) → PutsChoice S w (record m { left = m.left - cost }) c.otherwise c.body p t phase m2 →
-        Performs S M (select n (drop k (map (case_meant symbol_of) cs)) last) j p t w m w phase m2
-    comes_to_case c at M n j phase m2 x =
-        let u : RefState R Y = ref_running c.body p t m.places.slots m.frames m.places.trail (length m.places.slots) (ref_choice c.otherwise t (saved p (length m.frames) (length m.places.trail) m.places.barrier) x.mark ∷ records_of m.records) (m.left - cost) in
-        let this : Selecting S w last p t m.places.slots m.frames m.places.trail m.places.barrier (records_of m.records) (map (case_meant symbol_of) (c ∷ drop (i + 1) cs)) (m.left - cost) u = selects_this (first.has_it c at) x.marks in
-        let there : Selecting S w last p t m.places.slots m.frames m.places.trail m.places.barrier (records_of m.records) (map (case_meant symbol_of) (drop i cs)) (m.left - cost) u =
-        subst (λ ds. Selecting S w last p t m.places.slots m.frames m.places.trail m.places.barrier (records_of m.records) (map (case_meant symbol_of) ds) (m.left - cost) u) (sym (drop_at cs i c at)) this in
-        comes_to M n j phase m2 (subst (λ v. Selecting S w last p t m.places.slots m.frames m.places.trail m.places.barrier (records_of m.records) (map (case_meant symbol_of) (drop i cs)) (m.left - cost) v) (sym x.leads) there)
+    pub comes_to_case : (c : LoadedCase N) → slice_get cs i ≡ Some c → (M : Meaning) (n j : ℕ) (m2 : Stacks R Y) → PutsChoice S w (record m { left = m.left - cost }) c.otherwise p m2 →
+        Performs S M (select n (drop k (map (case_meant symbol_of) cs)) last) j p w m w Running (record p { address = c.body }) m2
+    comes_to_case c at M n j m2 x =
+        let u : RefState R Y = ref_running c.body p.frame p.term m.places.slots m.frames m.places.trail (length m.places.slots) (ref_choice c.otherwise p.term (saved p.frame (length m.frames) (length m.places.trail) m.places.barrier) x.mark ∷ records_of m.records) (m.left - cost) in
+        let this : Selecting S w last p.frame p.term m.places.slots m.frames m.places.trail m.places.barrier (records_of m.records) (map (case_meant symbol_of) (c ∷ drop (i + 1) cs)) (m.left - cost) u = selects_this (first.has_it c at) x.marks in
+        let there : Selecting S w last p.frame p.term m.places.slots m.frames m.places.trail m.places.barrier (records_of m.records) (map (case_meant symbol_of) (drop i cs)) (m.left - cost) u =
+        subst (λ ds. Selecting S w last p.frame p.term m.places.slots m.frames m.places.trail m.places.barrier (records_of m.records) (map (case_meant symbol_of) ds) (m.left - cost) u) (sym (drop_at cs i c at)) this in
+        comes_to M n j Running (record p { address = c.body }) m2 (subst (λ v. Selecting S w last p.frame p.term m.places.slots m.frames m.places.trail m.places.barrier (records_of m.records) (map (case_meant symbol_of) (drop i cs)) (m.left - cost) v) (sym (x.leads c.body)) there)
 
 -- the table at a position
 module _ {N : Type 0} where
@@ -254,14 +253,14 @@ module _ {N : Type 0} where
   no_table (y ∷ ts) zero is = absurd (cc)
   no_table (y ∷ ts) (suc j) is = no_table ts j is
 
-module _ {W R Y N : Type 0} (S : Space W R Y) (symbol_of : N → Symbol) (w : W) (last p : ℕ) (t : R) (ts : List (LoadedTable N)) (m : Stacks R Y) (table k : ℕ) where
-  pub selects_in : (x : LoadedTable N) (M : Meaning) (n j : ℕ) (phase : Phase R) (m1 : Stacks R Y) → slice_get ts table ≡ Some x → Performs S M (select n (drop k (map (case_meant symbol_of) x.cases.items)) last) j p t w m w phase m1 →
-      Performs S M (select n (cases_meant symbol_of ts table k) last) j p t w m w phase m1
-  selects_in x M n j phase m1 is h = subst (λ cs. Performs S M (select n (drop k (map (case_meant symbol_of) cs)) last) j p t w m w phase m1) (sym (table_there ts table x is)) h
+module _ {W R Y N : Type 0} (S : Space W R Y N) (symbol_of : N → Symbol) (w : W) (last : ℕ) (p : Position R) (ts : List (LoadedTable N)) (m : Stacks R Y) (table k : ℕ) where
+  pub selects_in : (x : LoadedTable N) (M : Meaning) (n j : ℕ) (next : Next) (q : Position R) (m1 : Stacks R Y) → slice_get ts table ≡ Some x → Performs S M (select n (drop k (map (case_meant symbol_of) x.cases.items)) last) j p w m w next q m1 →
+      Performs S M (select n (cases_meant symbol_of ts table k) last) j p w m w next q m1
+  selects_in x M n j next q m1 is h = subst (λ cs. Performs S M (select n (drop k (map (case_meant symbol_of) cs)) last) j p w m w next q m1) (sym (table_there ts table x is)) h
 
-  pub selects_no_table : (M : Meaning) (n j : ℕ) → length ts ≤ table → Performs S M (select n (cases_meant symbol_of ts table k) last) j p t w m w (phases.Running last p t) m
+  pub selects_no_table : (M : Meaning) (n j : ℕ) → length ts ≤ table → Performs S M (select n (cases_meant symbol_of ts table k) last) j p w m w Running (record p { address = last }) m
   selects_no_table M n j is =
-      subst (λ cs. Performs S M (select n (drop k (map (case_meant symbol_of) cs)) last) j p t w m w (phases.Running last p t) m) (sym (no_table ts table (slice_get_past ts table is))) (nothing_left S symbol_of w last p t [] m M n j k (omega arith))
+      subst (λ cs. Performs S M (select n (drop k (map (case_meant symbol_of) cs)) last) j p w m w Running (record p { address = last }) m) (sym (no_table ts table (slice_get_past ts table is))) (nothing_left S symbol_of w last p [] m M n j k (omega arith))
 
 pub known_rest : {N : Type 0} (knows : N → Bool) (cs rest : List (LoadedCase N)) (k : ℕ) → rest ≡ drop k cs → CasesKnown knows cs → CasesKnown knows rest
 known_rest {N} knows cs rest k are h = subst (CasesKnown knows) (sym are) (later cs k h)

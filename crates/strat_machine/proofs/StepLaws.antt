@@ -1,24 +1,23 @@
 -- Steps of the Rust machine are steps of the machine over references.
 use Rattle.std.proofs.Common.{◌≡◌, ℕ, suc, Option, Some, None, List, [], ◌∷◌, map, refl, sym, ◌∙◌, ap, subst}
-use Rattle.std.specs.Prelude.{Bool, length, slice_get}
+use Rattle.std.specs.Prelude.{length, slice_get}
 use Rattle.std.specs.Option.{option_map}
 use Rattle.term_model.specs.Term.{Tree}
 use Rattle.term_model.specs.Flat.{Meaning}
-use Rattle.term_model.specs.Space.{IsMarkOf}
+use Rattle.term_model.specs.Space.{Space}
 use Rattle.strat_code.specs.Code.{Instr, try, leave, commit, end_definition, end_argument}
 use Rattle.strat_steps.specs.State.{Frame, frame, Saved, saved, call_record, stuck, ended}
 use Rattle.strat_steps.specs.Step.{left, returned, out_of_argument, committed}
-use Rattle.strat_steps.specs.Space.{Space, IsMark}
-use Rattle.strat_machine.specs.SpaceOf.{space_of}
 use Rattle.strat_steps.specs.References.{Places, RefRecord, ref_call, ref_choice, ref_all, ref_one, ref_some, RefState, ref_running, ref_stopped, record_tree}
 use Rattle.strat_steps.specs.ReferenceSteps.{Does, tries, sticks}
 use Rattle.strat_machine.specs.Frames.{IsBaseOf}
 use Rattle.strat_machine.specs.Stacks.{Performs, PutsChoice}
 use Rattle.strat_machine.specs.declared.stacks.Stacks.{Stacks}
-use Rattle.strat_machine.specs.declared.stacks.Phase.{Phase}
+use Rattle.strat_machine.specs.declared.stacks.Next.TheVariants.{Running}
+use Rattle.strat_machine.specs.declared.stacks.Position.{Position}
 use Rattle.strat_machine.specs.RecordStack.{records_of, IsNoCall, IsNoChoice, IsChoice}
 
-module _ {W R Y : Type 0} {S : Space W R Y} {M : Meaning} {w w1 : W} {v : Instr} {i p b l : ℕ} {t : R} {e : Places R} {F : List Frame} {T : List ℕ} {K : List (RefRecord R Y)} where
+module _ {W R Y N : Type 0} {S : Space W R Y N} {M : Meaning} {w w1 : W} {v : Instr} {i p b l : ℕ} {t : R} {e : Places R} {F : List Frame} {T : List ℕ} {K : List (RefRecord R Y)} where
   -- what is done leads to a state that is the same
   pub does_to : {m m1 : RefState R Y} → Does S M w v i p t e F T b K l w1 m → m ≡ m1 → Does S M w v i p t e F T b K l w1 m1
   does_to x is = subst (λ m. Does S M w v i p t e F T b K l w1 m) is x
@@ -29,10 +28,10 @@ pub same_run : {R Y : Type 0} {i j p q b d l : ℕ} {t : R} {e f : Places R} {F 
 same_run i p e F T b K = cc
 
 -- a choice record is put on
-pub tries_so : {W R Y : Type 0} {S : Space W R Y} (M : Meaning) {w : W} {m m1 : Stacks R Y} {otherwise next p : ℕ} {t : R} {phase : Phase R} (n i : ℕ) → next ≡ suc i → PutsChoice S w m otherwise next p t phase m1 →
-    Performs S M (try n otherwise) i p t w m w phase m1
-tries_so M {m = m} {otherwise = otherwise} {next} {p} {t} n i at x =
-    does_to (tries x.marks) (sym (x.leads ∙ ap (λ a. ref_running a p t m.places.slots m.frames m.places.trail (length m.places.slots) (ref_choice otherwise t (saved p (length m.frames) (length m.places.trail) m.places.barrier) x.mark ∷ records_of m.records) m.left) at))
+pub tries_so : {W R Y N : Type 0} {S : Space W R Y N} (M : Meaning) {w : W} {m m1 : Stacks R Y} {otherwise : ℕ} {p : Position R} (n i : ℕ) → p.address ≡ suc i → PutsChoice S w m otherwise p m1 → Performs S M (try n otherwise) i p w m w Running p m1
+tries_so M {m = m} {otherwise = otherwise} {p} n i at x =
+    does_to (tries x.marks)
+    (sym (x.leads p.address ∙ ap (λ a. ref_running a p.frame p.term m.places.slots m.frames m.places.trail (length m.places.slots) (ref_choice otherwise p.term (saved p.frame (length m.frames) (length m.places.trail) m.places.barrier) x.mark ∷ records_of m.records) m.left) at))
 
 -- the frame of a position
 pub no_frame : (o : Option Frame) → IsBaseOf None o → o ≡ None
@@ -46,16 +45,6 @@ some_frame (Some (frame base2 up2 cs)) base up h = (cs, ap (same_frame cs) (sym 
     same_frame : List (ℕ × ℕ) → Option (ℕ × ℕ) → Option Frame
     same_frame cs None = None
     same_frame cs (Some v) = Some (frame v.0 v.1 cs)
-
--- a mark of what stands
-pub mark_is : {W R Y : Type 0} (stands : W → R → Bool) (term_of : W → R → Tree) (is_valid : W → Y → Bool) (covers : Y → R → Bool) (covers_mark : Y → Y → Bool) (m : Y) (w : W) →
-    IsMarkOf stands is_valid covers covers_mark m w → IsMark (space_of stands term_of is_valid covers covers_mark) w m
-mark_is stands term_of is_valid covers covers_mark m w h = record {
-  valid = h.valid;
-  covers = λ r s. (h.exactly r).1 s;
-  only = λ r s. (h.exactly r).0 s;
-  marks = h.marks;
-}
 
 -- what code of no program comes to
 module _ (e : List (Option Tree)) (F : List Frame) (T : List ℕ) (b l : ℕ) {R Y : Type 0} (f : R → Tree) where
@@ -83,7 +72,7 @@ module _ (e : List (Option Tree)) (F : List Frame) (T : List ℕ) (b l : ℕ) {R
   no_choice i p t (ref_one body after u done x us s m ∷ K) h = refl
   no_choice i p t (ref_some body after u done x us found s m ∷ K) h = refl
 
-module _ {W R Y : Type 0} {S : Space W R Y} {M : Meaning} {w : W} {i p b l : ℕ} {t : R} {e : Places R} {F : List Frame} {T : List ℕ} {K : List (RefRecord R Y)} where
+module _ {W R Y N : Type 0} {S : Space W R Y N} {M : Meaning} {w : W} {i p b l : ℕ} {t : R} {e : Places R} {F : List Frame} {T : List ℕ} {K : List (RefRecord R Y)} where
   pub leaves_nothing : slice_get F p ≡ None → Does S M w leave i p t e F T b K l w (ref_stopped stuck l)
   leaves_nothing none = sticks (ap (left F T b (map (record_tree (S.term_of w)) K) l (suc i) p (S.term_of w t) (map (option_map (S.term_of w)) e)) none)
 

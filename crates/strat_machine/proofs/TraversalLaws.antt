@@ -3,12 +3,12 @@ use Rattle.std.proofs.Common.{◌≡◌, ℕ, zero, suc, ◌-◌, List, [], ◌�
 use Rattle.std.specs.Prelude.{Bool, true, false, All}
 use Rattle.std.specs.Option.{option_map}
 use Rattle.std.proofs.Math.Seq.{take-append_seam, drop-append_seam}
-use Rattle.std.proofs.lemmas.List.{reverse-append, reverse-reverse, length-reverse}
+use Rattle.std.proofs.lemmas.List.{reverse-append, reverse-reverse, length-append}
 use Rattle.term_model.specs.Term.{Tree, node, end, more, term, head_of, parts_of, annos_of, trees_of, fits, Fits}
 use Rattle.term_model.specs.declared.made.Made.{Made}
 use Rattle.term_model.specs.declared.made.Made.TheVariants as made
-use Rattle.term_model.specs.Symbol.{Symbol}
-use Rattle.term_model.specs.Space.{Keeps, Makes}
+use Rattle.term_model.specs.Space.{Space, Keeps, IsMark, Makes, Pushes}
+use Rattle.strat_machine.specs.PartsOf.{PutsParts}
 use Rattle.term_model.proofs.TermLemmas.{trees_of-list_of}
 use Rattle.term_model.proofs.FitsLaws.{fits-complete, fits-sound, not_true}
 use Rattle.core_lang.specs.Environment.{Bindings}
@@ -17,13 +17,13 @@ use Rattle.core_lang.specs.Derivation.{parts}
 use Rattle.strat_steps.specs.Step.{in_order}
 use Rattle.strat_steps.specs.State as state
 use Rattle.strat_steps.specs.State.{Frame, run_oversize}
-use Rattle.strat_steps.specs.Space.{Space, IsMark}
-use Rattle.strat_machine.specs.SpaceOf.{space_of}
 use Rattle.strat_steps.specs.References.{Places, RefRecord, RefState, ref_all, ref_one, ref_some, ref_running, ref_failing, ref_stopped, trees, AllRefs}
-use Rattle.strat_steps.specs.ReferenceSteps.{OnAll, all_goes_on, all_whole, all_oversize, OnOne, one_goes_on, one_none, OnSome, some_goes_on, some_whole, some_oversize, some_none}
+use Rattle.term_model.specs.Flat.{Meaning}
+use Rattle.strat_code.specs.Code.{part_done}
+use Rattle.strat_machine.specs.CompactRecords.{AdvancesAll}
+use Rattle.strat_steps.specs.ReferenceSteps.{Does, part_of_all, OnAll, all_goes_on, all_whole, all_oversize, OnOne, one_goes_on, one_none, OnSome, some_goes_on, some_whole, some_oversize, some_none}
 use Rattle.strat_machine.specs.RecordStack.{saved_of, records_in, records_of, with_record}
 use Rattle.strat_machine.specs.Traversing.{RebuildsTo, rebuilds, rebuilds_none}
-use Rattle.strat_machine.proofs.SpaceLaws.{keeps_grows}
 use Rattle.strat_machine.specs.declared.stacks.Stacks.{Stacks}
 use Rattle.strat_machine.specs.declared.records.Saved.{Saved}
 use Rattle.strat_machine.specs.declared.records.Traversed.{Traversed}
@@ -81,46 +81,51 @@ module _ {R : Type 0} (f : R → Tree) (t : Tree) (rs : List R) (e : Bindings) w
   pub rebuilt_large : (Fits (term (head_of t) (map f rs) (annos_of t)) → ⊥) → rebuilt t (ok (trees f rs) e) ≡ oversize
   rebuilt_large large = rebuilt_is ∙ ap (λ b. if_fits b (term (head_of t) (map f rs) (annos_of t)) e) (not_true _ (λ h. large (fits-sound _ h)))
 
--- the parts of a term are moved to those that are left
-pub parts_open : {R Y : Type 0} (old new : Records R Y) (parts one : List R) (n : ℕ) → one ≡ reverse parts ++ old.done → n ≡ length parts → new.records ≡ old.records → new.done ≡ drop n one → new.left ≡ reverse (take n one) ++ old.left →
-    new ≡ record old { left = parts ++ old.left }
-parts_open old new parts one n put count same cut moved =
-    let many : n ≡ length (reverse parts) = count ∙ sym (length-reverse parts) in
-    let d : new.done ≡ old.done = cut ∙ (ap (drop n) put ∙ (ap (λ k. drop k (reverse parts ++ old.done)) many ∙ drop-append_seam (reverse parts) old.done)) in
-    let l : new.left ≡ parts ++ old.left =
-    moved ∙ ap (λ us. us ++ old.left) (ap (λ us. reverse (take n us)) put ∙ (ap (λ k. reverse (take k (reverse parts ++ old.done))) many ∙ (ap reverse (take-append_seam (reverse parts) old.done) ∙ reverse-reverse parts)))
-    in three same d l
-  where
-    three : new.records ≡ old.records → new.done ≡ old.done → new.left ≡ parts ++ old.left → new ≡ record old { left = parts ++ old.left }
-    three a b c = ap (λ x. record new { records = x }) a ∙ (ap (λ x. record new { records = old.records; done = x }) b ∙ ap (λ x. record new { records = old.records; done = old.done; left = x }) c)
+-- the parts of a term are put on a stack, the first one on top
+pub parts_put : {W R Y N : Type 0} (S : Space W R Y N) (w : W) (t : R) (n b : ℕ) (old mid new seen : List R) → Pushes S w (parts_of (S.term_of w t)) old mid → b ≡ length old → n ≡ length mid - b → new ≡ take b mid ++ reverse (drop b mid) → reverse old ≡ seen →
+    PutsParts S w t n seen (reverse new)
+parts_put S w t n b old mid new seen pushed from count turned is =
+    let there = pushed.after in
+    let long = ap length there in let long_both = length-append old pushed.pushed in
+    let kept : take b mid ≡ old = ap (λ k. take k mid) from ∙ (ap (take (length old)) there ∙ take-append_seam old pushed.pushed) in
+    let rest : drop b mid ≡ pushed.pushed = ap (λ k. drop k mid) from ∙ (ap (drop (length old)) there ∙ drop-append_seam old pushed.pushed) in
+    record {
+      parts = pushed.pushed;
+      after =
+          ap reverse (turned ∙ (ap (λ us. us ++ reverse (drop b mid)) kept ∙ ap (λ us. old ++ reverse us) rest)) ∙ (reverse-append old (reverse pushed.pushed) ∙
+          (ap (λ us. us ++ reverse old) (reverse-reverse pushed.pushed) ∙ ap (λ us. pushed.pushed ++ us) is));
+      count = omega (arith, count, from, long, long_both);
+      standing = pushed.standing;
+      are = pushed.are;
+    }
 
 -- the whole is made
 
-module _ {W R Y N : Type 0} {stands : W → R → Bool} {term_of : W → R → Tree} {is_valid : W → Y → Bool} {knows : W → N → Bool} {symbol_of : W → N → Symbol} (covers : Y → R → Bool) (covers_mark : Y → Y → Bool) {w w1 : W}
-    (t : R) (ps seen : List R) (m : Stacks R Y) (K : List (RefRecord R Y)) (next here : ℕ) {v : Made R} (keeps : Keeps stands term_of is_valid knows symbol_of w w1)
-    (makes : Makes stands term_of w1 (term (head_of (term_of w t)) (map (term_of w) seen) (annos_of (term_of w t))) v) (same : seen ≡ ps) where
+module _ {W R Y N : Type 0} {S : Space W R Y N} {w w1 : W}
+    (t : R) (ps seen : List R) (m : Stacks R Y) (K : List (RefRecord R Y)) (next here : ℕ) {v : Made R} (keeps : Keeps S w w1)
+    (makes : Makes S w1 (term (head_of (S.term_of w t)) (map (S.term_of w) seen) (annos_of (S.term_of w t))) v) (same : seen ≡ ps) where
   pub whole_fits : {u : R} {L : List (RefRecord R Y)} → v ≡ made.Fits u → K ≡ L →
-      RebuildsTo (space_of stands term_of is_valid covers covers_mark) w t ps m K next here w1 (ref_running next here u m.places.slots m.frames m.places.trail m.places.barrier L m.left)
+      RebuildsTo S w t ps m K next here w1 (ref_running next here u m.places.slots m.frames m.places.trail m.places.barrier L m.left)
   whole_fits {u} {L} is rest =
-      let made_so : Makes stands term_of w1 (term (head_of (term_of w t)) (map (term_of w) ps) (annos_of (term_of w t))) (made.Fits u) =
-      subst (λ us. Makes stands term_of w1 (term (head_of (term_of w t)) (map (term_of w) us) (annos_of (term_of w t))) (made.Fits u)) same
-      (subst (λ x. Makes stands term_of w1 (term (head_of (term_of w t)) (map (term_of w) seen) (annos_of (term_of w t))) x) is makes)
+      let made_so : Makes S w1 (term (head_of (S.term_of w t)) (map (S.term_of w) ps) (annos_of (S.term_of w t))) (made.Fits u) =
+      subst (λ us. Makes S w1 (term (head_of (S.term_of w t)) (map (S.term_of w) us) (annos_of (S.term_of w t))) (made.Fits u)) same
+      (subst (λ x. Makes S w1 (term (head_of (S.term_of w t)) (map (S.term_of w) seen) (annos_of (S.term_of w t))) x) is makes)
       in
-      subst (λ L. RebuildsTo (space_of stands term_of is_valid covers covers_mark) w t ps m K next here w1 (ref_running next here u m.places.slots m.frames m.places.trail m.places.barrier L m.left)) rest
-      (rebuilds (keeps_grows covers covers_mark keeps) made_so.0 (rebuilt_fits (term_of w) (term_of w t) ps (map (option_map (term_of w)) m.places.slots) (term_of w1 u) made_so.1 made_so.2))
+      subst (λ L. RebuildsTo S w t ps m K next here w1 (ref_running next here u m.places.slots m.frames m.places.trail m.places.barrier L m.left)) rest
+      (rebuilds keeps made_so.0 (rebuilt_fits (S.term_of w) (S.term_of w t) ps (map (option_map (S.term_of w)) m.places.slots) (S.term_of w1 u) made_so.1 made_so.2))
 
-  pub whole_large : v ≡ made.Oversize → RebuildsTo (space_of stands term_of is_valid covers covers_mark) w t ps m K next here w1 (ref_stopped run_oversize m.left)
+  pub whole_large : v ≡ made.Oversize → RebuildsTo S w t ps m K next here w1 (ref_stopped run_oversize m.left)
   whole_large is =
-      let large : Makes stands term_of w1 (term (head_of (term_of w t)) (map (term_of w) ps) (annos_of (term_of w t))) made.Oversize =
-      subst (λ us. Makes stands term_of w1 (term (head_of (term_of w t)) (map (term_of w) us) (annos_of (term_of w t))) made.Oversize) same
-      (subst (λ x. Makes stands term_of w1 (term (head_of (term_of w t)) (map (term_of w) seen) (annos_of (term_of w t))) x) is makes)
+      let large : Makes S w1 (term (head_of (S.term_of w t)) (map (S.term_of w) ps) (annos_of (S.term_of w t))) made.Oversize =
+      subst (λ us. Makes S w1 (term (head_of (S.term_of w t)) (map (S.term_of w) us) (annos_of (S.term_of w t))) made.Oversize) same
+      (subst (λ x. Makes S w1 (term (head_of (S.term_of w t)) (map (S.term_of w) seen) (annos_of (S.term_of w t))) x) is makes)
       in
-      rebuilds_none (keeps_grows covers covers_mark keeps) (rebuilt_large (term_of w) (term_of w t) ps (map (option_map (term_of w)) m.places.slots) large)
+      rebuilds_none keeps (rebuilt_large (S.term_of w) (S.term_of w t) ps (map (option_map (S.term_of w)) m.places.slots) large)
 
 in_order_whole : {R : Type 0} (f : R → Tree) (t : Tree) (done : List R) (e : Bindings) → rebuilt t (ok (in_order (trees f done) end) e) ≡ rebuilt t (ok (trees f (reverse done)) e)
 in_order_whole f t done e = ap (λ us. rebuilt t (ok us e)) (in_order_are f done [] ∙ ap (trees f) (append-nil (reverse done)))
 
-module _ {W R Y : Type 0} {S : Space W R Y} {w w1 : W} (body : ℕ) {next here : ℕ} {t : R} {m : Stacks R Y} {K : List (RefRecord R Y)} (done : List R) where
+module _ {W R Y N : Type 0} {S : Space W R Y N} {w w1 : W} (body : ℕ) {next here : ℕ} {t : R} {m : Stacks R Y} {K : List (RefRecord R Y)} (done : List R) where
   all_made : {n : RefState R Y} → RebuildsTo S w t (reverse done) m K next here w1 n → OnAll S w body next here t m.places.slots m.frames m.places.trail m.places.barrier K m.left done [] w1 n
   all_made (rebuilds g st is) = all_whole g st (in_order_whole (S.term_of w) (S.term_of w t) done (map (option_map (S.term_of w)) m.places.slots) ∙ is)
   all_made (rebuilds_none g is) = all_oversize g (in_order_whole (S.term_of w) (S.term_of w t) done (map (option_map (S.term_of w)) m.places.slots) ∙ is)
@@ -134,7 +139,7 @@ module _ {R Y : Type 0} (rs np : Records R Y) (kept : np ≡ record rs { left = 
   np_is : np ≡ rs
   np_is = kept ∙ ap (λ l. record rs { left = l }) same
 
-  module _ {W : Type 0} {S : Space W R Y} {w w1 : W} (body : ℕ) {next here : ℕ} {t : R} {m : Stacks R Y} {n : RefState R Y}
+  module _ {W N : Type 0} {S : Space W R Y N} {w w1 : W} (body : ℕ) {next here : ℕ} {t : R} {m : Stacks R Y} {n : RefState R Y}
       (made_so : RebuildsTo S w t (reverse (take v.done np.done)) m (records_in np.records (drop v.done np.done) (drop v.left np.left)) next here w1 n) where
     made_here : RebuildsTo S w t (reverse (take v.done rs.done)) m (records_in rs.records (drop v.done rs.done) (drop v.left rs.left)) next here w1 n
     made_here = subst (λ x. RebuildsTo S w t (reverse (take v.done x.done)) m (records_in x.records (drop v.done x.done) (drop v.left x.left)) next here w1 n) np_is made_so
@@ -152,7 +157,7 @@ module _ {R Y : Type 0} (rs np : Records R Y) (kept : np ≡ record rs { left = 
   rest_is : (cut : Records R Y) → cut ≡ record { records = np.records; done = drop v.done np.done; left = drop v.left np.left } → records_in rs.records (drop v.done rs.done) (drop v.left rs.left) ≡ records_of cut
   rest_is cut is = ap (λ x. records_in x.records (drop v.done x.done) (drop v.left x.left)) (sym np_is) ∙ ap (λ x. records_of x) (sym is)
 
-  module _ {W : Type 0} {S : Space W R Y} {w : W} (body next here : ℕ) (t : R) (e : Places R) (F : List Frame) (T : List ℕ) (b l : ℕ) (done : List R) (cut : Records R Y)
+  module _ {W N : Type 0} {S : Space W R Y N} {w : W} (body next here : ℕ) (t : R) (e : Places R) (F : List Frame) (T : List ℕ) (b l : ℕ) (done : List R) (cut : Records R Y)
       (is : cut ≡ record { records = np.records; done = drop v.done np.done; left = drop v.left np.left }) where
     pub one_fails : OnOne S w body next here t e F T b (records_in rs.records (drop v.done rs.done) (drop v.left rs.left)) l done (take v.left rs.left) (ref_failing e F T b (records_of cut) l)
     one_fails =
@@ -203,7 +208,7 @@ module _ {R Y : Type 0} (rs np : Records R Y) (kept : np ≡ record rs { left = 
       let x = ap (λ u. u.body) other in let y = ap (λ u. u.next_address) other in let z = ap (λ u. u.whole) other in
       cc
 
-  module _ {W : Type 0} {S : Space W R Y} {w : W} (here : ℕ) (e : Places R) (F : List Frame) (T : List ℕ) (b l : ℕ) where
+  module _ {W N : Type 0} {S : Space W R Y N} {w : W} (here : ℕ) (e : Places R) (F : List Frame) (T : List ℕ) (b l : ℕ) where
     pub all_goes : (stack : List (Record R Y)) → stack ≡ records.All others ∷ np.records →
         OnAll S w v.body v.next_address here v.whole e F T b (records_in rs.records (drop v.done rs.done) (drop v.left rs.left)) l (take v.done rs.done) (take v.left rs.left) w
         (ref_running others.body here part e F T b (records_in stack np.done np.left) l)
@@ -233,3 +238,33 @@ module _ {R Y : Type 0} (rs np : Records R Y) (kept : np ≡ record rs { left = 
         (ap (λ L. ref_running v.body here part e F T (length e) L l) (some_record_is found g k (state.saved here (length F) (length T) b) saves) ∙
         (ap (λ a. ref_running a here part e F T (length e) (with_record (records.Some others part found g k) np) l) (ap (λ u. u.body) (sym other)) ∙ sym leads))
         (some_goes_on marks))
+
+-- the last part of all(s) is done, and no other is left
+pub all_ends_last : {W R Y N : Type 0} {S : Space W R Y N} {w w1 : W} {here : ℕ} {m : Stacks R Y} {n : RefState R Y} (old rs np : Records R Y) (v ended : Traversed R) (t : R) → ended ≡ record v { done = suc v.done } → rs ≡ record old { done = t ∷ old.done } →
+    np ≡ record rs { left = np.left } → np.left ≡ rs.left → take ended.left rs.left ≡ [] →
+    RebuildsTo S w ended.whole (reverse (take ended.done np.done)) m (records_in np.records (drop ended.done np.done) (drop ended.left np.left)) ended.next_address here w1 n →
+    OnAll S w v.body v.next_address here v.whole m.places.slots m.frames m.places.trail m.places.barrier (records_in old.records (drop v.done old.done) (drop v.left old.left)) m.left (t ∷ take v.done old.done) (take v.left old.left) w1 n
+all_ends_last {S = S} {w} {w1} {here} {m} {n} old rs np v ended t one_more put kept same none h =
+    subst (λ r. OnAll S w v.body v.next_address here v.whole m.places.slots m.frames m.places.trail m.places.barrier (records_in r.records (drop (suc v.done) r.done) (drop v.left r.left)) m.left (take (suc v.done) r.done) (take v.left r.left) w1 n) put
+    (subst (λ u. OnAll S w u.body u.next_address here u.whole m.places.slots m.frames m.places.trail m.places.barrier (records_in rs.records (drop u.done rs.done) (drop u.left rs.left)) m.left (take u.done rs.done) (take u.left rs.left) w1 n) one_more
+    (all_ends rs np kept ended same none ended.body h))
+
+-- all(s) goes on with its next part, its record changed in place
+pub all_advances : {W R Y N : Type 0} {S : Space W R Y N} {M : Meaning} {w : W} {i here b l : ℕ} {t : R} {e : Places R} {F : List Frame} {T : List ℕ} (rs : Records R Y) (new : List (Record R Y)) (others done : List R) (body : ℕ) (part : R) →
+    AdvancesAll rs.records rs.left body part new others → done ≡ t ∷ rs.done → Does S M w part_done i here t e F T b (records_of rs) l w (ref_running body here part e F T b (records_in new done others) l)
+all_advances {S = S} {M} {w} {i} {here} {b} {l} {t} {e} {F} {T} rs new others done body part a put =
+    let v = a.traversed in
+    let k = v.left - 1 in
+    let some_left = a.more in
+    let one_less : v.left ≡ suc k = omega (arith, some_left) in
+    let K0 = records_in a.rest (drop v.done rs.done) (drop k others) in
+    let before : records_of rs ≡ ref_all v.body v.next_address v.whole (take v.done rs.done) (part ∷ take k others) ∷ K0 =
+    ap (λ x. records_in x rs.done rs.left) a.was ∙
+    (ap (λ E. ref_all v.body v.next_address v.whole (take v.done rs.done) (take v.left E) ∷ records_in a.rest (drop v.done rs.done) (drop v.left E)) a.taken ∙
+    ap (λ j. ref_all v.body v.next_address v.whole (take v.done rs.done) (take j (part ∷ others)) ∷ records_in a.rest (drop v.done rs.done) (drop j (part ∷ others))) one_less) in
+    let after : ref_all v.body v.next_address v.whole (t ∷ take v.done rs.done) (take k others) ∷ K0 ≡ records_in new done others =
+    sym (ap (λ x. records_in x done others) a.is ∙ ap (λ D. ref_all v.body v.next_address v.whole (take (suc v.done) D) (take k others) ∷ records_in a.rest (drop (suc v.done) D) (drop k others)) put) in
+    subst (λ K. Does S M w part_done i here t e F T b K l w (ref_running body here part e F T b (records_in new done others) l)) (sym before)
+    (subst (λ K. Does S M w part_done i here t e F T b (ref_all v.body v.next_address v.whole (take v.done rs.done) (part ∷ take k others) ∷ K0) l w (ref_running body here part e F T b K l)) after
+    (subst (λ a. Does S M w part_done i here t e F T b (ref_all v.body v.next_address v.whole (take v.done rs.done) (part ∷ take k others) ∷ K0) l w (ref_running a here part e F T b (ref_all v.body v.next_address v.whole (t ∷ take v.done rs.done) (take k others) ∷ K0) l)) (sym a.code)
+    (part_of_all all_goes_on)))

@@ -1,5 +1,6 @@
 -- What a build makes over references into a space.
 use Rattle.std.specs.Prelude.{◌≡◌, ℕ, Bool, true, false, IsTrue, Option, Some, None, List, [], ◌∷◌, ◌++◌, map, slice_get}
+use Rattle.term_model.specs.Space.{Space}
 use Rattle.term_model.specs.declared.term.Head.TheVariants as heads
 use Rattle.term_model.specs.declared.made.Made.{Made}
 use Rattle.term_model.specs.declared.made.Made.TheVariants as made
@@ -70,33 +71,33 @@ module _ {W R : Type 0} (term_of : W → R → Tree) (w : W) where
   AreBuilt all rs pushed.NoInstance = (o : Option Trees) → all o ≡ None
   AreBuilt all rs pushed.Oversize = (us : List Tree) × ((o : Option Trees) → all o ≡ in_front us o) × (all_fit (trees_of us) ≡ false)
 
-module _ {W R : Type 0} (stands : W → R → Bool) (term_of : W → R → Tree) (w : W) where
+module _ {W R Y N : Type 0} (S : Space W R Y N) (w : W) where
   -- the reference of the instance, which fits; none; or that the instance does not fit
   abbrev pub Builds : Option Tree → Built R → Type 0
-  Builds o (built.Made r) = IsTrue (stands w r) × (o ≡ Some (term_of w r)) × (fits (term_of w r) ≡ true)
+  Builds o (built.Made r) = IsTrue (S.stands w r) × (o ≡ Some (S.term_of w r)) × (fits (S.term_of w r) ≡ true)
   Builds o built.NoInstance = o ≡ None
   Builds o built.Oversize = (t : Tree) × (o ≡ Some t) × (fits t ≡ false)
 
   -- the list at the end of the elements stands
   abbrev pub TailStands : Elements R → Type 0
   TailStands elements.All = Unit {0}
-  TailStands (elements.Before r) = IsTrue (stands w r) × (head_of (term_of w r) ≡ heads.List)
+  TailStands (elements.Before r) = IsTrue (S.stands w r) × (head_of (S.term_of w r) ≡ heads.List)
   TailStands elements.NoInstance = Unit {0}
   TailStands elements.Oversize = Unit {0}
 
   -- the elements of a list: those on the stack, and those of the list at their end; or that there is none, or one does not fit
   abbrev pub AreElements : Option Trees → List R → Elements R → Type 0
-  AreElements all rs elements.All = all ≡ Some (trees_of (map (term_of w) rs))
-  AreElements all rs (elements.Before r) = IsTrue (stands w r) × (head_of (term_of w r) ≡ heads.List) × (all ≡ Some (trees_of (map (term_of w) rs ++ parts_of (term_of w r))))
+  AreElements all rs elements.All = all ≡ Some (trees_of (map (S.term_of w) rs))
+  AreElements all rs (elements.Before r) = IsTrue (S.stands w r) × (head_of (S.term_of w r) ≡ heads.List) × (all ≡ Some (trees_of (map (S.term_of w) rs ++ parts_of (S.term_of w r))))
   AreElements all rs elements.NoInstance = all ≡ None
   AreElements all rs elements.Oversize = (us : Trees) × (all ≡ Some us) × (all_fit us ≡ false)
 
-module _ {W R : Type 0} (stands : W → R → Bool) (w : W) where
+module _ {W R Y N : Type 0} (S : Space W R Y N) (w : W) where
   -- references were put on the stack, and they are what is said of them
   pub record Puts (old new : List R) (Are : List R → Type 0) : Type 0 where
     pub put : List R
     pub after : new ≡ old ++ put
-    pub standing : AllRefs (λ r. IsTrue (stands w r)) put
+    pub standing : AllRefs (λ r. IsTrue (S.stands w r)) put
     pub are : Are put
 
 module _ {W R : Type 0} (term_of : W → R → Tree) (w : W) where

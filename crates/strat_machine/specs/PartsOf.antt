@@ -1,11 +1,12 @@
 -- The parts of a term on a stack.
-use Rattle.std.specs.Prelude.{◌≡◌, ℕ, Bool, IsTrue, List, ◌++◌, length, map, reverse, All}
-use Rattle.term_model.specs.Term.{Tree, parts_of}
+use Rattle.std.specs.Prelude.{◌≡◌, ℕ, IsTrue, List, ◌++◌, length, map, reverse, All}
+use Rattle.term_model.specs.Space.{Space}
+use Rattle.term_model.specs.Term.{parts_of}
 
--- n references of the parts of a term are put on a stack, the last part on top
-pub record PutsParts {W R : Type 0} (stands : W → R → Bool) (term_of : W → R → Tree) (w : W) (t : R) (n : ℕ) (old new : List R) : Type 0 where
+-- n references of the parts of a term are put on a stack, the first part on top
+pub record PutsParts {W R Y N : Type 0} (S : Space W R Y N) (w : W) (t : R) (n : ℕ) (old new : List R) : Type 0 where
   pub parts : List R
-  pub after : new ≡ reverse parts ++ old
+  pub after : new ≡ parts ++ old
   pub count : n ≡ length parts
-  pub standing : All (λ r. IsTrue (stands w r)) parts
-  pub are : map (term_of w) parts ≡ parts_of (term_of w t)
+  pub standing : All (λ r. IsTrue (S.stands w r)) parts
+  pub are : map (S.term_of w) parts ≡ parts_of (S.term_of w t)

@@ -8,18 +8,18 @@ use term_model::{Made, TermSpace};
 
 /// How many annotations a term has.
 pub(crate) fn anno_count<S: TermSpace>(space: &S, at: &S::Ref) -> usize
-    requires { IsTrue (S.stands space.now at.now) }
-    ensures { result ≡ length (annos_of (S.term_of space.now at.now)) }
+    requires { IsTrue (S.space.stands space.now at.now) }
+    ensures { result ≡ length (annos_of (S.space.term_of space.now at.now)) }
 {
     space.shape(at).annos.len()
 }
 
 /// The annotation at an index.
 pub(crate) fn anno<S: TermSpace>(space: &S, at: &S::Ref, index: usize) -> Result<S::Ref, AllocError>
-    requires stands { IsTrue (S.stands space.now at.now) }
-    requires within { index < length (annos_of (S.term_of space.now at.now)) }
-    ensures stands { IfOk result (λ r. IsTrue (S.stands space.now r)) }
-    ensures term { IfOk result (λ r. slice_get (annos_of (S.term_of space.now at.now)) index ≡ Some (S.term_of space.now r)) }
+    requires stands { IsTrue (S.space.stands space.now at.now) }
+    requires within { index < length (annos_of (S.space.term_of space.now at.now)) }
+    ensures stands { IfOk result (λ r. IsTrue (S.space.stands space.now r)) }
+    ensures term { IfOk result (λ r. slice_get (annos_of (S.space.term_of space.now at.now)) index ≡ Some (S.space.term_of space.now r)) }
 {
     match space.shape(at).annos.get(index) {
         Some(reference) => {
@@ -36,16 +36,15 @@ pub(crate) fn bare<S: TermSpace>(
     alloc: Global,
     at: &S::Ref,
 ) -> Result<S::Ref, AllocError>
-    requires { IsTrue (S.stands space.old at.now) }
-    ensures keeps { Keeps S.stands S.term_of S.is_valid S.knows S.symbol_of space.old space.new }
-    ensures stands { IfOk result (λ r. IsTrue (S.stands space.new r)) }
-    ensures term { IfOk result (λ r. S.term_of space.new r ≡ term (head_of (S.term_of space.old at.now)) (parts_of (S.term_of space.old at.now)) []) }
+    requires { IsTrue (S.space.stands space.old at.now) }
+    ensures keeps { Keeps S.space space.old space.new }
+    ensures stands { IfOk result (λ r. IsTrue (S.space.stands space.new r)) }
+    ensures term { IfOk result (λ r. S.space.term_of space.new r ≡ term (head_of (S.space.term_of space.old at.now)) (parts_of (S.space.term_of space.old at.now)) []) }
 {
     if anno_count(space, at) == 0 {
         let same = space.dup(at)?;
         return Ok(same);
     }
-    space.fits(at);
     match space.with_annos(alloc, at, &[])? {
         Made::Fits(reference) => Ok(reference),
         Made::Oversize => unreachable!(),

@@ -60,8 +60,8 @@ pub(crate) fn value<'a, S: TermSpace>(
     variable: Coordinate,
     slots: &'a [Option<S::Ref>],
 ) -> Option<&'a S::Ref>
-    requires { AllPlaces (λ r. IsTrue (S.stands space.now r)) slots.now }
-    ensures { MatchOption result (value_in (place_at frames.now here variable) (map (option_map (S.term_of space.now)) slots.now) ≡ None) (λ r. IsTrue (S.stands space.now r.now) × (value_in (place_at frames.now here variable) (map (option_map (S.term_of space.now)) slots.now) ≡ Some (S.term_of space.now r.now))) }
+    requires { AllPlaces (λ r. IsTrue (S.space.stands space.now r)) slots.now }
+    ensures { MatchOption result (value_in (place_at frames.now here variable) (map (option_map (S.space.term_of space.now)) slots.now) ≡ None) (λ r. IsTrue (S.space.stands space.now r.now) × (value_in (place_at frames.now here variable) (map (option_map (S.space.term_of space.now)) slots.now) ≡ Some (S.space.term_of space.now r.now))) }
 {
     let _ = space;
     held(frames, here, variable, slots)
@@ -93,11 +93,11 @@ pub(crate) fn build<S: TermSpace>(
     pattern: &LoadedPattern<S::Name>,
     stack: &mut Vec<S::Ref>,
 ) -> Result<Built<S::Ref>, AllocError>
-    requires known { Known (S.knows space.old) pattern.now }
-    requires slots { AllPlaces (λ r. IsTrue (S.stands space.old r)) slots.now }
-    ensures keeps { Keeps S.stands S.term_of S.is_valid S.knows S.symbol_of space.old space.new }
+    requires known { Known (S.space.knows space.old) pattern.now }
+    requires slots { AllPlaces (λ r. IsTrue (S.space.stands space.old r)) slots.now }
+    ensures keeps { Keeps S.space space.old space.new }
     ensures stack { IfOk result (λ _. stack.new.items ≡ stack.old.items) }
-    ensures built { IfOk result (Builds S.stands S.term_of space.new (instance (place_at frames.now here) (loaded_of (S.symbol_of space.old) pattern.now) (map (option_map (S.term_of space.old)) slots.now))) }
+    ensures built { IfOk result (Builds S.space space.new (instance (place_at frames.now here) (loaded_of (S.space.symbol_of space.old) pattern.now) (map (option_map (S.space.term_of space.old)) slots.now))) }
 {
     match pattern {
         LoadedPattern::Anything => Ok(Built::NoInstance),
@@ -106,13 +106,11 @@ pub(crate) fn build<S: TermSpace>(
             let Some(at) = value(space, frames, here, *x, slots) else {
                 return Ok(Built::NoInstance);
             };
-            space.fits(at);
             let reference = space.dup(at)?;
             Ok(Built::Made(reference))
         }
         LoadedPattern::Integer(number) => {
             let integer = space.int(alloc, *number)?;
-            space.fits(&integer);
             Ok(Built::Made(integer))
         }
         LoadedPattern::Applied(name, parts) => {
@@ -160,15 +158,14 @@ fn make_like<S: TermSpace>(
     like: &S::Ref,
     stack: &mut Vec<S::Ref>,
 ) -> Result<Built<S::Ref>, AllocError>
-    requires known { Known (S.knows space.old) pattern.now }
-    requires slots { AllPlaces (λ r. IsTrue (S.stands space.old r)) slots.now }
-    requires like { IsTrue (S.stands space.old like.now) }
-    ensures keeps { Keeps S.stands S.term_of S.is_valid S.knows S.symbol_of space.old space.new }
+    requires known { Known (S.space.knows space.old) pattern.now }
+    requires slots { AllPlaces (λ r. IsTrue (S.space.stands space.old r)) slots.now }
+    requires like { IsTrue (S.space.stands space.old like.now) }
+    ensures keeps { Keeps S.space space.old space.new }
     ensures stack { IfOk result (λ _. stack.new.items ≡ stack.old.items) }
-    ensures built { IfOk result (Builds S.stands S.term_of space.new (made_like (instance (place_at frames.now here) (loaded_of (S.symbol_of space.old) pattern.now) (map (option_map (S.term_of space.old)) slots.now)) (Some (S.term_of space.old like.now)))) }
+    ensures built { IfOk result (Builds S.space space.new (made_like (instance (place_at frames.now here) (loaded_of (S.space.symbol_of space.old) pattern.now) (map (option_map (S.space.term_of space.old)) slots.now)) (Some (S.space.term_of space.old like.now)))) }
 {
     let from = stack.len();
-    space.fits(like);
     space.push_annos(like, stack)?;
     let built = make_with(
         space,
@@ -199,13 +196,13 @@ fn make_with<S: TermSpace>(
     from: usize,
     stack: &mut Vec<S::Ref>,
 ) -> Result<Built<S::Ref>, AllocError>
-    requires known { Known (S.knows space.old) pattern.now }
-    requires slots { AllPlaces (λ r. IsTrue (S.stands space.old r)) slots.now }
+    requires known { Known (S.space.knows space.old) pattern.now }
+    requires slots { AllPlaces (λ r. IsTrue (S.space.stands space.old r)) slots.now }
     requires from { from ≤ length stack.old.items }
-    requires standing { AllRefs (λ r. IsTrue (S.stands space.old r)) (drop from stack.old.items) }
-    ensures keeps { Keeps S.stands S.term_of S.is_valid S.knows S.symbol_of space.old space.new }
+    requires standing { AllRefs (λ r. IsTrue (S.space.stands space.old r)) (drop from stack.old.items) }
+    ensures keeps { Keeps S.space space.old space.new }
     ensures stack { IfOk result (λ _. stack.new.items ≡ stack.old.items) }
-    ensures built { IfOk result (λ made. (all : Option Trees → Option Trees) → AreBuilt S.term_of space.old all (drop from stack.old.items) pushed → Builds S.stands S.term_of space.new (made_with (instance (place_at frames.now here) (loaded_of (S.symbol_of space.old) pattern.now) (map (option_map (S.term_of space.old)) slots.now)) (all (Some end))) made) }
+    ensures built { IfOk result (λ made. (all : Option Trees → Option Trees) → AreBuilt S.space.term_of space.old all (drop from stack.old.items) pushed → Builds S.space space.new (made_with (instance (place_at frames.now here) (loaded_of (S.space.symbol_of space.old) pattern.now) (map (option_map (S.space.term_of space.old)) slots.now)) (all (Some end))) made) }
 {
     match pattern {
         LoadedPattern::Anything => Ok(Built::NoInstance),
@@ -261,11 +258,11 @@ fn have_instances<S: TermSpace>(
     patterns: &[LoadedPattern<S::Name>],
     stack: &mut Vec<S::Ref>,
 ) -> Result<bool, AllocError>
-    requires known { AllKnown (S.knows space.old) patterns.now }
-    requires slots { AllPlaces (λ r. IsTrue (S.stands space.old r)) slots.now }
-    ensures keeps { Keeps S.stands S.term_of S.is_valid S.knows S.symbol_of space.old space.new }
+    requires known { AllKnown (S.space.knows space.old) patterns.now }
+    requires slots { AllPlaces (λ r. IsTrue (S.space.stands space.old r)) slots.now }
+    ensures keeps { Keeps S.space space.old space.new }
     ensures stack { IfOk result (λ _. stack.new.items ≡ stack.old.items) }
-    ensures all { IfOk result (λ yes. yes ≡ is_some (instances (place_at frames.now here) (all_loaded_of (S.symbol_of space.old) patterns.now) (map (option_map (S.term_of space.old)) slots.now))) }
+    ensures all { IfOk result (λ yes. yes ≡ is_some (instances (place_at frames.now here) (all_loaded_of (S.space.symbol_of space.old) patterns.now) (map (option_map (S.space.term_of space.old)) slots.now))) }
 {
     let from = stack.len();
     let pushed = push_all(space, alloc, frames, here, slots, patterns, stack)?;
@@ -288,10 +285,10 @@ fn push_rest<S: TermSpace>(
     rest: &Option<Box<LoadedPattern<S::Name>>>,
     stack: &mut Vec<S::Ref>,
 ) -> Result<Elements<S::Ref>, AllocError>
-    requires known { RestKnown (S.knows space.old) rest.now }
-    requires slots { AllPlaces (λ r. IsTrue (S.stands space.old r)) slots.now }
-    ensures keeps { Keeps S.stands S.term_of S.is_valid S.knows S.symbol_of space.old space.new }
-    ensures elements { IfOk result (λ made. Puts S.stands space.new stack.old.items stack.new.items (λ rs. AreElements S.stands S.term_of space.new (element_instances (place_at frames.now here) (elements_in [] (rest_loaded_of (S.symbol_of space.old) rest.now)) (map (option_map (S.term_of space.old)) slots.now)) rs made)) }
+    requires known { RestKnown (S.space.knows space.old) rest.now }
+    requires slots { AllPlaces (λ r. IsTrue (S.space.stands space.old r)) slots.now }
+    ensures keeps { Keeps S.space space.old space.new }
+    ensures elements { IfOk result (λ made. Puts S.space space.new stack.old.items stack.new.items (λ rs. AreElements S.space space.new (element_instances (place_at frames.now here) (elements_in [] (rest_loaded_of (S.space.symbol_of space.old) rest.now)) (map (option_map (S.space.term_of space.old)) slots.now)) rs made)) }
 {
     match rest {
         None => Ok(Elements::All),
@@ -313,10 +310,10 @@ fn push_tail<S: TermSpace>(
     pattern: &LoadedPattern<S::Name>,
     stack: &mut Vec<S::Ref>,
 ) -> Result<Elements<S::Ref>, AllocError>
-    requires known { Known (S.knows space.old) pattern.now }
-    requires slots { AllPlaces (λ r. IsTrue (S.stands space.old r)) slots.now }
-    ensures keeps { Keeps S.stands S.term_of S.is_valid S.knows S.symbol_of space.old space.new }
-    ensures elements { IfOk result (λ made. Puts S.stands space.new stack.old.items stack.new.items (λ rs. AreElements S.stands S.term_of space.new (elements_of (instance (place_at frames.now here) (loaded_of (S.symbol_of space.old) pattern.now) (map (option_map (S.term_of space.old)) slots.now))) rs made)) }
+    requires known { Known (S.space.knows space.old) pattern.now }
+    requires slots { AllPlaces (λ r. IsTrue (S.space.stands space.old r)) slots.now }
+    ensures keeps { Keeps S.space space.old space.new }
+    ensures elements { IfOk result (λ made. Puts S.space space.new stack.old.items stack.new.items (λ rs. AreElements S.space space.new (elements_of (instance (place_at frames.now here) (loaded_of (S.space.symbol_of space.old) pattern.now) (map (option_map (S.space.term_of space.old)) slots.now))) rs made)) }
 {
     match pattern {
         LoadedPattern::Variable(x) => {
@@ -364,10 +361,10 @@ pub(crate) fn build_all<S: TermSpace>(
     patterns: &[LoadedPattern<S::Name>],
     stack: &mut Vec<S::Ref>,
 ) -> Result<Pushed, AllocError>
-    requires known { AllKnown (S.knows space.old) patterns.now }
-    requires slots { AllPlaces (λ r. IsTrue (S.stands space.old r)) slots.now }
-    ensures keeps { Keeps S.stands S.term_of S.is_valid S.knows S.symbol_of space.old space.new }
-    ensures built { IfOk result (λ made. Puts S.stands space.new stack.old.items stack.new.items (λ rs. AreArguments S.term_of space.new (instances (place_at frames.now here) (all_loaded_of (S.symbol_of space.old) patterns.now) (map (option_map (S.term_of space.old)) slots.now)) rs made)) }
+    requires known { AllKnown (S.space.knows space.old) patterns.now }
+    requires slots { AllPlaces (λ r. IsTrue (S.space.stands space.old r)) slots.now }
+    ensures keeps { Keeps S.space space.old space.new }
+    ensures built { IfOk result (λ made. Puts S.space space.new stack.old.items stack.new.items (λ rs. AreArguments S.space.term_of space.new (instances (place_at frames.now here) (all_loaded_of (S.space.symbol_of space.old) patterns.now) (map (option_map (S.space.term_of space.old)) slots.now)) rs made)) }
 {
     if patterns.is_empty() {
         return Ok(Pushed::All);
@@ -399,10 +396,10 @@ fn push_all<S: TermSpace>(
     patterns: &[LoadedPattern<S::Name>],
     stack: &mut Vec<S::Ref>,
 ) -> Result<Pushed, AllocError>
-    requires known { AllKnown (S.knows space.old) patterns.now }
-    requires slots { AllPlaces (λ r. IsTrue (S.stands space.old r)) slots.now }
-    ensures keeps { Keeps S.stands S.term_of S.is_valid S.knows S.symbol_of space.old space.new }
-    ensures built { IfOk result (λ made. Puts S.stands space.new stack.old.items stack.new.items (λ rs. AreBuilt S.term_of space.new (instances_then (place_at frames.now here) (map (option_map (S.term_of space.old)) slots.now) (map (loaded_of (S.symbol_of space.old)) patterns.now)) rs made)) }
+    requires known { AllKnown (S.space.knows space.old) patterns.now }
+    requires slots { AllPlaces (λ r. IsTrue (S.space.stands space.old r)) slots.now }
+    ensures keeps { Keeps S.space space.old space.new }
+    ensures built { IfOk result (λ made. Puts S.space space.new stack.old.items stack.new.items (λ rs. AreBuilt S.space.term_of space.new (instances_then (place_at frames.now here) (map (option_map (S.space.term_of space.old)) slots.now) (map (loaded_of (S.space.symbol_of space.old)) patterns.now)) rs made)) }
 {
     let mut fit = true;
     for p in patterns {
@@ -429,11 +426,11 @@ fn build_part<S: TermSpace>(
     pattern: &LoadedPattern<S::Name>,
     stack: &mut Vec<S::Ref>,
 ) -> Result<Built<S::Ref>, AllocError>
-    requires known { Known (S.knows space.old) pattern.now }
-    requires slots { AllPlaces (λ r. IsTrue (S.stands space.old r)) slots.now }
-    ensures keeps { Keeps S.stands S.term_of S.is_valid S.knows S.symbol_of space.old space.new }
+    requires known { Known (S.space.knows space.old) pattern.now }
+    requires slots { AllPlaces (λ r. IsTrue (S.space.stands space.old r)) slots.now }
+    ensures keeps { Keeps S.space space.old space.new }
     ensures stack { IfOk result (λ _. stack.new.items ≡ stack.old.items) }
-    ensures built { IfOk result (Builds S.stands S.term_of space.new (instance (place_at frames.now here) (loaded_of (S.symbol_of space.old) pattern.now) (map (option_map (S.term_of space.old)) slots.now))) }
+    ensures built { IfOk result (Builds S.space space.new (instance (place_at frames.now here) (loaded_of (S.space.symbol_of space.old) pattern.now) (map (option_map (S.space.term_of space.old)) slots.now))) }
 {
     let LoadedPattern::Variable(x) = pattern else {
         let built = build(space, alloc, frames, here, slots, pattern, stack)?;
@@ -442,7 +439,6 @@ fn build_part<S: TermSpace>(
     let Some(at) = value(space, frames, here, *x, slots) else {
         return Ok(Built::NoInstance);
     };
-    space.fits(at);
     let reference = space.dup(at)?;
     Ok(Built::Made(reference))
 }
@@ -477,8 +473,8 @@ fn joined<R: Drop>(firsts: Pushed, others: Elements<R>) -> Elements<R>
 
 /// The list of the reference, if it is one, for further elements in front of its own.
 fn list_before<S: TermSpace>(space: &S, at: &S::Ref) -> Result<Elements<S::Ref>, AllocError>
-    requires { IsTrue (S.stands space.now at.now) }
-    ensures { IfOk result (AreElements S.stands S.term_of space.now (elements_of (Some (S.term_of space.now at.now))) []) }
+    requires { IsTrue (S.space.stands space.now at.now) }
+    ensures { IfOk result (AreElements S.space space.now (elements_of (Some (S.space.term_of space.now at.now))) []) }
 {
     match space.list_len(at) {
         None => Ok(Elements::NoInstance),

@@ -1,11 +1,11 @@
 // Calls of definitions, whose term arguments are there.
-ghost use Rattle.std.specs.Prelude.{◌≡◌, IfOk, OnOk, map, take, drop};
+ghost use Rattle.std.specs.Prelude.{◌≡◌, OnOk, map, take, drop};
 ghost use Rattle.strat_code.specs.CodeOf.{argument_of};
 ghost use Rattle.strat_machine.specs.Stacks.{state_of};
 ghost use Rattle.strat_machine.specs.Entered.{entered};
+ghost use Rattle.strat_machine.specs.declared.stacks.Next.TheVariants.{Running};
 
-use crate::records::Record;
-use crate::stacks::{Phase, Stacks};
+use crate::stacks::{Position, Stacks};
 use std::alloc::AllocError;
 use strat_code::Argument;
 use term_model::TermSpace;
@@ -27,25 +27,23 @@ pub(crate) fn enter_definition<S: TermSpace>(
     arguments: &[Argument],
     terms: &mut Vec<S::Ref>,
     from: usize,
-    frame: usize,
-    term: S::Ref,
-) -> Result<Phase<S::Ref>, AllocError>
-    ensures state { IfOk result (λ phase. state_of phase stacks.new ≡ entered stacks.old callee.frames callee.entry callee.room callee.next_address frame (map argument_of arguments.now) (drop from terms.old.items) term) }
+    position: &mut Position<S::Ref>,
+) -> Result<(), AllocError>
+    ensures state { OnOk result (state_of Running position.new stacks.new ≡
+        entered stacks.old callee.frames callee.entry callee.room callee.next_address position.old.frame
+        (map argument_of arguments.now) (drop from terms.old.items) position.old.term) }
     ensures terms { OnOk result (terms.new.items ≡ take from terms.old.items) }
 {
     let inner = stacks.frames.len();
-    let up = stacks.frames.frames_up(frame, callee.frames);
+    let here = position.frame;
+    let up = stacks.frames.frames_up(here, callee.frames);
     let base = stacks.places.len();
-    stacks.frames.push_call(base, up, frame, arguments)?;
+    stacks.frames.push_call(base, up, here, arguments)?;
     stacks.places.push_terms(terms, from)?;
     stacks.places.extend(callee.room)?;
-    stacks.records.records.push(Record::Call {
-        next_address: callee.next_address,
-        frame,
-    })?;
-    Ok(Phase::Running {
-        address: callee.entry,
-        frame: inner,
-        term,
-    })
+    let records = &mut stacks.records.records;
+    records.push_call(callee.next_address, here)?;
+    position.address = callee.entry;
+    position.frame = inner;
+    Ok(())
 }

@@ -2,19 +2,17 @@
 ghost use Rattle.std.specs.Prelude.{IsTrue};
 ghost use Rattle.prim_registry.specs.Entries.{IsHonest, entries_of};
 ghost use Rattle.strat_steps.specs.Marks.{Holds};
-ghost use Rattle.strat_machine.specs.Operands.{IsLoadedCode};
+ghost use Rattle.strat_machine.specs.Actions.{IsLoadedProgram};
 ghost use Rattle.strat_steps.specs.References.{AllPlaces};
 ghost use Rattle.strat_machine.specs.Running.{IsClear};
-ghost use Rattle.strat_machine.specs.SpaceOf.{space_of};
 ghost use Rattle.strat_machine.specs.Stacks.{state_of};
 
 use crate::building::value;
 use crate::frames::Frames;
-use crate::partial::{Notes, run_part};
-use crate::program::LoadedCode;
-use crate::records::{Record, Records};
+use crate::partial::{Notes, Progress, run_part};
+use crate::program::LoadedProgram;
 use crate::shortening::first_nodes;
-use crate::stacks::{Phase, Stacks, Stop};
+use crate::stacks::{Next, Stacks};
 use crate::variables::variables_of;
 use prim_registry::{PrimMeaning, Registry};
 use std::alloc::{AllocError, Global};
@@ -71,34 +69,33 @@ pub(crate) fn account_of<S: TermSpace, M: PrimMeaning>(
     alloc: Global,
     stacks: &mut Stacks<S::Ref, S::Mark>,
     code: &Code,
-    loaded: &LoadedCode<S::Name>,
+    program: &LoadedProgram<S::Name>,
     registry: &Registry<M>,
     term: S::Ref,
     budget: u32,
 ) -> Result<Account, AllocError>
     requires clear { IsClear stacks.old }
-    requires stands { IsTrue (S.stands space.old term) }
+    requires stands { IsTrue (S.space.stands space.old term) }
     requires honest { IsHonest M.answer registry.now }
-    requires loaded { IsLoadedCode (S.knows space.old) (S.symbol_of space.old) S.number_of
-        (entries_of registry.now) loaded.now code.now.tables code.now.instrs }
+    requires loaded { IsLoadedProgram (S.space.knows space.old) (S.space.symbol_of space.old) (entries_of registry.now)
+        S.space.number_of program.now code.now.tables code.now.instrs }
 {
     let mut notes = Notes::new(alloc, code.len())?;
-    let phase = run_part(
+    let progress = run_part(
         space,
         alloc,
         stacks,
         code,
-        loaded,
+        program,
         registry,
         term,
         budget,
         u64::MAX,
         &mut notes,
     )?;
-    let ending = ending_of(phase);
     Ok(Account {
         rules: notes.rules,
-        ending,
+        ending: ending_of(progress.next),
         before_last: notes.before_last,
         before_deepest: notes.before_deepest,
     })
@@ -111,51 +108,47 @@ pub(crate) fn stand_after<S: TermSpace, M: PrimMeaning>(
     alloc: Global,
     stacks: &mut Stacks<S::Ref, S::Mark>,
     code: &Code,
-    loaded: &LoadedCode<S::Name>,
+    program: &LoadedProgram<S::Name>,
     registry: &Registry<M>,
     term: S::Ref,
     budget: u32,
     count: u64,
 ) -> Result<Option<Stand>, AllocError>
     requires clear { IsClear stacks.old }
-    requires stands { IsTrue (S.stands space.old term) }
+    requires stands { IsTrue (S.space.stands space.old term) }
     requires honest { IsHonest M.answer registry.now }
-    requires loaded { IsLoadedCode (S.knows space.old) (S.symbol_of space.old) S.number_of
-        (entries_of registry.now) loaded.now code.now.tables code.now.instrs }
+    requires loaded { IsLoadedProgram (S.space.knows space.old) (S.space.symbol_of space.old) (entries_of registry.now)
+        S.space.number_of program.now code.now.tables code.now.instrs }
 {
     let mut notes = Notes::new(alloc, 0)?;
-    let phase = run_part(
-        space, alloc, stacks, code, loaded, registry, term, budget, count, &mut notes,
+    let progress = run_part(
+        space, alloc, stacks, code, program, registry, term, budget, count, &mut notes,
     )?;
-    let stand = stand_in(space, alloc, stacks, code, &phase)?;
-    Ok(stand)
+    stand_at(space, alloc, stacks, code, &progress)
 }
 
-// Where a run stands in a phase, if an instruction comes next.
-fn stand_in<S: TermSpace>(
+// Where a run stands, if an instruction comes next.
+fn stand_at<S: TermSpace>(
     space: &S,
     alloc: Global,
     stacks: &Stacks<S::Ref, S::Mark>,
     code: &Code,
-    phase: &Phase<S::Ref>,
+    progress: &Progress<S::Ref>,
 ) -> Result<Option<Stand>, AllocError>
-    requires { Holds (space_of S.stands S.term_of S.is_valid S.covers S.covers_mark) space.now
-        (state_of phase.now stacks.now) }
+    requires { Holds S.space space.now (state_of progress.now.next progress.now.position stacks.now) }
 {
-    let Phase::Running {
-        address,
-        frame,
-        term,
-    } = phase
-    else {
+    if progress.next != Next::Running {
         return Ok(None);
-    };
-    let term = first_nodes(space, alloc, term)?;
+    }
+    let position = &progress.position;
+    let term = first_nodes(space, alloc, &position.term)?;
     let slots = stacks.places.slots();
-    let values = values_at(space, alloc, &stacks.frames, *frame, slots, code, *address)?;
-    let waiting = addresses_after(alloc, &stacks.records)?;
+    let here = position.frame;
+    let address = position.address;
+    let values = values_at(space, alloc, &stacks.frames, here, slots, code, address)?;
+    let waiting = stacks.records.records.addresses_after(alloc)?;
     Ok(Some(Stand {
-        address: *address,
+        address,
         term,
         values,
         waiting,
@@ -172,7 +165,7 @@ fn values_at<S: TermSpace>(
     code: &Code,
     address: usize,
 ) -> Result<Vec<Option<Term>>, AllocError>
-    requires { AllPlaces (λ r. IsTrue (S.stands space.now r)) slots.now }
+    requires { AllPlaces (λ r. IsTrue (S.space.stands space.now r)) slots.now }
 {
     let mut values = Vec::new(alloc);
     if address >= code.len() {
@@ -188,26 +181,12 @@ fn values_at<S: TermSpace>(
     Ok(values)
 }
 
-// The addresses after the calls that wait, the outermost first.
-fn addresses_after<R: Drop, M: Drop>(
-    alloc: Global,
-    records: &Records<R, M>,
-) -> Result<Vec<usize>, AllocError> {
-    let mut addresses = Vec::new(alloc);
-    for record in records.records.newest(records.records.len()) {
-        if let Record::Call { next_address, .. } = record {
-            addresses.push(*next_address)?;
-        }
-    }
-    Ok(addresses)
-}
-
-// How a run ended, whose last phase this is. Code of a program is never stuck.
-fn ending_of<R: Drop>(phase: Phase<R>) -> Ending {
-    match phase {
-        Phase::Rewritten(_) => Ending::Rewritten,
-        Phase::Stopped(Stop::Failed) => Ending::Failed,
-        Phase::Stopped(Stop::Oversize) => Ending::Oversize,
+// How a run ended, after whose last step this came next. Code of a program is never stuck.
+fn ending_of(next: Next) -> Ending {
+    match next {
+        Next::Rewritten => Ending::Rewritten,
+        Next::Failed => Ending::Failed,
+        Next::Oversize => Ending::Oversize,
         _ => Ending::Spent,
     }
 }

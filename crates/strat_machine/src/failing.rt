@@ -1,14 +1,17 @@
 // Steps after a failure.
-ghost use Rattle.std.specs.Prelude.{◌≡◌, IfOk, IsTrue};
+ghost use Rattle.std.specs.Prelude.{◌≡◌, [], IfOk, IsTrue};
 ghost use Rattle.strat_steps.specs.Marks.{MarksCover};
+ghost use Rattle.term_model.specs.Space.{KeepsNames};
 ghost use Rattle.term_model.specs.Flat.{Meaning};
 ghost use Rattle.strat_code.specs.Code.{Code};
-ghost use Rattle.strat_machine.specs.SpaceOf.{space_of};
+ghost use Rattle.strat_machine.specs.CompactRecords.{HasNoChoice};
 ghost use Rattle.strat_machine.specs.RecordStack.{records_of, with_record};
-ghost use Rattle.strat_machine.specs.Stacks.{FailsTo, IsSafe, KeepsNames};
+ghost use Rattle.strat_machine.specs.Stacks.{FailsTo, IsSafe};
+ghost use Rattle.strat_machine.specs.declared.stacks.Next.TheVariants.{Running};
 
+use crate::compact_records::Choice;
 use crate::records::{Record, Saved, Traversed};
-use crate::stacks::{Phase, Stacks, Stop};
+use crate::stacks::{Next, Position, Stacks};
 use crate::tries::{try_one, try_some};
 use std::alloc::AllocError;
 use term_model::TermSpace;
@@ -17,50 +20,69 @@ use term_model::TermSpace;
 pub(crate) fn fail<S: TermSpace>(
     space: &mut S,
     stacks: &mut Stacks<S::Ref, S::Mark>,
-) -> Result<Phase<S::Ref>, AllocError>
-    requires { IsSafe (space_of S.stands S.term_of S.is_valid S.covers S.covers_mark) space.old stacks.old (records_of stacks.old.records) }
-    ensures names { KeepsNames S.knows S.symbol_of space.old space.new }
-    ensures covered { (r : S.Ref) → MarksCover (space_of S.stands S.term_of S.is_valid S.covers S.covers_mark) r (records_of stacks.old.records) → IsTrue (S.stands space.old r) → IsTrue (S.stands space.new r) × (S.term_of space.new r ≡ S.term_of space.old r) }
-    ensures step { IfOk result (λ phase. (code : Code) (M : Meaning) → FailsTo (space_of S.stands S.term_of S.is_valid S.covers S.covers_mark) code M space.old stacks.old (records_of stacks.old.records) space.new phase stacks.new) }
+    position: &mut Position<S::Ref>,
+) -> Result<Next, AllocError>
+    requires { IsSafe S.space space.old stacks.old (records_of stacks.old.records) }
+    ensures names { KeepsNames S.space space.old space.new }
+    ensures covered { (r : S.Ref) → MarksCover S.space r (records_of stacks.old.records) → IsTrue (S.space.stands space.old r) → IsTrue (S.space.stands space.new r) × (S.space.term_of space.new r ≡ S.space.term_of space.old r) }
+    ensures step { IfOk result (λ next. (code : Code) (M : Meaning) → FailsTo S.space code M space.old stacks.old (records_of stacks.old.records) space.new next position.new stacks.new) }
 {
+    if stacks.records.records.is_choice() {
+        return Ok(fail_newest_choice(space, stacks, position));
+    }
+    if stacks.records.records.is_call() {
+        let _call = stacks.records.records.pop_call();
+        return Ok(Next::Failing);
+    }
     let Some(record) = stacks.records.records.pop() else {
-        return Ok(Phase::Stopped(Stop::Failed));
+        return Ok(Next::Failed);
     };
     match record {
-        Record::Call { .. } => Ok(Phase::Failing),
+        Record::Call { .. } => unreachable!(),
         Record::All { traversed } => {
             stacks.records.cut(traversed.done, traversed.left);
-            Ok(Phase::Failing)
+            Ok(Next::Failing)
         }
-        Record::Choice {
-            otherwise,
-            term,
-            saved,
-            mark,
-        } => {
-            let phase = fail_choice(space, stacks, otherwise, term, saved, mark);
-            Ok(phase)
-        }
+        Record::Choice { .. } => unreachable!(),
         Record::One {
             traversed,
             part,
             saved,
             mark,
-        } => {
-            let phase = fail_one(space, stacks, traversed, part, saved, mark)?;
-            Ok(phase)
-        }
+        } => fail_one(space, stacks, traversed, part, saved, mark, position),
         Record::Some {
             traversed,
             part,
             found,
             saved,
             mark,
-        } => {
-            let phase = fail_some(space, stacks, traversed, part, found, saved, mark)?;
-            Ok(phase)
-        }
+        } => fail_some(space, stacks, traversed, part, found, saved, mark, position),
     }
+}
+
+// After a failure in the first alternative of a choice, whose record is on.
+fn fail_newest_choice<S: TermSpace>(
+    space: &mut S,
+    stacks: &mut Stacks<S::Ref, S::Mark>,
+    position: &mut Position<S::Ref>,
+) -> Next
+    requires safe { IsSafe S.space space.old stacks.old (records_of stacks.old.records) }
+    requires choice { HasNoChoice stacks.old.records.records → stacks.old.records.records ≡ [] }
+    ensures names { KeepsNames S.space space.old space.new }
+    ensures covered { (r : S.Ref) → MarksCover S.space r (records_of stacks.old.records) → IsTrue (S.space.stands space.old r) → IsTrue (S.space.stands space.new r) × (S.space.term_of space.new r ≡ S.space.term_of space.old r) }
+    ensures step { (code : Code) (M : Meaning) → FailsTo S.space code M space.old stacks.old (records_of stacks.old.records) space.new result position.new stacks.new }
+{
+    let Some(choice) = stacks.records.records.pop_choice() else {
+        return Next::Failed;
+    };
+    let Choice {
+        otherwise,
+        term,
+        saved,
+        mark,
+    } = choice;
+    fail_choice(space, stacks, otherwise, term, saved, mark, position);
+    Next::Running
 }
 
 // After a failure in the first alternative of a choice, whose record is off.
@@ -71,20 +93,19 @@ fn fail_choice<S: TermSpace>(
     term: S::Ref,
     saved: Saved,
     mark: S::Mark,
-) -> Phase<S::Ref>
-    requires { IsSafe (space_of S.stands S.term_of S.is_valid S.covers S.covers_mark) space.old stacks.old (with_record (Record.Choice otherwise term saved mark) stacks.old.records) }
-    ensures names { KeepsNames S.knows S.symbol_of space.old space.new }
-    ensures covered { (r : S.Ref) → MarksCover (space_of S.stands S.term_of S.is_valid S.covers S.covers_mark) r (with_record (Record.Choice otherwise term saved mark) stacks.old.records) → IsTrue (S.stands space.old r) → IsTrue (S.stands space.new r) × (S.term_of space.new r ≡ S.term_of space.old r) }
-    ensures step { (code : Code) (M : Meaning) → FailsTo (space_of S.stands S.term_of S.is_valid S.covers S.covers_mark) code M space.old stacks.old (with_record (Record.Choice otherwise term saved mark) stacks.old.records) space.new result stacks.new }
+    position: &mut Position<S::Ref>,
+)
+    requires { IsSafe S.space space.old stacks.old (with_record (Record.Choice otherwise term saved mark) stacks.old.records) }
+    ensures names { KeepsNames S.space space.old space.new }
+    ensures covered { (r : S.Ref) → MarksCover S.space r (with_record (Record.Choice otherwise term saved mark) stacks.old.records) → IsTrue (S.space.stands space.old r) → IsTrue (S.space.stands space.new r) × (S.space.term_of space.new r ≡ S.space.term_of space.old r) }
+    ensures step { (code : Code) (M : Meaning) → FailsTo S.space code M space.old stacks.old (with_record (Record.Choice otherwise term saved mark) stacks.old.records) space.new Running position.new stacks.new }
 {
     space.back_to(mark); // Gives back what the first alternative made.
     stacks.places.go_back(saved.height, saved.barrier);
     stacks.frames.cut(saved.frames);
-    Phase::Running {
-        address: otherwise,
-        frame: saved.frame,
-        term,
-    }
+    position.address = otherwise;
+    position.frame = saved.frame;
+    position.term = term;
 }
 
 // After a failure on a part of one(s), whose record is off: the next part is tried, if there is one.
@@ -95,23 +116,25 @@ fn fail_one<S: TermSpace>(
     part: S::Ref,
     saved: Saved,
     mark: S::Mark,
-) -> Result<Phase<S::Ref>, AllocError>
-    requires { IsSafe (space_of S.stands S.term_of S.is_valid S.covers S.covers_mark) space.old stacks.old (with_record (Record.One traversed part saved mark) stacks.old.records) }
-    ensures names { KeepsNames S.knows S.symbol_of space.old space.new }
-    ensures covered { (r : S.Ref) → MarksCover (space_of S.stands S.term_of S.is_valid S.covers S.covers_mark) r (with_record (Record.One traversed part saved mark) stacks.old.records) → IsTrue (S.stands space.old r) → IsTrue (S.stands space.new r) × (S.term_of space.new r ≡ S.term_of space.old r) }
-    ensures step { IfOk result (λ phase. (code : Code) (M : Meaning) → FailsTo (space_of S.stands S.term_of S.is_valid S.covers S.covers_mark) code M space.old stacks.old (with_record (Record.One traversed part saved mark) stacks.old.records) space.new phase stacks.new) }
+    position: &mut Position<S::Ref>,
+) -> Result<Next, AllocError>
+    requires { IsSafe S.space space.old stacks.old (with_record (Record.One traversed part saved mark) stacks.old.records) }
+    ensures names { KeepsNames S.space space.old space.new }
+    ensures covered { (r : S.Ref) → MarksCover S.space r (with_record (Record.One traversed part saved mark) stacks.old.records) → IsTrue (S.space.stands space.old r) → IsTrue (S.space.stands space.new r) × (S.space.term_of space.new r ≡ S.space.term_of space.old r) }
+    ensures step { IfOk result (λ next. (code : Code) (M : Meaning) → FailsTo S.space code M space.old stacks.old (with_record (Record.One traversed part saved mark) stacks.old.records) space.new next position.new stacks.new) }
 {
     space.back_to(mark); // Gives back what was made of the part that failed.
     stacks.places.go_back(saved.height, saved.barrier);
     stacks.frames.cut(saved.frames);
     let Some(next) = stacks.records.next_part(traversed.left) else {
         stacks.records.cut(traversed.done, traversed.left);
-        return Ok(Phase::Failing);
+        return Ok(Next::Failing);
     };
     let others = traversed.one_more()?.one_less();
     stacks.records.done.push(part)?;
-    let phase = try_one(space, stacks, others, next, saved.frame)?;
-    Ok(phase)
+    position.frame = saved.frame;
+    try_one(space, stacks, others, next, position)?;
+    Ok(Next::Running)
 }
 
 // After a failure on a part of some(s), whose record is off: the next part is tried, or the traversal ends.
@@ -123,11 +146,12 @@ fn fail_some<S: TermSpace>(
     found: bool,
     saved: Saved,
     mark: S::Mark,
-) -> Result<Phase<S::Ref>, AllocError>
-    requires { IsSafe (space_of S.stands S.term_of S.is_valid S.covers S.covers_mark) space.old stacks.old (with_record (Record.Some traversed part found saved mark) stacks.old.records) }
-    ensures names { KeepsNames S.knows S.symbol_of space.old space.new }
-    ensures covered { (r : S.Ref) → MarksCover (space_of S.stands S.term_of S.is_valid S.covers S.covers_mark) r (with_record (Record.Some traversed part found saved mark) stacks.old.records) → IsTrue (S.stands space.old r) → IsTrue (S.stands space.new r) × (S.term_of space.new r ≡ S.term_of space.old r) }
-    ensures step { IfOk result (λ phase. (code : Code) (M : Meaning) → FailsTo (space_of S.stands S.term_of S.is_valid S.covers S.covers_mark) code M space.old stacks.old (with_record (Record.Some traversed part found saved mark) stacks.old.records) space.new phase stacks.new) }
+    position: &mut Position<S::Ref>,
+) -> Result<Next, AllocError>
+    requires { IsSafe S.space space.old stacks.old (with_record (Record.Some traversed part found saved mark) stacks.old.records) }
+    ensures names { KeepsNames S.space space.old space.new }
+    ensures covered { (r : S.Ref) → MarksCover S.space r (with_record (Record.Some traversed part found saved mark) stacks.old.records) → IsTrue (S.space.stands space.old r) → IsTrue (S.space.stands space.new r) × (S.space.term_of space.new r ≡ S.space.term_of space.old r) }
+    ensures step { IfOk result (λ next. (code : Code) (M : Meaning) → FailsTo S.space code M space.old stacks.old (with_record (Record.Some traversed part found saved mark) stacks.old.records) space.new next position.new stacks.new) }
 {
     space.back_to(mark); // Gives back what was made of it, and of no part before it.
     stacks.places.go_back(saved.height, saved.barrier);
@@ -135,22 +159,18 @@ fn fail_some<S: TermSpace>(
     let Some(next) = stacks.records.next_part(traversed.left) else {
         if !found {
             stacks.records.cut(traversed.done, traversed.left);
-            return Ok(Phase::Failing);
+            return Ok(Next::Failing);
         }
-        let address = traversed.next_address.saturating_sub(1);
+        position.address = traversed.next_address.saturating_sub(1);
+        position.frame = saved.frame;
+        position.term = part;
         stacks.records.left.cut(traversed.left);
-        let ending = Record::All {
-            traversed: traversed.none_left(),
-        };
-        stacks.records.records.push(ending)?;
-        return Ok(Phase::Running {
-            address,
-            frame: saved.frame,
-            term: part,
-        });
+        stacks.records.records.push_all(traversed.none_left())?;
+        return Ok(Next::Running);
     };
     let others = traversed.one_more()?.one_less();
     stacks.records.done.push(part)?;
-    let phase = try_some(space, stacks, others, next, found, saved.frame)?;
-    Ok(phase)
+    position.frame = saved.frame;
+    try_some(space, stacks, others, next, found, position)?;
+    Ok(Next::Running)
 }

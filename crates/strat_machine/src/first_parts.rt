@@ -13,9 +13,9 @@ pub(crate) fn first_parts<S: TermSpace>(
     at: &S::Ref,
     count: usize,
 ) -> Result<Vec<S::Ref>, AllocError>
-    requires { IsTrue (S.stands space.now at.now) }
+    requires { IsTrue (S.space.stands space.now at.now) }
     ensures { IfOk result (λ rs.
-        AreFirst S.stands S.term_of space.now (parts_of (S.term_of space.now at.now)) count rs.items) }
+        AreFirst S.space space.now (parts_of (S.space.term_of space.now at.now)) count rs.items) }
 {
     let mut parts = Vec::new(alloc);
     for part in space.parts(at).walk() {

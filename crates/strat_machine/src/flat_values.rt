@@ -19,8 +19,8 @@ pub(crate) fn flat_values<S: TermSpace>(
     alloc: Global,
     terms: &[S::Ref],
 ) -> Result<Option<Vec<Flat>>, AllocError>
-    requires { AllRefs (λ r. IsTrue (S.stands space.now r)) terms.now }
-    ensures { IfOk result (λ values. option_map (λ flats. values_of flats.items) values ≡ all_flat (trees_of (map (S.term_of space.now) terms.now))) }
+    requires { AllRefs (λ r. IsTrue (S.space.stands space.now r)) terms.now }
+    ensures { IfOk result (λ values. option_map (λ flats. values_of flats.items) values ≡ all_flat (trees_of (map (S.space.term_of space.now) terms.now))) }
 {
     let mut values = Vec::new(alloc);
     for term in terms {
@@ -40,8 +40,8 @@ fn flat_value<S: TermSpace>(
     alloc: Global,
     at: &S::Ref,
 ) -> Result<Option<Flat>, AllocError>
-    requires { IsTrue (S.stands space.now at.now) }
-    ensures { IfOk result (λ value. answer_of value ≡ flat_of (S.term_of space.now at.now)) }
+    requires { IsTrue (S.space.stands space.now at.now) }
+    ensures { IfOk result (λ value. answer_of value ≡ flat_of (S.space.term_of space.now at.now)) }
 {
     match space.head(at) {
         Top::Int(value) => Ok(Some(Flat::Int(value))),
@@ -76,8 +76,8 @@ fn numbers<S: TermSpace>(
     alloc: Global,
     list: &S::Ref,
 ) -> Result<Option<Numbers>, AllocError>
-    requires { IsTrue (S.stands space.now list.now) }
-    ensures { IfOk result (λ numbers. numbers ≡ integers_of (trees_of (parts_of (S.term_of space.now list.now)))) }
+    requires { IsTrue (S.space.stands space.now list.now) }
+    ensures { IfOk result (λ numbers. numbers ≡ integers_of (trees_of (parts_of (S.space.term_of space.now list.now)))) }
 {
     let mut elements = Vec::new(alloc);
     space.push_parts(list, &mut elements)?;
@@ -91,8 +91,8 @@ fn numbers_of<S: TermSpace>(
     alloc: Global,
     terms: &[S::Ref],
 ) -> Result<Option<Numbers>, AllocError>
-    requires { AllRefs (λ r. IsTrue (S.stands space.now r)) terms.now }
-    ensures { IfOk result (λ numbers. numbers ≡ integers_of (trees_of (map (S.term_of space.now) terms.now))) }
+    requires { AllRefs (λ r. IsTrue (S.space.stands space.now r)) terms.now }
+    ensures { IfOk result (λ numbers. numbers ≡ integers_of (trees_of (map (S.space.term_of space.now) terms.now))) }
 {
     let mut values = Vec::new(alloc);
     for term in terms {
@@ -112,13 +112,12 @@ pub(crate) fn make_flat<S: TermSpace>(
     alloc: Global,
     value: &Flat,
 ) -> Result<Made<S::Ref>, AllocError>
-    ensures keeps { Keeps S.stands S.term_of S.is_valid S.knows S.symbol_of space.old space.new }
-    ensures made { IfOk result (Makes S.stands S.term_of space.new (flat.term_of (value_of value.now))) }
+    ensures keeps { Keeps S.space space.old space.new }
+    ensures made { IfOk result (Makes S.space space.new (flat.term_of (value_of value.now))) }
 {
     match value {
         Flat::Int(number) => {
             let integer = space.int(alloc, *number)?;
-            space.fits(&integer);
             Ok(Made::Fits(integer))
         }
         Flat::Str(text) => {
@@ -141,9 +140,9 @@ fn make_integers<S: TermSpace>(
     alloc: Global,
     numbers: &[i64],
 ) -> Result<Vec<S::Ref>, AllocError>
-    ensures keeps { Keeps S.stands S.term_of S.is_valid S.knows S.symbol_of space.old space.new }
-    ensures standing { IfOk result (λ rs. AllRefs (λ r. IsTrue (S.stands space.new r)) rs.items) }
-    ensures integers { IfOk result (λ rs. trees_of (map (S.term_of space.new) rs.items) ≡ flat.integers numbers.now) }
+    ensures keeps { Keeps S.space space.old space.new }
+    ensures standing { IfOk result (λ rs. AllRefs (λ r. IsTrue (S.space.stands space.new r)) rs.items) }
+    ensures integers { IfOk result (λ rs. trees_of (map (S.space.term_of space.new) rs.items) ≡ flat.integers numbers.now) }
 {
     let mut made = Vec::new(alloc);
     for number in numbers {

@@ -3,7 +3,7 @@ ghost use Rattle.std.specs.Prelude.{◌≡◌, ◌<◌, ◌≤◌, ℕ, true, []
 ghost use Rattle.std.specs.List.Sorted.{IsNonDecreasing};
 ghost use Rattle.core_lang.specs.Roots as roots;
 ghost use Rattle.strat_machine.specs.Indexing.{AreGrouped, IsFirst, IsFirstIn, IsIndex, PutsInto, group_at, number_in, sums_from};
-ghost use Rattle.strat_machine.specs.Operands.{CasesKnown, RootKnown, case_has, root_meant};
+ghost use Rattle.strat_machine.specs.Tables.{CasesKnown, RootKnown, case_has, root_meant};
 ghost use Rattle.strat_machine.specs.declared.tables.LoadedRoot.{LoadedRoot};
 
 use crate::roots::has_root;
@@ -37,8 +37,8 @@ pub(crate) fn index_cases<S: TermSpace>(
     alloc: Global,
     cases: &[LoadedCase<S::Name>],
 ) -> Result<Option<Index>, AllocError>
-    requires known { CasesKnown (S.knows space.now) cases.now }
-    ensures { IfOk result (λ x. IfSome x (IsIndex S.number_of cases.now)) }
+    requires known { CasesKnown (S.space.knows space.now) cases.now }
+    ensures { IfOk result (λ x. IfSome x (IsIndex S.space.number_of cases.now)) }
 {
     if cases.len() <= FEW {
         return Ok(None);
@@ -73,9 +73,9 @@ fn group_cases<S: TermSpace>(
     alloc: Global,
     cases: &[LoadedCase<S::Name>],
 ) -> Result<Groups, AllocError>
-    requires known { CasesKnown (S.knows space.now) cases.now }
+    requires known { CasesKnown (S.space.knows space.now) cases.now }
     requires some { 0 < length cases.now }
-    ensures { IfOk result (AreGrouped S.number_of cases.now) }
+    ensures { IfOk result (AreGrouped S.space.number_of cases.now) }
 {
     let closed = empty_groups(alloc, cases.len())?;
     let mut groups = Groups {
@@ -117,8 +117,8 @@ fn put_into(groups: &mut Groups, number: Option<usize>, entry: usize) -> Result<
 
 // The number by which a root is found.
 fn number_of_root<S: TermSpace>(space: &S, root: &LoadedRoot<S::Name>) -> Option<usize>
-    requires { RootKnown (S.knows space.now) root.now }
-    ensures { result ≡ number_in S.number_of root.now }
+    requires { RootKnown (S.space.knows space.now) root.now }
+    ensures { result ≡ number_in S.space.number_of root.now }
 {
     match root {
         LoadedRoot::Any => None,
@@ -135,8 +135,8 @@ fn number_of_root<S: TermSpace>(space: &S, root: &LoadedRoot<S::Name>) -> Option
 
 // The number of a term: that of each root with a number that it has.
 fn number_of_term<S: TermSpace>(space: &S, at: &S::Ref) -> usize
-    requires { IsTrue (S.stands space.now at.now) }
-    ensures { (r : LoadedRoot S.Name) (n : ℕ) → RootKnown (S.knows space.now) r → number_in S.number_of r ≡ Some n → roots.has_root (root_meant (S.symbol_of space.now) r) (S.term_of space.now at.now) ≡ true → n ≡ result }
+    requires { IsTrue (S.space.stands space.now at.now) }
+    ensures { (r : LoadedRoot S.Name) (n : ℕ) → RootKnown (S.space.knows space.now) r → number_in S.space.number_of r ≡ Some n → roots.has_root (root_meant (S.space.symbol_of space.now) r) (S.space.term_of space.now at.now) ≡ true → n ≡ result }
 {
     if let Some(value) = space.int_of(at) {
         return value.unsigned_abs() as usize;
@@ -155,11 +155,11 @@ pub(crate) fn find_case<S: TermSpace>(
     skipped: usize,
     term: &S::Ref,
 ) -> usize
-    requires known { CasesKnown (S.knows space.now) cases.now }
-    requires index { IsIndex S.number_of cases.now index.now }
+    requires known { CasesKnown (S.space.knows space.now) cases.now }
+    requires index { IsIndex S.space.number_of cases.now index.now }
     requires skipped { skipped ≤ length cases.now }
-    requires stands { IsTrue (S.stands space.now term.now) }
-    ensures { IsFirst (case_has (S.symbol_of space.now) (S.term_of space.now term.now)) cases.now skipped result }
+    requires stands { IsTrue (S.space.stands space.now term.now) }
+    ensures { IsFirst (case_has (S.space.symbol_of space.now) (S.space.term_of space.now term.now)) cases.now skipped result }
 {
     let groups = &index.groups;
     let limit = first_in(space, cases, &groups.open, skipped, cases.len(), term);
@@ -178,11 +178,11 @@ fn first_in<S: TermSpace>(
     limit: usize,
     term: &S::Ref,
 ) -> usize
-    requires known { CasesKnown (S.knows space.now) cases.now }
+    requires known { CasesKnown (S.space.knows space.now) cases.now }
     requires rising { IsNonDecreasing list.now }
     requires limit { limit ≤ length cases.now }
-    requires stands { IsTrue (S.stands space.now term.now) }
-    ensures { IsFirstIn (case_has (S.symbol_of space.now) (S.term_of space.now term.now)) cases.now list.now skipped limit result }
+    requires stands { IsTrue (S.space.stands space.now term.now) }
+    ensures { IsFirstIn (case_has (S.space.symbol_of space.now) (S.space.term_of space.now term.now)) cases.now list.now skipped limit result }
 {
     let start = list.partition_point(|entry| *entry < skipped);
     first_of(space, cases, &list[start..], limit, term)
@@ -196,11 +196,11 @@ fn first_of<S: TermSpace>(
     limit: usize,
     term: &S::Ref,
 ) -> usize
-    requires known { CasesKnown (S.knows space.now) cases.now }
+    requires known { CasesKnown (S.space.knows space.now) cases.now }
     requires rising { IsNonDecreasing list.now }
     requires limit { limit ≤ length cases.now }
-    requires stands { IsTrue (S.stands space.now term.now) }
-    ensures { IsFirstIn (case_has (S.symbol_of space.now) (S.term_of space.now term.now)) cases.now list.now 0 limit result }
+    requires stands { IsTrue (S.space.stands space.now term.now) }
+    ensures { IsFirstIn (case_has (S.space.symbol_of space.now) (S.space.term_of space.now term.now)) cases.now list.now 0 limit result }
 {
     for entry in list {
         if *entry >= limit {

@@ -1,128 +1,155 @@
-// The instruction at an address: it is looked up, paid for and performed.
-ghost use Rattle.std.specs.Prelude.{◌≡◌, IfOk, IsTrue, List, Vec, map};
-ghost use Rattle.std.specs.declared.alloc.Global.{Global};
-ghost use Rattle.strat_code.specs.declared.instr.Case.{Case};
-ghost use Rattle.term_model.specs.Space.{Keeps};
-ghost use Rattle.strat_code.specs.Code.{nodes_of};
-ghost use Rattle.strat_code.specs.CodeOf.{instr_of};
-ghost use Rattle.strat_machine.specs.SpaceOf.{space_of};
-ghost use Rattle.strat_steps.specs.References.{record_tree, state_tree};
-ghost use Rattle.strat_machine.specs.RecordStack.{records_of};
-ghost use Rattle.strat_machine.specs.Stacks.{IsSafe, KeepsNames, state_of};
+// The step of the machine.
+ghost use Rattle.std.specs.Prelude.{◌≡◌, IfOk, IsTrue};
+ghost use Rattle.prim_registry.specs.Entries.{IsHonest, entries_of};
+ghost use Rattle.prim_registry.specs.Registered.{meaning_of};
+ghost use Rattle.term_model.specs.Space.{Keeps, KeepsNames};
+ghost use Rattle.strat_code.specs.CodeOf.{code_of};
+ghost use Rattle.strat_steps.specs.Counted.{StateCounted};
 ghost use Rattle.strat_steps.specs.Marks.{Holds, Lasts};
-ghost use Rattle.strat_machine.specs.Stepped.{StepsFrom};
-ghost use Rattle.strat_steps.specs.Counted.{AllCounted, StateCounted};
-ghost use Rattle.strat_machine.specs.Control.{StepsOr};
+ghost use Rattle.strat_steps.specs.References.{state_tree};
+ghost use Rattle.strat_steps.specs.ReferenceSteps.{StepRef};
+ghost use Rattle.strat_machine.specs.Actions.{IsLoadedProgram};
+ghost use Rattle.strat_machine.specs.Running.{GoesOn};
+ghost use Rattle.strat_machine.specs.Stacks.{state_of};
+ghost use Rattle.strat_machine.specs.declared.stacks.Next.TheVariants.{Running};
 
-use crate::control::{Control, perform_control};
 use crate::failing::fail;
-use crate::stacks::{Phase, Stacks, Stop};
+use crate::patterns::{perform_build, perform_call, perform_match};
+use crate::primitives::perform_primitive;
+use crate::program::{Action, LoadedProgram};
+use crate::select::perform_select;
+use crate::stacks::{Next, Position, Stacks};
+use crate::steps::{
+    call_parameter, commit_choice, enter_scope, extend_scope, leave_argument, leave_definition,
+    leave_scope, put_choice, shrink_scope,
+};
+use crate::traversals::{end_part, traverse_parts};
+use prim_registry::{PrimMeaning, Registry};
 use std::alloc::{AllocError, Global};
-use strat_code::{Code, Instr};
+use strat_code::Code;
 use term_model::TermSpace;
 
-/// What came of a step.
-#[derive(Drop)]
-pub(crate) enum Stepped<R: Drop> {
-    /// The machine has taken it.
-    Done(Phase<R>),
-    /// It has paid for an instruction that handles a pattern, at this address, in this frame and on this term.
-    Paid {
-        address: usize,
-        frame: usize,
-        term: R,
-    },
-}
-
-/// Takes a step, if it handles no pattern. A run that has ended stays.
-pub(crate) fn step<S: TermSpace>(
+/// Takes a step: performs the instruction at the position, or deals with a failure. A run that has ended stays. The stack is used for terms
+/// that are made, and is as it was afterwards.
+pub(crate) fn step<S: TermSpace, M: PrimMeaning>(
     space: &mut S,
     alloc: Global,
     stacks: &mut Stacks<S::Ref, S::Mark>,
     code: &Code,
-    phase: Phase<S::Ref>,
-) -> Result<Stepped<S::Ref>, AllocError>
-    requires holds { Holds (space_of S.stands S.term_of S.is_valid S.covers S.covers_mark) space.old (state_of phase stacks.old) }
-    requires counted { StateCounted (state_tree (S.term_of space.old) (state_of phase stacks.old)) }
-    ensures names { KeepsNames S.knows S.symbol_of space.old space.new }
-    ensures lasting { (r : S.Ref) → Lasts (space_of S.stands S.term_of S.is_valid S.covers S.covers_mark) r space.old (state_of phase stacks.old) → IsTrue (S.stands space.new r) × (S.term_of space.new r ≡ S.term_of space.old r) }
-    ensures step { IfOk result (λ s. StepsFrom (space_of S.stands S.term_of S.is_valid S.covers S.covers_mark) code.now.tables code.now.instrs phase space.old stacks.old space.new s stacks.new) }
+    program: &LoadedProgram<S::Name>,
+    registry: &Registry<M>,
+    next: Next,
+    position: &mut Position<S::Ref>,
+    stack: &mut Vec<S::Ref>,
+) -> Result<Next, AllocError>
+    requires going { GoesOn next }
+    requires holds { Holds S.space space.old (state_of next position.old stacks.old) }
+    requires counted { StateCounted (state_tree (S.space.term_of space.old) (state_of next position.old stacks.old)) }
+    requires honest { IsHonest M.answer registry.now }
+    requires loaded { IsLoadedProgram (S.space.knows space.old) (S.space.symbol_of space.old) (entries_of registry.now)
+        S.space.number_of program.now code.now.tables code.now.instrs }
+    ensures names { KeepsNames S.space space.old space.new }
+    ensures lasting { (r : S.Ref) → Lasts S.space r space.old (state_of next position.old stacks.old) →
+        IsTrue (S.space.stands space.new r) × (S.space.term_of space.new r ≡ S.space.term_of space.old r) }
+    ensures step { IfOk result (λ after. StepRef S.space (code_of code.now.tables code.now.instrs)
+        (meaning_of M.answer registry.now) space.old (state_of next position.old stacks.old)
+        space.new (state_of after position.new stacks.new)) }
 {
-    match phase {
-        Phase::Running {
-            address,
-            frame,
-            term,
-        } => match step_control(space, alloc, stacks, code, address, frame, term)? {
-            Control::Done(phase) => Ok(Stepped::Done(phase)),
-            Control::Other(term) => Ok(Stepped::Paid {
-                address,
-                frame,
-                term,
-            }),
-        },
-        Phase::Failing => {
-            let phase = fail(space, stacks)?;
-            Ok(Stepped::Done(phase))
+    match next {
+        Next::Running => perform(
+            space, alloc, stacks, code, program, registry, position, stack,
+        ),
+        Next::Failing => fail(space, stacks, position),
+        _ => Ok(next),
+    }
+}
+
+// Performs the instruction at the position, if there is one and the budget suffices for it.
+fn perform<S: TermSpace, M: PrimMeaning>(
+    space: &mut S,
+    alloc: Global,
+    stacks: &mut Stacks<S::Ref, S::Mark>,
+    code: &Code,
+    program: &LoadedProgram<S::Name>,
+    registry: &Registry<M>,
+    position: &mut Position<S::Ref>,
+    stack: &mut Vec<S::Ref>,
+) -> Result<Next, AllocError>
+    requires holds { Holds S.space space.old (state_of Running position.old stacks.old) }
+    requires counted { StateCounted (state_tree (S.space.term_of space.old) (state_of Running position.old stacks.old)) }
+    requires honest { IsHonest M.answer registry.now }
+    requires loaded { IsLoadedProgram (S.space.knows space.old) (S.space.symbol_of space.old) (entries_of registry.now)
+        S.space.number_of program.now code.now.tables code.now.instrs }
+    ensures keeps { Keeps S.space space.old space.new }
+    ensures step { IfOk result (λ after. StepRef S.space (code_of code.now.tables code.now.instrs)
+        (meaning_of M.answer registry.now) space.old (state_of Running position.old stacks.old)
+        space.new (state_of after position.new stacks.new)) }
+{
+    let instrs = program.instrs.as_slice();
+    if position.address >= instrs.len() {
+        return Ok(Next::Stuck);
+    }
+    let instr = &instrs[position.address];
+    if stacks.left < instr.nodes {
+        return Ok(Next::Spent);
+    }
+    stacks.left -= instr.nodes;
+    position.address += 1;
+    match &instr.action {
+        Action::Count => Ok(Next::Running),
+        Action::GiveUp => Ok(Next::Failing),
+        Action::Match(pattern) => perform_match(space, alloc, stacks, pattern, position),
+        Action::Build(pattern) => perform_build(space, alloc, stacks, pattern, position, stack),
+        Action::Enter { places } => {
+            enter_scope::<S>(stacks, *places, position)?;
+            Ok(Next::Running)
         }
-        Phase::Rewritten(term) => Ok(Stepped::Done(Phase::Rewritten(term))),
-        Phase::Stopped(stop) => Ok(Stepped::Done(Phase::Stopped(stop))),
-    }
-}
-
-/// Pays for the instruction at an address, and performs it if it handles no pattern.
-pub(crate) fn step_control<S: TermSpace>(
-    space: &mut S,
-    alloc: Global,
-    stacks: &mut Stacks<S::Ref, S::Mark>,
-    code: &Code,
-    address: usize,
-    frame: usize,
-    term: S::Ref,
-) -> Result<Control<S::Ref>, AllocError>
-    requires stands { IsTrue (S.stands space.old term) }
-    requires safe { IsSafe (space_of S.stands S.term_of S.is_valid S.covers S.covers_mark) space.old stacks.old (records_of stacks.old.records) }
-    requires counted { AllCounted (map (record_tree (S.term_of space.old)) (records_of stacks.old.records)) }
-    ensures keeps { Keeps S.stands S.term_of S.is_valid S.knows S.symbol_of space.old space.new }
-    ensures step { IfOk result (λ c. StepsOr (space_of S.stands S.term_of S.is_valid S.covers S.covers_mark) code.now.tables code.now.instrs address frame term space.old stacks.old space.new c stacks.new) }
-{
-    if address >= code.len() {
-        return Ok(Control::Done(Phase::Stopped(Stop::Stuck)));
-    }
-    let instr = code.at(address);
-    let cost = nodes(instr);
-    if stacks.left < cost {
-        return Ok(Control::Done(Phase::Stopped(Stop::Spent)));
-    }
-    stacks.left -= cost;
-    let done = perform_control(space, alloc, stacks, instr, address, frame, term)?;
-    Ok(done)
-}
-
-// The nodes that an instruction is charged.
-fn nodes(instr: &Instr) -> usize
-    ensures { (tables : List (Vec Case Global)) → result ≡ nodes_of (instr_of tables instr.now) }
-{
-    match instr {
-        Instr::Count { nodes } => *nodes,
-        Instr::GiveUp { nodes } => *nodes,
-        Instr::Match { nodes, .. } => *nodes,
-        Instr::Build { nodes, .. } => *nodes,
-        Instr::Enter { nodes, .. } => *nodes,
-        Instr::Leave => 0,
-        Instr::Extend { nodes, .. } => *nodes,
-        Instr::Shrink { .. } => 0,
-        Instr::Try { nodes, .. } => *nodes,
-        Instr::Commit { nodes, .. } => *nodes,
-        Instr::Select { nodes, .. } => *nodes,
-        Instr::Jump { .. } => 0,
-        Instr::Traverse { nodes, .. } => *nodes,
-        Instr::PartDone => 0,
-        Instr::CallDefinition { nodes, .. } => *nodes,
-        Instr::CallClosure { nodes, .. } => *nodes,
-        Instr::EndDefinition => 0,
-        Instr::EndArgument => 0,
-        Instr::ApplyPrimitive { nodes, .. } => *nodes,
-        Instr::Finish => 0,
+        Action::Leave => Ok(leave_scope::<S>(stacks, position)),
+        Action::Extend { places } => {
+            extend_scope::<S>(stacks, *places, position)?;
+            Ok(Next::Running)
+        }
+        Action::Shrink { places } => Ok(shrink_scope::<S>(stacks, *places, position)),
+        Action::Try { otherwise } => {
+            put_choice(space, stacks, *otherwise, position)?;
+            Ok(Next::Running)
+        }
+        Action::Commit { next_address } => {
+            Ok(commit_choice::<S>(stacks, *next_address, position))
+        }
+        Action::Select {
+            table,
+            skipped,
+            last,
+        } => {
+            let tables = program.tables.as_slice();
+            perform_select(space, stacks, tables, *table, *skipped, *last, position)
+        }
+        Action::Jump { next_address } => {
+            position.address = *next_address;
+            Ok(Next::Running)
+        }
+        Action::Traverse {
+            traversal,
+            next_address,
+        } => traverse_parts(space, alloc, stacks, *traversal, *next_address, position),
+        Action::PartDone => end_part(space, alloc, stacks, position),
+        Action::CallDefinition {
+            callee,
+            arguments,
+            terms,
+        } => perform_call(
+            space, alloc, stacks, *callee, arguments, terms, position, stack,
+        ),
+        Action::CallClosure { closure } => {
+            call_parameter::<S>(stacks, *closure, position)?;
+            Ok(Next::Running)
+        }
+        Action::EndDefinition => Ok(leave_definition::<S>(stacks, position)),
+        Action::EndArgument => Ok(leave_argument::<S>(stacks, position)),
+        Action::ApplyPrimitive { index, terms } => perform_primitive(
+            space, alloc, stacks, registry, *index, terms, position, stack,
+        ),
+        Action::Finish => Ok(Next::Rewritten),
     }
 }

@@ -4,7 +4,7 @@
 mod annotations;
 mod building;
 mod calls;
-mod control;
+mod compact_records;
 mod explaining;
 mod failing;
 mod first_parts;
@@ -16,7 +16,6 @@ mod loaded;
 mod machine;
 mod making;
 mod matching;
-mod paid;
 mod partial;
 mod patterns;
 mod places;

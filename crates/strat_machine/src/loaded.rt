@@ -28,9 +28,9 @@ pub(crate) fn load_pattern<S: TermSpace>(
     alloc: Global,
     pattern: &CorePattern,
 ) -> Result<LoadedPattern<S::Name>, AllocError>
-    ensures keeps { Keeps S.stands S.term_of S.is_valid S.knows S.symbol_of space.old space.new }
-    ensures none { MakesNone S.stands S.is_valid space.old space.new }
-    ensures loaded { IfOk result (λ p. IsLoaded (S.knows space.new) (S.symbol_of space.new) p (pattern_of pattern.now)) }
+    ensures keeps { Keeps S.space space.old space.new }
+    ensures none { MakesNone S.space space.old space.new }
+    ensures loaded { IfOk result (λ p. IsLoaded (S.space.knows space.new) (S.space.symbol_of space.new) p (pattern_of pattern.now)) }
 {
     match pattern {
         CorePattern::Anything => Ok(LoadedPattern::Anything),
@@ -68,9 +68,9 @@ fn load_boxed<S: TermSpace>(
     alloc: Global,
     pattern: &CorePattern,
 ) -> Result<Box<LoadedPattern<S::Name>>, AllocError>
-    ensures keeps { Keeps S.stands S.term_of S.is_valid S.knows S.symbol_of space.old space.new }
-    ensures none { MakesNone S.stands S.is_valid space.old space.new }
-    ensures loaded { IfOk result (λ p. IsLoaded (S.knows space.new) (S.symbol_of space.new) p.value (pattern_of pattern.now)) }
+    ensures keeps { Keeps S.space space.old space.new }
+    ensures none { MakesNone S.space space.old space.new }
+    ensures loaded { IfOk result (λ p. IsLoaded (S.space.knows space.new) (S.space.symbol_of space.new) p.value (pattern_of pattern.now)) }
 {
     let loaded = load_pattern(space, alloc, pattern)?;
     let boxed = Box::new(alloc, loaded)?;
@@ -83,9 +83,9 @@ fn load_rest<S: TermSpace>(
     alloc: Global,
     rest: &Option<Box<CorePattern>>,
 ) -> Result<Option<Box<LoadedPattern<S::Name>>>, AllocError>
-    ensures keeps { Keeps S.stands S.term_of S.is_valid S.knows S.symbol_of space.old space.new }
-    ensures none { MakesNone S.stands S.is_valid space.old space.new }
-    ensures loaded { IfOk result (λ r. IsLoadedRest (S.knows space.new) (S.symbol_of space.new) r (rest_of rest.now)) }
+    ensures keeps { Keeps S.space space.old space.new }
+    ensures none { MakesNone S.space space.old space.new }
+    ensures loaded { IfOk result (λ r. IsLoadedRest (S.space.knows space.new) (S.space.symbol_of space.new) r (rest_of rest.now)) }
 {
     match rest {
         None => Ok(None),
@@ -103,9 +103,9 @@ pub(crate) fn load_patterns<S: TermSpace>(
     alloc: Global,
     patterns: &[CorePattern],
 ) -> Result<Vec<LoadedPattern<S::Name>>, AllocError>
-    ensures keeps { Keeps S.stands S.term_of S.is_valid S.knows S.symbol_of space.old space.new }
-    ensures none { MakesNone S.stands S.is_valid space.old space.new }
-    ensures loaded { IfOk result (λ ps. AreLoaded (S.knows space.new) (S.symbol_of space.new) ps.items (map pattern_of patterns.now)) }
+    ensures keeps { Keeps S.space space.old space.new }
+    ensures none { MakesNone S.space space.old space.new }
+    ensures loaded { IfOk result (λ ps. AreLoaded (S.space.knows space.new) (S.space.symbol_of space.new) ps.items (map pattern_of patterns.now)) }
 {
     let mut loaded = Vec::new(alloc);
     for p in patterns {

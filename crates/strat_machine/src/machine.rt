@@ -1,6 +1,6 @@
 // The machine: it runs code on the terms of a space.
 ghost use Rattle.std.specs.Prelude.{◌≡◌, ◌+◌, ◌*◌, ◌≤◌, ℕ, List, IsTrue, IfOk, IfErr};
-ghost use Rattle.term_model.specs.Space.{Keeps};
+ghost use Rattle.term_model.specs.Space.{Keeps, KeepsNames};
 ghost use Rattle.core_lang.specs.Named.{Name};
 ghost use Rattle.core_lang.specs.Primitives.{AreOccurring};
 ghost use Rattle.core_lang.specs.Program.{Definitions};
@@ -12,11 +12,9 @@ ghost use Rattle.strat_code.specs.CodeOf.{code_of};
 ghost use Rattle.strat_code.specs.StandsFor.{StandsFor};
 ghost use Rattle.strat_steps.specs.Outcomes.{OutcomeStands, Ran, outcome_tree};
 ghost use Rattle.prim_registry.specs.Registered.{meaning_of};
-ghost use Rattle.strat_machine.specs.SpaceOf.{space_of};
-ghost use Rattle.strat_machine.specs.Stacks.{KeepsNames};
 
 use crate::explaining::{Account, Stand, account_of, stand_after};
-use crate::program::load_code;
+use crate::program::load_program;
 use crate::running::run_code;
 use crate::stacks::Stacks;
 use core_lang::Run;
@@ -66,9 +64,9 @@ impl<S: TermSpace + Drop> Machine<S> {
 
     /// Brings a term into the space, and returns its reference.
     pub fn enter(&mut self, term: &Term) -> Result<S::Ref, AllocError>
-        ensures keeps { Keeps S.stands S.term_of S.is_valid S.knows S.symbol_of self.old self.new }
-        ensures stands { IfOk result (λ r. IsTrue (S.stands self.new r)) }
-        ensures term { IfOk result (λ r. S.term_of self.new r ≡ term.now) }
+        ensures keeps { Keeps S.space self.old self.new }
+        ensures stands { IfOk result (λ r. IsTrue (S.space.stands self.new r)) }
+        ensures term { IfOk result (λ r. S.space.term_of self.new r ≡ term.now) }
     {
         let reference = self.space.enter(self.alloc, term)?;
         Ok(reference)
@@ -76,8 +74,8 @@ impl<S: TermSpace + Drop> Machine<S> {
 
     /// Returns the term of a reference.
     pub fn leave(&self, reference: &S::Ref) -> Result<Term, AllocError>
-        requires { IsTrue (S.stands self.now reference.now) }
-        ensures { IfOk result (λ t. t ≡ S.term_of self.now reference.now) }
+        requires { IsTrue (S.space.stands self.now reference.now) }
+        ensures { IfOk result (λ t. t ≡ S.space.term_of self.now reference.now) }
     {
         let term = self.space.leave(self.alloc, reference)?;
         Ok(term)
@@ -96,27 +94,27 @@ impl<S: TermSpace + Drop> Machine<S> {
         budget: u32,
         registry: &Registry<M>,
     ) -> Result<Run<S::Ref>, Fault>
-        requires stands { IsTrue (S.stands self.old term) }
+        requires stands { IsTrue (S.space.stands self.old term) }
         requires honest { IsHonest M.answer registry.now }
         requires covers { Covers registry.now code.now.prims }
         ensures run { IfOk result (λ run. (P : Definitions Name (List Name)) (main : Name) (C : ResolvedDefinitions) (i : ℕ) →
             StandsFor (code_of code.now.tables code.now.instrs) C i → AreOccurring code.now.prims C → ResolvesProgram P main C i →
-            IsOutcome M.answer P main (S.term_of self.old term) budget (outcome_tree (S.term_of self.new) run.outcome) run.rules) }
-        ensures steps { IfOk result (λ run. Ran (space_of S.stands S.term_of S.is_valid S.covers S.covers_mark) (code_of code.now.tables code.now.instrs) (meaning_of M.answer registry.now) self.old term budget self.new run) }
+            IsOutcome M.answer P main (S.space.term_of self.old term) budget (outcome_tree (S.space.term_of self.new) run.outcome) run.rules) }
+        ensures steps { IfOk result (λ run. Ran S.space (code_of code.now.tables code.now.instrs) (meaning_of M.answer registry.now) self.old term budget self.new run) }
         ensures few { IfOk result (λ run. run.steps ≤ 10 * run.rules + 10) }
-        ensures stands { IfOk result (λ run. OutcomeStands (λ r. IsTrue (S.stands self.new r)) run.outcome) }
-        ensures kept { (r : S.Ref) → IsTrue (S.stands self.old r) → IsTrue (S.stands self.new r) × (S.term_of self.new r ≡ S.term_of self.old r) }
-        ensures names { KeepsNames S.knows S.symbol_of self.old self.new }
+        ensures stands { IfOk result (λ run. OutcomeStands (λ r. IsTrue (S.space.stands self.new r)) run.outcome) }
+        ensures kept { (r : S.Ref) → IsTrue (S.space.stands self.old r) → IsTrue (S.space.stands self.new r) × (S.space.term_of self.new r ≡ S.space.term_of self.old r) }
+        ensures names { KeepsNames S.space self.old self.new }
         ensures fault { IfErr result (λ fault. fault ≡ Fault.Memory) }
     {
         let space = &mut self.space;
-        let loaded = load_code(space, self.alloc, code, registry)?;
+        let program = load_program(space, self.alloc, code, registry)?;
         let run = run_code(
             space,
             self.alloc,
             &mut self.stacks,
             code,
-            &loaded,
+            &program,
             registry,
             term,
             budget,
@@ -137,19 +135,19 @@ impl<S: TermSpace + Drop> Machine<S> {
         budget: u32,
         registry: &Registry<M>,
     ) -> Result<Account, Fault>
-        requires stands { IsTrue (S.stands self.old term) }
+        requires stands { IsTrue (S.space.stands self.old term) }
         requires honest { IsHonest M.answer registry.now }
         requires covers { Covers registry.now code.now.prims }
         ensures fault { IfErr result (λ fault. fault ≡ Fault.Memory) }
     {
         let space = &mut self.space;
-        let loaded = load_code(space, self.alloc, code, registry)?;
+        let program = load_program(space, self.alloc, code, registry)?;
         let account = account_of(
             space,
             self.alloc,
             &mut self.stacks,
             code,
-            &loaded,
+            &program,
             registry,
             term,
             budget,
@@ -170,19 +168,19 @@ impl<S: TermSpace + Drop> Machine<S> {
         registry: &Registry<M>,
         count: u64,
     ) -> Result<Option<Stand>, Fault>
-        requires stands { IsTrue (S.stands self.old term) }
+        requires stands { IsTrue (S.space.stands self.old term) }
         requires honest { IsHonest M.answer registry.now }
         requires covers { Covers registry.now code.now.prims }
         ensures fault { IfErr result (λ fault. fault ≡ Fault.Memory) }
     {
         let space = &mut self.space;
-        let loaded = load_code(space, self.alloc, code, registry)?;
+        let program = load_program(space, self.alloc, code, registry)?;
         let stand = stand_after(
             space,
             self.alloc,
             &mut self.stacks,
             code,
-            &loaded,
+            &program,
             registry,
             term,
             budget,

@@ -36,13 +36,13 @@ pub(crate) fn match_pattern<S: TermSpace>(
     at: &S::Ref,
     places: &mut Places<S::Ref>,
 ) -> Result<bool, AllocError>
-    requires known { Known (S.knows space.old) pattern.now }
-    requires stands { IsTrue (S.stands space.old at.now) }
-    requires places { AllPlaces (λ r. IsTrue (S.stands space.old r)) places.old.slots }
-    ensures keeps { Keeps S.stands S.term_of S.is_valid S.knows S.symbol_of space.old space.new }
-    ensures unchanged { LeavesSpace (loaded_of (S.symbol_of space.old) pattern.now) → space.new ≡ space.old }
+    requires known { Known (S.space.knows space.old) pattern.now }
+    requires stands { IsTrue (S.space.stands space.old at.now) }
+    requires places { AllPlaces (λ r. IsTrue (S.space.stands space.old r)) places.old.slots }
+    ensures keeps { Keeps S.space space.old space.new }
+    ensures unchanged { LeavesSpace (loaded_of (S.space.symbol_of space.old) pattern.now) → space.new ≡ space.old }
     ensures barrier { IfOk result (λ _. places.new.barrier ≡ places.old.barrier) }
-    ensures attempt { IfOk result (λ yes. Goes S.stands S.term_of places.old.barrier (attempted (place_at frames.now here) places.old.barrier (loaded_of (S.symbol_of space.old) pattern.now) (S.term_of space.old at.now)) (attempt yes) space.old places.old.slots places.old.trail space.new places.new.slots places.new.trail) }
+    ensures attempt { IfOk result (λ yes. Goes S.space places.old.barrier (attempted (place_at frames.now here) places.old.barrier (loaded_of (S.space.symbol_of space.old) pattern.now) (S.space.term_of space.old at.now)) (attempt yes) space.old places.old.slots places.old.trail space.new places.new.slots places.new.trail) }
 {
     match pattern {
         LoadedPattern::Anything => Ok(true),
@@ -108,12 +108,12 @@ fn match_bare<S: TermSpace>(
     at: &S::Ref,
     places: &mut Places<S::Ref>,
 ) -> Result<bool, AllocError>
-    requires known { Known (S.knows space.old) pattern.now }
-    requires stands { IsTrue (S.stands space.old at.now) }
-    requires places { AllPlaces (λ r. IsTrue (S.stands space.old r)) places.old.slots }
-    ensures keeps { Keeps S.stands S.term_of S.is_valid S.knows S.symbol_of space.old space.new }
+    requires known { Known (S.space.knows space.old) pattern.now }
+    requires stands { IsTrue (S.space.stands space.old at.now) }
+    requires places { AllPlaces (λ r. IsTrue (S.space.stands space.old r)) places.old.slots }
+    ensures keeps { Keeps S.space space.old space.new }
     ensures barrier { IfOk result (λ _. places.new.barrier ≡ places.old.barrier) }
-    ensures attempt { IfOk result (λ yes. Goes S.stands S.term_of places.old.barrier (attempted (place_at frames.now here) places.old.barrier (loaded_of (S.symbol_of space.old) pattern.now) (term (head_of (S.term_of space.old at.now)) (parts_of (S.term_of space.old at.now)) [])) (attempt yes) space.old places.old.slots places.old.trail space.new places.new.slots places.new.trail) }
+    ensures attempt { IfOk result (λ yes. Goes S.space places.old.barrier (attempted (place_at frames.now here) places.old.barrier (loaded_of (S.space.symbol_of space.old) pattern.now) (term (head_of (S.space.term_of space.old at.now)) (parts_of (S.space.term_of space.old at.now)) [])) (attempt yes) space.old places.old.slots places.old.trail space.new places.new.slots places.new.trail) }
 {
     if !sees_annos(pattern) {
         let yes = match_pattern(space, alloc, frames, here, pattern, at, places)?;
@@ -135,13 +135,13 @@ fn match_annos<S: TermSpace>(
     at: &S::Ref,
     places: &mut Places<S::Ref>,
 ) -> Result<bool, AllocError>
-    requires known { AllKnown (S.knows space.old) patterns.now }
-    requires count { length (annos_of (S.term_of space.old at.now)) ≡ length patterns.now }
-    requires stands { IsTrue (S.stands space.old at.now) }
-    requires places { AllPlaces (λ r. IsTrue (S.stands space.old r)) places.old.slots }
-    ensures keeps { Keeps S.stands S.term_of S.is_valid S.knows S.symbol_of space.old space.new }
+    requires known { AllKnown (S.space.knows space.old) patterns.now }
+    requires count { length (annos_of (S.space.term_of space.old at.now)) ≡ length patterns.now }
+    requires stands { IsTrue (S.space.stands space.old at.now) }
+    requires places { AllPlaces (λ r. IsTrue (S.space.stands space.old r)) places.old.slots }
+    ensures keeps { Keeps S.space space.old space.new }
     ensures barrier { IfOk result (λ _. places.new.barrier ≡ places.old.barrier) }
-    ensures attempt { IfOk result (λ yes. Goes S.stands S.term_of places.old.barrier (first_attempted (place_at frames.now here) places.old.barrier (map (loaded_of (S.symbol_of space.old)) patterns.now) (annos_of (S.term_of space.old at.now))) (attempt yes) space.old places.old.slots places.old.trail space.new places.new.slots places.new.trail) }
+    ensures attempt { IfOk result (λ yes. Goes S.space places.old.barrier (first_attempted (place_at frames.now here) places.old.barrier (map (loaded_of (S.space.symbol_of space.old)) patterns.now) (annos_of (S.space.term_of space.old at.now))) (attempt yes) space.old places.old.slots places.old.trail space.new places.new.slots places.new.trail) }
 {
     if patterns.len() > FEW {
         let mut annos = Vec::new(alloc);
@@ -186,15 +186,15 @@ fn match_first<S: TermSpace>(
     count: usize,
     places: &mut Places<S::Ref>,
 ) -> Result<bool, AllocError>
-    requires known { AllKnown (S.knows space.old) patterns.now }
-    requires count { count ≡ length (parts_of (S.term_of space.old at.now)) }
-    requires stands { IsTrue (S.stands space.old at.now) }
-    requires places { AllPlaces (λ r. IsTrue (S.stands space.old r)) places.old.slots }
-    ensures keeps { Keeps S.stands S.term_of S.is_valid S.knows S.symbol_of space.old space.new }
-    ensures unchanged { AllLeaveSpace (all_loaded_of (S.symbol_of space.old) patterns.now) → space.new ≡ space.old }
+    requires known { AllKnown (S.space.knows space.old) patterns.now }
+    requires count { count ≡ length (parts_of (S.space.term_of space.old at.now)) }
+    requires stands { IsTrue (S.space.stands space.old at.now) }
+    requires places { AllPlaces (λ r. IsTrue (S.space.stands space.old r)) places.old.slots }
+    ensures keeps { Keeps S.space space.old space.new }
+    ensures unchanged { AllLeaveSpace (all_loaded_of (S.space.symbol_of space.old) patterns.now) → space.new ≡ space.old }
     ensures barrier { IfOk result (λ _. places.new.barrier ≡ places.old.barrier) }
-    ensures enough { IfOk result (λ yes. yes ≡ true → length patterns.now ≤ length (parts_of (S.term_of space.old at.now))) }
-    ensures attempt { IfOk result (λ yes. Goes S.stands S.term_of places.old.barrier (first_attempted (place_at frames.now here) places.old.barrier (map (loaded_of (S.symbol_of space.old)) patterns.now) (parts_of (S.term_of space.old at.now))) (attempt yes) space.old places.old.slots places.old.trail space.new places.new.slots places.new.trail) }
+    ensures enough { IfOk result (λ yes. yes ≡ true → length patterns.now ≤ length (parts_of (S.space.term_of space.old at.now))) }
+    ensures attempt { IfOk result (λ yes. Goes S.space places.old.barrier (first_attempted (place_at frames.now here) places.old.barrier (map (loaded_of (S.space.symbol_of space.old)) patterns.now) (parts_of (S.space.term_of space.old at.now))) (attempt yes) space.old places.old.slots places.old.trail space.new places.new.slots places.new.trail) }
 {
     if patterns.len() > FEW {
         let parts = first_parts(space, alloc, at, patterns.len())?;
@@ -224,19 +224,19 @@ fn match_each<S: TermSpace>(
     terms: &[S::Ref],
     places: &mut Places<S::Ref>,
 ) -> Result<bool, AllocError>
-    requires known { AllKnown (S.knows space.old) patterns.now }
-    requires stand { AllRefs (λ r. IsTrue (S.stands space.old r)) terms.now }
-    requires places { AllPlaces (λ r. IsTrue (S.stands space.old r)) places.old.slots }
-    ensures keeps { Keeps S.stands S.term_of S.is_valid S.knows S.symbol_of space.old space.new }
-    ensures unchanged { AllLeaveSpace (all_loaded_of (S.symbol_of space.old) patterns.now) →
+    requires known { AllKnown (S.space.knows space.old) patterns.now }
+    requires stand { AllRefs (λ r. IsTrue (S.space.stands space.old r)) terms.now }
+    requires places { AllPlaces (λ r. IsTrue (S.space.stands space.old r)) places.old.slots }
+    ensures keeps { Keeps S.space space.old space.new }
+    ensures unchanged { AllLeaveSpace (all_loaded_of (S.space.symbol_of space.old) patterns.now) →
         space.new ≡ space.old }
     ensures barrier { IfOk result (λ _. places.new.barrier ≡ places.old.barrier) }
     ensures enough { IfOk result (λ yes. yes ≡ true → length patterns.now ≤ length terms.now) }
     ensures attempt { IfOk result (λ yes.
-        Goes S.stands S.term_of places.old.barrier
+        Goes S.space places.old.barrier
         (first_attempted (place_at frames.now here) places.old.barrier
-        (map (loaded_of (S.symbol_of space.old)) patterns.now)
-        (map (S.term_of space.old) terms.now)) (attempt yes) space.old places.old.slots
+        (map (loaded_of (S.space.symbol_of space.old)) patterns.now)
+        (map (S.space.term_of space.old) terms.now)) (attempt yes) space.old places.old.slots
         places.old.trail space.new places.new.slots places.new.trail) }
 {
     let count = terms.len();
@@ -263,13 +263,13 @@ fn match_part<S: TermSpace>(
     at: &S::Ref,
     places: &mut Places<S::Ref>,
 ) -> Result<bool, AllocError>
-    requires known { Known (S.knows space.old) pattern.now }
-    requires stands { IsTrue (S.stands space.old at.now) }
-    requires places { AllPlaces (λ r. IsTrue (S.stands space.old r)) places.old.slots }
-    ensures keeps { Keeps S.stands S.term_of S.is_valid S.knows S.symbol_of space.old space.new }
-    ensures unchanged { LeavesSpace (loaded_of (S.symbol_of space.old) pattern.now) → space.new ≡ space.old }
+    requires known { Known (S.space.knows space.old) pattern.now }
+    requires stands { IsTrue (S.space.stands space.old at.now) }
+    requires places { AllPlaces (λ r. IsTrue (S.space.stands space.old r)) places.old.slots }
+    ensures keeps { Keeps S.space space.old space.new }
+    ensures unchanged { LeavesSpace (loaded_of (S.space.symbol_of space.old) pattern.now) → space.new ≡ space.old }
     ensures barrier { IfOk result (λ _. places.new.barrier ≡ places.old.barrier) }
-    ensures attempt { IfOk result (λ yes. Goes S.stands S.term_of places.old.barrier (attempted (place_at frames.now here) places.old.barrier (loaded_of (S.symbol_of space.old) pattern.now) (S.term_of space.old at.now)) (attempt yes) space.old places.old.slots places.old.trail space.new places.new.slots places.new.trail) }
+    ensures attempt { IfOk result (λ yes. Goes S.space places.old.barrier (attempted (place_at frames.now here) places.old.barrier (loaded_of (S.space.symbol_of space.old) pattern.now) (S.space.term_of space.old at.now)) (attempt yes) space.old places.old.slots places.old.trail space.new places.new.slots places.new.trail) }
 {
     let LoadedPattern::Variable(x) = pattern else {
         let yes = match_pattern(space, alloc, frames, here, pattern, at, places)?;
@@ -291,15 +291,15 @@ fn match_rest<S: TermSpace>(
     from: usize,
     places: &mut Places<S::Ref>,
 ) -> Result<bool, AllocError>
-    requires known { RestKnown (S.knows space.old) rest.now }
-    requires stands { IsTrue (S.stands space.old at.now) }
-    requires list { head_of (S.term_of space.old at.now) ≡ heads.List }
-    requires from { from ≤ length (parts_of (S.term_of space.old at.now)) }
-    requires places { AllPlaces (λ r. IsTrue (S.stands space.old r)) places.old.slots }
-    ensures keeps { Keeps S.stands S.term_of S.is_valid S.knows S.symbol_of space.old space.new }
+    requires known { RestKnown (S.space.knows space.old) rest.now }
+    requires stands { IsTrue (S.space.stands space.old at.now) }
+    requires list { head_of (S.space.term_of space.old at.now) ≡ heads.List }
+    requires from { from ≤ length (parts_of (S.space.term_of space.old at.now)) }
+    requires places { AllPlaces (λ r. IsTrue (S.space.stands space.old r)) places.old.slots }
+    ensures keeps { Keeps S.space space.old space.new }
     ensures unchanged { rest.now ≡ None → space.new ≡ space.old }
     ensures barrier { IfOk result (λ _. places.new.barrier ≡ places.old.barrier) }
-    ensures attempt { IfOk result (λ yes. Goes S.stands S.term_of places.old.barrier (rest_attempted (place_at frames.now here) places.old.barrier (rest_loaded_of (S.symbol_of space.old) rest.now) (drop from (parts_of (S.term_of space.old at.now)))) (attempt yes) space.old places.old.slots places.old.trail space.new places.new.slots places.new.trail) }
+    ensures attempt { IfOk result (λ yes. Goes S.space places.old.barrier (rest_attempted (place_at frames.now here) places.old.barrier (rest_loaded_of (S.space.symbol_of space.old) rest.now) (drop from (parts_of (S.space.term_of space.old at.now)))) (attempt yes) space.old places.old.slots places.old.trail space.new places.new.slots places.new.trail) }
 {
     match rest {
         None => Ok(from == space.count(at)),
@@ -320,10 +320,10 @@ fn bind_variable<S: TermSpace>(
     at: &S::Ref,
     places: &mut Places<S::Ref>,
 ) -> Result<bool, AllocError>
-    requires stands { IsTrue (S.stands space.now at.now) }
-    requires places { AllPlaces (λ r. IsTrue (S.stands space.now r)) places.old.slots }
+    requires stands { IsTrue (S.space.stands space.now at.now) }
+    requires places { AllPlaces (λ r. IsTrue (S.space.stands space.now r)) places.old.slots }
     ensures barrier { IfOk result (λ _. places.new.barrier ≡ places.old.barrier) }
-    ensures attempt { IfOk result (λ yes. Goes S.stands S.term_of places.old.barrier (bind places.old.barrier (place_at frames.now here variable) (S.term_of space.now at.now)) (attempt yes) space.now places.old.slots places.old.trail space.now places.new.slots places.new.trail) }
+    ensures attempt { IfOk result (λ yes. Goes S.space places.old.barrier (bind places.old.barrier (place_at frames.now here variable) (S.space.term_of space.now at.now)) (attempt yes) space.now places.old.slots places.old.trail space.now places.new.slots places.new.trail) }
 {
     let Some(place) = frames.place_of(here, variable, places.len()) else {
         return Ok(false);
@@ -340,8 +340,8 @@ fn bind_variable<S: TermSpace>(
 
 /// Whether the term is the integer, whatever its annotations.
 pub(crate) fn is_integer<S: TermSpace>(space: &S, at: &S::Ref, value: &i64) -> bool
-    requires { IsTrue (S.stands space.now at.now) }
-    ensures { result ≡ same_head (head_of (S.term_of space.now at.now)) (heads.Int value.now) }
+    requires { IsTrue (S.space.stands space.now at.now) }
+    ensures { result ≡ same_head (head_of (S.space.term_of space.now at.now)) (heads.Int value.now) }
 {
     match space.int_of(at) {
         Some(other) => other == *value,
@@ -350,17 +350,17 @@ pub(crate) fn is_integer<S: TermSpace>(space: &S, at: &S::Ref, value: &i64) -> b
 }
 
 fn is_application<S: TermSpace>(space: &S, at: &S::Ref, name: &S::Name, count: usize) -> bool
-    requires stands { IsTrue (S.stands space.now at.now) }
-    requires known { IsTrue (S.knows space.now name.now) }
-    requires count { count ≡ length (parts_of (S.term_of space.now at.now)) }
-    ensures { result ≡ same_head (head_of (S.term_of space.now at.now)) (heads.App (S.symbol_of space.now name.now)) }
+    requires stands { IsTrue (S.space.stands space.now at.now) }
+    requires known { IsTrue (S.space.knows space.now name.now) }
+    requires count { count ≡ length (parts_of (S.space.term_of space.now at.now)) }
+    ensures { result ≡ same_head (head_of (S.space.term_of space.now at.now)) (heads.App (S.space.symbol_of space.now name.now)) }
 {
     space.is_app(at, name, count)
 }
 
 fn is_list<S: TermSpace>(space: &S, at: &S::Ref) -> bool
-    requires { IsTrue (S.stands space.now at.now) }
-    ensures { result ≡ same_head (head_of (S.term_of space.now at.now)) heads.List }
+    requires { IsTrue (S.space.stands space.now at.now) }
+    ensures { result ≡ same_head (head_of (S.space.term_of space.now at.now)) heads.List }
 {
     space.list_len(at).is_some()
 }

@@ -1,15 +1,16 @@
 // The first steps of a run, and what is noted of them.
+ghost use Rattle.term_model.specs.Space.{KeepsNames};
 ghost use Rattle.std.specs.Prelude.{◌≡◌, IsTrue, IfOk};
 ghost use Rattle.prim_registry.specs.Entries.{IsHonest, entries_of};
 ghost use Rattle.strat_steps.specs.Marks.{Holds};
-ghost use Rattle.strat_machine.specs.Operands.{IsLoadedCode};
+ghost use Rattle.strat_machine.specs.Actions.{IsLoadedProgram};
 ghost use Rattle.strat_machine.specs.Running.{IsClear};
-ghost use Rattle.strat_machine.specs.SpaceOf.{space_of};
-ghost use Rattle.strat_machine.specs.Stacks.{KeepsNames, state_of};
+ghost use Rattle.strat_machine.specs.Stacks.{state_of};
 
-use crate::program::LoadedCode;
-use crate::running::{goes_on, take_step};
-use crate::stacks::{Phase, Stacks};
+use crate::instructions::step;
+use crate::program::LoadedProgram;
+use crate::running::goes_on;
+use crate::stacks::{Next, Position, Stacks};
 use prim_registry::{PrimMeaning, Registry};
 use std::alloc::{AllocError, Global};
 use strat_code::{Code, Instr};
@@ -110,94 +111,91 @@ impl Notes {
     }
 }
 
-/// Takes the first steps of a run of loaded code, from clear stacks on: this number of them, or all. Adds what it notes of them, and
-/// returns the phase that they lead to. What is left on the stacks stands.
+/// Where a run stands, and what comes next.
+#[derive(Drop)]
+pub(crate) struct Progress<R: Drop> {
+    pub(crate) next: Next,
+    pub(crate) position: Position<R>,
+}
+
+/// Takes the first steps of a run of a loaded program, from clear stacks on: this number of them, or all. Adds what it notes of them, and
+/// returns where the run then is. What is left on the stacks stands.
 pub(crate) fn run_part<S: TermSpace, M: PrimMeaning>(
     space: &mut S,
     alloc: Global,
     stacks: &mut Stacks<S::Ref, S::Mark>,
     code: &Code,
-    loaded: &LoadedCode<S::Name>,
+    program: &LoadedProgram<S::Name>,
     registry: &Registry<M>,
     term: S::Ref,
     budget: u32,
     count: u64,
     notes: &mut Notes,
-) -> Result<Phase<S::Ref>, AllocError>
+) -> Result<Progress<S::Ref>, AllocError>
     requires clear { IsClear stacks.old }
-    requires stands { IsTrue (S.stands space.old term) }
+    requires stands { IsTrue (S.space.stands space.old term) }
     requires honest { IsHonest M.answer registry.now }
-    requires loaded { IsLoadedCode (S.knows space.old) (S.symbol_of space.old) S.number_of
-        (entries_of registry.now) loaded.now code.now.tables code.now.instrs }
-    ensures holds { IfOk result (λ phase.
-        Holds (space_of S.stands S.term_of S.is_valid S.covers S.covers_mark) space.new
-        (state_of phase stacks.new)) }
-    ensures kept { IfOk result (λ _. (r : S.Ref) → IsTrue (S.stands space.old r) →
-        IsTrue (S.stands space.new r) × (S.term_of space.new r ≡ S.term_of space.old r)) }
-    ensures names { IfOk result (λ _. KeepsNames S.knows S.symbol_of space.old space.new) }
+    requires loaded { IsLoadedProgram (S.space.knows space.old) (S.space.symbol_of space.old) (entries_of registry.now)
+        S.space.number_of program.now code.now.tables code.now.instrs }
+    ensures holds { IfOk result (λ p. Holds S.space space.new (state_of p.next p.position stacks.new)) }
+    ensures kept { IfOk result (λ _. (r : S.Ref) → IsTrue (S.space.stands space.old r) →
+        IsTrue (S.space.stands space.new r) × (S.space.term_of space.new r ≡ S.space.term_of space.old r)) }
+    ensures names { IfOk result (λ _. KeepsNames S.space space.old space.new) }
 {
     // The code stands for some program, so the run ends in time.
     let _ = code.instrs();
     stacks.left = budget as usize;
-    let mut arguments = Vec::new(alloc);
+    let mut stack = Vec::new(alloc);
     let mut steps: u64 = 0;
-    let mut phase = Phase::Running {
+    let mut next = Next::Running;
+    let mut position = Position {
         address: 0,
         frame: 0,
         term,
     };
-    while goes_on(&phase) {
+    while goes_on(next) {
         if steps == count {
-            return Ok(phase);
+            return Ok(Progress { next, position });
         }
-        let address = address_of(&phase);
+        let address = position.address;
         let before = stacks.left;
         let depth = stacks.frames.len();
-        phase = take_step(
+        let after = step(
             space,
             alloc,
             stacks,
             code,
-            loaded,
+            program,
             registry,
-            phase,
-            &mut arguments,
+            next,
+            &mut position,
+            &mut stack,
         )?;
-        if let Some(address) = address {
+        if next == Next::Running {
             notes.add(Step {
                 address,
                 steps,
                 depth,
                 charged: before.saturating_sub(stacks.left),
-                effect: effect_of(code, address, &phase),
+                effect: effect_of(code, address, after),
             });
         }
+        next = after;
         steps += 1;
     }
-    Ok(phase)
+    Ok(Progress { next, position })
 }
 
-// What came of the instruction at an address, after which the run is in this phase.
-fn effect_of<R: Drop>(code: &Code, address: usize, phase: &Phase<R>) -> Effect {
-    match phase {
-        Phase::Failing => Effect::Failed,
-        Phase::Running { .. } => match code.instrs().get(address) {
+// What came of the instruction at an address, after which this comes next.
+fn effect_of(code: &Code, address: usize, next: Next) -> Effect {
+    match next {
+        Next::Failing => Effect::Failed,
+        Next::Running => match code.instrs().get(address) {
             Some(Instr::Match { .. }) => Effect::Matched,
             Some(Instr::CallDefinition { .. } | Instr::CallClosure { .. }) => Effect::Called,
             Some(Instr::EndDefinition | Instr::EndArgument) => Effect::Returned,
             _ => Effect::Other,
         },
-        Phase::Rewritten(_) => Effect::Other,
-        Phase::Stopped(_) => Effect::Other,
-    }
-}
-
-// The address of the instruction that comes next, if one does.
-fn address_of<R: Drop>(phase: &Phase<R>) -> Option<usize> {
-    match phase {
-        Phase::Running { address, .. } => Some(*address),
-        Phase::Failing => None,
-        Phase::Rewritten(_) => None,
-        Phase::Stopped(_) => None,
+        _ => Effect::Other,
     }
 }

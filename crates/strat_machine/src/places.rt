@@ -112,6 +112,17 @@ impl<R: Drop> Places<R> {
         ensures places { OnOk result (self.new ≡ record self.old { slots = self.old.slots ++ map (λ r. Some r) (drop from terms.old.items) }) }
         ensures terms { OnOk result (terms.new.items ≡ take from terms.old.items) }
     {
+        if terms.len() <= from {
+            return Ok(());
+        }
+        self.move_terms(terms, from)
+    }
+
+    // Adds places with the references from a position on.
+    fn move_terms(&mut self, terms: &mut Vec<R>, from: usize) -> Result<(), AllocError>
+        ensures places { OnOk result (self.new ≡ record self.old { slots = self.old.slots ++ map (λ r. Some r) (drop from terms.old.items) }) }
+        ensures terms { OnOk result (terms.new.items ≡ take from terms.old.items) }
+    {
         let count = terms.len().saturating_sub(from);
         push_empty(&mut self.slots, count)?;
         fill_last(&mut self.slots, terms, from);

@@ -12,16 +12,15 @@ ghost use Rattle.strat_code.specs.Code.{apply_primitive};
 ghost use Rattle.strat_machine.specs.Builds.{Builds};
 ghost use Rattle.strat_steps.specs.References.{AllRefs};
 ghost use Rattle.strat_machine.specs.Loaded.{AllKnown, all_loaded_of};
-ghost use Rattle.strat_machine.specs.Operands.{IsPosition};
-ghost use Rattle.strat_machine.specs.SpaceOf.{space_of};
+ghost use Rattle.strat_machine.specs.Tables.{IsPosition};
 ghost use Rattle.strat_machine.specs.RecordStack.{records_of};
-ghost use Rattle.strat_machine.specs.Stacks.{Performs, IsSafe, phase_with};
+ghost use Rattle.strat_machine.specs.Stacks.{Performs, IsSafe, next_with, position_with};
 
 use crate::building::{Built, Pushed, build_all};
 use crate::flat_values::{flat_values, make_flat};
 use crate::loaded::LoadedPattern;
 use crate::making::outcome;
-use crate::stacks::{Phase, Stacks, Stop};
+use crate::stacks::{Next, Position, Stacks};
 use prim_registry::{Flat, PrimMeaning, Registry};
 use std::alloc::{AllocError, Global};
 use term_model::TermSpace;
@@ -33,48 +32,49 @@ pub(crate) fn perform_primitive<S: TermSpace, M: PrimMeaning>(
     alloc: Global,
     stacks: &Stacks<S::Ref, S::Mark>,
     registry: &Registry<M>,
-    position: Option<usize>,
+    index: Option<usize>,
     patterns: &[LoadedPattern<S::Name>],
-    next: usize,
-    frame: usize,
-    term: S::Ref,
+    position: &mut Position<S::Ref>,
     stack: &mut Vec<S::Ref>,
-) -> Result<Phase<S::Ref>, AllocError>
+) -> Result<Next, AllocError>
     requires honest { IsHonest M.answer registry.now }
-    requires position { IfSome position (λ k. (k < length (entries_of registry.now)) × ((entry_at registry.now k).1 ≡ length patterns.now)) }
-    requires known { AllKnown (S.knows space.old) patterns.now }
-    requires safe { IsSafe (space_of S.stands S.term_of S.is_valid S.covers S.covers_mark) space.old stacks.now (records_of stacks.now.records) }
-    ensures keeps { Keeps S.stands S.term_of S.is_valid S.knows S.symbol_of space.old space.new }
+    requires index { IfSome index (λ k. (k < length (entries_of registry.now)) × ((entry_at registry.now k).1 ≡ length patterns.now)) }
+    requires known { AllKnown (S.space.knows space.old) patterns.now }
+    requires safe { IsSafe S.space space.old stacks.now (records_of stacks.now.records) }
+    ensures keeps { Keeps S.space space.old space.new }
     ensures stack { IfOk result (λ _. stack.new.items ≡ stack.old.items) }
-    ensures step { IfOk result (λ phase. (f : List ℕ) (n i : ℕ) → IsPosition (entries_of registry.now) position (f, length patterns.now) → next ≡ suc i → Performs (space_of S.stands S.term_of S.is_valid S.covers S.covers_mark) (meaning_of M.answer registry.now) (apply_primitive n f (all_loaded_of (S.symbol_of space.old) patterns.now)) i frame term space.old stacks.now space.new phase stacks.now) }
+    ensures step { IfOk result (λ next. (f : List ℕ) (n i : ℕ) →
+        IsPosition (entries_of registry.now) index (f, length patterns.now) → position.old.address ≡ suc i →
+        Performs S.space (meaning_of M.answer registry.now)
+        (apply_primitive n f (all_loaded_of (S.space.symbol_of space.old) patterns.now)) i position.old
+        space.old stacks.now space.new next position.new stacks.now) }
 {
-    drop(term);
     let from = stack.len();
     let slots = stacks.places.slots();
-    let made = build_all(space, alloc, &stacks.frames, frame, slots, patterns, stack)?;
-    match made {
-        Pushed::NoInstance => Ok(Phase::Failing),
-        Pushed::Oversize => Ok(Phase::Stopped(Stop::Oversize)),
+    let here = position.frame;
+    match build_all(space, alloc, &stacks.frames, here, slots, patterns, stack)? {
+        Pushed::NoInstance => Ok(Next::Failing),
+        Pushed::Oversize => Ok(Next::Oversize),
         Pushed::All => {
-            let answered = answer(space, alloc, registry, position, &stack[from..])?;
+            let answered = answer(space, alloc, registry, index, &stack[from..])?;
             stack.truncate(from);
-            Ok(goes_on(answered, next, frame))
+            Ok(go_on(answered, position))
         }
     }
 }
 
-// How a run goes on with what was built.
-fn goes_on<R: Drop>(built: Built<R>, next: usize, frame: usize) -> Phase<R>
-    ensures { result ≡ phase_with next frame built }
+/// Takes what was built as the term, and returns how the run goes on with it.
+pub(crate) fn go_on<R: Drop>(built: Built<R>, position: &mut Position<R>) -> Next
+    ensures next { result ≡ next_with built }
+    ensures position { position.new ≡ position_with position.old built }
 {
     match built {
-        Built::Made(made) => Phase::Running {
-            address: next,
-            frame,
-            term: made,
-        },
-        Built::NoInstance => Phase::Failing,
-        Built::Oversize => Phase::Stopped(Stop::Oversize),
+        Built::Made(made) => {
+            position.term = made;
+            Next::Running
+        }
+        Built::NoInstance => Next::Failing,
+        Built::Oversize => Next::Oversize,
     }
 }
 
@@ -89,9 +89,9 @@ fn answer<S: TermSpace, M: PrimMeaning>(
 ) -> Result<Built<S::Ref>, AllocError>
     requires honest { IsHonest M.answer registry.now }
     requires position { IfSome position (λ k. (k < length (entries_of registry.now)) × ((entry_at registry.now k).1 ≡ length terms.now)) }
-    requires standing { AllRefs (λ r. IsTrue (S.stands space.old r)) terms.now }
-    ensures keeps { Keeps S.stands S.term_of S.is_valid S.knows S.symbol_of space.old space.new }
-    ensures answer { IfOk result (λ made. (f : List ℕ) → IsPosition (entries_of registry.now) position (f, length terms.now) → Builds S.stands S.term_of space.new (option_map flat.term_of (option_and_then (meaning_of M.answer registry.now f) (all_flat (trees_of (map (S.term_of space.old) terms.now))))) made) }
+    requires standing { AllRefs (λ r. IsTrue (S.space.stands space.old r)) terms.now }
+    ensures keeps { Keeps S.space space.old space.new }
+    ensures answer { IfOk result (λ made. (f : List ℕ) → IsPosition (entries_of registry.now) position (f, length terms.now) → Builds S.space space.new (option_map flat.term_of (option_and_then (meaning_of M.answer registry.now f) (all_flat (trees_of (map (S.space.term_of space.old) terms.now))))) made) }
 {
     let Some(index) = position else {
         return Ok(Built::NoInstance);
@@ -114,8 +114,8 @@ fn call<S: TermSpace, M: PrimMeaning>(
     requires honest { IsHonest M.answer registry.now }
     requires within { index < length (entries_of registry.now) }
     requires arity { (entry_at registry.now index).1 ≡ length terms.now }
-    requires standing { AllRefs (λ r. IsTrue (S.stands space.now r)) terms.now }
-    ensures { IfOk result (λ answer. answer_of answer ≡ option_and_then (M.answer (entry_at registry.now index).0) (all_flat (trees_of (map (S.term_of space.now) terms.now)))) }
+    requires standing { AllRefs (λ r. IsTrue (S.space.stands space.now r)) terms.now }
+    ensures { IfOk result (λ answer. answer_of answer ≡ option_and_then (M.answer (entry_at registry.now index).0) (all_flat (trees_of (map (S.space.term_of space.now) terms.now)))) }
 {
     let Some(values) = flat_values(space, alloc, terms)? else {
         return Ok(None);

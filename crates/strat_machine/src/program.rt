@@ -1,96 +1,244 @@
-// What a run knows of code before its first step.
-ghost use Rattle.std.specs.Prelude.{IfOk};
+// A loaded program: code whose instructions hold all that they need of a space and a registry.
+ghost use Rattle.std.specs.Prelude.{◌≡◌, IfOk, List, Vec};
+ghost use Rattle.std.specs.declared.alloc.Global.{Global};
 ghost use Rattle.term_model.specs.Space.{Keeps, MakesNone};
 ghost use Rattle.prim_registry.specs.Entries.{entries_of};
-ghost use Rattle.strat_machine.specs.Operands.{AreOperands, AreOperandsOf, IsLoadedCode};
+ghost use Rattle.strat_code.specs.declared.instr.Case.{Case};
+ghost use Rattle.strat_code.specs.Code.{nodes_of};
+ghost use Rattle.strat_code.specs.CodeOf.{instr_of};
+ghost use Rattle.strat_machine.specs.Actions.{AreLoadedInstrs, IsAction, IsLoadedProgram};
 
+use crate::calls::Callee;
 use crate::loaded::{LoadedPattern, load_pattern, load_patterns};
 use crate::tables::{LoadedTable, load_tables};
+use core_lang::Coordinate;
 use prim_registry::{PrimMeaning, Registry};
 use std::alloc::{AllocError, Global};
-use strat_code::{Code, Instr};
+use strat_code::{Argument, Code, Instr, Traversal};
 use term_model::TermSpace;
 
-/// What a run knows of an instruction: its patterns with the names of a space, and the position of its primitive in the
-/// registry, if it has one there.
+/// An instruction of a loaded program: the nodes that it is charged, and what it does.
 #[derive(Drop)]
-pub(crate) enum Operands<N> {
-    Nothing,
-    Pattern(LoadedPattern<N>),
-    Patterns(Vec<LoadedPattern<N>>),
-    Primitive(Option<usize>, Vec<LoadedPattern<N>>),
+pub(crate) struct LoadedInstr<N> {
+    pub(crate) nodes: usize,
+    pub(crate) action: Action<N>,
 }
 
-/// What a run knows of code: of each instruction, and the tables that instructions select from.
+/// What an instruction does, as in code, but with names of a space in patterns, and with the place of a primitive in the registry, if it is
+/// there.
 #[derive(Drop)]
-pub(crate) struct LoadedCode<N> {
-    pub(crate) operands: Vec<Operands<N>>,
+pub(crate) enum Action<N> {
+    Count,
+    GiveUp,
+    Match(LoadedPattern<N>),
+    Build(LoadedPattern<N>),
+    Enter {
+        places: usize,
+    },
+    Leave,
+    Extend {
+        places: usize,
+    },
+    Shrink {
+        places: usize,
+    },
+    Try {
+        otherwise: usize,
+    },
+    Commit {
+        next_address: usize,
+    },
+    Select {
+        table: usize,
+        skipped: usize,
+        last: usize,
+    },
+    Jump {
+        next_address: usize,
+    },
+    Traverse {
+        traversal: Traversal,
+        next_address: usize,
+    },
+    PartDone,
+    CallDefinition {
+        callee: Callee,
+        arguments: Vec<Argument>,
+        terms: Vec<LoadedPattern<N>>,
+    },
+    CallClosure {
+        closure: Coordinate,
+    },
+    EndDefinition,
+    EndArgument,
+    ApplyPrimitive {
+        index: Option<usize>,
+        terms: Vec<LoadedPattern<N>>,
+    },
+    Finish,
+}
+
+/// The instructions of code, loaded, and the tables that they select from.
+#[derive(Drop)]
+pub(crate) struct LoadedProgram<N> {
+    pub(crate) instrs: Vec<LoadedInstr<N>>,
     pub(crate) tables: Vec<LoadedTable<N>>,
 }
 
 /// Brings the names of code in, and looks its primitives up.
-pub(crate) fn load_code<S: TermSpace, M: PrimMeaning>(
+pub(crate) fn load_program<S: TermSpace, M: PrimMeaning>(
     space: &mut S,
     alloc: Global,
     code: &Code,
     registry: &Registry<M>,
-) -> Result<LoadedCode<S::Name>, AllocError>
-    ensures keeps { Keeps S.stands S.term_of S.is_valid S.knows S.symbol_of space.old space.new }
-    ensures none { MakesNone S.stands S.is_valid space.old space.new }
-    ensures loaded { IfOk result (λ l. IsLoadedCode (S.knows space.new) (S.symbol_of space.new) S.number_of (entries_of registry.now) l code.now.tables code.now.instrs) }
+) -> Result<LoadedProgram<S::Name>, AllocError>
+    ensures keeps { Keeps S.space space.old space.new }
+    ensures none { MakesNone S.space space.old space.new }
+    ensures loaded { IfOk result (λ l. IsLoadedProgram (S.space.knows space.new) (S.space.symbol_of space.new)
+        (entries_of registry.now) S.space.number_of l code.now.tables code.now.instrs) }
 {
     let tables = load_tables(space, alloc, code.tables())?;
-    let operands = load_instrs(space, alloc, code.instrs(), registry)?;
-    Ok(LoadedCode { operands, tables })
+    let instrs = load_instrs(space, alloc, code.instrs(), registry)?;
+    Ok(LoadedProgram { instrs, tables })
 }
 
-// Brings the names of instructions in, and looks their primitives up.
+// Loads instructions.
 fn load_instrs<S: TermSpace, M: PrimMeaning>(
     space: &mut S,
     alloc: Global,
     instrs: &[Instr],
     registry: &Registry<M>,
-) -> Result<Vec<Operands<S::Name>>, AllocError>
-    ensures keeps { Keeps S.stands S.term_of S.is_valid S.knows S.symbol_of space.old space.new }
-    ensures none { MakesNone S.stands S.is_valid space.old space.new }
-    ensures loaded { IfOk result (λ os. AreOperands (S.knows space.new) (S.symbol_of space.new) (entries_of registry.now) os.items instrs.now) }
+) -> Result<Vec<LoadedInstr<S::Name>>, AllocError>
+    ensures keeps { Keeps S.space space.old space.new }
+    ensures none { MakesNone S.space space.old space.new }
+    ensures loaded { IfOk result (λ xs. AreLoadedInstrs (S.space.knows space.new) (S.space.symbol_of space.new)
+        (entries_of registry.now) xs.items instrs.now) }
 {
     let mut loaded = Vec::new(alloc);
     for instr in instrs {
-        loaded.push(load_operands(space, alloc, instr, registry)?)?;
+        let action = load_action(space, alloc, instr, registry)?;
+        loaded.push(LoadedInstr {
+            nodes: nodes(instr),
+            action,
+        })?;
     }
     Ok(loaded)
 }
 
-// Brings the names of an instruction in, and looks its primitive up.
-fn load_operands<S: TermSpace, M: PrimMeaning>(
+// Loads what an instruction does.
+fn load_action<S: TermSpace, M: PrimMeaning>(
     space: &mut S,
     alloc: Global,
     instr: &Instr,
     registry: &Registry<M>,
-) -> Result<Operands<S::Name>, AllocError>
-    ensures keeps { Keeps S.stands S.term_of S.is_valid S.knows S.symbol_of space.old space.new }
-    ensures none { MakesNone S.stands S.is_valid space.old space.new }
-    ensures loaded { IfOk result (λ o. AreOperandsOf (S.knows space.new) (S.symbol_of space.new) (entries_of registry.now) o instr.now) }
+) -> Result<Action<S::Name>, AllocError>
+    ensures keeps { Keeps S.space space.old space.new }
+    ensures none { MakesNone S.space space.old space.new }
+    ensures loaded { IfOk result (λ action. IsAction (S.space.knows space.new) (S.space.symbol_of space.new)
+        (entries_of registry.now) action instr.now) }
 {
     match instr {
+        Instr::Count { .. } => Ok(Action::Count),
+        Instr::GiveUp { .. } => Ok(Action::GiveUp),
         Instr::Match { pattern, .. } => {
             let pattern = load_pattern(space, alloc, pattern)?;
-            Ok(Operands::Pattern(pattern))
+            Ok(Action::Match(pattern))
         }
         Instr::Build { pattern, .. } => {
             let pattern = load_pattern(space, alloc, pattern)?;
-            Ok(Operands::Pattern(pattern))
+            Ok(Action::Build(pattern))
         }
-        Instr::CallDefinition { terms, .. } => {
+        Instr::Enter { places, .. } => Ok(Action::Enter { places: *places }),
+        Instr::Leave => Ok(Action::Leave),
+        Instr::Extend { places, .. } => Ok(Action::Extend { places: *places }),
+        Instr::Shrink { places } => Ok(Action::Shrink { places: *places }),
+        Instr::Try { otherwise, .. } => Ok(Action::Try {
+            otherwise: *otherwise,
+        }),
+        Instr::Commit { next_address, .. } => Ok(Action::Commit {
+            next_address: *next_address,
+        }),
+        Instr::Select {
+            table,
+            skipped,
+            last,
+            ..
+        } => Ok(Action::Select {
+            table: *table,
+            skipped: *skipped,
+            last: *last,
+        }),
+        Instr::Jump { next_address } => Ok(Action::Jump {
+            next_address: *next_address,
+        }),
+        Instr::Traverse {
+            traversal,
+            next_address,
+            ..
+        } => Ok(Action::Traverse {
+            traversal: *traversal,
+            next_address: *next_address,
+        }),
+        Instr::PartDone => Ok(Action::PartDone),
+        Instr::CallDefinition {
+            frames,
+            entry,
+            room,
+            next_address,
+            arguments,
+            terms,
+            ..
+        } => {
+            let callee = Callee {
+                frames: *frames,
+                entry: *entry,
+                room: *room,
+                next_address: *next_address,
+            };
+            let arguments = Vec::from_slice(alloc, arguments)?;
             let terms = load_patterns(space, alloc, terms)?;
-            Ok(Operands::Patterns(terms))
+            Ok(Action::CallDefinition {
+                callee,
+                arguments,
+                terms,
+            })
         }
+        Instr::CallClosure { closure, .. } => Ok(Action::CallClosure { closure: *closure }),
+        Instr::EndDefinition => Ok(Action::EndDefinition),
+        Instr::EndArgument => Ok(Action::EndArgument),
         Instr::ApplyPrimitive { name, terms, .. } => {
-            let position = registry.position(name, terms.len());
+            let index = registry.position(name, terms.len());
             let terms = load_patterns(space, alloc, terms)?;
-            Ok(Operands::Primitive(position, terms))
+            Ok(Action::ApplyPrimitive { index, terms })
         }
-        _ => Ok(Operands::Nothing),
+        Instr::Finish => Ok(Action::Finish),
+    }
+}
+
+// The nodes that an instruction is charged.
+fn nodes(instr: &Instr) -> usize
+    ensures { (tables : List (Vec Case Global)) → result ≡ nodes_of (instr_of tables instr.now) }
+{
+    match instr {
+        Instr::Count { nodes } => *nodes,
+        Instr::GiveUp { nodes } => *nodes,
+        Instr::Match { nodes, .. } => *nodes,
+        Instr::Build { nodes, .. } => *nodes,
+        Instr::Enter { nodes, .. } => *nodes,
+        Instr::Leave => 0,
+        Instr::Extend { nodes, .. } => *nodes,
+        Instr::Shrink { .. } => 0,
+        Instr::Try { nodes, .. } => *nodes,
+        Instr::Commit { nodes, .. } => *nodes,
+        Instr::Select { nodes, .. } => *nodes,
+        Instr::Jump { .. } => 0,
+        Instr::Traverse { nodes, .. } => *nodes,
+        Instr::PartDone => 0,
+        Instr::CallDefinition { nodes, .. } => *nodes,
+        Instr::CallClosure { nodes, .. } => *nodes,
+        Instr::EndDefinition => 0,
+        Instr::EndArgument => 0,
+        Instr::ApplyPrimitive { nodes, .. } => *nodes,
+        Instr::Finish => 0,
     }
 }

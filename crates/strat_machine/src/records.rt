@@ -3,6 +3,7 @@ ghost use Rattle.std.specs.Prelude.{◌≡◌, ◌+◌, ◌-◌, suc, MatchOptio
 ghost use Rattle.strat_steps.specs.References.{ref_call};
 ghost use Rattle.strat_machine.specs.RecordStack.{records_of, saved_of, IsNoCall, IsNoChoice, IsChoice};
 
+use crate::compact_records::CompactRecords;
 use crate::stack::Stack;
 use std::alloc::{AllocError, Global};
 
@@ -127,7 +128,7 @@ pub(crate) enum Record<R: Drop, M: Drop> {
 /// have become, the last of them on top, and the parts that are left, the first of them on top.
 #[derive(Drop)]
 pub(crate) struct Records<R: Drop, M: Drop> {
-    pub(crate) records: Stack<Record<R, M>>,
+    pub(crate) records: CompactRecords<R, M>,
     pub(crate) done: Stack<R>,
     pub(crate) left: Stack<R>,
 }
@@ -138,7 +139,7 @@ impl<R: Drop, M: Drop> Records<R, M> {
         ensures { records_of result ≡ [] }
     {
         Records {
-            records: Stack::new(alloc),
+            records: CompactRecords::new(alloc),
             done: Stack::new(alloc),
             left: Stack::new(alloc),
         }
@@ -157,29 +158,14 @@ impl<R: Drop, M: Drop> Records<R, M> {
     pub(crate) fn pop_call(&mut self) -> Option<(usize, usize)>
         ensures { MatchOption result (IsNoCall (records_of self.old)) (λ c. records_of self.old ≡ ref_call c.0 c.1 ∷ records_of self.new) }
     {
-        match self.records.pop()? {
-            Record::Call {
-                next_address,
-                frame,
-            } => Some((next_address, frame)),
-            Record::Choice { .. } => None,
-            Record::All { .. } => None,
-            Record::One { .. } => None,
-            Record::Some { .. } => None,
-        }
+        self.records.pop_call()
     }
 
     /// Takes the newest record off, if it is of a choice: what a failure would have restored.
-    pub(crate) fn pop_choice(&mut self) -> Option<Saved>
+    pub(crate) fn drop_choice(&mut self) -> Option<Saved>
         ensures { MatchOption result (IsNoChoice (records_of self.old)) (λ s. IsChoice (records_of self.old) (saved_of s) (records_of self.new)) }
     {
-        match self.records.pop()? {
-            Record::Choice { saved, .. } => Some(saved),
-            Record::Call { .. } => None,
-            Record::All { .. } => None,
-            Record::One { .. } => None,
-            Record::Some { .. } => None,
-        }
+        self.records.drop_choice()
     }
 
     /// Takes the next of the parts that are left.

@@ -1,7 +1,7 @@
 // Roots of terms, with the space's names in place of symbols.
 ghost use Rattle.std.specs.Prelude.{◌≡◌, ◌↔◌, true, IsTrue};
 ghost use Rattle.core_lang.specs.Roots as roots;
-ghost use Rattle.strat_machine.specs.Operands.{RootKnown, root_meant};
+ghost use Rattle.strat_machine.specs.Tables.{RootKnown, root_meant};
 
 use crate::matching::is_integer;
 use crate::tables::LoadedRoot;
@@ -9,9 +9,9 @@ use term_model::TermSpace;
 
 /// Whether the term has the root.
 pub(crate) fn has_root<S: TermSpace>(space: &S, root: &LoadedRoot<S::Name>, at: &S::Ref) -> bool
-    requires known { RootKnown (S.knows space.now) root.now }
-    requires stands { IsTrue (S.stands space.now at.now) }
-    ensures { IsTrue result ↔ (roots.has_root (root_meant (S.symbol_of space.now) root.now) (S.term_of space.now at.now) ≡ true) }
+    requires known { RootKnown (S.space.knows space.now) root.now }
+    requires stands { IsTrue (S.space.stands space.now at.now) }
+    ensures { IsTrue result ↔ (roots.has_root (root_meant (S.space.symbol_of space.now) root.now) (S.space.term_of space.now at.now) ≡ true) }
 {
     match root {
         LoadedRoot::Any => true,
@@ -23,8 +23,8 @@ pub(crate) fn has_root<S: TermSpace>(space: &S, root: &LoadedRoot<S::Name>, at: 
 
 // Whether the term is a list of `count` elements or, where the root is open, of at least `count`.
 fn is_list_of<S: TermSpace>(space: &S, at: &S::Ref, count: usize, is_open: bool) -> bool
-    requires { IsTrue (S.stands space.now at.now) }
-    ensures { IsTrue result ↔ (roots.has_root (roots.list_root count is_open) (S.term_of space.now at.now) ≡ true) }
+    requires { IsTrue (S.space.stands space.now at.now) }
+    ensures { IsTrue result ↔ (roots.has_root (roots.list_root count is_open) (S.space.term_of space.now at.now) ≡ true) }
 {
     let Some(len) = space.list_len(at) else {
         return false;

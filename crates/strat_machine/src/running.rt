@@ -1,24 +1,19 @@
 // Runs: steps from the start to the end.
+ghost use Rattle.term_model.specs.Space.{KeepsNames};
 ghost use Rattle.std.specs.Prelude.{◌≡◌, ◌↔◌, ◌+◌, ◌*◌, ◌≤◌, IsTrue, IfOk};
 ghost use Rattle.core_lang.specs.declared.run.Outcome.TheVariants as outcomes;
 ghost use Rattle.prim_registry.specs.Entries.{IsHonest, entries_of};
 ghost use Rattle.strat_code.specs.CodeOf.{code_of};
-ghost use Rattle.strat_steps.specs.Marks.{Holds, Lasts};
 ghost use Rattle.strat_steps.specs.Outcomes.{OutcomeStands, end_ref};
-ghost use Rattle.strat_machine.specs.Operands.{IsLoadedCode};
-ghost use Rattle.strat_steps.specs.References.{state_tree};
-ghost use Rattle.strat_steps.specs.ReferenceSteps.{StepRef, StepsRef};
+ghost use Rattle.strat_machine.specs.Actions.{IsLoadedProgram};
+ghost use Rattle.strat_steps.specs.ReferenceSteps.{StepsRef};
 ghost use Rattle.prim_registry.specs.Registered.{meaning_of};
 ghost use Rattle.strat_steps.specs.Run.{start_ref};
-ghost use Rattle.strat_machine.specs.Running.{IsClear, GoesOn, HasEnded, phase_of, rules_of};
-ghost use Rattle.strat_machine.specs.SpaceOf.{space_of};
-ghost use Rattle.strat_machine.specs.Stacks.{KeepsNames, state_of};
-ghost use Rattle.strat_steps.specs.Counted.{StateCounted};
+ghost use Rattle.strat_machine.specs.Running.{IsClear, GoesOn, HasEnded, IsOutcomeAt, rules_of};
 
-use crate::instructions::{Stepped, step};
-use crate::paid::perform_paid;
-use crate::program::LoadedCode;
-use crate::stacks::{Phase, Stacks, Stop};
+use crate::instructions::step;
+use crate::program::LoadedProgram;
+use crate::stacks::{Next, Position, Stacks};
 use core_lang::{Outcome, Run};
 use prim_registry::{PrimMeaning, Registry};
 use std::alloc::{AllocError, Global};
@@ -31,46 +26,49 @@ pub(crate) fn run_code<S: TermSpace, M: PrimMeaning>(
     alloc: Global,
     stacks: &mut Stacks<S::Ref, S::Mark>,
     code: &Code,
-    loaded: &LoadedCode<S::Name>,
+    program: &LoadedProgram<S::Name>,
     registry: &Registry<M>,
     term: S::Ref,
     budget: u32,
 ) -> Result<Run<S::Ref>, AllocError>
     requires clear { IsClear stacks.old }
-    requires stands { IsTrue (S.stands space.old term) }
+    requires stands { IsTrue (S.space.stands space.old term) }
     requires honest { IsHonest M.answer registry.now }
-    requires loaded { IsLoadedCode (S.knows space.old) (S.symbol_of space.old) S.number_of (entries_of registry.now) loaded.now code.now.tables code.now.instrs }
-    ensures steps { IfOk result (λ run. StepsRef (space_of S.stands S.term_of S.is_valid S.covers S.covers_mark) (code_of code.now.tables code.now.instrs) (meaning_of M.answer registry.now) run.steps space.old (start_ref term budget) space.new (end_ref run.outcome stacks.new.left)) }
+    requires loaded { IsLoadedProgram (S.space.knows space.old) (S.space.symbol_of space.old) (entries_of registry.now)
+        S.space.number_of program.now code.now.tables code.now.instrs }
+    ensures steps { IfOk result (λ run. StepsRef S.space (code_of code.now.tables code.now.instrs) (meaning_of M.answer registry.now) run.steps space.old (start_ref term budget) space.new (end_ref run.outcome stacks.new.left)) }
     ensures rules { IfOk result (λ run. run.rules ≡ rules_of run.outcome budget stacks.new.left) }
     ensures few { IfOk result (λ run. run.steps ≤ 10 * run.rules + 10) }
-    ensures stands { IfOk result (λ run. OutcomeStands (λ r. IsTrue (S.stands space.new r)) run.outcome) }
-    ensures kept { (r : S.Ref) → IsTrue (S.stands space.old r) → IsTrue (S.stands space.new r) × (S.term_of space.new r ≡ S.term_of space.old r) }
-    ensures names { KeepsNames S.knows S.symbol_of space.old space.new }
+    ensures stands { IfOk result (λ run. OutcomeStands (λ r. IsTrue (S.space.stands space.new r)) run.outcome) }
+    ensures kept { (r : S.Ref) → IsTrue (S.space.stands space.old r) → IsTrue (S.space.stands space.new r) × (S.space.term_of space.new r ≡ S.space.term_of space.old r) }
+    ensures names { KeepsNames S.space space.old space.new }
 {
     // The code stands for some program, so the run ends in time and is never stuck.
     let _ = code.instrs();
     stacks.left = budget as usize;
-    let mut arguments = Vec::new(alloc);
+    let mut stack = Vec::new(alloc);
     let mut steps: u64 = 0;
-    let mut phase = Phase::Running {
+    let mut next = Next::Running;
+    let mut position = Position {
         address: 0,
         frame: 0,
         term,
     };
-    while goes_on(&phase) {
-        phase = take_step(
+    while goes_on(next) {
+        next = step(
             space,
             alloc,
             stacks,
             code,
-            loaded,
+            program,
             registry,
-            phase,
-            &mut arguments,
+            next,
+            &mut position,
+            &mut stack,
         )?;
         steps += 1;
     }
-    let outcome = outcome_of(phase);
+    let outcome = outcome_of(next, position);
     let rules = rules_of(&outcome, budget, stacks.left);
     Ok(Run {
         outcome,
@@ -79,63 +77,23 @@ pub(crate) fn run_code<S: TermSpace, M: PrimMeaning>(
     })
 }
 
-/// Takes a step from a phase in which the run has not ended.
-pub(crate) fn take_step<S: TermSpace, M: PrimMeaning>(
-    space: &mut S,
-    alloc: Global,
-    stacks: &mut Stacks<S::Ref, S::Mark>,
-    code: &Code,
-    loaded: &LoadedCode<S::Name>,
-    registry: &Registry<M>,
-    phase: Phase<S::Ref>,
-    arguments: &mut Vec<S::Ref>,
-) -> Result<Phase<S::Ref>, AllocError>
-    requires going { GoesOn phase }
-    requires holds { Holds (space_of S.stands S.term_of S.is_valid S.covers S.covers_mark) space.old (state_of phase stacks.old) }
-    requires counted { StateCounted (state_tree (S.term_of space.old) (state_of phase stacks.old)) }
-    requires honest { IsHonest M.answer registry.now }
-    requires loaded { IsLoadedCode (S.knows space.old) (S.symbol_of space.old) S.number_of (entries_of registry.now) loaded.now code.now.tables code.now.instrs }
-    ensures names { KeepsNames S.knows S.symbol_of space.old space.new }
-    ensures lasting { (r : S.Ref) → Lasts (space_of S.stands S.term_of S.is_valid S.covers S.covers_mark) r space.old (state_of phase stacks.old) → IsTrue (S.stands space.new r) × (S.term_of space.new r ≡ S.term_of space.old r) }
-    ensures step { IfOk result (λ next. StepRef (space_of S.stands S.term_of S.is_valid S.covers S.covers_mark) (code_of code.now.tables code.now.instrs) (meaning_of M.answer registry.now) space.old (state_of phase stacks.old) space.new (state_of next stacks.new)) }
-{
-    match step(space, alloc, stacks, code, phase)? {
-        Stepped::Done(next) => Ok(next),
-        Stepped::Paid {
-            address,
-            frame,
-            term,
-        } => {
-            let next = perform_paid(
-                space, alloc, stacks, code, loaded, registry, address, frame, term, arguments,
-            )?;
-            Ok(next)
-        }
-    }
-}
-
 /// Whether the run has not ended.
-pub(crate) fn goes_on<R: Drop>(phase: &Phase<R>) -> bool
-    ensures { IsTrue result ↔ GoesOn phase.now }
+pub(crate) fn goes_on(next: Next) -> bool
+    ensures { IsTrue result ↔ GoesOn next }
 {
-    match phase {
-        Phase::Running { .. } => true,
-        Phase::Failing => true,
-        Phase::Rewritten(_) => false,
-        Phase::Stopped(_) => false,
-    }
+    matches!(next, Next::Running | Next::Failing)
 }
 
 // The outcome of a run that has ended.
-fn outcome_of<R: Drop>(phase: Phase<R>) -> Outcome<R>
-    requires { HasEnded phase }
-    ensures { phase ≡ phase_of result }
+fn outcome_of<R: Drop>(next: Next, position: Position<R>) -> Outcome<R>
+    requires { HasEnded next }
+    ensures { IsOutcomeAt next position result }
 {
-    match phase {
-        Phase::Rewritten(term) => Outcome::Rewritten(term),
-        Phase::Stopped(Stop::Failed) => Outcome::Failed,
-        Phase::Stopped(Stop::Oversize) => Outcome::Oversize,
-        Phase::Stopped(Stop::Spent) => Outcome::Spent,
+    match next {
+        Next::Rewritten => Outcome::Rewritten(position.term),
+        Next::Failed => Outcome::Failed,
+        Next::Oversize => Outcome::Oversize,
+        Next::Spent => Outcome::Spent,
         _ => unreachable!(),
     }
 }

@@ -3,13 +3,12 @@ ghost use Rattle.std.specs.Prelude.{◌≤◌, ℕ, IfOk, IsTrue, drop, length, 
 ghost use Rattle.term_model.specs.Flat.{Meaning};
 ghost use Rattle.strat_code.specs.Code.{select};
 ghost use Rattle.strat_machine.specs.Indexing.{IsIndex};
-ghost use Rattle.strat_machine.specs.Operands.{CasesKnown, TableKnown, TablesKnown, case_meant, cases_meant};
-ghost use Rattle.strat_machine.specs.SpaceOf.{space_of};
+ghost use Rattle.strat_machine.specs.Tables.{CasesKnown, TableKnown, TablesKnown, case_meant, cases_meant};
 ghost use Rattle.strat_machine.specs.Stacks.{Performs};
 
 use crate::index::{Index, find_case};
 use crate::roots::has_root;
-use crate::stacks::{Phase, Stacks, Stop};
+use crate::stacks::{Next, Position, Stacks};
 use crate::steps::put_choice;
 use crate::tables::{LoadedCase, LoadedTable};
 use std::alloc::{AllocError, Global};
@@ -24,23 +23,20 @@ pub(crate) fn perform_select<S: TermSpace>(
     table: usize,
     skipped: usize,
     last: usize,
-    frame: usize,
-    term: S::Ref,
-) -> Result<Phase<S::Ref>, AllocError>
-    requires known { TablesKnown (S.knows space.now) S.number_of tables.now }
-    requires stands { IsTrue (S.stands space.now term) }
-    ensures { IfOk result (λ phase. (M : Meaning) (n i : ℕ) → Performs (space_of S.stands S.term_of S.is_valid S.covers S.covers_mark) M (select n (cases_meant (S.symbol_of space.now) tables.now table skipped) last) i frame term space.now stacks.old space.now phase stacks.new) }
+    position: &mut Position<S::Ref>,
+) -> Result<Next, AllocError>
+    requires known { TablesKnown (S.space.knows space.now) S.space.number_of tables.now }
+    requires stands { IsTrue (S.space.stands space.now position.old.term) }
+    ensures { IfOk result (λ next. (M : Meaning) (n i : ℕ) →
+        Performs S.space M (select n (cases_meant (S.space.symbol_of space.now) tables.now table skipped) last) i position.old
+        space.now stacks.old space.now next position.new stacks.new) }
 {
     match tables.get(table) {
-        Some(found) => {
-            let phase = select_in(space, stacks, found, skipped, last, frame, term)?;
-            Ok(phase)
+        Some(found) => select_in(space, stacks, found, skipped, last, position),
+        None => {
+            position.address = last;
+            Ok(Next::Running)
         }
-        None => Ok(Phase::Running {
-            address: last,
-            frame,
-            term,
-        }),
     }
 }
 
@@ -51,27 +47,23 @@ fn select_in<S: TermSpace>(
     table: &LoadedTable<S::Name>,
     skipped: usize,
     last: usize,
-    frame: usize,
-    term: S::Ref,
-) -> Result<Phase<S::Ref>, AllocError>
-    requires known { TableKnown (S.knows space.now) S.number_of table.now }
-    requires stands { IsTrue (S.stands space.now term) }
-    ensures { IfOk result (λ phase. (M : Meaning) (n i : ℕ) → Performs (space_of S.stands S.term_of S.is_valid S.covers S.covers_mark) M (select n (drop skipped (map (case_meant (S.symbol_of space.now)) table.now.cases.items)) last) i frame term space.now stacks.old space.now phase stacks.new) }
+    position: &mut Position<S::Ref>,
+) -> Result<Next, AllocError>
+    requires known { TableKnown (S.space.knows space.now) S.space.number_of table.now }
+    requires stands { IsTrue (S.space.stands space.now position.old.term) }
+    ensures { IfOk result (λ next. (M : Meaning) (n i : ℕ) →
+        Performs S.space M (select n (drop skipped (map (case_meant (S.space.symbol_of space.now)) table.now.cases.items)) last) i position.old
+        space.now stacks.old space.now next position.new stacks.new) }
 {
     let cases = table.cases.as_slice();
     if skipped >= cases.len() {
-        return Ok(Phase::Running {
-            address: last,
-            frame,
-            term,
-        });
+        position.address = last;
+        return Ok(Next::Running);
     }
-    let Some(index) = &table.index else {
-        let phase = walk_cases(space, stacks, &cases[skipped..], last, frame, term)?;
-        return Ok(phase);
-    };
-    let phase = select_by(space, stacks, cases, index, skipped, last, frame, term)?;
-    Ok(phase)
+    match &table.index {
+        Some(index) => select_by(space, stacks, cases, index, skipped, last, position),
+        None => walk_cases(space, stacks, &cases[skipped..], last, position),
+    }
 }
 
 // Tries the first of the cases by their index.
@@ -82,33 +74,33 @@ fn select_by<S: TermSpace>(
     index: &Index,
     skipped: usize,
     last: usize,
-    frame: usize,
-    term: S::Ref,
-) -> Result<Phase<S::Ref>, AllocError>
-    requires known { CasesKnown (S.knows space.now) cases.now }
-    requires index { IsIndex S.number_of cases.now index.now }
+    position: &mut Position<S::Ref>,
+) -> Result<Next, AllocError>
+    requires known { CasesKnown (S.space.knows space.now) cases.now }
+    requires index { IsIndex S.space.number_of cases.now index.now }
     requires skipped { skipped ≤ length cases.now }
-    requires stands { IsTrue (S.stands space.now term) }
-    ensures { IfOk result (λ phase. (M : Meaning) (n i : ℕ) → Performs (space_of S.stands S.term_of S.is_valid S.covers S.covers_mark) M (select n (drop skipped (map (case_meant (S.symbol_of space.now)) cases.now)) last) i frame term space.now stacks.old space.now phase stacks.new) }
+    requires stands { IsTrue (S.space.stands space.now position.old.term) }
+    ensures { IfOk result (λ next. (M : Meaning) (n i : ℕ) →
+        Performs S.space M (select n (drop skipped (map (case_meant (S.space.symbol_of space.now)) cases.now)) last) i position.old
+        space.now stacks.old space.now next position.new stacks.new) }
 {
-    let found = find_case(space, cases, index, skipped, &term);
+    let found = find_case(space, cases, index, skipped, &position.term);
     let nodes = index.sums[found] - index.sums[skipped];
     if stacks.left < nodes {
         // The walk ends at the case that cannot be paid for.
-        let phase = walk_cases(space, stacks, &cases[skipped..], last, frame, term)?;
-        return Ok(phase);
+        return walk_cases(space, stacks, &cases[skipped..], last, position);
     }
     stacks.left -= nodes;
     match cases.get(found) {
         Some(case) => {
-            let phase = put_choice(space, stacks, case.otherwise, case.body, frame, term)?;
-            Ok(phase)
+            put_choice(space, stacks, case.otherwise, position)?;
+            position.address = case.body;
+            Ok(Next::Running)
         }
-        None => Ok(Phase::Running {
-            address: last,
-            frame,
-            term,
-        }),
+        None => {
+            position.address = last;
+            Ok(Next::Running)
+        }
     }
 }
 
@@ -118,26 +110,25 @@ fn walk_cases<S: TermSpace>(
     stacks: &mut Stacks<S::Ref, S::Mark>,
     cases: &[LoadedCase<S::Name>],
     last: usize,
-    frame: usize,
-    term: S::Ref,
-) -> Result<Phase<S::Ref>, AllocError>
-    requires known { CasesKnown (S.knows space.now) cases.now }
-    requires stands { IsTrue (S.stands space.now term) }
-    ensures { IfOk result (λ phase. (M : Meaning) (n i : ℕ) → Performs (space_of S.stands S.term_of S.is_valid S.covers S.covers_mark) M (select n (map (case_meant (S.symbol_of space.now)) cases.now) last) i frame term space.now stacks.old space.now phase stacks.new) }
+    position: &mut Position<S::Ref>,
+) -> Result<Next, AllocError>
+    requires known { CasesKnown (S.space.knows space.now) cases.now }
+    requires stands { IsTrue (S.space.stands space.now position.old.term) }
+    ensures { IfOk result (λ next. (M : Meaning) (n i : ℕ) →
+        Performs S.space M (select n (map (case_meant (S.space.symbol_of space.now)) cases.now) last) i position.old
+        space.now stacks.old space.now next position.new stacks.new) }
 {
     for case in cases {
-        if has_root(space, &case.root, &term) {
-            let phase = put_choice(space, stacks, case.otherwise, case.body, frame, term)?;
-            return Ok(phase);
+        if has_root(space, &case.root, &position.term) {
+            put_choice(space, stacks, case.otherwise, position)?;
+            position.address = case.body;
+            return Ok(Next::Running);
         }
         if stacks.left < case.nodes {
-            return Ok(Phase::Stopped(Stop::Spent));
+            return Ok(Next::Spent);
         }
         stacks.left -= case.nodes;
     }
-    Ok(Phase::Running {
-        address: last,
-        frame,
-        term,
-    })
+    position.address = last;
+    Ok(Next::Running)
 }

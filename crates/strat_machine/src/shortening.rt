@@ -18,7 +18,7 @@ pub(crate) fn first_nodes<S: TermSpace>(
     alloc: Global,
     at: &S::Ref,
 ) -> Result<Term, AllocError>
-    requires { IsTrue (S.stands space.now at.now) }
+    requires { IsTrue (S.space.stands space.now at.now) }
 {
     let mut left = NODES;
     let term = shorten(space, alloc, at, DEPTH - 1, &mut left)?;
@@ -34,7 +34,7 @@ fn shorten<S: TermSpace>(
     depth: usize,
     left: &mut usize,
 ) -> Result<Term, AllocError>
-    requires { IsTrue (S.stands space.now at.now) }
+    requires { IsTrue (S.space.stands space.now at.now) }
 {
     *left = left.saturating_sub(1);
     let shape = space.shape(at);
@@ -63,7 +63,7 @@ fn shorten_all<S: TermSpace>(
     depth: usize,
     left: &mut usize,
 ) -> Result<Vec<Term>, AllocError>
-    requires { All (λ r. IsTrue (S.stands space.now r)) parts.now }
+    requires { All (λ r. IsTrue (S.space.stands space.now r)) parts.now }
 {
     let mut terms = Vec::new(alloc);
     for part in parts.walk() {

@@ -1,5 +1,5 @@
 // A stack, whose newest item is the first.
-ghost use Rattle.std.specs.Prelude.{◌≡◌, ◌-◌, min, IsTrue, MatchOption, IfOk, OnOk, OnErr, [], ◌∷◌, ◌++◌, length, reverse, take, drop};
+ghost use Rattle.std.specs.Prelude.{◌≡◌, ◌-◌, ◌≤◌, min, IsTrue, MatchOption, IfOk, OnOk, OnErr, [], ◌∷◌, ◌++◌, length, reverse, take, drop};
 ghost use Rattle.strat_machine.specs.PartsOf.{PutsParts};
 
 use std::alloc::{AllocError, Global};
@@ -53,6 +53,13 @@ impl<T: Drop> Stack<T> {
         Ok(())
     }
 
+    /// The newest item.
+    pub(crate) fn newest_item(&self) -> Option<&T>
+        ensures { MatchOption result (self.now ≡ []) (λ item. take 1 self.now ≡ item.now ∷ []) }
+    {
+        self.items.last()
+    }
+
     /// Takes the newest item off.
     pub(crate) fn pop(&mut self) -> Option<T>
         ensures { MatchOption result ((self.old ≡ []) × (self.new ≡ [])) (λ item. self.old ≡ item ∷ self.new) }
@@ -97,17 +104,26 @@ impl<T: Drop> Stack<T> {
     }
 }
 
-/// Puts the parts of a term on a stack, the first one first, and returns how many there are.
+/// Puts the parts of a term on a stack, the last one first, and returns how many there are.
 pub(crate) fn push_parts_of<S: TermSpace>(
     space: &S,
     stack: &mut Stack<S::Ref>,
     of: &S::Ref,
 ) -> Result<usize, AllocError>
-    requires { IsTrue (S.stands space.now of.now) }
-    ensures { IfOk result (λ n. PutsParts S.stands S.term_of space.now of.now n stack.old stack.new) }
+    requires { IsTrue (S.space.stands space.now of.now) }
+    ensures { IfOk result (λ n. PutsParts S.space space.now of.now n stack.old stack.new) }
 {
     let before = stack.items.len();
     space.push_parts(of, &mut stack.items)?;
     let count = stack.items.len().saturating_sub(before);
+    reverse_from(&mut stack.items, before);
     Ok(count)
+}
+
+// Reverses the items from a position on.
+fn reverse_from<T: Drop>(items: &mut Vec<T>, from: usize)
+    requires { from ≤ length items.old.items }
+    ensures { items.new.items ≡ take from items.old.items ++ reverse (drop from items.old.items) }
+{
+    items[from..].reverse();
 }

@@ -18,31 +18,32 @@ pub(crate) struct Stacks<R: Drop, M: Drop> {
     pub(crate) left: usize,
 }
 
-/// Why a run ends without a term.
-#[derive(Clone, Copy, Debug, PartialEq, Eq)]
-pub(crate) enum Stop {
-    Failed,
-    Oversize,
-    Spent,
-    /// What code of no program comes to.
-    Stuck,
+/// Where the machine is: the address of the instruction that comes next, the current frame and the current term. While the machine deals with
+/// a failure, and after a run that ended without a term, it says nothing.
+#[derive(Drop)]
+pub(crate) struct Position<R: Drop> {
+    pub(crate) address: usize,
+    pub(crate) frame: usize,
+    pub(crate) term: R,
 }
 
 /// What the machine does next.
-#[derive(Drop)]
-pub(crate) enum Phase<R: Drop> {
-    /// It performs the instruction at the address, in the frame, on the term.
-    Running {
-        address: usize,
-        frame: usize,
-        term: R,
-    },
+#[derive(Clone, Copy, Debug, PartialEq, Eq)]
+pub(crate) enum Next {
+    /// It performs the instruction at its position.
+    Running,
     /// It deals with a failure.
     Failing,
-    /// The run has ended with this term.
-    Rewritten(R),
-    /// The run has ended without a term.
-    Stopped(Stop),
+    /// The run has ended with the term of the position.
+    Rewritten,
+    /// The run has ended: the term has no rewriting.
+    Failed,
+    /// The run has ended: what it built is too large.
+    Oversize,
+    /// The run has ended: the budget does not suffice for the next instruction.
+    Spent,
+    /// What code of no program comes to.
+    Stuck,
 }
 
 impl<R: Drop, M: Drop> Stacks<R, M> {

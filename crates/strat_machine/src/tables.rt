@@ -2,7 +2,7 @@
 ghost use Rattle.std.specs.Prelude.{IfOk, map};
 ghost use Rattle.term_model.specs.Space.{Keeps, MakesNone};
 ghost use Rattle.strat_code.specs.CodeOf.{case_of, root_of};
-ghost use Rattle.strat_machine.specs.Operands.{AreLoadedCases, AreLoadedTables, IsLoadedRoot, IsLoadedTable};
+ghost use Rattle.strat_machine.specs.Tables.{AreLoadedCases, AreLoadedTables, IsLoadedRoot, IsLoadedTable};
 
 use crate::index::{Index, index_cases};
 use std::alloc::{AllocError, Global};
@@ -40,9 +40,9 @@ pub(crate) fn load_tables<S: TermSpace>(
     alloc: Global,
     tables: &[Vec<Case>],
 ) -> Result<Vec<LoadedTable<S::Name>>, AllocError>
-    ensures keeps { Keeps S.stands S.term_of S.is_valid S.knows S.symbol_of space.old space.new }
-    ensures none { MakesNone S.stands S.is_valid space.old space.new }
-    ensures loaded { IfOk result (λ ts. AreLoadedTables (S.knows space.new) (S.symbol_of space.new) S.number_of ts.items tables.now) }
+    ensures keeps { Keeps S.space space.old space.new }
+    ensures none { MakesNone S.space space.old space.new }
+    ensures loaded { IfOk result (λ ts. AreLoadedTables (S.space.knows space.new) (S.space.symbol_of space.new) S.space.number_of ts.items tables.now) }
 {
     let mut loaded = Vec::new(alloc);
     for table in tables {
@@ -58,9 +58,9 @@ fn load_table<S: TermSpace>(
     alloc: Global,
     cases: &[Case],
 ) -> Result<LoadedTable<S::Name>, AllocError>
-    ensures keeps { Keeps S.stands S.term_of S.is_valid S.knows S.symbol_of space.old space.new }
-    ensures none { MakesNone S.stands S.is_valid space.old space.new }
-    ensures loaded { IfOk result (λ t. IsLoadedTable (S.knows space.new) (S.symbol_of space.new) S.number_of t (map case_of cases.now)) }
+    ensures keeps { Keeps S.space space.old space.new }
+    ensures none { MakesNone S.space space.old space.new }
+    ensures loaded { IfOk result (λ t. IsLoadedTable (S.space.knows space.new) (S.space.symbol_of space.new) S.space.number_of t (map case_of cases.now)) }
 {
     let loaded = load_cases(space, alloc, cases)?;
     let index = index_cases(space, alloc, &loaded)?;
@@ -76,9 +76,9 @@ fn load_cases<S: TermSpace>(
     alloc: Global,
     cases: &[Case],
 ) -> Result<Vec<LoadedCase<S::Name>>, AllocError>
-    ensures keeps { Keeps S.stands S.term_of S.is_valid S.knows S.symbol_of space.old space.new }
-    ensures none { MakesNone S.stands S.is_valid space.old space.new }
-    ensures loaded { IfOk result (λ cs. AreLoadedCases (S.knows space.new) (S.symbol_of space.new) cs.items (map case_of cases.now)) }
+    ensures keeps { Keeps S.space space.old space.new }
+    ensures none { MakesNone S.space space.old space.new }
+    ensures loaded { IfOk result (λ cs. AreLoadedCases (S.space.knows space.new) (S.space.symbol_of space.new) cs.items (map case_of cases.now)) }
 {
     let mut loaded = Vec::new(alloc);
     for case in cases {
@@ -99,9 +99,9 @@ fn load_root<S: TermSpace>(
     alloc: Global,
     root: &Root,
 ) -> Result<LoadedRoot<S::Name>, AllocError>
-    ensures keeps { Keeps S.stands S.term_of S.is_valid S.knows S.symbol_of space.old space.new }
-    ensures none { MakesNone S.stands S.is_valid space.old space.new }
-    ensures loaded { IfOk result (λ r. IsLoadedRoot (S.knows space.new) (S.symbol_of space.new) r (root_of root.now)) }
+    ensures keeps { Keeps S.space space.old space.new }
+    ensures none { MakesNone S.space space.old space.new }
+    ensures loaded { IfOk result (λ r. IsLoadedRoot (S.space.knows space.new) (S.space.symbol_of space.new) r (root_of root.now)) }
 {
     match root {
         Root::Any => Ok(LoadedRoot::Any),

@@ -1,12 +1,12 @@
 // Traversals: the parts of a term one after another, and the whole made of what they have become.
-ghost use Rattle.std.specs.Prelude.{◌≡◌, ◌+◌, ℕ, suc, IfOk, IsTrue, true, false, ◌∷◌, ◌++◌, length, map, take, drop, reverse};
+ghost use Rattle.std.specs.Prelude.{◌≡◌, ◌+◌, ℕ, suc, IfOk, IsTrue, true, false, [], ◌∷◌, ◌++◌, length, map, take, drop, reverse};
 ghost use Rattle.term_model.specs.Flat.{Meaning};
 ghost use Rattle.term_model.specs.Space.{Keeps};
 ghost use Rattle.term_model.specs.Term.{parts_of};
 ghost use Rattle.strat_code.specs.Code.{traverse, part_done};
 ghost use Rattle.strat_code.specs.CodeOf.{traversal_of};
-ghost use Rattle.strat_machine.specs.SpaceOf.{space_of};
 ghost use Rattle.strat_steps.specs.References.{AllRefs, record_tree};
+ghost use Rattle.strat_machine.specs.CompactRecords.{HasNoAll};
 ghost use Rattle.strat_machine.specs.RecordStack.{records_of, records_in};
 ghost use Rattle.strat_machine.specs.Stacks.{Performs, IsSafe, state_of};
 ghost use Rattle.strat_machine.specs.Traversing.{RebuildsTo, OpensParts, GoesOnAll, GoesOnOne, GoesOnSome, HasParts, HasTried};
@@ -14,48 +14,47 @@ ghost use Rattle.strat_steps.specs.Counted.{AllCounted};
 
 use crate::records::{Record, Records, Traversed};
 use crate::stack::push_parts_of;
-use crate::stacks::{Phase, Stacks, Stop};
+use crate::stacks::{Next, Position, Stacks};
 use crate::tries::{try_one, try_some};
 use std::alloc::{AllocError, Global};
 use strat_code::Traversal;
 use term_model::{Made, TermSpace};
 
-/// Begins a traversal.
+/// Begins a traversal, whose code for a part is at the position.
 pub(crate) fn traverse_parts<S: TermSpace>(
     space: &mut S,
     alloc: Global,
     stacks: &mut Stacks<S::Ref, S::Mark>,
     traversal: Traversal,
-    body: usize,
     next_address: usize,
-    frame: usize,
-    term: S::Ref,
-) -> Result<Phase<S::Ref>, AllocError>
-    requires { IsTrue (S.stands space.old term) }
-    ensures keeps { Keeps S.stands S.term_of S.is_valid S.knows S.symbol_of space.old space.new }
-    ensures step { IfOk result (λ phase. (M : Meaning) (n i : ℕ) → body ≡ suc i → Performs (space_of S.stands S.term_of S.is_valid S.covers S.covers_mark) M (traverse n (traversal_of traversal) next_address) i frame term space.old stacks.old space.new phase stacks.new) }
+    position: &mut Position<S::Ref>,
+) -> Result<Next, AllocError>
+    requires { IsTrue (S.space.stands space.old position.old.term) }
+    ensures keeps { Keeps S.space space.old space.new }
+    ensures step { IfOk result (λ next. (M : Meaning) (n i : ℕ) → position.old.address ≡ suc i →
+        Performs S.space M (traverse n (traversal_of traversal) next_address) i position.old
+        space.old stacks.old space.new next position.new stacks.new) }
 {
-    let left = open_parts(space, &mut stacks.records, &term)?;
+    let left = open_parts(space, &mut stacks.records, &position.term)?;
+    if left == 0 {
+        match traversal {
+            Traversal::One => return Ok(Next::Failing),
+            Traversal::Some => return Ok(Next::Failing),
+            Traversal::All => position.address = next_address,
+        }
+        return Ok(Next::Running);
+    }
     let traversed = Traversed {
-        body,
+        body: position.address,
         next_address,
-        whole: term,
+        whole: space.dup(&position.term)?,
         done: 0,
         left,
     };
     match traversal {
-        Traversal::All => {
-            let phase = next_of_all(space, alloc, stacks, traversed, frame)?;
-            Ok(phase)
-        }
-        Traversal::One => {
-            let phase = next_of_one(space, stacks, traversed, frame)?;
-            Ok(phase)
-        }
-        Traversal::Some => {
-            let phase = next_of_some(space, alloc, stacks, traversed, false, frame)?;
-            Ok(phase)
-        }
+        Traversal::All => next_of_all(space, alloc, stacks, traversed, position),
+        Traversal::One => next_of_one(space, stacks, traversed, position),
+        Traversal::Some => next_of_some(space, alloc, stacks, traversed, false, position),
     }
 }
 
@@ -65,12 +64,10 @@ fn open_parts<S: TermSpace>(
     records: &mut Records<S::Ref, S::Mark>,
     of: &S::Ref,
 ) -> Result<usize, AllocError>
-    requires { IsTrue (S.stands space.now of.now) }
-    ensures { IfOk result (λ n. OpensParts (space_of S.stands S.term_of S.is_valid S.covers S.covers_mark) space.now of.now n records.old records.new) }
+    requires { IsTrue (S.space.stands space.now of.now) }
+    ensures { IfOk result (λ n. OpensParts S.space space.now of.now n records.old records.new) }
 {
-    let count = push_parts_of(space, &mut records.done, of)?;
-    let _moved = records.done.move_to(&mut records.left, count)?;
-    Ok(count)
+    push_parts_of(space, &mut records.left, of)
 }
 
 // Goes on with the next part of all(s), whose record is off, or makes the whole.
@@ -79,27 +76,21 @@ fn next_of_all<S: TermSpace>(
     alloc: Global,
     stacks: &mut Stacks<S::Ref, S::Mark>,
     traversed: Traversed<S::Ref>,
-    frame: usize,
-) -> Result<Phase<S::Ref>, AllocError>
-    requires { HasParts (space_of S.stands S.term_of S.is_valid S.covers S.covers_mark) space.old stacks.old.records traversed }
-    ensures keeps { Keeps S.stands S.term_of S.is_valid S.knows S.symbol_of space.old space.new }
-    ensures step { IfOk result (λ phase. GoesOnAll (space_of S.stands S.term_of S.is_valid S.covers S.covers_mark) space.old stacks.old traversed (take traversed.done stacks.old.records.done) frame space.new phase stacks.new) }
+    position: &mut Position<S::Ref>,
+) -> Result<Next, AllocError>
+    requires { HasParts S.space space.old stacks.old.records traversed }
+    ensures keeps { Keeps S.space space.old space.new }
+    ensures step { IfOk result (λ next. GoesOnAll S.space space.old stacks.old traversed (take traversed.done stacks.old.records.done) position.old.frame
+        space.new next position.new stacks.new) }
 {
     let Some(part) = stacks.records.next_part(traversed.left) else {
-        let phase = rebuild_whole(space, alloc, stacks, traversed, frame)?;
-        return Ok(phase);
+        return rebuild_whole(space, alloc, stacks, traversed, position);
     };
     let others = traversed.one_less();
-    let body = others.body;
-    stacks
-        .records
-        .records
-        .push(Record::All { traversed: others })?;
-    Ok(Phase::Running {
-        address: body,
-        frame,
-        term: part,
-    })
+    position.address = others.body;
+    position.term = part;
+    stacks.records.records.push_all(others)?;
+    Ok(Next::Running)
 }
 
 // Goes on with the next part of one(s), whose record is off, or fails.
@@ -107,17 +98,18 @@ fn next_of_one<S: TermSpace>(
     space: &S,
     stacks: &mut Stacks<S::Ref, S::Mark>,
     traversed: Traversed<S::Ref>,
-    frame: usize,
-) -> Result<Phase<S::Ref>, AllocError>
-    requires { HasParts (space_of S.stands S.term_of S.is_valid S.covers S.covers_mark) space.now stacks.old.records traversed }
-    ensures { IfOk result (λ phase. GoesOnOne (space_of S.stands S.term_of S.is_valid S.covers S.covers_mark) space.now stacks.old traversed (take traversed.done stacks.old.records.done) frame phase stacks.new) }
+    position: &mut Position<S::Ref>,
+) -> Result<Next, AllocError>
+    requires { HasParts S.space space.now stacks.old.records traversed }
+    ensures { IfOk result (λ next. GoesOnOne S.space space.now stacks.old traversed (take traversed.done stacks.old.records.done) position.old.frame
+        next position.new stacks.new) }
 {
     let Some(part) = stacks.records.next_part(traversed.left) else {
         stacks.records.cut(traversed.done, traversed.left);
-        return Ok(Phase::Failing);
+        return Ok(Next::Failing);
     };
-    let phase = try_one(space, stacks, traversed.one_less(), part, frame)?;
-    Ok(phase)
+    try_one(space, stacks, traversed.one_less(), part, position)?;
+    Ok(Next::Running)
 }
 
 // Goes on with the next part of some(s), whose record is off; where none is left, makes the whole or fails.
@@ -127,22 +119,22 @@ fn next_of_some<S: TermSpace>(
     stacks: &mut Stacks<S::Ref, S::Mark>,
     traversed: Traversed<S::Ref>,
     found: bool,
-    frame: usize,
-) -> Result<Phase<S::Ref>, AllocError>
-    requires { HasParts (space_of S.stands S.term_of S.is_valid S.covers S.covers_mark) space.old stacks.old.records traversed }
-    ensures keeps { Keeps S.stands S.term_of S.is_valid S.knows S.symbol_of space.old space.new }
-    ensures step { IfOk result (λ phase. GoesOnSome (space_of S.stands S.term_of S.is_valid S.covers S.covers_mark) space.old stacks.old traversed (take traversed.done stacks.old.records.done) found frame space.new phase stacks.new) }
+    position: &mut Position<S::Ref>,
+) -> Result<Next, AllocError>
+    requires { HasParts S.space space.old stacks.old.records traversed }
+    ensures keeps { Keeps S.space space.old space.new }
+    ensures step { IfOk result (λ next. GoesOnSome S.space space.old stacks.old traversed (take traversed.done stacks.old.records.done) found position.old.frame
+        space.new next position.new stacks.new) }
 {
     let Some(part) = stacks.records.next_part(traversed.left) else {
         if found {
-            let phase = rebuild_whole(space, alloc, stacks, traversed, frame)?;
-            return Ok(phase);
+            return rebuild_whole(space, alloc, stacks, traversed, position);
         }
         stacks.records.cut(traversed.done, traversed.left);
-        return Ok(Phase::Failing);
+        return Ok(Next::Failing);
     };
-    let phase = try_some(space, stacks, traversed.one_less(), part, found, frame)?;
-    Ok(phase)
+    try_some(space, stacks, traversed.one_less(), part, found, position)?;
+    Ok(Next::Running)
 }
 
 // Makes the whole of what the parts have become.
@@ -151,24 +143,25 @@ fn rebuild_whole<S: TermSpace>(
     alloc: Global,
     stacks: &mut Stacks<S::Ref, S::Mark>,
     traversed: Traversed<S::Ref>,
-    frame: usize,
-) -> Result<Phase<S::Ref>, AllocError>
-    requires whole { IsTrue (S.stands space.old traversed.whole) }
-    requires parts { AllRefs (λ r. IsTrue (S.stands space.old r)) (take traversed.done stacks.old.records.done) }
-    requires count { length (take traversed.done stacks.old.records.done) ≡ length (parts_of (S.term_of space.old traversed.whole)) }
-    ensures keeps { Keeps S.stands S.term_of S.is_valid S.knows S.symbol_of space.old space.new }
-    ensures step { IfOk result (λ phase. RebuildsTo (space_of S.stands S.term_of S.is_valid S.covers S.covers_mark) space.old traversed.whole (reverse (take traversed.done stacks.old.records.done)) stacks.old (records_in stacks.old.records.records (drop traversed.done stacks.old.records.done) (drop traversed.left stacks.old.records.left)) traversed.next_address frame space.new (state_of phase stacks.new)) }
+    position: &mut Position<S::Ref>,
+) -> Result<Next, AllocError>
+    requires whole { IsTrue (S.space.stands space.old traversed.whole) }
+    requires parts { AllRefs (λ r. IsTrue (S.space.stands space.old r)) (take traversed.done stacks.old.records.done) }
+    requires count { length (take traversed.done stacks.old.records.done) ≡ length (parts_of (S.space.term_of space.old traversed.whole)) }
+    ensures keeps { Keeps S.space space.old space.new }
+    ensures step { IfOk result (λ next. RebuildsTo S.space space.old traversed.whole (reverse (take traversed.done stacks.old.records.done)) stacks.old (records_in stacks.old.records.records (drop traversed.done stacks.old.records.done) (drop traversed.left stacks.old.records.left)) traversed.next_address position.old.frame
+        space.new (state_of next position.new stacks.new)) }
 {
     let parts = stacks.records.done.newest(traversed.done);
     let made = space.rebuild(alloc, &traversed.whole, parts)?;
     stacks.records.cut(traversed.done, traversed.left);
     match made {
-        Made::Fits(term) => Ok(Phase::Running {
-            address: traversed.next_address,
-            frame,
-            term,
-        }),
-        Made::Oversize => Ok(Phase::Stopped(Stop::Oversize)),
+        Made::Fits(term) => {
+            position.address = traversed.next_address;
+            position.term = term;
+            Ok(Next::Running)
+        }
+        Made::Oversize => Ok(Next::Oversize),
     }
 }
 
@@ -177,34 +170,32 @@ pub(crate) fn end_part<S: TermSpace>(
     space: &mut S,
     alloc: Global,
     stacks: &mut Stacks<S::Ref, S::Mark>,
-    address: usize,
-    here: usize,
-    term: S::Ref,
-) -> Result<Phase<S::Ref>, AllocError>
-    requires stands { IsTrue (S.stands space.old term) }
-    requires safe { IsSafe (space_of S.stands S.term_of S.is_valid S.covers S.covers_mark) space.old stacks.old (records_of stacks.old.records) }
-    requires counted { AllCounted (map (record_tree (S.term_of space.old)) (records_of stacks.old.records)) }
-    ensures keeps { Keeps S.stands S.term_of S.is_valid S.knows S.symbol_of space.old space.new }
-    ensures step { IfOk result (λ phase. (M : Meaning) → Performs (space_of S.stands S.term_of S.is_valid S.covers S.covers_mark) M part_done address here term space.old stacks.old space.new phase stacks.new) }
+    position: &mut Position<S::Ref>,
+) -> Result<Next, AllocError>
+    requires stands { IsTrue (S.space.stands space.old position.old.term) }
+    requires safe { IsSafe S.space space.old stacks.old (records_of stacks.old.records) }
+    requires counted { AllCounted (map (record_tree (S.space.term_of space.old)) (records_of stacks.old.records)) }
+    ensures keeps { Keeps S.space space.old space.new }
+    ensures step { IfOk result (λ next. (M : Meaning) (i : ℕ) →
+        Performs S.space M part_done i position.old space.old stacks.old space.new next position.new stacks.new) }
 {
+    if stacks.records.records.is_all() {
+        return end_part_of_all(space, alloc, stacks, position);
+    }
     let Some(record) = stacks.records.records.pop() else {
-        return Ok(Phase::Stopped(Stop::Stuck));
+        return Ok(Next::Stuck);
     };
     match record {
-        Record::Call { .. } => Ok(Phase::Stopped(Stop::Stuck)),
-        Record::Choice { .. } => Ok(Phase::Stopped(Stop::Stuck)),
-        Record::All { traversed } => {
-            let phase = end_part_of_all(space, alloc, stacks, traversed, here, term)?;
-            Ok(phase)
-        }
+        Record::Call { .. } => Ok(Next::Stuck),
+        Record::Choice { .. } => Ok(Next::Stuck),
+        Record::All { .. } => unreachable!(),
         Record::One {
             traversed,
             saved,
             ..
         } => {
             stacks.places.trim(saved.height, saved.barrier);
-            let phase = end_part_of_one(space, alloc, stacks, traversed, here, term)?;
-            Ok(phase)
+            end_part_of_one(space, alloc, stacks, traversed, position)
         }
         Record::Some {
             traversed,
@@ -212,29 +203,61 @@ pub(crate) fn end_part<S: TermSpace>(
             ..
         } => {
             stacks.places.trim(saved.height, saved.barrier);
-            let phase = end_part_of_some(space, alloc, stacks, traversed, here, term)?;
-            Ok(phase)
+            end_part_of_some(space, alloc, stacks, traversed, position)
         }
     }
 }
 
-// A part of all(s), whose record is off, has become this.
+// A part of all(s), whose record is on, has become this.
 fn end_part_of_all<S: TermSpace>(
     space: &mut S,
     alloc: Global,
     stacks: &mut Stacks<S::Ref, S::Mark>,
-    traversed: Traversed<S::Ref>,
-    here: usize,
-    term: S::Ref,
-) -> Result<Phase<S::Ref>, AllocError>
-    requires { HasTried (space_of S.stands S.term_of S.is_valid S.covers S.covers_mark) space.old stacks.old.records traversed term }
-    ensures keeps { Keeps S.stands S.term_of S.is_valid S.knows S.symbol_of space.old space.new }
-    ensures step { IfOk result (λ phase. GoesOnAll (space_of S.stands S.term_of S.is_valid S.covers S.covers_mark) space.old stacks.old traversed (term ∷ take traversed.done stacks.old.records.done) here space.new phase stacks.new) }
+    position: &mut Position<S::Ref>,
+) -> Result<Next, AllocError>
+    requires stands { IsTrue (S.space.stands space.old position.old.term) }
+    requires safe { IsSafe S.space space.old stacks.old (records_of stacks.old.records) }
+    requires counted { AllCounted (map (record_tree (S.space.term_of space.old)) (records_of stacks.old.records)) }
+    requires all { HasNoAll stacks.old.records.records → stacks.old.records.records ≡ [] }
+    ensures keeps { Keeps S.space space.old space.new }
+    ensures step { IfOk result (λ next. (M : Meaning) (i : ℕ) →
+        Performs S.space M part_done i position.old space.old stacks.old space.new next position.new stacks.new) }
 {
-    stacks.records.done.push(term)?;
+    let records = &mut stacks.records;
+    if let Some((body, part)) = records.records.advance_all(&mut records.left) {
+        let done = space.dup(&position.term)?;
+        records.done.push(done)?;
+        position.address = body;
+        position.term = part;
+        return Ok(Next::Running);
+    }
+    let Some(traversed) = stacks.records.records.pop_all() else {
+        return Ok(Next::Stuck);
+    };
+    end_last_part(space, alloc, stacks, traversed, position)
+}
+
+// The last part of all(s), whose record is off, has become this: the whole is made. Memory is out where more parts are left than can be
+// counted.
+fn end_last_part<S: TermSpace>(
+    space: &mut S,
+    alloc: Global,
+    stacks: &mut Stacks<S::Ref, S::Mark>,
+    traversed: Traversed<S::Ref>,
+    position: &mut Position<S::Ref>,
+) -> Result<Next, AllocError>
+    requires { HasTried S.space space.old stacks.old.records traversed position.old.term }
+    ensures keeps { Keeps S.space space.old space.new }
+    ensures step { IfOk result (λ next. GoesOnAll S.space space.old stacks.old traversed (position.old.term ∷ take traversed.done stacks.old.records.done) position.old.frame
+        space.new next position.new stacks.new) }
+{
+    let done = space.dup(&position.term)?;
+    stacks.records.done.push(done)?;
     let more = traversed.one_more()?;
-    let phase = next_of_all(space, alloc, stacks, more, here)?;
-    Ok(phase)
+    let None = stacks.records.next_part(more.left) else {
+        return Err(AllocError);
+    };
+    rebuild_whole(space, alloc, stacks, more, position)
 }
 
 // The part of one(s), whose record is off, has become this: the whole is made.
@@ -243,19 +266,19 @@ fn end_part_of_one<S: TermSpace>(
     alloc: Global,
     stacks: &mut Stacks<S::Ref, S::Mark>,
     traversed: Traversed<S::Ref>,
-    here: usize,
-    term: S::Ref,
-) -> Result<Phase<S::Ref>, AllocError>
-    requires { HasTried (space_of S.stands S.term_of S.is_valid S.covers S.covers_mark) space.old stacks.old.records traversed term }
-    ensures keeps { Keeps S.stands S.term_of S.is_valid S.knows S.symbol_of space.old space.new }
-    ensures step { IfOk result (λ phase. RebuildsTo (space_of S.stands S.term_of S.is_valid S.covers S.covers_mark) space.old traversed.whole (reverse (take traversed.done stacks.old.records.done) ++ term ∷ take traversed.left stacks.old.records.left) stacks.old (records_in stacks.old.records.records (drop traversed.done stacks.old.records.done) (drop traversed.left stacks.old.records.left)) traversed.next_address here space.new (state_of phase stacks.new)) }
+    position: &mut Position<S::Ref>,
+) -> Result<Next, AllocError>
+    requires { HasTried S.space space.old stacks.old.records traversed position.old.term }
+    ensures keeps { Keeps S.space space.old space.new }
+    ensures step { IfOk result (λ next. RebuildsTo S.space space.old traversed.whole (reverse (take traversed.done stacks.old.records.done) ++ position.old.term ∷ take traversed.left stacks.old.records.left) stacks.old (records_in stacks.old.records.records (drop traversed.done stacks.old.records.done) (drop traversed.left stacks.old.records.left)) traversed.next_address position.old.frame
+        space.new (state_of next position.new stacks.new)) }
 {
-    stacks.records.done.push(term)?;
+    let done = space.dup(&position.term)?;
+    stacks.records.done.push(done)?;
     let records = &mut stacks.records;
     let moved = records.left.move_to(&mut records.done, traversed.left)?;
     let ended = traversed.ended(moved)?;
-    let phase = rebuild_whole(space, alloc, stacks, ended, here)?;
-    Ok(phase)
+    rebuild_whole(space, alloc, stacks, ended, position)
 }
 
 // A part of some(s), whose record is off, has become this.
@@ -264,15 +287,15 @@ fn end_part_of_some<S: TermSpace>(
     alloc: Global,
     stacks: &mut Stacks<S::Ref, S::Mark>,
     traversed: Traversed<S::Ref>,
-    here: usize,
-    term: S::Ref,
-) -> Result<Phase<S::Ref>, AllocError>
-    requires { HasTried (space_of S.stands S.term_of S.is_valid S.covers S.covers_mark) space.old stacks.old.records traversed term }
-    ensures keeps { Keeps S.stands S.term_of S.is_valid S.knows S.symbol_of space.old space.new }
-    ensures step { IfOk result (λ phase. GoesOnSome (space_of S.stands S.term_of S.is_valid S.covers S.covers_mark) space.old stacks.old traversed (term ∷ take traversed.done stacks.old.records.done) true here space.new phase stacks.new) }
+    position: &mut Position<S::Ref>,
+) -> Result<Next, AllocError>
+    requires { HasTried S.space space.old stacks.old.records traversed position.old.term }
+    ensures keeps { Keeps S.space space.old space.new }
+    ensures step { IfOk result (λ next. GoesOnSome S.space space.old stacks.old traversed (position.old.term ∷ take traversed.done stacks.old.records.done) true position.old.frame
+        space.new next position.new stacks.new) }
 {
-    stacks.records.done.push(term)?;
+    let done = space.dup(&position.term)?;
+    stacks.records.done.push(done)?;
     let more = traversed.one_more()?;
-    let phase = next_of_some(space, alloc, stacks, more, true, here)?;
-    Ok(phase)
+    next_of_some(space, alloc, stacks, more, true, position)
 }

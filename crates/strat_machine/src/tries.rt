@@ -1,10 +1,10 @@
 // A part of a term is tried: the record that a failure on it goes back to.
-ghost use Rattle.std.specs.Prelude.{IfOk, IsTrue};
-ghost use Rattle.strat_machine.specs.SpaceOf.{space_of};
+ghost use Rattle.std.specs.Prelude.{OnOk, IsTrue};
 ghost use Rattle.strat_machine.specs.Stacks.{TriesPart};
+ghost use Rattle.strat_machine.specs.declared.records.Record.TheVariants as records;
 
-use crate::records::{Record, Traversed};
-use crate::stacks::{Phase, Stacks};
+use crate::records::Traversed;
+use crate::stacks::{Position, Stacks};
 use std::alloc::AllocError;
 use term_model::TermSpace;
 
@@ -14,26 +14,22 @@ pub(crate) fn try_one<S: TermSpace>(
     stacks: &mut Stacks<S::Ref, S::Mark>,
     traversed: Traversed<S::Ref>,
     part: S::Ref,
-    frame: usize,
-) -> Result<Phase<S::Ref>, AllocError>
-    requires { IsTrue (S.stands space.now part) }
-    ensures { IfOk result (λ phase. TriesPart (space_of S.stands S.term_of S.is_valid S.covers S.covers_mark) space.now stacks.old (Record.One traversed part) traversed.body frame part phase stacks.new) }
+    position: &mut Position<S::Ref>,
+) -> Result<(), AllocError>
+    requires { IsTrue (S.space.stands space.now part) }
+    ensures { OnOk result (TriesPart S.space space.now stacks.old (records.One traversed part) traversed.body
+        position.old.frame part position.new stacks.new) }
 {
-    let tried = space.dup(&part)?;
-    let body = traversed.body;
-    let saved = stacks.saved(frame);
-    stacks.records.records.push(Record::One {
-        traversed,
-        part,
-        saved,
-        mark: space.mark(),
-    })?;
+    position.term = space.dup(&part)?;
+    position.address = traversed.body;
+    let saved = stacks.saved(position.frame);
+    let mark = space.mark();
+    stacks
+        .records
+        .records
+        .push_one(traversed, part, saved, mark)?;
     stacks.places.guard();
-    Ok(Phase::Running {
-        address: body,
-        frame,
-        term: tried,
-    })
+    Ok(())
 }
 
 /// Tries a part of some(s), which is no longer among those that are left.
@@ -43,25 +39,18 @@ pub(crate) fn try_some<S: TermSpace>(
     traversed: Traversed<S::Ref>,
     part: S::Ref,
     found: bool,
-    frame: usize,
-) -> Result<Phase<S::Ref>, AllocError>
-    requires { IsTrue (S.stands space.now part) }
-    ensures { IfOk result (λ phase. TriesPart (space_of S.stands S.term_of S.is_valid S.covers S.covers_mark) space.now stacks.old (Record.Some traversed part found) traversed.body frame part phase stacks.new) }
+    position: &mut Position<S::Ref>,
+) -> Result<(), AllocError>
+    requires { IsTrue (S.space.stands space.now part) }
+    ensures { OnOk result (TriesPart S.space space.now stacks.old (records.Some traversed part found) traversed.body
+        position.old.frame part position.new stacks.new) }
 {
-    let tried = space.dup(&part)?;
-    let body = traversed.body;
-    let saved = stacks.saved(frame);
-    stacks.records.records.push(Record::Some {
-        traversed,
-        part,
-        found,
-        saved,
-        mark: space.mark(),
-    })?;
+    position.term = space.dup(&part)?;
+    position.address = traversed.body;
+    let saved = stacks.saved(position.frame);
+    let mark = space.mark();
+    let records = &mut stacks.records.records;
+    records.push_some(traversed, part, found, saved, mark)?;
     stacks.places.guard();
-    Ok(Phase::Running {
-        address: body,
-        frame,
-        term: tried,
-    })
+    Ok(())
 }

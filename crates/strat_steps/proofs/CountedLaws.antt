@@ -11,7 +11,7 @@ use Rattle.strat_code.specs.Code.{Argument, Case, case, Traversal, all_parts, on
 use Rattle.strat_steps.specs.State.{Frame, frame, saved, Record, call_record, choice_record, all_record, one_record, some_record, State, running, failing, ended, place_at}
 use Rattle.strat_steps.specs.Binding.{Attempt, attempt, attempted, trimmed}
 use Rattle.strat_steps.specs.Step.{in_order, goes_on, matched, on_all, on_one, on_some, on_some_unchanged, called_with, left, returned, out_of_argument, committed, selected, part_ended, traversal_begun, effect, performed, backtracked, next}
-use Rattle.strat_steps.specs.Space.{Space}
+use Rattle.term_model.specs.Space.{Space}
 use Rattle.strat_steps.specs.References.{RefState, state_tree}
 use Rattle.strat_steps.specs.ReferenceSteps.{StepRef, StepsRef, no_step_ref, more_steps_ref}
 use Rattle.strat_steps.specs.Marks.{Holds}
@@ -147,7 +147,7 @@ next_counted code M (failing e F T b K l) h = backtracked_counted e F T b K l h
 next_counted code M (ended r l) h = tt
 
 -- so does each step over references, which keeps what the marks must cover too
-module _ {W R Y : Type 0} {S : Space W R Y} {code : Code} {M : Meaning} where
+module _ {W R Y N : Type 0} {S : Space W R Y N} {code : Code} {M : Meaning} where
   pub step_keeps : {w w1 : W} {m m1 : RefState R Y} → StepRef S code M w m w1 m1 → Holds S w m → StateCounted (state_tree (S.term_of w) m) → Holds S w1 m1 × StateCounted (state_tree (S.term_of w1) m1)
   step_keeps {w} {w1} {m} {m1} x h c = let y = step_so x h in (y.1, subst StateCounted y.0 (next_counted code M (state_tree (S.term_of w) m) c))
 

@@ -8,7 +8,7 @@ use Rattle.strat_code.specs.StandsFor.{StandsFor}
 use Rattle.strat_steps.specs.State.{Result, rewritten, run_failed, run_oversize, run_spent, stuck, State, ended}
 use Rattle.strat_steps.specs.Step.{IsGoing, Steps, no_step, more_steps}
 use Rattle.strat_steps.specs.Run.{start, start_ref, Says}
-use Rattle.strat_steps.specs.Space.{Space}
+use Rattle.term_model.specs.Space.{Space, Stands}
 use Rattle.strat_steps.specs.References.{RefState, ref_rewritten, ref_stopped, state_tree}
 use Rattle.strat_steps.specs.ReferenceSteps.{StepsRef}
 use Rattle.strat_steps.specs.Marks.{Holds, nothing_covered}
@@ -58,10 +58,10 @@ module _ {code : Code} {M : Meaning} (P : ResolvedDefinitions) (i : ℕ) (stands
       let are = a.are in
       omega arith
 
-pub holds_at_start : {W R Y : Type 0} (S : Space W R Y) (w : W) (t : R) (budget : ℕ) → S.Stands w t → Holds S w (start_ref t budget)
+pub holds_at_start : {W R Y N : Type 0} (S : Space W R Y N) (w : W) (t : R) (budget : ℕ) → Stands S w t → Holds S w (start_ref t budget)
 holds_at_start S w t budget st = (st, record { places = tt; records = tt; covered = nothing_covered; low = omega arith })
 
-module _ {W R Y : Type 0} {S : Space W R Y} {code : Code} {M : Meaning} (P : ResolvedDefinitions) (i : ℕ) (stands : StandsFor code P i) {w w1 : W} {t : R} {budget : ℕ} (st : S.Stands w t) where
+module _ {W R Y N : Type 0} {S : Space W R Y N} {code : Code} {M : Meaning} (P : ResolvedDefinitions) (i : ℕ) (stands : StandsFor code P i) {w w1 : W} {t : R} {budget : ℕ} (st : Stands S w t) where
   pub rewritten_says : {k l : ℕ} {u : R} → StepsRef S code M k w (start_ref t budget) w1 (ref_rewritten u l) → Says M P i (S.term_of w t) budget (rewritten (S.term_of w1 u)) l k
   rewritten_says x = end_says P i stands (S.term_of w t) budget (steps_so x (holds_at_start S w t budget st)).0
 

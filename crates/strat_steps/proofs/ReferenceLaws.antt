@@ -2,7 +2,7 @@
 use Rattle.std.proofs.Common.{◌≡◌, ℕ, zero, suc, ◌≤◌, ◌<◌, Option, Some, None, List, [], ◌∷◌, length, take, ◌++◌, refl, sym, ◌∙◌, ap, arith, subst, length-append}
 use Rattle.std.specs.Prelude.{nat_lt, if◌then◌else◌, slice_get}
 use Rattle.strat_steps.specs.Binding.{cleared, undone, above, down_to, with_term}
-use Rattle.strat_steps.specs.Space.{Space}
+use Rattle.term_model.specs.Space.{Space, Covers}
 use Rattle.strat_steps.specs.References.{Places, RefRecord, AllPlaces, Binds, binds_none, binds_one}
 use Rattle.strat_steps.specs.Marks.{Kept, Covered, nothing_covered, call_covered, all_covered, choice_covered, one_covered, some_covered}
 use Rattle.strat_steps.proofs.TrailLaws.{take_cleared, take_undone, undone_append, take_less, if_less, if_more}
@@ -137,11 +137,11 @@ restored_less b h new T e f l x =
     (take_less b b (undone (above h T) (undone new f)) (omega arith) ∙ ap (take b) (sym (undone_append new (above h T) f) ∙ ap (λ A. undone A f) (sym (above_append new T h l))))
     (take_keeps b (subst (λ g. Less g (undone (above h T) e)) (sym (take_undone b (above h T) (undone new f))) (undone_keeps (above h T) x)))
 
-module _ {W R Y : Type 0} {S : Space W R Y} where
+module _ {W R Y N : Type 0} {S : Space W R Y N} where
   -- what is covered stays so, as places below the barrier are given terms and put on the trail
   kept_moves : {e : Places R} {T : List ℕ} {b h d : ℕ} {m : Y} {K : List (RefRecord R Y)} (new : List ℕ) (f : Places R) → Kept S e T b h d m K → Less (take b (undone new f)) e → Kept S f (new ++ T) b h d m K
   kept_moves {e} {T} {b} {h} {m = m} new f k x = let l = length-append new T in let l1 = k.height in record {
-    places = all_less (S.Covers m) (restored_less b h new T e f k.height x) k.places;
+    places = all_less (Covers S m) (restored_less b h new T e f k.height x) k.places;
     records = k.records;
     height = omega arith;
     lower = k.lower;

@@ -9,7 +9,7 @@ use Rattle.strat_code.specs.Code.{Case, Instr, Code, nodes_of}
 use Rattle.strat_steps.specs.Binding.{cleared, undone, above, down_to, trimmed}
 use Rattle.strat_steps.specs.State.{Frame, frame, saved, Record, call_record, choice_record, run_spent, stuck, running, failing, ended, frames_up, closed}
 use Rattle.strat_steps.specs.Step.{on_all, on_one, on_some, called_with, selected, cut_to, goes_on, matched, left, returned, effect, performed, next, IsGoing, Steps, no_step, more_steps}
-use Rattle.strat_steps.specs.Space.{Space, Grows, IsMark, GoesBack}
+use Rattle.term_model.specs.Space.{Space, Keeps, GoesBack, IsMark, Stands, Valid, Covers, CoversMark}
 use Rattle.strat_steps.specs.References.{Places, RefRecord, ref_call, ref_choice, ref_all, ref_one, ref_some, RefState, ref_running, ref_failing, trees, record_tree, state_tree, AllPlaces, AllRefs, OfRecord, OfRecords, Binds}
 use Rattle.strat_steps.specs.ReferenceSteps.{Does, counts, gives_up_so, jumps, matches, matches_not, builds, builds_none, builds_oversize, answers, answers_none, answers_oversize, enters, leaves, leaves_low, extends, shrinks, shrinks_low, calls_closure, ends_argument, ends_definition, ends_definition_low, tries, commits, finishes, sticks, calls, calls_none, calls_oversize, selects, begins_all, begins_one, begins_some, part_of_all, part_of_some, part_of_one, part_of_one_oversize, OnAll, all_goes_on, all_whole, all_oversize, OnOne, one_goes_on, one_none, OnSome, some_goes_on, some_whole, some_oversize, some_none, Selecting, selects_none, selects_this, selects_later, selects_spent, StepsRef, no_step_ref, more_steps_ref, StepRef, performs, cannot_pay, leaves_code, fails_whole, fails_call, fails_all, fails_choice, fails_one_last, fails_one_next, fails_some_none, fails_some_last, fails_some_next}
 use Rattle.strat_steps.specs.Marks.{Kept, Covered, call_covered, all_covered, choice_covered, one_covered, some_covered, Safe, Holds}
@@ -122,12 +122,12 @@ new_less e T = less_trans (less_taken (length e) (undone (above (length T) T) e)
 call_same : {i j b l : ℕ} {t u : Tree} {e f : Bindings} {F G : List Frame} {T : List ℕ} {K K1 : List Record} (to p : ℕ) → t ≡ u → e ≡ f → F ≡ G → K ≡ K1 → running i j t e F T b (call_record to p ∷ K) l ≡ running i j u f G T b (call_record to p ∷ K1) l
 call_same to p h1 h2 h3 h4 = cc
 
-module _ {W R Y : Type 0} {S : Space W R Y} where
+module _ {W R Y N : Type 0} {S : Space W R Y N} where
   -- a record with a mark is put on
   new_kept : {w : W} {m : Y} {b : ℕ} {e : Places R} {T : List ℕ} {K : List (RefRecord R Y)} → IsMark S w m → Safe S w e T b K → Kept S e T (length e) (length T) b m K
   new_kept {m = m} {b} {e} {T} {K} mark safe = let low = safe.low in record {
-    places = all_less (S.Covers m) (new_less e T) (all_changed mark.covers e safe.places);
-    records = records_changed mark.covers mark.marks K safe.records;
+    places = all_less (Covers S m) (new_less e T) (all_changed (λ r. (mark.exactly r).1) e safe.places);
+    records = records_changed (λ r. (mark.exactly r).1) mark.marks K safe.records;
     height = omega arith;
     lower = low;
   }
@@ -165,29 +165,29 @@ module _ {W R Y : Type 0} {S : Space W R Y} where
   taken_off : {w : W} {v : RefRecord R Y} {d b : ℕ} {e : Places R} {T U : List ℕ} {K : List (RefRecord R Y)} → (d ≤ b) × Covered S e U d K → Safe S w e T b (v ∷ K) → Safe S w e U d K
   taken_off c safe = let low = safe.low in let lower = c.0 in record { places = safe.places; records = safe.records.1; covered = c.1; low = omega arith }
 
-  bound_safe : {w w1 : W} {b : ℕ} {e f : Places R} {T U : List ℕ} {K : List (RefRecord R Y)} → Grows S w w1 → Binds (S.Stands w1) b e T f U → Safe S w e T b K → Safe S w1 f U b K
+  bound_safe : {w w1 : W} {b : ℕ} {e f : Places R} {T U : List ℕ} {K : List (RefRecord R Y)} → Keeps S w w1 → Binds (Stands S w1) b e T f U → Safe S w e T b K → Safe S w1 f U b K
   bound_safe {b = b} {e} {f} {K = K} g x safe =
-      let bound = bound_so x (all_changed g.stands e safe.places) in let low = safe.low in let same = bound.same in record {
+      let bound = bound_so x (all_changed g.standing e safe.places) in let low = safe.low in let same = bound.same in record {
         places = bound.all;
-        records = records_changed g.stands g.marks K safe.records;
+        records = records_changed g.standing g.valid K safe.records;
         covered = subst (λ A. Covered S f A b K) (sym bound.are) (covered_moves bound.new f safe.covered bound.back);
         low = omega arith;
       }
 
-  grown_safe : {w w1 : W} {b : ℕ} {e : Places R} {T : List ℕ} {K : List (RefRecord R Y)} → Grows S w w1 → Safe S w e T b K → Safe S w1 e T b K
-  grown_safe {e = e} {K = K} g safe = record { places = all_changed g.stands e safe.places; records = records_changed g.stands g.marks K safe.records; covered = safe.covered; low = safe.low }
+  grown_safe : {w w1 : W} {b : ℕ} {e : Places R} {T : List ℕ} {K : List (RefRecord R Y)} → Keeps S w w1 → Safe S w e T b K → Safe S w1 e T b K
+  grown_safe {e = e} {K = K} g safe = record { places = all_changed g.standing e safe.places; records = records_changed g.standing g.valid K safe.records; covered = safe.covered; low = safe.low }
 
   taken_safe : {w : W} {b : ℕ} {e : Places R} {T : List ℕ} {K : List (RefRecord R Y)} (base : ℕ) → b ≤ base → Safe S w e T b K → Safe S w (take base e) T b K
   taken_safe {w} {b} {e} base h safe = record {
-    places = all_less (S.Stands w) (less_taken base e) safe.places;
+    places = all_less (Stands S w) (less_taken base e) safe.places;
     records = safe.records;
     covered = covered_moves [] (take base e) safe.covered (less_trans (less_taken b _) (less_taken base e));
     low = low_taken b base e h safe.low;
   }
 
-  more_safe : {w : W} {b : ℕ} {e : Places R} {T : List ℕ} {K : List (RefRecord R Y)} (f : Places R) → AllPlaces (S.Stands w) f → Safe S w e T b K → Safe S w (e ++ f) T b K
+  more_safe : {w : W} {b : ℕ} {e : Places R} {T : List ℕ} {K : List (RefRecord R Y)} (f : Places R) → AllPlaces (Stands S w) f → Safe S w e T b K → Safe S w (e ++ f) T b K
   more_safe {w} {b} {e} f all safe = let low = safe.low in let n = length-append e f in record {
-    places = all_more (S.Stands w) e f safe.places all;
+    places = all_more (Stands S w) e f safe.places all;
     records = safe.records;
     covered = covered_moves [] (e ++ f) safe.covered (subst (λ A. Less A e) (sym (take_grown b e f low)) (less_taken b e));
     low = omega arith;
@@ -199,35 +199,35 @@ module _ {W R Y : Type 0} {S : Space W R Y} where
   passed_all : {w : W} {body after b : ℕ} {t : R} {done rest : List R} {e : Places R} {T : List ℕ} {K : List (RefRecord R Y)} → Covered S e T b (ref_all body after t done rest ∷ K) → Safe S w e T b (ref_all body after t done rest ∷ K) → Safe S w e T b K
   passed_all (all_covered c) safe = record { places = safe.places; records = safe.records.1; covered = c; low = safe.low }
 
-  grown_places : {w w1 : W} → Grows S w w1 → (e : Places R) → AllPlaces (S.Stands w) e → map (option_map (S.term_of w)) e ≡ map (option_map (S.term_of w1)) e
-  grown_places {w} {w1} g e x = sym (places_same (S.Stands w) (S.term_of w) (S.term_of w1) g.terms e x)
+  grown_places : {w w1 : W} → Keeps S w w1 → (e : Places R) → AllPlaces (Stands S w) e → map (option_map (S.term_of w)) e ≡ map (option_map (S.term_of w1)) e
+  grown_places {w} {w1} g e x = sym (places_same (Stands S w) (S.term_of w) (S.term_of w1) g.terms e x)
 
-  grown_records : {w w1 : W} → Grows S w w1 → (K : List (RefRecord R Y)) → OfRecords (S.Stands w) (S.Valid w) K → map (record_tree (S.term_of w)) K ≡ map (record_tree (S.term_of w1)) K
-  grown_records {w} {w1} g K x = sym (records_same (S.Stands w) (S.Valid w) (S.term_of w) (S.term_of w1) g.terms K x)
+  grown_records : {w w1 : W} → Keeps S w w1 → (K : List (RefRecord R Y)) → OfRecords (Stands S w) (Valid S w) K → map (record_tree (S.term_of w)) K ≡ map (record_tree (S.term_of w1)) K
+  grown_records {w} {w1} g K x = sym (records_same (Stands S w) (Valid S w) (S.term_of w) (S.term_of w1) g.terms K x)
 
   -- a failure goes back to a mark
   back_safe : {w w1 : W} {m : Y} {b h d : ℕ} {e : Places R} {T : List ℕ} {K : List (RefRecord R Y)} → GoesBack S w m w1 → b ≤ length e → Kept S e T b h d m K → Covered S (take b (undone (above h T) e)) (down_to h T) d K →
       Safe S w1 (take b (undone (above h T) e)) (down_to h T) d K
   back_safe {b = b} {h} {d} {e} {T} {K} back low kept c = let n = length_undone (above h T) e in let lower = kept.lower in record {
-    places = all_changed back.stands (take b (undone (above h T) e)) kept.places;
-    records = records_changed back.stands back.marks K kept.records;
+    places = all_changed (λ r. (back.exactly r).1) (take b (undone (above h T) e)) kept.places;
+    records = records_changed (λ r. (back.exactly r).1) back.valid K kept.records;
     covered = c;
     low = low_taken d b (undone (above h T) e) lower (omega arith);
   }
 
   back_places : {w w1 : W} {m : Y} {b h d : ℕ} {e : Places R} {T : List ℕ} {K : List (RefRecord R Y)} → GoesBack S w m w1 → Kept S e T b h d m K →
       take b (undone (above h T) (map (option_map (S.term_of w)) e)) ≡ map (option_map (S.term_of w1)) (take b (undone (above h T) e))
-  back_places {w} {w1} {m} {b} {h} {e = e} {T} back kept = sym (places_same (S.Covers m) (S.term_of w) (S.term_of w1) back.terms (take b (undone (above h T) e)) kept.places
+  back_places {w} {w1} {m} {b} {h} {e = e} {T} back kept = sym (places_same (Covers S m) (S.term_of w) (S.term_of w1) back.terms (take b (undone (above h T) e)) kept.places
       ∙ map_taken (option_map (S.term_of w)) b (undone (above h T) e) ∙ ap (take b) (map_undone (S.term_of w) (above h T) e))
 
   back_records : {w w1 : W} {m : Y} {b h d : ℕ} {e : Places R} {T : List ℕ} {K : List (RefRecord R Y)} → GoesBack S w m w1 → Kept S e T b h d m K →
       map (record_tree (S.term_of w)) K ≡ map (record_tree (S.term_of w1)) K
-  back_records {w} {w1} {m} {K = K} back kept = sym (records_same (S.Covers m) (S.CoversMark m) (S.term_of w) (S.term_of w1) back.terms K kept.records)
+  back_records {w} {w1} {m} {K = K} back kept = sym (records_same (Covers S m) (CoversMark S m) (S.term_of w) (S.term_of w1) back.terms K kept.records)
 
-  back_trees : {w w1 : W} {m : Y} → GoesBack S w m w1 → (rs : List R) → AllRefs (S.Covers m) rs → trees (S.term_of w) rs ≡ trees (S.term_of w1) rs
-  back_trees {w} {w1} {m} back rs h = sym (trees_same (S.Covers m) (S.term_of w) (S.term_of w1) back.terms rs h)
+  back_trees : {w w1 : W} {m : Y} → GoesBack S w m w1 → (rs : List R) → AllRefs (Covers S m) rs → trees (S.term_of w) rs ≡ trees (S.term_of w1) rs
+  back_trees {w} {w1} {m} back rs h = sym (trees_same (Covers S m) (S.term_of w) (S.term_of w1) back.terms rs h)
 
-  call_places : {w w1 : W} (k : ℕ) (rs : List R) → Grows S w w1 → (e : Places R) → AllPlaces (S.Stands w) e →
+  call_places : {w w1 : W} (k : ℕ) (rs : List R) → Keeps S w w1 → (e : Places R) → AllPlaces (Stands S w) e →
       map (option_map (S.term_of w)) e ++ (filled_places (trees (S.term_of w1) rs) ++ empty_places k) ≡ map (option_map (S.term_of w1)) (e ++ (map (λ r. Some r) rs ++ replicate k None))
   call_places {w} {w1} k rs g e x =
       ap (λ A. A ++ (filled_places (trees (S.term_of w1) rs) ++ empty_places k)) (grown_places g e x)
@@ -236,11 +236,11 @@ module _ {W R Y : Type 0} {S : Space W R Y} where
       ∙ ap (λ A. map (option_map (S.term_of w1)) e ++ A) (sym (map_grown (option_map (S.term_of w1)) (map (λ r. Some r) rs) (replicate k None)))
       ∙ sym (map_grown (option_map (S.term_of w1)) e (map (λ r. Some r) rs ++ replicate k None))
 
-  grown_trees : {w w1 : W} → Grows S w w1 → (rs : List R) → AllRefs (S.Stands w) rs → trees (S.term_of w) rs ≡ trees (S.term_of w1) rs
-  grown_trees {w} {w1} g rs x = sym (trees_same (S.Stands w) (S.term_of w) (S.term_of w1) g.terms rs x)
+  grown_trees : {w w1 : W} → Keeps S w w1 → (rs : List R) → AllRefs (Stands S w) rs → trees (S.term_of w) rs ≡ trees (S.term_of w1) rs
+  grown_trees {w} {w1} g rs x = sym (trees_same (Stands S w) (S.term_of w) (S.term_of w1) g.terms rs x)
 
   on_all_so : {w w1 : W} {body after p b l : ℕ} {t : R} {e : Places R} {F : List Frame} {T : List ℕ} {K : List (RefRecord R Y)} {done rest : List R} {m1 : RefState R Y} → OnAll S w body after p t e F T b K l done rest w1 m1 →
-      S.Stands w t → AllRefs (S.Stands w) done → AllRefs (S.Stands w) rest → Safe S w e T b K →
+      Stands S w t → AllRefs (Stands S w) done → AllRefs (Stands S w) rest → Safe S w e T b K →
       (on_all F T b (map (record_tree (S.term_of w)) K) l body after p (S.term_of w t) (map (option_map (S.term_of w)) e) (trees (S.term_of w) done) (trees (S.term_of w) rest) ≡ state_tree (S.term_of w1) m1) × Holds S w1 m1
   on_all_so all_goes_on st sd sr safe = (refl, (sr.0, record { places = safe.places; records = ((st, sd, sr.1), safe.records); covered = all_covered safe.covered; low = safe.low }))
   on_all_so {w} {after = after} {p} {b} {l} {t} {e} {F} {T} {K} (all_whole g su h) st sd sr safe =
@@ -248,7 +248,7 @@ module _ {W R Y : Type 0} {S : Space W R Y} where
   on_all_so {w} {after = after} {p} {b} {l} {t} {e} {F} {T} {K} (all_oversize g h) st sd sr safe = (ap (goes_on F T b (map (record_tree (S.term_of w)) K) l after p (map (option_map (S.term_of w)) e)) h, tt)
 
   on_one_so : {w : W} {body after p b l : ℕ} {t : R} {e : Places R} {F : List Frame} {T : List ℕ} {K : List (RefRecord R Y)} {done rest : List R} {m1 : RefState R Y} → OnOne S w body after p t e F T b K l done rest m1 →
-      S.Stands w t → AllRefs (S.Stands w) done → AllRefs (S.Stands w) rest → Safe S w e T b K →
+      Stands S w t → AllRefs (Stands S w) done → AllRefs (Stands S w) rest → Safe S w e T b K →
       (on_one F T b (map (record_tree (S.term_of w)) K) l body after p (S.term_of w t) (map (option_map (S.term_of w)) e) (trees (S.term_of w) done) (trees (S.term_of w) rest) ≡ state_tree (S.term_of w) m1) × Holds S w m1
   on_one_so {w} {e = e} {done = done} (one_goes_on {us = us} mark) st sd sr safe =
       let hn = map_length (option_map (S.term_of w)) e in (
@@ -259,14 +259,14 @@ module _ {W R Y : Type 0} {S : Space W R Y} where
             places = safe.places;
             records = ((st, sd, sr.0, sr.1, mark.valid), safe.records);
             low = omega arith;
-            covered = one_covered (new_kept mark safe) (mark.covers _ st) (refs_changed mark.covers done sd) (mark.covers _ sr.0) (refs_changed mark.covers us sr.1) (new_covered safe);
+            covered = one_covered (new_kept mark safe) ((mark.exactly _).1 st) (refs_changed (λ r. (mark.exactly r).1) done sd) ((mark.exactly _).1 sr.0) (refs_changed (λ r. (mark.exactly r).1) us sr.1) (new_covered safe);
           },
         ),
       )
   on_one_so one_none st sd sr safe = (refl, safe)
 
   on_some_so : {w w1 : W} {body after p b l : ℕ} {t : R} {e : Places R} {F : List Frame} {T : List ℕ} {K : List (RefRecord R Y)} {done rest : List R} {found : Bool} {m1 : RefState R Y} → OnSome S w body after p t e F T b K l done found rest w1 m1 →
-      S.Stands w t → AllRefs (S.Stands w) done → AllRefs (S.Stands w) rest → Safe S w e T b K →
+      Stands S w t → AllRefs (Stands S w) done → AllRefs (Stands S w) rest → Safe S w e T b K →
       (on_some F T b (map (record_tree (S.term_of w)) K) l body after p (S.term_of w t) (map (option_map (S.term_of w)) e) found (trees (S.term_of w) done) (trees (S.term_of w) rest) ≡ state_tree (S.term_of w1) m1) × Holds S w1 m1
   on_some_so {w} {e = e} {done = done} (some_goes_on {us = us} mark) st sd sr safe =
       let hn = map_length (option_map (S.term_of w)) e in (
@@ -277,7 +277,7 @@ module _ {W R Y : Type 0} {S : Space W R Y} where
             places = safe.places;
             records = ((st, sd, sr.0, sr.1, mark.valid), safe.records);
             low = omega arith;
-            covered = some_covered (new_kept mark safe) (mark.covers _ st) (refs_changed mark.covers done sd) (mark.covers _ sr.0) (refs_changed mark.covers us sr.1) (new_covered safe);
+            covered = some_covered (new_kept mark safe) ((mark.exactly _).1 st) (refs_changed (λ r. (mark.exactly r).1) done sd) ((mark.exactly _).1 sr.0) (refs_changed (λ r. (mark.exactly r).1) us sr.1) (new_covered safe);
           },
         ),
       )
@@ -286,12 +286,12 @@ module _ {W R Y : Type 0} {S : Space W R Y} where
   on_some_so {w} {after = after} {p} {b} {l} {t} {e} {F} {T} {K} (some_oversize g h) st sd sr safe = (ap (goes_on F T b (map (record_tree (S.term_of w)) K) l after p (map (option_map (S.term_of w)) e)) h, tt)
   on_some_so some_none st sd sr safe = (refl, safe)
 
-  selecting_so : {w : W} {last p b : ℕ} {t : R} {e : Places R} {F : List Frame} {T : List ℕ} {K : List (RefRecord R Y)} {cs : List Case} {l : ℕ} {m1 : RefState R Y} → Selecting S w last p t e F T b K cs l m1 → S.Stands w t → Safe S w e T b K →
+  selecting_so : {w : W} {last p b : ℕ} {t : R} {e : Places R} {F : List Frame} {T : List ℕ} {K : List (RefRecord R Y)} {cs : List Case} {l : ℕ} {m1 : RefState R Y} → Selecting S w last p t e F T b K cs l m1 → Stands S w t → Safe S w e T b K →
       (selected cs last p (S.term_of w t) (map (option_map (S.term_of w)) e) F T b (map (record_tree (S.term_of w)) K) l ≡ state_tree (S.term_of w) m1) × Holds S w m1
   selecting_so selects_none st safe = (refl, (st, safe))
   selecting_so {w} {e = e} (selects_this can mark) st safe =
       let hn = map_length (option_map (S.term_of w)) e in
-      (cc, (st, record { places = safe.places; records = ((st, mark.valid), safe.records); covered = choice_covered (new_kept mark safe) (mark.covers _ st) (new_covered safe); low = omega arith }))
+      (cc, (st, record { places = safe.places; records = ((st, mark.valid), safe.records); covered = choice_covered (new_kept mark safe) ((mark.exactly _).1 st) (new_covered safe); low = omega arith }))
   selecting_so {w} {last} {p} {b} {t} {e} {F} {T} {K} {l = l} (selects_later {n = n} {cs = cs} can pays x) st safe =
       let y = selecting_so x st safe in
       let paid = if_more (ended run_spent l) (selected cs last p (S.term_of w t) (map (option_map (S.term_of w)) e) F T b (map (record_tree (S.term_of w)) K) (l - n)) l n pays in
@@ -301,13 +301,13 @@ module _ {W R Y : Type 0} {S : Space W R Y} where
 
   -- what an instruction does is its effect
   pub does_so : {M : Meaning} {w w1 : W} {v : Instr} {i p b l : ℕ} {t : R} {e : Places R} {F : List Frame} {T : List ℕ} {K : List (RefRecord R Y)} {m1 : RefState R Y} → Does S M w v i p t e F T b K l w1 m1 →
-      S.Stands w t → Safe S w e T b K →
+      Stands S w t → Safe S w e T b K →
       (effect M v i p (S.term_of w t) (map (option_map (S.term_of w)) e) F T b (map (record_tree (S.term_of w)) K) l ≡ state_tree (S.term_of w1) m1) × Holds S w1 m1
   does_so counts st safe = (refl, (st, safe))
   does_so gives_up_so st safe = (refl, safe)
   does_so jumps st safe = (refl, (st, safe))
   does_so {w = w} {i = i} {p} {b} {l} {t} {e} {F} {T} {K} (matches g k x h) st safe =
-      (ap (matched F T b (map (record_tree (S.term_of w)) K) l (suc i) p (S.term_of w t)) h ∙ run_same (sym (g.terms t st)) refl (grown_records g K safe.records), (g.stands t st, bound_safe g x safe))
+      (ap (matched F T b (map (record_tree (S.term_of w)) K) l (suc i) p (S.term_of w t)) h ∙ run_same (sym (g.terms t st)) refl (grown_records g K safe.records), (g.standing t st, bound_safe g x safe))
   does_so {w = w} {i = i} {p} {b} {l} {t} {e} {F} {T} {K} (matches_not g k x h) st safe =
       (ap (matched F T b (map (record_tree (S.term_of w)) K) l (suc i) p (S.term_of w t)) h ∙ fail_same refl (grown_records g K safe.records), bound_safe g x safe)
   does_so {w = w} {i = i} {p} {b} {l} {t} {e} {F} {T} {K} (builds g u h) st safe =
@@ -327,7 +327,7 @@ module _ {W R Y : Type 0} {S : Space W R Y} where
   does_so {w = w} {i = i} {p} {b} {l} {t} {e} {F} {T} {K} (leaves_low {base = base} is low) st safe =
       (ap (left F T b (map (record_tree (S.term_of w)) K) l (suc i) p (S.term_of w t) (map (option_map (S.term_of w)) e)) is ∙ if_less _ _ base b low, tt)
   does_so {w = w} {i = i} {p} {b} {l} {t} {e} {F} {T} {K} (extends {k = k}) st safe =
-      (run_same refl (ap (λ A. map (option_map (S.term_of w)) e ++ A) (sym (map_none (S.term_of w) k)) ∙ sym (map_grown (option_map (S.term_of w)) e (replicate k None))) refl, (st, more_safe (replicate k None) (all_none (S.Stands w) k) safe))
+      (run_same refl (ap (λ A. map (option_map (S.term_of w)) e ++ A) (sym (map_none (S.term_of w) k)) ∙ sym (map_grown (option_map (S.term_of w)) e (replicate k None))) refl, (st, more_safe (replicate k None) (all_none (Stands S w) k) safe))
   does_so {w = w} {i = i} {p} {b} {l} {t} {e} {F} {T} {K} (shrinks {k = k} low) st safe = (
     ap (λ n. cut_to (n - k) b l (running (suc i) p (S.term_of w t) (take (n - k) (map (option_map (S.term_of w)) e)) F T b (map (record_tree (S.term_of w)) K) l)) (map_length (option_map (S.term_of w)) e)
         ∙ if_more (ended stuck l) (running (suc i) p (S.term_of w t) (take (length e - k) (map (option_map (S.term_of w)) e)) F T b (map (record_tree (S.term_of w)) K) l) (length e - k) b low
@@ -350,11 +350,11 @@ module _ {W R Y : Type 0} {S : Space W R Y} where
   does_so {w = w} {i = i} {p} {b} {l} {t} {e} {F} {T} {K} (enters {k = k}) st safe = (
     ap (λ n. running (suc i) (length F) (S.term_of w t) (map (option_map (S.term_of w)) e ++ empty_places k) (F ++ frame n p [] ∷ []) T b (map (record_tree (S.term_of w)) K) l) (map_length (option_map (S.term_of w)) e)
         ∙ run_same refl (ap (λ A. map (option_map (S.term_of w)) e ++ A) (sym (map_none (S.term_of w) k)) ∙ sym (map_grown (option_map (S.term_of w)) e (replicate k None))) refl,
-    (st, more_safe (replicate k None) (all_none (S.Stands w) k) safe),
+    (st, more_safe (replicate k None) (all_none (Stands S w) k) safe),
   )
   does_so {w = w} {i = i} {p} {b} {l} {t} {e} {F} {T} {K} (tries {a = a} {m = m} mark) st safe = (
     ap (λ n. running (suc i) p (S.term_of w t) (map (option_map (S.term_of w)) e) F T n (choice_record a (S.term_of w t) (saved p (length F) (length T) b) ∷ map (record_tree (S.term_of w)) K) l) (map_length (option_map (S.term_of w)) e),
-    (st, record { places = safe.places; records = ((st, mark.valid), safe.records); covered = choice_covered (new_kept mark safe) (mark.covers _ st) (new_covered safe); low = omega arith }),
+    (st, record { places = safe.places; records = ((st, mark.valid), safe.records); covered = choice_covered (new_kept mark safe) ((mark.exactly _).1 st) (new_covered safe); low = omega arith }),
   )
   does_so (sticks h) st safe = (h, tt)
   does_so {b = b} {e = e} {K = _ ∷ K} (commits {d = d}) st safe =
@@ -364,8 +364,8 @@ module _ {W R Y : Type 0} {S : Space W R Y} where
         ap (called_with F T b (map (record_tree (S.term_of w)) K) l to p (S.term_of w t) (map (option_map (S.term_of w)) e) h a k us) is
             ∙ call_same to p (sym ht) (call_places k rs g e safe.places) (ap (λ n. F ++ frame n (frames_up F p h) (closed F p us) ∷ []) hl) hr,
         (
-          g.stands t st,
-          (let s = more_safe (map (λ r. Some r) rs ++ replicate k None) (all_more (S.Stands _) (map (λ r. Some r) rs) (replicate k None) (all_some (S.Stands _) rs all) (all_none (S.Stands _) k)) (grown_safe g safe) in
+          g.standing t st,
+          (let s = more_safe (map (λ r. Some r) rs ++ replicate k None) (all_more (Stands S _) (map (λ r. Some r) rs) (replicate k None) (all_some (Stands S _) rs all) (all_none (Stands S _) k)) (grown_safe g safe) in
               record { places = s.places; records = (tt, s.records); covered = call_covered s.covered; low = s.low }),
         ),
       )
@@ -390,7 +390,7 @@ module _ {W R Y : Type 0} {S : Space W R Y} where
   choice_back : (code : Code) (M : Meaning) {a q k h d b l : ℕ} {t : R} {e : Places R} (F : List Frame) {T : List ℕ} {K : List (RefRecord R Y)} {m : Y} {w w1 : W} → GoesBack S w m w1 → Safe S w e T b (ref_choice a t (saved q k h d) m ∷ K) → Covered S e T b (ref_choice a t (saved q k h d) m ∷ K) →
       (next code M (state_tree (S.term_of w) (ref_failing e F T b (ref_choice a t (saved q k h d) m ∷ K) l)) ≡ state_tree (S.term_of w1) (ref_running a q t (take b (undone (above h T) e)) (take k F) (down_to h T) d K l)) × Holds S w1 (ref_running a q t (take b (undone (above h T) e)) (take k F) (down_to h T) d K l)
   choice_back code M {t = t} F back safe (choice_covered kept ct c) =
-      (run_same (sym (back.terms t ct)) (back_places back kept) (back_records back kept), (back.stands t ct, back_safe back safe.low kept c))
+      (run_same (sym (back.terms t ct)) (back_places back kept) (back_records back kept), ((back.exactly t).1 ct, back_safe back safe.low kept c))
 
   one_back_last : (code : Code) (M : Meaning) {body after q k h d b l : ℕ} {t u : R} {done : List R} {e : Places R} (F : List Frame) {T : List ℕ} {K : List (RefRecord R Y)} {m : Y} {w w1 : W} → GoesBack S w m w1 → Safe S w e T b (ref_one body after t done u [] (saved q k h d) m ∷ K) → Covered S e T b (ref_one body after t done u [] (saved q k h d) m ∷ K) →
       (next code M (state_tree (S.term_of w) (ref_failing e F T b (ref_one body after t done u [] (saved q k h d) m ∷ K) l)) ≡ state_tree (S.term_of w1) (ref_failing (take b (undone (above h T) e)) (take k F) (down_to h T) d K l)) × Holds S w1 (ref_failing (take b (undone (above h T) e)) (take k F) (down_to h T) d K l)
@@ -406,21 +406,21 @@ module _ {W R Y : Type 0} {S : Space W R Y} where
       (next code M (state_tree (S.term_of w) (ref_failing e F T b (ref_some body after t done u [] true (saved q k h d) m ∷ K) l)) ≡ state_tree (S.term_of w1) (ref_running (after - 1) q u (take b (undone (above h T) e)) (take k F) (down_to h T) d (ref_all body after t done [] ∷ K) l)) × Holds S w1 (ref_running (after - 1) q u (take b (undone (above h T) e)) (take k F) (down_to h T) d (ref_all body after t done [] ∷ K) l)
   some_back_last code M {t = t} {u} {done} F back safe (some_covered kept ct cd cu cr c) =
       let s = back_safe back safe.low kept c in let hp = back_places back kept in let hr = back_records back kept in let ht = back.terms t ct in let hu = back.terms u cu in let hd = back_trees back done cd in
-      (cc, (back.stands u cu, record { places = s.places; records = ((back.stands t ct, refs_changed back.stands done cd, tt), s.records); covered = all_covered s.covered; low = s.low }))
+      (cc, ((back.exactly u).1 cu, record { places = s.places; records = (((back.exactly t).1 ct, refs_changed (λ r. (back.exactly r).1) done cd, tt), s.records); covered = all_covered s.covered; low = s.low }))
 
   one_back_next : (code : Code) (M : Meaning) {body after q k h d b l : ℕ} {t u v : R} {done rest : List R} {e : Places R} (F : List Frame) {T : List ℕ} {K : List (RefRecord R Y)} {m n : Y} {w w1 : W} → GoesBack S w m w1 → IsMark S w1 n → Safe S w e T b (ref_one body after t done u (v ∷ rest) (saved q k h d) m ∷ K) → Covered S e T b (ref_one body after t done u (v ∷ rest) (saved q k h d) m ∷ K) →
       (next code M (state_tree (S.term_of w) (ref_failing e F T b (ref_one body after t done u (v ∷ rest) (saved q k h d) m ∷ K) l)) ≡ state_tree (S.term_of w1) (ref_running body q v (take b (undone (above h T) e)) (take k F) (down_to h T) (length (take b (undone (above h T) e))) (ref_one body after t (u ∷ done) v rest (saved q (length (take k F)) (length (down_to h T)) d) n ∷ K) l)) × Holds S w1 (ref_running body q v (take b (undone (above h T) e)) (take k F) (down_to h T) (length (take b (undone (above h T) e))) (ref_one body after t (u ∷ done) v rest (saved q (length (take k F)) (length (down_to h T)) d) n ∷ K) l)
   one_back_next code M {h = h} {b = b} {t = t} {u} {v} {done} {rest} {e = e} F {T = T} {w1 = w1} back mark safe (one_covered kept ct cd cu cr c) =
       let s = back_safe back safe.low kept c in let hp = back_places back kept in let hr = back_records back kept in let ht = back.terms t ct in let hu = back.terms u cu in let hv = back.terms v cr.0 in
       let hd = back_trees back done cd in let hs = back_trees back rest cr.1 in let hn = map_length (option_map (S.term_of w1)) (take b (undone (above h T) e)) in
-      let st = back.stands t ct in let su = back.stands u cu in let sv = back.stands v cr.0 in let sd = refs_changed back.stands done cd in let ss = refs_changed back.stands rest cr.1 in (
+      let st = (back.exactly t).1 ct in let su = (back.exactly u).1 cu in let sv = (back.exactly v).1 cr.0 in let sd = refs_changed (λ r. (back.exactly r).1) done cd in let ss = refs_changed (λ r. (back.exactly r).1) rest cr.1 in (
         cc,
         (
           sv,
           record {
             places = s.places;
             records = ((st, (su, sd), sv, ss, mark.valid), s.records);
-            covered = one_covered (new_kept mark s) (mark.covers t st) (mark.covers u su, refs_changed mark.covers done sd) (mark.covers v sv) (refs_changed mark.covers rest ss) (new_covered s);
+            covered = one_covered (new_kept mark s) ((mark.exactly t).1 st) ((mark.exactly u).1 su, refs_changed (λ r. (mark.exactly r).1) done sd) ((mark.exactly v).1 sv) (refs_changed (λ r. (mark.exactly r).1) rest ss) (new_covered s);
             low = omega arith;
           },
         ),
@@ -431,14 +431,14 @@ module _ {W R Y : Type 0} {S : Space W R Y} where
   some_back_next code M {h = h} {b = b} {t = t} {u} {v} {done} {rest} {e = e} F {T = T} {w1 = w1} back mark safe (some_covered kept ct cd cu cr c) =
       let s = back_safe back safe.low kept c in let hp = back_places back kept in let hr = back_records back kept in let ht = back.terms t ct in let hu = back.terms u cu in let hv = back.terms v cr.0 in
       let hd = back_trees back done cd in let hs = back_trees back rest cr.1 in let hn = map_length (option_map (S.term_of w1)) (take b (undone (above h T) e)) in
-      let st = back.stands t ct in let su = back.stands u cu in let sv = back.stands v cr.0 in let sd = refs_changed back.stands done cd in let ss = refs_changed back.stands rest cr.1 in (
+      let st = (back.exactly t).1 ct in let su = (back.exactly u).1 cu in let sv = (back.exactly v).1 cr.0 in let sd = refs_changed (λ r. (back.exactly r).1) done cd in let ss = refs_changed (λ r. (back.exactly r).1) rest cr.1 in (
         cc,
         (
           sv,
           record {
             places = s.places;
             records = ((st, (su, sd), sv, ss, mark.valid), s.records);
-            covered = some_covered (new_kept mark s) (mark.covers t st) (mark.covers u su, refs_changed mark.covers done sd) (mark.covers v sv) (refs_changed mark.covers rest ss) (new_covered s);
+            covered = some_covered (new_kept mark s) ((mark.exactly t).1 st) ((mark.exactly u).1 su, refs_changed (λ r. (mark.exactly r).1) done sd) ((mark.exactly v).1 sv) (refs_changed (λ r. (mark.exactly r).1) rest ss) (new_covered s);
             low = omega arith;
           },
         ),

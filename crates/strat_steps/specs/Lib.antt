@@ -3,7 +3,7 @@ pub mod Binding
 pub mod Trail
 pub mod Step
 pub mod Run
-pub mod Space
+pub mod Listed
 pub mod References
 pub mod ReferenceSteps
 pub mod Marks

@@ -2,6 +2,7 @@
 use Rattle.std.specs.Prelude.{◌≡◌, ℕ, Bool, true, false, IsTrue, Option, Some, None, List, [], ◌∷◌, map, take}
 use Rattle.std.specs.Option.{option_map}
 use Rattle.term_model.specs.declared.term.Head.TheVariants as heads
+use Rattle.term_model.specs.Space.{Space}
 use Rattle.term_model.specs.Term.{Tree, term}
 use Rattle.core_lang.specs.Environment.{Bindings}
 use Rattle.core_lang.specs.Program.{Pattern, anything, variable, alias, integer, applied, list, like, annotated, Patterns, no_patterns, more_patterns, Elements, no_elements, the_rest, more_elements}
@@ -10,15 +11,15 @@ use Rattle.strat_steps.specs.References.{Places, AllPlaces, AllRefs, Binds}
 
 -- From the references e in the state w on, it came to the references f in the state w1. Over the trees that they are, the
 -- attempt comes to what the rest of it comes to from there
-pub record Goes {W R : Type 0} (stands : W → R → Bool) (term_of : W → R → Tree) (b : ℕ) (whole rest : Bindings → List ℕ → Attempt) (w : W) (e : Places R) (T : List ℕ) (w1 : W) (f : Places R) (U : List ℕ) : Type 0 where
-  pub bound : Binds (λ r. IsTrue (stands w1 r)) b e T f U
-  pub standing : AllPlaces (λ r. IsTrue (stands w1 r)) f
-  pub comes_to : whole (map (option_map (term_of w)) e) T ≡ rest (map (option_map (term_of w1)) f) U
+pub record Goes {W R Y N : Type 0} (S : Space W R Y N) (b : ℕ) (whole rest : Bindings → List ℕ → Attempt) (w : W) (e : Places R) (T : List ℕ) (w1 : W) (f : Places R) (U : List ℕ) : Type 0 where
+  pub bound : Binds (λ r. IsTrue (S.stands w1 r)) b e T f U
+  pub standing : AllPlaces (λ r. IsTrue (S.stands w1 r)) f
+  pub comes_to : whole (map (option_map (S.term_of w)) e) T ≡ rest (map (option_map (S.term_of w1)) f) U
 
 -- the references stand for the first terms of the list, of which there are at most `count`
-pub record AreFirst {W R : Type 0} (stands : W → R → Bool) (term_of : W → R → Tree) (w : W) (terms : List Tree) (count : ℕ) (rs : List R) : Type 0 where
-  pub standing : AllRefs (λ r. IsTrue (stands w r)) rs
-  pub are : map (term_of w) rs ≡ take count terms
+pub record AreFirst {W R Y N : Type 0} (S : Space W R Y N) (w : W) (terms : List Tree) (count : ℕ) (rs : List R) : Type 0 where
+  pub standing : AllRefs (λ r. IsTrue (S.stands w r)) rs
+  pub are : map (S.term_of w) rs ≡ take count terms
 
 -- several patterns with the first n of several terms
 abbrev pub first_attempted : {X : Type 0} → (X → Option ℕ) → ℕ → List (Pattern X) → List Tree → Bindings → List ℕ → Attempt

@@ -8,7 +8,7 @@ use Rattle.core_lang.specs.declared.run.Run.{Run}
 use Rattle.strat_code.specs.Code.{Code}
 use Rattle.strat_steps.specs.State.{run_failed, run_oversize, run_spent}
 use Rattle.strat_steps.specs.Run.{start_ref}
-use Rattle.strat_steps.specs.Space.{Space, Same}
+use Rattle.term_model.specs.Space.{Space, Keeps, MakesNone}
 use Rattle.strat_steps.specs.References.{RefState, ref_rewritten, ref_stopped}
 use Rattle.strat_steps.specs.ReferenceSteps.{StepsRef}
 
@@ -35,8 +35,9 @@ end_ref Spent l = ref_stopped run_spent l
 
 -- the names of the code are brought into the space, which makes no term, and from there the machine has come to this outcome by as
 -- many steps as the run has
-pub record Ran {W R Y : Type 0} (S : Space W R Y) (code : Code) (M : Meaning) (w : W) (t : R) (budget : ℕ) (w1 : W) (run : Run R) : Type 0 where
+pub record Ran {W R Y N : Type 0} (S : Space W R Y N) (code : Code) (M : Meaning) (w : W) (t : R) (budget : ℕ) (w1 : W) (run : Run R) : Type 0 where
   pub loaded : W
-  pub same : Same S w loaded
+  pub kept : Keeps S w loaded
+  pub none : MakesNone S w loaded
   pub left : ℕ
   pub steps : StepsRef S code M run.steps loaded (start_ref t budget) w1 (end_ref run.outcome left)

@@ -13,18 +13,18 @@ use Rattle.core_lang.specs.Roots.{Root}
 use Rattle.strat_steps.specs.State.{Frame, frame, saved, run_failed, run_oversize, run_spent, stuck, ended, place_at, closure_in, frames_up, closed}
 use Rattle.strat_steps.specs.Matches.{LeavesSpace}
 use Rattle.strat_steps.specs.Binding.{undone, above, down_to, trimmed, attempt, attempted}
-use Rattle.strat_steps.specs.Space.{Space, Grows, IsMark, GoesBack}
+use Rattle.term_model.specs.Space.{Space, Keeps, GoesBack, IsMark, Stands}
 use Rattle.strat_steps.specs.References.{Places, RefRecord, ref_call, ref_choice, ref_all, ref_one, ref_some, RefState, ref_running, ref_failing, ref_rewritten, ref_stopped, trees, record_tree, AllRefs, Binds}
 
-module _ {W R Y : Type 0} (S : Space W R Y) where
+module _ {W R Y N : Type 0} (S : Space W R Y N) where
   -- the next part of a traversal, or its end
   module _ (w : W) (body after p : ℕ) (t : R) (e : Places R) (F : List Frame) (T : List ℕ) (b : ℕ) (K : List (RefRecord R Y)) (l : ℕ) (done : List R) where
     pub data OnAll : List R → W → RefState R Y → Type 0 where
       all_goes_on : {u : R} {us : List R} → OnAll (u ∷ us) w (ref_running body p u e F T b (ref_all body after t done us ∷ K) l)
-      all_whole : {u : R} {w1 : W} → Grows S w w1 → S.Stands w1 u →
+      all_whole : {u : R} {w1 : W} → Keeps S w w1 → Stands S w1 u →
           rebuilt (S.term_of w t) (ok (in_order (trees (S.term_of w) done) end) (map (option_map (S.term_of w)) e)) ≡ ok (S.term_of w1 u) (map (option_map (S.term_of w)) e) →
           OnAll [] w1 (ref_running after p u e F T b K l)
-      all_oversize : {w1 : W} → Grows S w w1 →
+      all_oversize : {w1 : W} → Keeps S w w1 →
           rebuilt (S.term_of w t) (ok (in_order (trees (S.term_of w) done) end) (map (option_map (S.term_of w)) e)) ≡ oversize →
           OnAll [] w1 (ref_stopped run_oversize l)
 
@@ -36,10 +36,10 @@ module _ {W R Y : Type 0} (S : Space W R Y) where
     pub data OnSome : Bool → List R → W → RefState R Y → Type 0 where
       some_goes_on : {found : Bool} {u : R} {us : List R} {m : Y} → IsMark S w m →
           OnSome found (u ∷ us) w (ref_running body p u e F T (length e) (ref_some body after t done u us found (saved p (length F) (length T) b) m ∷ K) l)
-      some_whole : {u : R} {w1 : W} → Grows S w w1 → S.Stands w1 u →
+      some_whole : {u : R} {w1 : W} → Keeps S w w1 → Stands S w1 u →
           rebuilt (S.term_of w t) (ok (in_order (trees (S.term_of w) done) end) (map (option_map (S.term_of w)) e)) ≡ ok (S.term_of w1 u) (map (option_map (S.term_of w)) e) →
           OnSome true [] w1 (ref_running after p u e F T b K l)
-      some_oversize : {w1 : W} → Grows S w w1 →
+      some_oversize : {w1 : W} → Keeps S w w1 →
           rebuilt (S.term_of w t) (ok (in_order (trees (S.term_of w) done) end) (map (option_map (S.term_of w)) e)) ≡ oversize →
           OnSome true [] w1 (ref_stopped run_oversize l)
       some_none : OnSome false [] w (ref_failing e F T b K l)
@@ -65,23 +65,23 @@ module _ {W R Y : Type 0} (S : Space W R Y) where
       jumps : {a i p b l : ℕ} {t : R} {e : Places R} {F : List Frame} {T : List ℕ} {K : List (RefRecord R Y)} →
           Does (jump a) i p t e F T b K l w (ref_running a p t e F T b K l)
       -- a match may make the list of the rest of a list, and a term without its annotations
-      matches : {n i p b l : ℕ} {q : _} {t : R} {e f : Places R} {F : List Frame} {T U : List ℕ} {K : List (RefRecord R Y)} {w1 : W} → Grows S w w1 →
-          (LeavesSpace q → w1 ≡ w) → Binds (S.Stands w1) b e T f U →
+      matches : {n i p b l : ℕ} {q : _} {t : R} {e f : Places R} {F : List Frame} {T U : List ℕ} {K : List (RefRecord R Y)} {w1 : W} → Keeps S w w1 →
+          (LeavesSpace q → w1 ≡ w) → Binds (Stands S w1) b e T f U →
           attempted (place_at F p) b q (S.term_of w t) (map (option_map (S.term_of w)) e) T ≡ attempt true (map (option_map (S.term_of w1)) f) U →
           Does (match_term n q) i p t e F T b K l w1 (ref_running (suc i) p t f F U b K l)
       matches_not : {n i p b l : ℕ} {q : _} {t : R} {e f : Places R} {F : List Frame} {T U : List ℕ} {K : List (RefRecord R Y)} {w1 : W} →
-          Grows S w w1 → (LeavesSpace q → w1 ≡ w) → Binds (S.Stands w1) b e T f U →
+          Keeps S w w1 → (LeavesSpace q → w1 ≡ w) → Binds (Stands S w1) b e T f U →
           attempted (place_at F p) b q (S.term_of w t) (map (option_map (S.term_of w)) e) T ≡ attempt false (map (option_map (S.term_of w1)) f) U →
           Does (match_term n q) i p t e F T b K l w1 (ref_failing f F U b K l)
-      builds : {n i p b l : ℕ} {q : _} {t u : R} {e : Places R} {F : List Frame} {T : List ℕ} {K : List (RefRecord R Y)} {w1 : W} → Grows S w w1 →
-          S.Stands w1 u →
+      builds : {n i p b l : ℕ} {q : _} {t u : R} {e : Places R} {F : List Frame} {T : List ℕ} {K : List (RefRecord R Y)} {w1 : W} → Keeps S w w1 →
+          Stands S w1 u →
           built (instance (place_at F p) q (map (option_map (S.term_of w)) e)) (map (option_map (S.term_of w)) e) ≡ ok (S.term_of w1 u) (map (option_map (S.term_of w)) e) →
           Does (build_term n q) i p t e F T b K l w1 (ref_running (suc i) p u e F T b K l)
-      builds_none : {n i p b l : ℕ} {q : _} {t : R} {e : Places R} {F : List Frame} {T : List ℕ} {K : List (RefRecord R Y)} {w1 : W} → Grows S w w1 →
+      builds_none : {n i p b l : ℕ} {q : _} {t : R} {e : Places R} {F : List Frame} {T : List ℕ} {K : List (RefRecord R Y)} {w1 : W} → Keeps S w w1 →
           built (instance (place_at F p) q (map (option_map (S.term_of w)) e)) (map (option_map (S.term_of w)) e) ≡ failed →
           Does (build_term n q) i p t e F T b K l w1 (ref_failing e F T b K l)
       builds_oversize : {n i p b l : ℕ} {q : _} {t : R} {e : Places R} {F : List Frame} {T : List ℕ} {K : List (RefRecord R Y)} {w1 : W} →
-          Grows S w w1 →
+          Keeps S w w1 →
           built (instance (place_at F p) q (map (option_map (S.term_of w)) e)) (map (option_map (S.term_of w)) e) ≡ oversize →
           Does (build_term n q) i p t e F T b K l w1 (ref_stopped run_oversize l)
       enters : {n k i p b l : ℕ} {t : R} {e : Places R} {F : List Frame} {T : List ℕ} {K : List (RefRecord R Y)} →
@@ -111,36 +111,36 @@ module _ {W R Y : Type 0} (S : Space W R Y) where
       commits : {n a x i p q k h d b l : ℕ} {t u : R} {e : Places R} {F : List Frame} {T : List ℕ} {K : List (RefRecord R Y)} {m : Y} →
           Does (commit n a) i p t e F T b (ref_choice x u (saved q k h d) m ∷ K) l w (ref_running a p t e F (trimmed h d T) d K l)
       answers : {n i p b l : ℕ} {f : List ℕ} {ps : _} {t u : R} {e : Places R} {F : List Frame} {T : List ℕ} {K : List (RefRecord R Y)} {w1 : W} →
-          Grows S w w1 → S.Stands w1 u →
+          Keeps S w w1 → Stands S w1 u →
           answered (M f) (arguments (instances (place_at F p) ps (map (option_map (S.term_of w)) e)) (map (option_map (S.term_of w)) e)) ≡ ok (S.term_of w1 u) (map (option_map (S.term_of w)) e) →
           Does (apply_primitive n f ps) i p t e F T b K l w1 (ref_running (suc i) p u e F T b K l)
       answers_none : {n i p b l : ℕ} {f : List ℕ} {ps : _} {t : R} {e : Places R} {F : List Frame} {T : List ℕ} {K : List (RefRecord R Y)} {w1 : W} →
-          Grows S w w1 →
+          Keeps S w w1 →
           answered (M f) (arguments (instances (place_at F p) ps (map (option_map (S.term_of w)) e)) (map (option_map (S.term_of w)) e)) ≡ failed →
           Does (apply_primitive n f ps) i p t e F T b K l w1 (ref_failing e F T b K l)
-      answers_oversize : {n i p b l : ℕ} {f : List ℕ} {ps : _} {t : R} {e : Places R} {F : List Frame} {T : List ℕ} {K : List (RefRecord R Y)} {w1 : W} → Grows S w w1 →
+      answers_oversize : {n i p b l : ℕ} {f : List ℕ} {ps : _} {t : R} {e : Places R} {F : List Frame} {T : List ℕ} {K : List (RefRecord R Y)} {w1 : W} → Keeps S w w1 →
           answered (M f) (arguments (instances (place_at F p) ps (map (option_map (S.term_of w)) e)) (map (option_map (S.term_of w)) e)) ≡ oversize →
           Does (apply_primitive n f ps) i p t e F T b K l w1 (ref_stopped run_oversize l)
-      calls : {n h a k to i p b l : ℕ} {us : List Argument} {ps : _} {t : R} {e : Places R} {F : List Frame} {T : List ℕ} {K : List (RefRecord R Y)} {w1 : W} (rs : List R) → Grows S w w1 → AllRefs (S.Stands w1) rs → arguments (instances (place_at F p) ps (map (option_map (S.term_of w)) e)) (map (option_map (S.term_of w)) e) ≡ ok (trees (S.term_of w1) rs) (map (option_map (S.term_of w)) e) →
+      calls : {n h a k to i p b l : ℕ} {us : List Argument} {ps : _} {t : R} {e : Places R} {F : List Frame} {T : List ℕ} {K : List (RefRecord R Y)} {w1 : W} (rs : List R) → Keeps S w w1 → AllRefs (Stands S w1) rs → arguments (instances (place_at F p) ps (map (option_map (S.term_of w)) e)) (map (option_map (S.term_of w)) e) ≡ ok (trees (S.term_of w1) rs) (map (option_map (S.term_of w)) e) →
           Does (call_definition n h a k to us ps) i p t e F T b K l w1 (ref_running a (length F) t (e ++ (map (λ r. Some r) rs ++ replicate k None)) (F ++ frame (length e) (frames_up F p h) (closed F p us) ∷ []) T b (ref_call to p ∷ K) l)
-      calls_none : {n h a k to i p b l : ℕ} {us : List Argument} {ps : _} {t : R} {e : Places R} {F : List Frame} {T : List ℕ} {K : List (RefRecord R Y)} {w1 : W} → Grows S w w1 → arguments (instances (place_at F p) ps (map (option_map (S.term_of w)) e)) (map (option_map (S.term_of w)) e) ≡ failed → Does (call_definition n h a k to us ps) i p t e F T b K l w1 (ref_failing e F T b K l)
-      calls_oversize : {n h a k to i p b l : ℕ} {us : List Argument} {ps : _} {t : R} {e : Places R} {F : List Frame} {T : List ℕ} {K : List (RefRecord R Y)} {w1 : W} → Grows S w w1 → arguments (instances (place_at F p) ps (map (option_map (S.term_of w)) e)) (map (option_map (S.term_of w)) e) ≡ oversize → Does (call_definition n h a k to us ps) i p t e F T b K l w1 (ref_stopped run_oversize l)
+      calls_none : {n h a k to i p b l : ℕ} {us : List Argument} {ps : _} {t : R} {e : Places R} {F : List Frame} {T : List ℕ} {K : List (RefRecord R Y)} {w1 : W} → Keeps S w w1 → arguments (instances (place_at F p) ps (map (option_map (S.term_of w)) e)) (map (option_map (S.term_of w)) e) ≡ failed → Does (call_definition n h a k to us ps) i p t e F T b K l w1 (ref_failing e F T b K l)
+      calls_oversize : {n h a k to i p b l : ℕ} {us : List Argument} {ps : _} {t : R} {e : Places R} {F : List Frame} {T : List ℕ} {K : List (RefRecord R Y)} {w1 : W} → Keeps S w w1 → arguments (instances (place_at F p) ps (map (option_map (S.term_of w)) e)) (map (option_map (S.term_of w)) e) ≡ oversize → Does (call_definition n h a k to us ps) i p t e F T b K l w1 (ref_stopped run_oversize l)
       selects : {n last i p b l : ℕ} {cs : List Case} {t : R} {e : Places R} {F : List Frame} {T : List ℕ} {K : List (RefRecord R Y)} {m1 : RefState R Y} → Selecting w last p t e F T b K cs l m1 → Does (select n cs last) i p t e F T b K l w m1
-      begins_all : {n after i p b l : ℕ} {rs : List R} {t : R} {e : Places R} {F : List Frame} {T : List ℕ} {K : List (RefRecord R Y)} {w1 : W} {m1 : RefState R Y} → trees (S.term_of w) rs ≡ parts (S.term_of w t) → AllRefs (S.Stands w) rs →
+      begins_all : {n after i p b l : ℕ} {rs : List R} {t : R} {e : Places R} {F : List Frame} {T : List ℕ} {K : List (RefRecord R Y)} {w1 : W} {m1 : RefState R Y} → trees (S.term_of w) rs ≡ parts (S.term_of w t) → AllRefs (Stands S w) rs →
           OnAll w (suc i) after p t e F T b K l [] rs w1 m1 → Does (traverse n all_parts after) i p t e F T b K l w1 m1
-      begins_one : {n after i p b l : ℕ} {rs : List R} {t : R} {e : Places R} {F : List Frame} {T : List ℕ} {K : List (RefRecord R Y)} {m1 : RefState R Y} → trees (S.term_of w) rs ≡ parts (S.term_of w t) → AllRefs (S.Stands w) rs →
+      begins_one : {n after i p b l : ℕ} {rs : List R} {t : R} {e : Places R} {F : List Frame} {T : List ℕ} {K : List (RefRecord R Y)} {m1 : RefState R Y} → trees (S.term_of w) rs ≡ parts (S.term_of w t) → AllRefs (Stands S w) rs →
           OnOne w (suc i) after p t e F T b K l [] rs m1 → Does (traverse n one_part after) i p t e F T b K l w m1
-      begins_some : {n after i p b l : ℕ} {rs : List R} {t : R} {e : Places R} {F : List Frame} {T : List ℕ} {K : List (RefRecord R Y)} {w1 : W} {m1 : RefState R Y} → trees (S.term_of w) rs ≡ parts (S.term_of w t) → AllRefs (S.Stands w) rs →
+      begins_some : {n after i p b l : ℕ} {rs : List R} {t : R} {e : Places R} {F : List Frame} {T : List ℕ} {K : List (RefRecord R Y)} {w1 : W} {m1 : RefState R Y} → trees (S.term_of w) rs ≡ parts (S.term_of w t) → AllRefs (Stands S w) rs →
           OnSome w (suc i) after p t e F T b K l [] false rs w1 m1 → Does (traverse n some_parts after) i p t e F T b K l w1 m1
       part_of_all : {i p body after b l : ℕ} {u : R} {done us : List R} {t : R} {e : Places R} {F : List Frame} {T : List ℕ} {K : List (RefRecord R Y)} {w1 : W} {m1 : RefState R Y} →
           OnAll w body after p u e F T b K l (t ∷ done) us w1 m1 → Does part_done i p t e F T b (ref_all body after u done us ∷ K) l w1 m1
       part_of_some : {i p body after q k h d b l : ℕ} {u v : R} {done us : List R} {found : Bool} {m : Y} {t : R} {e : Places R} {F : List Frame} {T : List ℕ} {K : List (RefRecord R Y)} {w1 : W} {m1 : RefState R Y} →
           OnSome w body after p u e F (trimmed h d T) d K l (t ∷ done) true us w1 m1 →
           Does part_done i p t e F T b (ref_some body after u done v us found (saved q k h d) m ∷ K) l w1 m1
-      part_of_one : {i p body after q k h d b l : ℕ} {u v x : R} {done us : List R} {m : Y} {t : R} {e : Places R} {F : List Frame} {T : List ℕ} {K : List (RefRecord R Y)} {w1 : W} → Grows S w w1 → S.Stands w1 x →
+      part_of_one : {i p body after q k h d b l : ℕ} {u v x : R} {done us : List R} {m : Y} {t : R} {e : Places R} {F : List Frame} {T : List ℕ} {K : List (RefRecord R Y)} {w1 : W} → Keeps S w w1 → Stands S w1 x →
           rebuilt (S.term_of w u) (ok (in_order (trees (S.term_of w) done) (more (S.term_of w t) (trees (S.term_of w) us))) (map (option_map (S.term_of w)) e)) ≡ ok (S.term_of w1 x) (map (option_map (S.term_of w)) e) →
           Does part_done i p t e F T b (ref_one body after u done v us (saved q k h d) m ∷ K) l w1 (ref_running after p x e F (trimmed h d T) d K l)
-      part_of_one_oversize : {i p body after q k h d b l : ℕ} {u v : R} {done us : List R} {m : Y} {t : R} {e : Places R} {F : List Frame} {T : List ℕ} {K : List (RefRecord R Y)} {w1 : W} → Grows S w w1 →
+      part_of_one_oversize : {i p body after q k h d b l : ℕ} {u v : R} {done us : List R} {m : Y} {t : R} {e : Places R} {F : List Frame} {T : List ℕ} {K : List (RefRecord R Y)} {w1 : W} → Keeps S w w1 →
           rebuilt (S.term_of w u) (ok (in_order (trees (S.term_of w) done) (more (S.term_of w t) (trees (S.term_of w) us))) (map (option_map (S.term_of w)) e)) ≡ oversize →
           Does part_done i p t e F T b (ref_one body after u done v us (saved q k h d) m ∷ K) l w1 (ref_stopped run_oversize l)
       finishes : {i p b l : ℕ} {t : R} {e : Places R} {F : List Frame} {T : List ℕ} {K : List (RefRecord R Y)} →

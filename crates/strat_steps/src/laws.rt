@@ -10,7 +10,7 @@ ghost use Rattle.strat_code.specs.Code.{Code};
 ghost use Rattle.strat_code.specs.StandsFor.{StandsFor};
 ghost use Rattle.strat_steps.specs.Run.{start, Says};
 ghost use Rattle.strat_steps.specs.State.{Result, State, ended};
-ghost use Rattle.strat_steps.specs.Space.{store};
+ghost use Rattle.strat_steps.specs.Listed.{store};
 ghost use Rattle.strat_steps.specs.References.{RefState, state_tree};
 ghost use Rattle.strat_steps.specs.ReferenceSteps.{StepRef, StepsRef};
 ghost use Rattle.strat_steps.specs.Marks.{Holds, Lasts};

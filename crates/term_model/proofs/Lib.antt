@@ -9,3 +9,4 @@ pub mod PrimNameLaws
 pub mod SpaceLemmas
 pub mod BlockLaws
 pub mod DepthLaws
+pub mod SpaceLaws

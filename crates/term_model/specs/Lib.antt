@@ -15,5 +15,6 @@ pub mod Hashing
 pub mod PrimNames
 pub mod PrimKey
 pub mod Space
+pub mod SharedTerms
 pub mod Blocks
 pub mod BlockHashing

@@ -17,33 +17,19 @@ use std::alloc::{AllocError, Global};
 pub struct RcSpace;
 
 impl TermSpace for RcSpace {
+    ghost use Rattle.term_model.specs.SharedTerms.{shared_terms, shared_fit};
+
     type Ref = Term;
 
     type Mark = ();
 
     type Name = Sym;
 
-    ghost stands = { λ _ _. true };
+    ghost space = { shared_terms };
 
-    ghost term_of = { λ _ t. t };
+    ghost fits = { shared_fit };
 
-    ghost is_valid = { λ _ _. true };
-
-    ghost covers = { λ _ _. true };
-
-    ghost covers_mark = { λ _ _. true };
-
-    ghost knows = { λ _ _. true };
-
-    ghost symbol_of = { λ _ s. s };
-
-    // How many bytes the symbol has.
-    ghost number_of = { λ s. length (bytes_of s) };
-
-    fn fits(&self, at: &Term) {
-        at.fits();
-    }
-
+    #[tactic(auto, using(crate::proofs::SpaceLemmas::standing))]
     fn shape<'a>(&'a self, at: &'a Term) -> Shape<'a, Term> {
         Shape {
             head: self.head(at),
@@ -60,10 +46,12 @@ impl TermSpace for RcSpace {
         }
     }
 
+    #[tactic(auto, using(crate::proofs::SpaceLemmas::standing))]
     fn parts<'a>(&'a self, at: &'a Term) -> Parts<'a, Term> {
         Parts::of_slice(at.children())
     }
 
+    #[tactic(auto, using(crate::proofs::SpaceLemmas::standing))]
     fn annos<'a>(&'a self, at: &'a Term) -> Parts<'a, Term> {
         Parts::of_slice(at.annos())
     }
@@ -112,16 +100,17 @@ impl TermSpace for RcSpace {
         at.children().len()
     }
 
+    #[tactic(auto, using(crate::proofs::SpaceLemmas::standing))]
     fn part(&self, at: &Term, index: usize) -> Result<Term, AllocError> {
         at.children()[index].clone()
     }
 
-    #[tactic(auto, using(crate::proofs::SpaceLemmas::pushed))]
+    #[tactic(auto, using(crate::proofs::SpaceLemmas::standing))]
     fn push_parts(&self, at: &Term, stack: &mut Vec<Term>) -> Result<(), AllocError> {
         push_all(stack, at.children())
     }
 
-    #[tactic(auto, using(crate::proofs::SpaceLemmas::pushed))]
+    #[tactic(auto, using(crate::proofs::SpaceLemmas::standing))]
     fn push_annos(&self, at: &Term, stack: &mut Vec<Term>) -> Result<(), AllocError> {
         push_all(stack, at.annos())
     }
@@ -135,10 +124,12 @@ impl TermSpace for RcSpace {
         Sym::of_spelling(alloc, kind, bytes)
     }
 
+    #[tactic(auto, using(crate::proofs::SpaceLemmas::standing))]
     fn int(&mut self, alloc: Global, value: i64) -> Result<Term, AllocError> {
         Term::int(alloc, value)
     }
 
+    #[tactic(auto, using(crate::proofs::SpaceLemmas::standing))]
     fn app(&mut self, alloc: Global, name: &Sym, parts: &[Term]) -> Result<Made<Term>, AllocError> {
         let symbol = name.clone()?;
         let parts = Vec::from_clones(alloc, parts)?;
@@ -146,12 +137,14 @@ impl TermSpace for RcSpace {
         Ok(made)
     }
 
+    #[tactic(auto, using(crate::proofs::SpaceLemmas::standing))]
     fn list(&mut self, alloc: Global, elements: &[Term]) -> Result<Made<Term>, AllocError> {
         let elements = Vec::from_clones(alloc, elements)?;
         let made = Term::list(alloc, elements)?;
         Ok(made)
     }
 
+    #[tactic(auto, using(crate::proofs::SpaceLemmas::standing))]
     fn prepend(
         &mut self,
         alloc: Global,
@@ -166,10 +159,9 @@ impl TermSpace for RcSpace {
         Ok(made)
     }
 
-    #[tactic(auto, using(crate::proofs::SpaceLemmas::rest_is_made))]
+    #[tactic(auto, using(crate::proofs::SpaceLemmas::standing))]
     fn rest(&mut self, alloc: Global, at: &Term, count: usize) -> Result<Term, AllocError> {
         let elements = Vec::from_clones(alloc, &at.children()[count..])?;
-        at.fits();
         let made = Term::list(alloc, elements)?;
         match made {
             Made::Fits(list) => Ok(list),
@@ -177,7 +169,7 @@ impl TermSpace for RcSpace {
         }
     }
 
-    #[tactic(auto, using(crate::proofs::SpaceLemmas::made_again))]
+    #[tactic(auto, using(crate::proofs::SpaceLemmas::standing, crate::proofs::SpaceLemmas::made_again))]
     fn rebuild(
         &mut self,
         alloc: Global,
@@ -185,11 +177,11 @@ impl TermSpace for RcSpace {
         parts: &[Term],
     ) -> Result<Made<Term>, AllocError> {
         let parts = Vec::from_clones(alloc, parts)?;
-        at.fits();
         let made = at.rebuild(alloc, parts)?;
         Ok(made)
     }
 
+    #[tactic(auto, using(crate::proofs::SpaceLemmas::standing))]
     fn with_annos(
         &mut self,
         alloc: Global,
@@ -201,6 +193,7 @@ impl TermSpace for RcSpace {
         Ok(made)
     }
 
+    #[tactic(auto, using(crate::proofs::SpaceLemmas::standing))]
     fn make(
         &mut self,
         alloc: Global,
@@ -209,8 +202,8 @@ impl TermSpace for RcSpace {
         annos: Vec<Term>,
     ) -> Result<Made<Term>, AllocError>
         requires head { MayHave head parts.items }
-        ensures keeps { Keeps ⟦<RcSpace as TermSpace>⟧.stands ⟦<RcSpace as TermSpace>⟧.term_of ⟦<RcSpace as TermSpace>⟧.is_valid ⟦<RcSpace as TermSpace>⟧.knows ⟦<RcSpace as TermSpace>⟧.symbol_of self.old self.new }
-        ensures made { IfOk result (Makes ⟦<RcSpace as TermSpace>⟧.stands ⟦<RcSpace as TermSpace>⟧.term_of self.new (term head parts.items annos.items)) }
+        ensures keeps { Keeps ⟦<RcSpace as TermSpace>⟧.space self.old self.new }
+        ensures made { IfOk result (Makes ⟦<RcSpace as TermSpace>⟧.space self.new (term head parts.items annos.items)) }
     {
         let made = Term::new(alloc, head, parts, annos)?;
         Ok(made)
@@ -222,8 +215,10 @@ impl TermSpace for RcSpace {
         let () = mark;
     }
 
+    #[tactic(auto, using(crate::proofs::SpaceLemmas::standing))]
     fn enter(&mut self, alloc: Global, from: &Term) -> Result<Term, AllocError> {
         let _ = alloc;
+        from.fits();
         from.clone()
     }
 

@@ -1,10 +1,10 @@
 //! Spaces: where the terms of a run are kept, each under a reference.
-ghost use Rattle.std.specs.Prelude.{◌≡◌, ◌↔◌, ◌<◌, ◌≤◌, Bool, ℕ, All, map, drop, ◌++◌, length, IfOk, IsTrue, MatchOption, [], slice_get, Some, OnOk, OnErr};
-ghost use Rattle.term_model.specs.Symbol.{Symbol, symbol_spelled, IsSpelling};
-ghost use Rattle.term_model.specs.Term.{Tree, term, head_of, parts_of, annos_of, Fits};
+ghost use Rattle.std.specs.Prelude.{◌≡◌, ◌↔◌, ◌<◌, ◌≤◌, All, map, drop, ◌++◌, length, IfOk, IsTrue, MatchOption, [], slice_get, Some, OnOk, OnErr};
+ghost use Rattle.term_model.specs.Symbol.{symbol_spelled, IsSpelling};
+ghost use Rattle.term_model.specs.Term.{term, head_of, parts_of, annos_of, Fits};
 ghost use Rattle.term_model.specs.declared.term.Head.TheVariants as heads;
 ghost use Rattle.term_model.specs.declared.made.Made.TheVariants as made;
-ghost use Rattle.term_model.specs.Space.{Keeps, MakesNone, GoesBack, IsMarkOf, Makes, Pushes, IsApplied, IsList, MayHave, IsTop};
+ghost use Rattle.term_model.specs.Space.{Space, Keeps, MakesNone, GoesBack, IsMark, Makes, Pushes, IsApplied, IsList, MayHave, IsTop};
 
 use crate::made::Made;
 use crate::parts::{Parts, Shape, Top};
@@ -28,131 +28,108 @@ pub trait TermSpace {
     /// Stands for a symbol, for as long as the space is there.
     type Name: Drop;
 
-    // Which references stand.
-    ghost stands: { Self → Self.Ref → Bool };
+    // What stands, what marks cover and which names are known.
+    ghost space: { Space Self Self.Ref Self.Mark Self.Name };
 
-    // The term of a reference that stands.
-    ghost term_of: { Self → Self.Ref → Tree };
-
-    // Which marks can be gone back to.
-    ghost is_valid: { Self → Self.Mark → Bool };
-
-    // Which references stand after going back to the mark, whatever state the space is in.
-    ghost covers: { Self.Mark → Self.Ref → Bool };
-
-    // Which marks are valid after going back to the first.
-    ghost covers_mark: { Self.Mark → Self.Mark → Bool };
-
-    // Which names were brought in.
-    ghost knows: { Self → Self.Name → Bool };
-
-    // The symbol of a name that was brought in.
-    ghost symbol_of: { Self → Self.Name → Symbol };
-
-    // The number of a name, whatever state the space is in.
-    ghost number_of: { Self.Name → ℕ };
-
-    /// Tells that the term fits.
-    fn fits(&self, at: &Self::Ref)
-        requires { IsTrue (stands self.now at.now) }
-        ensures { Fits (term_of self.now at.now) };
+    // The term of a reference that stands fits.
+    ghost fits: { (s : Self) (r : Self.Ref) → IsTrue (space.stands s r) → Fits (space.term_of s r) };
 
     /// The term's head, parts and annotations, lent.
     fn shape<'a>(&'a self, at: &'a Self::Ref) -> Shape<'a, Self::Ref>
-        requires { IsTrue (stands self.now at.now) }
-        ensures head { IsTop result.head (head_of (term_of self.now at.now)) }
-        ensures parts_stand { All (λ r. IsTrue (stands self.now r)) result.parts }
-        ensures annos_stand { All (λ r. IsTrue (stands self.now r)) result.annos }
-        ensures parts { map (term_of self.now) result.parts ≡ parts_of (term_of self.now at.now) }
-        ensures annos { map (term_of self.now) result.annos ≡ annos_of (term_of self.now at.now) };
+        requires { IsTrue (space.stands self.now at.now) }
+        ensures head { IsTop result.head (head_of (space.term_of self.now at.now)) }
+        ensures parts_stand { All (λ r. IsTrue (space.stands self.now r)) result.parts }
+        ensures annos_stand { All (λ r. IsTrue (space.stands self.now r)) result.annos }
+        ensures parts { map (space.term_of self.now) result.parts ≡ parts_of (space.term_of self.now at.now) }
+        ensures annos { map (space.term_of self.now) result.annos ≡ annos_of (space.term_of self.now at.now) };
 
     /// What the term is, but for its parts and annotations.
     fn head<'a>(&'a self, at: &'a Self::Ref) -> Top<'a>
-        requires { IsTrue (stands self.now at.now) }
-        ensures { IsTop result (head_of (term_of self.now at.now)) };
+        requires { IsTrue (space.stands self.now at.now) }
+        ensures { IsTop result (head_of (space.term_of self.now at.now)) };
 
     /// The term's parts, lent.
     fn parts<'a>(&'a self, at: &'a Self::Ref) -> Parts<'a, Self::Ref>
-        requires { IsTrue (stands self.now at.now) }
-        ensures stand { All (λ r. IsTrue (stands self.now r)) result }
-        ensures parts { map (term_of self.now) result ≡ parts_of (term_of self.now at.now) };
+        requires { IsTrue (space.stands self.now at.now) }
+        ensures stand { All (λ r. IsTrue (space.stands self.now r)) result }
+        ensures parts { map (space.term_of self.now) result ≡ parts_of (space.term_of self.now at.now) };
 
     /// The term's annotations, lent.
     fn annos<'a>(&'a self, at: &'a Self::Ref) -> Parts<'a, Self::Ref>
-        requires { IsTrue (stands self.now at.now) }
-        ensures stand { All (λ r. IsTrue (stands self.now r)) result }
-        ensures annos { map (term_of self.now) result ≡ annos_of (term_of self.now at.now) };
+        requires { IsTrue (space.stands self.now at.now) }
+        ensures stand { All (λ r. IsTrue (space.stands self.now r)) result }
+        ensures annos { map (space.term_of self.now) result ≡ annos_of (space.term_of self.now at.now) };
 
     /// Whether two references have the same term.
     fn same(&self, one: &Self::Ref, other: &Self::Ref) -> bool
-        requires one { IsTrue (stands self.now one.now) }
-        requires other { IsTrue (stands self.now other.now) }
-        ensures { IsTrue result ↔ (term_of self.now one.now ≡ term_of self.now other.now) };
+        requires one { IsTrue (space.stands self.now one.now) }
+        requires other { IsTrue (space.stands self.now other.now) }
+        ensures { IsTrue result ↔ (space.term_of self.now one.now ≡ space.term_of self.now other.now) };
 
     /// The reference once more.
     fn dup(&self, at: &Self::Ref) -> Result<Self::Ref, AllocError>
-        requires { IsTrue (stands self.now at.now) }
+        requires { IsTrue (space.stands self.now at.now) }
         ensures same { IfOk result (λ r. r ≡ at.now) }
-        ensures stands { IfOk result (λ r. IsTrue (stands self.now r)) }
-        ensures term { IfOk result (λ r. term_of self.now r ≡ term_of self.now at.now) };
+        ensures stands { IfOk result (λ r. IsTrue (space.stands self.now r)) }
+        ensures term { IfOk result (λ r. space.term_of self.now r ≡ space.term_of self.now at.now) };
 
     /// The integer that the term is, whatever its annotations.
     fn int_of(&self, at: &Self::Ref) -> Option<i64>
-        requires { IsTrue (stands self.now at.now) }
-        ensures { MatchOption result ((z : _) → head_of (term_of self.now at.now) ≡ heads.Int z → ⊥) (λ z. head_of (term_of self.now at.now) ≡ heads.Int z) };
+        requires { IsTrue (space.stands self.now at.now) }
+        ensures { MatchOption result ((z : _) → head_of (space.term_of self.now at.now) ≡ heads.Int z → ⊥) (λ z. head_of (space.term_of self.now at.now) ≡ heads.Int z) };
 
     /// How many elements the list has that the term is, whatever its annotations.
     fn list_len(&self, at: &Self::Ref) -> Option<usize>
-        requires { IsTrue (stands self.now at.now) }
-        ensures { MatchOption result (head_of (term_of self.now at.now) ≡ heads.List → ⊥) (λ n. IsList (term_of self.now at.now) n) };
+        requires { IsTrue (space.stands self.now at.now) }
+        ensures { MatchOption result (head_of (space.term_of self.now at.now) ≡ heads.List → ⊥) (λ n. IsList (space.term_of self.now at.now) n) };
 
     /// Whether the term is the symbol of the name applied to `count` parts, whatever its annotations.
     fn is_app(&self, at: &Self::Ref, name: &Self::Name, count: usize) -> bool
-        requires stands { IsTrue (stands self.now at.now) }
-        requires known { IsTrue (knows self.now name.now) }
-        ensures { IsTrue result ↔ IsApplied (term_of self.now at.now) (symbol_of self.now name.now) count };
+        requires stands { IsTrue (space.stands self.now at.now) }
+        requires known { IsTrue (space.knows self.now name.now) }
+        ensures { IsTrue result ↔ IsApplied (space.term_of self.now at.now) (space.symbol_of self.now name.now) count };
 
     /// The number of the name, by which a table finds what it has for the name. Several names may have one number.
     fn number(&self, name: &Self::Name) -> usize
-        requires { IsTrue (knows self.now name.now) }
-        ensures { result ≡ number_of name.now };
+        requires { IsTrue (space.knows self.now name.now) }
+        ensures { result ≡ space.number_of name.now };
 
     /// The number of the term's symbol: that of each name of the symbol. `None` where the term is an integer or a list.
     fn root_number(&self, at: &Self::Ref) -> Option<usize>
-        requires { IsTrue (stands self.now at.now) }
-        ensures { (n : Self.Name) → IsTrue (knows self.now n) → head_of (term_of self.now at.now) ≡ heads.App (symbol_of self.now n) → result ≡ Some (number_of n) };
+        requires { IsTrue (space.stands self.now at.now) }
+        ensures { (n : Self.Name) → IsTrue (space.knows self.now n) → head_of (space.term_of self.now at.now) ≡ heads.App (space.symbol_of self.now n) → result ≡ Some (space.number_of n) };
 
     /// How many parts the term has.
     fn count(&self, at: &Self::Ref) -> usize
-        requires { IsTrue (stands self.now at.now) }
-        ensures { result ≡ length (parts_of (term_of self.now at.now)) };
+        requires { IsTrue (space.stands self.now at.now) }
+        ensures { result ≡ length (parts_of (space.term_of self.now at.now)) };
 
     /// The part at an index.
     fn part(&self, at: &Self::Ref, index: usize) -> Result<Self::Ref, AllocError>
-        requires stands { IsTrue (stands self.now at.now) }
-        requires within { index < length (parts_of (term_of self.now at.now)) }
-        ensures stands { IfOk result (λ r. IsTrue (stands self.now r)) }
-        ensures term { IfOk result (λ r. slice_get (parts_of (term_of self.now at.now)) index ≡ Some (term_of self.now r)) };
+        requires stands { IsTrue (space.stands self.now at.now) }
+        requires within { index < length (parts_of (space.term_of self.now at.now)) }
+        ensures stands { IfOk result (λ r. IsTrue (space.stands self.now r)) }
+        ensures term { IfOk result (λ r. slice_get (parts_of (space.term_of self.now at.now)) index ≡ Some (space.term_of self.now r)) };
 
     /// Puts the parts on a stack, the first one first. The stack is as it was where there is no memory.
     fn push_parts(&self, at: &Self::Ref, stack: &mut Vec<Self::Ref>) -> Result<(), AllocError>
-        requires { IsTrue (stands self.now at.now) }
-        ensures pushed { OnOk result (Pushes stands term_of self.now (parts_of (term_of self.now at.now)) stack.old.items stack.new.items) }
+        requires { IsTrue (space.stands self.now at.now) }
+        ensures pushed { OnOk result (Pushes space self.now (parts_of (space.term_of self.now at.now)) stack.old.items stack.new.items) }
         ensures err { OnErr result (stack.new.items ≡ stack.old.items) };
 
     /// Puts the annotations on a stack, the first one first. The stack is as it was where there is no memory.
     fn push_annos(&self, at: &Self::Ref, stack: &mut Vec<Self::Ref>) -> Result<(), AllocError>
-        requires { IsTrue (stands self.now at.now) }
-        ensures pushed { OnOk result (Pushes stands term_of self.now (annos_of (term_of self.now at.now)) stack.old.items stack.new.items) }
+        requires { IsTrue (space.stands self.now at.now) }
+        ensures pushed { OnOk result (Pushes space self.now (annos_of (space.term_of self.now at.now)) stack.old.items stack.new.items) }
         ensures err { OnErr result (stack.new.items ≡ stack.old.items) };
 
     /// The name of a symbol. It is known for as long as the space is there, whatever the space goes back to. No term is
     /// made: exactly what stood stands, also where `AllocError` is returned.
     fn name(&mut self, alloc: Global, symbol: &Sym) -> Result<Self::Name, AllocError>
-        ensures keeps { Keeps stands term_of is_valid knows symbol_of self.old self.new }
-        ensures known { IfOk result (λ n. IsTrue (knows self.new n)) }
-        ensures symbol { IfOk result (λ n. symbol_of self.new n ≡ symbol.now) }
-        ensures none { MakesNone stands is_valid self.old self.new };
+        ensures keeps { Keeps space self.old self.new }
+        ensures known { IfOk result (λ n. IsTrue (space.knows self.new n)) }
+        ensures symbol { IfOk result (λ n. space.symbol_of self.new n ≡ symbol.now) }
+        ensures none { MakesNone space self.old self.new };
 
     /// The name of the symbol of this kind and these bytes: a plain name, a quoted text without escapes, or, with no
     /// bytes, the symbol of tuples. It is known for as long as the space is there. No term is made, as for `name`.
@@ -163,16 +140,16 @@ pub trait TermSpace {
         bytes: &[u8],
     ) -> Result<Self::Name, AllocError>
         requires { IsSpelling kind bytes.now }
-        ensures keeps { Keeps stands term_of is_valid knows symbol_of self.old self.new }
-        ensures known { IfOk result (λ n. IsTrue (knows self.new n)) }
-        ensures symbol { IfOk result (λ n. symbol_of self.new n ≡ symbol_spelled kind bytes.now) }
-        ensures none { MakesNone stands is_valid self.old self.new };
+        ensures keeps { Keeps space self.old self.new }
+        ensures known { IfOk result (λ n. IsTrue (space.knows self.new n)) }
+        ensures symbol { IfOk result (λ n. space.symbol_of self.new n ≡ symbol_spelled kind bytes.now) }
+        ensures none { MakesNone space self.old self.new };
 
     /// The integer, with no annotations.
     fn int(&mut self, alloc: Global, value: i64) -> Result<Self::Ref, AllocError>
-        ensures keeps { Keeps stands term_of is_valid knows symbol_of self.old self.new }
-        ensures stands { IfOk result (λ r. IsTrue (stands self.new r)) }
-        ensures term { IfOk result (λ r. term_of self.new r ≡ term (heads.Int value) [] []) };
+        ensures keeps { Keeps space self.old self.new }
+        ensures stands { IfOk result (λ r. IsTrue (space.stands self.new r)) }
+        ensures term { IfOk result (λ r. space.term_of self.new r ≡ term (heads.Int value) [] []) };
 
     /// The symbol of the name applied to the parts, with no annotations; `Oversize` exactly where that term does not fit.
     fn app(
@@ -181,16 +158,16 @@ pub trait TermSpace {
         name: &Self::Name,
         parts: &[Self::Ref],
     ) -> Result<Made<Self::Ref>, AllocError>
-        requires known { IsTrue (knows self.old name.now) }
-        requires stand { All (λ r. IsTrue (stands self.old r)) parts.now }
-        ensures keeps { Keeps stands term_of is_valid knows symbol_of self.old self.new }
-        ensures made { IfOk result (Makes stands term_of self.new (term (heads.App (symbol_of self.old name.now)) (map (term_of self.old) parts.now) [])) };
+        requires known { IsTrue (space.knows self.old name.now) }
+        requires stand { All (λ r. IsTrue (space.stands self.old r)) parts.now }
+        ensures keeps { Keeps space self.old self.new }
+        ensures made { IfOk result (Makes space self.new (term (heads.App (space.symbol_of self.old name.now)) (map (space.term_of self.old) parts.now) [])) };
 
     /// The list of the elements, with no annotations; `Oversize` exactly where that term does not fit.
     fn list(&mut self, alloc: Global, elements: &[Self::Ref]) -> Result<Made<Self::Ref>, AllocError>
-        requires stand { All (λ r. IsTrue (stands self.old r)) elements.now }
-        ensures keeps { Keeps stands term_of is_valid knows symbol_of self.old self.new }
-        ensures made { IfOk result (Makes stands term_of self.new (term heads.List (map (term_of self.old) elements.now) [])) };
+        requires stand { All (λ r. IsTrue (space.stands self.old r)) elements.now }
+        ensures keeps { Keeps space self.old self.new }
+        ensures made { IfOk result (Makes space self.new (term heads.List (map (space.term_of self.old) elements.now) [])) };
 
     /// The list of these elements and then those of the tail, with no annotations; `Oversize` exactly where that term
     /// does not fit.
@@ -200,20 +177,20 @@ pub trait TermSpace {
         elements: &[Self::Ref],
         tail: &Self::Ref,
     ) -> Result<Made<Self::Ref>, AllocError>
-        requires stand { All (λ r. IsTrue (stands self.old r)) elements.now }
-        requires stands { IsTrue (stands self.old tail.now) }
-        requires list { head_of (term_of self.old tail.now) ≡ heads.List }
-        ensures keeps { Keeps stands term_of is_valid knows symbol_of self.old self.new }
-        ensures made { IfOk result (Makes stands term_of self.new (term heads.List (map (term_of self.old) elements.now ++ parts_of (term_of self.old tail.now)) [])) };
+        requires stand { All (λ r. IsTrue (space.stands self.old r)) elements.now }
+        requires stands { IsTrue (space.stands self.old tail.now) }
+        requires list { head_of (space.term_of self.old tail.now) ≡ heads.List }
+        ensures keeps { Keeps space self.old self.new }
+        ensures made { IfOk result (Makes space self.new (term heads.List (map (space.term_of self.old) elements.now ++ parts_of (space.term_of self.old tail.now)) [])) };
 
     /// The list without its first `count` elements, with no annotations. It fits, as the list does.
     fn rest(&mut self, alloc: Global, at: &Self::Ref, count: usize) -> Result<Self::Ref, AllocError>
-        requires stands { IsTrue (stands self.old at.now) }
-        requires list { head_of (term_of self.old at.now) ≡ heads.List }
-        requires count { count ≤ length (parts_of (term_of self.old at.now)) }
-        ensures keeps { Keeps stands term_of is_valid knows symbol_of self.old self.new }
-        ensures stands { IfOk result (λ r. IsTrue (stands self.new r)) }
-        ensures term { IfOk result (λ r. term_of self.new r ≡ term heads.List (drop count (parts_of (term_of self.old at.now))) []) };
+        requires stands { IsTrue (space.stands self.old at.now) }
+        requires list { head_of (space.term_of self.old at.now) ≡ heads.List }
+        requires count { count ≤ length (parts_of (space.term_of self.old at.now)) }
+        ensures keeps { Keeps space self.old self.new }
+        ensures stands { IfOk result (λ r. IsTrue (space.stands self.new r)) }
+        ensures term { IfOk result (λ r. space.term_of self.new r ≡ term heads.List (drop count (parts_of (space.term_of self.old at.now))) []) };
 
     /// The term with these parts in place of its own, of which there are as many; `Oversize` exactly where that term does
     /// not fit. The same reference where the parts are the term's own.
@@ -223,12 +200,12 @@ pub trait TermSpace {
         at: &Self::Ref,
         parts: &[Self::Ref],
     ) -> Result<Made<Self::Ref>, AllocError>
-        requires stands { IsTrue (stands self.old at.now) }
-        requires stand { All (λ r. IsTrue (stands self.old r)) parts.now }
-        requires count { length parts.now ≡ length (parts_of (term_of self.old at.now)) }
-        ensures keeps { Keeps stands term_of is_valid knows symbol_of self.old self.new }
-        ensures made { IfOk result (Makes stands term_of self.new (term (head_of (term_of self.old at.now)) (map (term_of self.old) parts.now) (annos_of (term_of self.old at.now)))) }
-        ensures unchanged { map (term_of self.old) parts.now ≡ parts_of (term_of self.old at.now) → IfOk result (λ m. m ≡ made.Fits at.now) };
+        requires stands { IsTrue (space.stands self.old at.now) }
+        requires stand { All (λ r. IsTrue (space.stands self.old r)) parts.now }
+        requires count { length parts.now ≡ length (parts_of (space.term_of self.old at.now)) }
+        ensures keeps { Keeps space self.old self.new }
+        ensures made { IfOk result (Makes space self.new (term (head_of (space.term_of self.old at.now)) (map (space.term_of self.old) parts.now) (annos_of (space.term_of self.old at.now)))) }
+        ensures unchanged { map (space.term_of self.old) parts.now ≡ parts_of (space.term_of self.old at.now) → IfOk result (λ m. m ≡ made.Fits at.now) };
 
     /// The term with exactly these annotations in place of its own; `Oversize` exactly where that term does not fit.
     fn with_annos(
@@ -237,10 +214,10 @@ pub trait TermSpace {
         at: &Self::Ref,
         annos: &[Self::Ref],
     ) -> Result<Made<Self::Ref>, AllocError>
-        requires stands { IsTrue (stands self.old at.now) }
-        requires stand { All (λ r. IsTrue (stands self.old r)) annos.now }
-        ensures keeps { Keeps stands term_of is_valid knows symbol_of self.old self.new }
-        ensures made { IfOk result (Makes stands term_of self.new (term (head_of (term_of self.old at.now)) (parts_of (term_of self.old at.now)) (map (term_of self.old) annos.now))) };
+        requires stands { IsTrue (space.stands self.old at.now) }
+        requires stand { All (λ r. IsTrue (space.stands self.old r)) annos.now }
+        ensures keeps { Keeps space self.old self.new }
+        ensures made { IfOk result (Makes space self.new (term (head_of (space.term_of self.old at.now)) (parts_of (space.term_of self.old at.now)) (map (space.term_of self.old) annos.now))) };
 
     /// The term of this head with these parts and annotations; `Oversize` exactly where it does not fit. An integer is
     /// given no parts.
@@ -252,28 +229,28 @@ pub trait TermSpace {
         annos: Vec<Self::Ref>,
     ) -> Result<Made<Self::Ref>, AllocError>
         requires head { MayHave head parts.items }
-        requires parts { All (λ r. IsTrue (stands self.old r)) parts.items }
-        requires annos { All (λ r. IsTrue (stands self.old r)) annos.items }
-        ensures keeps { Keeps stands term_of is_valid knows symbol_of self.old self.new }
-        ensures made { IfOk result (Makes stands term_of self.new (term head (map (term_of self.old) parts.items) (map (term_of self.old) annos.items))) };
+        requires parts { All (λ r. IsTrue (space.stands self.old r)) parts.items }
+        requires annos { All (λ r. IsTrue (space.stands self.old r)) annos.items }
+        ensures keeps { Keeps space self.old self.new }
+        ensures made { IfOk result (Makes space self.new (term head (map (space.term_of self.old) parts.items) (map (space.term_of self.old) annos.items))) };
 
     /// A mark of what stands now.
     fn mark(&self) -> Self::Mark
-        ensures { IsMarkOf stands is_valid covers covers_mark result self.now };
+        ensures { IsMark space self.now result };
 
     /// Gives back what came after the mark: exactly what the mark covers stands.
     fn back_to(&mut self, mark: Self::Mark)
-        requires { IsTrue (is_valid self.old mark) }
-        ensures { GoesBack stands term_of is_valid knows symbol_of covers covers_mark mark self.old self.new };
+        requires { IsTrue (space.is_valid self.old mark) }
+        ensures { GoesBack space self.old mark self.new };
 
     /// Brings a term in.
     fn enter(&mut self, alloc: Global, from: &Term) -> Result<Self::Ref, AllocError>
-        ensures keeps { Keeps stands term_of is_valid knows symbol_of self.old self.new }
-        ensures stands { IfOk result (λ r. IsTrue (stands self.new r)) }
-        ensures term { IfOk result (λ r. term_of self.new r ≡ from.now) };
+        ensures keeps { Keeps space self.old self.new }
+        ensures stands { IfOk result (λ r. IsTrue (space.stands self.new r)) }
+        ensures term { IfOk result (λ r. space.term_of self.new r ≡ from.now) };
 
     /// The term of a reference.
     fn leave(&self, alloc: Global, at: &Self::Ref) -> Result<Term, AllocError>
-        requires { IsTrue (stands self.now at.now) }
-        ensures { IfOk result (λ t. t ≡ term_of self.now at.now) };
+        requires { IsTrue (space.stands self.now at.now) }
+        ensures { IfOk result (λ t. t ≡ space.term_of self.now at.now) };
 }

@@ -20,6 +20,7 @@ use Rattle.term_model.proofs.TermLemmas.{list_of-trees_of}
 use Rattle.term_store.specs.Chains.{IsBlockIn}
 use Rattle.term_store.specs.Shapes.{shape_head, shape_parts, shape_annos}
 use Rattle.term_store.specs.Store.{head_in}
+use Rattle.term_store.specs.StoredTerms.{stored_terms}
 use Rattle.term_store.specs.Space.{count, term_of, chain_at, shape_term, Stand, MayStand, IsShapeAt, IsMade, Keeps, KeepsChains}
 use Rattle.term_store.specs.declared.store.StoreSpace.{StoreSpace}
 use Rattle.term_store.specs.declared.stored.StoredHead.{StoredHead}
@@ -93,13 +94,13 @@ pub part_is : (s : StoreSpace) (at i p : ℕ) (x : StoredShape) → IsShapeAt s 
 part_is s at i p x is e = ap (λ ts. slice_get ts i) (parts_at s at x is) ∙ slice_get-map (term_of s) (list_in s.chains (shape_parts x)) i p e
 
 -- what was made, as a space says it
-pub makes : (s : StoreSpace) (t u : Tree) (r : Result (Made ℕ) AllocError) → IfOk r (IsMade s t) → t ≡ u → IfOk r (Makes (λ s r. nat_lt r (count s)) (λ s r. term_of s r) s u)
+pub makes : (s : StoreSpace) (t u : Tree) (r : Result (Made ℕ) AllocError) → IfOk r (IsMade s t) → t ≡ u → IfOk r (Makes stored_terms s u)
 makes s t u (Err e) is same = tt
 makes s t u (Ok (made.Fits k)) is same = (lt-ltb k (count s) is.0, is.1 ∙ same, subst Fits same is.2)
 makes s t u (Ok made.Oversize) is same = λ fits. is (subst Fits (sym same) fits)
 
 -- where no shape is made, exactly what stood stands
-pub makes_none : (old new : StoreSpace) → count new ≡ count old → MakesNone (λ s r. nat_lt r (count s)) (λ s m. nat_le m (count s)) old new
+pub makes_none : (old new : StoreSpace) → count new ≡ count old → MakesNone stored_terms old new
 makes_none old new e = record { standing = λ r. ap (nat_lt r) e; valid = λ m. ap (nat_le m) e }
 
 -- the term of a shape after chains came

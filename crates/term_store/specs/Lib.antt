@@ -4,6 +4,7 @@ pub mod Plain
 pub mod Shapes
 pub mod Store
 pub mod Space
+pub mod StoredTerms
 pub mod Entering
 pub mod Leaving
 pub mod Walks

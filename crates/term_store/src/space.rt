@@ -46,33 +46,17 @@ impl StoreSpace {
 /// A reference is the place of a shape, and so two references are the same number exactly where their terms are equal. A
 /// mark is how many shapes were held. A name is the number of a symbol; it keeps the symbols that came before it, too.
 impl TermSpace for StoreSpace {
+    ghost use Rattle.term_store.specs.StoredTerms.{stored_terms, stored_fit};
+
     type Ref = u32;
 
     type Mark = usize;
 
     type Name = u32;
 
-    ghost stands = { λ s r. nat_lt r (stored.count s) };
+    ghost space = { stored_terms };
 
-    ghost term_of = { λ s r. stored.term_of s r };
-
-    ghost is_valid = { λ s m. nat_le m (stored.count s) };
-
-    ghost covers = { λ m r. nat_lt r m };
-
-    ghost covers_mark = { λ m n. nat_le n m };
-
-    ghost knows = { λ s n. nat_lt n s.named };
-
-    ghost symbol_of = { λ s n. stored.symbol_at s n };
-
-    // Each symbol has a number of its own.
-    ghost number_of = { λ n. n };
-
-    #[tactic(auto, using(crate::proofs::LawsOfSpace::reading))]
-    fn fits(&self, at: &u32) {
-        let _ = self.shape_at(*at);
-    }
+    ghost fits = { stored_fit };
 
     #[tactic(auto, using(crate::proofs::LawsOfSpace::reading))]
     fn shape<'a>(&'a self, at: &'a u32) -> Shape<'a, u32> {
@@ -264,8 +248,8 @@ impl TermSpace for StoreSpace {
         requires head { MayHave head parts.items }
         requires parts { All (λ r. IsTrue (nat_lt r (stored.count self.old))) parts.items }
         requires annos { All (λ r. IsTrue (nat_lt r (stored.count self.old))) annos.items }
-        ensures keeps { Keeps ⟦<StoreSpace as TermSpace>⟧.stands ⟦<StoreSpace as TermSpace>⟧.term_of ⟦<StoreSpace as TermSpace>⟧.is_valid ⟦<StoreSpace as TermSpace>⟧.knows ⟦<StoreSpace as TermSpace>⟧.symbol_of self.old self.new }
-        ensures made { IfOk result (Makes ⟦<StoreSpace as TermSpace>⟧.stands ⟦<StoreSpace as TermSpace>⟧.term_of self.new (term head (map (stored.term_of self.old) parts.items) (map (stored.term_of self.old) annos.items))) }
+        ensures keeps { Keeps ⟦<StoreSpace as TermSpace>⟧.space self.old self.new }
+        ensures made { IfOk result (Makes ⟦<StoreSpace as TermSpace>⟧.space self.new (term head (map (stored.term_of self.old) parts.items) (map (stored.term_of self.old) annos.items))) }
     {
         let _ = alloc;
         let head = self.stored_head(&head)?;

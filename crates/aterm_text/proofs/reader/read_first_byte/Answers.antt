@@ -12,11 +12,11 @@ use Rattle.aterm_text.proofs.reader.read_first_byte.Goals as goal
 
 pub apply-requires-clause-at : goal.apply-requires-clause-at
 apply-requires-clause-at g c =
-    let w = g.S.TermSpace in
+    let w = g.S.TermSpace.space in
     let at = c.requires.at in
     record {
       brackets = at.brackets;
-      keeping = keeping_kept w.stands w.term_of w.is_valid w.knows w.symbol_of c.read_plain.ensures.keeps c.args.reader.now at.brackets [] at.keeping;
+      keeping = keeping_kept w c.read_plain.ensures.keeps c.args.reader.now at.brackets [] at.keeping;
       outcome = at.outcome ∙ c.in_ok-name.ensures.read at.brackets;
       within = c.in_ok-name.ensures.within;
     }
@@ -39,37 +39,37 @@ read_number-requires g c =
 
 pub apply-requires-in-34-clause-at : goal.apply-requires-in-34-clause-at
 apply-requires-in-34-clause-at g c =
-    let w = g.S.TermSpace in
+    let w = g.S.TermSpace.space in
     let at = c.requires.at in
     let here : first at.brackets (slice_index c.args.text.now c.args.index) ≡ InText [] at.brackets = ap (first at.brackets) c.in-34.is in
     record {
       brackets = at.brackets;
-      keeping = keeping_kept w.stands w.term_of w.is_valid w.knows w.symbol_of c.read_quoted.ensures.keeps c.args.reader.now at.brackets [] at.keeping;
+      keeping = keeping_kept w c.read_quoted.ensures.keeps c.args.reader.now at.brackets [] at.keeping;
       outcome = at.outcome ∙ ap (λ a. outcome_from c.args.text.now a (c.args.index + 1)) here ∙ c.in_ok-name-in-34.ensures.read at.brackets;
       within = c.in_ok-name-in-34.ensures.within;
     }
 
 pub returns-in_ok-open-in-40-clause-reached : goal.returns-in_ok-open-in-40-clause-reached
 returns-in_ok-open-in-40-clause-reached g c =
-    let w = g.S.TermSpace in
+    let w = g.S.TermSpace.space in
     let at = c.requires.at in
     let here : first at.brackets (slice_index c.args.text.now c.args.index) ≡ Fresh (opened (Applied Tuple)) at.brackets = ap (first at.brackets) c.in-40.is in
-    let kept = keeping_kept w.stands w.term_of w.is_valid w.knows w.symbol_of c.name_spelled.ensures.keeps c.args.reader.now at.brackets [] at.keeping in
+    let kept = keeping_kept w c.name_spelled.ensures.keeps c.args.reader.now at.brackets [] at.keeping in
     record {
       state = Fresh (opened (Applied Tuple)) at.brackets;
-      is = at_first refl (opens w.stands w.term_of w.knows w.symbol_of c.name_spelled.new.self c.args.reader.now c.open.new.reader at.brackets [] _ (Applied Tuple) kept refl (c.in_ok-name-in-40.ensures.known, c.in_ok-name-in-40.ensures.symbol) c.in_ok-open-in-40.ensures);
+      is = at_first refl (opens w c.name_spelled.new.self c.args.reader.now c.open.new.reader at.brackets [] _ (Applied Tuple) kept refl (c.in_ok-name-in-40.ensures.known, c.in_ok-name-in-40.ensures.symbol) c.in_ok-open-in-40.ensures);
       outcome = at.outcome ∙ ap (λ a. outcome_from c.args.text.now a (c.args.index + 1)) here;
       within = omega (arith, c.requires.within);
     }
 
 pub returns-in_ok-open-in-91-clause-reached : goal.returns-in_ok-open-in-91-clause-reached
 returns-in_ok-open-in-91-clause-reached g c =
-    let w = g.S.TermSpace in
+    let w = g.S.TermSpace.space in
     let at = c.requires.at in
     let here : first at.brackets (slice_index c.args.text.now c.args.index) ≡ Fresh (opened Elements) at.brackets = ap (first at.brackets) c.in-91.is in
     record {
       state = Fresh (opened Elements) at.brackets;
-      is = at_first refl (opens w.stands w.term_of w.knows w.symbol_of c.args.space.now c.args.reader.now c.open-in-91.new.reader at.brackets [] _ Elements at.keeping refl tt c.in_ok-open-in-91.ensures);
+      is = at_first refl (opens w c.args.space.now c.args.reader.now c.open-in-91.new.reader at.brackets [] _ Elements at.keeping refl tt c.in_ok-open-in-91.ensures);
       outcome = at.outcome ∙ ap (λ a. outcome_from c.args.text.now a (c.args.index + 1)) here;
       within = omega (arith, c.requires.within);
     }

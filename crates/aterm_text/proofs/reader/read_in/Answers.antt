@@ -1,14 +1,15 @@
 use Rattle.std.proofs.Common.{arith}
-use Rattle.aterm_text.proofs.StepLaws.{keeps_all, keeps_then, starts, blanks_after}
+use Rattle.aterm_text.proofs.StepLaws.{starts, blanks_after}
+use Rattle.term_model.proofs.SpaceLaws.{keeps_same, keeps_then}
 use Rattle.aterm_text.proofs.reader.read_in.Goals as goal
 
 pub loop-index-init : goal.loop-index-init
 loop-index-init g c =
-    let w = g.S.TermSpace in
+    let w = g.S.TermSpace.space in
     let e = c.blanks_end-index.ensures in
     record {
-      keeps = keeps_all;
-      reached = starts w.stands w.term_of w.knows w.symbol_of c.args.space.now c.args.text.now c.new-reader.result c.blanks_end-index.result c.new-reader.ensures.opened c.new-reader.ensures.terms c.new-reader.ensures.fits e.high e.within;
+      keeps = keeps_same _ _;
+      reached = starts w c.args.space.now c.args.text.now c.new-reader.result c.blanks_end-index.result c.new-reader.ensures.opened c.new-reader.ensures.terms c.new-reader.ensures.fits e.high e.within;
       mark = e.stop;
     }
 
@@ -17,10 +18,10 @@ loop-index-smaller g c = omega (arith, c.loop-index-test.true, c.in_ok-then.ensu
 
 pub loop-index-preserved : goal.loop-index-preserved
 loop-index-preserved g c =
-    let w = g.S.TermSpace in
+    let w = g.S.TermSpace.space in
     let e = c.blanks_end-index-in-loop-index.ensures in
     record {
       keeps = keeps_then c.loop-index.invariant.keeps c.step.ensures.keeps;
-      reached = blanks_after w.stands w.term_of w.knows w.symbol_of c.step.new.space c.args.text.now c.step.new.reader c.in_ok-then.then c.in_ok-then.end c.blanks_end-index-in-loop-index.result c.in_ok-then.ensures.reached e.low e.high e.within;
+      reached = blanks_after w c.step.new.space c.args.text.now c.step.new.reader c.in_ok-then.then c.in_ok-then.end c.blanks_end-index-in-loop-index.result c.in_ok-then.ensures.reached e.low e.high e.within;
       mark = e.stop;
     }

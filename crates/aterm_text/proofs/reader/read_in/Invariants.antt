@@ -7,10 +7,10 @@ use Rattle.aterm_text.proofs.reader.read_in.Given as goal
 
 abbrev pub invariant-loop-index : goal.invariant-loop-index
 invariant-loop-index g l =
-    let w = g.S.TermSpace in
+    let w = g.S.TermSpace.space in
     record {
-      keeps : Keeps w.stands w.term_of w.is_valid w.knows w.symbol_of l.fn.space l.space;
-      reached : Reached w.stands w.term_of w.knows w.symbol_of l.space l.text l.reader l.next l.index;
+      keeps : Keeps w l.fn.space l.space;
+      reached : Reached w l.space l.text l.reader l.next l.index;
       mark : l.index < length l.text → is_blank (slice_index l.text l.index) ≡ false;
     }
 

@@ -6,7 +6,7 @@ use Rattle.aterm_text.proofs.writer.+write.Goals as goal
 
 pub push_all-loop-term-init : goal.push_all-loop-term-init
 push_all-loop-term-init g t c =
-    let s = g.S.TermSpace in
+    let s = g.S.TermSpace.space in
     let tree = s.term_of c.args.space.now in
     let rest = c.next.new.self in
     let steps = sym c.walk-left.ensures ∙ c.in-Some.ensures.steps in
@@ -19,7 +19,7 @@ push_all-loop-term-init g t c =
 
 pub push_all-loop-term-preserved : goal.push_all-loop-term-preserved
 push_all-loop-term-preserved g t c =
-    let s = g.S.TermSpace in
+    let s = g.S.TermSpace.space in
     let tree = s.term_of c.args.space.now in
     let rest = c.next-in-loop-term.new.self in
     let steps = c.in-Some-term.ensures.steps in
@@ -37,7 +37,7 @@ push_all-returns-in_err-push_term-2-clause-kept g t c = extends_on c.loop-term.i
 
 pub push_all-push_term-requires-in-loop-term : goal.push_all-push_term-requires-in-loop-term
 push_all-push_term-requires-in-loop-term g t c κs within =
-    let s = g.S.TermSpace in
+    let s = g.S.TermSpace.space in
     let tree = s.term_of c.args.space.now in
     let steps = c.in-Some-term.ensures.steps in
     let was = c.loop-term.invariant in

@@ -2,4 +2,4 @@ use Rattle.std.proofs.Common.{IsTrue}
 use Rattle.space_tests.proofs.growth.take_steps.Given as goal
 
 abbrev pub invariant-loop-value : goal.invariant-loop-value
-invariant-loop-value g l = IsTrue (g.S.TermSpace.stands l.space l.older)
+invariant-loop-value g l = IsTrue (g.S.TermSpace.space.stands l.space l.older)

@@ -15,6 +15,6 @@ returns-in_err-term-clause-read g c =
 pub returns-clause-read : goal.returns-clause-read
 returns-clause-read g c =
     let strict = c.args.is_strict in
-    let term = g.S.TermSpace.term_of c.noted_term.new.space c.in_ok-term.term in
+    let term = g.S.TermSpace.space.term_of c.noted_term.new.space c.in_ok-term.term in
     let declared = subst (λ (ds : List Declared). IsTermRead strict ds c.deref.result.now (Ok term)) c.signature.ensures.signature c.in_ok-term.ensures.read in
     subst (λ (text : List ℕ). IsTermRead strict c.args.checked.declarations text (Ok term)) c.deref.ensures.value declared

@@ -9,29 +9,29 @@ use Rattle.strat_machine.proofs.building.build_all.Goals as goal
 
 pub returns-in-All-clause-built : goal.returns-in-All-clause-built
 returns-in-All-clause-built g c =
-    let s = g.S.TermSpace in
+    let s = g.S.TermSpace.space in
     let w = c.args.space.now in
-    arguments_put s.stands s.term_of c.push_all.new.space (place_at c.args.frames.now c.args.here) (map (option_map (s.term_of w)) c.args.slots.now) (map (loaded_of (s.symbol_of w)) c.args.patterns.now) c.args.stack.now.items c.push_all.new.stack.items c.in_ok-made.made c.in-All.is c.in_ok-made.ensures.built
+    arguments_put s c.push_all.new.space (place_at c.args.frames.now c.args.here) (map (option_map (s.term_of w)) c.args.slots.now) (map (loaded_of (s.symbol_of w)) c.args.patterns.now) c.args.stack.now.items c.push_all.new.stack.items c.in_ok-made.made c.in-All.is c.in_ok-made.ensures.built
 
 pub returns-in-NoInstance-clause-built : goal.returns-in-NoInstance-clause-built
 returns-in-NoInstance-clause-built g c =
-    let s = g.S.TermSpace in
+    let s = g.S.TermSpace.space in
     let w = c.args.space.now in
     let built = c.in_ok-made.ensures.built in
-    puts_nothing_at s.stands c.push_all.new.space c.args.stack.now.items _ (c.truncate.ensures.items ∙ kept_is built c.len-from.result (c.len-from.ensures ∙ c.args.stack.now.ok.0)) _
-    (no_arguments s.stands s.term_of c.push_all.new.space (place_at c.args.frames.now c.args.here) (map (option_map (s.term_of w)) c.args.slots.now) (map (loaded_of (s.symbol_of w)) c.args.patterns.now) c.args.stack.now.items c.push_all.new.stack.items c.in_ok-made.made built.put c.in-NoInstance.is built.are)
+    puts_nothing_at s c.push_all.new.space c.args.stack.now.items _ (c.truncate.ensures.items ∙ kept_is built c.len-from.result (c.len-from.ensures ∙ c.args.stack.now.ok.0)) _
+    (no_arguments s c.push_all.new.space (place_at c.args.frames.now c.args.here) (map (option_map (s.term_of w)) c.args.slots.now) (map (loaded_of (s.symbol_of w)) c.args.patterns.now) c.args.stack.now.items c.push_all.new.stack.items c.in_ok-made.made built.put c.in-NoInstance.is built.are)
 
 pub returns-in-Oversize-clause-built : goal.returns-in-Oversize-clause-built
 returns-in-Oversize-clause-built g c =
-    let s = g.S.TermSpace in
+    let s = g.S.TermSpace.space in
     let w = c.args.space.now in
     let built = c.in_ok-made.ensures.built in
-    puts_nothing_at s.stands c.push_all.new.space c.args.stack.now.items _ (c.truncate-in-Oversize.ensures.items ∙ kept_is built c.len-from.result (c.len-from.ensures ∙ c.args.stack.now.ok.0)) _
-    (large_arguments s.stands s.term_of c.push_all.new.space (place_at c.args.frames.now c.args.here) (map (option_map (s.term_of w)) c.args.slots.now) (map (loaded_of (s.symbol_of w)) c.args.patterns.now) c.args.stack.now.items c.push_all.new.stack.items c.in_ok-made.made built.put c.in-Oversize.is built.are)
+    puts_nothing_at s c.push_all.new.space c.args.stack.now.items _ (c.truncate-in-Oversize.ensures.items ∙ kept_is built c.len-from.result (c.len-from.ensures ∙ c.args.stack.now.ok.0)) _
+    (large_arguments s c.push_all.new.space (place_at c.args.frames.now c.args.here) (map (option_map (s.term_of w)) c.args.slots.now) (map (loaded_of (s.symbol_of w)) c.args.patterns.now) c.args.stack.now.items c.push_all.new.stack.items c.in_ok-made.made built.put c.in-Oversize.is built.are)
 
 pub returns-then-is_empty-clause-built : goal.returns-then-is_empty-clause-built
 returns-then-is_empty-clause-built g c =
-    let s = g.S.TermSpace in
+    let s = g.S.TermSpace.space in
     let w = c.args.space.now in
     let none : length c.args.patterns.now ≡ 0 = (unsigned_Decides (length c.args.patterns.now) 0).0 (sym c.is_empty.ensures ∙ c.if-is_empty.true) in
-    nothing_put s.stands s.term_of w (place_at c.args.frames.now c.args.here) (map (option_map (s.term_of w)) c.args.slots.now) (loaded_of (s.symbol_of w)) c.args.patterns.now c.args.stack.now.items none
+    nothing_put s w (place_at c.args.frames.now c.args.here) (map (option_map (s.term_of w)) c.args.slots.now) (loaded_of (s.symbol_of w)) c.args.patterns.now c.args.stack.now.items none

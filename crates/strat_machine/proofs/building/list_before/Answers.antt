@@ -5,7 +5,7 @@ use Rattle.strat_machine.proofs.building.list_before.Goals as goal
 
 pub returns-in_ok-tail-in-Some : goal.returns-in_ok-tail-in-Some
 returns-in_ok-tail-in-Some g c =
-    let s = g.S.TermSpace in
+    let s = g.S.TermSpace.space in
     let w = c.args.space.now in
     let same = c.in_ok-tail-in-Some.ensures.term in
     let is_list = c.in-Some.ensures.head in

@@ -15,5 +15,5 @@ returns-clause-state g c =
     let more = c.in_ok-extend.ensures in
     same_run refl c.len-inner.ensures
     (ap (λ v. v.slots) more ∙ (ap (λ v. v.slots ++ replicate c.args.callee.room None) filled ∙ append_assoc m.places.slots (map (λ r. Some r) (drop c.args.from c.args.terms.now.items)) (replicate c.args.callee.room None)))
-    (c.in_ok-push_call.ensures.pushed ∙ (ap (λ b. F ++ frame b c.frames_up-up.result (closed F c.args.frame us) ∷ []) c.len-base.ensures ∙ ap (λ u. F ++ frame (length m.places.slots) u (closed F c.args.frame us) ∷ []) c.frames_up-up.ensures))
-    (ap (λ v. v.trail) more ∙ ap (λ v. v.trail) filled) (ap (λ v. v.barrier) more ∙ ap (λ v. v.barrier) filled) (ap (λ rs. records_in rs m.records.done m.records.left) c.in_ok-push.ensures.pushed)
+    (c.in_ok-push_call.ensures.pushed ∙ (ap (λ b. F ++ frame b c.frames_up-up.result (closed F c.args.position.now.frame us) ∷ []) c.len-base.ensures ∙ ap (λ u. F ++ frame (length m.places.slots) u (closed F c.args.position.now.frame us) ∷ []) c.frames_up-up.ensures))
+    (ap (λ v. v.trail) more ∙ ap (λ v. v.trail) filled) (ap (λ v. v.barrier) more ∙ ap (λ v. v.barrier) filled) (ap (λ rs. records_in rs m.records.done m.records.left) c.in_ok-push_call-2.ensures)

@@ -8,7 +8,7 @@ use Rattle.strat_machine.proofs.first_parts.first_parts.Goals as goal
 
 pub loop-part-preserved : goal.loop-part-preserved
 loop-part-preserved g t =
-    let s = g.S.TermSpace in
+    let s = g.S.TermSpace.space in
     let tree = s.term_of t.args.space.now in
     let held = t.loop-part.parts.items in
     let rest = t.next.new.self in

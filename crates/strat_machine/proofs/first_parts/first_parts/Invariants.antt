@@ -5,7 +5,7 @@ use Rattle.strat_machine.proofs.first_parts.first_parts.Given as goal
 
 abbrev pub invariant-loop-part : goal.invariant-loop-part
 invariant-loop-part g l =
-    let s = g.S.TermSpace in
+    let s = g.S.TermSpace.space in
     let tree = s.term_of l.space in record {
       are : map tree l.parts.items ++ map tree l.part-iterator ≡ parts_of (tree l.at);
       standing : AllRefs (λ r. IsTrue (s.stands l.space r)) l.parts.items;

@@ -2,13 +2,13 @@ use Rattle.std.proofs.Common.{rules, ◌≡◌, pos, get_or, ◌∙◌, ap, map}
 use Rattle.std.specs.Prelude.{IsTrue}
 use Rattle.term_model.specs.Term.{trees_of}
 use Rattle.prim_registry.proofs.FlatLaws.{integer_term, integer_terms, one_more_integer, taken}
-use Rattle.strat_machine.proofs.SpaceLaws.{keeps_then}
+use Rattle.term_model.proofs.SpaceLaws.{keeps_then}
 use Rattle.strat_machine.proofs.ReferenceFlats.{standing_later, terms_later, standing_push, terms_push}
 use Rattle.strat_machine.proofs.flat_values.make_integers.Goals as goal
 
 pub loop-number-preserved : goal.loop-number-preserved
 loop-number-preserved g c =
-    let s = g.S.TermSpace in
+    let s = g.S.TermSpace.space in
     let so_far = c.loop-number.invariant in
     let keeps = c.in_ok-int.ensures.keeps in
     let old = c.loop-number.made.items in

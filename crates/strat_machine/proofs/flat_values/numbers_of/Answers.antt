@@ -5,14 +5,14 @@ use Rattle.strat_machine.proofs.flat_values.numbers_of.Goals as goal
 
 pub returns-in-None : goal.returns-in-None
 returns-in-None g c =
-    let f = g.S.TermSpace.term_of c.args.space.now in
+    let f = g.S.TermSpace.space.term_of c.args.space.now in
     let i = c.loop-term.term-index in
     sym (integers_none (map f c.args.terms.now) i c.loop-term.values.items c.loop-term.invariant (f c.term-item.result) (map_below f c.args.terms.now i c.loop-term-test.true)
     (map_read f c.args.terms.now i c.term-item.result c.loop-term-test.true c.term-item.is) (no_integer (f c.term-item.result) c.in-None.ensures))
 
 pub loop-term-preserved : goal.loop-term-preserved
 loop-term-preserved g c =
-    let f = g.S.TermSpace.term_of c.args.space.now in
+    let f = g.S.TermSpace.space.term_of c.args.space.now in
     let i = c.loop-term.term-index in
     let pushed : c.push.new.self.items ≡ c.loop-term.values.items ++ c.in-Some.value ∷ [] = search rules in
     integers_next (map f c.args.terms.now) i c.loop-term.values.items c.loop-term.invariant (f c.term-item.result) (map_below f c.args.terms.now i c.loop-term-test.true)

@@ -2,7 +2,7 @@ use Rattle.std.proofs.Common.{◌-◌, length, drop, refl, rules}
 use Rattle.std.proofs.Math.Dec.{ltb}
 use Rattle.std.proofs.lemmas.List.Sorted.{IsNonDecreasingBy-drop, IsNonDecreasingBy-take, IsPartitionPoint-from_clause, IsPartitionedBy-ltb}
 use Rattle.std.proofs.lemmas.List.{take_rest}
-use Rattle.strat_machine.specs.Operands.{case_has}
+use Rattle.strat_machine.specs.Tables.{case_has}
 use Rattle.strat_machine.proofs.IndexLaws.{first_from, same_list}
 use Rattle.strat_machine.proofs.index.first_in.Goals as goal
 
@@ -14,7 +14,7 @@ first_of-requires-clause-rising g c =
 
 pub returns : goal.returns
 returns g c =
-    let s = g.S.TermSpace in
+    let s = g.S.TermSpace.space in
     let parted = IsPartitionedBy-ltb (λ x. x) c.args.list.now c.args.skipped c.requires.rising in
     let point = IsPartitionPoint-from_clause (λ x. ltb x c.args.skipped) _ _ c.partition_point-start.ensures.partitioned parted (λ a r q k. search rules) in
     first_from (case_has (s.symbol_of c.args.space.now) (s.term_of c.args.space.now c.args.term.now)) c.args.cases.now c.args.list.now c.args.skipped c.partition_point-start.result c.args.limit c.first_of.result c.partition_point-start.ensures.bound point (same_list (take_rest c.args.list.now c.partition_point-start.result) refl c.first_of.ensures)

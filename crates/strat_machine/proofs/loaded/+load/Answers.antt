@@ -1,5 +1,5 @@
 use Rattle.std.proofs.Common.{◌∙◌}
-use Rattle.strat_machine.proofs.SpaceLaws.{keeps_then, none_then}
+use Rattle.term_model.proofs.SpaceLaws.{keeps_then, none_then}
 use Rattle.strat_machine.proofs.LoadedLaws.{applied_is_loaded, list_is_loaded, annotated_is_loaded, is_loaded_later, are_loaded_later, one_more_loaded}
 use Rattle.strat_machine.proofs.loaded.+load.Goals as goal
 

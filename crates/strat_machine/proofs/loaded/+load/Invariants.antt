@@ -6,5 +6,5 @@ use Rattle.strat_machine.proofs.loaded.+load.Given as goal
 
 abbrev pub invariant-load_patterns-loop-p : goal.invariant-load_patterns-loop-p
 invariant-load_patterns-loop-p g l =
-    let s = g.S.TermSpace in
-    Keeps s.stands s.term_of s.is_valid s.knows s.symbol_of l.initial.space l.space × MakesNone s.stands s.is_valid l.initial.space l.space × AreLoaded (s.knows l.space) (s.symbol_of l.space) l.loaded.items (map pattern_of (take l.p-index l.patterns))
+    let s = g.S.TermSpace.space in
+    Keeps s l.initial.space l.space × MakesNone s l.initial.space l.space × AreLoaded (s.knows l.space) (s.symbol_of l.space) l.loaded.items (map pattern_of (take l.p-index l.patterns))

@@ -1,24 +1,23 @@
 use Rattle.std.proofs.Common.{◌+◌, ◌*◌, ◌<◌, refl, arith}
 use Rattle.prim_registry.specs.Registered.{meaning_of}
 use Rattle.strat_code.specs.CodeOf.{code_of}
-use Rattle.strat_machine.specs.SpaceOf.{space_of}
-use Rattle.strat_machine.proofs.OperandLaws.{loaded_code_later}
+use Rattle.strat_machine.proofs.ActionLaws.{program_later}
 use Rattle.strat_machine.proofs.RunningLaws.{started, way_holds, way_counted, way_kept, way_on, in_time}
 use Rattle.strat_machine.proofs.partial.run_part.Goals as goal
 
 pub loop-alloc-init : goal.loop-alloc-init
 loop-alloc-init g c =
-    let s = g.S.TermSpace in
-    started (space_of s.stands s.term_of s.is_valid s.covers s.covers_mark) s.knows s.symbol_of (code_of c.args.code.now.tables c.args.code.now.instrs) (meaning_of g.M.PrimMeaning.answer c.args.registry.now) c.args.space.now c.args.term c.args.budget c.args.stacks.now c.requires.clear
+    let s = g.S.TermSpace.space in
+    started s (code_of c.args.code.now.tables c.args.code.now.instrs) (meaning_of g.M.PrimMeaning.answer c.args.registry.now) c.args.space.now c.args.term c.args.budget c.args.stacks.now c.requires.clear
 
-pub take_step-requires-clause-holds : goal.take_step-requires-clause-holds
-take_step-requires-clause-holds g c = way_holds c.loop-alloc.invariant c.requires.stands
+pub step-requires-clause-holds : goal.step-requires-clause-holds
+step-requires-clause-holds g c = way_holds c.loop-alloc.invariant c.requires.stands
 
-pub take_step-requires-clause-counted : goal.take_step-requires-clause-counted
-take_step-requires-clause-counted g c = way_counted c.loop-alloc.invariant c.requires.stands
+pub step-requires-clause-counted : goal.step-requires-clause-counted
+step-requires-clause-counted g c = way_counted c.loop-alloc.invariant c.requires.stands
 
-pub take_step-requires-clause-loaded : goal.take_step-requires-clause-loaded
-take_step-requires-clause-loaded g c = let names = c.loop-alloc.invariant.names in loaded_code_later names.known names.symbols c.requires.loaded
+pub step-requires-clause-loaded : goal.step-requires-clause-loaded
+step-requires-clause-loaded g c = let names = c.loop-alloc.invariant.names in program_later names.known names.symbols _ c.requires.loaded
 
 pub overflow_add-steps : goal.overflow_add-steps
 overflow_add-steps g c =
@@ -32,7 +31,7 @@ loop-alloc-smaller g c =
     omega arith
 
 pub loop-alloc-preserved : goal.loop-alloc-preserved
-loop-alloc-preserved g c = way_on c.loop-alloc.invariant c.in_ok-phase.ensures.step c.in_ok-phase.ensures.names
+loop-alloc-preserved g c = way_on c.loop-alloc.invariant c.in_ok-after.ensures.step c.in_ok-after.ensures.names
 
 pub returns-then-steps-count-clause-holds : goal.returns-then-steps-count-clause-holds
 returns-then-steps-count-clause-holds g c = way_holds c.loop-alloc.invariant c.requires.stands

@@ -9,7 +9,7 @@ use Rattle.strat_machine.proofs.primitives.call.Goals as goal
 
 pub call_at-requires-clause-arity : goal.call_at-requires-clause-arity
 call_at-requires-clause-arity g c =
-    let f = g.S.TermSpace.term_of c.args.space.now in
+    let f = g.S.TermSpace.space.term_of c.args.space.now in
     let values = c.in-Some.values.items in
     let is : Some (values_of values) ≡ all_flat (trees_of (map f c.args.terms.now)) = ap (option_map (λ flats. values_of flats.items)) (sym c.in-Some.is) ∙ c.in_ok-values.ensures in
     c.requires.arity ∙ (sym (length-map c.args.terms.now f) ∙ (sym (as_many_flat (map f c.args.terms.now) (values_of values) is) ∙ (length-map values value_of ∙ sym (ap length c.deref.ensures.value))))

@@ -8,36 +8,36 @@ use Rattle.prim_registry.specs.Registered.{meaning_of}
 use Rattle.strat_code.specs.Code.{apply_primitive}
 use Rattle.strat_steps.specs.State.{place_at}
 use Rattle.strat_machine.specs.Loaded.{loaded_of, all_loaded_of}
-use Rattle.strat_machine.specs.Operands.{IsPosition}
-use Rattle.strat_machine.proofs.SpaceLaws.{keeps_then}
+use Rattle.strat_machine.specs.Tables.{IsPosition}
+use Rattle.term_model.proofs.SpaceLaws.{keeps_then}
 use Rattle.strat_machine.proofs.BuildingLaws.{slice_is}
 use Rattle.strat_machine.proofs.PrimitiveLaws.{as_many_put, takes_them, answers_none_so, answers_large_so, answers_so, answers_nothing_so, answers_too_large_so, goes_on_so}
 use Rattle.strat_machine.proofs.primitives.perform_primitive.Goals as goal
 
 pub answer-requires-clause-position : goal.answer-requires-clause-position
 answer-requires-clause-position g c =
-    let s = g.S.TermSpace in
+    let s = g.S.TermSpace.space in
     let xs = c.deref.result.now in
     let from = c.len-from.result in
-    takes_them (entries_of c.args.registry.now) c.args.position
-    (as_many_put s.stands s.term_of c.build_all.new.space (place_at c.args.stacks.now.frames c.args.frame) (map (option_map (s.term_of c.args.space.now)) c.slots-slots.result.now) (loaded_of (s.symbol_of c.args.space.now)) c.args.patterns.now
-    c.args.stack.now.items c.build_all.new.stack.items c.in_ok-made.made from (take (length xs - from) (drop from xs)) c.in_ok-made.ensures.built c.in-All.is (c.len-from.ensures ∙ c.args.stack.now.ok.0)
-    (slice_is from xs c.build_all.new.stack.items c.deref.ensures.value)) c.requires.position
+    takes_them (entries_of c.args.registry.now) c.args.index
+    (as_many_put s c.build_all.new.space (place_at c.args.stacks.now.frames c.args.position.now.frame) (map (option_map (s.term_of c.args.space.now)) c.slots-slots.result.now) (loaded_of (s.symbol_of c.args.space.now)) c.args.patterns.now
+    c.args.stack.now.items c.build_all.new.stack.items c.in_ok-build_all.field-0 from (take (length xs - from) (drop from xs)) c.in_ok-build_all.ensures.built c.in-All.is (c.len-from.ensures ∙ c.args.stack.now.ok.0)
+    (slice_is from xs c.build_all.new.stack.items c.deref.ensures.value)) c.requires.index
 
 pub returns-in-NoInstance-clause-step : goal.returns-in-NoInstance-clause-step
 returns-in-NoInstance-clause-step g c = λ f n i position at.
-    answers_none_so _ _ n f c.args.frame (all_loaded_of (g.S.TermSpace.symbol_of c.args.space.now) c.args.patterns.now) c.args.stacks.now.frames c.in_ok-made.ensures.keeps c.slots-slots.ensures c.in_ok-made.ensures.built c.in-NoInstance.is
+    answers_none_so n f c.args.position.now.frame (all_loaded_of (g.S.TermSpace.space.symbol_of c.args.space.now) c.args.patterns.now) c.args.stacks.now.frames c.in_ok-build_all.ensures.keeps c.slots-slots.ensures c.in_ok-build_all.ensures.built c.in-NoInstance.is
 
 pub returns-in-Oversize-clause-step : goal.returns-in-Oversize-clause-step
 returns-in-Oversize-clause-step g c = λ f n i position at.
-    answers_large_so _ _ n f c.args.frame (all_loaded_of (g.S.TermSpace.symbol_of c.args.space.now) c.args.patterns.now) c.args.stacks.now.frames c.in_ok-made.ensures.keeps c.slots-slots.ensures c.in_ok-made.ensures.built c.in-Oversize.is
+    answers_large_so n f c.args.position.now.frame (all_loaded_of (g.S.TermSpace.space.symbol_of c.args.space.now) c.args.patterns.now) c.args.stacks.now.frames c.in_ok-build_all.ensures.keeps c.slots-slots.ensures c.in_ok-build_all.ensures.built c.in-Oversize.is
 
 pub returns-in_ok-answered-in-All-clause-keeps : goal.returns-in_ok-answered-in-All-clause-keeps
-returns-in_ok-answered-in-All-clause-keeps g c = keeps_then c.in_ok-made.ensures.keeps c.in_ok-answered-in-All.ensures.keeps
+returns-in_ok-answered-in-All-clause-keeps g c = keeps_then c.in_ok-build_all.ensures.keeps c.in_ok-answered-in-All.ensures.keeps
 
 pub returns-in_ok-answered-in-All-clause-step : goal.returns-in_ok-answered-in-All-clause-step
 returns-in_ok-answered-in-All-clause-step g c = λ f n i position at.
-    let s = g.S.TermSpace in
+    let s = g.S.TermSpace.space in
     let xs = c.deref.result.now in
     let from = c.len-from.result in
     let rs = take (length xs - from) (drop from xs) in
@@ -46,14 +46,14 @@ returns-in_ok-answered-in-All-clause-step g c = λ f n i position at.
     let answer = meaning_of g.M.PrimMeaning.answer c.args.registry.now in
     let ps = all_loaded_of (s.symbol_of c.args.space.now) c.args.patterns.now in
     let frames = c.args.stacks.now.frames in
-    let put = c.in_ok-made.ensures.built in
-    let keeps = c.in_ok-made.ensures.keeps in
+    let put = c.in_ok-build_all.ensures.built in
+    let keeps = c.in_ok-build_all.ensures.keeps in
     let later = c.in_ok-answered-in-All.ensures.keeps in
-    let many = as_many_put s.stands s.term_of c.build_all.new.space (place_at frames c.args.frame) (map (option_map (s.term_of c.args.space.now)) c.slots-slots.result.now) (loaded_of (s.symbol_of c.args.space.now)) c.args.patterns.now
-    c.args.stack.now.items c.build_all.new.stack.items c.in_ok-made.made from rs put c.in-All.is start slice in
-    let built = c.in_ok-answered-in-All.ensures.answer f (subst (λ k. IsPosition (entries_of c.args.registry.now) c.args.position (f, k)) many position) in
-    goes_on_so s.stands s.term_of s.is_valid s.covers s.covers_mark answer c.args.space.now c.answer.new.space (apply_primitive n f ps) i c.args.frame c.args.next c.args.term c.args.stacks.now
-    (option_map flat.term_of (option_and_then (answer f) (all_flat (trees_of (map (s.term_of c.build_all.new.space) rs))))) c.goes_on.result c.in_ok-answered-in-All.answered c.goes_on.ensures built
-    (λ u h. answers_so s.covers s.covers_mark n f c.args.frame ps frames keeps c.slots-slots.ensures put c.answer.new.space from rs c.in-All.is start slice later h at)
-    (λ h. answers_nothing_so s.covers s.covers_mark n f c.args.frame ps frames keeps c.slots-slots.ensures put c.answer.new.space from rs c.in-All.is start slice later h)
-    (λ h. answers_too_large_so s.covers s.covers_mark n f c.args.frame ps frames keeps c.slots-slots.ensures put c.answer.new.space from rs c.in-All.is start slice later h)
+    let many = as_many_put s c.build_all.new.space (place_at frames c.args.position.now.frame) (map (option_map (s.term_of c.args.space.now)) c.slots-slots.result.now) (loaded_of (s.symbol_of c.args.space.now)) c.args.patterns.now
+    c.args.stack.now.items c.build_all.new.stack.items c.in_ok-build_all.field-0 from rs put c.in-All.is start slice in
+    let built = c.in_ok-answered-in-All.ensures.answer f (subst (λ k. IsPosition (entries_of c.args.registry.now) c.args.index (f, k)) many position) in
+    goes_on_so s answer c.args.space.now c.answer.new.space (apply_primitive n f ps) i c.args.position.now c.go_on.new.position c.args.stacks.now
+    (option_map flat.term_of (option_and_then (answer f) (all_flat (trees_of (map (s.term_of c.build_all.new.space) rs))))) c.go_on.result c.in_ok-answered-in-All.answered c.go_on.ensures.next c.go_on.ensures.position built
+    (λ u h. answers_so n f c.args.position.now.frame ps frames keeps c.slots-slots.ensures put c.answer.new.space from rs c.in-All.is start slice later h at)
+    (λ h. answers_nothing_so n f c.args.position.now.frame ps frames keeps c.slots-slots.ensures put c.answer.new.space from rs c.in-All.is start slice later h)
+    (λ h. answers_too_large_so n f c.args.position.now.frame ps frames keeps c.slots-slots.ensures put c.answer.new.space from rs c.in-All.is start slice later h)

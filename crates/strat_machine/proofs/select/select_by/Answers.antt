@@ -1,8 +1,8 @@
 use Rattle.std.proofs.Common.{◌≡◌, ◌+◌, ◌-◌, ℕ, length, refl, arith}
 use Rattle.std.proofs.lemmas.List.{take_rest}
 use Rattle.std.proofs.lemmas.Option.{slice_get_read}
+use Rattle.std.proofs.lemmas.Result.{IfOk-weaker}
 use Rattle.strat_machine.specs.Indexing.{nodes_before}
-use Rattle.strat_machine.specs.SpaceOf.{space_of}
 use Rattle.strat_machine.proofs.IndexLaws.{sums_within, sum_read, nodes_rise}
 use Rattle.strat_machine.proofs.SelectingLaws.{known_rest, walks_rest, passes_all, comes_to_case}
 use Rattle.strat_machine.proofs.select.select_by.Goals as goal
@@ -23,17 +23,17 @@ overflow_sub-nodes g c =
     omega (arith, to, from, rise)
 
 pub walk_cases-requires-clause-known : goal.walk_cases-requires-clause-known
-walk_cases-requires-clause-known g c = known_rest (g.S.TermSpace.knows c.args.space.now) c.args.cases.now _ c.args.skipped (take_rest c.args.cases.now c.args.skipped) c.requires.known
+walk_cases-requires-clause-known g c = known_rest (g.S.TermSpace.space.knows c.args.space.now) c.args.cases.now _ c.args.skipped (take_rest c.args.cases.now c.args.skipped) c.requires.known
 
 pub returns-then-stacks-nodes : goal.returns-then-stacks-nodes
-returns-then-stacks-nodes g c = λ M n i.
-    let s = g.S.TermSpace in
-    walks_rest (space_of s.stands s.term_of s.is_valid s.covers s.covers_mark) (s.symbol_of c.args.space.now) c.args.space.now c.args.last c.args.frame c.args.term c.args.cases.now c.args.stacks.now M n i c.args.skipped _ c.in_ok-phase.phase c.walk_cases.new.stacks
-    (take_rest c.args.cases.now c.args.skipped) (c.in_ok-phase.ensures M n i)
+returns-then-stacks-nodes g c =
+    let s = g.S.TermSpace.space in
+    IfOk-weaker c.walk_cases.result _ _ (λ next h M n i. walks_rest s (s.symbol_of c.args.space.now) c.args.space.now c.args.last c.args.position.now c.args.cases.now c.args.stacks.now M n i c.args.skipped _ next c.walk_cases.new.position c.walk_cases.new.stacks
+    (take_rest c.args.cases.now c.args.skipped) (h M n i)) c.walk_cases.ensures
 
 pub returns-in-None : goal.returns-in-None
 returns-in-None g c = λ M n i.
-    let s = g.S.TermSpace in
+    let s = g.S.TermSpace.space in
     let cases = c.args.cases.now in
     let found = c.find_case-found.result in
     let to : c.index.result.now ≡ nodes_before cases found = sum_read cases found c.requires.index.sums c.find_case-found.ensures.within c.index.ensures in
@@ -41,11 +41,11 @@ returns-in-None g c = λ M n i.
     let rise = nodes_rise cases c.args.skipped found c.find_case-found.ensures.from in
     let cost : ℕ = c.index.result.now - c.index-2.result.now in
     let is : cost + nodes_before cases c.args.skipped ≡ nodes_before cases found = omega (arith, to, from, rise) in
-    passes_all (space_of s.stands s.term_of s.is_valid s.covers s.covers_mark) (s.symbol_of c.args.space.now) c.args.space.now c.args.last c.args.frame c.args.term cases c.args.stacks.now c.args.skipped found cost c.find_case-found.ensures is c.if-stacks-nodes.false M n i c.in-None.ensures.lookup.3
+    passes_all s (s.symbol_of c.args.space.now) c.args.space.now c.args.last c.args.position.now cases c.args.stacks.now c.args.skipped found cost c.find_case-found.ensures is c.if-stacks-nodes.false M n i c.in-None.ensures.lookup.3
 
-pub returns-in_ok-phase-in-Some : goal.returns-in_ok-phase-in-Some
-returns-in_ok-phase-in-Some g c = λ M n i.
-    let s = g.S.TermSpace in
+pub returns-in_ok-put_choice-in-Some : goal.returns-in_ok-put_choice-in-Some
+returns-in_ok-put_choice-in-Some g c = λ M n i.
+    let s = g.S.TermSpace.space in
     let cases = c.args.cases.now in
     let found = c.find_case-found.result in
     let to : c.index.result.now ≡ nodes_before cases found = sum_read cases found c.requires.index.sums c.find_case-found.ensures.within c.index.ensures in
@@ -53,5 +53,5 @@ returns-in_ok-phase-in-Some g c = λ M n i.
     let rise = nodes_rise cases c.args.skipped found c.find_case-found.ensures.from in
     let cost : ℕ = c.index.result.now - c.index-2.result.now in
     let is : cost + nodes_before cases c.args.skipped ≡ nodes_before cases found = omega (arith, to, from, rise) in
-    comes_to_case (space_of s.stands s.term_of s.is_valid s.covers s.covers_mark) (s.symbol_of c.args.space.now) c.args.space.now c.args.last c.args.frame c.args.term cases c.args.stacks.now c.args.skipped found cost c.find_case-found.ensures is c.if-stacks-nodes.false c.in-Some.case.now
-    (slice_get_read cases (length cases) found c.in-Some.case.now refl c.in-Some.ensures.lookup.3.0 c.in-Some.ensures.lookup.1) M n i c.in_ok-phase-in-Some.phase c.put_choice.new.stacks c.in_ok-phase-in-Some.ensures
+    comes_to_case s (s.symbol_of c.args.space.now) c.args.space.now c.args.last c.args.position.now cases c.args.stacks.now c.args.skipped found cost c.find_case-found.ensures is c.if-stacks-nodes.false c.in-Some.case.now
+    (slice_get_read cases (length cases) found c.in-Some.case.now refl c.in-Some.ensures.lookup.3.0 c.in-Some.ensures.lookup.1) M n i c.put_choice.new.stacks c.in_ok-put_choice-in-Some.ensures

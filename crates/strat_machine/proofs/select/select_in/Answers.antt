@@ -1,22 +1,22 @@
 use Rattle.std.proofs.Common.{◌≡◌, ◌∙◌, ◌≤◌, length, drop, ap, arith}
 use Rattle.std.proofs.lemmas.List.{take_rest}
-use Rattle.strat_machine.specs.SpaceOf.{space_of}
+use Rattle.std.proofs.lemmas.Result.{IfOk-weaker}
 use Rattle.strat_machine.proofs.SelectingLaws.{known_rest, nothing_left, walks_rest}
 use Rattle.strat_machine.proofs.select.select_in.Goals as goal
 
 pub returns-then-skipped-cases : goal.returns-then-skipped-cases
 returns-then-skipped-cases g c = λ M n i.
-    let s = g.S.TermSpace in
+    let s = g.S.TermSpace.space in
     let long : length c.as_slice-cases.result.now ≡ length c.args.table.now.cases.items = ap length c.as_slice-cases.ensures.value in
     let past : length c.args.table.now.cases.items ≤ c.args.skipped = omega (arith, long, c.if-skipped-cases.true) in
-    nothing_left (space_of s.stands s.term_of s.is_valid s.covers s.covers_mark) (s.symbol_of c.args.space.now) c.args.space.now c.args.last c.args.frame c.args.term c.args.table.now.cases.items c.args.stacks.now M n i c.args.skipped past
+    nothing_left s (s.symbol_of c.args.space.now) c.args.space.now c.args.last c.args.position.now c.args.table.now.cases.items c.args.stacks.now M n i c.args.skipped past
 
 pub walk_cases-requires-clause-known : goal.walk_cases-requires-clause-known
 walk_cases-requires-clause-known g c =
-    known_rest (g.S.TermSpace.knows c.args.space.now) c.args.table.now.cases.items _ c.args.skipped (take_rest c.as_slice-cases.result.now c.args.skipped ∙ ap (drop c.args.skipped) c.as_slice-cases.ensures.value) c.requires.known.cases
+    known_rest (g.S.TermSpace.space.knows c.args.space.now) c.args.table.now.cases.items _ c.args.skipped (take_rest c.as_slice-cases.result.now c.args.skipped ∙ ap (drop c.args.skipped) c.as_slice-cases.ensures.value) c.requires.known.cases
 
-pub returns-in_default : goal.returns-in_default
-returns-in_default g c = λ M n i.
-    let s = g.S.TermSpace in
-    walks_rest (space_of s.stands s.term_of s.is_valid s.covers s.covers_mark) (s.symbol_of c.args.space.now) c.args.space.now c.args.last c.args.frame c.args.term c.args.table.now.cases.items c.args.stacks.now M n i c.args.skipped _ c.in_ok-phase.phase c.walk_cases.new.stacks
-    (take_rest c.as_slice-cases.result.now c.args.skipped ∙ ap (drop c.args.skipped) c.as_slice-cases.ensures.value) (c.in_ok-phase.ensures M n i)
+pub returns-in-None : goal.returns-in-None
+returns-in-None g c =
+    let s = g.S.TermSpace.space in
+    IfOk-weaker c.walk_cases.result _ _ (λ next h M n i. walks_rest s (s.symbol_of c.args.space.now) c.args.space.now c.args.last c.args.position.now c.args.table.now.cases.items c.args.stacks.now M n i c.args.skipped _ next c.walk_cases.new.position c.walk_cases.new.stacks
+    (take_rest c.as_slice-cases.result.now c.args.skipped ∙ ap (drop c.args.skipped) c.as_slice-cases.ensures.value) (h M n i)) c.walk_cases.ensures

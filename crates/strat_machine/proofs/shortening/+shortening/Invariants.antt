@@ -8,4 +8,4 @@ abbrev pub decreases-shorten_all : goal.decreases-shorten_all
 decreases-shorten_all g l = 2 * l.depth
 
 abbrev pub invariant-shorten_all-loop-part : goal.invariant-shorten_all-loop-part
-invariant-shorten_all-loop-part g l = All (λ r. IsTrue (g.S.TermSpace.stands l.space r)) l.part-iterator
+invariant-shorten_all-loop-part g l = All (λ r. IsTrue (g.S.TermSpace.space.stands l.space r)) l.part-iterator

@@ -4,18 +4,18 @@ use Rattle.strat_machine.proofs.StepLaws.{does_to, same_run, no_frame, some_fram
 use Rattle.strat_machine.proofs.steps.leave_definition.Goals as goal
 
 pub returns-in_default : goal.returns-in_default
-returns-in_default g c = λ M w. ends_no_definition c.in_default.ensures
+returns-in_default g c = λ M w i. ends_no_definition c.in_default.ensures
 
 pub returns-in_default-base_of : goal.returns-in_default-base_of
-returns-in_default-base_of g c = λ M w. after_call c.in-Some.ensures (ends_without_frame (no_frame _ c.in_default-base_of.ensures))
+returns-in_default-base_of g c = λ M w i. after_call c.in-Some.ensures (ends_without_frame (no_frame _ c.in_default-base_of.ensures))
 
 pub returns-then-base-barrier : goal.returns-then-base-barrier
-returns-then-base-barrier g c = λ M w.
+returns-then-base-barrier g c = λ M w i.
     let k = c.barrier.ensures in let l = c.if-base-barrier.true in
     after_call c.in-Some.ensures (ends_definition_low (some_frame _ _ _ c.in-Some-base_of.ensures).1 (omega arith))
 
 pub returns : goal.returns
-returns g c = λ M w.
+returns g c = λ M w i.
     let k = c.barrier.ensures in let l = c.if-base-barrier.false in
     let places = c.cut.ensures in
     after_call c.in-Some.ensures (

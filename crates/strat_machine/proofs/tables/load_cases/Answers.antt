@@ -1,5 +1,5 @@
-use Rattle.strat_machine.proofs.SpaceLaws.{keeps_then, none_then}
-use Rattle.strat_machine.proofs.OperandLaws.{cases_later, one_more_case}
+use Rattle.term_model.proofs.SpaceLaws.{keeps_then, none_then}
+use Rattle.strat_machine.proofs.TableLaws.{cases_later, one_more_case}
 use Rattle.strat_machine.proofs.tables.load_cases.Goals as goal
 
 pub loop-case-preserved : goal.loop-case-preserved

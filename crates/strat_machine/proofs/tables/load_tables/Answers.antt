@@ -1,5 +1,5 @@
-use Rattle.strat_machine.proofs.SpaceLaws.{keeps_then, none_then}
-use Rattle.strat_machine.proofs.OperandLaws.{tables_kept, one_more_table}
+use Rattle.term_model.proofs.SpaceLaws.{keeps_then, none_then}
+use Rattle.strat_machine.proofs.TableLaws.{tables_kept, one_more_table}
 use Rattle.strat_machine.proofs.tables.load_tables.Goals as goal
 
 pub loop-table-preserved : goal.loop-table-preserved

@@ -7,5 +7,5 @@ returns-in_default g c =
 
 pub returns : goal.returns
 returns g c =
-    let tries = c.in_ok-phase.ensures in
+    let tries = c.in_ok-try_one.ensures in
     one_goes c.args.stacks.now.records _ c.in-Some.ensures.kept c.args.traversed _ c.in-Some.part c.one_less.ensures c.in-Some.ensures.part.0 c.in-Some.ensures.part.1 _ _ _ _ _ _ tries.saved tries.mark _ tries.saves tries.marks tries.leads

@@ -1,14 +1,15 @@
-use Rattle.std.proofs.Common.{refl}
-use Rattle.strat_machine.proofs.TraversalLaws.{parts_open, refs_of_all}
+use Rattle.std.proofs.Common.{◌++◌, ap}
+use Rattle.std.proofs.lemmas.Result.{IfOk-weaker}
+use Rattle.strat_machine.specs.Traversing.{OpensParts}
+use Rattle.strat_machine.specs.declared.records.Records.{Records}
+use Rattle.strat_machine.proofs.TraversalLaws.{refs_of_all}
 use Rattle.strat_machine.proofs.traversals.open_parts.Goals as goal
 
 pub returns : goal.returns
-returns g c =
-    let puts = c.in_ok-count.ensures in
-    record {
-      parts = puts.parts;
-      after = parts_open _ _ puts.parts _ _ puts.after puts.count refl c.in_ok-_moved.ensures.cut c.in_ok-_moved.ensures.moved;
-      count = puts.count;
-      standing = refs_of_all _ _ puts.standing;
-      are = puts.are;
-    }
+returns g c = IfOk-weaker c.push_parts_of.result _ _ (λ n puts. record {
+  parts = puts.parts;
+  after = ap (λ us. record c.args.records.now { left = us }) puts.after;
+  count = puts.count;
+  standing = refs_of_all _ _ puts.standing;
+  are = puts.are;
+}) c.push_parts_of.ensures

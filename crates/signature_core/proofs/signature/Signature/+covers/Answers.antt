@@ -6,7 +6,7 @@ use Rattle.signature_core.proofs.signature.Signature.+covers.Goals as goal
 
 pub covers_all-covers-requires : goal.covers_all-covers-requires
 covers_all-covers-requires g t c κs within =
-    let s = g.S.TermSpace in
+    let s = g.S.TermSpace.space in
     let steps = c.in-Some.ensures.steps in
     let was = c.loop-term.invariant in
     let first : _ = depth_first (s.term_of c.args.space.now) c.loop-term.term-iterator c.next.new.self c.in-Some.term.now steps in
@@ -15,7 +15,7 @@ covers_all-covers-requires g t c κs within =
 
 pub covers_all-loop-term-preserved : goal.covers_all-loop-term-preserved
 covers_all-loop-term-preserved g t c =
-    let s = g.S.TermSpace in
+    let s = g.S.TermSpace.space in
     let tree = s.term_of c.args.space.now in
     let steps = c.in-Some.ensures.steps in
     let was = c.loop-term.invariant in
