@@ -1,5 +1,5 @@
 -- The parts of a term on a stack.
-use Rattle.std.specs.Prelude.{◌≡◌, ℕ, IsTrue, List, ◌++◌, length, map, reverse, All}
+use Rattle.std.specs.Prelude.{◌≡◌, ℕ, IsTrue, List, ◌++◌, length, map, All}
 use Rattle.term_model.specs.Space.{Space}
 use Rattle.term_model.specs.Term.{parts_of}
 

@@ -19,7 +19,8 @@ pub(crate) fn anno<S: TermSpace>(space: &S, at: &S::Ref, index: usize) -> Result
     requires stands { IsTrue (S.space.stands space.now at.now) }
     requires within { index < length (annos_of (S.space.term_of space.now at.now)) }
     ensures stands { IfOk result (λ r. IsTrue (S.space.stands space.now r)) }
-    ensures term { IfOk result (λ r. slice_get (annos_of (S.space.term_of space.now at.now)) index ≡ Some (S.space.term_of space.now r)) }
+    ensures term { IfOk result (λ r. slice_get (annos_of (S.space.term_of space.now at.now)) index ≡
+        Some (S.space.term_of space.now r)) }
 {
     match space.shape(at).annos.get(index) {
         Some(reference) => {
@@ -39,7 +40,9 @@ pub(crate) fn bare<S: TermSpace>(
     requires { IsTrue (S.space.stands space.old at.now) }
     ensures keeps { Keeps S.space space.old space.new }
     ensures stands { IfOk result (λ r. IsTrue (S.space.stands space.new r)) }
-    ensures term { IfOk result (λ r. S.space.term_of space.new r ≡ term (head_of (S.space.term_of space.old at.now)) (parts_of (S.space.term_of space.old at.now)) []) }
+    ensures term { IfOk result (λ r. S.space.term_of space.new r ≡
+        term (head_of (S.space.term_of space.old at.now))
+        (parts_of (S.space.term_of space.old at.now)) []) }
 {
     if anno_count(space, at) == 0 {
         let same = space.dup(at)?;

@@ -1,19 +1,19 @@
 // What a build makes of a pattern, over references.
-ghost use Rattle.std.specs.Prelude.{◌≡◌, IfOk, IsTrue, MatchOption, Option, Some, None, [], ◌≤◌, is_some, length, map, drop};
+ghost use Rattle.std.specs.Prelude.{◌≡◌, IfOk, IsTrue, Option, Some, [], ◌≤◌, is_some, length, map, drop};
 ghost use Rattle.std.specs.Option.{option_map};
-ghost use Rattle.core_lang.specs.Building.{element_instances, elements_of, instance, instances, made_like, made_with, value_in};
+ghost use Rattle.core_lang.specs.Building.{element_instances, elements_of, instance, instances, made_like, made_with};
 ghost use Rattle.core_lang.specs.Views.{elements_in};
 ghost use Rattle.term_model.specs.Space.{Keeps};
 ghost use Rattle.term_model.specs.Term.{Trees, end};
-ghost use Rattle.strat_machine.specs.Builds.{held_in, joined_elements, instances_then, Builds, IsKept, AreBuilt, AreArguments, AreElements, Puts};
+ghost use Rattle.strat_machine.specs.Builds.{joined_elements, instances_then, Builds, IsKept, AreBuilt, AreArguments, AreElements, Puts};
 ghost use Rattle.strat_machine.specs.Loaded.{Known, AllKnown, RestKnown, all_loaded_of, loaded_of, rest_loaded_of};
 ghost use Rattle.strat_steps.specs.References.{AllPlaces, AllRefs};
 ghost use Rattle.strat_steps.specs.State.{place_at};
 
 use crate::frames::Frames;
 use crate::loaded::LoadedPattern;
+use crate::lookup::value;
 use crate::making::{annotated, apply, list, with_built};
-use core_lang::Coordinate;
 use std::alloc::{AllocError, Global};
 use term_model::TermSpace;
 
@@ -52,36 +52,6 @@ pub(crate) enum Elements<R> {
     Oversize,
 }
 
-/// What a variable has; the space is that of the references.
-pub(crate) fn value<'a, S: TermSpace>(
-    space: &S,
-    frames: &Frames,
-    here: usize,
-    variable: Coordinate,
-    slots: &'a [Option<S::Ref>],
-) -> Option<&'a S::Ref>
-    requires { AllPlaces (λ r. IsTrue (S.space.stands space.now r)) slots.now }
-    ensures { MatchOption result (value_in (place_at frames.now here variable) (map (option_map (S.space.term_of space.now)) slots.now) ≡ None) (λ r. IsTrue (S.space.stands space.now r.now) × (value_in (place_at frames.now here variable) (map (option_map (S.space.term_of space.now)) slots.now) ≡ Some (S.space.term_of space.now r.now))) }
-{
-    let _ = space;
-    held(frames, here, variable, slots)
-}
-
-fn held<'a, R>(
-    frames: &Frames,
-    here: usize,
-    variable: Coordinate,
-    slots: &'a [Option<R>],
-) -> Option<&'a R>
-    ensures { MatchOption result (held_in (place_at frames.now here variable) slots.now ≡ None) (λ r. held_in (place_at frames.now here variable) slots.now ≡ Some r.now) }
-{
-    let place = frames.place_of(here, variable, slots.len())?;
-    match &slots[place] {
-        Some(reference) => Some(reference),
-        None => None,
-    }
-}
-
 /// Makes the instance of the pattern.
 #[cycle(building)]
 pub(crate) fn build<S: TermSpace>(
@@ -97,7 +67,9 @@ pub(crate) fn build<S: TermSpace>(
     requires slots { AllPlaces (λ r. IsTrue (S.space.stands space.old r)) slots.now }
     ensures keeps { Keeps S.space space.old space.new }
     ensures stack { IfOk result (λ _. stack.new.items ≡ stack.old.items) }
-    ensures built { IfOk result (Builds S.space space.new (instance (place_at frames.now here) (loaded_of (S.space.symbol_of space.old) pattern.now) (map (option_map (S.space.term_of space.old)) slots.now))) }
+    ensures built { IfOk result (Builds S.space space.new
+        (instance (place_at frames.now here) (loaded_of (S.space.symbol_of space.old) pattern.now)
+        (map (option_map (S.space.term_of space.old)) slots.now))) }
 {
     match pattern {
         LoadedPattern::Anything => Ok(Built::NoInstance),
@@ -163,7 +135,11 @@ fn make_like<S: TermSpace>(
     requires like { IsTrue (S.space.stands space.old like.now) }
     ensures keeps { Keeps S.space space.old space.new }
     ensures stack { IfOk result (λ _. stack.new.items ≡ stack.old.items) }
-    ensures built { IfOk result (Builds S.space space.new (made_like (instance (place_at frames.now here) (loaded_of (S.space.symbol_of space.old) pattern.now) (map (option_map (S.space.term_of space.old)) slots.now)) (Some (S.space.term_of space.old like.now)))) }
+    ensures built { IfOk result (Builds S.space space.new
+        (made_like (instance (place_at frames.now here)
+        (loaded_of (S.space.symbol_of space.old) pattern.now)
+        (map (option_map (S.space.term_of space.old)) slots.now))
+        (Some (S.space.term_of space.old like.now)))) }
 {
     let from = stack.len();
     space.push_annos(like, stack)?;
@@ -199,10 +175,15 @@ fn make_with<S: TermSpace>(
     requires known { Known (S.space.knows space.old) pattern.now }
     requires slots { AllPlaces (λ r. IsTrue (S.space.stands space.old r)) slots.now }
     requires from { from ≤ length stack.old.items }
-    requires standing { AllRefs (λ r. IsTrue (S.space.stands space.old r)) (drop from stack.old.items) }
+    requires standing { AllRefs (λ r. IsTrue (S.space.stands space.old r))
+        (drop from stack.old.items) }
     ensures keeps { Keeps S.space space.old space.new }
     ensures stack { IfOk result (λ _. stack.new.items ≡ stack.old.items) }
-    ensures built { IfOk result (λ made. (all : Option Trees → Option Trees) → AreBuilt S.space.term_of space.old all (drop from stack.old.items) pushed → Builds S.space space.new (made_with (instance (place_at frames.now here) (loaded_of (S.space.symbol_of space.old) pattern.now) (map (option_map (S.space.term_of space.old)) slots.now)) (all (Some end))) made) }
+    ensures built { IfOk result (λ made. (all : Option Trees → Option Trees) →
+        AreBuilt S.space.term_of space.old all (drop from stack.old.items) pushed →
+        Builds S.space space.new (made_with
+        (instance (place_at frames.now here) (loaded_of (S.space.symbol_of space.old) pattern.now)
+        (map (option_map (S.space.term_of space.old)) slots.now)) (all (Some end))) made) }
 {
     match pattern {
         LoadedPattern::Anything => Ok(Built::NoInstance),
@@ -262,7 +243,10 @@ fn have_instances<S: TermSpace>(
     requires slots { AllPlaces (λ r. IsTrue (S.space.stands space.old r)) slots.now }
     ensures keeps { Keeps S.space space.old space.new }
     ensures stack { IfOk result (λ _. stack.new.items ≡ stack.old.items) }
-    ensures all { IfOk result (λ yes. yes ≡ is_some (instances (place_at frames.now here) (all_loaded_of (S.space.symbol_of space.old) patterns.now) (map (option_map (S.space.term_of space.old)) slots.now))) }
+    ensures all { IfOk result (λ yes. yes ≡
+        is_some (instances (place_at frames.now here)
+        (all_loaded_of (S.space.symbol_of space.old) patterns.now)
+        (map (option_map (S.space.term_of space.old)) slots.now))) }
 {
     let from = stack.len();
     let pushed = push_all(space, alloc, frames, here, slots, patterns, stack)?;
@@ -288,7 +272,12 @@ fn push_rest<S: TermSpace>(
     requires known { RestKnown (S.space.knows space.old) rest.now }
     requires slots { AllPlaces (λ r. IsTrue (S.space.stands space.old r)) slots.now }
     ensures keeps { Keeps S.space space.old space.new }
-    ensures elements { IfOk result (λ made. Puts S.space space.new stack.old.items stack.new.items (λ rs. AreElements S.space space.new (element_instances (place_at frames.now here) (elements_in [] (rest_loaded_of (S.space.symbol_of space.old) rest.now)) (map (option_map (S.space.term_of space.old)) slots.now)) rs made)) }
+    ensures elements { IfOk result (λ made.
+        Puts S.space space.new stack.old.items stack.new.items
+        (λ rs. AreElements S.space space.new
+        (element_instances (place_at frames.now here)
+        (elements_in [] (rest_loaded_of (S.space.symbol_of space.old) rest.now))
+        (map (option_map (S.space.term_of space.old)) slots.now)) rs made)) }
 {
     match rest {
         None => Ok(Elements::All),
@@ -313,7 +302,12 @@ fn push_tail<S: TermSpace>(
     requires known { Known (S.space.knows space.old) pattern.now }
     requires slots { AllPlaces (λ r. IsTrue (S.space.stands space.old r)) slots.now }
     ensures keeps { Keeps S.space space.old space.new }
-    ensures elements { IfOk result (λ made. Puts S.space space.new stack.old.items stack.new.items (λ rs. AreElements S.space space.new (elements_of (instance (place_at frames.now here) (loaded_of (S.space.symbol_of space.old) pattern.now) (map (option_map (S.space.term_of space.old)) slots.now))) rs made)) }
+    ensures elements { IfOk result (λ made.
+        Puts S.space space.new stack.old.items stack.new.items
+        (λ rs. AreElements S.space space.new
+        (elements_of (instance (place_at frames.now here)
+        (loaded_of (S.space.symbol_of space.old) pattern.now)
+        (map (option_map (S.space.term_of space.old)) slots.now))) rs made)) }
 {
     match pattern {
         LoadedPattern::Variable(x) => {
@@ -364,7 +358,11 @@ pub(crate) fn build_all<S: TermSpace>(
     requires known { AllKnown (S.space.knows space.old) patterns.now }
     requires slots { AllPlaces (λ r. IsTrue (S.space.stands space.old r)) slots.now }
     ensures keeps { Keeps S.space space.old space.new }
-    ensures built { IfOk result (λ made. Puts S.space space.new stack.old.items stack.new.items (λ rs. AreArguments S.space.term_of space.new (instances (place_at frames.now here) (all_loaded_of (S.space.symbol_of space.old) patterns.now) (map (option_map (S.space.term_of space.old)) slots.now)) rs made)) }
+    ensures built { IfOk result (λ made. Puts S.space space.new stack.old.items stack.new.items
+        (λ rs. AreArguments S.space.term_of space.new
+        (instances (place_at frames.now here)
+        (all_loaded_of (S.space.symbol_of space.old) patterns.now)
+        (map (option_map (S.space.term_of space.old)) slots.now)) rs made)) }
 {
     if patterns.is_empty() {
         return Ok(Pushed::All);
@@ -399,7 +397,11 @@ fn push_all<S: TermSpace>(
     requires known { AllKnown (S.space.knows space.old) patterns.now }
     requires slots { AllPlaces (λ r. IsTrue (S.space.stands space.old r)) slots.now }
     ensures keeps { Keeps S.space space.old space.new }
-    ensures built { IfOk result (λ made. Puts S.space space.new stack.old.items stack.new.items (λ rs. AreBuilt S.space.term_of space.new (instances_then (place_at frames.now here) (map (option_map (S.space.term_of space.old)) slots.now) (map (loaded_of (S.space.symbol_of space.old)) patterns.now)) rs made)) }
+    ensures built { IfOk result (λ made. Puts S.space space.new stack.old.items stack.new.items
+        (λ rs. AreBuilt S.space.term_of space.new
+        (instances_then (place_at frames.now here)
+        (map (option_map (S.space.term_of space.old)) slots.now)
+        (map (loaded_of (S.space.symbol_of space.old)) patterns.now)) rs made)) }
 {
     let mut fit = true;
     for p in patterns {
@@ -430,7 +432,9 @@ fn build_part<S: TermSpace>(
     requires slots { AllPlaces (λ r. IsTrue (S.space.stands space.old r)) slots.now }
     ensures keeps { Keeps S.space space.old space.new }
     ensures stack { IfOk result (λ _. stack.new.items ≡ stack.old.items) }
-    ensures built { IfOk result (Builds S.space space.new (instance (place_at frames.now here) (loaded_of (S.space.symbol_of space.old) pattern.now) (map (option_map (S.space.term_of space.old)) slots.now))) }
+    ensures built { IfOk result (Builds S.space space.new
+        (instance (place_at frames.now here) (loaded_of (S.space.symbol_of space.old) pattern.now)
+        (map (option_map (S.space.term_of space.old)) slots.now))) }
 {
     let LoadedPattern::Variable(x) = pattern else {
         let built = build(space, alloc, frames, here, slots, pattern, stack)?;
@@ -474,7 +478,8 @@ fn joined<R: Drop>(firsts: Pushed, others: Elements<R>) -> Elements<R>
 /// The list of the reference, if it is one, for further elements in front of its own.
 fn list_before<S: TermSpace>(space: &S, at: &S::Ref) -> Result<Elements<S::Ref>, AllocError>
     requires { IsTrue (S.space.stands space.now at.now) }
-    ensures { IfOk result (AreElements S.space space.now (elements_of (Some (S.space.term_of space.now at.now))) []) }
+    ensures { IfOk result (AreElements S.space space.now
+        (elements_of (Some (S.space.term_of space.now at.now))) []) }
 {
     match space.list_len(at) {
         None => Ok(Elements::NoInstance),

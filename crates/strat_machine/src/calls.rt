@@ -30,7 +30,8 @@ pub(crate) fn enter_definition<S: TermSpace>(
     position: &mut Position<S::Ref>,
 ) -> Result<(), AllocError>
     ensures state { OnOk result (state_of Running position.new stacks.new ≡
-        entered stacks.old callee.frames callee.entry callee.room callee.next_address position.old.frame
+        entered stacks.old callee.frames callee.entry callee.room callee.next_address
+        position.old.frame
         (map argument_of arguments.now) (drop from terms.old.items) position.old.term) }
     ensures terms { OnOk result (terms.new.items ≡ take from terms.old.items) }
 {

@@ -4,7 +4,7 @@ ghost use Rattle.strat_machine.specs.declared.compact_records.CompactTraversed.{
 ghost use Rattle.strat_machine.specs.CompactRecords.{HasNoCall, HasNoChoice, HasNoAll, HasChoice, AdvancesAll, traversed_in};
 
 use crate::records::{Record, Saved, Traversed};
-use crate::stack::Stack;
+use crate::stack::{Stack, push_on};
 use std::alloc::{AllocError, Global};
 use std::marker::Model;
 
@@ -117,7 +117,7 @@ impl<R: Drop, M: Drop> CompactRecords<R, M> {
     pub(crate) fn push_all(&mut self, traversed: Traversed<R>) -> Result<(), AllocError>
         ensures { OnOk result (self.new ≡ Record.All traversed ∷ self.old) }
     {
-        self.traversed.push(compact_traversed(traversed)?)?;
+        push_on(&mut self.traversed, compact_traversed(traversed)?)?;
         self.records.push(CompactRecord::All)?;
         Ok(())
     }
@@ -133,7 +133,7 @@ impl<R: Drop, M: Drop> CompactRecords<R, M> {
         ensures { OnOk result (self.new ≡ Record.One traversed part saved mark ∷ self.old) }
     {
         self.checkpoints.push(Checkpoint { saved, mark })?;
-        self.traversed.push(compact_traversed(traversed)?)?;
+        push_on(&mut self.traversed, compact_traversed(traversed)?)?;
         self.records.push(CompactRecord::One { part })?;
         Ok(())
     }
@@ -150,14 +150,15 @@ impl<R: Drop, M: Drop> CompactRecords<R, M> {
         ensures { OnOk result (self.new ≡ Record.Some traversed part found saved mark ∷ self.old) }
     {
         self.checkpoints.push(Checkpoint { saved, mark })?;
-        self.traversed.push(compact_traversed(traversed)?)?;
+        push_on(&mut self.traversed, compact_traversed(traversed)?)?;
         self.records.push(CompactRecord::Some { part, found })?;
         Ok(())
     }
 
     /// Takes the newest record off, if it is of a call: its next address and its frame.
     pub(crate) fn pop_call(&mut self) -> Option<(usize, usize)>
-        ensures { MatchOption result ((self.new ≡ self.old) × HasNoCall self.old) (λ c. self.old ≡ Record.Call c.0 c.1 ∷ self.new) }
+        ensures { MatchOption result ((self.new ≡ self.old) × HasNoCall self.old)
+            (λ c. self.old ≡ Record.Call c.0 c.1 ∷ self.new) }
     {
         let CompactRecord::Call {
             next_address,
@@ -201,7 +202,8 @@ impl<R: Drop, M: Drop> CompactRecords<R, M> {
 
     /// Takes the newest record off, if it is of a choice.
     pub(crate) fn pop_choice(&mut self) -> Option<Choice<R, M>>
-        ensures { MatchOption result ((self.new ≡ self.old) × HasNoChoice self.old) (λ c. self.old ≡ Record.Choice c.otherwise c.term c.saved c.mark ∷ self.new) }
+        ensures { MatchOption result ((self.new ≡ self.old) × HasNoChoice self.old)
+            (λ c. self.old ≡ Record.Choice c.otherwise c.term c.saved c.mark ∷ self.new) }
     {
         let CompactRecord::Choice { .. } = self.records.newest_item()? else {
             return None;
@@ -232,7 +234,8 @@ impl<R: Drop, M: Drop> CompactRecords<R, M> {
 
     /// Takes the newest record off, if it is of all(s).
     pub(crate) fn pop_all(&mut self) -> Option<Traversed<R>>
-        ensures { MatchOption result ((self.new ≡ self.old) × HasNoAll self.old) (λ v. self.old ≡ Record.All v ∷ self.new) }
+        ensures { MatchOption result ((self.new ≡ self.old) × HasNoAll self.old)
+            (λ v. self.old ≡ Record.All v ∷ self.new) }
     {
         let CompactRecord::All = self.records.newest_item()? else {
             return None;
@@ -245,7 +248,8 @@ impl<R: Drop, M: Drop> CompactRecords<R, M> {
     /// Goes on with the next of the parts that are left, if the newest record is of all(s) and has one: the address of the code for a
     /// part, and the part.
     pub(crate) fn advance_all(&mut self, left: &mut Stack<R>) -> Option<(usize, R)>
-        ensures { MatchOption result ((self.new ≡ self.old) × (left.new ≡ left.old)) (λ p. AdvancesAll self.old left.old p.0 p.1 self.new left.new) }
+        ensures { MatchOption result ((self.new ≡ self.old) × (left.new ≡ left.old))
+            (λ p. AdvancesAll self.old left.old p.0 p.1 self.new left.new) }
     {
         let CompactRecord::All = self.records.newest_item()? else {
             return None;
@@ -323,7 +327,8 @@ impl<R: Drop, M: Drop> CompactRecords<R, M> {
 
 // The newest traversal has this many parts done and left.
 fn count_newest<R: Drop>(traversed: &mut Vec<CompactTraversed<R>>, done: u32, left: u32)
-    ensures { (v : CompactTraversed R) (rest : List (CompactTraversed R)) → reverse traversed.old.items ≡ v ∷ rest →
+    ensures { (v : CompactTraversed R) (rest : List (CompactTraversed R)) →
+        reverse traversed.old.items ≡ v ∷ rest →
         reverse traversed.new.items ≡ record v { done = done; left = left } ∷ rest }
 {
     let count = traversed.len();

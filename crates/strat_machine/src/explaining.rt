@@ -7,8 +7,8 @@ ghost use Rattle.strat_steps.specs.References.{AllPlaces};
 ghost use Rattle.strat_machine.specs.Running.{IsClear};
 ghost use Rattle.strat_machine.specs.Stacks.{state_of};
 
-use crate::building::value;
 use crate::frames::Frames;
+use crate::lookup::value;
 use crate::partial::{Notes, Progress, run_part};
 use crate::program::LoadedProgram;
 use crate::shortening::first_nodes;
@@ -77,7 +77,8 @@ pub(crate) fn account_of<S: TermSpace, M: PrimMeaning>(
     requires clear { IsClear stacks.old }
     requires stands { IsTrue (S.space.stands space.old term) }
     requires honest { IsHonest M.answer registry.now }
-    requires loaded { IsLoadedProgram (S.space.knows space.old) (S.space.symbol_of space.old) (entries_of registry.now)
+    requires loaded { IsLoadedProgram (S.space.knows space.old) (S.space.symbol_of space.old)
+        (entries_of registry.now)
         S.space.number_of program.now code.now.tables code.now.instrs }
 {
     let mut notes = Notes::new(alloc, code.len())?;
@@ -117,7 +118,8 @@ pub(crate) fn stand_after<S: TermSpace, M: PrimMeaning>(
     requires clear { IsClear stacks.old }
     requires stands { IsTrue (S.space.stands space.old term) }
     requires honest { IsHonest M.answer registry.now }
-    requires loaded { IsLoadedProgram (S.space.knows space.old) (S.space.symbol_of space.old) (entries_of registry.now)
+    requires loaded { IsLoadedProgram (S.space.knows space.old) (S.space.symbol_of space.old)
+        (entries_of registry.now)
         S.space.number_of program.now code.now.tables code.now.instrs }
 {
     let mut notes = Notes::new(alloc, 0)?;

@@ -4,7 +4,7 @@ ghost use Rattle.strat_steps.specs.Marks.{MarksCover};
 ghost use Rattle.term_model.specs.Space.{KeepsNames};
 ghost use Rattle.term_model.specs.Flat.{Meaning};
 ghost use Rattle.strat_code.specs.Code.{Code};
-ghost use Rattle.strat_machine.specs.CompactRecords.{HasNoChoice};
+ghost use Rattle.strat_machine.specs.CompactRecords.{HasNoCall, HasNoChoice};
 ghost use Rattle.strat_machine.specs.RecordStack.{records_of, with_record};
 ghost use Rattle.strat_machine.specs.Stacks.{FailsTo, IsSafe};
 ghost use Rattle.strat_machine.specs.declared.stacks.Next.TheVariants.{Running};
@@ -24,8 +24,12 @@ pub(crate) fn fail<S: TermSpace>(
 ) -> Result<Next, AllocError>
     requires { IsSafe S.space space.old stacks.old (records_of stacks.old.records) }
     ensures names { KeepsNames S.space space.old space.new }
-    ensures covered { (r : S.Ref) → MarksCover S.space r (records_of stacks.old.records) → IsTrue (S.space.stands space.old r) → IsTrue (S.space.stands space.new r) × (S.space.term_of space.new r ≡ S.space.term_of space.old r) }
-    ensures step { IfOk result (λ next. (code : Code) (M : Meaning) → FailsTo S.space code M space.old stacks.old (records_of stacks.old.records) space.new next position.new stacks.new) }
+    ensures covered { (r : S.Ref) → MarksCover S.space r (records_of stacks.old.records) →
+        IsTrue (S.space.stands space.old r) → IsTrue (S.space.stands space.new r) ×
+        (S.space.term_of space.new r ≡ S.space.term_of space.old r) }
+    ensures step { IfOk result (λ next. (code : Code) (M : Meaning) →
+        FailsTo S.space code M space.old stacks.old (records_of stacks.old.records) space.new next
+        position.new stacks.new) }
 {
     if stacks.records.records.is_choice() {
         return Ok(fail_newest_choice(space, stacks, position));
@@ -34,6 +38,26 @@ pub(crate) fn fail<S: TermSpace>(
         let _call = stacks.records.records.pop_call();
         return Ok(Next::Failing);
     }
+    fail_traversal(space, stacks, position)
+}
+
+// After a failure where the newest record is neither of a choice nor of a call.
+fn fail_traversal<S: TermSpace>(
+    space: &mut S,
+    stacks: &mut Stacks<S::Ref, S::Mark>,
+    position: &mut Position<S::Ref>,
+) -> Result<Next, AllocError>
+    requires safe { IsSafe S.space space.old stacks.old (records_of stacks.old.records) }
+    requires call { HasNoCall stacks.old.records.records }
+    requires choice { HasNoChoice stacks.old.records.records }
+    ensures names { KeepsNames S.space space.old space.new }
+    ensures covered { (r : S.Ref) → MarksCover S.space r (records_of stacks.old.records) →
+        IsTrue (S.space.stands space.old r) → IsTrue (S.space.stands space.new r) ×
+        (S.space.term_of space.new r ≡ S.space.term_of space.old r) }
+    ensures step { IfOk result (λ next. (code : Code) (M : Meaning) →
+        FailsTo S.space code M space.old stacks.old (records_of stacks.old.records) space.new next
+        position.new stacks.new) }
+{
     let Some(record) = stacks.records.records.pop() else {
         return Ok(Next::Failed);
     };
@@ -69,8 +93,12 @@ fn fail_newest_choice<S: TermSpace>(
     requires safe { IsSafe S.space space.old stacks.old (records_of stacks.old.records) }
     requires choice { HasNoChoice stacks.old.records.records → stacks.old.records.records ≡ [] }
     ensures names { KeepsNames S.space space.old space.new }
-    ensures covered { (r : S.Ref) → MarksCover S.space r (records_of stacks.old.records) → IsTrue (S.space.stands space.old r) → IsTrue (S.space.stands space.new r) × (S.space.term_of space.new r ≡ S.space.term_of space.old r) }
-    ensures step { (code : Code) (M : Meaning) → FailsTo S.space code M space.old stacks.old (records_of stacks.old.records) space.new result position.new stacks.new }
+    ensures covered { (r : S.Ref) → MarksCover S.space r (records_of stacks.old.records) →
+        IsTrue (S.space.stands space.old r) → IsTrue (S.space.stands space.new r) ×
+        (S.space.term_of space.new r ≡ S.space.term_of space.old r) }
+    ensures step { (code : Code) (M : Meaning) →
+        FailsTo S.space code M space.old stacks.old (records_of stacks.old.records) space.new result
+        position.new stacks.new }
 {
     let Some(choice) = stacks.records.records.pop_choice() else {
         return Next::Failed;
@@ -95,10 +123,17 @@ fn fail_choice<S: TermSpace>(
     mark: S::Mark,
     position: &mut Position<S::Ref>,
 )
-    requires { IsSafe S.space space.old stacks.old (with_record (Record.Choice otherwise term saved mark) stacks.old.records) }
+    requires { IsSafe S.space space.old stacks.old
+        (with_record (Record.Choice otherwise term saved mark) stacks.old.records) }
     ensures names { KeepsNames S.space space.old space.new }
-    ensures covered { (r : S.Ref) → MarksCover S.space r (with_record (Record.Choice otherwise term saved mark) stacks.old.records) → IsTrue (S.space.stands space.old r) → IsTrue (S.space.stands space.new r) × (S.space.term_of space.new r ≡ S.space.term_of space.old r) }
-    ensures step { (code : Code) (M : Meaning) → FailsTo S.space code M space.old stacks.old (with_record (Record.Choice otherwise term saved mark) stacks.old.records) space.new Running position.new stacks.new }
+    ensures covered { (r : S.Ref) → MarksCover S.space r
+        (with_record (Record.Choice otherwise term saved mark) stacks.old.records) →
+        IsTrue (S.space.stands space.old r) → IsTrue (S.space.stands space.new r) ×
+        (S.space.term_of space.new r ≡ S.space.term_of space.old r) }
+    ensures step { (code : Code) (M : Meaning) →
+        FailsTo S.space code M space.old stacks.old
+        (with_record (Record.Choice otherwise term saved mark) stacks.old.records) space.new Running
+        position.new stacks.new }
 {
     space.back_to(mark); // Gives back what the first alternative made.
     stacks.places.go_back(saved.height, saved.barrier);
@@ -118,10 +153,17 @@ fn fail_one<S: TermSpace>(
     mark: S::Mark,
     position: &mut Position<S::Ref>,
 ) -> Result<Next, AllocError>
-    requires { IsSafe S.space space.old stacks.old (with_record (Record.One traversed part saved mark) stacks.old.records) }
+    requires { IsSafe S.space space.old stacks.old
+        (with_record (Record.One traversed part saved mark) stacks.old.records) }
     ensures names { KeepsNames S.space space.old space.new }
-    ensures covered { (r : S.Ref) → MarksCover S.space r (with_record (Record.One traversed part saved mark) stacks.old.records) → IsTrue (S.space.stands space.old r) → IsTrue (S.space.stands space.new r) × (S.space.term_of space.new r ≡ S.space.term_of space.old r) }
-    ensures step { IfOk result (λ next. (code : Code) (M : Meaning) → FailsTo S.space code M space.old stacks.old (with_record (Record.One traversed part saved mark) stacks.old.records) space.new next position.new stacks.new) }
+    ensures covered { (r : S.Ref) → MarksCover S.space r
+        (with_record (Record.One traversed part saved mark) stacks.old.records) →
+        IsTrue (S.space.stands space.old r) → IsTrue (S.space.stands space.new r) ×
+        (S.space.term_of space.new r ≡ S.space.term_of space.old r) }
+    ensures step { IfOk result (λ next. (code : Code) (M : Meaning) →
+        FailsTo S.space code M space.old stacks.old
+        (with_record (Record.One traversed part saved mark) stacks.old.records) space.new next
+        position.new stacks.new) }
 {
     space.back_to(mark); // Gives back what was made of the part that failed.
     stacks.places.go_back(saved.height, saved.barrier);
@@ -148,10 +190,17 @@ fn fail_some<S: TermSpace>(
     mark: S::Mark,
     position: &mut Position<S::Ref>,
 ) -> Result<Next, AllocError>
-    requires { IsSafe S.space space.old stacks.old (with_record (Record.Some traversed part found saved mark) stacks.old.records) }
+    requires { IsSafe S.space space.old stacks.old
+        (with_record (Record.Some traversed part found saved mark) stacks.old.records) }
     ensures names { KeepsNames S.space space.old space.new }
-    ensures covered { (r : S.Ref) → MarksCover S.space r (with_record (Record.Some traversed part found saved mark) stacks.old.records) → IsTrue (S.space.stands space.old r) → IsTrue (S.space.stands space.new r) × (S.space.term_of space.new r ≡ S.space.term_of space.old r) }
-    ensures step { IfOk result (λ next. (code : Code) (M : Meaning) → FailsTo S.space code M space.old stacks.old (with_record (Record.Some traversed part found saved mark) stacks.old.records) space.new next position.new stacks.new) }
+    ensures covered { (r : S.Ref) → MarksCover S.space r
+        (with_record (Record.Some traversed part found saved mark) stacks.old.records) →
+        IsTrue (S.space.stands space.old r) → IsTrue (S.space.stands space.new r) ×
+        (S.space.term_of space.new r ≡ S.space.term_of space.old r) }
+    ensures step { IfOk result (λ next. (code : Code) (M : Meaning) →
+        FailsTo S.space code M space.old stacks.old
+        (with_record (Record.Some traversed part found saved mark) stacks.old.records) space.new
+        next position.new stacks.new) }
 {
     space.back_to(mark); // Gives back what was made of it, and of no part before it.
     stacks.places.go_back(saved.height, saved.barrier);

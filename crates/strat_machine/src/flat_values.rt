@@ -1,6 +1,5 @@
 // References as flat values, and flat values as references.
-ghost use Rattle.std.specs.Prelude.{◌≡◌, IfOk, IsTrue, List, [], length, map};
-ghost use Rattle.std.specs.Option.{option_map};
+ghost use Rattle.std.specs.Prelude.{◌≡◌, if◌then◌else◌, IfOk, IsTrue, Some, None, List, [], length, map};
 ghost use Rattle.prim_registry.specs.Values.{answer_of, value_of, values_of};
 ghost use Rattle.term_model.specs.declared.term.Head.TheVariants as heads;
 ghost use Rattle.term_model.specs.Flat.{all_flat, flat_of, integers_of};
@@ -13,25 +12,28 @@ use prim_registry::{Bytes, Flat, Numbers};
 use std::alloc::{AllocError, Global};
 use term_model::{Head, Kind, Made, Sym, TermSpace, Top};
 
-/// Returns the flat values that the terms are, annotations ignored; `None` where one of them is none.
+/// Puts the flat values that the terms are, annotations ignored, on the vector, in the place of what is there; returns
+/// whether each of them is one.
 pub(crate) fn flat_values<S: TermSpace>(
     space: &S,
     alloc: Global,
     terms: &[S::Ref],
-) -> Result<Option<Vec<Flat>>, AllocError>
+    values: &mut Vec<Flat>,
+) -> Result<bool, AllocError>
     requires { AllRefs (λ r. IsTrue (S.space.stands space.now r)) terms.now }
-    ensures { IfOk result (λ values. option_map (λ flats. values_of flats.items) values ≡ all_flat (trees_of (map (S.space.term_of space.now) terms.now))) }
+    ensures { IfOk result (λ all. (if all then Some (values_of values.new.items) else None) ≡
+        all_flat (trees_of (map (S.space.term_of space.now) terms.now))) }
 {
-    let mut values = Vec::new(alloc);
+    values.clear();
     for term in terms {
         match flat_value(space, alloc, term)? {
             Some(value) => {
                 values.push(value)?;
             }
-            None => return Ok(None),
+            None => return Ok(false),
         }
     }
-    Ok(Some(values))
+    Ok(true)
 }
 
 // Returns the flat value that the term is.
@@ -43,6 +45,9 @@ fn flat_value<S: TermSpace>(
     requires { IsTrue (S.space.stands space.now at.now) }
     ensures { IfOk result (λ value. answer_of value ≡ flat_of (S.space.term_of space.now at.now)) }
 {
+    if let Some(value) = space.int_of(at) {
+        return Ok(Some(Flat::Int(value)));
+    }
     match space.head(at) {
         Top::Int(value) => Ok(Some(Flat::Int(value))),
         Top::App(symbol) => {
@@ -58,7 +63,8 @@ fn flat_value<S: TermSpace>(
 
 // Returns the string that a symbol with this number of parts is.
 fn text(alloc: Global, symbol: &Sym, count: usize) -> Result<Option<Flat>, AllocError>
-    ensures { IfOk result (λ value. (parts : List Tree) → length parts ≡ count → answer_of value ≡ flat_of (term (heads.App symbol.now) parts [])) }
+    ensures { IfOk result (λ value. (parts : List Tree) → length parts ≡ count → answer_of value ≡
+        flat_of (term (heads.App symbol.now) parts [])) }
 {
     let Kind::Quoted = symbol.kind() else {
         return Ok(None);
@@ -77,7 +83,8 @@ fn numbers<S: TermSpace>(
     list: &S::Ref,
 ) -> Result<Option<Numbers>, AllocError>
     requires { IsTrue (S.space.stands space.now list.now) }
-    ensures { IfOk result (λ numbers. numbers ≡ integers_of (trees_of (parts_of (S.space.term_of space.now list.now)))) }
+    ensures { IfOk result (λ numbers. numbers ≡
+        integers_of (trees_of (parts_of (S.space.term_of space.now list.now)))) }
 {
     let mut elements = Vec::new(alloc);
     space.push_parts(list, &mut elements)?;
@@ -92,7 +99,8 @@ fn numbers_of<S: TermSpace>(
     terms: &[S::Ref],
 ) -> Result<Option<Numbers>, AllocError>
     requires { AllRefs (λ r. IsTrue (S.space.stands space.now r)) terms.now }
-    ensures { IfOk result (λ numbers. numbers ≡ integers_of (trees_of (map (S.space.term_of space.now) terms.now))) }
+    ensures { IfOk result (λ numbers. numbers ≡
+        integers_of (trees_of (map (S.space.term_of space.now) terms.now))) }
 {
     let mut values = Vec::new(alloc);
     for term in terms {
@@ -141,8 +149,10 @@ fn make_integers<S: TermSpace>(
     numbers: &[i64],
 ) -> Result<Vec<S::Ref>, AllocError>
     ensures keeps { Keeps S.space space.old space.new }
-    ensures standing { IfOk result (λ rs. AllRefs (λ r. IsTrue (S.space.stands space.new r)) rs.items) }
-    ensures integers { IfOk result (λ rs. trees_of (map (S.space.term_of space.new) rs.items) ≡ flat.integers numbers.now) }
+    ensures standing { IfOk result (λ rs.
+        AllRefs (λ r. IsTrue (S.space.stands space.new r)) rs.items) }
+    ensures integers { IfOk result (λ rs. trees_of (map (S.space.term_of space.new) rs.items) ≡
+        flat.integers numbers.now) }
 {
     let mut made = Vec::new(alloc);
     for number in numbers {

@@ -1,10 +1,12 @@
 // The frames of calls and scopes, and the closures of their strategy parameters.
-ghost use Rattle.std.specs.Prelude.{◌≡◌, ◌+◌, ◌<◌, ◌≤◌, ℕ, Some, MatchOption, OnOk, OnErr, [], ◌∷◌, ◌++◌, length, map, take, slice_get};
+ghost use Rattle.std.specs.Prelude.{◌≡◌, ◌+◌, ◌<◌, ◌≤◌, ℕ, Some, MatchOption, IfOk, OnOk, OnErr, [], ◌∷◌, ◌++◌, length, map, take, slice_get};
 ghost use Rattle.strat_code.specs.CodeOf.{argument_of};
 ghost use Rattle.strat_steps.specs.State as state;
 ghost use Rattle.strat_steps.specs.State.{around, frames_up, place_at, closure_in, closed};
 ghost use Rattle.strat_machine.specs.Frames.{closure_of, frames_in, IsBaseOf, AreLaid};
 
+use crate::compact_records::narrow;
+use crate::stack::push_on;
 use core_lang::Coordinate;
 use std::alloc::{AllocError, Global};
 use std::marker::Model;
@@ -13,20 +15,21 @@ use strat_code::Argument;
 /// The closure of a strategy parameter: the address of its code, and the position of the frame that the code runs in.
 #[derive(Clone, Copy)]
 pub(crate) struct Closure {
-    pub(crate) entry: usize,
-    pub(crate) frame: usize,
+    pub(crate) entry: u32,
+    pub(crate) frame: u32,
 }
 
 /// A frame: its first place, the position of the frame around it, and which closures are those of its strategy parameters.
 #[derive(Clone, Copy)]
 pub(crate) struct Frame {
-    base: usize,
-    up: usize,
-    first: usize,
-    count: usize,
+    base: u32,
+    up: u32,
+    first: u32,
+    count: u32,
 }
 
-/// The frames, the oldest first, with the closures of all of them in one vector.
+/// The frames, the oldest first, with the closures of all of them in one vector. Positions and addresses are held in 32
+/// bits; memory is out where one needs more.
 #[derive(Drop)]
 pub(crate) struct Frames {
     frames: Vec<Frame>,
@@ -76,7 +79,7 @@ impl Frames {
         ensures { IsBaseOf result (slice_get self.now here) }
     {
         let frame = self.frames.get(here)?;
-        Some((frame.base, frame.up))
+        Some((frame.base as usize, frame.up as usize))
     }
 
     /// The frame `count` frames up.
@@ -88,7 +91,8 @@ impl Frames {
 
     /// The place of a variable, if it is below `count`.
     pub(crate) fn place_of(&self, here: usize, variable: Coordinate, count: usize) -> Option<usize>
-        ensures { MatchOption result ((i : ℕ) → place_at self.now here variable ≡ Some i → count ≤ i) (λ i. (place_at self.now here variable ≡ Some i) × (i < count)) }
+        ensures { MatchOption result ((i : ℕ) → place_at self.now here variable ≡ Some i →
+            count ≤ i) (λ i. (place_at self.now here variable ≡ Some i) × (i < count)) }
     {
         let home = self.frames_up(here, variable.layers_up);
         let (base, _) = self.base_of(home)?;
@@ -108,13 +112,16 @@ impl Frames {
         ensures pushed { OnOk result (self.new ≡ self.old ++ state.frame base up [] ∷ []) }
         ensures err { OnErr result (self.new ≡ self.old) }
     {
-        let first = self.closures.len();
-        self.frames.push(Frame {
+        let base = narrow(base)?;
+        let up = narrow(up)?;
+        let first = narrow(self.closures.len())?;
+        let frame = Frame {
             base,
             up,
             first,
             count: 0,
-        })?;
+        };
+        push_on(&mut self.frames, frame)?;
         Ok(())
     }
 
@@ -126,17 +133,22 @@ impl Frames {
         here: usize,
         arguments: &[Argument],
     ) -> Result<(), AllocError>
-        ensures pushed { OnOk result (self.new ≡ self.old ++ state.frame base up (closed self.old here (map argument_of arguments.now)) ∷ []) }
+        ensures pushed { OnOk result (self.new ≡ self.old ++
+            state.frame base up (closed self.old here (map argument_of arguments.now)) ∷ []) }
         ensures err { OnErr result (self.new ≡ self.old) }
     {
-        let first = self.closures.len();
-        push_closures(&self.frames[..], &mut self.closures, here, arguments)?;
-        self.frames.push(Frame {
+        let base = narrow(base)?;
+        let up = narrow(up)?;
+        let first = narrow(self.closures.len())?;
+        let count = narrow(arguments.len())?;
+        let frame = Frame {
             base,
             up,
             first,
-            count: arguments.len(),
-        })?;
+            count,
+        };
+        push_closures(&self.frames[..], &mut self.closures, here, arguments)?;
+        push_on(&mut self.frames, frame)?;
         Ok(())
     }
 
@@ -149,7 +161,7 @@ impl Frames {
         }
         let frame = self.frames[count];
         self.frames.truncate(count);
-        self.closures.truncate(frame.first);
+        self.closures.truncate(frame.first as usize);
     }
 }
 
@@ -163,7 +175,7 @@ fn up_from(frames: &[Frame], closures: &[Closure], here: usize, count: usize) ->
         let Some(frame) = frames.get(position) else {
             return position;
         };
-        position = frame.up;
+        position = frame.up as usize;
     }
     position
 }
@@ -182,10 +194,10 @@ fn closure_from(
     let Some(frame) = frames.get(home) else {
         return none;
     };
-    if parameter.slot >= frame.count {
+    if parameter.slot >= frame.count as usize {
         return none;
     }
-    let Some(position) = frame.first.checked_add(parameter.slot) else {
+    let Some(position) = (frame.first as usize).checked_add(parameter.slot) else {
         return none;
     };
     match closures.get(position) {
@@ -200,15 +212,17 @@ fn closure_of_argument(
     closures: &[Closure],
     here: usize,
     argument: &Argument,
-) -> Closure
-    ensures { closed (frames_in closures.now frames.now) here (argument_of argument.now ∷ []) ≡ closure_of result ∷ [] }
+) -> Result<Closure, AllocError>
+    ensures { IfOk result (λ c. closed (frames_in closures.now frames.now) here
+        (argument_of argument.now ∷ []) ≡ closure_of c ∷ []) }
 {
     match argument {
-        Argument::Code(entry) => Closure {
-            entry: *entry,
-            frame: here,
-        },
-        Argument::Parameter(parameter) => closure_from(frames, closures, here, *parameter),
+        Argument::Code(entry) => {
+            let entry = narrow(*entry)?;
+            let frame = narrow(here)?;
+            Ok(Closure { entry, frame })
+        }
+        Argument::Parameter(parameter) => Ok(closure_from(frames, closures, here, *parameter)),
     }
 }
 
@@ -221,12 +235,14 @@ fn push_closures(
     arguments: &[Argument],
 ) -> Result<(), AllocError>
     requires { AreLaid 0 frames.now (length closures.old.items) }
-    ensures closures { OnOk result (map closure_of closures.new.items ≡ map closure_of closures.old.items ++ closed (frames_in closures.old.items frames.now) here (map argument_of arguments.now)) }
+    ensures closures { OnOk result (map closure_of closures.new.items ≡
+        map closure_of closures.old.items ++
+        closed (frames_in closures.old.items frames.now) here (map argument_of arguments.now)) }
     ensures kept { take (length closures.old.items) closures.new.items ≡ closures.old.items }
 {
     for argument in arguments {
-        let closure = closure_of_argument(frames, &closures[..], here, argument);
-        closures.push(closure)?;
+        let closure = closure_of_argument(frames, &closures[..], here, argument)?;
+        push_on(closures, closure)?;
     }
     Ok(())
 }

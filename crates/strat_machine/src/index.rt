@@ -136,7 +136,10 @@ fn number_of_root<S: TermSpace>(space: &S, root: &LoadedRoot<S::Name>) -> Option
 // The number of a term: that of each root with a number that it has.
 fn number_of_term<S: TermSpace>(space: &S, at: &S::Ref) -> usize
     requires { IsTrue (S.space.stands space.now at.now) }
-    ensures { (r : LoadedRoot S.Name) (n : ℕ) → RootKnown (S.space.knows space.now) r → number_in S.space.number_of r ≡ Some n → roots.has_root (root_meant (S.space.symbol_of space.now) r) (S.space.term_of space.now at.now) ≡ true → n ≡ result }
+    ensures { (r : LoadedRoot S.Name) (n : ℕ) → RootKnown (S.space.knows space.now) r →
+        number_in S.space.number_of r ≡ Some n →
+        roots.has_root (root_meant (S.space.symbol_of space.now) r)
+        (S.space.term_of space.now at.now) ≡ true → n ≡ result }
 {
     if let Some(value) = space.int_of(at) {
         return value.unsigned_abs() as usize;
@@ -159,7 +162,8 @@ pub(crate) fn find_case<S: TermSpace>(
     requires index { IsIndex S.space.number_of cases.now index.now }
     requires skipped { skipped ≤ length cases.now }
     requires stands { IsTrue (S.space.stands space.now term.now) }
-    ensures { IsFirst (case_has (S.space.symbol_of space.now) (S.space.term_of space.now term.now)) cases.now skipped result }
+    ensures { IsFirst (case_has (S.space.symbol_of space.now) (S.space.term_of space.now term.now))
+        cases.now skipped result }
 {
     let groups = &index.groups;
     let limit = first_in(space, cases, &groups.open, skipped, cases.len(), term);
@@ -182,7 +186,30 @@ fn first_in<S: TermSpace>(
     requires rising { IsNonDecreasing list.now }
     requires limit { limit ≤ length cases.now }
     requires stands { IsTrue (S.space.stands space.now term.now) }
-    ensures { IsFirstIn (case_has (S.space.symbol_of space.now) (S.space.term_of space.now term.now)) cases.now list.now skipped limit result }
+    ensures { IsFirstIn (case_has (S.space.symbol_of space.now)
+        (S.space.term_of space.now term.now)) cases.now list.now skipped limit result }
+{
+    if list.is_empty() {
+        return limit;
+    }
+    first_after(space, cases, list, skipped, limit, term)
+}
+
+// The same in a list of any length.
+fn first_after<S: TermSpace>(
+    space: &S,
+    cases: &[LoadedCase<S::Name>],
+    list: &[usize],
+    skipped: usize,
+    limit: usize,
+    term: &S::Ref,
+) -> usize
+    requires known { CasesKnown (S.space.knows space.now) cases.now }
+    requires rising { IsNonDecreasing list.now }
+    requires limit { limit ≤ length cases.now }
+    requires stands { IsTrue (S.space.stands space.now term.now) }
+    ensures { IsFirstIn (case_has (S.space.symbol_of space.now)
+        (S.space.term_of space.now term.now)) cases.now list.now skipped limit result }
 {
     let start = list.partition_point(|entry| *entry < skipped);
     first_of(space, cases, &list[start..], limit, term)
@@ -200,7 +227,8 @@ fn first_of<S: TermSpace>(
     requires rising { IsNonDecreasing list.now }
     requires limit { limit ≤ length cases.now }
     requires stands { IsTrue (S.space.stands space.now term.now) }
-    ensures { IsFirstIn (case_has (S.space.symbol_of space.now) (S.space.term_of space.now term.now)) cases.now list.now 0 limit result }
+    ensures { IsFirstIn (case_has (S.space.symbol_of space.now)
+        (S.space.term_of space.now term.now)) cases.now list.now 0 limit result }
 {
     for entry in list {
         if *entry >= limit {

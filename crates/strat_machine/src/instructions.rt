@@ -18,7 +18,7 @@ use crate::patterns::{perform_build, perform_call, perform_match};
 use crate::primitives::perform_primitive;
 use crate::program::{Action, LoadedProgram};
 use crate::select::perform_select;
-use crate::stacks::{Next, Position, Stacks};
+use crate::stacks::{Next, Position, Scratch, Stacks};
 use crate::steps::{
     call_parameter, commit_choice, enter_scope, extend_scope, leave_argument, leave_definition,
     leave_scope, put_choice, shrink_scope,
@@ -29,8 +29,7 @@ use std::alloc::{AllocError, Global};
 use strat_code::Code;
 use term_model::TermSpace;
 
-/// Takes a step: performs the instruction at the position, or deals with a failure. A run that has ended stays. The stack is used for terms
-/// that are made, and is as it was afterwards.
+/// Takes a step: performs the instruction at the position, or deals with a failure. A run that has ended stays.
 pub(crate) fn step<S: TermSpace, M: PrimMeaning>(
     space: &mut S,
     alloc: Global,
@@ -40,24 +39,28 @@ pub(crate) fn step<S: TermSpace, M: PrimMeaning>(
     registry: &Registry<M>,
     next: Next,
     position: &mut Position<S::Ref>,
-    stack: &mut Vec<S::Ref>,
+    scratch: &mut Scratch<S::Ref>,
 ) -> Result<Next, AllocError>
     requires going { GoesOn next }
     requires holds { Holds S.space space.old (state_of next position.old stacks.old) }
-    requires counted { StateCounted (state_tree (S.space.term_of space.old) (state_of next position.old stacks.old)) }
+    requires counted { StateCounted (state_tree (S.space.term_of space.old)
+        (state_of next position.old stacks.old)) }
     requires honest { IsHonest M.answer registry.now }
-    requires loaded { IsLoadedProgram (S.space.knows space.old) (S.space.symbol_of space.old) (entries_of registry.now)
+    requires loaded { IsLoadedProgram (S.space.knows space.old) (S.space.symbol_of space.old)
+        (entries_of registry.now)
         S.space.number_of program.now code.now.tables code.now.instrs }
     ensures names { KeepsNames S.space space.old space.new }
-    ensures lasting { (r : S.Ref) → Lasts S.space r space.old (state_of next position.old stacks.old) →
-        IsTrue (S.space.stands space.new r) × (S.space.term_of space.new r ≡ S.space.term_of space.old r) }
+    ensures lasting { (r : S.Ref) → Lasts S.space r space.old
+        (state_of next position.old stacks.old) →
+        IsTrue (S.space.stands space.new r) ×
+        (S.space.term_of space.new r ≡ S.space.term_of space.old r) }
     ensures step { IfOk result (λ after. StepRef S.space (code_of code.now.tables code.now.instrs)
         (meaning_of M.answer registry.now) space.old (state_of next position.old stacks.old)
         space.new (state_of after position.new stacks.new)) }
 {
     match next {
         Next::Running => perform(
-            space, alloc, stacks, code, program, registry, position, stack,
+            space, alloc, stacks, code, program, registry, position, scratch,
         ),
         Next::Failing => fail(space, stacks, position),
         _ => Ok(next),
@@ -73,12 +76,14 @@ fn perform<S: TermSpace, M: PrimMeaning>(
     program: &LoadedProgram<S::Name>,
     registry: &Registry<M>,
     position: &mut Position<S::Ref>,
-    stack: &mut Vec<S::Ref>,
+    scratch: &mut Scratch<S::Ref>,
 ) -> Result<Next, AllocError>
     requires holds { Holds S.space space.old (state_of Running position.old stacks.old) }
-    requires counted { StateCounted (state_tree (S.space.term_of space.old) (state_of Running position.old stacks.old)) }
+    requires counted { StateCounted (state_tree (S.space.term_of space.old)
+        (state_of Running position.old stacks.old)) }
     requires honest { IsHonest M.answer registry.now }
-    requires loaded { IsLoadedProgram (S.space.knows space.old) (S.space.symbol_of space.old) (entries_of registry.now)
+    requires loaded { IsLoadedProgram (S.space.knows space.old) (S.space.symbol_of space.old)
+        (entries_of registry.now)
         S.space.number_of program.now code.now.tables code.now.instrs }
     ensures keeps { Keeps S.space space.old space.new }
     ensures step { IfOk result (λ after. StepRef S.space (code_of code.now.tables code.now.instrs)
@@ -99,7 +104,10 @@ fn perform<S: TermSpace, M: PrimMeaning>(
         Action::Count => Ok(Next::Running),
         Action::GiveUp => Ok(Next::Failing),
         Action::Match(pattern) => perform_match(space, alloc, stacks, pattern, position),
-        Action::Build(pattern) => perform_build(space, alloc, stacks, pattern, position, stack),
+        Action::Build(pattern) => {
+            let made = &mut scratch.terms;
+            perform_build(space, alloc, stacks, pattern, position, made)
+        }
         Action::Enter { places } => {
             enter_scope::<S>(stacks, *places, position)?;
             Ok(Next::Running)
@@ -138,18 +146,25 @@ fn perform<S: TermSpace, M: PrimMeaning>(
             callee,
             arguments,
             terms,
-        } => perform_call(
-            space, alloc, stacks, *callee, arguments, terms, position, stack,
-        ),
+        } => {
+            let made = &mut scratch.terms;
+            perform_call(
+                space, alloc, stacks, *callee, arguments, terms, position, made,
+            )
+        }
         Action::CallClosure { closure } => {
             call_parameter::<S>(stacks, *closure, position)?;
             Ok(Next::Running)
         }
         Action::EndDefinition => Ok(leave_definition::<S>(stacks, position)),
         Action::EndArgument => Ok(leave_argument::<S>(stacks, position)),
-        Action::ApplyPrimitive { index, terms } => perform_primitive(
-            space, alloc, stacks, registry, *index, terms, position, stack,
-        ),
+        Action::ApplyPrimitive { index, terms } => {
+            let made = &mut scratch.terms;
+            let values = &mut scratch.values;
+            perform_primitive(
+                space, alloc, stacks, registry, *index, terms, position, made, values,
+            )
+        }
         Action::Finish => Ok(Next::Rewritten),
     }
 }

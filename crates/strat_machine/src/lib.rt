@@ -13,6 +13,7 @@ mod frames;
 mod index;
 mod instructions;
 mod loaded;
+mod lookup;
 mod machine;
 mod making;
 mod matching;

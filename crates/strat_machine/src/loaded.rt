@@ -30,7 +30,8 @@ pub(crate) fn load_pattern<S: TermSpace>(
 ) -> Result<LoadedPattern<S::Name>, AllocError>
     ensures keeps { Keeps S.space space.old space.new }
     ensures none { MakesNone S.space space.old space.new }
-    ensures loaded { IfOk result (λ p. IsLoaded (S.space.knows space.new) (S.space.symbol_of space.new) p (pattern_of pattern.now)) }
+    ensures loaded { IfOk result (λ p. IsLoaded (S.space.knows space.new)
+        (S.space.symbol_of space.new) p (pattern_of pattern.now)) }
 {
     match pattern {
         CorePattern::Anything => Ok(LoadedPattern::Anything),
@@ -70,7 +71,8 @@ fn load_boxed<S: TermSpace>(
 ) -> Result<Box<LoadedPattern<S::Name>>, AllocError>
     ensures keeps { Keeps S.space space.old space.new }
     ensures none { MakesNone S.space space.old space.new }
-    ensures loaded { IfOk result (λ p. IsLoaded (S.space.knows space.new) (S.space.symbol_of space.new) p.value (pattern_of pattern.now)) }
+    ensures loaded { IfOk result (λ p. IsLoaded (S.space.knows space.new)
+        (S.space.symbol_of space.new) p.value (pattern_of pattern.now)) }
 {
     let loaded = load_pattern(space, alloc, pattern)?;
     let boxed = Box::new(alloc, loaded)?;
@@ -85,7 +87,8 @@ fn load_rest<S: TermSpace>(
 ) -> Result<Option<Box<LoadedPattern<S::Name>>>, AllocError>
     ensures keeps { Keeps S.space space.old space.new }
     ensures none { MakesNone S.space space.old space.new }
-    ensures loaded { IfOk result (λ r. IsLoadedRest (S.space.knows space.new) (S.space.symbol_of space.new) r (rest_of rest.now)) }
+    ensures loaded { IfOk result (λ r. IsLoadedRest (S.space.knows space.new)
+        (S.space.symbol_of space.new) r (rest_of rest.now)) }
 {
     match rest {
         None => Ok(None),
@@ -105,7 +108,8 @@ pub(crate) fn load_patterns<S: TermSpace>(
 ) -> Result<Vec<LoadedPattern<S::Name>>, AllocError>
     ensures keeps { Keeps S.space space.old space.new }
     ensures none { MakesNone S.space space.old space.new }
-    ensures loaded { IfOk result (λ ps. AreLoaded (S.space.knows space.new) (S.space.symbol_of space.new) ps.items (map pattern_of patterns.now)) }
+    ensures loaded { IfOk result (λ ps. AreLoaded (S.space.knows space.new)
+        (S.space.symbol_of space.new) ps.items (map pattern_of patterns.now)) }
 {
     let mut loaded = Vec::new(alloc);
     for p in patterns {

@@ -97,13 +97,21 @@ impl<S: TermSpace + Drop> Machine<S> {
         requires stands { IsTrue (S.space.stands self.old term) }
         requires honest { IsHonest M.answer registry.now }
         requires covers { Covers registry.now code.now.prims }
-        ensures run { IfOk result (λ run. (P : Definitions Name (List Name)) (main : Name) (C : ResolvedDefinitions) (i : ℕ) →
-            StandsFor (code_of code.now.tables code.now.instrs) C i → AreOccurring code.now.prims C → ResolvesProgram P main C i →
-            IsOutcome M.answer P main (S.space.term_of self.old term) budget (outcome_tree (S.space.term_of self.new) run.outcome) run.rules) }
-        ensures steps { IfOk result (λ run. Ran S.space (code_of code.now.tables code.now.instrs) (meaning_of M.answer registry.now) self.old term budget self.new run) }
+        ensures run { IfOk result (λ run.
+            (P : Definitions Name (List Name)) (main : Name) (C : ResolvedDefinitions) (i : ℕ) →
+            StandsFor (code_of code.now.tables code.now.instrs) C i →
+            AreOccurring code.now.prims C → ResolvesProgram P main C i →
+            IsOutcome M.answer P main (S.space.term_of self.old term) budget
+            (outcome_tree (S.space.term_of self.new) run.outcome) run.rules) }
+        ensures steps { IfOk result (λ run.
+            Ran S.space (code_of code.now.tables code.now.instrs) (meaning_of M.answer registry.now)
+            self.old term budget self.new run) }
         ensures few { IfOk result (λ run. run.steps ≤ 10 * run.rules + 10) }
-        ensures stands { IfOk result (λ run. OutcomeStands (λ r. IsTrue (S.space.stands self.new r)) run.outcome) }
-        ensures kept { (r : S.Ref) → IsTrue (S.space.stands self.old r) → IsTrue (S.space.stands self.new r) × (S.space.term_of self.new r ≡ S.space.term_of self.old r) }
+        ensures stands { IfOk result (λ run.
+            OutcomeStands (λ r. IsTrue (S.space.stands self.new r)) run.outcome) }
+        ensures kept { (r : S.Ref) → IsTrue (S.space.stands self.old r) →
+            IsTrue (S.space.stands self.new r) ×
+            (S.space.term_of self.new r ≡ S.space.term_of self.old r) }
         ensures names { KeepsNames S.space self.old self.new }
         ensures fault { IfErr result (λ fault. fault ≡ Fault.Memory) }
     {

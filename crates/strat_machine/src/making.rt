@@ -32,10 +32,14 @@ pub(crate) fn apply<S: TermSpace>(
 ) -> Result<Built<S::Ref>, AllocError>
     requires name { IsTrue (S.space.knows space.old name.now) }
     requires from { from ≤ length stack.old.items }
-    requires standing { AllRefs (λ r. IsTrue (S.space.stands space.old r)) (drop from stack.old.items) }
+    requires standing { AllRefs (λ r. IsTrue (S.space.stands space.old r))
+        (drop from stack.old.items) }
     ensures keeps { Keeps S.space space.old space.new }
     ensures stack { IfOk result (λ _. stack.new.items ≡ take from stack.old.items) }
-    ensures built { IfOk result (λ made. (all : Option Trees → Option Trees) → AreBuilt S.space.term_of space.old all (drop from stack.old.items) pushed → Builds S.space space.new (applied_to (all (Some end)) (S.space.symbol_of space.old name.now)) made) }
+    ensures built { IfOk result (λ made. (all : Option Trees → Option Trees) →
+        AreBuilt S.space.term_of space.old all (drop from stack.old.items) pushed →
+        Builds S.space space.new (applied_to (all (Some end))
+        (S.space.symbol_of space.old name.now)) made) }
 {
     match pushed {
         Pushed::NoInstance => {
@@ -63,11 +67,14 @@ pub(crate) fn list<S: TermSpace>(
     stack: &mut Vec<S::Ref>,
 ) -> Result<Built<S::Ref>, AllocError>
     requires from { from ≤ length stack.old.items }
-    requires standing { AllRefs (λ r. IsTrue (S.space.stands space.old r)) (drop from stack.old.items) }
+    requires standing { AllRefs (λ r. IsTrue (S.space.stands space.old r))
+        (drop from stack.old.items) }
     requires tail { TailStands S.space space.old elements }
     ensures keeps { Keeps S.space space.old space.new }
     ensures stack { IfOk result (λ _. stack.new.items ≡ take from stack.old.items) }
-    ensures built { IfOk result (λ made. (all : Option Trees) → AreElements S.space space.old all (drop from stack.old.items) elements → Builds S.space space.new (list_term all) made) }
+    ensures built { IfOk result (λ made. (all : Option Trees) →
+        AreElements S.space space.old all (drop from stack.old.items) elements →
+        Builds S.space space.new (list_term all) made) }
 {
     match elements {
         Elements::NoInstance => {
@@ -102,7 +109,10 @@ pub(crate) fn with_built<S: TermSpace>(
     requires stands { IsTrue (S.space.stands space.old at.now) }
     requires annos { AllRefs (λ r. IsTrue (S.space.stands space.old r)) annos.now }
     ensures keeps { Keeps S.space space.old space.new }
-    ensures built { IfOk result (λ made. (all : Option Trees → Option Trees) → AreBuilt S.space.term_of space.old all annos.now pushed → Builds S.space space.new (made_with (Some (S.space.term_of space.old at.now)) (all (Some end))) made) }
+    ensures built { IfOk result (λ made. (all : Option Trees → Option Trees) →
+        AreBuilt S.space.term_of space.old all annos.now pushed →
+        Builds S.space space.new (made_with (Some (S.space.term_of space.old at.now))
+        (all (Some end))) made) }
 {
     match pushed {
         Pushed::NoInstance => Ok(Built::NoInstance),
@@ -125,7 +135,10 @@ pub(crate) fn annotated<S: TermSpace>(
     requires stands { BuiltStands (λ r. IsTrue (S.space.stands space.old r)) bare }
     requires annos { AllRefs (λ r. IsTrue (S.space.stands space.old r)) annos.now }
     ensures keeps { Keeps S.space space.old space.new }
-    ensures built { IfOk result (λ made. (o : Option Tree) → IsBare o → Builds S.space space.old o bare → (all : Option Trees → Option Trees) → AreBuilt S.space.term_of space.old all annos.now pushed → Builds S.space space.new (made_with o (all (Some end))) made) }
+    ensures built { IfOk result (λ made. (o : Option Tree) → IsBare o →
+        Builds S.space space.old o bare → (all : Option Trees → Option Trees) →
+        AreBuilt S.space.term_of space.old all annos.now pushed →
+        Builds S.space space.new (made_with o (all (Some end))) made) }
 {
     match bare {
         Built::NoInstance => Ok(Built::NoInstance),

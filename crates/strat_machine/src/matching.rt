@@ -40,9 +40,14 @@ pub(crate) fn match_pattern<S: TermSpace>(
     requires stands { IsTrue (S.space.stands space.old at.now) }
     requires places { AllPlaces (λ r. IsTrue (S.space.stands space.old r)) places.old.slots }
     ensures keeps { Keeps S.space space.old space.new }
-    ensures unchanged { LeavesSpace (loaded_of (S.space.symbol_of space.old) pattern.now) → space.new ≡ space.old }
+    ensures unchanged { LeavesSpace (loaded_of (S.space.symbol_of space.old) pattern.now) →
+        space.new ≡ space.old }
     ensures barrier { IfOk result (λ _. places.new.barrier ≡ places.old.barrier) }
-    ensures attempt { IfOk result (λ yes. Goes S.space places.old.barrier (attempted (place_at frames.now here) places.old.barrier (loaded_of (S.space.symbol_of space.old) pattern.now) (S.space.term_of space.old at.now)) (attempt yes) space.old places.old.slots places.old.trail space.new places.new.slots places.new.trail) }
+    ensures attempt { IfOk result (λ yes.
+        Goes S.space places.old.barrier (attempted (place_at frames.now here) places.old.barrier
+        (loaded_of (S.space.symbol_of space.old) pattern.now) (S.space.term_of space.old at.now))
+        (attempt yes) space.old places.old.slots places.old.trail space.new places.new.slots
+        places.new.trail) }
 {
     match pattern {
         LoadedPattern::Anything => Ok(true),
@@ -113,7 +118,12 @@ fn match_bare<S: TermSpace>(
     requires places { AllPlaces (λ r. IsTrue (S.space.stands space.old r)) places.old.slots }
     ensures keeps { Keeps S.space space.old space.new }
     ensures barrier { IfOk result (λ _. places.new.barrier ≡ places.old.barrier) }
-    ensures attempt { IfOk result (λ yes. Goes S.space places.old.barrier (attempted (place_at frames.now here) places.old.barrier (loaded_of (S.space.symbol_of space.old) pattern.now) (term (head_of (S.space.term_of space.old at.now)) (parts_of (S.space.term_of space.old at.now)) [])) (attempt yes) space.old places.old.slots places.old.trail space.new places.new.slots places.new.trail) }
+    ensures attempt { IfOk result (λ yes.
+        Goes S.space places.old.barrier (attempted (place_at frames.now here) places.old.barrier
+        (loaded_of (S.space.symbol_of space.old) pattern.now)
+        (term (head_of (S.space.term_of space.old at.now))
+        (parts_of (S.space.term_of space.old at.now)) [])) (attempt yes) space.old places.old.slots
+        places.old.trail space.new places.new.slots places.new.trail) }
 {
     if !sees_annos(pattern) {
         let yes = match_pattern(space, alloc, frames, here, pattern, at, places)?;
@@ -141,7 +151,11 @@ fn match_annos<S: TermSpace>(
     requires places { AllPlaces (λ r. IsTrue (S.space.stands space.old r)) places.old.slots }
     ensures keeps { Keeps S.space space.old space.new }
     ensures barrier { IfOk result (λ _. places.new.barrier ≡ places.old.barrier) }
-    ensures attempt { IfOk result (λ yes. Goes S.space places.old.barrier (first_attempted (place_at frames.now here) places.old.barrier (map (loaded_of (S.space.symbol_of space.old)) patterns.now) (annos_of (S.space.term_of space.old at.now))) (attempt yes) space.old places.old.slots places.old.trail space.new places.new.slots places.new.trail) }
+    ensures attempt { IfOk result (λ yes.
+        Goes S.space places.old.barrier (first_attempted (place_at frames.now here)
+        places.old.barrier (map (loaded_of (S.space.symbol_of space.old)) patterns.now)
+        (annos_of (S.space.term_of space.old at.now))) (attempt yes) space.old places.old.slots
+        places.old.trail space.new places.new.slots places.new.trail) }
 {
     if patterns.len() > FEW {
         let mut annos = Vec::new(alloc);
@@ -160,7 +174,8 @@ fn match_annos<S: TermSpace>(
 
 // Whether the pattern binds the term, or asks for its annotations.
 fn sees_annos<N>(pattern: &LoadedPattern<N>) -> bool
-    ensures { (symbol_of : N → Symbol) → result ≡ sees_annotations (loaded_of symbol_of pattern.now) }
+    ensures { (symbol_of : N → Symbol) → result ≡
+        sees_annotations (loaded_of symbol_of pattern.now) }
 {
     match pattern {
         LoadedPattern::Variable(_) => true,
@@ -191,10 +206,16 @@ fn match_first<S: TermSpace>(
     requires stands { IsTrue (S.space.stands space.old at.now) }
     requires places { AllPlaces (λ r. IsTrue (S.space.stands space.old r)) places.old.slots }
     ensures keeps { Keeps S.space space.old space.new }
-    ensures unchanged { AllLeaveSpace (all_loaded_of (S.space.symbol_of space.old) patterns.now) → space.new ≡ space.old }
+    ensures unchanged { AllLeaveSpace (all_loaded_of (S.space.symbol_of space.old) patterns.now) →
+        space.new ≡ space.old }
     ensures barrier { IfOk result (λ _. places.new.barrier ≡ places.old.barrier) }
-    ensures enough { IfOk result (λ yes. yes ≡ true → length patterns.now ≤ length (parts_of (S.space.term_of space.old at.now))) }
-    ensures attempt { IfOk result (λ yes. Goes S.space places.old.barrier (first_attempted (place_at frames.now here) places.old.barrier (map (loaded_of (S.space.symbol_of space.old)) patterns.now) (parts_of (S.space.term_of space.old at.now))) (attempt yes) space.old places.old.slots places.old.trail space.new places.new.slots places.new.trail) }
+    ensures enough { IfOk result (λ yes. yes ≡ true →
+        length patterns.now ≤ length (parts_of (S.space.term_of space.old at.now))) }
+    ensures attempt { IfOk result (λ yes.
+        Goes S.space places.old.barrier (first_attempted (place_at frames.now here)
+        places.old.barrier (map (loaded_of (S.space.symbol_of space.old)) patterns.now)
+        (parts_of (S.space.term_of space.old at.now))) (attempt yes) space.old places.old.slots
+        places.old.trail space.new places.new.slots places.new.trail) }
 {
     if patterns.len() > FEW {
         let parts = first_parts(space, alloc, at, patterns.len())?;
@@ -267,9 +288,14 @@ fn match_part<S: TermSpace>(
     requires stands { IsTrue (S.space.stands space.old at.now) }
     requires places { AllPlaces (λ r. IsTrue (S.space.stands space.old r)) places.old.slots }
     ensures keeps { Keeps S.space space.old space.new }
-    ensures unchanged { LeavesSpace (loaded_of (S.space.symbol_of space.old) pattern.now) → space.new ≡ space.old }
+    ensures unchanged { LeavesSpace (loaded_of (S.space.symbol_of space.old) pattern.now) →
+        space.new ≡ space.old }
     ensures barrier { IfOk result (λ _. places.new.barrier ≡ places.old.barrier) }
-    ensures attempt { IfOk result (λ yes. Goes S.space places.old.barrier (attempted (place_at frames.now here) places.old.barrier (loaded_of (S.space.symbol_of space.old) pattern.now) (S.space.term_of space.old at.now)) (attempt yes) space.old places.old.slots places.old.trail space.new places.new.slots places.new.trail) }
+    ensures attempt { IfOk result (λ yes.
+        Goes S.space places.old.barrier (attempted (place_at frames.now here) places.old.barrier
+        (loaded_of (S.space.symbol_of space.old) pattern.now) (S.space.term_of space.old at.now))
+        (attempt yes) space.old places.old.slots places.old.trail space.new places.new.slots
+        places.new.trail) }
 {
     let LoadedPattern::Variable(x) = pattern else {
         let yes = match_pattern(space, alloc, frames, here, pattern, at, places)?;
@@ -299,7 +325,11 @@ fn match_rest<S: TermSpace>(
     ensures keeps { Keeps S.space space.old space.new }
     ensures unchanged { rest.now ≡ None → space.new ≡ space.old }
     ensures barrier { IfOk result (λ _. places.new.barrier ≡ places.old.barrier) }
-    ensures attempt { IfOk result (λ yes. Goes S.space places.old.barrier (rest_attempted (place_at frames.now here) places.old.barrier (rest_loaded_of (S.space.symbol_of space.old) rest.now) (drop from (parts_of (S.space.term_of space.old at.now)))) (attempt yes) space.old places.old.slots places.old.trail space.new places.new.slots places.new.trail) }
+    ensures attempt { IfOk result (λ yes.
+        Goes S.space places.old.barrier (rest_attempted (place_at frames.now here)
+        places.old.barrier (rest_loaded_of (S.space.symbol_of space.old) rest.now)
+        (drop from (parts_of (S.space.term_of space.old at.now)))) (attempt yes) space.old
+        places.old.slots places.old.trail space.new places.new.slots places.new.trail) }
 {
     match rest {
         None => Ok(from == space.count(at)),
@@ -323,7 +353,10 @@ fn bind_variable<S: TermSpace>(
     requires stands { IsTrue (S.space.stands space.now at.now) }
     requires places { AllPlaces (λ r. IsTrue (S.space.stands space.now r)) places.old.slots }
     ensures barrier { IfOk result (λ _. places.new.barrier ≡ places.old.barrier) }
-    ensures attempt { IfOk result (λ yes. Goes S.space places.old.barrier (bind places.old.barrier (place_at frames.now here variable) (S.space.term_of space.now at.now)) (attempt yes) space.now places.old.slots places.old.trail space.now places.new.slots places.new.trail) }
+    ensures attempt { IfOk result (λ yes.
+        Goes S.space places.old.barrier (bind places.old.barrier (place_at frames.now here variable)
+        (S.space.term_of space.now at.now)) (attempt yes) space.now places.old.slots
+        places.old.trail space.now places.new.slots places.new.trail) }
 {
     let Some(place) = frames.place_of(here, variable, places.len()) else {
         return Ok(false);
@@ -353,7 +386,8 @@ fn is_application<S: TermSpace>(space: &S, at: &S::Ref, name: &S::Name, count: u
     requires stands { IsTrue (S.space.stands space.now at.now) }
     requires known { IsTrue (S.space.knows space.now name.now) }
     requires count { count ≡ length (parts_of (S.space.term_of space.now at.now)) }
-    ensures { result ≡ same_head (head_of (S.space.term_of space.now at.now)) (heads.App (S.space.symbol_of space.now name.now)) }
+    ensures { result ≡ same_head (head_of (S.space.term_of space.now at.now))
+        (heads.App (S.space.symbol_of space.now name.now)) }
 {
     space.is_app(at, name, count)
 }

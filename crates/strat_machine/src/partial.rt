@@ -10,7 +10,7 @@ ghost use Rattle.strat_machine.specs.Stacks.{state_of};
 use crate::instructions::step;
 use crate::program::LoadedProgram;
 use crate::running::goes_on;
-use crate::stacks::{Next, Position, Stacks};
+use crate::stacks::{Next, Position, Scratch, Stacks};
 use prim_registry::{PrimMeaning, Registry};
 use std::alloc::{AllocError, Global};
 use strat_code::{Code, Instr};
@@ -135,17 +135,20 @@ pub(crate) fn run_part<S: TermSpace, M: PrimMeaning>(
     requires clear { IsClear stacks.old }
     requires stands { IsTrue (S.space.stands space.old term) }
     requires honest { IsHonest M.answer registry.now }
-    requires loaded { IsLoadedProgram (S.space.knows space.old) (S.space.symbol_of space.old) (entries_of registry.now)
+    requires loaded { IsLoadedProgram (S.space.knows space.old) (S.space.symbol_of space.old)
+        (entries_of registry.now)
         S.space.number_of program.now code.now.tables code.now.instrs }
-    ensures holds { IfOk result (λ p. Holds S.space space.new (state_of p.next p.position stacks.new)) }
+    ensures holds { IfOk result (λ p. Holds S.space space.new
+        (state_of p.next p.position stacks.new)) }
     ensures kept { IfOk result (λ _. (r : S.Ref) → IsTrue (S.space.stands space.old r) →
-        IsTrue (S.space.stands space.new r) × (S.space.term_of space.new r ≡ S.space.term_of space.old r)) }
+        IsTrue (S.space.stands space.new r) ×
+        (S.space.term_of space.new r ≡ S.space.term_of space.old r)) }
     ensures names { IfOk result (λ _. KeepsNames S.space space.old space.new) }
 {
     // The code stands for some program, so the run ends in time.
     let _ = code.instrs();
     stacks.left = budget as usize;
-    let mut stack = Vec::new(alloc);
+    let mut scratch = Scratch::new(alloc);
     let mut steps: u64 = 0;
     let mut next = Next::Running;
     let mut position = Position {
@@ -169,7 +172,7 @@ pub(crate) fn run_part<S: TermSpace, M: PrimMeaning>(
             registry,
             next,
             &mut position,
-            &mut stack,
+            &mut scratch,
         )?;
         if next == Next::Running {
             notes.add(Step {

@@ -31,7 +31,8 @@ pub(crate) fn perform_match<S: TermSpace>(
     requires safe { IsSafe S.space space.old stacks.old (records_of stacks.old.records) }
     ensures keeps { Keeps S.space space.old space.new }
     ensures step { IfOk result (λ next. (M : Meaning) (n i : ℕ) → position.now.address ≡ suc i →
-        Performs S.space M (match_term n (loaded_of (S.space.symbol_of space.old) pattern.now)) i position.now
+        Performs S.space M (match_term n (loaded_of (S.space.symbol_of space.old) pattern.now)) i
+        position.now
         space.old stacks.old space.new next position.now stacks.new) }
 {
     let places = &mut stacks.places;
@@ -57,7 +58,8 @@ pub(crate) fn perform_build<S: TermSpace>(
     ensures keeps { Keeps S.space space.old space.new }
     ensures stack { IfOk result (λ _. stack.new.items ≡ stack.old.items) }
     ensures step { IfOk result (λ next. (M : Meaning) (n i : ℕ) → position.old.address ≡ suc i →
-        Performs S.space M (build_term n (loaded_of (S.space.symbol_of space.old) pattern.now)) i position.old
+        Performs S.space M (build_term n (loaded_of (S.space.symbol_of space.old) pattern.now)) i
+        position.old
         space.old stacks.now space.new next position.new stacks.now) }
 {
     let slots = stacks.places.slots();
@@ -82,8 +84,10 @@ pub(crate) fn perform_call<S: TermSpace>(
     ensures keeps { Keeps S.space space.old space.new }
     ensures stack { IfOk result (λ _. stack.new.items ≡ stack.old.items) }
     ensures step { IfOk result (λ next. (M : Meaning) (n i : ℕ) →
-        Performs S.space M (call_definition n callee.frames callee.entry callee.room callee.next_address
-        (map argument_of arguments.now) (all_loaded_of (S.space.symbol_of space.old) patterns.now)) i position.old
+        Performs S.space M (call_definition n callee.frames callee.entry callee.room
+        callee.next_address
+        (map argument_of arguments.now) (all_loaded_of (S.space.symbol_of space.old) patterns.now))
+        i position.old
         space.old stacks.old space.new next position.new stacks.new) }
 {
     let from = stack.len();

@@ -3,6 +3,8 @@ ghost use Rattle.std.specs.Prelude.{◌≡◌, ◌<◌, ◌-◌, List, Option, d
 ghost use Rattle.strat_steps.specs.Binding.{cleared, undone, above, down_to, trimmed, with_term};
 ghost use Rattle.strat_machine.specs.PlaceStack.{PlaceStack};
 
+use crate::compact_records::narrow;
+use crate::stack::push_on;
 use std::alloc::{AllocError, Global};
 use std::marker::Model;
 
@@ -11,7 +13,7 @@ use std::marker::Model;
 #[derive(Drop)]
 pub(crate) struct Places<R: Drop> {
     slots: Vec<Option<R>>,
-    trail: Vec<usize>,
+    trail: Vec<u32>,
     barrier: usize,
 }
 
@@ -21,7 +23,12 @@ impl<R: Drop> Model for Places<R> {
 
     ghost Value = { PlaceStack R };
 
-    ghost view = { λ a. record { slots = a.slots.items; trail = reverse a.trail.items; barrier = a.barrier } };
+    ghost view = { λ a. record {
+      slots = a.slots.items;
+      trail = reverse a.trail.items;
+      barrier =
+          a.barrier;
+    } };
 }
 
 impl<R: Drop> Places<R> {
@@ -75,7 +82,9 @@ impl<R: Drop> Places<R> {
 
     /// What a place has, if there is such a place.
     pub(crate) fn slot(&self, place: usize) -> Option<Option<&R>>
-        ensures { MatchOption result (slice_get self.now.slots place ≡ None) (λ v. MatchOption v (slice_get self.now.slots place ≡ Some None) (λ r. slice_get self.now.slots place ≡ Some (Some r.now))) }
+        ensures { MatchOption result (slice_get self.now.slots place ≡ None)
+            (λ v. MatchOption v (slice_get self.now.slots place ≡ Some None)
+            (λ r. slice_get self.now.slots place ≡ Some (Some r.now))) }
     {
         match self.slots.get(place) {
             None => None,
@@ -86,7 +95,8 @@ impl<R: Drop> Places<R> {
 
     /// Adds `count` empty places.
     pub(crate) fn extend(&mut self, count: usize) -> Result<(), AllocError>
-        ensures { OnOk result (self.new ≡ record self.old { slots = self.old.slots ++ replicate count None }) }
+        ensures { OnOk result (self.new ≡
+            record self.old { slots = self.old.slots ++ replicate count None }) }
     {
         push_empty(&mut self.slots, count)?;
         Ok(())
@@ -101,15 +111,20 @@ impl<R: Drop> Places<R> {
 
     /// Adds a place with a reference.
     pub(crate) fn push(&mut self, reference: R) -> Result<(), AllocError>
-        ensures { OnOk result (self.new ≡ record self.old { slots = self.old.slots ++ Some reference ∷ [] }) }
+        ensures { OnOk result (self.new ≡
+            record self.old { slots = self.old.slots ++ Some reference ∷ [] }) }
     {
-        self.slots.push(Some(reference))?;
+        push_on(&mut self.slots, Some(reference))?;
         Ok(())
     }
 
     /// Adds places with the references from a position on, which are moved out of the vector.
     pub(crate) fn push_terms(&mut self, terms: &mut Vec<R>, from: usize) -> Result<(), AllocError>
-        ensures places { OnOk result (self.new ≡ record self.old { slots = self.old.slots ++ map (λ r. Some r) (drop from terms.old.items) }) }
+        ensures places { OnOk result (self.new ≡
+            record self.old {
+              slots = self.old.slots ++
+                  map (λ r. Some r) (drop from terms.old.items);
+            }) }
         ensures terms { OnOk result (terms.new.items ≡ take from terms.old.items) }
     {
         if terms.len() <= from {
@@ -120,7 +135,11 @@ impl<R: Drop> Places<R> {
 
     // Adds places with the references from a position on.
     fn move_terms(&mut self, terms: &mut Vec<R>, from: usize) -> Result<(), AllocError>
-        ensures places { OnOk result (self.new ≡ record self.old { slots = self.old.slots ++ map (λ r. Some r) (drop from terms.old.items) }) }
+        ensures places { OnOk result (self.new ≡
+            record self.old {
+              slots = self.old.slots ++
+                  map (λ r. Some r) (drop from terms.old.items);
+            }) }
         ensures terms { OnOk result (terms.new.items ≡ take from terms.old.items) }
     {
         let count = terms.len().saturating_sub(from);
@@ -131,11 +150,16 @@ impl<R: Drop> Places<R> {
 
     /// Gives a place a reference, and puts it on the trail if it is below the barrier.
     pub(crate) fn give(&mut self, place: usize, reference: R) -> Result<(), AllocError>
-        ensures { OnOk result (self.new ≡ record self.old { slots = with_term place reference self.old.slots; trail = (if nat_lt place self.old.barrier then place ∷ self.old.trail else self.old.trail) }) }
+        ensures { OnOk result (self.new ≡
+            record self.old {
+              slots = with_term place reference self.old.slots;
+              trail =
+                  (if nat_lt place self.old.barrier then place ∷ self.old.trail else self.old.trail);
+            }) }
     {
         fill(&mut self.slots, place, reference);
         if place < self.barrier {
-            self.trail.push(place)?;
+            push_on(&mut self.trail, narrow(place)?)?;
         }
         Ok(())
     }
@@ -149,7 +173,13 @@ impl<R: Drop> Places<R> {
 
     /// Empties the places above a height of the trail again, takes off those above the barrier, and sets the barrier back.
     pub(crate) fn go_back(&mut self, height: usize, barrier: usize)
-        ensures { self.new ≡ record { slots = take self.old.barrier (undone (above height self.old.trail) self.old.slots); trail = down_to height self.old.trail; barrier = barrier } }
+        ensures { self.new ≡ record {
+          slots = take self.old.barrier
+              (undone (above height self.old.trail) self.old.slots);
+          trail = down_to height
+              self.old.trail;
+          barrier = barrier;
+        } }
     {
         undo(&mut self.slots, &mut self.trail, height);
         self.slots.truncate(self.barrier);
@@ -158,7 +188,8 @@ impl<R: Drop> Places<R> {
 
     /// Sets the barrier back, and drops the last entries of the trail above a height that are not below it.
     pub(crate) fn trim(&mut self, height: usize, barrier: usize)
-        ensures { self.new ≡ record self.old { trail = trimmed height barrier self.old.trail; barrier = barrier } }
+        ensures { self.new ≡ record self.old
+            { trail = trimmed height barrier self.old.trail; barrier = barrier } }
     {
         trim_trail(&mut self.trail, height, barrier);
         self.barrier = barrier;
@@ -170,7 +201,7 @@ fn push_empty<R: Drop>(slots: &mut Vec<Option<R>>, count: usize) -> Result<(), A
     ensures { OnOk result (slots.new.items ≡ slots.old.items ++ replicate count None) }
 {
     for _i in 0..count {
-        slots.push(None)?;
+        push_on(slots, None)?;
     }
     Ok(())
 }
@@ -187,7 +218,9 @@ fn fill<R: Drop>(slots: &mut Vec<Option<R>>, place: usize, reference: R)
 
 // Gives the last places, which have nothing, the references from a position on.
 fn fill_last<R: Drop>(slots: &mut Vec<Option<R>>, terms: &mut Vec<R>, from: usize)
-    ensures slots { (e : List (Option R)) → slots.old.items ≡ e ++ replicate (length terms.old.items - from) None → slots.new.items ≡ e ++ map (λ r. Some r) (drop from terms.old.items) }
+    ensures slots { (e : List (Option R)) → slots.old.items ≡ e ++
+        replicate (length terms.old.items - from) None → slots.new.items ≡ e ++
+        map (λ r. Some r) (drop from terms.old.items) }
     ensures terms { terms.new.items ≡ take from terms.old.items }
 {
     let mut place = slots.len();
@@ -211,25 +244,26 @@ fn empty<R: Drop>(slots: &mut Vec<Option<R>>, place: usize)
 }
 
 // Empties the places that were put on the trail above a height.
-fn undo<R: Drop>(slots: &mut Vec<Option<R>>, trail: &mut Vec<usize>, height: usize)
-    ensures slots { slots.new.items ≡ undone (above height (reverse trail.old.items)) slots.old.items }
+fn undo<R: Drop>(slots: &mut Vec<Option<R>>, trail: &mut Vec<u32>, height: usize)
+    ensures slots { slots.new.items ≡ undone (above height (reverse trail.old.items))
+        slots.old.items }
     ensures trail { reverse trail.new.items ≡ down_to height (reverse trail.old.items) }
 {
     while trail.len() > height {
         let Some(place) = trail.pop() else {
             return;
         };
-        empty(slots, place);
+        empty(slots, place as usize);
     }
 }
 
 // Drops the last entries above a height that are not below the barrier.
 #[tactic(auto, using(crate::proofs::PlaceLaws::trim_low))]
-fn trim_trail(trail: &mut Vec<usize>, height: usize, barrier: usize)
+fn trim_trail(trail: &mut Vec<u32>, height: usize, barrier: usize)
     ensures { reverse trail.new.items ≡ trimmed height barrier (reverse trail.old.items) }
 {
     while trail.len() > height {
-        if trail[trail.len() - 1] < barrier {
+        if (trail[trail.len() - 1] as usize) < barrier {
             return;
         }
         let _entry = trail.pop();

@@ -36,17 +36,21 @@ pub(crate) fn perform_primitive<S: TermSpace, M: PrimMeaning>(
     patterns: &[LoadedPattern<S::Name>],
     position: &mut Position<S::Ref>,
     stack: &mut Vec<S::Ref>,
+    values: &mut Vec<Flat>,
 ) -> Result<Next, AllocError>
     requires honest { IsHonest M.answer registry.now }
-    requires index { IfSome index (λ k. (k < length (entries_of registry.now)) × ((entry_at registry.now k).1 ≡ length patterns.now)) }
+    requires index { IfSome index (λ k. (k < length (entries_of registry.now)) ×
+        ((entry_at registry.now k).1 ≡ length patterns.now)) }
     requires known { AllKnown (S.space.knows space.old) patterns.now }
     requires safe { IsSafe S.space space.old stacks.now (records_of stacks.now.records) }
     ensures keeps { Keeps S.space space.old space.new }
     ensures stack { IfOk result (λ _. stack.new.items ≡ stack.old.items) }
     ensures step { IfOk result (λ next. (f : List ℕ) (n i : ℕ) →
-        IsPosition (entries_of registry.now) index (f, length patterns.now) → position.old.address ≡ suc i →
+        IsPosition (entries_of registry.now) index (f, length patterns.now) → position.old.address ≡
+        suc i →
         Performs S.space (meaning_of M.answer registry.now)
-        (apply_primitive n f (all_loaded_of (S.space.symbol_of space.old) patterns.now)) i position.old
+        (apply_primitive n f (all_loaded_of (S.space.symbol_of space.old) patterns.now)) i
+        position.old
         space.old stacks.now space.new next position.new stacks.now) }
 {
     let from = stack.len();
@@ -56,7 +60,7 @@ pub(crate) fn perform_primitive<S: TermSpace, M: PrimMeaning>(
         Pushed::NoInstance => Ok(Next::Failing),
         Pushed::Oversize => Ok(Next::Oversize),
         Pushed::All => {
-            let answered = answer(space, alloc, registry, index, &stack[from..])?;
+            let answered = answer(space, alloc, registry, index, &stack[from..], values)?;
             stack.truncate(from);
             Ok(go_on(answered, position))
         }
@@ -86,41 +90,51 @@ fn answer<S: TermSpace, M: PrimMeaning>(
     registry: &Registry<M>,
     position: Option<usize>,
     terms: &[S::Ref],
+    values: &mut Vec<Flat>,
 ) -> Result<Built<S::Ref>, AllocError>
     requires honest { IsHonest M.answer registry.now }
-    requires position { IfSome position (λ k. (k < length (entries_of registry.now)) × ((entry_at registry.now k).1 ≡ length terms.now)) }
+    requires position { IfSome position (λ k. (k < length (entries_of registry.now)) ×
+        ((entry_at registry.now k).1 ≡ length terms.now)) }
     requires standing { AllRefs (λ r. IsTrue (S.space.stands space.old r)) terms.now }
     ensures keeps { Keeps S.space space.old space.new }
-    ensures answer { IfOk result (λ made. (f : List ℕ) → IsPosition (entries_of registry.now) position (f, length terms.now) → Builds S.space space.new (option_map flat.term_of (option_and_then (meaning_of M.answer registry.now f) (all_flat (trees_of (map (S.space.term_of space.old) terms.now))))) made) }
+    ensures answer { IfOk result (λ made. (f : List ℕ) →
+        IsPosition (entries_of registry.now) position (f, length terms.now) →
+        Builds S.space space.new (option_map flat.term_of
+        (option_and_then (meaning_of M.answer registry.now f)
+        (all_flat (trees_of (map (S.space.term_of space.old) terms.now))))) made) }
 {
     let Some(index) = position else {
         return Ok(Built::NoInstance);
     };
-    let Some(value) = call(space, alloc, registry, index, terms)? else {
+    let Some(value) = call(space, alloc, registry, index, terms, values)? else {
         return Ok(Built::NoInstance);
     };
     let made = make_flat(space, alloc, &value)?;
     Ok(outcome(made))
 }
 
-// Calls the primitive at a place of the registry with the flat values that the terms are, if each is one.
+// Calls the primitive at a place of the registry with the flat values that the terms are, if each is one. The values are
+// put on the vector for the call.
 fn call<S: TermSpace, M: PrimMeaning>(
     space: &S,
     alloc: Global,
     registry: &Registry<M>,
     index: usize,
     terms: &[S::Ref],
+    values: &mut Vec<Flat>,
 ) -> Result<Option<Flat>, AllocError>
     requires honest { IsHonest M.answer registry.now }
     requires within { index < length (entries_of registry.now) }
     requires arity { (entry_at registry.now index).1 ≡ length terms.now }
     requires standing { AllRefs (λ r. IsTrue (S.space.stands space.now r)) terms.now }
-    ensures { IfOk result (λ answer. answer_of answer ≡ option_and_then (M.answer (entry_at registry.now index).0) (all_flat (trees_of (map (S.space.term_of space.now) terms.now)))) }
+    ensures { IfOk result (λ answer. answer_of answer ≡
+        option_and_then (M.answer (entry_at registry.now index).0)
+        (all_flat (trees_of (map (S.space.term_of space.now) terms.now)))) }
 {
-    let Some(values) = flat_values(space, alloc, terms)? else {
+    if !flat_values(space, alloc, terms, values)? {
         return Ok(None);
-    };
-    match registry.call_at(index, &values) {
+    }
+    match registry.call_at(index, values.as_slice()) {
         Ok(answer) => Ok(answer),
         Err(_) => Err(AllocError),
     }

@@ -94,7 +94,8 @@ pub(crate) fn load_program<S: TermSpace, M: PrimMeaning>(
 ) -> Result<LoadedProgram<S::Name>, AllocError>
     ensures keeps { Keeps S.space space.old space.new }
     ensures none { MakesNone S.space space.old space.new }
-    ensures loaded { IfOk result (λ l. IsLoadedProgram (S.space.knows space.new) (S.space.symbol_of space.new)
+    ensures loaded { IfOk result (λ l. IsLoadedProgram (S.space.knows space.new)
+        (S.space.symbol_of space.new)
         (entries_of registry.now) S.space.number_of l code.now.tables code.now.instrs) }
 {
     let tables = load_tables(space, alloc, code.tables())?;
@@ -111,7 +112,8 @@ fn load_instrs<S: TermSpace, M: PrimMeaning>(
 ) -> Result<Vec<LoadedInstr<S::Name>>, AllocError>
     ensures keeps { Keeps S.space space.old space.new }
     ensures none { MakesNone S.space space.old space.new }
-    ensures loaded { IfOk result (λ xs. AreLoadedInstrs (S.space.knows space.new) (S.space.symbol_of space.new)
+    ensures loaded { IfOk result (λ xs. AreLoadedInstrs (S.space.knows space.new)
+        (S.space.symbol_of space.new)
         (entries_of registry.now) xs.items instrs.now) }
 {
     let mut loaded = Vec::new(alloc);
@@ -134,7 +136,8 @@ fn load_action<S: TermSpace, M: PrimMeaning>(
 ) -> Result<Action<S::Name>, AllocError>
     ensures keeps { Keeps S.space space.old space.new }
     ensures none { MakesNone S.space space.old space.new }
-    ensures loaded { IfOk result (λ action. IsAction (S.space.knows space.new) (S.space.symbol_of space.new)
+    ensures loaded { IfOk result (λ action.
+        IsAction (S.space.knows space.new) (S.space.symbol_of space.new)
         (entries_of registry.now) action instr.now) }
 {
     match instr {

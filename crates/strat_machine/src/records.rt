@@ -156,14 +156,16 @@ impl<R: Drop, M: Drop> Records<R, M> {
 
     /// Takes the newest record off, if it is of a call: its next address and its frame.
     pub(crate) fn pop_call(&mut self) -> Option<(usize, usize)>
-        ensures { MatchOption result (IsNoCall (records_of self.old)) (λ c. records_of self.old ≡ ref_call c.0 c.1 ∷ records_of self.new) }
+        ensures { MatchOption result (IsNoCall (records_of self.old))
+            (λ c. records_of self.old ≡ ref_call c.0 c.1 ∷ records_of self.new) }
     {
         self.records.pop_call()
     }
 
     /// Takes the newest record off, if it is of a choice: what a failure would have restored.
     pub(crate) fn drop_choice(&mut self) -> Option<Saved>
-        ensures { MatchOption result (IsNoChoice (records_of self.old)) (λ s. IsChoice (records_of self.old) (saved_of s) (records_of self.new)) }
+        ensures { MatchOption result (IsNoChoice (records_of self.old))
+            (λ s. IsChoice (records_of self.old) (saved_of s) (records_of self.new)) }
     {
         self.records.drop_choice()
     }
@@ -171,7 +173,10 @@ impl<R: Drop, M: Drop> Records<R, M> {
     /// Takes the next of the parts that are left.
     pub(crate) fn next_part(&mut self, count: usize) -> Option<R>
         ensures kept { self.new ≡ record self.old { left = self.new.left } }
-        ensures part { MatchOption result ((take count self.old.left ≡ []) × (self.new.left ≡ self.old.left)) (λ r. (take count self.old.left ≡ r ∷ take (count - 1) self.new.left) × (drop count self.old.left ≡ drop (count - 1) self.new.left)) }
+        ensures part { MatchOption result
+            ((take count self.old.left ≡ []) × (self.new.left ≡ self.old.left))
+            (λ r. (take count self.old.left ≡ r ∷ take (count - 1) self.new.left) ×
+            (drop count self.old.left ≡ drop (count - 1) self.new.left)) }
     {
         if count == 0 {
             return None;
@@ -181,7 +186,11 @@ impl<R: Drop, M: Drop> Records<R, M> {
 
     /// Takes off the parts of the newest traversal, whose record is off.
     pub(crate) fn cut(&mut self, done: usize, left: usize)
-        ensures { self.new ≡ record { records = self.old.records; done = drop done self.old.done; left = drop left self.old.left } }
+        ensures { self.new ≡ record {
+          records = self.old.records;
+          done = drop done self.old.done;
+          left = drop left self.old.left;
+        } }
     {
         self.done.cut(done);
         self.left.cut(left);

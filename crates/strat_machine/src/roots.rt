@@ -11,7 +11,8 @@ use term_model::TermSpace;
 pub(crate) fn has_root<S: TermSpace>(space: &S, root: &LoadedRoot<S::Name>, at: &S::Ref) -> bool
     requires known { RootKnown (S.space.knows space.now) root.now }
     requires stands { IsTrue (S.space.stands space.now at.now) }
-    ensures { IsTrue result ↔ (roots.has_root (root_meant (S.space.symbol_of space.now) root.now) (S.space.term_of space.now at.now) ≡ true) }
+    ensures { IsTrue result ↔ (roots.has_root (root_meant (S.space.symbol_of space.now) root.now)
+        (S.space.term_of space.now at.now) ≡ true) }
 {
     match root {
         LoadedRoot::Any => true,
@@ -24,7 +25,8 @@ pub(crate) fn has_root<S: TermSpace>(space: &S, root: &LoadedRoot<S::Name>, at: 
 // Whether the term is a list of `count` elements or, where the root is open, of at least `count`.
 fn is_list_of<S: TermSpace>(space: &S, at: &S::Ref, count: usize, is_open: bool) -> bool
     requires { IsTrue (S.space.stands space.now at.now) }
-    ensures { IsTrue result ↔ (roots.has_root (roots.list_root count is_open) (S.space.term_of space.now at.now) ≡ true) }
+    ensures { IsTrue result ↔ (roots.has_root (roots.list_root count is_open)
+        (S.space.term_of space.now at.now) ≡ true) }
 {
     let Some(len) = space.list_len(at) else {
         return false;

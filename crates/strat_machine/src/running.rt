@@ -13,7 +13,7 @@ ghost use Rattle.strat_machine.specs.Running.{IsClear, GoesOn, HasEnded, IsOutco
 
 use crate::instructions::step;
 use crate::program::LoadedProgram;
-use crate::stacks::{Next, Position, Stacks};
+use crate::stacks::{Next, Position, Scratch, Stacks};
 use core_lang::{Outcome, Run};
 use prim_registry::{PrimMeaning, Registry};
 use std::alloc::{AllocError, Global};
@@ -34,19 +34,25 @@ pub(crate) fn run_code<S: TermSpace, M: PrimMeaning>(
     requires clear { IsClear stacks.old }
     requires stands { IsTrue (S.space.stands space.old term) }
     requires honest { IsHonest M.answer registry.now }
-    requires loaded { IsLoadedProgram (S.space.knows space.old) (S.space.symbol_of space.old) (entries_of registry.now)
+    requires loaded { IsLoadedProgram (S.space.knows space.old) (S.space.symbol_of space.old)
+        (entries_of registry.now)
         S.space.number_of program.now code.now.tables code.now.instrs }
-    ensures steps { IfOk result (λ run. StepsRef S.space (code_of code.now.tables code.now.instrs) (meaning_of M.answer registry.now) run.steps space.old (start_ref term budget) space.new (end_ref run.outcome stacks.new.left)) }
+    ensures steps { IfOk result (λ run. StepsRef S.space (code_of code.now.tables code.now.instrs)
+        (meaning_of M.answer registry.now) run.steps space.old (start_ref term budget) space.new
+        (end_ref run.outcome stacks.new.left)) }
     ensures rules { IfOk result (λ run. run.rules ≡ rules_of run.outcome budget stacks.new.left) }
     ensures few { IfOk result (λ run. run.steps ≤ 10 * run.rules + 10) }
-    ensures stands { IfOk result (λ run. OutcomeStands (λ r. IsTrue (S.space.stands space.new r)) run.outcome) }
-    ensures kept { (r : S.Ref) → IsTrue (S.space.stands space.old r) → IsTrue (S.space.stands space.new r) × (S.space.term_of space.new r ≡ S.space.term_of space.old r) }
+    ensures stands { IfOk result (λ run. OutcomeStands (λ r. IsTrue (S.space.stands space.new r))
+        run.outcome) }
+    ensures kept { (r : S.Ref) → IsTrue (S.space.stands space.old r) →
+        IsTrue (S.space.stands space.new r) ×
+        (S.space.term_of space.new r ≡ S.space.term_of space.old r) }
     ensures names { KeepsNames S.space space.old space.new }
 {
     // The code stands for some program, so the run ends in time and is never stuck.
     let _ = code.instrs();
     stacks.left = budget as usize;
-    let mut stack = Vec::new(alloc);
+    let mut scratch = Scratch::new(alloc);
     let mut steps: u64 = 0;
     let mut next = Next::Running;
     let mut position = Position {
@@ -64,7 +70,7 @@ pub(crate) fn run_code<S: TermSpace, M: PrimMeaning>(
             registry,
             next,
             &mut position,
-            &mut stack,
+            &mut scratch,
         )?;
         steps += 1;
     }

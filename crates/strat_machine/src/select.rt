@@ -28,7 +28,8 @@ pub(crate) fn perform_select<S: TermSpace>(
     requires known { TablesKnown (S.space.knows space.now) S.space.number_of tables.now }
     requires stands { IsTrue (S.space.stands space.now position.old.term) }
     ensures { IfOk result (λ next. (M : Meaning) (n i : ℕ) →
-        Performs S.space M (select n (cases_meant (S.space.symbol_of space.now) tables.now table skipped) last) i position.old
+        Performs S.space M (select n (cases_meant (S.space.symbol_of space.now) tables.now table
+        skipped) last) i position.old
         space.now stacks.old space.now next position.new stacks.new) }
 {
     match tables.get(table) {
@@ -52,7 +53,9 @@ fn select_in<S: TermSpace>(
     requires known { TableKnown (S.space.knows space.now) S.space.number_of table.now }
     requires stands { IsTrue (S.space.stands space.now position.old.term) }
     ensures { IfOk result (λ next. (M : Meaning) (n i : ℕ) →
-        Performs S.space M (select n (drop skipped (map (case_meant (S.space.symbol_of space.now)) table.now.cases.items)) last) i position.old
+        Performs S.space M (select n (drop skipped
+        (map (case_meant (S.space.symbol_of space.now)) table.now.cases.items)) last) i
+        position.old
         space.now stacks.old space.now next position.new stacks.new) }
 {
     let cases = table.cases.as_slice();
@@ -81,7 +84,8 @@ fn select_by<S: TermSpace>(
     requires skipped { skipped ≤ length cases.now }
     requires stands { IsTrue (S.space.stands space.now position.old.term) }
     ensures { IfOk result (λ next. (M : Meaning) (n i : ℕ) →
-        Performs S.space M (select n (drop skipped (map (case_meant (S.space.symbol_of space.now)) cases.now)) last) i position.old
+        Performs S.space M (select n (drop skipped
+        (map (case_meant (S.space.symbol_of space.now)) cases.now)) last) i position.old
         space.now stacks.old space.now next position.new stacks.new) }
 {
     let found = find_case(space, cases, index, skipped, &position.term);
@@ -115,7 +119,8 @@ fn walk_cases<S: TermSpace>(
     requires known { CasesKnown (S.space.knows space.now) cases.now }
     requires stands { IsTrue (S.space.stands space.now position.old.term) }
     ensures { IfOk result (λ next. (M : Meaning) (n i : ℕ) →
-        Performs S.space M (select n (map (case_meant (S.space.symbol_of space.now)) cases.now) last) i position.old
+        Performs S.space M (select n (map (case_meant (S.space.symbol_of space.now)) cases.now)
+        last) i position.old
         space.now stacks.old space.now next position.new stacks.new) }
 {
     for case in cases {

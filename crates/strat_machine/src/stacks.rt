@@ -7,6 +7,7 @@ ghost use Rattle.strat_steps.specs.State as state;
 use crate::frames::Frames;
 use crate::places::Places;
 use crate::records::{Records, Saved};
+use prim_registry::Flat;
 use std::alloc::Global;
 
 /// The stacks, and the nodes that are left of the budget.
@@ -16,6 +17,14 @@ pub(crate) struct Stacks<R: Drop, M: Drop> {
     pub(crate) places: Places<R>,
     pub(crate) records: Records<R, M>,
     pub(crate) left: usize,
+}
+
+/// Vectors for terms that are made and for the arguments of a primitive. They are kept from step to step for their memory
+/// alone.
+#[derive(Drop)]
+pub(crate) struct Scratch<R: Drop> {
+    pub(crate) terms: Vec<R>,
+    pub(crate) values: Vec<Flat>,
 }
 
 /// Where the machine is: the address of the instruction that comes next, the current frame and the current term. While the machine deals with
@@ -46,6 +55,16 @@ pub(crate) enum Next {
     Stuck,
 }
 
+impl<R: Drop> Scratch<R> {
+    /// Vectors without anything on them.
+    pub(crate) fn new(alloc: Global) -> Scratch<R> {
+        Scratch {
+            terms: Vec::new(alloc),
+            values: Vec::new(alloc),
+        }
+    }
+}
+
 impl<R: Drop, M: Drop> Stacks<R, M> {
     /// Stacks without anything on them.
     pub(crate) fn new(alloc: Global) -> Stacks<R, M>
@@ -70,7 +89,8 @@ impl<R: Drop, M: Drop> Stacks<R, M> {
 
     /// What a failure restores, with this frame.
     pub(crate) fn saved(&self, frame: usize) -> Saved
-        ensures { saved_of result ≡ state.saved frame (length self.now.frames) (length self.now.places.trail) self.now.places.barrier }
+        ensures { saved_of result ≡ state.saved frame (length self.now.frames)
+            (length self.now.places.trail) self.now.places.barrier }
     {
         Saved {
             frame,

@@ -17,7 +17,8 @@ pub(crate) fn enter_scope<S: TermSpace>(
     position: &mut Position<S::Ref>,
 ) -> Result<(), AllocError>
     ensures { OnOk result ((M : Meaning) (w : S) (n i : ℕ) → position.old.address ≡ suc i →
-        Performs S.space M (enter n places) i position.old w stacks.old w Running position.new stacks.new) }
+        Performs S.space M (enter n places) i position.old w stacks.old w Running position.new
+        stacks.new) }
 {
     let inner = stacks.frames.len();
     stacks
@@ -55,7 +56,8 @@ pub(crate) fn extend_scope<S: TermSpace>(
     position: &Position<S::Ref>,
 ) -> Result<(), AllocError>
     ensures { OnOk result ((M : Meaning) (w : S) (n i : ℕ) → position.now.address ≡ suc i →
-        Performs S.space M (extend n places) i position.now w stacks.old w Running position.now stacks.new) }
+        Performs S.space M (extend n places) i position.now w stacks.old w Running position.now
+        stacks.new) }
 {
     stacks.places.extend(places)
 }
@@ -67,7 +69,8 @@ pub(crate) fn shrink_scope<S: TermSpace>(
     position: &Position<S::Ref>,
 ) -> Next
     ensures { (M : Meaning) (w : S) (i : ℕ) → position.now.address ≡ suc i →
-        Performs S.space M (shrink places) i position.now w stacks.old w result position.now stacks.new }
+        Performs S.space M (shrink places) i position.now w stacks.old w result position.now
+        stacks.new }
 {
     let kept = stacks.places.len().saturating_sub(places);
     if kept < stacks.places.barrier() {
@@ -84,13 +87,14 @@ pub(crate) fn call_parameter<S: TermSpace>(
     position: &mut Position<S::Ref>,
 ) -> Result<(), AllocError>
     ensures { OnOk result ((M : Meaning) (w : S) (n i : ℕ) → position.old.address ≡ suc i →
-        Performs S.space M (call_closure n parameter) i position.old w stacks.old w Running position.new stacks.new) }
+        Performs S.space M (call_closure n parameter) i position.old w stacks.old w Running
+        position.new stacks.new) }
 {
     let closure = stacks.frames.closure_of(position.frame, parameter);
     let records = &mut stacks.records.records;
     records.push_call(position.address, position.frame)?;
-    position.address = closure.entry;
-    position.frame = closure.frame;
+    position.address = closure.entry as usize;
+    position.frame = closure.frame as usize;
     Ok(())
 }
 
@@ -116,7 +120,8 @@ pub(crate) fn leave_definition<S: TermSpace>(
     position: &mut Position<S::Ref>,
 ) -> Next
     ensures { (M : Meaning) (w : S) (i : ℕ) →
-        Performs S.space M end_definition i position.old w stacks.old w result position.new stacks.new }
+        Performs S.space M end_definition i position.old w stacks.old w result position.new
+        stacks.new }
 {
     let Some((next_address, frame)) = stacks.records.pop_call() else {
         return Next::Stuck;
@@ -141,7 +146,8 @@ pub(crate) fn commit_choice<S: TermSpace>(
     position: &mut Position<S::Ref>,
 ) -> Next
     ensures { (M : Meaning) (w : S) (n i : ℕ) →
-        Performs S.space M (commit n next_address) i position.old w stacks.old w result position.new stacks.new }
+        Performs S.space M (commit n next_address) i position.old w stacks.old w result position.new
+        stacks.new }
 {
     let Some(saved) = stacks.records.drop_choice() else {
         return Next::Stuck;
@@ -159,7 +165,8 @@ pub(crate) fn put_choice<S: TermSpace>(
     position: &Position<S::Ref>,
 ) -> Result<(), AllocError>
     requires { IsTrue (S.space.stands space.now position.now.term) }
-    ensures { OnOk result (PutsChoice S.space space.now stacks.old otherwise position.now stacks.new) }
+    ensures { OnOk result (PutsChoice S.space space.now stacks.old otherwise position.now
+        stacks.new) }
 {
     let term = space.dup(&position.term)?;
     let saved = stacks.saved(position.frame);

@@ -42,7 +42,8 @@ pub(crate) fn load_tables<S: TermSpace>(
 ) -> Result<Vec<LoadedTable<S::Name>>, AllocError>
     ensures keeps { Keeps S.space space.old space.new }
     ensures none { MakesNone S.space space.old space.new }
-    ensures loaded { IfOk result (λ ts. AreLoadedTables (S.space.knows space.new) (S.space.symbol_of space.new) S.space.number_of ts.items tables.now) }
+    ensures loaded { IfOk result (λ ts. AreLoadedTables (S.space.knows space.new)
+        (S.space.symbol_of space.new) S.space.number_of ts.items tables.now) }
 {
     let mut loaded = Vec::new(alloc);
     for table in tables {
@@ -60,7 +61,8 @@ fn load_table<S: TermSpace>(
 ) -> Result<LoadedTable<S::Name>, AllocError>
     ensures keeps { Keeps S.space space.old space.new }
     ensures none { MakesNone S.space space.old space.new }
-    ensures loaded { IfOk result (λ t. IsLoadedTable (S.space.knows space.new) (S.space.symbol_of space.new) S.space.number_of t (map case_of cases.now)) }
+    ensures loaded { IfOk result (λ t. IsLoadedTable (S.space.knows space.new)
+        (S.space.symbol_of space.new) S.space.number_of t (map case_of cases.now)) }
 {
     let loaded = load_cases(space, alloc, cases)?;
     let index = index_cases(space, alloc, &loaded)?;
@@ -78,7 +80,8 @@ fn load_cases<S: TermSpace>(
 ) -> Result<Vec<LoadedCase<S::Name>>, AllocError>
     ensures keeps { Keeps S.space space.old space.new }
     ensures none { MakesNone S.space space.old space.new }
-    ensures loaded { IfOk result (λ cs. AreLoadedCases (S.space.knows space.new) (S.space.symbol_of space.new) cs.items (map case_of cases.now)) }
+    ensures loaded { IfOk result (λ cs. AreLoadedCases (S.space.knows space.new)
+        (S.space.symbol_of space.new) cs.items (map case_of cases.now)) }
 {
     let mut loaded = Vec::new(alloc);
     for case in cases {
@@ -101,7 +104,8 @@ fn load_root<S: TermSpace>(
 ) -> Result<LoadedRoot<S::Name>, AllocError>
     ensures keeps { Keeps S.space space.old space.new }
     ensures none { MakesNone S.space space.old space.new }
-    ensures loaded { IfOk result (λ r. IsLoadedRoot (S.space.knows space.new) (S.space.symbol_of space.new) r (root_of root.now)) }
+    ensures loaded { IfOk result (λ r. IsLoadedRoot (S.space.knows space.new)
+        (S.space.symbol_of space.new) r (root_of root.now)) }
 {
     match root {
         Root::Any => Ok(LoadedRoot::Any),

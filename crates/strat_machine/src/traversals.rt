@@ -80,7 +80,8 @@ fn next_of_all<S: TermSpace>(
 ) -> Result<Next, AllocError>
     requires { HasParts S.space space.old stacks.old.records traversed }
     ensures keeps { Keeps S.space space.old space.new }
-    ensures step { IfOk result (λ next. GoesOnAll S.space space.old stacks.old traversed (take traversed.done stacks.old.records.done) position.old.frame
+    ensures step { IfOk result (λ next. GoesOnAll S.space space.old stacks.old traversed
+        (take traversed.done stacks.old.records.done) position.old.frame
         space.new next position.new stacks.new) }
 {
     let Some(part) = stacks.records.next_part(traversed.left) else {
@@ -101,7 +102,8 @@ fn next_of_one<S: TermSpace>(
     position: &mut Position<S::Ref>,
 ) -> Result<Next, AllocError>
     requires { HasParts S.space space.now stacks.old.records traversed }
-    ensures { IfOk result (λ next. GoesOnOne S.space space.now stacks.old traversed (take traversed.done stacks.old.records.done) position.old.frame
+    ensures { IfOk result (λ next. GoesOnOne S.space space.now stacks.old traversed
+        (take traversed.done stacks.old.records.done) position.old.frame
         next position.new stacks.new) }
 {
     let Some(part) = stacks.records.next_part(traversed.left) else {
@@ -123,7 +125,8 @@ fn next_of_some<S: TermSpace>(
 ) -> Result<Next, AllocError>
     requires { HasParts S.space space.old stacks.old.records traversed }
     ensures keeps { Keeps S.space space.old space.new }
-    ensures step { IfOk result (λ next. GoesOnSome S.space space.old stacks.old traversed (take traversed.done stacks.old.records.done) found position.old.frame
+    ensures step { IfOk result (λ next. GoesOnSome S.space space.old stacks.old traversed
+        (take traversed.done stacks.old.records.done) found position.old.frame
         space.new next position.new stacks.new) }
 {
     let Some(part) = stacks.records.next_part(traversed.left) else {
@@ -146,10 +149,15 @@ fn rebuild_whole<S: TermSpace>(
     position: &mut Position<S::Ref>,
 ) -> Result<Next, AllocError>
     requires whole { IsTrue (S.space.stands space.old traversed.whole) }
-    requires parts { AllRefs (λ r. IsTrue (S.space.stands space.old r)) (take traversed.done stacks.old.records.done) }
-    requires count { length (take traversed.done stacks.old.records.done) ≡ length (parts_of (S.space.term_of space.old traversed.whole)) }
+    requires parts { AllRefs (λ r. IsTrue (S.space.stands space.old r))
+        (take traversed.done stacks.old.records.done) }
+    requires count { length (take traversed.done stacks.old.records.done) ≡
+        length (parts_of (S.space.term_of space.old traversed.whole)) }
     ensures keeps { Keeps S.space space.old space.new }
-    ensures step { IfOk result (λ next. RebuildsTo S.space space.old traversed.whole (reverse (take traversed.done stacks.old.records.done)) stacks.old (records_in stacks.old.records.records (drop traversed.done stacks.old.records.done) (drop traversed.left stacks.old.records.left)) traversed.next_address position.old.frame
+    ensures step { IfOk result (λ next. RebuildsTo S.space space.old traversed.whole
+        (reverse (take traversed.done stacks.old.records.done)) stacks.old
+        (records_in stacks.old.records.records (drop traversed.done stacks.old.records.done)
+        (drop traversed.left stacks.old.records.left)) traversed.next_address position.old.frame
         space.new (state_of next position.new stacks.new)) }
 {
     let parts = stacks.records.done.newest(traversed.done);
@@ -174,14 +182,36 @@ pub(crate) fn end_part<S: TermSpace>(
 ) -> Result<Next, AllocError>
     requires stands { IsTrue (S.space.stands space.old position.old.term) }
     requires safe { IsSafe S.space space.old stacks.old (records_of stacks.old.records) }
-    requires counted { AllCounted (map (record_tree (S.space.term_of space.old)) (records_of stacks.old.records)) }
+    requires counted { AllCounted (map (record_tree (S.space.term_of space.old))
+        (records_of stacks.old.records)) }
     ensures keeps { Keeps S.space space.old space.new }
     ensures step { IfOk result (λ next. (M : Meaning) (i : ℕ) →
-        Performs S.space M part_done i position.old space.old stacks.old space.new next position.new stacks.new) }
+        Performs S.space M part_done i position.old space.old stacks.old space.new next position.new
+        stacks.new) }
 {
     if stacks.records.records.is_all() {
         return end_part_of_all(space, alloc, stacks, position);
     }
+    end_tried_part(space, alloc, stacks, position)
+}
+
+// A part has become this, where the newest record is not of all(s).
+fn end_tried_part<S: TermSpace>(
+    space: &mut S,
+    alloc: Global,
+    stacks: &mut Stacks<S::Ref, S::Mark>,
+    position: &mut Position<S::Ref>,
+) -> Result<Next, AllocError>
+    requires stands { IsTrue (S.space.stands space.old position.old.term) }
+    requires safe { IsSafe S.space space.old stacks.old (records_of stacks.old.records) }
+    requires counted { AllCounted (map (record_tree (S.space.term_of space.old))
+        (records_of stacks.old.records)) }
+    requires all { HasNoAll stacks.old.records.records }
+    ensures keeps { Keeps S.space space.old space.new }
+    ensures step { IfOk result (λ next. (M : Meaning) (i : ℕ) →
+        Performs S.space M part_done i position.old space.old stacks.old space.new next position.new
+        stacks.new) }
+{
     let Some(record) = stacks.records.records.pop() else {
         return Ok(Next::Stuck);
     };
@@ -217,11 +247,13 @@ fn end_part_of_all<S: TermSpace>(
 ) -> Result<Next, AllocError>
     requires stands { IsTrue (S.space.stands space.old position.old.term) }
     requires safe { IsSafe S.space space.old stacks.old (records_of stacks.old.records) }
-    requires counted { AllCounted (map (record_tree (S.space.term_of space.old)) (records_of stacks.old.records)) }
+    requires counted { AllCounted (map (record_tree (S.space.term_of space.old))
+        (records_of stacks.old.records)) }
     requires all { HasNoAll stacks.old.records.records → stacks.old.records.records ≡ [] }
     ensures keeps { Keeps S.space space.old space.new }
     ensures step { IfOk result (λ next. (M : Meaning) (i : ℕ) →
-        Performs S.space M part_done i position.old space.old stacks.old space.new next position.new stacks.new) }
+        Performs S.space M part_done i position.old space.old stacks.old space.new next position.new
+        stacks.new) }
 {
     let records = &mut stacks.records;
     if let Some((body, part)) = records.records.advance_all(&mut records.left) {
@@ -248,7 +280,8 @@ fn end_last_part<S: TermSpace>(
 ) -> Result<Next, AllocError>
     requires { HasTried S.space space.old stacks.old.records traversed position.old.term }
     ensures keeps { Keeps S.space space.old space.new }
-    ensures step { IfOk result (λ next. GoesOnAll S.space space.old stacks.old traversed (position.old.term ∷ take traversed.done stacks.old.records.done) position.old.frame
+    ensures step { IfOk result (λ next. GoesOnAll S.space space.old stacks.old traversed
+        (position.old.term ∷ take traversed.done stacks.old.records.done) position.old.frame
         space.new next position.new stacks.new) }
 {
     let done = space.dup(&position.term)?;
@@ -270,7 +303,11 @@ fn end_part_of_one<S: TermSpace>(
 ) -> Result<Next, AllocError>
     requires { HasTried S.space space.old stacks.old.records traversed position.old.term }
     ensures keeps { Keeps S.space space.old space.new }
-    ensures step { IfOk result (λ next. RebuildsTo S.space space.old traversed.whole (reverse (take traversed.done stacks.old.records.done) ++ position.old.term ∷ take traversed.left stacks.old.records.left) stacks.old (records_in stacks.old.records.records (drop traversed.done stacks.old.records.done) (drop traversed.left stacks.old.records.left)) traversed.next_address position.old.frame
+    ensures step { IfOk result (λ next. RebuildsTo S.space space.old traversed.whole
+        (reverse (take traversed.done stacks.old.records.done) ++ position.old.term ∷
+        take traversed.left stacks.old.records.left) stacks.old
+        (records_in stacks.old.records.records (drop traversed.done stacks.old.records.done)
+        (drop traversed.left stacks.old.records.left)) traversed.next_address position.old.frame
         space.new (state_of next position.new stacks.new)) }
 {
     let done = space.dup(&position.term)?;
@@ -291,7 +328,8 @@ fn end_part_of_some<S: TermSpace>(
 ) -> Result<Next, AllocError>
     requires { HasTried S.space space.old stacks.old.records traversed position.old.term }
     ensures keeps { Keeps S.space space.old space.new }
-    ensures step { IfOk result (λ next. GoesOnSome S.space space.old stacks.old traversed (position.old.term ∷ take traversed.done stacks.old.records.done) true position.old.frame
+    ensures step { IfOk result (λ next. GoesOnSome S.space space.old stacks.old traversed
+        (position.old.term ∷ take traversed.done stacks.old.records.done) true position.old.frame
         space.new next position.new stacks.new) }
 {
     let done = space.dup(&position.term)?;

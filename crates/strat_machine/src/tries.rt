@@ -17,7 +17,8 @@ pub(crate) fn try_one<S: TermSpace>(
     position: &mut Position<S::Ref>,
 ) -> Result<(), AllocError>
     requires { IsTrue (S.space.stands space.now part) }
-    ensures { OnOk result (TriesPart S.space space.now stacks.old (records.One traversed part) traversed.body
+    ensures { OnOk result (TriesPart S.space space.now stacks.old (records.One traversed part)
+        traversed.body
         position.old.frame part position.new stacks.new) }
 {
     position.term = space.dup(&part)?;
@@ -42,7 +43,8 @@ pub(crate) fn try_some<S: TermSpace>(
     position: &mut Position<S::Ref>,
 ) -> Result<(), AllocError>
     requires { IsTrue (S.space.stands space.now part) }
-    ensures { OnOk result (TriesPart S.space space.now stacks.old (records.Some traversed part found) traversed.body
+    ensures { OnOk result (TriesPart S.space space.now stacks.old
+        (records.Some traversed part found) traversed.body
         position.old.frame part position.new stacks.new) }
 {
     position.term = space.dup(&part)?;

@@ -1,18 +1,5 @@
-use Rattle.std.proofs.Common.{sym, ap, refl}
-use Rattle.strat_steps.specs.References.{ref_failing}
-use Rattle.strat_machine.specs.RecordStack.{records_in, records_of}
-use Rattle.strat_steps.specs.ReferenceSteps.{fails_whole, fails_all}
-use Rattle.strat_machine.proofs.FailLaws.{step_from, step_to, step_at, same_failing, fails_popped}
+use Rattle.strat_machine.proofs.FailLaws.{fails_popped}
 use Rattle.strat_machine.proofs.failing.fail.Goals as goal
-
-pub returns-in_default-clause-step : goal.returns-in_default-clause-step
-returns-in_default-clause-step g c = λ code M.
-    let m = c.args.stacks.now in
-    step_from fails_whole (ap (λ rs. ref_failing m.places.slots m.frames m.places.trail m.places.barrier (records_in rs m.records.done m.records.left) m.left) (sym c.in_default.ensures))
 
 pub returns-then-is_call-clause-step : goal.returns-then-is_call-clause-step
 returns-then-is_call-clause-step g c = λ code M. fails_popped _ _ _ _ _ c.pop_call-call.ensures (c.is_call.ensures.yes (search (c.if-is_call.true)))
-
-pub returns-in-All-clause-step : goal.returns-in-All-clause-step
-returns-in-All-clause-step g c = λ code M.
-    step_at _ _ (step_to fails_all (same_failing refl refl refl refl (ap (λ rs. records_of rs) (sym c.cut.ensures)))) c.in-Some.ensures c.in-All.is

@@ -1,5 +1,4 @@
-use Rattle.std.proofs.Common.{◌≡◌, ◌∙◌, Some, ap, sym, length, map}
-use Rattle.std.specs.Option.{option_map}
+use Rattle.std.proofs.Common.{rules, ◌≡◌, ◌∙◌, true, if◌then◌else◌, Some, None, ap, sym, length, map}
 use Rattle.std.proofs.lemmas.List.{length-map}
 use Rattle.prim_registry.specs.Values.{value_of, values_of}
 use Rattle.term_model.specs.Flat.{all_flat}
@@ -10,6 +9,7 @@ use Rattle.strat_machine.proofs.primitives.call.Goals as goal
 pub call_at-requires-clause-arity : goal.call_at-requires-clause-arity
 call_at-requires-clause-arity g c =
     let f = g.S.TermSpace.space.term_of c.args.space.now in
-    let values = c.in-Some.values.items in
-    let is : Some (values_of values) ≡ all_flat (trees_of (map f c.args.terms.now)) = ap (option_map (λ flats. values_of flats.items)) (sym c.in-Some.is) ∙ c.in_ok-values.ensures in
-    c.requires.arity ∙ (sym (length-map c.args.terms.now f) ∙ (sym (as_many_flat (map f c.args.terms.now) (values_of values) is) ∙ (length-map values value_of ∙ sym (ap length c.deref.ensures.value))))
+    let values = c.flat_values.new.values.items in
+    let yes : c.in_ok-flat_values.field-0 ≡ true = search rules in
+    let is : Some (values_of values) ≡ all_flat (trees_of (map f c.args.terms.now)) = sym (ap (λ b. if b then Some (values_of values) else None) yes) ∙ c.in_ok-flat_values.ensures in
+    c.requires.arity ∙ (sym (length-map c.args.terms.now f) ∙ (sym (as_many_flat (map f c.args.terms.now) (values_of values) is) ∙ (length-map values value_of ∙ sym (ap length c.as_slice.ensures.value))))

@@ -1,6 +1,5 @@
-use Rattle.std.proofs.Common.{◌∷◌, ap}
+use Rattle.std.proofs.Common.{ap}
 use Rattle.std.proofs.lemmas.Result.{IfOk-weaker}
-use Rattle.strat_machine.specs.declared.records.Records.{Records}
 use Rattle.strat_machine.proofs.TraversalLaws.{all_ends_last}
 use Rattle.strat_machine.proofs.traversals.end_last_part.Goals as goal
 

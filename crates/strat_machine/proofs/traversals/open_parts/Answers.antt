@@ -1,7 +1,5 @@
-use Rattle.std.proofs.Common.{◌++◌, ap}
+use Rattle.std.proofs.Common.{ap}
 use Rattle.std.proofs.lemmas.Result.{IfOk-weaker}
-use Rattle.strat_machine.specs.Traversing.{OpensParts}
-use Rattle.strat_machine.specs.declared.records.Records.{Records}
 use Rattle.strat_machine.proofs.TraversalLaws.{refs_of_all}
 use Rattle.strat_machine.proofs.traversals.open_parts.Goals as goal
 

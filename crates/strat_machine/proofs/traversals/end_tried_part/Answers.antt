@@ -1,7 +1,6 @@
 use Rattle.std.proofs.lemmas.Result.{IfOk-weaker}
-use Rattle.strat_steps.specs.ReferenceSteps.{part_of_all}
-use Rattle.strat_machine.proofs.PartLaws.{all_tried, one_tried, some_tried, part_at, part_of_nothing, part_of_call, part_of_choice, one_made, some_ended}
-use Rattle.strat_machine.proofs.traversals.end_part.Goals as goal
+use Rattle.strat_machine.proofs.PartLaws.{one_tried, some_tried, part_at, part_of_nothing, part_of_call, part_of_choice, one_made, some_ended}
+use Rattle.strat_machine.proofs.traversals.end_tried_part.Goals as goal
 
 pub returns-in_default-clause-step : goal.returns-in_default-clause-step
 returns-in_default-clause-step g c = λ M i. part_of_nothing _ _ c.in_default.ensures

@@ -4,7 +4,7 @@ use Rattle.std.proofs.lemmas.List.Sorted.{IsNonDecreasingBy-drop, IsNonDecreasin
 use Rattle.std.proofs.lemmas.List.{take_rest}
 use Rattle.strat_machine.specs.Tables.{case_has}
 use Rattle.strat_machine.proofs.IndexLaws.{first_from, same_list}
-use Rattle.strat_machine.proofs.index.first_in.Goals as goal
+use Rattle.strat_machine.proofs.index.first_after.Goals as goal
 
 pub first_of-requires-clause-rising : goal.first_of-requires-clause-rising
 first_of-requires-clause-rising g c =
