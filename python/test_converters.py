@@ -1,0 +1,455 @@
+#!/usr/bin/env python3
+"""Tests the converters: `python3 python/test_converters.py [--all] [TEST ..]`.
+
+Files of Python's standard library are converted to terms and back: 150 of them, or with --all each one, which takes a minute or two. Files
+that are no programs, and those whose terms do not fit, are counted, and the latter are listed. JSON, S-expressions and bad input are
+tested by samples. If the environment variable STRC names the program, the programs of python/examples run and their outputs are compared,
+and terms of samples are read and written by strc as they are by `aterm.py`.
+"""
+
+import argparse
+import ast
+import collections
+import concurrent.futures
+import os
+import re
+import subprocess
+import sys
+import sysconfig
+import tempfile
+import unittest
+from pathlib import Path
+
+HERE = Path(__file__).resolve().parent
+sys.path.insert(0, str(HERE))
+
+import aterm  # noqa: E402
+import aterm_to_json  # noqa: E402
+import aterm_to_python  # noqa: E402
+import command  # noqa: E402
+import json_to_aterm  # noqa: E402
+import python_kinds  # noqa: E402
+import python_to_aterm  # noqa: E402
+import sexp_to_aterm  # noqa: E402
+
+EXAMPLES = HERE / "examples"
+LIBRARY = Path(sysconfig.get_paths()["stdlib"])
+STRC = os.environ.get("STRC") or None
+SAMPLE = 150
+TAKES_ALL = "--all" in sys.argv
+sys.set_int_max_str_digits(0)
+SAMPLES = [
+    b"7",
+    b'f(1,"g"(a),(),[(b),[]]){c{d},"e"}',
+    b'"quote \\" backslash \\\\ lines \\n\\r\\t bytes \\000\\037\\177\xff\xc3\xa9"',
+    b'[-9223372036854775808,9223372036854775807,_a-1+b*c$,""(1)]',
+    b"[" * 1000 + b"]" * 1000,
+    b"f(" * 999 + b"x" + b")" * 999,
+    b"1{" * 999 + b"x" + b"}" * 999,
+]
+BAD_TERMS = [
+    b"",
+    b" ",
+    b"(7 8)",
+    b"[1,]",
+    b"[,1]",
+    b"f(1))",
+    b"t{a}{b}",
+    b"1(2)",
+    b"[1](2)",
+    b"(1]",
+    b'"a',
+    b'"a\n"',
+    b'"\\q"',
+    b'"\\400"',
+    b"9223372036854775808",
+    b"-9223372036854775809",
+    b"a b",
+    b"a'",
+    b"\xc3\xa9",
+    b"[" * 1001 + b"]" * 1001,
+    b"f(" * 1000 + b"x" + b")" * 1000,
+]
+
+
+def run(converter, text, *words):
+    """The status, the output and the complaint of a converter."""
+    done = subprocess.run([sys.executable, HERE / f"{converter}.py", *words], input=text, capture_output=True, timeout=60, check=False)
+    return done.returncode, done.stdout, done.stderr.decode()
+
+
+def strc(definitions, term, *words):
+    """What strc prints for a file of definitions and the text of a term."""
+    command_line = [STRC, "--rules", "1000000000", *words, definitions]
+    return subprocess.run(command_line, input=term, capture_output=True, timeout=60, check=False).stdout
+
+
+class Refusals(unittest.TestCase):
+    """How bad input ends, in this process or, for input that is nested deeply, in one of its own."""
+
+    def refused(self, converter, text):
+        limit = sys.getrecursionlimit()
+        asked = argparse.Namespace(file="-", pair=None, positions=False, source=None, indent=None)
+        try:
+            with self.assertRaises((command.Fault, aterm.TermError), msg=text):
+                converter.convert(text, asked)
+        finally:
+            sys.setrecursionlimit(limit)
+
+    def refused_apart(self, converter, text):
+        status, output, complaint = run(converter.__name__, text)
+        self.assertEqual((status, output), (2, b""), text[:40])
+        self.assertRegex(complaint, rf"^{converter.__name__}\.py: stdin:.*\n$")
+
+
+# ---- terms
+
+
+class Terms(unittest.TestCase):
+    def test_samples_are_canonical(self):
+        for text in SAMPLES:
+            self.assertEqual(aterm.write(aterm.read(text)), text)
+
+    def test_blanks_and_empty_lists_are_not_written(self):
+        self.assertEqual(aterm.write(aterm.read(b' f ( 1 , a-1+b\t, "g"( ) { } ) { 007 }\r\n')), b'f(1,a-1+b,"g"){7}')
+        self.assertEqual(aterm.write(aterm.read(b"-" + b"0" * 5000)), b"0")
+
+    def test_bad_terms_are_refused(self):
+        for text in BAD_TERMS:
+            with self.assertRaisesRegex(aterm.TermError, r"^\d+:\d+: "):
+                aterm.read(text)
+
+    def test_faults_have_their_place(self):
+        with self.assertRaisesRegex(aterm.TermError, r"^2:4: unexpected '8': expected ',' or '\)'$"):
+            aterm.read(b"\n(7 8)")
+
+    def test_terms_that_have_no_text_are_refused(self):
+        deep = aterm.List()
+        for _ in range(1000):
+            deep = aterm.List([deep])
+        for term in (deep, aterm.Integer(2**63), aterm.Application("a b"), aterm.Text(b"a" * aterm.LONGEST)):
+            with self.assertRaises(aterm.TermError):
+                aterm.write(term)
+
+    def test_strings_are_kept(self):
+        for text in ("", "a", "\0\n\"\\", "é\u20ac\U0001f600", "\ud800", "\ude00\ud83d", "\ud83d\ude00"):
+            self.assertEqual(aterm.string_of(aterm.read(aterm.write(aterm.string(text)))), text)
+
+    @unittest.skipIf(STRC is None, "STRC does not name the program")
+    def test_strc_agrees(self):
+        keep = HERE / "examples" / "keep.str"
+        for text in SAMPLES:
+            self.assertEqual(strc(keep, text), text + b"\n")
+        for text in BAD_TERMS:
+            self.assertEqual(strc(keep, text)[:9], b"#refused ")
+
+
+# ---- Python
+
+
+def library():
+    """The files of the standard library, or a sample of them."""
+    found = sorted(it for it in LIBRARY.rglob("*.py") if "site-packages" not in it.parts)
+    return found if TAKES_ALL else found[:: max(1, len(found) // SAMPLE)][:SAMPLE]
+
+
+def round_trip(path):
+    """What becomes of a file on the way to a term and back, and to a text and back."""
+    try:
+        tree = python_to_aterm.tree_of(path.read_bytes(), str(path))
+    except command.Fault:
+        return "is no program"
+    except (RecursionError, MemoryError):
+        return "does not fit: it is nested too deeply for Python's parser"
+    limit = sys.getrecursionlimit()
+    command.allow_deep_calls()
+    try:
+        return outcome(tree)
+    except aterm.TermError as fault:
+        return f"does not fit: {fault}"
+    finally:
+        sys.setrecursionlimit(limit)
+
+
+def outcome(tree):
+    """Whether a tree is kept by its term, and whether Python reads it from the text that is printed for the term."""
+    module = aterm_to_python.module_of(aterm.read(aterm.write(python_to_aterm.term_of(tree))))
+    if ast.dump(module) != ast.dump(tree):
+        return "differs"
+    try:
+        aterm_to_python.text_of(module)
+    except command.Fault as fault:
+        return f"is kept, but has no text: {fault}"
+    return "is kept"
+
+
+class Python(Refusals):
+    def test_library(self):
+        files = library()
+        with concurrent.futures.ProcessPoolExecutor() as pool:
+            outcomes = dict(zip(files, pool.map(round_trip, files, chunksize=8)))
+        counts = collections.Counter(it.partition(":")[0] for it in outcomes.values())
+        print(f"\n{len(files)} files of {LIBRARY}: " + ", ".join(f"{count} {what}" for what, count in counts.most_common()))
+        for file, what in outcomes.items():
+            if what not in ("is kept", "is no program"):
+                print(f"    {file.relative_to(LIBRARY)} {what}")
+        self.assertEqual(counts["differs"], 0)
+        self.assertGreater(counts["is kept"], 0.9 * len(files))
+
+    def test_each_kind_is_known(self):
+        names = {it.__name__ for it in vars(ast).values() if isinstance(it, type) and issubclass(it, ast.AST) and it.__match_args__}
+        deprecated = {"Num", "Str", "Bytes", "NameConstant", "Ellipsis", "Index", "ExtSlice"}
+        self.assertLessEqual(names - deprecated, set(python_kinds.KINDS))
+        for kind in python_kinds.KINDS.values():
+            known = {field.name for field in python_kinds.FIELDS[kind.__name__]}
+            self.assertEqual(known, set(kind._fields) - python_kinds.DROPPED)
+
+    def kept(self, source):
+        """The term of a program that is kept on the way to the term, to the text, and back."""
+        tree = ast.parse(source)
+        text = aterm.write(python_to_aterm.term_of(tree))
+        module = aterm_to_python.module_of(aterm.read(text))
+        self.assertEqual(ast.dump(module), ast.dump(tree))
+        self.assertEqual(ast.dump(ast.parse(aterm_to_python.text_of(module))), ast.dump(tree))
+        return text.decode("latin-1")
+
+    def test_constants(self):
+        for source, term in [
+            ("9223372036854775807", "9223372036854775807"),
+            ("9223372036854775808", 'Integer("9223372036854775808")'),
+            ("1.50", 'Float("1.5")'),
+            ("1e999", 'Float("inf")'),
+            ("2j", 'Imaginary("2.0")'),
+            (r"b'\x00\xff\"'", 'Bytes("\\000\xff\\"")'),
+            (r"'\ud800\n'", '"\xed\xa0\x80\\n"'),
+            ("...", "Ellipsis"),
+            ("None", "None"),
+            ("True", "True"),
+        ]:
+            self.assertIn(f"Constant({term},None)", self.kept(source))
+        self.assertIn('Constant("a","u")', self.kept("u'a'"))
+        self.kept("0x" + "f" * 5000)
+
+    def test_places_say_contexts(self):
+        self.kept("(a, *b), c.d, e[f] = [g] = h; i += 1; j: int = 1\nfor k, l.m in n: pass\nwith o as (p, q[r]): pass")
+        self.kept("del (a, [b]), c.d, e[f]\n(g := 1)\n[h async for h, i in j for k.l in m]\nasync def f():\n async for n in o: pass")
+
+    def test_clauses_and_patterns(self):
+        self.kept("def f(a, /, b: int = 1, *c, d, e=2, **g) -> 'h': return lambda *, i=1: {**j, 1: 2}")
+        self.kept("try: pass\nexcept* (A, B) as e: raise e from None\nelse: pass\nfinally: pass")
+        self.kept("match a:\n case {'b': 1, **c} | D(e, f=-2) | [1, *_, None] if g: pass\n case 'h' | i.j as k: pass\n case _: pass")
+        self.kept("f'{a!r:>{b}} {{}} {c}'\nasync def f():\n  async with a as b: return await c\nfrom .. import d as e, f")
+
+    def test_positions(self):
+        term = python_to_aterm.term_of(ast.parse("é = f(\n x)"), has_positions=True)
+        self.assertIn(b'Call(Name("f"){At(1,5,1,6)},[Name("x"){At(2,1,2,2)}],[]){At(1,5,2,3)}', aterm.write(term))
+        self.assertEqual(aterm_to_python.text_of(aterm_to_python.module_of(term)), "é = f(x)")
+
+    def test_signs(self):
+        text = b'BinOp(Constant(-1,None),Pow,Constant(Float("-2.5"),None))'
+        self.assertEqual(run("aterm_to_python", text)[:2], (0, b"(-1) ** (-2.5)\n"))
+
+    def test_bad_input(self):
+        for source in (b"x = ", b"x = '\n", b"\xff", b"a\0b", b"print 1"):
+            self.refused(python_to_aterm, source)
+        for source in (b"x = ", b"(" * 500, b"-" * 100_000 + b"1", b"x" + b".y" * 2000):
+            self.refused_apart(python_to_aterm, source)
+        for text in (
+            b"f(",
+            b"Foo",
+            b"7",
+            b"stmt",
+            b"If(1)",
+            b"[Pass,7]",
+            b'If(Name("a"),[],[])',
+            b'Name("if")',
+            b'Name("a b")',
+            b"Name(None)",
+            b'Name("\xff")',
+            b'Name("\xed\xa0\x80")',
+            b"Expr(Pass)",
+            b"Constant(f,None)",
+            b'Constant(Float("x"),None)',
+            b'Constant(Integer("1_0"),None)',
+            b'Constant(Float(" 1.5"),None)',
+            b"Constant(Bytes(1),None)",
+            b"Load",
+            b"JoinedStr([Constant(1,None)])",
+            b'Module([Return(Name("x"))],[TypeIgnore(1,"")])',
+            b'FormattedValue(Name("x"),99999999999999,None)',
+            b"ImportFrom(None,[],None)",
+            b"BoolOp(And,[])",
+        ):
+            self.refused(aterm_to_python, text)
+        self.refused_apart(aterm_to_python, b"f(")
+        self.refused_apart(aterm_to_python, b"7")
+
+
+# ---- JSON
+
+
+class Json(Refusals):
+    def term(self, text):
+        return aterm.write(json_to_aterm.term_of(json_to_aterm.value_of(text.encode())))
+
+    def kept(self, text):
+        """The term of a text that is kept, byte by byte."""
+        term = self.term(text)
+        self.assertEqual(aterm_to_json.convert(term, UNINDENTED).decode(), text)
+        return term.decode("latin-1")
+
+    def test_values(self):
+        term = self.kept('{"a": 1, "b": [true, false, null], "a": {}}')
+        self.assertEqual(term, 'Object([("a",1),("b",[True,False,Null]),("a",Object([]))])')
+        self.assertEqual(self.kept("[]"), "[]")
+
+    def test_numbers(self):
+        for text in ("0", "-1", "9223372036854775807", "-9223372036854775808"):
+            self.assertEqual(self.kept(text), text)
+        for text in ("-0", "1.50", "1e3", "1E+3", "-0.0e-0", "9223372036854775808", "-9223372036854775809", "1" * 5000):
+            self.assertEqual(self.kept(text), f'Number("{text}")')
+
+    def test_strings(self):
+        for text in (r'"\"\\\n\u0000"', '"é€\U0001f600"', r'"\ud800"', r'"\ude00\ud83d"', '"\x7f/"'):
+            self.kept(text)
+        self.assertEqual(self.term(r'"\u0041\/\u00e9\ud83d\ude00"'), '"A/é\U0001f600"'.encode())
+
+    def test_depth(self):
+        text = b"[" * 1000 + b"]" * 1000 + b"\n"
+        for converter in ("json_to_aterm", "aterm_to_json"):
+            self.assertEqual(run(converter, text), (0, text, ""))
+        self.refused_apart(json_to_aterm, b"[" * 1001 + b"]" * 1001)
+        self.refused_apart(json_to_aterm, b"[" * 100_000)
+
+    def test_lines(self):
+        status, output, _ = run("aterm_to_json", b'[Object([("a",[]),("b",Object([]))]),1]', "--indent", "1")
+        self.assertEqual((status, output), (0, b'[\n {\n  "a": [],\n  "b": {}\n },\n 1\n]\n'))
+
+    def test_bad_input(self):
+        for text in (b"", b"{", b"[1,]", b"01", b"1.", b"NaN", b"-Infinity", b"'a'", b"[1] 2", b"{1: 2}", b'{"a" 1}'):
+            self.refused(json_to_aterm, text)
+        for text in (b'"\t"', b'"\xff"', b'"\xed\xa0\x80"', b"\xef"):
+            self.refused(json_to_aterm, text)
+        for text in (b"f", b"Null(1)", b"(1,2)", b"Object(1)", b"Object([1])", b"Object([(1,2)])", b"Number(1)", b"["):
+            self.refused(aterm_to_json, text)
+        for text in (b'Number("01")', b'Number("1.")', b'Number("NaN")', b'"\xff"'):
+            self.refused(aterm_to_json, text)
+        self.refused_apart(aterm_to_json, b"f")
+
+
+UNINDENTED = argparse.Namespace(indent=None)
+
+
+# ---- S-expressions
+
+
+class SExpressions(Refusals):
+    def term(self, text, has_positions=False, source=None):
+        return aterm.write(sexp_to_aterm.Reader(text, has_positions, source).tree()).decode()
+
+    def test_nodes_and_fields(self):
+        self.assertEqual(self.term("(a)"), "a([])")
+        self.assertEqual(self.term("(a (b)\n  c: (d (e)))\n"), 'a([b([]),Field("c",d([e([])]))])')
+        self.assertEqual(self.term("(a.b (ERROR))"), '"a.b"([ERROR([])])')
+
+    def test_words(self):
+        term = self.term('(a (MISSING ";") (MISSING b) c: (MISSING ")" [1, 2] - [1, 2]))')
+        self.assertEqual(term, 'a([MISSING(";"),MISSING("b"),Field("c",MISSING(")"))])')
+        self.assertEqual(self.term(r"(ERROR (UNEXPECTED 'x') (UNEXPECTED '\n') (UNEXPECTED ''') (UNEXPECTED 255))")[6:-1], WORDS)
+
+    def test_positions(self):
+        text = "(a [0, 0] - [1, 2]\n  b: (c [0, 1] - [0, 3]) (d [1, 0] - [1, 2] (e)))"
+        self.assertEqual(self.term(text), 'a([Field("b",c([])),d([e([])])])')
+        self.assertEqual(self.term(text, True), 'a([Field("b",c([]){At(0,1,0,3)}),d([e([])]){At(1,0,1,2)}]){At(0,0,1,2)}')
+
+    def test_source(self):
+        lines = "é12\n34".encode().split(b"\n")
+        term = self.term("(a [0, 0] - [1, 2] (b [0, 2] - [1, 1]) (c [1, 2] - [1, 2]) (d))", False, lines)
+        self.assertEqual(term, 'a([b("12\\n3"),c(""),d([])])')
+        for place in ("[0, 9] - [0, 9]", "[2, 0] - [2, 0]", "[1, 0] - [0, 0]", "[0, 0] - [0, 9]"):
+            with self.assertRaises(command.Fault):
+                self.term(f"(a {place})", False, lines)
+
+    def test_what_follows(self):
+        self.assertEqual(self.term("(a)\na.c\t0 ms\t(ERROR [0, 0] - [0, 1])\n"), "a([])")
+
+    def test_bad_input(self):
+        for text in (b"", b"(", b"()", b"(a", b"(a))", b"(a)(b)", b"a", b"(a b)", b'(a "b")', b"(a b:)", b"b: (a)", b"\xff"):
+            self.refused(sexp_to_aterm, text)
+        for text in (b"(a [0, 0])", b"(a [0])", b"(MISSING)", b"(MISSING a (b))", b"(a (b) [0, 0] - [0, 1])", b"(a" * 1001 + b")" * 1001):
+            self.refused(sexp_to_aterm, text)
+        self.refused_apart(sexp_to_aterm, b"(a")
+
+
+WORDS = r'[UNEXPECTED("x"),UNEXPECTED("\n"),UNEXPECTED("\'"),UNEXPECTED("255")]'.replace(r"\'", "'")
+
+
+# ---- command lines and examples
+
+
+class CommandLines(unittest.TestCase):
+    CONVERTERS = ["python_to_aterm", "aterm_to_python", "json_to_aterm", "aterm_to_json", "sexp_to_aterm"]
+
+    def test_help_and_faults(self):
+        for converter in self.CONVERTERS:
+            self.assertIn(b"usage: ", run(converter, b"", "--help")[1])
+            self.assertEqual(run(converter, b"", "--unknown")[0], 2)
+            status, output, complaint = run(converter, b"", "no such file")
+            self.assertEqual((status, output, complaint), (2, b"", f"{converter}.py: no such file: No such file or directory\n"))
+
+    def test_pairs(self):
+        self.assertEqual(run("json_to_aterm", b"1", "--pair", "f( 2 )"), (0, b"(f(2),1)\n", ""))
+        self.assertEqual(run("json_to_aterm", b"1", "--pair", "f(")[0], 2)
+
+
+@unittest.skipIf(STRC is None, "STRC does not name the program")
+class Examples(unittest.TestCase):
+    def term(self, converter, file, *words):
+        status, output, complaint = run(converter, b"", *words, EXAMPLES / file)
+        self.assertEqual((status, complaint), (0, ""))
+        return output
+
+    def compare(self, file, output):
+        self.assertEqual(output.decode(), (EXAMPLES / file).read_text(encoding="utf-8"))
+
+    def test_tidy(self):
+        term = self.term("python_to_aterm", "tidy.input.py")
+        self.compare("tidy.output.py", run("aterm_to_python", strc(EXAMPLES / "tidy.str", term))[1])
+        self.compare("tidy.careful.py", run("aterm_to_python", strc(EXAMPLES / "tidy.str", term, "--main", "careful"))[1])
+
+    def test_tidy_again(self):
+        term = self.term("python_to_aterm", "tidy.output.py")
+        self.assertEqual(strc(EXAMPLES / "tidy.str", term), term)
+
+    def test_rename_local(self):
+        term = self.term("python_to_aterm", "rename_local.input.py", "--pair", 'Rename("area","w","breadth")')
+        self.compare("rename_local.output.py", run("aterm_to_python", strc(EXAMPLES / "rename_local.str", term))[1])
+
+    def test_refusals(self):
+        for line in (EXAMPLES / "rename_local.refusals").read_text(encoding="utf-8").splitlines():
+            task, answer = line.split(" => ")
+            term = self.term("python_to_aterm", "rename_local.input.py", "--pair", task)
+            self.assertEqual(strc(EXAMPLES / "rename_local.str", term).decode(), answer + "\n", task)
+
+    def test_settings(self):
+        defaults = self.term("json_to_aterm", "settings.defaults.json").decode()
+        term = self.term("json_to_aterm", "settings.input.json", "--pair", defaults)
+        self.compare("settings.output.json", run("aterm_to_json", strc(EXAMPLES / "settings.str", term), "--indent", "2")[1])
+
+    def test_page(self):
+        page = (HERE.parent / "docs" / "CONVERTERS.md").read_text(encoding="utf-8")
+        program, definitions = re.findall(r"^```(?:python)?\n(.*?)^```$", page, re.MULTILINE | re.DOTALL)[:2]
+        with tempfile.TemporaryDirectory() as folder:
+            (Path(folder) / "modern.str").write_text(definitions, encoding="utf-8")
+            term = strc(Path(folder) / "modern.str", run("python_to_aterm", program.encode())[1])
+        lines = run("aterm_to_python", term)[1].decode().splitlines()
+        self.assertEqual([it.strip() for it in lines[-2:]], ["self.assertEqual(total([1, 2]), 3)", "self.assertEqual(total([]), 0)"])
+
+    def test_calls(self):
+        term = self.term("sexp_to_aterm", "calls.input.sexp", "--positions", "--source", EXAMPLES / "calls.input.py")
+        self.compare("calls.output.aterm", strc(EXAMPLES / "calls.str", term))
+        self.compare("calls.faults.aterm", strc(EXAMPLES / "calls.str", term, "--main", "faults"))
+
+
+if __name__ == "__main__":
+    unittest.main(argv=[it for it in sys.argv if it != "--all"])
