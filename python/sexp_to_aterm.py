@@ -92,7 +92,7 @@ class Reader:
     def position(self, token):
         node = self.opened[-1] if self.opened else None
         if node is None or node.position is not None or node.children or self.field_name is not None:
-            self.fault("a position stands behind the kind of a node")
+            self.fault("a position comes after the kind of a node")
         node.position = [int(it) for it in re.findall("[0-9]+", token["position"])]
 
     def close(self, _):
