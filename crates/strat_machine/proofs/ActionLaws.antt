@@ -20,12 +20,12 @@ use Rattle.strat_steps.specs.State.{Frame}
 use Rattle.strat_steps.specs.References.{Places, RefRecord, RefState, ref_running}
 use Rattle.strat_steps.specs.ReferenceSteps.{Does, StepRef, performs, leaves_code, cannot_pay}
 use Rattle.strat_machine.specs.Actions.{IsAction, IsLoadedInstr, AreLoadedInstrs, IsLoadedProgram}
-use Rattle.strat_machine.specs.Loaded.{AllKnown, IsLoaded, AreLoaded, loaded_of, all_loaded_of}
+use Rattle.strat_patterns.specs.Loaded.{AllKnown, IsLoaded, AreLoaded, loaded_of, all_loaded_of}
 use Rattle.strat_machine.specs.RecordStack.{records_of}
 use Rattle.strat_machine.specs.Stacks.{state_of}
 use Rattle.strat_machine.specs.Tables.{case_meant, IsPosition, AreLoadedTables, TablesKnown, cases_meant, loaded_at}
 use Rattle.strat_code.specs.declared.instr.Argument.{Argument}
-use Rattle.strat_machine.specs.declared.loaded.LoadedPattern.{LoadedPattern}
+use Rattle.strat_patterns.specs.declared.loaded.LoadedPattern.{LoadedPattern}
 use Rattle.strat_machine.specs.declared.program.Action.{Action}
 use Rattle.strat_machine.specs.declared.program.Action.TheVariants as actions
 use Rattle.strat_machine.specs.declared.program.LoadedInstr.{LoadedInstr}
@@ -34,7 +34,7 @@ use Rattle.strat_machine.specs.declared.stacks.Next.TheVariants.{Running, Spent,
 use Rattle.strat_machine.specs.declared.stacks.Position.{Position}
 use Rattle.strat_machine.specs.declared.stacks.Stacks.{Stacks}
 use Rattle.strat_machine.specs.declared.tables.LoadedTable.{LoadedTable}
-use Rattle.strat_machine.proofs.LoadedLaws.{is_loaded_later, are_loaded_later}
+use Rattle.strat_patterns.proofs.LoadedLaws.{is_loaded_later, are_loaded_later}
 use Rattle.strat_machine.proofs.TableLaws.{tables_kept, taken}
 
 -- names stay known with their symbols, so what is loaded stays loaded

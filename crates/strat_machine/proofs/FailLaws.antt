@@ -10,7 +10,7 @@ use Rattle.term_model.specs.Space.{Space, GoesBack, IsMark}
 use Rattle.strat_steps.specs.References.{Places, RefRecord, ref_all, ref_one, ref_some, RefState, ref_running, ref_failing}
 use Rattle.strat_steps.specs.ReferenceSteps.{StepRef, fails_call, fails_one_last, fails_one_next, fails_some_none, fails_some_last, fails_some_next}
 use Rattle.strat_steps.specs.Marks.{Safe}
-use Rattle.strat_machine.specs.PlaceStack.{PlaceStack}
+use Rattle.strat_patterns.specs.PlaceStack.{PlaceStack}
 use Rattle.strat_machine.specs.CompactRecords.{HasNoCall}
 use Rattle.strat_machine.specs.RecordStack.{saved_of, records_in, records_of, with_record}
 use Rattle.strat_machine.specs.declared.records.Saved.{Saved}

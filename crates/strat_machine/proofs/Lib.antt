@@ -1,19 +1,11 @@
 pub mod RunningLaws
 pub mod OutcomeLaws
 pub mod MachineLaws
-pub mod FrameLaws
-pub mod ResultLaws
-pub mod PlaceLaws
 pub mod StackLaws
 pub mod StepLaws
 pub mod FailLaws
 pub mod TraversalLaws
 pub mod PartLaws
-pub mod MatchingLaws
-pub mod BuildingLaws
-pub mod ElementLaws
-pub mod BuiltLaws
-pub mod LoadedLaws
 pub mod PatternLaws
 pub mod TableLaws
 pub mod ActionLaws
@@ -22,5 +14,4 @@ pub mod PrimitiveLaws
 pub mod SelectingLaws
 pub mod IndexLaws
 pub mod NumberLaws
-pub mod FirstPartLaws
 pub mod CompactLaws

@@ -19,7 +19,7 @@ use Rattle.term_model.specs.Space.{Space, Stands}
 use Rattle.strat_steps.specs.References.{Places, RefRecord, RefState, ref_one, ref_some, ref_running, ref_failing, ref_stopped, record_tree, trees, AllRefs}
 use Rattle.strat_steps.specs.ReferenceSteps.{Does, begins_all, begins_one, begins_some, part_of_one, part_of_one_oversize, part_of_some, sticks, OnAll, all_whole, OnOne, one_none, OnSome, some_none}
 use Rattle.strat_steps.specs.Marks.{Safe}
-use Rattle.strat_machine.specs.PlaceStack.{PlaceStack}
+use Rattle.strat_patterns.specs.PlaceStack.{PlaceStack}
 use Rattle.strat_machine.specs.RecordStack.{records_in, records_of}
 use Rattle.strat_machine.specs.Traversing.{RebuildsTo, rebuilds, rebuilds_none, OpensParts, HasTried}
 use Rattle.strat_steps.specs.Counted.{AllCounted}
@@ -30,7 +30,8 @@ use Rattle.strat_machine.specs.declared.records.Record.{Record}
 use Rattle.strat_machine.specs.declared.records.Record.TheVariants as records
 use Rattle.strat_machine.specs.declared.records.Records.{Records}
 use Rattle.strat_machine.proofs.StepLaws.{does_to}
-use Rattle.strat_machine.proofs.TraversalLaws.{in_order_are, parts_are, rebuilt_fits, refs_append, refs_reverse}
+use Rattle.strat_machine.proofs.TraversalLaws.{in_order_are, parts_are, rebuilt_fits}
+use Rattle.strat_patterns.proofs.ReferenceLists.{refs_append, refs_reverse}
 
 -- the parts are open
 opened : {W R Y N : Type 0} {S : Space W R Y N} {w : W} {t : R} (n : ℕ) (rs new : Records R Y) (o : OpensParts S w t n rs new) (P : List (RefRecord R Y) → List R → List R → Type 0) →

@@ -14,15 +14,15 @@ use Rattle.strat_code.specs.Code.{Argument, match_term, build_term, call_definit
 use Rattle.strat_steps.specs.State.{Frame, frame, place_at, frames_up, closed, run_oversize}
 use Rattle.strat_steps.specs.Binding.{attempt, attempted}
 use Rattle.strat_steps.specs.Matches.{Goes, LeavesSpace}
-use Rattle.strat_machine.specs.Builds.{Builds, AreArguments, Puts}
-use Rattle.strat_machine.specs.declared.building.Built.{Built}
-use Rattle.strat_machine.specs.declared.building.Built.TheVariants as built_forms
-use Rattle.strat_machine.specs.declared.building.Pushed.{Pushed}
-use Rattle.strat_machine.specs.declared.building.Pushed.TheVariants as pushed
+use Rattle.strat_patterns.specs.Builds.{Builds, AreArguments, Puts}
+use Rattle.strat_patterns.specs.declared.building.Built.{Built}
+use Rattle.strat_patterns.specs.declared.building.Built.TheVariants as built_forms
+use Rattle.strat_patterns.specs.declared.building.Pushed.{Pushed}
+use Rattle.strat_patterns.specs.declared.building.Pushed.TheVariants as pushed
 use Rattle.strat_steps.specs.References.{Places, RefRecord, ref_call, RefState, ref_running, ref_failing, ref_stopped}
 use Rattle.strat_steps.specs.ReferenceSteps.{Does, matches, matches_not, builds, builds_none, builds_oversize, calls, calls_none, calls_oversize}
 use Rattle.strat_machine.proofs.StepLaws.{does_to}
-use Rattle.strat_machine.proofs.BuiltLaws.{build_is_ok, build_fails, build_is_large, arguments_are_ok, arguments_fail, arguments_are_large}
+use Rattle.strat_patterns.proofs.BuiltLaws.{build_is_ok, build_fails, build_is_large, arguments_are_ok, arguments_fail, arguments_are_large}
 
 module _ {W R Y N : Type 0} {S : Space W R Y N} {M : Meaning} {w w1 : W}
     (n : ℕ) {i p b d l : ℕ} {q : Pattern Coordinate} {t : R} {e f : Places R} {F : List Frame} {T U : List ℕ} {K : List (RefRecord R Y)} {y : Bool} (keeps : Keeps S w w1) (unchanged : LeavesSpace q → w1 ≡ w)

@@ -18,12 +18,12 @@ use Rattle.core_lang.specs.Views.{patterns_in}
 use Rattle.strat_code.specs.Code.{apply_primitive}
 use Rattle.strat_steps.specs.State.{Frame, place_at, run_oversize}
 use Rattle.strat_machine.specs.Stacks.{Performs, next_with, position_with}
-use Rattle.strat_machine.specs.Builds.{Builds, AreArguments, Puts}
+use Rattle.strat_patterns.specs.Builds.{Builds, AreArguments, Puts}
 use Rattle.strat_machine.specs.Tables.{IsPosition}
-use Rattle.strat_machine.specs.declared.building.Built.{Built}
-use Rattle.strat_machine.specs.declared.building.Built.TheVariants as built_forms
-use Rattle.strat_machine.specs.declared.building.Pushed.{Pushed}
-use Rattle.strat_machine.specs.declared.building.Pushed.TheVariants as pushed
+use Rattle.strat_patterns.specs.declared.building.Built.{Built}
+use Rattle.strat_patterns.specs.declared.building.Built.TheVariants as built_forms
+use Rattle.strat_patterns.specs.declared.building.Pushed.{Pushed}
+use Rattle.strat_patterns.specs.declared.building.Pushed.TheVariants as pushed
 use Rattle.strat_machine.specs.declared.stacks.Stacks.{Stacks}
 use Rattle.strat_machine.specs.declared.stacks.Position.{Position}
 use Rattle.strat_machine.specs.declared.stacks.Next.{Next}
@@ -32,8 +32,9 @@ use Rattle.strat_steps.specs.References.{Places, trees, RefRecord, ref_running, 
 use Rattle.strat_steps.specs.ReferenceSteps.{Does, answers, answers_none, answers_oversize}
 use Rattle.term_model.proofs.SpaceLaws.{keeps_then}
 use Rattle.strat_machine.proofs.StepLaws.{does_to}
-use Rattle.strat_machine.proofs.ElementLaws.{put_are}
-use Rattle.strat_machine.proofs.BuiltLaws.{trees_are, build_is_ok, build_fails, build_is_large, arguments_are_ok, arguments_fail, arguments_are_large}
+use Rattle.strat_patterns.proofs.ElementLaws.{put_are}
+use Rattle.strat_patterns.proofs.ReferenceLists.{trees_are}
+use Rattle.strat_patterns.proofs.BuiltLaws.{build_is_ok, build_fails, build_is_large, arguments_are_ok, arguments_fail, arguments_are_large}
 use Rattle.strat_machine.proofs.PatternLaws.{arguments_as}
 use Rattle.strat_machine.proofs.ReferenceFlats.{as_many_flat}
 

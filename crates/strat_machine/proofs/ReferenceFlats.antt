@@ -45,12 +45,5 @@ module _ {W R Y N : Type 0} {S : Space W R Y N} {w w1 : W} (keeps : Keeps S w w1
   terms_later [] h = refl
   terms_later (r ∷ rs) h = ap (λ t. t ∷ map (S.term_of w1) rs) (keeps.terms r h.0) ∙ ap (λ ts. S.term_of w r ∷ ts) (terms_later rs h.1)
 
-pub standing_push : {R : Type 0} (P : R → Type 0) (rs new : List R) (r : R) → AllRefs P rs → P r → new ≡ rs ++ r ∷ [] → AllRefs P new
-standing_push P rs new r h k is = subst (AllRefs P) (sym is) (by rs h)
-  where
-    by : (xs : List _) → AllRefs P xs → AllRefs P (xs ++ r ∷ [])
-    by [] h = (k, tt)
-    by (x ∷ xs) h = (h.0, by xs h.1)
-
 pub terms_push : {R : Type 0} (f : R → Tree) (rs new : List R) (r : R) → new ≡ rs ++ r ∷ [] → map f new ≡ map f rs ++ f r ∷ []
 terms_push f rs new r is = ap (map f) is ∙ map-append f rs (r ∷ [])

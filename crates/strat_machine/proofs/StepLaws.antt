@@ -10,7 +10,7 @@ use Rattle.strat_steps.specs.State.{Frame, frame, Saved, saved, call_record, stu
 use Rattle.strat_steps.specs.Step.{left, returned, out_of_argument, committed}
 use Rattle.strat_steps.specs.References.{Places, RefRecord, ref_call, ref_choice, ref_all, ref_one, ref_some, RefState, ref_running, ref_stopped, record_tree}
 use Rattle.strat_steps.specs.ReferenceSteps.{Does, tries, sticks}
-use Rattle.strat_machine.specs.Frames.{IsBaseOf}
+use Rattle.strat_patterns.specs.Frames.{IsBaseOf}
 use Rattle.strat_machine.specs.Stacks.{Performs, PutsChoice}
 use Rattle.strat_machine.specs.declared.stacks.Stacks.{Stacks}
 use Rattle.strat_machine.specs.declared.stacks.Next.TheVariants.{Running}

@@ -8,6 +8,7 @@ use Rattle.term_model.specs.Term.{Tree, node, end, more, term, head_of, parts_of
 use Rattle.term_model.specs.declared.made.Made.{Made}
 use Rattle.term_model.specs.declared.made.Made.TheVariants as made
 use Rattle.term_model.specs.Space.{Space, Keeps, IsMark, Makes, Pushes}
+use Rattle.strat_patterns.proofs.ReferenceLists.{trees_are}
 use Rattle.strat_machine.specs.PartsOf.{PutsParts}
 use Rattle.term_model.proofs.TermLemmas.{trees_of-list_of}
 use Rattle.term_model.proofs.FitsLaws.{fits-complete, fits-sound, not_true}
@@ -31,30 +32,7 @@ use Rattle.strat_machine.specs.declared.records.Record.{Record}
 use Rattle.strat_machine.specs.declared.records.Record.TheVariants as records
 use Rattle.strat_machine.specs.declared.records.Records.{Records}
 
--- what holds of all references
-
-pub refs_of_all : {R : Type 0} (P : R → Type 0) (rs : List R) → All P rs → AllRefs P rs
-refs_of_all P [] h = tt
-refs_of_all P (r ∷ rs) h = (h zero r (omega arith), refs_of_all P rs (λ k d l. h (suc k) d (omega arith)))
-
-pub all_of_refs : {R : Type 0} (P : R → Type 0) (rs : List R) → AllRefs P rs → All P rs
-all_of_refs P [] h k d l = absurd (omega arith)
-all_of_refs P (r ∷ rs) h zero d l = h.0
-all_of_refs P (r ∷ rs) h (suc k) d l = all_of_refs P rs h.1 k d (omega arith)
-
-pub refs_append : {R : Type 0} (P : R → Type 0) (rs us : List R) → AllRefs P rs → AllRefs P us → AllRefs P (rs ++ us)
-refs_append P [] us h k = k
-refs_append P (r ∷ rs) us h k = (h.0, refs_append P rs us h.1 k)
-
-pub refs_reverse : {R : Type 0} (P : R → Type 0) (rs : List R) → AllRefs P rs → AllRefs P (reverse rs)
-refs_reverse P [] h = tt
-refs_reverse P (r ∷ rs) h = subst (AllRefs P) (sym (reverse-append (r ∷ []) rs)) (refs_append P (reverse rs) (r ∷ []) (refs_reverse P rs h.1) (h.0, tt))
-
 -- the terms of references
-
-pub trees_are : {R : Type 0} (f : R → Tree) (rs : List R) → trees f rs ≡ trees_of (map f rs)
-trees_are f [] = refl
-trees_are f (r ∷ rs) = ap (more (f r)) (trees_are f rs)
 
 pub in_order_are : {R : Type 0} (f : R → Tree) (done us : List R) → in_order (trees f done) (trees f us) ≡ trees f (reverse done ++ us)
 in_order_are f [] us = refl

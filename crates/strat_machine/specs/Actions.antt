@@ -11,7 +11,7 @@ use Rattle.strat_code.specs.declared.instr.Argument.{Argument}
 use Rattle.strat_code.specs.declared.instr.Case.{Case}
 use Rattle.strat_code.specs.declared.instr.Instr.{Instr}
 use Rattle.strat_code.specs.declared.instr.Instr.TheVariants as forms
-use Rattle.strat_machine.specs.Loaded.{IsLoaded, AreLoaded}
+use Rattle.strat_patterns.specs.Loaded.{IsLoaded, AreLoaded}
 use Rattle.strat_machine.specs.Tables.{IsPosition, AreLoadedTables}
 use Rattle.strat_machine.specs.declared.program.Action.{Action}
 use Rattle.strat_machine.specs.declared.program.Action.TheVariants as actions

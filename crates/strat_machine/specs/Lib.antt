@@ -1,13 +1,9 @@
-pub mod Frames
-pub mod PlaceStack
 pub mod RecordStack
 pub mod CompactRecords
 pub mod Stacks
 pub mod PartsOf
 pub mod Traversing
 pub mod Entered
-pub mod Builds
-pub mod Loaded
 pub mod Running
 pub mod Tables
 pub mod Actions

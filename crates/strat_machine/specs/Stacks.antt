@@ -8,8 +8,8 @@ use Rattle.strat_steps.specs.References.{RefRecord, RefState, ref_choice, ref_ru
 use Rattle.strat_steps.specs.ReferenceSteps.{Does, StepRef}
 use Rattle.strat_steps.specs.Marks.{Safe}
 use Rattle.strat_machine.specs.RecordStack.{records_of, saved_of, with_record}
-use Rattle.strat_machine.specs.declared.building.Built.{Built}
-use Rattle.strat_machine.specs.declared.building.Built.TheVariants as built
+use Rattle.strat_patterns.specs.declared.building.Built.{Built}
+use Rattle.strat_patterns.specs.declared.building.Built.TheVariants as built
 use Rattle.strat_machine.specs.declared.records.Saved.{Saved}
 use Rattle.strat_machine.specs.declared.records.Record.{Record}
 use Rattle.strat_machine.specs.declared.stacks.Stacks.{Stacks}

@@ -4,9 +4,10 @@ ghost use Rattle.strat_machine.specs.declared.compact_records.CompactTraversed.{
 ghost use Rattle.strat_machine.specs.CompactRecords.{HasNoCall, HasNoChoice, HasNoAll, HasChoice, AdvancesAll, traversed_in};
 
 use crate::records::{Record, Saved, Traversed};
-use crate::stack::{Stack, push_on};
+use crate::stack::Stack;
 use std::alloc::{AllocError, Global};
 use std::marker::Model;
+use strat_patterns::{narrow, push_on};
 
 // What a record holds itself.
 #[derive(Drop)]
@@ -338,16 +339,6 @@ fn count_newest<R: Drop>(traversed: &mut Vec<CompactTraversed<R>>, done: u32, le
     let newest = &mut traversed[count - 1];
     newest.done = done;
     newest.left = left;
-}
-
-// The number in 32 bits.
-pub(crate) fn narrow(number: usize) -> Result<u32, AllocError>
-    ensures { IfOk result (λ n. n ≡ number) }
-{
-    if number > u32::MAX as usize {
-        return Err(AllocError);
-    }
-    Ok(number as u32)
 }
 
 fn compact_traversed<R: Drop>(traversed: Traversed<R>) -> Result<CompactTraversed<R>, AllocError>

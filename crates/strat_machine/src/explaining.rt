@@ -7,8 +7,6 @@ ghost use Rattle.strat_steps.specs.References.{AllPlaces};
 ghost use Rattle.strat_machine.specs.Running.{IsClear};
 ghost use Rattle.strat_machine.specs.Stacks.{state_of};
 
-use crate::frames::Frames;
-use crate::lookup::value;
 use crate::partial::{Notes, Progress, run_part};
 use crate::program::LoadedProgram;
 use crate::shortening::first_nodes;
@@ -17,6 +15,7 @@ use crate::variables::variables_of;
 use prim_registry::{PrimMeaning, Registry};
 use std::alloc::{AllocError, Global};
 use strat_code::Code;
+use strat_patterns::{Frames, value};
 use term_model::{Term, TermSpace};
 
 /// How a run ends: with a term, by failing, with a term that would be too large, or with its budget used up.

@@ -4,18 +4,16 @@ ghost use Rattle.term_model.specs.Flat.{Meaning};
 ghost use Rattle.term_model.specs.Space.{Keeps};
 ghost use Rattle.strat_code.specs.Code.{match_term, build_term, call_definition};
 ghost use Rattle.strat_code.specs.CodeOf.{argument_of};
-ghost use Rattle.strat_machine.specs.Loaded.{Known, AllKnown, loaded_of, all_loaded_of};
+ghost use Rattle.strat_patterns.specs.Loaded.{Known, AllKnown, loaded_of, all_loaded_of};
 ghost use Rattle.strat_machine.specs.RecordStack.{records_of};
 ghost use Rattle.strat_machine.specs.Stacks.{Performs, IsSafe};
 
-use crate::building::{Pushed, build, build_all};
 use crate::calls::{Callee, enter_definition};
-use crate::loaded::LoadedPattern;
-use crate::matching::match_pattern;
 use crate::primitives::go_on;
 use crate::stacks::{Next, Position, Stacks};
 use std::alloc::{AllocError, Global};
 use strat_code::Argument;
+use strat_patterns::{LoadedPattern, Pushed, build, build_all, match_pattern};
 use term_model::TermSpace;
 
 /// Matches the term with a pattern.

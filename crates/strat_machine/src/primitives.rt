@@ -9,20 +9,18 @@ ghost use Rattle.prim_registry.specs.Entries.{IsHonest, entries_of, entry_at};
 ghost use Rattle.prim_registry.specs.Registered.{meaning_of};
 ghost use Rattle.prim_registry.specs.Values.{answer_of};
 ghost use Rattle.strat_code.specs.Code.{apply_primitive};
-ghost use Rattle.strat_machine.specs.Builds.{Builds};
+ghost use Rattle.strat_patterns.specs.Builds.{Builds};
 ghost use Rattle.strat_steps.specs.References.{AllRefs};
-ghost use Rattle.strat_machine.specs.Loaded.{AllKnown, all_loaded_of};
+ghost use Rattle.strat_patterns.specs.Loaded.{AllKnown, all_loaded_of};
 ghost use Rattle.strat_machine.specs.Tables.{IsPosition};
 ghost use Rattle.strat_machine.specs.RecordStack.{records_of};
 ghost use Rattle.strat_machine.specs.Stacks.{Performs, IsSafe, next_with, position_with};
 
-use crate::building::{Built, Pushed, build_all};
 use crate::flat_values::{flat_values, make_flat};
-use crate::loaded::LoadedPattern;
-use crate::making::outcome;
 use crate::stacks::{Next, Position, Stacks};
 use prim_registry::{Flat, PrimMeaning, Registry};
 use std::alloc::{AllocError, Global};
+use strat_patterns::{Built, LoadedPattern, Pushed, build_all, outcome};
 use term_model::TermSpace;
 
 /// Replaces the term with what the primitive at a position of the registry returns to the instances of the patterns; fails

@@ -9,12 +9,12 @@ ghost use Rattle.strat_code.specs.CodeOf.{instr_of};
 ghost use Rattle.strat_machine.specs.Actions.{AreLoadedInstrs, IsAction, IsLoadedProgram};
 
 use crate::calls::Callee;
-use crate::loaded::{LoadedPattern, load_pattern, load_patterns};
 use crate::tables::{LoadedTable, load_tables};
 use core_lang::Coordinate;
 use prim_registry::{PrimMeaning, Registry};
 use std::alloc::{AllocError, Global};
 use strat_code::{Argument, Code, Instr, Traversal};
+use strat_patterns::{LoadedPattern, load_pattern, load_patterns};
 use term_model::TermSpace;
 
 /// An instruction of a loaded program: the nodes that it is charged, and what it does.

@@ -3,8 +3,8 @@ ghost use Rattle.std.specs.Prelude.{◌≡◌, ◌↔◌, true, IsTrue};
 ghost use Rattle.core_lang.specs.Roots as roots;
 ghost use Rattle.strat_machine.specs.Tables.{RootKnown, root_meant};
 
-use crate::matching::is_integer;
 use crate::tables::LoadedRoot;
+use strat_patterns::is_integer;
 use term_model::TermSpace;
 
 /// Whether the term has the root.

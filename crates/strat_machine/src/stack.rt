@@ -1,9 +1,10 @@
 // A stack, whose newest item is the first.
-ghost use Rattle.std.specs.Prelude.{◌≡◌, ◌<◌, ◌-◌, ◌≤◌, min, vec_len, vec_capacity, IsTrue, MatchOption, IfOk, OnOk, OnErr, [], ◌∷◌, ◌++◌, length, reverse, take, drop};
+ghost use Rattle.std.specs.Prelude.{◌≡◌, ◌-◌, ◌≤◌, min, IsTrue, MatchOption, IfOk, OnOk, OnErr, [], ◌∷◌, ◌++◌, length, reverse, take, drop};
 ghost use Rattle.strat_machine.specs.PartsOf.{PutsParts};
 
 use std::alloc::{AllocError, Global};
 use std::marker::Model;
+use strat_patterns::push_on;
 use term_model::TermSpace;
 
 /// Items, of which the newest is seen first.
@@ -127,26 +128,4 @@ fn reverse_from<T: Drop>(items: &mut Vec<T>, from: usize)
     ensures { items.new.items ≡ take from items.old.items ++ reverse (drop from items.old.items) }
 {
     items[from..].reverse();
-}
-
-/// Puts an item on a vector. What is rarely done, to take memory, stands in a function of its own.
-pub(crate) fn push_on<T: Drop>(items: &mut Vec<T>, item: T) -> Result<(), AllocError>
-    ensures pushed { OnOk result (items.new.items ≡ items.old.items ++ item ∷ []) }
-    ensures err { OnErr result (items.new.items ≡ items.old.items) }
-{
-    if items.len() == items.capacity() {
-        grow(items)?;
-    }
-    items.push_reserved(item);
-    Ok(())
-}
-
-// Takes memory for one more item.
-#[inline(never)]
-fn grow<T: Drop>(items: &mut Vec<T>) -> Result<(), AllocError>
-    ensures same { items.new.items ≡ items.old.items }
-    ensures room { OnOk result (vec_len items.new < vec_capacity items.new) }
-{
-    items.reserve(1)?;
-    Ok(())
 }

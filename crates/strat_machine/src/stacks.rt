@@ -4,11 +4,10 @@ ghost use Rattle.strat_machine.specs.RecordStack.{saved_of};
 ghost use Rattle.strat_machine.specs.Running.{IsClear};
 ghost use Rattle.strat_steps.specs.State as state;
 
-use crate::frames::Frames;
-use crate::places::Places;
 use crate::records::{Records, Saved};
 use prim_registry::Flat;
 use std::alloc::Global;
+use strat_patterns::{Frames, Places};
 
 /// The stacks, and the nodes that are left of the budget.
 #[derive(Drop)]

@@ -3,7 +3,8 @@ use Rattle.std.specs.Prelude.{IsTrue}
 use Rattle.term_model.specs.Term.{trees_of}
 use Rattle.prim_registry.proofs.FlatLaws.{integer_term, integer_terms, one_more_integer, taken}
 use Rattle.term_model.proofs.SpaceLaws.{keeps_then}
-use Rattle.strat_machine.proofs.ReferenceFlats.{standing_later, terms_later, standing_push, terms_push}
+use Rattle.strat_machine.proofs.ReferenceFlats.{standing_later, terms_later, terms_push}
+use Rattle.strat_patterns.proofs.ReferenceLists.{standing_push}
 use Rattle.strat_machine.proofs.flat_values.make_integers.Goals as goal
 
 pub loop-number-preserved : goal.loop-number-preserved

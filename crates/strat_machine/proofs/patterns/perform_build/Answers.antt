@@ -1,6 +1,6 @@
 use Rattle.std.proofs.Common.{refl}
 use Rattle.strat_code.specs.Code.{build_term}
-use Rattle.strat_machine.specs.Loaded.{loaded_of}
+use Rattle.strat_patterns.specs.Loaded.{loaded_of}
 use Rattle.strat_machine.proofs.PatternLaws.{builds_so, builds_none_so, builds_large_so}
 use Rattle.strat_machine.proofs.PrimitiveLaws.{goes_on_so}
 use Rattle.strat_machine.proofs.patterns.perform_build.Goals as goal

@@ -1,5 +1,5 @@
 use Rattle.std.proofs.Common.{◌∙◌}
-use Rattle.strat_machine.specs.Loaded.{all_loaded_of}
+use Rattle.strat_patterns.specs.Loaded.{all_loaded_of}
 use Rattle.strat_machine.proofs.PatternLaws.{calls_so, calls_none_so, calls_large_so}
 use Rattle.strat_machine.proofs.patterns.perform_call.Goals as goal
 

@@ -3,7 +3,7 @@ use Rattle.std.specs.Option.{option_map}
 use Rattle.term_model.specs.Flat as flat
 use Rattle.prim_registry.specs.Entries.{entries_of}
 use Rattle.prim_registry.specs.Values.{answer_of, value_of}
-use Rattle.strat_machine.proofs.BuildingLaws.{outcome_is}
+use Rattle.strat_patterns.proofs.BuildingLaws.{outcome_is}
 use Rattle.strat_machine.proofs.PrimitiveLaws.{not_called, called_at}
 use Rattle.strat_machine.proofs.primitives.answer.Goals as goal
 

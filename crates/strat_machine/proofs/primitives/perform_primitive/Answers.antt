@@ -7,10 +7,10 @@ use Rattle.prim_registry.specs.Entries.{entries_of}
 use Rattle.prim_registry.specs.Registered.{meaning_of}
 use Rattle.strat_code.specs.Code.{apply_primitive}
 use Rattle.strat_steps.specs.State.{place_at}
-use Rattle.strat_machine.specs.Loaded.{loaded_of, all_loaded_of}
+use Rattle.strat_patterns.specs.Loaded.{loaded_of, all_loaded_of}
 use Rattle.strat_machine.specs.Tables.{IsPosition}
 use Rattle.term_model.proofs.SpaceLaws.{keeps_then}
-use Rattle.strat_machine.proofs.BuildingLaws.{slice_is}
+use Rattle.strat_patterns.proofs.BuildingLaws.{slice_is}
 use Rattle.strat_machine.proofs.PrimitiveLaws.{as_many_put, takes_them, answers_none_so, answers_large_so, answers_so, answers_nothing_so, answers_too_large_so, goes_on_so}
 use Rattle.strat_machine.proofs.primitives.perform_primitive.Goals as goal
 

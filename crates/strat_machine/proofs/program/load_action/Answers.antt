@@ -1,7 +1,7 @@
 use Rattle.std.proofs.Common.{◌∙◌, map, subst}
 use Rattle.core_lang.specs.Views.{pattern_of}
 use Rattle.prim_registry.specs.Entries.{entries_of}
-use Rattle.strat_machine.specs.Loaded.{AreLoaded}
+use Rattle.strat_patterns.specs.Loaded.{AreLoaded}
 use Rattle.strat_machine.proofs.ActionLaws.{primitive_loaded}
 use Rattle.strat_machine.proofs.program.load_action.Goals as goal
 

@@ -1,6 +1,6 @@
 use Rattle.std.proofs.Common.{ap}
 use Rattle.std.proofs.lemmas.Result.{IfOk-weaker}
-use Rattle.strat_machine.proofs.TraversalLaws.{refs_of_all}
+use Rattle.strat_patterns.proofs.ReferenceLists.{refs_of_all}
 use Rattle.strat_machine.proofs.traversals.open_parts.Goals as goal
 
 pub returns : goal.returns

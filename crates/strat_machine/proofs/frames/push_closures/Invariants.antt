@@ -1,5 +1,0 @@
-use Rattle.strat_machine.proofs.FrameLaws.{ArePushed}
-use Rattle.strat_machine.proofs.frames.push_closures.Given as goal
-
-abbrev pub invariant-loop-argument : goal.invariant-loop-argument
-invariant-loop-argument l = ArePushed l.frames l.initial.closures.items l.here l.arguments l.argument-index l.closures.items

@@ -1,0 +1,10 @@
+pub mod ResultLaws
+pub mod ReferenceLists
+pub mod FrameLaws
+pub mod PlaceLaws
+pub mod LoadedLaws
+pub mod FirstPartLaws
+pub mod MatchingLaws
+pub mod BuildingLaws
+pub mod ElementLaws
+pub mod BuiltLaws

@@ -1,0 +1,4 @@
+pub mod Frames
+pub mod PlaceStack
+pub mod Builds
+pub mod Loaded

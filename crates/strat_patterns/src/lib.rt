@@ -1,0 +1,22 @@
+//! Places, frames, and the matching and building of loaded patterns, over every space of terms.
+#![tactic(auto)]
+
+mod annotations;
+mod building;
+mod first_parts;
+mod frames;
+mod loaded;
+mod lookup;
+mod making;
+mod matching;
+mod memory;
+mod places;
+
+pub use building::{Built, Pushed, build, build_all};
+pub use frames::{Closure, Frames};
+pub use loaded::{LoadedPattern, load_pattern, load_patterns};
+pub use lookup::value;
+pub use making::outcome;
+pub use matching::{is_integer, match_pattern};
+pub use memory::{narrow, push_on};
+pub use places::Places;

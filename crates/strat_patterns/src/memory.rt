@@ -1,0 +1,46 @@
+// Memory for the stacks: vectors that take more of it, and numbers in 32 bits.
+ghost use Rattle.std.specs.Prelude.{◌≡◌, ◌<◌, vec_len, vec_capacity, IfOk, OnOk, OnErr, [], ◌∷◌, ◌++◌};
+
+use std::alloc::AllocError;
+
+/// Puts an item at the end of a vector.
+///
+/// Memory is taken in a function of its own, which is not inlined, so that the common case stays small where it is inlined.
+///
+/// # Errors
+///
+/// Returns an error if there is no memory for one more item. The vector then has the items that it had.
+pub fn push_on<T: Drop>(items: &mut Vec<T>, item: T) -> Result<(), AllocError>
+    ensures pushed { OnOk result (items.new.items ≡ items.old.items ++ item ∷ []) }
+    ensures err { OnErr result (items.new.items ≡ items.old.items) }
+{
+    if items.len() == items.capacity() {
+        grow(items)?;
+    }
+    items.push_reserved(item);
+    Ok(())
+}
+
+// Takes memory for one more item.
+#[inline(never)]
+fn grow<T: Drop>(items: &mut Vec<T>) -> Result<(), AllocError>
+    ensures same { items.new.items ≡ items.old.items }
+    ensures room { OnOk result (vec_len items.new < vec_capacity items.new) }
+{
+    items.reserve(1)?;
+    Ok(())
+}
+
+/// Returns the number in 32 bits.
+///
+/// # Errors
+///
+/// Returns an error if the number needs more than 32 bits: no stack has room for it.
+pub fn narrow(number: usize) -> Result<u32, AllocError>
+    ensures { IfOk result (λ n. n ≡ number) }
+{
+    if number > u32::MAX as usize {
+        return Err(AllocError);
+    }
+    Ok(number as u32)
+}
