@@ -11,6 +11,7 @@ use crate::name_hints::{name_hint_in, primitive_place, whole_file};
 use crate::notes::RunNotes;
 use crate::pieces::position_in;
 use crate::program::{Program, noted_program};
+use crate::progress::library_bytes;
 use crate::source::{Source, read_all};
 use crate::status::Options;
 use crate::warnings::{Definitions, add_count, add_warnings};
@@ -51,6 +52,7 @@ pub fn check_definitions<D: Source, M: PrimMeaning>(
         notes.note_long_definitions();
         return Ok(Some(Fault::DefsTooLong));
     };
+    notes.note_library(library_bytes(definitions.files()));
     judge(alloc, &text, options, registry, notes)
 }
 
@@ -85,7 +87,7 @@ fn judge<M: PrimMeaning>(
 
 /// Notes warnings about the definitions of this program, if memory for them is there.
 fn note_warnings(alloc: Global, text: &[u8], program: &Program, notes: &mut RunNotes) {
-    let definitions = Definitions::of_checked(text, &program.checked);
+    let definitions = Definitions::of_checked(text, notes.library(), &program.checked);
     let mut remarks = Vec::new(alloc);
     if add_warnings(alloc, &definitions, &mut remarks).is_ok() {
         notes.note_explanation(Explanation::new(remarks));
@@ -100,15 +102,17 @@ fn note_findings<M: PrimMeaning>(
     registry: &Registry<M>,
     notes: &mut RunNotes,
 ) {
-    if let Ok(explanation) = findings_in(alloc, text, options, registry) {
+    if let Ok(explanation) = findings_in(alloc, text, notes.library(), options, registry) {
         notes.note_explanation(explanation);
     }
 }
 
-/// What the checks find in definitions, and warnings. The fault is `Memory`, or that of a text that is no file.
+/// What the checks find in definitions, of which the first bytes are a library, and warnings. The fault is `Memory`, or that of a text that
+/// is no file.
 pub(crate) fn findings_in<M: PrimMeaning>(
     alloc: Global,
     text: &[u8],
+    library: usize,
     options: &Options,
     registry: &Registry<M>,
 ) -> Result<Explanation, Fault> {
@@ -123,6 +127,7 @@ pub(crate) fn findings_in<M: PrimMeaning>(
     add_faults(alloc, text, &file, &found, &primitives, &mut remarks)?;
     let definitions = Definitions {
         text,
+        library,
         file: &file,
         signature: &signature,
         main: &options.main,
@@ -150,11 +155,13 @@ fn add_faults(
         remarks.push(Remark {
             position: Some(position_of(text, &tokens, notes, index)),
             text: format!(in alloc; "{note}")?.into_bytes(),
+            on_line: None,
         })?;
         if let Some(hint) = name_hint_in(alloc, file, note, primitives) {
             remarks.push(Remark {
                 position: None,
                 text: format!(in alloc; "hint: {hint}")?.into_bytes(),
+                on_line: None,
             })?;
         }
     }

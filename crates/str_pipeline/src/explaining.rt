@@ -65,11 +65,12 @@ pub(crate) fn note_explanation<M: PrimMeaning>(
         Status::Failed | Status::Oversize | Status::Spent => explanation_of(
             alloc,
             &definitions,
+            notes.library(),
             &term,
             options,
             registry,
         ),
-        Status::Rewritten => findings_in(alloc, &definitions, options, registry),
+        Status::Rewritten => findings_in(alloc, &definitions, notes.library(), options, registry),
         Status::Refused(_) => return,
     };
     if let Ok(explanation) = explanation {
@@ -77,10 +78,11 @@ pub(crate) fn note_explanation<M: PrimMeaning>(
     }
 }
 
-// The explanation of a run of these definitions on the term of this text.
+// The explanation of a run of these definitions, of which the first bytes are a library, on the term of this text.
 fn explanation_of<M: PrimMeaning>(
     alloc: Global,
     definitions: &[u8],
+    library: usize,
     term: &[u8],
     options: &Options,
     registry: &Registry<M>,
@@ -102,7 +104,7 @@ fn explanation_of<M: PrimMeaning>(
         is_short: options.budget > MOST_RULES,
     };
     explainer.explain(&mut remarks)?;
-    let definitions = Definitions::of_checked(definitions, &program.checked);
+    let definitions = Definitions::of_checked(definitions, library, &program.checked);
     add_warnings(alloc, &definitions, &mut remarks)?;
     Ok(Explanation::new(remarks))
 }
@@ -467,6 +469,7 @@ impl<'a> Explainer<'a> {
         remarks.push(Remark {
             position: Some(self.listing.position(offset)),
             text,
+            on_line: None,
         })?;
         Ok(())
     }
@@ -477,6 +480,7 @@ fn push_line(text: Vec<u8>, remarks: &mut Vec<Remark>) -> Result<(), AllocError>
     remarks.push(Remark {
         position: None,
         text,
+        on_line: None,
     })?;
     Ok(())
 }

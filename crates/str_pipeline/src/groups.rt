@@ -33,8 +33,8 @@ impl<'a> Key<'a> {
     }
 }
 
-/// Adds the warnings about these alternatives of definitions that call these keys. If something is wrong in the definitions, a call may have
-/// a misspelled name, so none is said not to be called.
+/// Adds the warnings about these alternatives of definitions that call these keys. None is said not to be called of a library, which is for
+/// other programs, too; nor where something is wrong in the definitions, since a call may have a misspelled name then.
 pub(crate) fn add_group_warnings(
     alloc: Global,
     definitions: &Definitions<'_>,
@@ -55,7 +55,7 @@ pub(crate) fn add_group_warnings(
                 Some(earlier.with(alternative))
             }
             _ => {
-                let is_needed = !definitions.is_sound || is_applied(key.name, definitions.main);
+                let is_needed = is_needed(definitions, alternative);
                 if !is_needed && called.binary_search(&key).is_err() {
                     add_uncalled(alloc, alternative, warnings)?;
                 }
@@ -92,9 +92,11 @@ impl<'a> Earlier<'a> {
     }
 }
 
-// Whether the definition of this name may be applied without a call.
-fn is_applied(name: &[u8], main: &[u8]) -> bool {
-    name == main || name == b"main".as_slice()
+// Whether the definition with this first alternative may be needed without a call.
+fn is_needed(definitions: &Definitions<'_>, first: &Alternative<'_>) -> bool {
+    let name = first.head().name.bytes();
+    let is_applied = name == definitions.main || name == b"main".as_slice();
+    !definitions.is_sound || is_applied || first.offset() < definitions.library
 }
 
 // Adds that a definition is never called.

@@ -1,7 +1,7 @@
 //! What was probably meant where a text is refused, in words.
 
 use crate::advice::Advice;
-use crate::explanation::Position;
+use crate::explanation::{NamedLine, Position};
 use crate::shown::Shown;
 use std::fmt;
 
@@ -60,30 +60,58 @@ fn plural(number: usize) -> &'static str {
     if number == 1 { "" } else { "s" }
 }
 
+impl Hint {
+    /// The line of the text that the hint names, from 1, if it names one.
+    pub fn line(&self) -> Option<usize> {
+        match self {
+            Hint::TakenAsOperand { line, .. } | Hint::JoinedByOperator { line, .. } => Some(*line),
+            Hint::NeverClosed { place, .. } => Some(place.line),
+            _ => None,
+        }
+    }
+
+    /// The hint with this line in place of the one that it names. A hint that names none stays as it is.
+    pub fn on_line(self, line: NamedLine<'_>) -> HintOnLine<'_> {
+        HintOnLine { hint: self, line }
+    }
+}
+
+/// A hint, and what is written in place of the line that it names.
+#[derive(Clone, Copy)]
+pub struct HintOnLine<'a> {
+    hint: Hint,
+    line: NamedLine<'a>,
+}
+
 /// A part of a sentence, without a full stop.
 impl fmt::Display for Hint {
     fn fmt<W: fmt::Write>(&self, f: &mut fmt::Formatter<W>) -> fmt::Result {
-        match self {
+        let own = NamedLine {
+            line: self.line().unwrap_or(0),
+            text_name: None,
+        };
+        let hint = self.on_line(own);
+        write!(f, "{hint}")
+    }
+}
+
+/// A part of a sentence, without a full stop.
+impl fmt::Display for HintOnLine<'_> {
+    fn fmt<W: fmt::Write>(&self, f: &mut fmt::Formatter<W>) -> fmt::Result {
+        let line = self.line;
+        match &self.hint {
             Hint::Advice(advice) => f.write_str(advice.words()),
-            Hint::TakenAsOperand { name, line } => write!(
+            Hint::TakenAsOperand { name, .. } => write!(
                 f,
-                "'{name}' was taken as the operand of '<..>' on line {line}; write (<..>)"
+                "'{name}' was taken as the operand of '<..>' on {line}; write (<..>)"
             ),
-            Hint::JoinedByOperator {
-                name,
-                operator,
-                line,
-            } => write!(
+            Hint::JoinedByOperator { name, operator, .. } => write!(
                 f,
-                "the '{operator}' on line {line} made '{name}' part of the definition before it"
+                "the '{operator}' on {line} made '{name}' part of the definition before it"
             ),
             Hint::NeverClosed { bracket, place } => {
-                let shown = *bracket;
-                let Position { line, column } = *place;
-                write!(
-                    f,
-                    "the '{shown}' on line {line}, column {column} is not closed"
-                )
+                let (shown, column) = (*bracket, place.column);
+                write!(f, "the '{shown}' on {line}, column {column} is not closed")
             }
             Hint::KeywordAsName(word) => write!(f, "'{word}' is a keyword and cannot be a name"),
             Hint::OnName(hint) => write!(f, "{hint}"),

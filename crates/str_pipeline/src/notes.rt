@@ -53,6 +53,8 @@ pub struct RunNotes {
     // The texts of a run that may have to be explained.
     definitions: Option<Vec<u8>>,
     term: Option<Vec<u8>>,
+    // How many bytes of the definitions, from the first on, are a library.
+    library: usize,
     explanation: Option<Explanation>,
 }
 
@@ -89,6 +91,7 @@ impl RunNotes {
             wants_explanation: false,
             definitions: None,
             term: None,
+            library: 0,
             explanation: None,
         }
     }
@@ -170,6 +173,16 @@ impl RunNotes {
         if self.wants_explanation {
             self.term = Some(text);
         }
+    }
+
+    // Notes how many bytes of the definitions, from the first on, are a library.
+    pub(crate) fn note_library(&mut self, bytes: usize) {
+        self.library = bytes;
+    }
+
+    // How many bytes of the definitions, from the first on, are a library.
+    pub(crate) fn library(&self) -> usize {
+        self.library
     }
 
     // Hands out the texts that are kept, the definitions first.

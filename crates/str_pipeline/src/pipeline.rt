@@ -17,6 +17,7 @@ use crate::explaining::note_explanation;
 use crate::joined::read_front;
 use crate::notes::RunNotes;
 use crate::program::noted_program;
+use crate::progress::library_bytes;
 use crate::sink::Sink;
 use crate::source::{Source, read_all};
 use crate::status::{Options, Status};
@@ -243,6 +244,7 @@ pub fn transform_with_notes<D: Source, T: Source, M: PrimMeaning, W: Sink>(
     let outcome = outcome_apart(alloc, defs, term, options, registry, notes);
     notes.note_outcome(&outcome);
     let status = finish(alloc, outcome, out);
+    notes.note_library(library_bytes(defs.files()));
     note_explanation(alloc, &status, options, registry, notes);
     status
 }

@@ -163,7 +163,7 @@ impl Reason {
             Reason::NoTermLine => "there is no term, since no line of the input is '#term'",
             Reason::TermTooDeep => "the term is deeper than 1000 levels",
             Reason::TermTooLarge => {
-                "the term has more than 16777216 nodes or is deeper than 1000 levels"
+                "the term has a weight of more than 16777216 or is deeper than 1000 levels"
             }
             Reason::TermUndeclared => "an application of the term is not declared",
             Reason::DefinitionsTooLong => "the definitions have more than 1048576 bytes",

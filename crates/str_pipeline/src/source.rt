@@ -3,6 +3,7 @@ ghost use Rattle.std.specs.Prelude.{◌≡◌, ◌+◌, ◌^◌, ◌<◌, ◌≤
 ghost use Rattle.str_pipeline.specs.Device.{ReadsFront};
 ghost use Rattle.str_pipeline.specs.Faults.{is_read_fault, IsReadingFault};
 
+use crate::progress::FileProgress;
 use std::alloc::Allocator;
 use std::io::ErrorKind;
 use term_model::Fault;
@@ -29,6 +30,13 @@ pub trait Source {
     /// Why the last read that failed did, for a person; nothing where none failed, or where the device does not know. No clause speaks of it.
     fn failure(&self) -> Option<ErrorKind> {
         None
+    }
+
+    /// How far each file was read, of a reader that reads several files one after another as one text; of any other reader nothing. The
+    /// last file has the definitions themselves, and those in front of it a library, which is for other definitions, too: a person is not
+    /// warned that one of its definitions is never called. No clause speaks of it.
+    fn files(&self) -> &[FileProgress] {
+        &[]
     }
 }
 

@@ -17,7 +17,8 @@ impl Model for Count {
 }
 
 impl Count {
-    pub(crate) fn new() -> Count
+    /// A number that is 0.
+    pub fn new() -> Count
         ensures { result.number ≡ 0 }
     {
         Count {
@@ -25,7 +26,8 @@ impl Count {
         }
     }
 
-    pub(crate) fn step(&mut self)
+    /// Adds 1.
+    pub fn step(&mut self)
         ensures { self.new.number ≡ self.old.number + 1 }
     {}
 }

@@ -43,11 +43,12 @@ impl<'a> Alternative<'a> {
     }
 }
 
-/// The definitions that warnings are about: their text, their file with its signature, the name of the definition that is applied, and
-/// whether nothing is wrong in them.
+/// The definitions that warnings are about: their text, of which the first bytes are a library, their file with its signature, the name of
+/// the definition that is applied, and whether nothing is wrong in them.
 #[derive(Clone, Copy)]
 pub(crate) struct Definitions<'a> {
     pub(crate) text: &'a [u8],
+    pub(crate) library: usize,
     pub(crate) file: &'a File,
     pub(crate) signature: &'a Signature,
     pub(crate) main: &'a [u8],
@@ -55,10 +56,15 @@ pub(crate) struct Definitions<'a> {
 }
 
 impl<'a> Definitions<'a> {
-    /// Definitions of this text in which nothing is wrong.
-    pub(crate) fn of_checked(text: &'a [u8], checked: &'a Checked) -> Definitions<'a> {
+    /// Definitions of this text in which nothing is wrong. Its first bytes, as many as `library` says, are a library.
+    pub(crate) fn of_checked(
+        text: &'a [u8],
+        library: usize,
+        checked: &'a Checked,
+    ) -> Definitions<'a> {
         Definitions {
             text,
+            library,
             file: checked.file(),
             signature: checked.signature(),
             main: checked.main(),
@@ -67,13 +73,14 @@ impl<'a> Definitions<'a> {
     }
 }
 
-/// Adds the warnings about the definitions as remarks: the first hundred, in the order of the text, and how many there are.
+/// Adds the warnings about the definitions as remarks: the first hundred, in the order of the text but those about a library last, and how
+/// many there are.
 pub(crate) fn add_warnings(
     alloc: Global,
     definitions: &Definitions<'_>,
     remarks: &mut Vec<Remark>,
 ) -> Result<(), AllocError> {
-    let text = definitions.text;
+    let (text, library) = (definitions.text, definitions.library);
     let alternatives = alternatives_of(alloc, definitions.file)?;
     let mut walk = Walk::new(alloc, definitions.signature);
     for alternative in &alternatives {
@@ -86,24 +93,21 @@ pub(crate) fn add_warnings(
     for warning in &warnings {
         order.push(warning)?;
     }
-    order.sort_by_key(|warning| warning.offset)?;
+    order.sort_by_key(|warning| (warning.offset < library, warning.offset))?;
     for warning in order.iter().take(MOST) {
         remarks.push(Remark {
             position: Some(position_in(text, warning.offset)),
-            text: text_of(alloc, text, warning)?,
+            text: text_of(alloc, warning)?,
+            on_line: warning.other.map(|other| position_in(text, other).line),
         })?;
     }
     add_count(alloc, count, b" warnings", remarks)
 }
 
-// What is told of a warning about this text.
-fn text_of(alloc: Global, text: &[u8], warning: &Warning) -> Result<Vec<u8>, AllocError> {
+// What is told of a warning.
+fn text_of(alloc: Global, warning: &Warning) -> Result<Vec<u8>, AllocError> {
     let mut line = b"warning: ".to_vec(alloc)?;
     line.extend_from_slice(&warning.text)?;
-    if let Some(other) = warning.other {
-        line.extend_from_slice(b" on line ")?;
-        push_number(position_in(text, other).line as u64, &mut line)?;
-    }
     Ok(line)
 }
 
@@ -123,6 +127,7 @@ pub(crate) fn add_count(
     remarks.push(Remark {
         position: None,
         text,
+        on_line: None,
     })?;
     Ok(())
 }

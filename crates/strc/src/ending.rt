@@ -109,6 +109,14 @@ pub(crate) fn write_remark<E: Sink>(
         return write_pieces(&[b"  ".as_slice(), text, b"\n"], diagnostics);
     };
     let (mut line_digits, mut column_digits) = (Buffer::new(), Buffer::new());
+    let mut other_digits = Buffer::new();
+    let (on_line, other) = match remark.on_line {
+        Some(line) => (
+            b" on line ".as_slice(),
+            other_digits.format(line).as_bytes(),
+        ),
+        None => (b"".as_slice(), b"".as_slice()),
+    };
     let pieces = [
         definitions.as_bytes(),
         b":",
@@ -117,6 +125,8 @@ pub(crate) fn write_remark<E: Sink>(
         column_digits.format(column).as_bytes(),
         b": ",
         text,
+        on_line,
+        other,
         b"\n",
     ];
     write_pieces(&pieces, diagnostics)

@@ -72,6 +72,7 @@ fn is_line_of_remark(
     let remark = Remark {
         position,
         text: text.to_vec(alloc)?,
+        on_line: None,
     };
     let mut diagnostics = Faulty::writer(alloc, 200, 7, None, false)?;
     let written = write_remark("rules.str", &remark, &mut diagnostics);

@@ -165,7 +165,7 @@ const LONG: &[(&str, &str, u32, &str)] = &[
         "strc id.str",
         "a",
         16777216,
-        "strc: TermOversize at byte 16777216\nstdin: the term has more than 16777216 nodes or is deeper than 1000 levels\n",
+        "strc: TermOversize at byte 16777216\nstdin: the term has a weight of more than 16777216 or is deeper than 1000 levels\n",
     ),
     (
         "strc id.str",
