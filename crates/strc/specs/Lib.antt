@@ -2,3 +2,4 @@ pub mod Report
 pub mod Request
 pub mod Rules
 pub mod Primitives
+pub mod Files

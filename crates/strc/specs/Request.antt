@@ -1,5 +1,5 @@
 -- What a command line asks for.
-use Rattle.std.specs.Prelude.{◌≡◌, codes, false}
+use Rattle.std.specs.Prelude.{◌≡◌, [], codes, false}
 use Rattle.term_model.specs.Limits.{default_budget}
 use Rattle.str_pipeline.specs.declared.status.Options.{Options}
 use Rattle.strc.specs.declared.request.Request.{Request}
@@ -13,6 +13,7 @@ pub record IsPlainRequest (request : Request) : Type 0 where
   pub quiet : request.has_stats ≡ false
   pub unexplained : request.explains ≡ false
   pub unchecked : request.checks ≡ false
+  pub alone : request.libraries.items ≡ []
   pub joined : request.texts ≡ Joined
 
 -- the options are those that the request asks for

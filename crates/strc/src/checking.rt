@@ -9,10 +9,11 @@ ghost use Rattle.strc.specs.declared.request.Texts.TheVariants.{Joined};
 
 use crate::ending::{report_findings, write_remarks};
 use crate::failure::Failure;
+use crate::opening::{find_libraries, open_definitions};
 use crate::paths::Paths;
-use crate::program::{open_reader, stop_reading};
 use crate::report::{INPUT, Reporting};
 use crate::request::{Request, Texts};
+use crate::stopping::stop_reading;
 use prim_registry::{PrimMeaning, Registry};
 use std::alloc::Global;
 use str_pipeline::{Options, RunNotes, Sink, Source, check_definitions};
@@ -36,7 +37,7 @@ fn conclude_check<E: Sink>(
             2
         }
         None => {
-            let _ = write_remarks(reporting.definitions, notes, diagnostics);
+            let _ = write_remarks(reporting, notes, diagnostics);
             0
         }
     }
@@ -62,7 +63,12 @@ fn check_reader<D: Source, E: Sink, M: PrimMeaning>(
     ensures bounded { D.reads definitions.new ≤ D.reads definitions.old + max_definitions + 1 }
 {
     let mut notes = RunNotes::none();
-    match check_definitions(alloc, definitions, options, registry, &mut notes) {
+    let judged = check_definitions(alloc, definitions, options, registry, &mut notes);
+    let reporting = Reporting {
+        files: definitions.files(),
+        ..reporting
+    };
+    match judged {
         Ok(verdict) => conclude_check(alloc, verdict, reporting, &notes, diagnostics),
         Err(fault) => {
             let reading = Failure::of_reading(reporting, definitions.failure(), None);
@@ -71,8 +77,8 @@ fn check_reader<D: Source, E: Sink, M: PrimMeaning>(
     }
 }
 
-/// Checks the definitions that the request names: those of its first file, and else of `input`, which has nothing but them. As `check_reader`;
-/// a file that cannot be opened is a fault of reading.
+/// Checks the definitions that the request names: those of its files, as one text, and else of `input`, which has nothing but them. As
+/// `check_reader`; a file that cannot be opened is a fault of reading.
 pub(crate) fn run_check<P: Paths, I: Source, E: Sink, M: PrimMeaning>(
     alloc: Global,
     request: &Request<'_>,
@@ -96,16 +102,20 @@ pub(crate) fn run_check<P: Paths, I: Source, E: Sink, M: PrimMeaning>(
 {
     let path = match request.texts {
         Texts::Joined => {
-            let reporting = Reporting::new(request, INPUT, INPUT);
+            let reporting = Reporting::new(request, &[], INPUT, INPUT);
             return check_reader(alloc, input, reporting, options, registry, diagnostics);
         }
         Texts::Definitions(path) | Texts::Both(path, _) => path,
     };
-    let mut definitions = match open_reader(alloc, paths, path, diagnostics) {
-        Ok(reader) => reader,
+    let libraries = match find_libraries(alloc, paths, &request.libraries, diagnostics) {
+        Ok(libraries) => libraries,
         Err(status) => return status,
     };
-    let reporting = Reporting::new(request, path, INPUT);
+    let mut definitions = match open_definitions(alloc, paths, &libraries, path, diagnostics) {
+        Ok(files) => files,
+        Err(status) => return status,
+    };
+    let reporting = Reporting::new(request, &libraries, path, INPUT);
     check_reader(
         alloc,
         &mut definitions,

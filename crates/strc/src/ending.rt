@@ -2,10 +2,10 @@
 ghost use Rattle.std.specs.Prelude.{◌||◌};
 ghost use Rattle.strc.specs.Report.{IsReportedWith, TellsIfAsked, TellsMore, TellsText};
 
-use crate::report::{Reporting, report, report_numbers, report_refusal};
+use crate::report::{FileLine, Reporting, report, report_numbers, report_refusal};
 use itoa::Buffer;
 use std::alloc::Global;
-use str_pipeline::{OversizeTerm, Position, Remark, RunNotes, Sink, Status, write_all};
+use str_pipeline::{NamedLine, OversizeTerm, Position, Remark, RunNotes, Sink, Status, write_all};
 use term_model::Fault;
 use term_model::term::{MAX_DEPTH, MAX_WEIGHT};
 
@@ -96,9 +96,38 @@ fn write_oversize<E: Sink>(notes: &RunNotes, diagnostics: &mut E) -> Result<(), 
     }
 }
 
-/// Writes the line of a remark: where in the definitions it stands, or two blanks, and its text.
+/// What comes after the text of a remark that also is about another line: words, the number of the line, words, and the name of its file.
+#[derive(Clone, Copy)]
+struct Mention<'a> {
+    words: &'static str,
+    line: usize,
+    of: &'static str,
+    name: &'a str,
+}
+
+/// What is said where there is no other line.
+const NO_MENTION: Mention<'static> = Mention {
+    words: "",
+    line: 0,
+    of: "",
+    name: "",
+};
+
+/// Returns what is said of this line of all definitions after the text of a remark on a place in this file.
+fn mention_of<'a>(reporting: Reporting<'a>, on_line: usize, beside: &str) -> Mention<'a> {
+    let NamedLine { line, text_name } = reporting.named_line(on_line, beside);
+    Mention {
+        words: " on line ",
+        line,
+        of: if text_name.is_some() { " of " } else { "" },
+        name: text_name.unwrap_or(""),
+    }
+}
+
+/// Writes the line of a remark: the file and the place in it at which it stands, or two blanks; its text; and the other line that it is about,
+/// if there is one.
 pub(crate) fn write_remark<E: Sink>(
-    definitions: &str,
+    reporting: Reporting<'_>,
     remark: &Remark,
     diagnostics: &mut E,
 ) -> Result<(), Fault>
@@ -108,25 +137,29 @@ pub(crate) fn write_remark<E: Sink>(
     let Some(Position { line, column }) = remark.position else {
         return write_pieces(&[b"  ".as_slice(), text, b"\n"], diagnostics);
     };
+    let FileLine { name, line } = reporting.file_line(line);
+    let mention = match remark.on_line {
+        Some(other) => mention_of(reporting, other, name),
+        None => NO_MENTION,
+    };
     let (mut line_digits, mut column_digits) = (Buffer::new(), Buffer::new());
     let mut other_digits = Buffer::new();
-    let (on_line, other) = match remark.on_line {
-        Some(line) => (
-            b" on line ".as_slice(),
-            other_digits.format(line).as_bytes(),
-        ),
-        None => (b"".as_slice(), b"".as_slice()),
+    let other_line = match mention.line {
+        0 => b"".as_slice(),
+        other => other_digits.format(other).as_bytes(),
     };
     let pieces = [
-        definitions.as_bytes(),
+        name.as_bytes(),
         b":",
         line_digits.format(line).as_bytes(),
         b":",
         column_digits.format(column).as_bytes(),
         b": ",
         text,
-        on_line,
-        other,
+        mention.words.as_bytes(),
+        other_line,
+        mention.of.as_bytes(),
+        mention.name.as_bytes(),
         b"\n",
     ];
     write_pieces(&pieces, diagnostics)
@@ -134,7 +167,7 @@ pub(crate) fn write_remark<E: Sink>(
 
 /// Writes why a run has no result or what a check found, where that is known: a line for each remark.
 pub(crate) fn write_remarks<E: Sink>(
-    definitions: &str,
+    reporting: Reporting<'_>,
     notes: &RunNotes,
     diagnostics: &mut E,
 ) -> Result<(), Fault>
@@ -144,7 +177,7 @@ pub(crate) fn write_remarks<E: Sink>(
         return Ok(());
     };
     for remark in explanation.remarks() {
-        write_remark(definitions, remark, diagnostics)?;
+        write_remark(reporting, remark, diagnostics)?;
     }
     Ok(())
 }
@@ -162,7 +195,7 @@ fn report_asked<E: Sink>(
     if !reporting.reports_runs() {
         return;
     }
-    if write_remarks(reporting.definitions, notes, diagnostics).is_err() {
+    if write_remarks(reporting, notes, diagnostics).is_err() {
         return;
     }
     report_numbers(alloc, reporting.has_stats, notes, diagnostics);
@@ -187,7 +220,7 @@ pub(crate) fn report_findings<E: Sink>(
     if report(fault, diagnostics).is_err() {
         return;
     }
-    let _ = write_remarks(reporting.definitions, notes, diagnostics);
+    let _ = write_remarks(reporting, notes, diagnostics);
 }
 
 /// Writes that a term did not fit and, where that is asked for, more of the run.

@@ -1,4 +1,5 @@
 //! What failed and why, for a person.
+use crate::opening::PRELUDE;
 use crate::report::Reporting;
 use std::alloc::Global;
 use std::io::ErrorKind;
@@ -6,11 +7,16 @@ use std::io::ErrorKind;
 /// What standard output is called.
 const OUTPUT: &str = "stdout";
 
+/// What is said next where the installed prelude cannot be opened.
+const OTHER_FILES: &str = "hint: --with FILE takes any file\n";
+
 /// What could not be opened, read or written, and why.
 #[derive(Clone, Copy, Drop)]
 pub(crate) struct Failure<'a> {
     name: &'a str,
     why: &'static str,
+    /// Nothing, or a line that says what else to do.
+    hint: &'static str,
 }
 
 impl<'a> Failure<'a> {
@@ -19,6 +25,29 @@ impl<'a> Failure<'a> {
         Failure {
             name: path,
             why: text_of(kind, "cannot be opened"),
+            hint: "",
+        }
+    }
+
+    /// A file in front of the definitions that could not be opened; of the installed prelude a hint says that any file will do.
+    pub(crate) fn of_library(
+        path: &'a str,
+        kind: Option<ErrorKind>,
+        is_prelude: bool,
+    ) -> Failure<'a> {
+        Failure {
+            name: path,
+            why: text_of(kind, "cannot be opened"),
+            hint: if is_prelude { OTHER_FILES } else { "" },
+        }
+    }
+
+    /// The installed prelude, if its place is not known.
+    pub(crate) fn of_prelude() -> Failure<'static> {
+        Failure {
+            name: PRELUDE,
+            why: "the place of the program is not known",
+            hint: OTHER_FILES,
         }
     }
 
@@ -29,12 +58,13 @@ impl<'a> Failure<'a> {
         term: Option<ErrorKind>,
     ) -> Failure<'a> {
         let (name, kind) = match definitions {
-            Some(_) => (reporting.definitions, definitions),
+            Some(_) => (reporting.name_in_progress(), definitions),
             None => (reporting.term, term),
         };
         Failure {
             name,
             why: text_of(kind, "reading failed"),
+            hint: "",
         }
     }
 
@@ -43,13 +73,14 @@ impl<'a> Failure<'a> {
         Failure {
             name: OUTPUT,
             why: text_of(kind, "writing failed"),
+            hint: "",
         }
     }
 
-    /// Returns the line that says so, with its line feed; nothing where memory for it is refused.
+    /// Returns the lines that say so, with their line feeds; nothing where memory for them is refused.
     pub(crate) fn line(self, alloc: Global) -> Option<String> {
-        let Failure { name, why } = self;
-        format!(in alloc; "{name}: {why}\n").ok()
+        let Failure { name, why, hint } = self;
+        format!(in alloc; "{name}: {why}\n{hint}").ok()
     }
 }
 

@@ -3,13 +3,16 @@
 #![tactic(auto)]
 
 mod checking;
+mod definition_files;
 mod ending;
 mod failure;
+mod opening;
 mod paths;
 mod primitives;
 mod program;
 mod report;
 mod request;
+mod stopping;
 #[cfg(test)]
 mod tests;
 mod words;

@@ -16,7 +16,8 @@ ghost use Rattle.strc.specs.Report.{exit_of, IsCause, TellsStop, IsReported};
 ghost use Rattle.strc.specs.Request.{ArePlain};
 
 use crate::paths::Paths;
-use crate::program::{run, stop};
+use crate::program::run;
+use crate::stopping::stop;
 use crate::words::refuse;
 use prim_registry::{
     Action, Flat, Prim, PrimMeaning, Registry, STANDARD, Standard, StandardPrimitive,

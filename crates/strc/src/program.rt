@@ -11,6 +11,7 @@ ghost use Rattle.str_pipeline.specs.Setting.{setting_of};
 ghost use Rattle.str_pipeline.specs.Written.{HasWritten, HasBegun};
 ghost use Rattle.str_pipeline.specs.Faults.{HoldsRefusal, IsTransferFault};
 ghost use Rattle.str_pipeline.specs.Limits.{max_definitions, max_term};
+ghost use Rattle.strc.specs.Files.{texts_at, whole_text};
 ghost use Rattle.strc.specs.Report.{AreSome, Failures, exit_of, IsCause, IsUnread, Tells, TellsFault, TellsStop, IsReported, IsReportedWith};
 ghost use Rattle.strc.specs.Request.{ArePlain};
 ghost use Rattle.strc.specs.declared.request.Texts.TheVariants.{Joined};
@@ -18,9 +19,11 @@ ghost use Rattle.strc.specs.declared.request.Texts.TheVariants.{Joined};
 use crate::checking::run_check;
 use crate::ending::{notes_for, report_end};
 use crate::failure::Failure;
+use crate::opening::{find_libraries, open_definitions, open_reader};
 use crate::paths::Paths;
-use crate::report::{INPUT, Reporting, report, report_failure};
+use crate::report::{INPUT, Reporting, report_failure};
 use crate::request::{Request, Texts, misuse_of, options_of, request_of};
+use crate::stopping::{stop, stop_reading};
 use clap::Error;
 use clap::error::ErrorKind;
 use prim_registry::{PrimMeaning, Registry};
@@ -31,57 +34,6 @@ use str_pipeline::{
     write_all,
 };
 use term_model::Fault;
-
-/// Writes the diagnostic line of a fault that stops the program, and returns the status of such faults, 4.
-#[tactic(auto, using(crate::proofs::PrefixLaws::tells))]
-pub(crate) fn stop<E: Sink>(fault: &Fault, diagnostics: &mut E) -> u8
-    ensures status { result ≡ 4 }
-    ensures told { Tells fault.now (E.failed_writes diagnostics.old) (E.failed_writes diagnostics.new) (E.written diagnostics.old) (E.written diagnostics.new) }
-{
-    let _ = report(fault, diagnostics);
-    4
-}
-
-/// Reports a fault of opening or reading, and returns 4. The failure says of what, and why.
-#[tactic(auto, using(crate::proofs::CauseLaws::alone_told))]
-pub(crate) fn stop_reading<E: Sink>(
-    alloc: Global,
-    fault: &Fault,
-    failure: Failure<'_>,
-    diagnostics: &mut E,
-) -> u8
-    ensures status { result ≡ 4 }
-    ensures told { TellsFault fault.now (E.failed_writes diagnostics.old) (E.failed_writes diagnostics.new)
-        (E.written diagnostics.old) (E.written diagnostics.new) }
-{
-    match fault {
-        Fault::Read => {
-            report_failure(alloc, fault, failure, diagnostics);
-            4
-        }
-        _ => stop(fault, diagnostics),
-    }
-}
-
-/// Opens the file at this path. If it cannot be opened, reports why, and returns 4 as the error.
-pub(crate) fn open_reader<P: Paths, E: Sink>(
-    alloc: Global,
-    paths: &mut P,
-    path: &str,
-    diagnostics: &mut E,
-) -> Result<P::Reader, u8>
-    ensures opened { IfOk result (λ reader. diagnostics.new ≡ diagnostics.old) }
-    ensures stopped { IfErr result (λ status. (status ≡ 4) × IsUnread (E.failed_writes diagnostics.old)
-        (E.failed_writes diagnostics.new) (E.written diagnostics.old) (E.written diagnostics.new)) }
-{
-    match paths.open(path) {
-        Ok(reader) => Ok(reader),
-        Err(fault) => {
-            let failure = Failure::of_opening(path, paths.failure());
-            Err(stop_reading(alloc, &fault, failure, diagnostics))
-        }
-    }
-}
 
 /// Reports that a write to `out` failed, and returns 4. Of a broken pipe nothing is reported, since its reader wants no more.
 fn stop_writing<W: Sink, E: Sink>(alloc: Global, out: &W, diagnostics: &mut E) -> u8
@@ -226,7 +178,12 @@ fn run_apart<D: Source, T: Source, W: Sink, E: Sink, M: PrimMeaning>(
     ensures term_bounded { T.reads term.new ≤ T.reads term.old + max_term + 1 }
 {
     let mut notes = notes_for(reporting);
-    match transform_with_notes(alloc, definitions, term, options, registry, &mut notes, out) {
+    let result = transform_with_notes(alloc, definitions, term, options, registry, &mut notes, out);
+    let reporting = Reporting {
+        files: definitions.files(),
+        ..reporting
+    };
+    match result {
         Ok(status) => conclude(
             alloc,
             status,
@@ -242,7 +199,55 @@ fn run_apart<D: Source, T: Source, W: Sink, E: Sink, M: PrimMeaning>(
     }
 }
 
-/// Does the work with two files, of which that of the definitions is opened first.
+/// Does the work with the files of definitions that the report names, which are read as one text, and the term of `input`. A file that cannot
+/// be opened is a fault before anything is read.
+#[tactic(auto, using(crate::proofs::CauseLaws::of_transfer, crate::proofs::CauseLaws::of_reading, crate::proofs::CauseLaws::fault_told))]
+fn run_definitions<P: Paths, I: Source, W: Sink, E: Sink, M: PrimMeaning>(
+    alloc: Global,
+    paths: &mut P,
+    input: &mut I,
+    reporting: Reporting<'_>,
+    options: &Options,
+    registry: &Registry<M>,
+    out: &mut W,
+    diagnostics: &mut E,
+) -> u8
+    requires budget { options.now.budget ≤ max_budget }
+    requires honest { IsHonest M.answer registry.now }
+    ensures status { result ≤ 4 }
+    ensures ended { result < 4 → (status : Status) × (exit_of status ≡ result) × HoldsRefusal status
+        × IfSome (whole_text (texts_at (P.text_at paths.old) reporting.entry.libraries.now reporting.entry.definitions.now))
+        (λ d. IfSome (I.coming input.old) (λ t. HasWritten d t (setting_of M.answer registry.now options.now)
+        status (W.written out.old) (W.written out.new)))
+        × IsReportedWith reporting.entry.has_stats reporting.entry.explains status
+        (E.failed_writes diagnostics.old) (E.failed_writes diagnostics.new)
+        (E.written diagnostics.old) (E.written diagnostics.new) }
+    ensures stopped { result ≡ 4 → (fault : Fault) × IsTransferFault fault
+        × TellsStop (record { before = W.failed_writes out.old; after = W.failed_writes out.new }) fault
+        (E.failed_writes diagnostics.old) (E.failed_writes diagnostics.new)
+        (E.written diagnostics.old) (E.written diagnostics.new) }
+    ensures unwritten { result ≡ 4 → W.failed_writes out.new ≡ W.failed_writes out.old → out.new ≡ out.old }
+    ensures write_failed { W.failed_writes out.old < W.failed_writes out.new → result ≡ 4 }
+    ensures bounded { I.reads input.new ≤ I.reads input.old + max_term + 1 }
+{
+    let (libraries, path) = (reporting.libraries, reporting.definitions);
+    let mut definitions = match open_definitions(alloc, paths, libraries, path, diagnostics) {
+        Ok(files) => files,
+        Err(status) => return status,
+    };
+    run_apart(
+        alloc,
+        &mut definitions,
+        input,
+        reporting,
+        options,
+        registry,
+        out,
+        diagnostics,
+    )
+}
+
+/// Does the same with the file of the term that the report names, which is opened last.
 #[tactic(auto, using(crate::proofs::CauseLaws::of_transfer, crate::proofs::CauseLaws::of_reading, crate::proofs::CauseLaws::fault_told))]
 fn run_files<P: Paths, W: Sink, E: Sink, M: PrimMeaning>(
     alloc: Global,
@@ -257,6 +262,9 @@ fn run_files<P: Paths, W: Sink, E: Sink, M: PrimMeaning>(
     requires honest { IsHonest M.answer registry.now }
     ensures status { result ≤ 4 }
     ensures ended { result < 4 → (status : Status) × (exit_of status ≡ result) × HoldsRefusal status
+        × IfSome (whole_text (texts_at (P.text_at paths.old) reporting.entry.libraries.now reporting.entry.definitions.now))
+        (λ d. IfSome (P.text_at paths.old reporting.entry.term.now) (λ t. HasWritten d t (setting_of M.answer registry.now options.now)
+        status (W.written out.old) (W.written out.new)))
         × IsReportedWith reporting.entry.has_stats reporting.entry.explains status
         (E.failed_writes diagnostics.old) (E.failed_writes diagnostics.new)
         (E.written diagnostics.old) (E.written diagnostics.new) }
@@ -267,8 +275,9 @@ fn run_files<P: Paths, W: Sink, E: Sink, M: PrimMeaning>(
     ensures unwritten { result ≡ 4 → W.failed_writes out.new ≡ W.failed_writes out.old → out.new ≡ out.old }
     ensures write_failed { W.failed_writes out.old < W.failed_writes out.new → result ≡ 4 }
 {
-    let mut definitions = match open_reader(alloc, paths, reporting.definitions, diagnostics) {
-        Ok(reader) => reader,
+    let (libraries, path) = (reporting.libraries, reporting.definitions);
+    let mut definitions = match open_definitions(alloc, paths, libraries, path, diagnostics) {
+        Ok(files) => files,
         Err(status) => return status,
     };
     let mut term = match open_reader(alloc, paths, reporting.term, diagnostics) {
@@ -330,18 +339,18 @@ fn run_texts<P: Paths, I: Source, W: Sink, E: Sink, M: PrimMeaning>(
 {
     match request.texts {
         Texts::Joined => {
-            let reporting = Reporting::new(request, INPUT, INPUT);
+            let reporting = Reporting::new(request, &[], INPUT, INPUT);
             run_joined(alloc, input, reporting, options, registry, out, diagnostics)
         }
         Texts::Definitions(path) => {
-            let mut definitions = match open_reader(alloc, paths, path, diagnostics) {
-                Ok(reader) => reader,
+            let libraries = match find_libraries(alloc, paths, &request.libraries, diagnostics) {
+                Ok(libraries) => libraries,
                 Err(status) => return status,
             };
-            let reporting = Reporting::new(request, path, INPUT);
-            run_apart(
+            let reporting = Reporting::new(request, &libraries, path, INPUT);
+            run_definitions(
                 alloc,
-                &mut definitions,
+                paths,
                 input,
                 reporting,
                 options,
@@ -350,8 +359,12 @@ fn run_texts<P: Paths, I: Source, W: Sink, E: Sink, M: PrimMeaning>(
                 diagnostics,
             )
         }
-        Texts::Both(first, second) => {
-            let reporting = Reporting::new(request, first, second);
+        Texts::Both(path, term) => {
+            let libraries = match find_libraries(alloc, paths, &request.libraries, diagnostics) {
+                Ok(libraries) => libraries,
+                Err(status) => return status,
+            };
+            let reporting = Reporting::new(request, &libraries, path, term);
             run_files(alloc, paths, reporting, options, registry, out, diagnostics)
         }
     }

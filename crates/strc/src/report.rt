@@ -4,10 +4,14 @@ ghost use Rattle.str_pipeline.specs.Device.{Gains, GainsPrefix};
 ghost use Rattle.strc.specs.Report.{place_of, place_text, diagnostic, TellsMore, TellsIfAsked};
 
 use crate::failure::Failure;
+use crate::opening::Library;
 use crate::request::Request;
 use itoa::Buffer;
 use std::alloc::{AllocError, Global};
-use str_pipeline::{Excerpt, Reason, RunNotes, Sink, Subject, Used, write_all};
+use str_pipeline::{
+    Excerpt, FileProgress, Hint, HintOnLine, NamedLine, Reason, RunNotes, Sink, Subject, Used,
+    write_all,
+};
 use term_model::Fault;
 
 /// Returns the byte at which the text was refused.
@@ -54,27 +58,45 @@ pub(crate) fn report<E: Sink>(fault: &Fault, diagnostics: &mut E) -> Result<(), 
     write_all(diagnostics, b"\n")
 }
 
-/// How the end of a transformation is reported: what the two texts are called, whether the numbers of the run are reported, and whether it
-/// is explained why the run has no result.
+/// A line of a file, from 1, and what the file is called.
+#[derive(Clone, Copy, Debug, PartialEq, Eq, Drop)]
+pub(crate) struct FileLine<'a> {
+    pub(crate) name: &'a str,
+    pub(crate) line: usize,
+}
+
+/// How the end of a transformation is reported: what the texts are called, how far the files of definitions were read, whether the numbers of
+/// the run are reported, and whether it is explained why the run has no result.
 #[derive(Clone, Copy, Drop)]
 pub(crate) struct Reporting<'a> {
+    /// The files in front of the definitions.
+    pub(crate) libraries: &'a [Library],
     pub(crate) definitions: &'a str,
     pub(crate) term: &'a str,
+    /// How far each file of definitions was read, where they come from files.
+    pub(crate) files: &'a [FileProgress],
     pub(crate) has_stats: bool,
     pub(crate) explains: bool,
-    // Whether the strategy to apply has an empty name.
-    lacks_name: bool,
+    /// Whether the strategy to apply has an empty name.
+    pub(crate) lacks_name: bool,
 }
 
 impl<'a> Reporting<'a> {
-    /// Reports as the request asks, over texts that are called so.
-    pub(crate) fn new(request: &Request<'_>, definitions: &'a str, term: &'a str) -> Reporting<'a>
+    /// Reports as the request asks, over texts that are called so, of which nothing was read.
+    pub(crate) fn new(
+        request: &Request<'_>,
+        libraries: &'a [Library],
+        definitions: &'a str,
+        term: &'a str,
+    ) -> Reporting<'a>
         ensures stats { result.has_stats ≡ request.now.has_stats }
         ensures explains { result.explains ≡ request.now.explains }
     {
         Reporting {
+            libraries,
             definitions,
             term,
+            files: &[],
             has_stats: request.has_stats,
             explains: request.explains,
             lacks_name: request.main.is_empty(),
@@ -87,13 +109,65 @@ impl<'a> Reporting<'a> {
     {
         self.has_stats || self.explains
     }
+
+    /// Returns the file in which a line of the text of all definitions stands, and its number there.
+    pub(crate) fn file_line(self, line: usize) -> FileLine<'a> {
+        let mut line = line;
+        for (index, library) in self.libraries.iter().enumerate() {
+            let Some(file) = self.files.get(index) else {
+                break;
+            };
+            if line <= file.line_feeds {
+                let name = library.path.as_str();
+                return FileLine { name, line };
+            }
+            line = line.saturating_sub(file.line_feeds);
+        }
+        FileLine {
+            name: self.definitions,
+            line,
+        }
+    }
+
+    /// Returns what is said of a line of the text of all definitions beside a place in this file, which is not named again.
+    pub(crate) fn named_line(self, line: usize, beside: &str) -> NamedLine<'a> {
+        let FileLine { name, line } = self.file_line(line);
+        NamedLine {
+            line,
+            text_name: if name == beside { None } else { Some(name) },
+        }
+    }
+
+    /// Returns the name of the first file of definitions of which not all was read, or of the last file.
+    pub(crate) fn name_in_progress(self) -> &'a str {
+        for (index, library) in self.libraries.iter().enumerate() {
+            let is_ended = self.files.get(index).is_some_and(|file| file.is_ended);
+            if !is_ended {
+                return library.path.as_str();
+            }
+        }
+        self.definitions
+    }
 }
 
 /// What standard input is called.
 pub(crate) const INPUT: &str = "stdin";
 
-/// Returns what is said of a place: the name of the text, the line and the column, the reason, and the line with a mark under the place.
-fn at_place(
+/// Returns what is said of a place in the definitions: the name of the file, the line and the column, the reason, and the line with a mark
+/// under the place.
+fn in_definitions(
+    alloc: Global,
+    reporting: Reporting<'_>,
+    reason: &Reason,
+    place: &Excerpt,
+) -> Result<String, AllocError> {
+    let FileLine { name, line } = reporting.file_line(place.line());
+    let column = place.column();
+    format!(in alloc; "{name}:{line}:{column}: {reason}\n{place}\n")
+}
+
+/// Returns the same of a place in the term, which comes after this number of lines of the input.
+fn in_term(
     alloc: Global,
     name: &str,
     reason: &Reason,
@@ -108,19 +182,43 @@ fn at_place(
     format!(in alloc; "{name}:{whole}:{column}: {reason} (line {line} of the term)\n{place}\n")
 }
 
+/// Returns what is said of definitions that are refused at no place. The most bytes are those of all files together.
+fn of_definitions(
+    alloc: Global,
+    reporting: Reporting<'_>,
+    reason: &Reason,
+) -> Result<String, AllocError> {
+    let name = reporting.definitions;
+    match reason {
+        Reason::DefinitionsTooLong if !reporting.libraries.is_empty() => {
+            format!(in alloc; "{name}: {reason}, those of --with included\n")
+        }
+        _ => format!(in alloc; "{name}: {reason}\n"),
+    }
+}
+
 /// Returns the lines that say more of a refusal, with their line feeds; nothing where nothing was noted of it, or where memory for the text
 /// is refused.
 fn explanation(alloc: Global, reporting: Reporting<'_>, notes: &RunNotes) -> Option<String> {
     let reason = notes.reason()?;
-    let name = match notes.subject() {
-        Subject::Definitions => reporting.definitions,
-        Subject::Term => reporting.term,
-    };
-    let text = match notes.place() {
-        Some(place) => at_place(alloc, name, reason, place, notes.lines_before()),
-        None => format!(in alloc; "{name}: {reason}\n"),
+    let term = reporting.term;
+    let text = match (notes.subject(), notes.place()) {
+        (Subject::Definitions, Some(place)) => in_definitions(alloc, reporting, reason, place),
+        (Subject::Definitions, None) => of_definitions(alloc, reporting, reason),
+        (Subject::Term, Some(place)) => in_term(alloc, term, reason, place, notes.lines_before()),
+        (Subject::Term, None) => format!(in alloc; "{term}: {reason}\n"),
     };
     with_hint(alloc, text.ok()?, reporting, notes)
+}
+
+/// Returns the hint with its line as a line of its file, which is named where the refusal is in another one.
+fn placed_hint<'a>(reporting: Reporting<'a>, notes: &RunNotes, hint: Hint) -> HintOnLine<'a> {
+    let refused = match notes.place() {
+        Some(place) => place.line(),
+        None => 1,
+    };
+    let line = hint.line().unwrap_or(refused);
+    hint.on_line(reporting.named_line(line, reporting.file_line(refused).name))
 }
 
 /// Returns the lines with one more that says what was probably meant, if that is guessed and memory for it is there.
@@ -131,7 +229,10 @@ fn with_hint(
     notes: &RunNotes,
 ) -> Option<String> {
     let whole = match notes.hint() {
-        Some(hint) => format!(in alloc; "{text}hint: {hint}\n"),
+        Some(hint) => {
+            let placed = placed_hint(reporting, notes, *hint);
+            format!(in alloc; "{text}hint: {placed}\n")
+        }
         None if reporting.lacks_name => {
             format!(in alloc; "{text}hint: --main needs the name of a strategy\n")
         }

@@ -4,6 +4,7 @@ ghost use Rattle.term_model.specs.Limits.{max_budget};
 ghost use Rattle.strc.specs.Request.{IsPlainRequest, IsAsked};
 ghost use Rattle.strc.specs.Rules.{Fits, TakesRules, HasRules};
 
+use crate::opening::PRELUDE;
 use clap::{Arg, ArgAction, ArgMatches, Command, Error, value_parser};
 use std::alloc::{AllocError, Global};
 use str_pipeline::{DEFAULT_BUDGET, Options};
@@ -20,7 +21,7 @@ pub(crate) enum Texts<'a> {
 }
 
 /// What the command line asks for.
-#[derive(Clone, Copy, Debug, PartialEq, Eq, Drop)]
+#[derive(Drop)]
 pub(crate) struct Request<'a> {
     /// The most rules of the run.
     pub(crate) rules: u32,
@@ -34,18 +35,24 @@ pub(crate) struct Request<'a> {
     pub(crate) explains: bool,
     /// Whether the definitions are checked, and no term is rewritten.
     pub(crate) checks: bool,
+    /// The words for the files in front of the definitions.
+    pub(crate) libraries: Vec<&'a str>,
     /// Where the two texts come from.
     pub(crate) texts: Texts<'a>,
 }
 
 /// How the program is called, in the help text and in texts on faults of the command line.
-const USAGE: &str = "strc [--rules N] [--main NAME] [--strict] [--stats] [--explain] [DEFS [TERM]]
-       strc --check [--main NAME] [DEFS]";
+const USAGE: &str =
+    "strc [--rules N] [--main NAME] [--strict] [--stats] [--explain] [--with FILE]... [DEFS [TERM]]
+       strc --check [--main NAME] [--with FILE]... [DEFS]";
 
 /// The end of the help text.
 const EXAMPLES: &str = "\
 Without TERM the text of the term is standard input. Without both paths standard input has the definitions,
 a line '#term' and the text of the term. With --check there is no term, and standard input has definitions alone.
+
+The files of --with and then DEFS are read as one text, with a line feed between a file and the next one. The word
+prelude stands for the prelude that is installed with the program, and ./prelude for a file of that name.
 
 Definitions may call the library (try, repeat, topdown, bottomup, oncetd, oncebu, alltd, innermost, map) and, by
 prim(\"name\", ..), the primitives add, sub, mul, div, mod, less, concat, length, explode, implode, int_text and text_int.
@@ -55,6 +62,7 @@ Examples:
   strc rules.str < term.aterm
   strc < joined
   strc --main simplify --rules 500 --strict rules.str term.aterm
+  strc --with prelude rules.str term.aterm
   strc --check rules.str
 
 Exit status:
@@ -74,6 +82,9 @@ const STATS: &str =
 const EXPLAIN: &str = "Say on standard error why the run has no result, and print warnings";
 
 const CHECK: &str = "Check the definitions alone: print all faults and warnings on standard error";
+
+const WITH: &str =
+    "A file of definitions that is read in front of DEFS; may be given more than once";
 
 /// Returns the option for the number of rules. Its range keeps the budget within what a run may be given.
 fn rules<'a>(alloc: Global) -> Arg<'a>
@@ -97,6 +108,18 @@ fn main_name<'a>(alloc: Global) -> Arg<'a>
         .value_name("NAME")
         .allow_hyphen_values(true)
         .help("The strategy that is applied, one without parameters [default: main]")
+}
+
+/// Returns the option for a file in front of the definitions, which may be given more than once.
+#[tactic(auto, using(crate::proofs::RulesLaws::other_letter))]
+fn library<'a>(alloc: Global) -> Arg<'a>
+    ensures { Fits result }
+{
+    Arg::new(alloc, "with")
+        .long("with")
+        .value_name("FILE")
+        .action(ArgAction::Append)
+        .help(WITH)
 }
 
 /// Returns a flag of this name.
@@ -148,6 +171,7 @@ fn command<'a>(alloc: Global) -> Result<Command<'a>, Error>
     let command = command.arg(flag(alloc, "stats", STATS))?;
     let command = command.arg(flag(alloc, "explain", EXPLAIN))?;
     let command = command.arg(flag(alloc, "check", CHECK))?;
+    let command = command.arg(library(alloc))?;
     let command = command.arg(definitions(alloc))?;
     Ok(command.arg(term(alloc))?)
 }
@@ -167,6 +191,7 @@ pub(crate) fn request_of<'a>(alloc: Global, words: &'a [String]) -> Result<Reque
             has_stats: false,
             explains: false,
             checks: false,
+            libraries: Vec::new(alloc),
             texts: Texts::Joined,
         });
     }
@@ -178,6 +203,7 @@ pub(crate) fn request_of<'a>(alloc: Global, words: &'a [String]) -> Result<Reque
         has_stats: matches.get_flag("stats"),
         explains: matches.get_flag("explain"),
         checks: matches.get_flag("check"),
+        libraries: libraries_of(alloc, &matches)?,
         texts: texts_of(&matches),
     })
 }
@@ -190,6 +216,14 @@ fn rules_of(matches: &ArgMatches<'_>) -> u32
     matches.get_one::<u32>("rules").unwrap_or(DEFAULT_BUDGET)
 }
 
+/// Returns the words for the files in front of the definitions.
+fn libraries_of<'a>(alloc: Global, matches: &ArgMatches<'a>) -> Result<Vec<&'a str>, AllocError> {
+    match matches.get_strs("with") {
+        Some(words) => words.to_vec(alloc),
+        None => Ok(Vec::new(alloc)),
+    }
+}
+
 /// Returns where the two texts come from.
 fn texts_of<'a>(matches: &ArgMatches<'a>) -> Texts<'a> {
     match (matches.get_str("DEFS"), matches.get_str("TERM")) {
@@ -199,12 +233,30 @@ fn texts_of<'a>(matches: &ArgMatches<'a>) -> Texts<'a> {
     }
 }
 
+/// Whether a file of definitions is named twice: by two words of `--with`, or by one of them and as the definitions. The word `prelude` is
+/// the name of no file there.
+fn has_repeated_file(libraries: &[&str], definitions: &str) -> bool {
+    for (index, word) in libraries.iter().enumerate() {
+        let is_definitions = *word == definitions && *word != PRELUDE;
+        if is_definitions || libraries.iter().take(index).any(|before| before == word) {
+            return true;
+        }
+    }
+    false
+}
+
 /// Returns what is wrong with a request that has the right words, if anything is.
 pub(crate) fn misuse_of(request: &Request<'_>) -> Option<&'static str> {
-    match request.texts {
-        Texts::Both(_, _) if request.checks => Some("error: --check takes no TERM\n"),
-        _ => None,
+    let definitions = match request.texts {
+        Texts::Both(_, _) if request.checks => return Some("error: --check takes no TERM\n"),
+        Texts::Definitions(path) | Texts::Both(path, _) => path,
+        Texts::Joined if request.libraries.is_empty() => return None,
+        Texts::Joined => return Some("error: --with needs DEFS\n"),
+    };
+    if has_repeated_file(&request.libraries, definitions) {
+        return Some("error: a file of definitions is named twice\n");
     }
+    None
 }
 
 /// Returns the options of a transformation that the request asks for.

@@ -7,6 +7,7 @@ mod failures;
 mod files;
 mod hints;
 mod language;
+mod libraries;
 mod messages;
 mod primitives;
 mod requests;

@@ -3,7 +3,7 @@ ghost use Rattle.std.specs.Prelude.{◌≡◌, ◌⊎◌};
 ghost use Rattle.term_model.specs.declared.fault.Fault.TheVariants.{Memory};
 ghost use Rattle.strc.specs.Report.{Tells};
 
-use crate::program::stop;
+use crate::stopping::stop;
 use std::env;
 use std::io::{self, ErrorKind};
 use str_pipeline::{Sink, write_all};

@@ -2,6 +2,7 @@
 ghost use Rattle.std.specs.Prelude.{◌≤◌};
 
 use crate::ending::{write_excess, write_remark};
+use crate::report::Reporting;
 use crate::tests::samples::{Ran, run_on};
 use std::alloc::{AllocError, Global};
 use std::test::Fail;
@@ -48,17 +49,22 @@ fn terms_that_did_not_fit(rt: HostRuntime) -> Result<(), Fail> {
     Ok(())
 }
 
-/// Where a remark stands, its text, and its line.
-const REMARKS: &[(Option<Position>, &[u8], &[u8])] = &[
-    (None, b"here", b"  here\n"),
-    (None, b"F(\"\xC3\xA9\")", b"  F(\"\xC3\xA9\")\n"),
+/// A place in the file.
+const PLACE: Position = Position {
+    line: 12,
+    column: 345,
+};
+
+/// Where a remark stands, its text, the other line that it is about, and its line.
+const REMARKS: &[(Option<Position>, &[u8], Option<usize>, &[u8])] = &[
+    (None, b"here", None, b"  here\n"),
+    (None, b"F(\"\xC3\xA9\")", None, b"  F(\"\xC3\xA9\")\n"),
+    (Some(PLACE), b"here", None, b"rules.str:12:345: here\n"),
     (
-        Some(Position {
-            line: 12,
-            column: 345,
-        }),
-        b"here",
-        b"rules.str:12:345: here\n",
+        Some(PLACE),
+        b"here, and",
+        Some(67),
+        b"rules.str:12:345: here, and on line 67\n",
     ),
 ];
 
@@ -67,22 +73,32 @@ fn is_line_of_remark(
     alloc: Global,
     position: Option<Position>,
     text: &[u8],
+    on_line: Option<usize>,
     line: &[u8],
 ) -> Result<bool, AllocError> {
     let remark = Remark {
         position,
         text: text.to_vec(alloc)?,
-        on_line: None,
+        on_line,
+    };
+    let reporting = Reporting {
+        libraries: &[],
+        definitions: "rules.str",
+        term: "stdin",
+        files: &[],
+        has_stats: false,
+        explains: true,
+        lacks_name: false,
     };
     let mut diagnostics = Faulty::writer(alloc, 200, 7, None, false)?;
-    let written = write_remark("rules.str", &remark, &mut diagnostics);
+    let written = write_remark(reporting, &remark, &mut diagnostics);
     Ok(written.is_ok() && diagnostics.written() == line)
 }
 
 #[test]
 fn lines_of_remarks(rt: HostRuntime) -> Result<(), Fail> {
-    for (position, text, line) in REMARKS {
-        if !is_line_of_remark(rt.alloc(), *position, text, line)? {
+    for (position, text, on_line, line) in REMARKS {
+        if !is_line_of_remark(rt.alloc(), *position, text, *on_line, line)? {
             return Err(Fail::new("a remark"));
         }
     }

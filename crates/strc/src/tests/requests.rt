@@ -1,5 +1,5 @@
 //! What the words ask for.
-use crate::request::{Request, Texts, request_of};
+use crate::request::{Texts, request_of};
 use crate::tests::samples::words_of;
 use crate::words::refuse;
 use clap::error::ErrorKind;
@@ -8,93 +8,107 @@ use std::io;
 use std::test::Fail;
 use str_pipeline::Faulty;
 
+/// What is asked for, with blanks between the words for libraries.
+#[derive(Clone, Copy)]
+struct Wanted {
+    rules: u32,
+    main: &'static str,
+    is_strict: bool,
+    has_stats: bool,
+    explains: bool,
+    checks: bool,
+    libraries: &'static str,
+    texts: Texts<'static>,
+}
+
 /// What is asked for where no word is.
-const JOINED: Request<'static> = Request {
+const JOINED: Wanted = Wanted {
     rules: 1_000_000,
     main: "main",
     is_strict: false,
     has_stats: false,
     explains: false,
     checks: false,
+    libraries: "",
     texts: Texts::Joined,
 };
 
 /// The same over these two files.
-const BOTH: Request<'static> = Request {
+const BOTH: Wanted = Wanted {
     texts: Texts::Both("a.str", "b.trm"),
     ..JOINED
 };
 
 /// Words, and what they ask for.
-const REQUESTS: &[(&str, Request<'static>)] = &[
+const REQUESTS: &[(&str, Wanted)] = &[
     ("strc", JOINED),
     (
         "strc a.str",
-        Request {
+        Wanted {
             texts: Texts::Definitions("a.str"),
             ..JOINED
         },
     ),
     ("strc a.str b.trm", BOTH),
-    ("strc --main go a.str b.trm", Request { main: "go", ..BOTH }),
-    ("strc a.str --main=go b.trm", Request { main: "go", ..BOTH }),
-    ("strc --main  a.str b.trm", Request { main: "", ..BOTH }),
-    ("strc --main= a.str b.trm", Request { main: "", ..BOTH }),
+    ("strc --main go a.str b.trm", Wanted { main: "go", ..BOTH }),
+    ("strc a.str --main=go b.trm", Wanted { main: "go", ..BOTH }),
+    ("strc --main  a.str b.trm", Wanted { main: "", ..BOTH }),
+    ("strc --main= a.str b.trm", Wanted { main: "", ..BOTH }),
     (
         "strc --main -x- a.str b.trm",
-        Request {
+        Wanted {
             main: "-x-",
             ..BOTH
         },
     ),
     (
         "strc --main --strict a.str b.trm",
-        Request {
+        Wanted {
             main: "--strict",
             ..BOTH
         },
     ),
     (
         "strc -- -a --strict",
-        Request {
+        Wanted {
             texts: Texts::Both("-a", "--strict"),
             ..JOINED
         },
     ),
     (
         "strc -",
-        Request {
+        Wanted {
             texts: Texts::Definitions("-"),
             ..JOINED
         },
     ),
-    ("strc --rules 0", Request { rules: 0, ..JOINED }),
+    ("strc --rules 0", Wanted { rules: 0, ..JOINED }),
     ("strc --rules=1000000", JOINED),
     (
         "strc --rules 1000000000",
-        Request {
+        Wanted {
             rules: 1_000_000_000,
             ..JOINED
         },
     ),
-    ("strc --rules 0007", Request { rules: 7, ..JOINED }),
+    ("strc --rules 0007", Wanted { rules: 7, ..JOINED }),
     (
         "strc --stats a.str b.trm",
-        Request {
+        Wanted {
             has_stats: true,
             ..BOTH
         },
     ),
     (
         "strc --explain a.str b.trm",
-        Request {
+        Wanted {
             explains: true,
             ..BOTH
         },
     ),
     (
         "strc --explain --stats",
-        Request {
+        Wanted {
             has_stats: true,
             explains: true,
             ..JOINED
@@ -102,7 +116,7 @@ const REQUESTS: &[(&str, Request<'static>)] = &[
     ),
     (
         "strc --check --main go a.str",
-        Request {
+        Wanted {
             main: "go",
             checks: true,
             texts: Texts::Definitions("a.str"),
@@ -110,8 +124,22 @@ const REQUESTS: &[(&str, Request<'static>)] = &[
         },
     ),
     (
+        "strc --with lib.str a.str b.trm",
+        Wanted {
+            libraries: "lib.str",
+            ..BOTH
+        },
+    ),
+    (
+        "strc --with=-x a.str --with=prelude b.trm --with prelude.str",
+        Wanted {
+            libraries: "-x prelude prelude.str",
+            ..BOTH
+        },
+    ),
+    (
         "strc --strict --rules 5 a.str b.trm",
-        Request {
+        Wanted {
             rules: 5,
             is_strict: true,
             ..BOTH
@@ -120,9 +148,27 @@ const REQUESTS: &[(&str, Request<'static>)] = &[
 ];
 
 /// Whether the words ask for this.
-fn ask_for(alloc: Global, line: &str, wanted: &Request<'_>) -> Result<bool, Fail> {
+fn ask_for(alloc: Global, line: &str, wanted: &Wanted) -> Result<bool, Fail> {
     let words = words_of(alloc, line)?;
-    Ok(request_of(alloc, &words)? == *wanted)
+    let request = request_of(alloc, &words)?;
+    let libraries = words_of(alloc, wanted.libraries)?;
+    let are_flags = request.is_strict == wanted.is_strict
+        && request.has_stats == wanted.has_stats
+        && request.explains == wanted.explains
+        && request.checks == wanted.checks;
+    let are_values = request.rules == wanted.rules && request.main == wanted.main;
+    let count = request.libraries.len();
+    let are_libraries = if wanted.libraries.is_empty() {
+        count == 0
+    } else {
+        count == libraries.len()
+            && request
+                .libraries
+                .iter()
+                .zip(&libraries)
+                .all(|(asked, word)| *asked == word.as_str())
+    };
+    Ok(are_flags && are_values && are_libraries && request.texts == wanted.texts)
 }
 
 #[test]
@@ -166,6 +212,11 @@ const FAULTS: &[(&str, ErrorKind, &str)] = &[
         "strc --main",
         ErrorKind::InvalidValue,
         "error: a value is required for '--main <NAME>' but none was supplied\n",
+    ),
+    (
+        "strc --with",
+        ErrorKind::InvalidValue,
+        "error: a value is required for '--with <FILE>' but none was supplied\n",
     ),
     (
         "strc --strict=yes",

@@ -1,5 +1,5 @@
 //! Files in memory, and a run over them.
-ghost use Rattle.std.specs.Prelude.{◌≤◌, IfSome};
+ghost use Rattle.std.specs.Prelude.{◌≤◌, None, IfSome};
 
 use crate::paths::Paths;
 use crate::primitives::run_standard;
@@ -9,7 +9,7 @@ use str_pipeline::{Faulty, Sink, Source};
 use term_model::Fault;
 
 /// The files: path and text.
-const FILES: [(&str, &str); 10] = [
+const FILES: [(&str, &str); 22] = [
     ("id.str", "strategies main = id"),
     ("first.str", "strategies main = ?(x,_); !x go = id"),
     (
@@ -26,7 +26,28 @@ const FILES: [(&str, &str); 10] = [
     ("pair.trm", "(7,f(1))"),
     ("bad.trm", "F(1"),
     ("joined.str", "strategies main = id\n#term\n1"),
+    (
+        "lib.str",
+        "strategies\n  inc = ?x; prim(\"add\", x, 1)\n  spare = inc\n",
+    ),
+    ("more.str", "strategies twice = inc; inc"),
+    ("use.str", "strategies\n  main = twice"),
+    ("wrong.str", "strategies\n  twice = inc;; inc\n"),
+    ("line.str", "rules\n#term\n"),
+    ("empty.str", ""),
+    ("extra.str", "strategies\n  main = inc\n  extra = inc"),
+    ("always.str", "rules\n\n  twice : x -> (x, x)\n"),
+    (
+        "late.str",
+        "rules\n  twice : 3 -> 4\nstrategies main = twice",
+    ),
+    ("open.str", "strategies\n  twice = (id\n"),
+    ("guard.str", "strategies\n  twice = ?1; !y"),
+    ("home/prelude.str", "strategies twice = ?x; !(x, x)"),
 ];
+
+/// A path that begins so is one of a file with this number of blanks.
+const BLANKS: (&str, usize) = ("blank", 524_288);
 
 /// A device in memory that knows why its calls fail.
 #[derive(Drop)]
@@ -48,7 +69,7 @@ impl Device {
 }
 
 impl Source for Device {
-    ghost coming = { λ d. ⟦<Faulty as Source>⟧.coming d.memory };
+    ghost coming = { λ d. None };
 
     ghost reads = { λ d. ⟦<Faulty as Source>⟧.reads d.memory };
 
@@ -92,6 +113,8 @@ impl Sink for Device {
 #[derive(Drop)]
 pub(super) struct Shelf {
     pub(super) alloc: Global,
+    /// The path of the installed prelude.
+    pub(super) prelude: Option<&'static str>,
     failure: Option<ErrorKind>,
 }
 
@@ -99,6 +122,7 @@ impl Shelf {
     pub(super) fn new(alloc: Global) -> Shelf {
         Shelf {
             alloc,
+            prelude: Some("home/prelude.str"),
             failure: None,
         }
     }
@@ -118,6 +142,8 @@ fn refusal_of(path: &str) -> ErrorKind {
 impl Paths for Shelf {
     type Reader = Device;
 
+    ghost text_at = { λ shelf path. None };
+
     fn open(&mut self, path: &str) -> Result<Device, Fault> {
         if path.ends_with('/') {
             let memory = Faulty::reader(Vec::new(self.alloc), 5, Some(1));
@@ -129,8 +155,19 @@ impl Paths for Shelf {
                 return Ok(Device::new(memory, ErrorKind::Other));
             }
         }
+        if path.starts_with(BLANKS.0) {
+            let memory = Faulty::reader(Vec::from_elem(self.alloc, b' ', BLANKS.1)?, 16_384, None);
+            return Ok(Device::new(memory, ErrorKind::Other));
+        }
         self.failure = Some(refusal_of(path));
         Err(Fault::Read)
+    }
+
+    fn prelude(&self, alloc: Global) -> Result<Option<String>, AllocError> {
+        match self.prelude {
+            Some(path) => Ok(Some(String::from_str(alloc, path)?)),
+            None => Ok(None),
+        }
     }
 
     fn failure(&self) -> Option<ErrorKind> {
