@@ -14,9 +14,10 @@ _strc() {
     done
     case $previous in
         --rules | --main) compopt +o default ;; # a value, which is no file
+        --with) ;; # a file
         *)
             if [[ $current == -* ]]; then
-                COMPREPLY=($(compgen -W '--rules --main --strict --stats --explain --check -h --help -V --version' -- "$current"))
+                COMPREPLY=($(compgen -W '--rules --main --strict --stats --explain --with --check -h --help -V --version' -- "$current"))
             fi
             ;;
     esac

@@ -4,6 +4,7 @@ ghost use Rattle.term_model.specs.declared.fault.Fault.{Fault};
 ghost use Rattle.str_pipeline.specs.Setting.{setting_of};
 ghost use Rattle.str_pipeline.specs.Judged.{IsVerdict};
 ghost use Rattle.str_pipeline.specs.Limits.{max_definitions};
+ghost use Rattle.strc.specs.Files.{texts_at, whole_text};
 ghost use Rattle.strc.specs.Report.{exit_of_verdict, IsUnread, TellsVerdict};
 ghost use Rattle.strc.specs.declared.request.Texts.TheVariants.{Joined};
 
@@ -77,6 +78,40 @@ fn check_reader<D: Source, E: Sink, M: PrimMeaning>(
     }
 }
 
+/// Checks the definitions of the files that the report names, which are read as one text. As `check_reader`; a file that cannot be opened is a
+/// fault of reading.
+fn check_files<P: Paths, E: Sink, M: PrimMeaning>(
+    alloc: Global,
+    paths: &mut P,
+    reporting: Reporting<'_>,
+    options: &Options,
+    registry: &Registry<M>,
+    diagnostics: &mut E,
+) -> u8
+    ensures status { result ≤ 4 }
+    ensures judged { result < 4 → (verdict : Option Fault) × (exit_of_verdict verdict ≡ result)
+        × IfSome (whole_text (texts_at (P.text_at paths.old) reporting.entry.libraries.now reporting.entry.definitions.now))
+        (λ d. IsVerdict (setting_of M.answer registry.now options.now) d verdict)
+        × TellsVerdict verdict (E.failed_writes diagnostics.old) (E.failed_writes diagnostics.new)
+        (E.written diagnostics.old) (E.written diagnostics.new) }
+    ensures stopped { result ≡ 4 → IsUnread (E.failed_writes diagnostics.old) (E.failed_writes diagnostics.new)
+        (E.written diagnostics.old) (E.written diagnostics.new) }
+{
+    let (libraries, path) = (reporting.libraries, reporting.definitions);
+    let mut definitions = match open_definitions(alloc, paths, libraries, path, diagnostics) {
+        Ok(files) => files,
+        Err(status) => return status,
+    };
+    check_reader(
+        alloc,
+        &mut definitions,
+        reporting,
+        options,
+        registry,
+        diagnostics,
+    )
+}
+
 /// Checks the definitions that the request names: those of its files, as one text, and else of `input`, which has nothing but them. As
 /// `check_reader`; a file that cannot be opened is a fault of reading.
 pub(crate) fn run_check<P: Paths, I: Source, E: Sink, M: PrimMeaning>(
@@ -111,17 +146,6 @@ pub(crate) fn run_check<P: Paths, I: Source, E: Sink, M: PrimMeaning>(
         Ok(libraries) => libraries,
         Err(status) => return status,
     };
-    let mut definitions = match open_definitions(alloc, paths, &libraries, path, diagnostics) {
-        Ok(files) => files,
-        Err(status) => return status,
-    };
     let reporting = Reporting::new(request, &libraries, path, INPUT);
-    check_reader(
-        alloc,
-        &mut definitions,
-        reporting,
-        options,
-        registry,
-        diagnostics,
-    )
+    check_files(alloc, paths, reporting, options, registry, diagnostics)
 }

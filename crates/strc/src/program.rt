@@ -1,7 +1,6 @@
 //! The work of the program, over any streams and files.
-ghost use Rattle.std.specs.Prelude.{◌≡◌, ◌+◌, ◌<◌, ◌≤◌, ℕ, List, length, IfErr, IfOk, IfSome};
+ghost use Rattle.std.specs.Prelude.{◌≡◌, ◌+◌, ◌<◌, ◌≤◌, ℕ, List, length, IfSome};
 ghost use Rattle.term_model.specs.declared.fault.Fault.{Fault};
-ghost use Rattle.term_model.specs.declared.fault.Fault.TheVariants.{Write};
 ghost use Rattle.term_model.specs.Limits.{max_budget};
 ghost use Rattle.str_pipeline.specs.declared.status.Options.{Options};
 ghost use Rattle.str_pipeline.specs.declared.status.Status.{Status};
@@ -12,7 +11,7 @@ ghost use Rattle.str_pipeline.specs.Written.{HasWritten, HasBegun};
 ghost use Rattle.str_pipeline.specs.Faults.{HoldsRefusal, IsTransferFault};
 ghost use Rattle.str_pipeline.specs.Limits.{max_definitions, max_term};
 ghost use Rattle.strc.specs.Files.{texts_at, whole_text};
-ghost use Rattle.strc.specs.Report.{AreSome, Failures, exit_of, IsCause, IsUnread, Tells, TellsFault, TellsStop, IsReported, IsReportedWith};
+ghost use Rattle.strc.specs.Report.{exit_of, IsCause, TellsStop, IsReported, IsReportedWith};
 ghost use Rattle.strc.specs.Request.{ArePlain};
 ghost use Rattle.strc.specs.declared.request.Texts.TheVariants.{Joined};
 
@@ -21,54 +20,18 @@ use crate::ending::{notes_for, report_end};
 use crate::failure::Failure;
 use crate::opening::{find_libraries, open_definitions, open_reader};
 use crate::paths::Paths;
-use crate::report::{INPUT, Reporting, report_failure};
+use crate::report::{INPUT, Reporting};
 use crate::request::{Request, Texts, misuse_of, options_of, request_of};
-use crate::stopping::{stop, stop_reading};
+use crate::stopping::{stop, stop_run, stop_writing};
 use clap::Error;
 use clap::error::ErrorKind;
 use prim_registry::{PrimMeaning, Registry};
 use std::alloc::Global;
-use std::io;
 use str_pipeline::{
     Options, RunNotes, Sink, Source, Status, transform_joined_with_notes, transform_with_notes,
     write_all,
 };
 use term_model::Fault;
-
-/// Reports that a write to `out` failed, and returns 4. Of a broken pipe nothing is reported, since its reader wants no more.
-fn stop_writing<W: Sink, E: Sink>(alloc: Global, out: &W, diagnostics: &mut E) -> u8
-    ensures status { result ≡ 4 }
-    ensures told { (writes : Failures) → AreSome writes → TellsStop writes Write
-        (E.failed_writes diagnostics.old) (E.failed_writes diagnostics.new)
-        (E.written diagnostics.old) (E.written diagnostics.new) }
-{
-    let kind = out.failure();
-    if kind == Some(io::ErrorKind::BrokenPipe) {
-        return 4;
-    }
-    report_failure(alloc, &Fault::Write, Failure::of_writing(kind), diagnostics);
-    4
-}
-
-/// Reports the fault that stops a run with this output, and returns 4. The failure says what could not be read, and why, where a read failed.
-#[tactic(auto, using(crate::proofs::CauseLaws::fault_told))]
-fn stop_run<W: Sink, E: Sink>(
-    alloc: Global,
-    fault: &Fault,
-    reading: Failure<'_>,
-    out: &W,
-    diagnostics: &mut E,
-) -> u8
-    ensures status { result ≡ 4 }
-    ensures told { (writes : Failures) → (fault.now ≡ Write → AreSome writes) → TellsStop writes fault.now
-        (E.failed_writes diagnostics.old) (E.failed_writes diagnostics.new)
-        (E.written diagnostics.old) (E.written diagnostics.new) }
-{
-    match fault {
-        Fault::Write => stop_writing(alloc, out, diagnostics),
-        _ => stop_reading(alloc, fault, reading, diagnostics),
-    }
-}
 
 /// Reports how a transformation ended, and returns its exit status.
 fn conclude<E: Sink>(
@@ -410,10 +373,12 @@ fn range_of(kind: ErrorKind) -> &'static str {
 }
 
 /// Does what the words of the command line ask for, of which the first is the name of the program: `[--rules N] [--main NAME] [--strict]
-/// [--stats] [--explain] [--check] [DEFS [TERM]]`. It transforms the definitions of the file DEFS and the term of the file TERM; without TERM the term
-/// comes from `input`, and without both paths the joined form does. Definitions may call the primitives of the registry and the strategies of
-/// the library. The line of the answer goes to `out`. Files are opened before anything is read, DEFS first. With `--check` it judges the
-/// definitions alone, those of the file DEFS and else of `input`: `diagnostics` gets all faults and warnings, and `out` nothing.
+/// [--stats] [--explain] [--check] [--with FILE].. [DEFS [TERM]]`. It transforms the definitions of the file DEFS and the term of the file
+/// TERM; without TERM the term comes from `input`, and without both paths the joined form does. The definitions are one text (`whole_text`):
+/// the bytes of each file of `--with`, a line feed after each, and those of DEFS. Definitions may call the primitives of the registry and the
+/// strategies of the library. The line of the answer goes to `out`. Files are opened before anything is read: those of `--with` in their
+/// order, DEFS and TERM. With `--check` it judges the definitions alone, those of the files and else of `input`: `diagnostics` gets all faults
+/// and warnings, and `out` nothing.
 ///
 /// Returns the exit status: 0 where the term was rewritten, and for the help text and the version, which go to `out`; 1 where the strategy
 /// failed, 2 where the definitions or the term were refused, 3 where the budget was spent or a term was too large, 4 where memory, opening,

@@ -1,10 +1,12 @@
 //! Faults that stop the program before it has a result.
 ghost use Rattle.std.specs.Prelude.{◌≡◌};
-ghost use Rattle.strc.specs.Report.{Tells, TellsFault};
+ghost use Rattle.term_model.specs.declared.fault.Fault.TheVariants.{Write};
+ghost use Rattle.strc.specs.Report.{AreSome, Failures, Tells, TellsFault, TellsStop};
 
 use crate::failure::Failure;
 use crate::report::{report, report_failure};
 use std::alloc::Global;
+use std::io;
 use str_pipeline::Sink;
 use term_model::Fault;
 
@@ -36,5 +38,40 @@ pub(crate) fn stop_reading<E: Sink>(
             4
         }
         _ => stop(fault, diagnostics),
+    }
+}
+
+/// Reports that a write to `out` failed, and returns 4. Of a broken pipe nothing is reported, since its reader wants no more.
+pub(crate) fn stop_writing<W: Sink, E: Sink>(alloc: Global, out: &W, diagnostics: &mut E) -> u8
+    ensures status { result ≡ 4 }
+    ensures told { (writes : Failures) → AreSome writes → TellsStop writes Write
+        (E.failed_writes diagnostics.old) (E.failed_writes diagnostics.new)
+        (E.written diagnostics.old) (E.written diagnostics.new) }
+{
+    let kind = out.failure();
+    if kind == Some(io::ErrorKind::BrokenPipe) {
+        return 4;
+    }
+    report_failure(alloc, &Fault::Write, Failure::of_writing(kind), diagnostics);
+    4
+}
+
+/// Reports the fault that stops a run with this output, and returns 4. The failure says what could not be read, and why, where a read failed.
+#[tactic(auto, using(crate::proofs::CauseLaws::fault_told))]
+pub(crate) fn stop_run<W: Sink, E: Sink>(
+    alloc: Global,
+    fault: &Fault,
+    reading: Failure<'_>,
+    out: &W,
+    diagnostics: &mut E,
+) -> u8
+    ensures status { result ≡ 4 }
+    ensures told { (writes : Failures) → (fault.now ≡ Write → AreSome writes) → TellsStop writes fault.now
+        (E.failed_writes diagnostics.old) (E.failed_writes diagnostics.new)
+        (E.written diagnostics.old) (E.written diagnostics.new) }
+{
+    match fault {
+        Fault::Write => stop_writing(alloc, out, diagnostics),
+        _ => stop_reading(alloc, fault, reading, diagnostics),
     }
 }
