@@ -1,6 +1,8 @@
 pub mod CauseLaws
 pub mod PrefixLaws
+pub mod PrettyLaws
 pub mod PrimitiveLaws
+pub mod RawLaws
 pub mod RequestLaws
 pub mod RulesLaws
 pub mod FilesLaws

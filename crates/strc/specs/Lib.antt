@@ -3,3 +3,5 @@ pub mod Request
 pub mod Rules
 pub mod Primitives
 pub mod Files
+pub mod Pretty
+pub mod Raw

@@ -5,6 +5,7 @@ mod expected;
 mod explanations;
 mod failures;
 mod files;
+mod forms;
 mod hints;
 mod language;
 mod libraries;
