@@ -6,5 +6,7 @@ complete -c strc -l stats -d 'Print how many rules, steps and shapes of terms th
 complete -c strc -l explain -d 'Say why the run has no result, and print warnings'
 complete -c strc -l with -r -F -d 'A file of definitions in front of the others'
 complete -c strc -l check -d 'Check the definitions alone'
+complete -c strc -l raw -d 'Print a result that is a string as its bytes'
+complete -c strc -l pretty -d 'Print the result in several lines, with indentation'
 complete -c strc -s h -l help -d 'Print help'
 complete -c strc -s V -l version -d 'Print the version'

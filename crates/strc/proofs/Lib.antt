@@ -1,4 +1,5 @@
 pub mod CauseLaws
+pub mod FormLaws
 pub mod PrefixLaws
 pub mod PrettyLaws
 pub mod PrimitiveLaws

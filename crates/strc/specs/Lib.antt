@@ -5,3 +5,4 @@ pub mod Primitives
 pub mod Files
 pub mod Pretty
 pub mod Raw
+pub mod Forms

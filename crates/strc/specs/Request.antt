@@ -3,6 +3,7 @@ use Rattle.std.specs.Prelude.{◌≡◌, [], codes, false}
 use Rattle.term_model.specs.Limits.{default_budget}
 use Rattle.str_pipeline.specs.declared.status.Options.{Options}
 use Rattle.strc.specs.declared.request.Request.{Request}
+use Rattle.strc.specs.declared.request.Form.TheVariants.{Line}
 use Rattle.strc.specs.declared.request.Texts.TheVariants.{Joined}
 
 -- what is asked for where no word comes after the name of the program
@@ -14,6 +15,7 @@ pub record IsPlainRequest (request : Request) : Type 0 where
   pub unexplained : request.explains ≡ false
   pub unchecked : request.checks ≡ false
   pub alone : request.libraries.items ≡ []
+  pub line : request.form ≡ Line
   pub joined : request.texts ≡ Joined
 
 -- the options are those that the request asks for

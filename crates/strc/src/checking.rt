@@ -64,14 +64,19 @@ fn check_reader<D: Source, E: Sink, M: PrimMeaning>(
     ensures bounded { D.reads definitions.new ≤ D.reads definitions.old + max_definitions + 1 }
 {
     let mut notes = RunNotes::none();
-    let judged = check_definitions(alloc, definitions, options, registry, &mut notes);
-    let reporting = Reporting {
-        files: definitions.files(),
-        ..reporting
-    };
-    match judged {
-        Ok(verdict) => conclude_check(alloc, verdict, reporting, &notes, diagnostics),
+    match check_definitions(alloc, definitions, options, registry, &mut notes) {
+        Ok(verdict) => {
+            let reporting = Reporting {
+                files: definitions.files(),
+                ..reporting
+            };
+            conclude_check(alloc, verdict, reporting, &notes, diagnostics)
+        }
         Err(fault) => {
+            let reporting = Reporting {
+                files: definitions.files(),
+                ..reporting
+            };
             let reading = Failure::of_reading(reporting, definitions.failure(), None);
             stop_reading(alloc, &fault, reading, diagnostics)
         }

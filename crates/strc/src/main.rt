@@ -6,6 +6,7 @@ mod checking;
 mod definition_files;
 mod ending;
 mod failure;
+mod formed;
 mod opening;
 mod paths;
 mod pretty;

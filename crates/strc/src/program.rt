@@ -11,6 +11,7 @@ ghost use Rattle.str_pipeline.specs.Written.{HasWritten, HasBegun};
 ghost use Rattle.str_pipeline.specs.Faults.{HoldsRefusal, IsTransferFault};
 ghost use Rattle.str_pipeline.specs.Limits.{max_definitions, max_term};
 ghost use Rattle.strc.specs.Files.{texts_at, whole_text};
+ghost use Rattle.strc.specs.Forms.{HasWrittenIn, HasBegunIn};
 ghost use Rattle.strc.specs.Report.{exit_of, IsCause, TellsStop, IsReported, IsReportedWith};
 ghost use Rattle.strc.specs.Request.{ArePlain};
 ghost use Rattle.strc.specs.declared.request.Texts.TheVariants.{Joined};
@@ -18,6 +19,7 @@ ghost use Rattle.strc.specs.declared.request.Texts.TheVariants.{Joined};
 use crate::checking::run_check;
 use crate::ending::{notes_for, report_end};
 use crate::failure::Failure;
+use crate::formed::{transform_in_form, transform_joined_in_form};
 use crate::opening::{find_libraries, open_definitions, open_reader};
 use crate::paths::Paths;
 use crate::report::{INPUT, Reporting};
@@ -27,10 +29,7 @@ use clap::Error;
 use clap::error::ErrorKind;
 use prim_registry::{PrimMeaning, Registry};
 use std::alloc::Global;
-use str_pipeline::{
-    Options, RunNotes, Sink, Source, Status, transform_joined_with_notes, transform_with_notes,
-    write_all,
-};
+use str_pipeline::{Options, RunNotes, Sink, Source, Status, write_all};
 use term_model::Fault;
 
 /// Reports how a transformation ended, and returns its exit status.
@@ -72,7 +71,7 @@ fn run_joined<I: Source, W: Sink, E: Sink, M: PrimMeaning>(
     requires honest { IsHonest M.answer registry.now }
     ensures status { result ≤ 4 }
     ensures ended { result < 4 → (status : Status) × (exit_of status ≡ result) × HoldsRefusal status
-        × IfSome (I.coming input.old) (λ told. (d t : List ℕ) → IsSplit told d t → HasWritten d t (setting_of M.answer registry.now options.now) status (W.written out.old) (W.written out.new))
+        × IfSome (I.coming input.old) (λ told. (d t : List ℕ) → IsSplit told d t → HasWrittenIn reporting.entry.form d t (setting_of M.answer registry.now options.now) status (W.written out.old) (W.written out.new))
         × IsReportedWith reporting.entry.has_stats reporting.entry.explains status
         (E.failed_writes diagnostics.old) (E.failed_writes diagnostics.new)
         (E.written diagnostics.old) (E.written diagnostics.new) }
@@ -84,13 +83,14 @@ fn run_joined<I: Source, W: Sink, E: Sink, M: PrimMeaning>(
         (E.written diagnostics.old) (E.written diagnostics.new) }
     ensures unwritten { result ≡ 4 → W.failed_writes out.new ≡ W.failed_writes out.old → out.new ≡ out.old }
     ensures begun { W.failed_writes out.old < W.failed_writes out.new →
-        IfSome (I.coming input.old) (λ told. (d t : List ℕ) → IsSplit told d t → HasBegun d t (setting_of M.answer registry.now options.now) (W.written out.old) (W.written out.new)) }
+        IfSome (I.coming input.old) (λ told. (d t : List ℕ) → IsSplit told d t → HasBegunIn reporting.entry.form d t (setting_of M.answer registry.now options.now) (W.written out.old) (W.written out.new)) }
     ensures read_failed { I.failed_reads input.old < I.failed_reads input.new → result ≡ 4 }
     ensures write_failed { W.failed_writes out.old < W.failed_writes out.new → result ≡ 4 }
     ensures bounded { I.reads input.new ≤ I.reads input.old + max_definitions + 7 + max_term + 1 }
 {
     let mut notes = notes_for(reporting);
-    match transform_joined_with_notes(alloc, input, options, registry, &mut notes, out) {
+    let form = reporting.form;
+    match transform_joined_in_form(alloc, input, form, options, registry, &mut notes, out) {
         Ok(status) => conclude(
             alloc,
             status,
@@ -122,7 +122,7 @@ fn run_apart<D: Source, T: Source, W: Sink, E: Sink, M: PrimMeaning>(
     requires honest { IsHonest M.answer registry.now }
     ensures status { result ≤ 4 }
     ensures ended { result < 4 → (status : Status) × (exit_of status ≡ result) × HoldsRefusal status
-        × IfSome (D.coming definitions.old) (λ d. IfSome (T.coming term.old) (λ t. HasWritten d t (setting_of M.answer registry.now options.now) status (W.written out.old) (W.written out.new)))
+        × IfSome (D.coming definitions.old) (λ d. IfSome (T.coming term.old) (λ t. HasWrittenIn reporting.entry.form d t (setting_of M.answer registry.now options.now) status (W.written out.old) (W.written out.new)))
         × IsReportedWith reporting.entry.has_stats reporting.entry.explains status
         (E.failed_writes diagnostics.old) (E.failed_writes diagnostics.new)
         (E.written diagnostics.old) (E.written diagnostics.new) }
@@ -134,28 +134,42 @@ fn run_apart<D: Source, T: Source, W: Sink, E: Sink, M: PrimMeaning>(
         (E.written diagnostics.old) (E.written diagnostics.new) }
     ensures unwritten { result ≡ 4 → W.failed_writes out.new ≡ W.failed_writes out.old → out.new ≡ out.old }
     ensures begun { W.failed_writes out.old < W.failed_writes out.new →
-        IfSome (D.coming definitions.old) (λ d. IfSome (T.coming term.old) (λ t. HasBegun d t (setting_of M.answer registry.now options.now) (W.written out.old) (W.written out.new))) }
+        IfSome (D.coming definitions.old) (λ d. IfSome (T.coming term.old) (λ t. HasBegunIn reporting.entry.form d t (setting_of M.answer registry.now options.now) (W.written out.old) (W.written out.new))) }
     ensures read_failed { D.failed_reads definitions.old + T.failed_reads term.old < D.failed_reads definitions.new + T.failed_reads term.new → result ≡ 4 }
     ensures write_failed { W.failed_writes out.old < W.failed_writes out.new → result ≡ 4 }
     ensures definitions_bounded { D.reads definitions.new ≤ D.reads definitions.old + max_definitions + 1 }
     ensures term_bounded { T.reads term.new ≤ T.reads term.old + max_term + 1 }
 {
     let mut notes = notes_for(reporting);
-    let result = transform_with_notes(alloc, definitions, term, options, registry, &mut notes, out);
-    let reporting = Reporting {
-        files: definitions.files(),
-        ..reporting
-    };
-    match result {
-        Ok(status) => conclude(
-            alloc,
-            status,
-            options.budget,
-            reporting,
-            &notes,
-            diagnostics,
-        ),
+    match transform_in_form(
+        alloc,
+        definitions,
+        term,
+        reporting.form,
+        options,
+        registry,
+        &mut notes,
+        out,
+    ) {
+        Ok(status) => {
+            let reporting = Reporting {
+                files: definitions.files(),
+                ..reporting
+            };
+            conclude(
+                alloc,
+                status,
+                options.budget,
+                reporting,
+                &notes,
+                diagnostics,
+            )
+        }
         Err(fault) => {
+            let reporting = Reporting {
+                files: definitions.files(),
+                ..reporting
+            };
             let reading = Failure::of_reading(reporting, definitions.failure(), term.failure());
             stop_run(alloc, &fault, reading, out, diagnostics)
         }
@@ -180,7 +194,7 @@ fn run_definitions<P: Paths, I: Source, W: Sink, E: Sink, M: PrimMeaning>(
     ensures status { result ≤ 4 }
     ensures ended { result < 4 → (status : Status) × (exit_of status ≡ result) × HoldsRefusal status
         × IfSome (whole_text (texts_at (P.text_at paths.old) reporting.entry.libraries.now reporting.entry.definitions.now))
-        (λ d. IfSome (I.coming input.old) (λ t. HasWritten d t (setting_of M.answer registry.now options.now)
+        (λ d. IfSome (I.coming input.old) (λ t. HasWrittenIn reporting.entry.form d t (setting_of M.answer registry.now options.now)
         status (W.written out.old) (W.written out.new)))
         × IsReportedWith reporting.entry.has_stats reporting.entry.explains status
         (E.failed_writes diagnostics.old) (E.failed_writes diagnostics.new)
@@ -226,7 +240,7 @@ fn run_files<P: Paths, W: Sink, E: Sink, M: PrimMeaning>(
     ensures status { result ≤ 4 }
     ensures ended { result < 4 → (status : Status) × (exit_of status ≡ result) × HoldsRefusal status
         × IfSome (whole_text (texts_at (P.text_at paths.old) reporting.entry.libraries.now reporting.entry.definitions.now))
-        (λ d. IfSome (P.text_at paths.old reporting.entry.term.now) (λ t. HasWritten d t (setting_of M.answer registry.now options.now)
+        (λ d. IfSome (P.text_at paths.old reporting.entry.term.now) (λ t. HasWrittenIn reporting.entry.form d t (setting_of M.answer registry.now options.now)
         status (W.written out.old) (W.written out.new)))
         × IsReportedWith reporting.entry.has_stats reporting.entry.explains status
         (E.failed_writes diagnostics.old) (E.failed_writes diagnostics.new)
@@ -275,7 +289,7 @@ fn run_texts<P: Paths, I: Source, W: Sink, E: Sink, M: PrimMeaning>(
     requires honest { IsHonest M.answer registry.now }
     ensures status { result ≤ 4 }
     ensures joined_ended { request.now.texts ≡ Joined → result < 4 → (status : Status) × (exit_of status ≡ result) × HoldsRefusal status
-        × IfSome (I.coming input.old) (λ told. (d t : List ℕ) → IsSplit told d t → HasWritten d t (setting_of M.answer registry.now options.now) status (W.written out.old) (W.written out.new))
+        × IfSome (I.coming input.old) (λ told. (d t : List ℕ) → IsSplit told d t → HasWrittenIn request.now.form d t (setting_of M.answer registry.now options.now) status (W.written out.old) (W.written out.new))
         × IsReportedWith request.now.has_stats request.now.explains status
         (E.failed_writes diagnostics.old) (E.failed_writes diagnostics.new)
         (E.written diagnostics.old) (E.written diagnostics.new) }
@@ -286,7 +300,7 @@ fn run_texts<P: Paths, I: Source, W: Sink, E: Sink, M: PrimMeaning>(
         (E.failed_writes diagnostics.old) (E.failed_writes diagnostics.new)
         (E.written diagnostics.old) (E.written diagnostics.new) }
     ensures joined_begun { request.now.texts ≡ Joined → W.failed_writes out.old < W.failed_writes out.new →
-        IfSome (I.coming input.old) (λ told. (d t : List ℕ) → IsSplit told d t → HasBegun d t (setting_of M.answer registry.now options.now) (W.written out.old) (W.written out.new)) }
+        IfSome (I.coming input.old) (λ told. (d t : List ℕ) → IsSplit told d t → HasBegunIn request.now.form d t (setting_of M.answer registry.now options.now) (W.written out.old) (W.written out.new)) }
     ensures ended { result < 4 → (status : Status) × (exit_of status ≡ result) × HoldsRefusal status
         × IsReportedWith request.now.has_stats request.now.explains status
         (E.failed_writes diagnostics.old) (E.failed_writes diagnostics.new)
@@ -373,12 +387,12 @@ fn range_of(kind: ErrorKind) -> &'static str {
 }
 
 /// Does what the words of the command line ask for, of which the first is the name of the program: `[--rules N] [--main NAME] [--strict]
-/// [--stats] [--explain] [--check] [--with FILE].. [DEFS [TERM]]`. It transforms the definitions of the file DEFS and the term of the file
-/// TERM; without TERM the term comes from `input`, and without both paths the joined form does. The definitions are one text (`whole_text`):
-/// the bytes of each file of `--with`, a line feed after each, and those of DEFS. Definitions may call the primitives of the registry and the
-/// strategies of the library. The line of the answer goes to `out`. Files are opened before anything is read: those of `--with` in their
-/// order, DEFS and TERM. With `--check` it judges the definitions alone, those of the files and else of `input`: `diagnostics` gets all faults
-/// and warnings, and `out` nothing.
+/// [--stats] [--explain] [--raw | --pretty] [--check] [--with FILE].. [DEFS [TERM]]`. It transforms the definitions of the file DEFS and the
+/// term of the file TERM; without TERM the term comes from `input`, and without both paths the joined form does. The definitions are one text
+/// (`whole_text`): the bytes of each file of `--with`, a line feed after each, and those of DEFS. Definitions may call the primitives of the
+/// registry and the strategies of the library. The line of the answer goes to `out`; with `--raw` a string as its bytes, and with `--pretty`
+/// a result in several lines. Files are opened before anything is read: those of `--with` in their order, DEFS and TERM. With `--check` it
+/// judges the definitions alone, those of the files and else of `input`: `diagnostics` gets all faults and warnings, and `out` nothing.
 ///
 /// Returns the exit status: 0 where the term was rewritten, and for the help text and the version, which go to `out`; 1 where the strategy
 /// failed, 2 where the definitions or the term were refused, 3 where the budget was spent or a term was too large, 4 where memory, opening,

@@ -5,7 +5,7 @@ ghost use Rattle.strc.specs.Report.{place_of, place_text, diagnostic, TellsMore,
 
 use crate::failure::Failure;
 use crate::opening::Library;
-use crate::request::Request;
+use crate::request::{Form, Request};
 use itoa::Buffer;
 use std::alloc::{AllocError, Global};
 use str_pipeline::{
@@ -66,7 +66,7 @@ pub(crate) struct FileLine<'a> {
 }
 
 /// How the end of a transformation is reported: what the texts are called, how far the files of definitions were read, whether the numbers of
-/// the run are reported, and whether it is explained why the run has no result.
+/// the run are reported, whether it is explained why the run has no result, and in which form the result is written.
 #[derive(Clone, Copy, Drop)]
 pub(crate) struct Reporting<'a> {
     /// The files in front of the definitions.
@@ -77,6 +77,7 @@ pub(crate) struct Reporting<'a> {
     pub(crate) files: &'a [FileProgress],
     pub(crate) has_stats: bool,
     pub(crate) explains: bool,
+    pub(crate) form: Form,
     /// Whether the strategy to apply has an empty name.
     pub(crate) lacks_name: bool,
 }
@@ -91,6 +92,7 @@ impl<'a> Reporting<'a> {
     ) -> Reporting<'a>
         ensures stats { result.has_stats ≡ request.now.has_stats }
         ensures explains { result.explains ≡ request.now.explains }
+        ensures form { result.form ≡ request.now.form }
     {
         Reporting {
             libraries,
@@ -99,6 +101,7 @@ impl<'a> Reporting<'a> {
             files: &[],
             has_stats: request.has_stats,
             explains: request.explains,
+            form: request.form,
             lacks_name: request.main.is_empty(),
         }
     }

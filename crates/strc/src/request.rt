@@ -20,6 +20,19 @@ pub(crate) enum Texts<'a> {
     Both(&'a str, &'a str),
 }
 
+/// In which form the line of a result is written.
+#[derive(Clone, Copy, Debug, PartialEq, Eq, Drop)]
+pub(crate) enum Form {
+    /// As it is.
+    Line,
+    /// A string as its bytes, without quotes and line feed.
+    Raw,
+    /// In several lines, with indentation.
+    Pretty,
+    /// In both of these forms, which is a misuse.
+    RawAndPretty,
+}
+
 /// What the command line asks for.
 #[derive(Drop)]
 pub(crate) struct Request<'a> {
@@ -35,6 +48,8 @@ pub(crate) struct Request<'a> {
     pub(crate) explains: bool,
     /// Whether the definitions are checked, and no term is rewritten.
     pub(crate) checks: bool,
+    /// In which form the result is written.
+    pub(crate) form: Form,
     /// The words for the files in front of the definitions.
     pub(crate) libraries: Vec<&'a str>,
     /// Where the two texts come from.
@@ -43,7 +58,7 @@ pub(crate) struct Request<'a> {
 
 /// How the program is called, in the help text and in texts on faults of the command line.
 const USAGE: &str =
-    "strc [--rules N] [--main NAME] [--strict] [--stats] [--explain] [--with FILE]... [DEFS [TERM]]
+    "strc [--rules N] [--main NAME] [--strict] [--stats] [--explain] [--raw | --pretty] [--with FILE]... [DEFS [TERM]]
        strc --check [--main NAME] [--with FILE]... [DEFS]";
 
 /// The end of the help text.
@@ -63,6 +78,7 @@ Examples:
   strc < joined
   strc --main simplify --rules 500 --strict rules.str term.aterm
   strc --with prelude rules.str term.aterm
+  strc --pretty rules.str term.aterm
   strc --check rules.str
 
 Exit status:
@@ -85,6 +101,10 @@ const CHECK: &str = "Check the definitions alone: print all faults and warnings 
 
 const WITH: &str =
     "A file of definitions that is read in front of DEFS; may be given more than once";
+
+const RAW: &str = "Print a result that is a string as its bytes, without quotes and line feed";
+
+const PRETTY: &str = "Print the result in several lines, with indentation";
 
 /// Returns the option for the number of rules. Its range keeps the budget within what a run may be given.
 fn rules<'a>(alloc: Global) -> Arg<'a>
@@ -171,14 +191,16 @@ fn command<'a>(alloc: Global) -> Result<Command<'a>, Error>
     let command = command.arg(flag(alloc, "stats", STATS))?;
     let command = command.arg(flag(alloc, "explain", EXPLAIN))?;
     let command = command.arg(flag(alloc, "check", CHECK))?;
+    let command = command.arg(flag(alloc, "raw", RAW))?;
+    let command = command.arg(flag(alloc, "pretty", PRETTY))?;
     let command = command.arg(library(alloc))?;
     let command = command.arg(definitions(alloc))?;
     Ok(command.arg(term(alloc))?)
 }
 
 /// Reads the words of the command line, of which the first is the name of the program. Where it is the only one, the texts come in the
-/// joined form, the strategy is `main`, the term need not be declared, the budget is 1,000,000 rules, and neither numbers, an explanation
-/// nor a check are asked for. An error is what the program has to say: what is wrong with the words, the help text or the version; or out of memory.
+/// joined form, the strategy is `main`, the term need not be declared, the budget is 1,000,000 rules, the result is written as a line, and neither
+/// numbers, an explanation nor a check are asked for. An error is what the program has to say: what is wrong with the words, the help text or the version; or out of memory.
 pub(crate) fn request_of<'a>(alloc: Global, words: &'a [String]) -> Result<Request<'a>, Error>
     ensures bound { IfOk result (λ request. request.rules ≤ max_budget) }
     ensures plain { length words.now ≤ 1 → IsOkAnd result IsPlainRequest }
@@ -191,6 +213,7 @@ pub(crate) fn request_of<'a>(alloc: Global, words: &'a [String]) -> Result<Reque
             has_stats: false,
             explains: false,
             checks: false,
+            form: Form::Line,
             libraries: Vec::new(alloc),
             texts: Texts::Joined,
         });
@@ -203,6 +226,7 @@ pub(crate) fn request_of<'a>(alloc: Global, words: &'a [String]) -> Result<Reque
         has_stats: matches.get_flag("stats"),
         explains: matches.get_flag("explain"),
         checks: matches.get_flag("check"),
+        form: form_of(&matches),
         libraries: libraries_of(alloc, &matches)?,
         texts: texts_of(&matches),
     })
@@ -221,6 +245,16 @@ fn libraries_of<'a>(alloc: Global, matches: &ArgMatches<'a>) -> Result<Vec<&'a s
     match matches.get_strs("with") {
         Some(words) => words.to_vec(alloc),
         None => Ok(Vec::new(alloc)),
+    }
+}
+
+/// Returns the form in which the result is written.
+fn form_of(matches: &ArgMatches<'_>) -> Form {
+    match (matches.get_flag("raw"), matches.get_flag("pretty")) {
+        (false, false) => Form::Line,
+        (true, false) => Form::Raw,
+        (false, true) => Form::Pretty,
+        (true, true) => Form::RawAndPretty,
     }
 }
 
@@ -247,6 +281,15 @@ fn has_repeated_file(libraries: &[&str], definitions: &str) -> bool {
 
 /// Returns what is wrong with a request that has the right words, if anything is.
 pub(crate) fn misuse_of(request: &Request<'_>) -> Option<&'static str> {
+    match request.form {
+        Form::RawAndPretty => return Some("error: --raw and --pretty exclude each other\n"),
+        Form::Raw | Form::Pretty if request.checks => {
+            return Some(
+                "error: --check prints no result, so it takes neither --raw nor --pretty\n",
+            );
+        }
+        _ => {}
+    }
     let definitions = match request.texts {
         Texts::Both(_, _) if request.checks => return Some("error: --check takes no TERM\n"),
         Texts::Definitions(path) | Texts::Both(path, _) => path,

@@ -12,6 +12,7 @@ mod libraries;
 mod messages;
 mod primitives;
 mod requests;
+mod results;
 mod samples;
 mod streams;
 mod warnings;

@@ -3,6 +3,7 @@ ghost use Rattle.std.specs.Prelude.{◌≤◌};
 
 use crate::ending::{write_excess, write_remark};
 use crate::report::Reporting;
+use crate::request::Form;
 use crate::tests::samples::{Ran, run_on};
 use std::alloc::{AllocError, Global};
 use std::test::Fail;
@@ -88,6 +89,7 @@ fn is_line_of_remark(
         files: &[],
         has_stats: false,
         explains: true,
+        form: Form::Line,
         lacks_name: false,
     };
     let mut diagnostics = Faulty::writer(alloc, 200, 7, None, false)?;

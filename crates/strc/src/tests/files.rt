@@ -173,12 +173,14 @@ fn runs(rt: HostRuntime) -> Result<(), Fail> {
 
 /// Parts of what `--help` prints.
 const HELP: &[&str] = &[
-    "\nUsage: strc [--rules N] [--main NAME] [--strict] [--stats] [--explain] [--with FILE]... [DEFS [TERM]]\n",
+    "\nUsage: strc [--rules N] [--main NAME] [--strict] [--stats] [--explain] [--raw | --pretty] [--with FILE]... [DEFS [TERM]]\n",
     "--rules <N> ",
     "--main <NAME> ",
     "--strict ",
     "--stats ",
     "--explain ",
+    "--raw ",
+    "--pretty ",
     "--with <FILE> ",
     "\nThe files of --with and then DEFS are read as one text, ",
     "\nDefinitions may call the library (try, repeat, ",

@@ -1,5 +1,5 @@
 //! What the words ask for.
-use crate::request::{Texts, request_of};
+use crate::request::{Form, Texts, request_of};
 use crate::tests::samples::words_of;
 use crate::words::refuse;
 use clap::error::ErrorKind;
@@ -17,6 +17,7 @@ struct Wanted {
     has_stats: bool,
     explains: bool,
     checks: bool,
+    form: Form,
     libraries: &'static str,
     texts: Texts<'static>,
 }
@@ -29,6 +30,7 @@ const JOINED: Wanted = Wanted {
     has_stats: false,
     explains: false,
     checks: false,
+    form: Form::Line,
     libraries: "",
     texts: Texts::Joined,
 };
@@ -131,10 +133,31 @@ const REQUESTS: &[(&str, Wanted)] = &[
         },
     ),
     (
+        "strc --raw a.str b.trm",
+        Wanted {
+            form: Form::Raw,
+            ..BOTH
+        },
+    ),
+    (
         "strc --with=-x a.str --with=prelude b.trm --with prelude.str",
         Wanted {
             libraries: "-x prelude prelude.str",
             ..BOTH
+        },
+    ),
+    (
+        "strc --pretty a.str b.trm",
+        Wanted {
+            form: Form::Pretty,
+            ..BOTH
+        },
+    ),
+    (
+        "strc --pretty --raw",
+        Wanted {
+            form: Form::RawAndPretty,
+            ..JOINED
         },
     ),
     (
@@ -155,7 +178,8 @@ fn ask_for(alloc: Global, line: &str, wanted: &Wanted) -> Result<bool, Fail> {
     let are_flags = request.is_strict == wanted.is_strict
         && request.has_stats == wanted.has_stats
         && request.explains == wanted.explains
-        && request.checks == wanted.checks;
+        && request.checks == wanted.checks
+        && request.form == wanted.form;
     let are_values = request.rules == wanted.rules && request.main == wanted.main;
     let count = request.libraries.len();
     let are_libraries = if wanted.libraries.is_empty() {

@@ -1,6 +1,7 @@
 use Rattle.std.proofs.Common.{arith, refl}
 use Rattle.term_model.specs.declared.fault.Fault.TheVariants.{Memory}
 use Rattle.strc.proofs.CauseLaws.{line_told}
+use Rattle.strc.proofs.FormLaws.{joined_beginning, joined_line}
 use Rattle.strc.proofs.RequestLaws.{plain_options, plain_report}
 use Rattle.strc.proofs.program.run.Goals as goal
 
@@ -13,7 +14,7 @@ returns-clause-plain_ended g c = λ alone below.
       plain_options c.in-Ok.request c.in-Ok-options_of.options plain c.in-Ok-options_of.ensures,
       ended.1,
       ended.2,
-      ended.3,
+      joined_line _ c.in-Ok.request.form _ ended.0 _ _ plain.line ended.3,
       plain_report c.in-Ok.request.has_stats c.in-Ok.request.explains ended.0 _ _ _ _ plain.quiet plain.unexplained ended.4,
     )
 
@@ -22,7 +23,7 @@ returns-clause-plain_begun g c = λ alone writing.
     let plain = c.in-Ok.ensures.plain alone in (
       c.in-Ok-options_of.options,
       plain_options c.in-Ok.request c.in-Ok-options_of.options plain c.in-Ok-options_of.ensures,
-      c.run_texts.ensures.joined_begun plain.joined writing,
+      joined_beginning _ c.in-Ok.request.form _ _ _ plain.line (c.run_texts.ensures.joined_begun plain.joined writing),
     )
 
 pub returns-in_default-clause-stopped : goal.returns-in_default-clause-stopped

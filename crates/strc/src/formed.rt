@@ -1,0 +1,157 @@
+//! Transformations whose line is written in a form.
+ghost use Rattle.std.specs.Prelude.{◌≡◌, ◌+◌, ◌≤◌, ◌⊎◌, ℕ, List, if◌then◌else◌, IfErr, IfOk, IfSome, IsErrOf, OnOk};
+ghost use Rattle.term_model.specs.Limits.{max_budget};
+ghost use Rattle.prim_registry.specs.Entries.{IsHonest};
+ghost use Rattle.str_pipeline.specs.Faults.{HoldsRefusal, IsTransferFault, is_read_fault, is_write_fault};
+ghost use Rattle.str_pipeline.specs.Joined.{IsSplit};
+ghost use Rattle.str_pipeline.specs.Limits.{max_definitions, max_term};
+ghost use Rattle.str_pipeline.specs.Setting.{setting_of};
+ghost use Rattle.strc.specs.Forms.{IsInForm, GainsForm, BeginsForm, HasWrittenIn, HasBegunIn};
+
+use crate::pretty::laid_out;
+use crate::raw::without_quotes;
+use crate::request::Form;
+use prim_registry::{PrimMeaning, Registry};
+use std::alloc::{AllocError, Global};
+use str_pipeline::{
+    Counted, Options, RunNotes, Sink, Source, Status, transform_joined_with_notes,
+    transform_with_notes, write_all,
+};
+use term_model::Fault;
+
+/// Returns the line of a transformation that ended so, in this form. An error is a refused growth.
+fn text_in_form(
+    alloc: Global,
+    form: Form,
+    status: &Status,
+    line: Vec<u8>,
+) -> Result<Vec<u8>, AllocError>
+    ensures { IfOk result (λ text. IsInForm form status.now line.items text.items) }
+{
+    match (form, status) {
+        (Form::Raw, _) => without_quotes(alloc, &line),
+        (Form::Pretty, Status::Rewritten) => laid_out(alloc, &line),
+        _ => Ok(line),
+    }
+}
+
+/// Writes the line of a transformation that ended so, in this form. The fault is `Memory`, and then nothing is written, or `Write`, and then
+/// a beginning of the text may be.
+fn write_in_form<W: Sink>(
+    alloc: Global,
+    form: Form,
+    status: &Status,
+    line: Vec<u8>,
+    out: &mut W,
+) -> Result<(), Fault>
+    ensures whole { OnOk result (GainsForm form status.now line.items (W.written out.old) (W.written out.new)) }
+    ensures begun { IsErrOf result Fault.Write →
+        BeginsForm form status.now line.items (W.written out.old) (W.written out.new) }
+    ensures kinds { IfErr result (λ fault. (fault ≡ Fault.Memory) ⊎ (fault ≡ Fault.Write)) }
+    ensures untouched { IsErrOf result Fault.Memory → out.new ≡ out.old }
+    ensures write_failed { W.failed_writes out.new
+        ≡ W.failed_writes out.old + (if is_write_fault result then 1 else 0) }
+{
+    let text = text_in_form(alloc, form, status, line)?;
+    write_all(out, &text)
+}
+
+/// Does as `transform_with_notes` does, and writes the line in this form. A form other than the line itself takes memory for the line and for
+/// its form, and nothing is written before both are whole.
+///
+/// # Errors
+/// As of `transform_with_notes`. After `Write` a beginning of the line in its form may be written.
+pub(crate) fn transform_in_form<D: Source, T: Source, W: Sink, M: PrimMeaning>(
+    alloc: Global,
+    definitions: &mut D,
+    term: &mut T,
+    form: Form,
+    options: &Options,
+    registry: &Registry<M>,
+    notes: &mut RunNotes,
+    out: &mut W,
+) -> Result<Status, Fault>
+    requires budget { options.now.budget ≤ max_budget }
+    requires honest { IsHonest M.answer registry.now }
+    ensures written { IfOk result (λ status. IfSome (D.coming definitions.old) (λ d. IfSome (T.coming term.old)
+        (λ t. HasWrittenIn form d t (setting_of M.answer registry.now options.now) status
+        (W.written out.old) (W.written out.new)))) }
+    ensures begun { IsErrOf result Fault.Write → IfSome (D.coming definitions.old) (λ d. IfSome (T.coming term.old)
+        (λ t. HasBegunIn form d t (setting_of M.answer registry.now options.now)
+        (W.written out.old) (W.written out.new))) }
+    ensures status { IfOk result HoldsRefusal }
+    ensures kinds { IfErr result IsTransferFault }
+    ensures untouched_memory { IsErrOf result Fault.Memory → out.new ≡ out.old }
+    ensures untouched_read { IsErrOf result Fault.Read → out.new ≡ out.old }
+    ensures read_failed { D.failed_reads definitions.new + T.failed_reads term.new
+        ≡ D.failed_reads definitions.old + T.failed_reads term.old + (if is_read_fault result then 1 else 0) }
+    ensures write_failed { W.failed_writes out.new
+        ≡ W.failed_writes out.old + (if is_write_fault result then 1 else 0) }
+    ensures definitions_bounded { D.reads definitions.new ≤ D.reads definitions.old + max_definitions + 1 }
+    ensures term_bounded { T.reads term.new ≤ T.reads term.old + max_term + 1 }
+{
+    if form == Form::Line {
+        return transform_with_notes(alloc, definitions, term, options, registry, notes, out);
+    }
+    let mut line = Counted::new(Vec::new(alloc));
+    match transform_with_notes(
+        alloc,
+        definitions,
+        term,
+        options,
+        registry,
+        notes,
+        &mut line,
+    ) {
+        Ok(status) => {
+            write_in_form(alloc, form, &status, line.into_inner(), out)?;
+            Ok(status)
+        }
+        Err(Fault::Write) => Err(Fault::Memory),
+        Err(fault) => Err(fault),
+    }
+}
+
+/// Does the same as `transform_joined_with_notes`.
+///
+/// # Errors
+/// As of `transform_in_form`.
+pub(crate) fn transform_joined_in_form<I: Source, W: Sink, M: PrimMeaning>(
+    alloc: Global,
+    input: &mut I,
+    form: Form,
+    options: &Options,
+    registry: &Registry<M>,
+    notes: &mut RunNotes,
+    out: &mut W,
+) -> Result<Status, Fault>
+    requires budget { options.now.budget ≤ max_budget }
+    requires honest { IsHonest M.answer registry.now }
+    ensures written { IfOk result (λ status. IfSome (I.coming input.old) (λ told. (d t : List ℕ) → IsSplit told d t →
+        HasWrittenIn form d t (setting_of M.answer registry.now options.now) status
+        (W.written out.old) (W.written out.new))) }
+    ensures begun { IsErrOf result Fault.Write → IfSome (I.coming input.old) (λ told. (d t : List ℕ) → IsSplit told d t →
+        HasBegunIn form d t (setting_of M.answer registry.now options.now) (W.written out.old) (W.written out.new)) }
+    ensures status { IfOk result HoldsRefusal }
+    ensures kinds { IfErr result IsTransferFault }
+    ensures untouched_memory { IsErrOf result Fault.Memory → out.new ≡ out.old }
+    ensures untouched_read { IsErrOf result Fault.Read → out.new ≡ out.old }
+    ensures read_failed { I.failed_reads input.new
+        ≡ I.failed_reads input.old + (if is_read_fault result then 1 else 0) }
+    ensures write_failed { W.failed_writes out.new
+        ≡ W.failed_writes out.old + (if is_write_fault result then 1 else 0) }
+    ensures bounded { I.reads input.new ≤ I.reads input.old + max_definitions + 7 + max_term + 1 }
+{
+    if form == Form::Line {
+        return transform_joined_with_notes(alloc, input, options, registry, notes, out);
+    }
+    let mut line = Counted::new(Vec::new(alloc));
+    match transform_joined_with_notes(alloc, input, options, registry, notes, &mut line) {
+        Ok(status) => {
+            write_in_form(alloc, form, &status, line.into_inner(), out)?;
+            Ok(status)
+        }
+        Err(Fault::Write) => Err(Fault::Memory),
+        Err(fault) => Err(fault),
+    }
+}
