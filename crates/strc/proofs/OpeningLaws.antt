@@ -25,3 +25,8 @@ pub pushed : {A E : Type 0} (result : Result (Unit {0}) E) (failed : Bool) (new 
     → new ≡ (if is_ok result then old ++ x ∷ [] else old) → failed ≡ is_err result → failed ≡ false → new ≡ old ++ x ∷ []
 pushed (Ok done) failed new old x given told none = given
 pushed (Err e) failed new old x given told none = cc
+
+-- the texts of readers and of one more after them
+pub with_last : {R A : Type 0} (coming : R → A) (files readers : List R) (last : R) (texts : List A) (between text : A)
+    → files ≡ readers ++ last ∷ [] → map coming readers ≡ texts → coming last ≡ between → between ≡ text → map coming files ≡ texts ++ text ∷ []
+with_last coming files readers last texts between text whole so is same = rw (whole, map-append coming readers (last ∷ []), so, is, same) refl
