@@ -96,36 +96,32 @@ fn write_oversize<E: Sink>(notes: &RunNotes, diagnostics: &mut E) -> Result<(), 
     }
 }
 
-/// What comes after the text of a remark that also is about another line: words, the number of the line, words, and the name of its file.
-#[derive(Clone, Copy)]
-struct Mention<'a> {
-    words: &'static str,
-    line: usize,
-    of: &'static str,
-    name: &'a str,
-}
-
-/// What is said where there is no other line.
-const NO_MENTION: Mention<'static> = Mention {
-    words: "",
-    line: 0,
-    of: "",
-    name: "",
-};
-
-/// Returns what is said of this line of all definitions after the text of a remark on a place in this file.
-fn mention_of<'a>(reporting: Reporting<'a>, on_line: usize, beside: &str) -> Mention<'a> {
-    let NamedLine { line, text_name } = reporting.named_line(on_line, beside);
-    Mention {
-        words: " on line ",
-        line,
-        of: if text_name.is_some() { " of " } else { "" },
-        name: text_name.unwrap_or(""),
+/// Writes the end of a remark on a place in this file: the other line of all definitions that it is about, if there is one, and a line feed.
+#[tactic(auto, using(crate::proofs::PrefixLaws::text_after))]
+fn write_mention<E: Sink>(
+    reporting: Reporting<'_>,
+    on_line: Option<usize>,
+    beside: &str,
+    diagnostics: &mut E,
+) -> Result<(), Fault>
+    ensures { TellsText (E.written diagnostics.old) (E.written diagnostics.new) }
+{
+    let Some(other) = on_line else {
+        return write_pieces(&[b"\n".as_slice()], diagnostics);
+    };
+    let NamedLine { line, text_name } = reporting.named_line(other, beside);
+    let mut digits = Buffer::new();
+    let pieces = [b" on line ".as_slice(), digits.format(line).as_bytes()];
+    write_pieces(&pieces, diagnostics)?;
+    match text_name {
+        Some(name) => write_pieces(&[b" of ".as_slice(), name.as_bytes(), b"\n"], diagnostics),
+        None => write_pieces(&[b"\n".as_slice()], diagnostics),
     }
 }
 
 /// Writes the line of a remark: the file and the place in it at which it stands, or two blanks; its text; and the other line that it is about,
 /// if there is one.
+#[tactic(auto, using(crate::proofs::PrefixLaws::text_after))]
 pub(crate) fn write_remark<E: Sink>(
     reporting: Reporting<'_>,
     remark: &Remark,
@@ -138,16 +134,7 @@ pub(crate) fn write_remark<E: Sink>(
         return write_pieces(&[b"  ".as_slice(), text, b"\n"], diagnostics);
     };
     let FileLine { name, line } = reporting.file_line(line);
-    let mention = match remark.on_line {
-        Some(other) => mention_of(reporting, other, name),
-        None => NO_MENTION,
-    };
     let (mut line_digits, mut column_digits) = (Buffer::new(), Buffer::new());
-    let mut other_digits = Buffer::new();
-    let other_line = match mention.line {
-        0 => b"".as_slice(),
-        other => other_digits.format(other).as_bytes(),
-    };
     let pieces = [
         name.as_bytes(),
         b":",
@@ -156,13 +143,9 @@ pub(crate) fn write_remark<E: Sink>(
         column_digits.format(column).as_bytes(),
         b": ",
         text,
-        mention.words.as_bytes(),
-        other_line,
-        mention.of.as_bytes(),
-        mention.name.as_bytes(),
-        b"\n",
     ];
-    write_pieces(&pieces, diagnostics)
+    write_pieces(&pieces, diagnostics)?;
+    write_mention(reporting, remark.on_line, name, diagnostics)
 }
 
 /// Writes why a run has no result or what a check found, where that is known: a line for each remark.
