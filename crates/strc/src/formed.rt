@@ -1,5 +1,5 @@
 //! Transformations whose line is written in a form.
-ghost use Rattle.std.specs.Prelude.{◌≡◌, ◌+◌, ◌≤◌, ◌⊎◌, ℕ, List, if◌then◌else◌, IfErr, IfOk, IfSome, IsErrOf, OnOk};
+ghost use Rattle.std.specs.Prelude.{◌≡◌, ◌+◌, ◌≤◌, ◌⊎◌, ℕ, List, if◌then◌else◌, IfErr, IfOk, IfSome, IsErrOf};
 ghost use Rattle.term_model.specs.Limits.{max_budget};
 ghost use Rattle.prim_registry.specs.Entries.{IsHonest};
 ghost use Rattle.str_pipeline.specs.Faults.{HoldsRefusal, IsTransferFault, is_read_fault, is_write_fault};
@@ -35,25 +35,27 @@ fn text_in_form(
     }
 }
 
-/// Writes the line of a transformation that ended so, in this form. The fault is `Memory`, and then nothing is written, or `Write`, and then
-/// a beginning of the text may be.
+/// Writes the line of a transformation that ended so, in this form, and returns how it ended. The fault is `Memory`, and then nothing is
+/// written, or `Write`, and then a beginning of the text may be.
 fn write_in_form<W: Sink>(
     alloc: Global,
     form: Form,
-    status: &Status,
+    status: Status,
     line: Vec<u8>,
     out: &mut W,
-) -> Result<(), Fault>
-    ensures whole { OnOk result (GainsForm form status.now line.items (W.written out.old) (W.written out.new)) }
+) -> Result<Status, Fault>
+    ensures whole { IfOk result (λ ended. (ended ≡ status)
+        × GainsForm form status line.items (W.written out.old) (W.written out.new)) }
     ensures begun { IsErrOf result Fault.Write →
-        BeginsForm form status.now line.items (W.written out.old) (W.written out.new) }
+        BeginsForm form status line.items (W.written out.old) (W.written out.new) }
     ensures kinds { IfErr result (λ fault. (fault ≡ Fault.Memory) ⊎ (fault ≡ Fault.Write)) }
     ensures untouched { IsErrOf result Fault.Memory → out.new ≡ out.old }
     ensures write_failed { W.failed_writes out.new
         ≡ W.failed_writes out.old + (if is_write_fault result then 1 else 0) }
 {
-    let text = text_in_form(alloc, form, status, line)?;
-    write_all(out, &text)
+    let text = text_in_form(alloc, form, &status, line)?;
+    write_all(out, &text)?;
+    Ok(status)
 }
 
 /// Does as `transform_with_notes` does, and writes the line in this form. A form other than the line itself takes memory for the line and for
@@ -73,21 +75,25 @@ pub(crate) fn transform_in_form<D: Source, T: Source, W: Sink, M: PrimMeaning>(
 ) -> Result<Status, Fault>
     requires budget { options.now.budget ≤ max_budget }
     requires honest { IsHonest M.answer registry.now }
-    ensures written { IfOk result (λ status. IfSome (D.coming definitions.old) (λ d. IfSome (T.coming term.old)
-        (λ t. HasWrittenIn form d t (setting_of M.answer registry.now options.now) status
+    ensures written { IfOk result (λ status. IfSome (D.coming definitions.old) (λ d.
+        IfSome (T.coming term.old) (λ t. HasWrittenIn form d t
+        (setting_of M.answer registry.now options.now) status
         (W.written out.old) (W.written out.new)))) }
-    ensures begun { IsErrOf result Fault.Write → IfSome (D.coming definitions.old) (λ d. IfSome (T.coming term.old)
-        (λ t. HasBegunIn form d t (setting_of M.answer registry.now options.now)
+    ensures begun { IsErrOf result Fault.Write → IfSome (D.coming definitions.old) (λ d.
+        IfSome (T.coming term.old) (λ t. HasBegunIn form d t
+        (setting_of M.answer registry.now options.now)
         (W.written out.old) (W.written out.new))) }
     ensures status { IfOk result HoldsRefusal }
     ensures kinds { IfErr result IsTransferFault }
     ensures untouched_memory { IsErrOf result Fault.Memory → out.new ≡ out.old }
     ensures untouched_read { IsErrOf result Fault.Read → out.new ≡ out.old }
     ensures read_failed { D.failed_reads definitions.new + T.failed_reads term.new
-        ≡ D.failed_reads definitions.old + T.failed_reads term.old + (if is_read_fault result then 1 else 0) }
+        ≡ D.failed_reads definitions.old + T.failed_reads term.old
+        + (if is_read_fault result then 1 else 0) }
     ensures write_failed { W.failed_writes out.new
         ≡ W.failed_writes out.old + (if is_write_fault result then 1 else 0) }
-    ensures definitions_bounded { D.reads definitions.new ≤ D.reads definitions.old + max_definitions + 1 }
+    ensures definitions_bounded { D.reads definitions.new
+        ≤ D.reads definitions.old + max_definitions + 1 }
     ensures term_bounded { T.reads term.new ≤ T.reads term.old + max_term + 1 }
 {
     if form == Form::Line {
@@ -103,16 +109,13 @@ pub(crate) fn transform_in_form<D: Source, T: Source, W: Sink, M: PrimMeaning>(
         notes,
         &mut line,
     ) {
-        Ok(status) => {
-            write_in_form(alloc, form, &status, line.into_inner(), out)?;
-            Ok(status)
-        }
+        Ok(status) => write_in_form(alloc, form, status, line.into_inner(), out),
         Err(Fault::Write) => Err(Fault::Memory),
         Err(fault) => Err(fault),
     }
 }
 
-/// Does the same as `transform_joined_with_notes`.
+/// Does the same for both texts from one reader, as `transform_joined_with_notes` does.
 ///
 /// # Errors
 /// As of `transform_in_form`.
@@ -127,11 +130,13 @@ pub(crate) fn transform_joined_in_form<I: Source, W: Sink, M: PrimMeaning>(
 ) -> Result<Status, Fault>
     requires budget { options.now.budget ≤ max_budget }
     requires honest { IsHonest M.answer registry.now }
-    ensures written { IfOk result (λ status. IfSome (I.coming input.old) (λ told. (d t : List ℕ) → IsSplit told d t →
-        HasWrittenIn form d t (setting_of M.answer registry.now options.now) status
+    ensures written { IfOk result (λ status. IfSome (I.coming input.old) (λ told.
+        (d t : List ℕ) → IsSplit told d t → HasWrittenIn form d t
+        (setting_of M.answer registry.now options.now) status
         (W.written out.old) (W.written out.new))) }
-    ensures begun { IsErrOf result Fault.Write → IfSome (I.coming input.old) (λ told. (d t : List ℕ) → IsSplit told d t →
-        HasBegunIn form d t (setting_of M.answer registry.now options.now) (W.written out.old) (W.written out.new)) }
+    ensures begun { IsErrOf result Fault.Write → IfSome (I.coming input.old) (λ told.
+        (d t : List ℕ) → IsSplit told d t → HasBegunIn form d t
+        (setting_of M.answer registry.now options.now) (W.written out.old) (W.written out.new)) }
     ensures status { IfOk result HoldsRefusal }
     ensures kinds { IfErr result IsTransferFault }
     ensures untouched_memory { IsErrOf result Fault.Memory → out.new ≡ out.old }
@@ -147,10 +152,7 @@ pub(crate) fn transform_joined_in_form<I: Source, W: Sink, M: PrimMeaning>(
     }
     let mut line = Counted::new(Vec::new(alloc));
     match transform_joined_with_notes(alloc, input, options, registry, notes, &mut line) {
-        Ok(status) => {
-            write_in_form(alloc, form, &status, line.into_inner(), out)?;
-            Ok(status)
-        }
+        Ok(status) => write_in_form(alloc, form, status, line.into_inner(), out),
         Err(Fault::Write) => Err(Fault::Memory),
         Err(fault) => Err(fault),
     }

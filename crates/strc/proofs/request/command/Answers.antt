@@ -9,6 +9,8 @@ returns c =
     let four = added c.in_ok-command-3.command c.in_ok-command-4.command c.flag-2.result three c.flag-2.ensures c.in_ok-command-4.ensures in
     let five = added c.in_ok-command-4.command c.in_ok-command-5.command c.flag-3.result four c.flag-3.ensures c.in_ok-command-5.ensures in
     let six = added c.in_ok-command-5.command c.in_ok-command-6.command c.flag-4.result five c.flag-4.ensures c.in_ok-command-6.ensures in
-    let seven = added c.in_ok-command-6.command c.in_ok-command-7.command c.library.result six c.library.ensures c.in_ok-command-7.ensures in
-    let eight = added c.in_ok-command-7.command c.in_ok-command-8.command c.definitions.result seven c.definitions.ensures c.in_ok-command-8.ensures in
-    added c.in_ok-command-8.command c.in_ok-arg.field-0 c.term.result eight c.term.ensures c.in_ok-arg.ensures
+    let seven = added c.in_ok-command-6.command c.in_ok-command-7.command c.flag-5.result six c.flag-5.ensures c.in_ok-command-7.ensures in
+    let eight = added c.in_ok-command-7.command c.in_ok-command-8.command c.flag-6.result seven c.flag-6.ensures c.in_ok-command-8.ensures in
+    let nine = added c.in_ok-command-8.command c.in_ok-command-9.command c.library.result eight c.library.ensures c.in_ok-command-9.ensures in
+    let ten = added c.in_ok-command-9.command c.in_ok-command-10.command c.definitions.result nine c.definitions.ensures c.in_ok-command-10.ensures in
+    added c.in_ok-command-10.command c.in_ok-arg.field-0 c.term.result ten c.term.ensures c.in_ok-arg.ensures

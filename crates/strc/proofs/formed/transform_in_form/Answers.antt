@@ -1,0 +1,11 @@
+use Rattle.strc.proofs.FormLaws.{apart_begun, apart_written}
+use Rattle.strc.proofs.formed.transform_in_form.Goals as goal
+
+pub returns-in-Ok-clause-written : goal.returns-in-Ok-clause-written
+returns-in-Ok-clause-written g c =
+    apart_written c.write_in_form.result _ _ c.args.form _ c.in-Ok.status c.into_inner.result.items _ _ _ _ (cc) (cc)
+    c.write_in_form.ensures.whole c.in-Ok.ensures.written
+
+pub returns-in-Ok-clause-begun : goal.returns-in-Ok-clause-begun
+returns-in-Ok-clause-begun g c = λ bad.
+    apart_begun _ _ c.args.form _ c.in-Ok.status c.into_inner.result.items _ _ _ _ (cc) (cc) (c.write_in_form.ensures.begun bad) c.in-Ok.ensures.written
