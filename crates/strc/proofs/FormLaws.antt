@@ -1,5 +1,5 @@
 -- Lines in the forms in which they are written.
-use Rattle.std.proofs.Common.{◌≡◌, ℕ, List, [], Option, None, Some, Result, Ok, Err, sym, subst, IfSome, IfOk}
+use Rattle.std.proofs.Common.{◌≡◌, ℕ, List, [], Option, None, Some, Result, Ok, Err, refl, sym, subst, IfSome, IfOk}
 use Rattle.term_model.specs.declared.fault.Fault.{Fault}
 use Rattle.str_pipeline.specs.Device.{Gains, GainsPrefix}
 use Rattle.str_pipeline.specs.Joined.{IsSplit}
@@ -13,7 +13,31 @@ use Rattle.strc.specs.Forms.{IsInForm, GainsForm, BeginsForm, HasWrittenIn, HasB
 same_text : (form : Form) (status : Status) (line text : List ℕ) → form ≡ Line → IsInForm form status line text → text ≡ line
 same_text form status line text is formed = subst (λ f. IsInForm f status line text) is formed
 
+itself : (form : Form) (status : Status) (line : List ℕ) → form ≡ Line → IsInForm form status line line
+itself form status line is = subst (λ f. IsInForm f status line line) (sym is) refl
+
 -- ---- the line itself
+
+line_in_form : (form : Form) (d t : List ℕ) (S : Setting) (status : Status) (old new : Option (List ℕ)) → form ≡ Line →
+    HasWritten d t S status old new → HasWrittenIn form d t S status old new
+line_in_form form d t S status old new is w = record {
+  line = w.line;
+  text = w.line;
+  is_written = w.is_written;
+  in_form = itself form status w.line is;
+  gained = w.gained;
+}
+
+beginning_in_form : (form : Form) (d t : List ℕ) (S : Setting) (old new : Option (List ℕ)) → form ≡ Line →
+    HasBegun d t S old new → HasBegunIn form d t S old new
+beginning_in_form form d t S old new is w = record {
+  status = w.status;
+  line = w.line;
+  text = w.line;
+  is_written = w.is_written;
+  in_form = itself form w.status w.line is;
+  gained = w.gained;
+}
 
 form_is_line : (form : Form) (d t : List ℕ) (S : Setting) (status : Status) (old new : Option (List ℕ)) → form ≡ Line →
     HasWrittenIn form d t S status old new → HasWritten d t S status old new
@@ -125,3 +149,19 @@ pub apart_begun : (defs term : Option (List ℕ)) (form : Form) (S : Setting) (s
 apart_begun defs term form S status held before after old new empty whole g given =
     over_pairs defs term (λ d t. HasWritten d t S status before after) (λ d t. HasBegunIn form d t S old new)
     (λ d t w. form_begun form d t S status held old new g (held_line d t S status held before after empty whole w)) given
+
+-- ---- what the call that writes the line itself leaves
+
+pub apart_as_line : (r : Result Status Fault) (defs term : Option (List ℕ)) (form : Form) (S : Setting) (old new : Option (List ℕ)) → form ≡ Line →
+    IfOk r (λ status. Pairs defs term (λ d t. HasWritten d t S status old new)) →
+    IfOk r (λ status. Pairs defs term (λ d t. HasWrittenIn form d t S status old new))
+apart_as_line (Ok status) defs term form S old new is given =
+    over_pairs defs term (λ d t. HasWritten d t S status old new) (λ d t. HasWrittenIn form d t S status old new)
+    (λ d t w. line_in_form form d t S status old new is w) given
+apart_as_line (Err fault) defs term form S old new is given = tt
+
+pub apart_as_beginning : (defs term : Option (List ℕ)) (form : Form) (S : Setting) (old new : Option (List ℕ)) → form ≡ Line →
+    Pairs defs term (λ d t. HasBegun d t S old new) → Pairs defs term (λ d t. HasBegunIn form d t S old new)
+apart_as_beginning defs term form S old new is given =
+    over_pairs defs term (λ d t. HasBegun d t S old new) (λ d t. HasBegunIn form d t S old new)
+    (λ d t w. beginning_in_form form d t S old new is w) given

@@ -97,7 +97,6 @@ fn write_oversize<E: Sink>(notes: &RunNotes, diagnostics: &mut E) -> Result<(), 
 }
 
 /// Writes the end of a remark on a place in this file: the other line of all definitions that it is about, if there is one, and a line feed.
-#[tactic(auto, using(crate::proofs::PrefixLaws::text_after))]
 fn write_mention<E: Sink>(
     reporting: Reporting<'_>,
     on_line: Option<usize>,
@@ -110,18 +109,21 @@ fn write_mention<E: Sink>(
         return write_pieces(&[b"\n".as_slice()], diagnostics);
     };
     let NamedLine { line, text_name } = reporting.named_line(other, beside);
+    let of = if text_name.is_some() { " of " } else { "" };
+    let name = text_name.unwrap_or("");
     let mut digits = Buffer::new();
-    let pieces = [b" on line ".as_slice(), digits.format(line).as_bytes()];
-    write_pieces(&pieces, diagnostics)?;
-    match text_name {
-        Some(name) => write_pieces(&[b" of ".as_slice(), name.as_bytes(), b"\n"], diagnostics),
-        None => write_pieces(&[b"\n".as_slice()], diagnostics),
-    }
+    let pieces = [
+        b" on line ".as_slice(),
+        digits.format(line).as_bytes(),
+        of.as_bytes(),
+        name.as_bytes(),
+        b"\n",
+    ];
+    write_pieces(&pieces, diagnostics)
 }
 
 /// Writes the line of a remark: the file and the place in it at which it stands, or two blanks; its text; and the other line that it is about,
 /// if there is one.
-#[tactic(auto, using(crate::proofs::PrefixLaws::text_after))]
 pub(crate) fn write_remark<E: Sink>(
     reporting: Reporting<'_>,
     remark: &Remark,

@@ -13,8 +13,10 @@ returns-in-Ok-new-clause-texts g c =
 pub returns-in-Err-new-clause-stopped : goal.returns-in-Err-new-clause-stopped
 returns-in-Err-new-clause-stopped g c = (
   c.stop.ensures.status,
-  Memory,
-  (omega arith, omega arith),
-  subst (λ before. Tells Memory (g.E.Sink.failed_writes before) (g.E.Sink.failed_writes c.stop.new.diagnostics) (g.E.Sink.written before) (g.E.Sink.written c.stop.new.diagnostics))
-      c.in_ok-last.ensures.opened c.stop.ensures.told,
+  (
+    Memory,
+    (omega arith, omega arith),
+    subst (λ before. Tells Memory (g.E.Sink.failed_writes before) (g.E.Sink.failed_writes c.stop.new.diagnostics) (g.E.Sink.written before) (g.E.Sink.written c.stop.new.diagnostics))
+        c.in_ok-last.ensures.opened c.stop.ensures.told,
+  ),
 )
