@@ -1,13 +1,13 @@
 -- What a space's words say of a store.
-use Rattle.std.proofs.Common.{◌≡◌, ℕ, zero, suc, ◌<◌, nat_lt, nat_le, List, [], ◌∷◌, ◌++◌, length, map, get_or, slice_get, drop, refl, sym, ◌∙◌, ap, subst, arith}
-use Rattle.std.specs.Prelude.{Result, Ok, Err, IfOk, Option, Some, None, IsSome, IsTrue}
+use Rattle.std.proofs.Common.{◌≡◌, ℕ, zero, suc, ◌+◌, ◌<◌, ◌≤◌, nat_lt, nat_le, List, [], ◌∷◌, ◌++◌, length, map, get_or, slice_get, drop, refl, sym, ◌∙◌, ap, subst, arith}
+use Rattle.std.specs.Prelude.{Result, Ok, Err, IfOk, Option, Some, None, IsSome, IsTrue, ◌↔◌}
 use Rattle.std.specs.declared.alloc.AllocError.{AllocError}
 use Rattle.std.specs.Borrow.{Bor}
-use Rattle.std.proofs.lemmas.Bool.{lt-ltb}
+use Rattle.std.proofs.lemmas.Bool.{lt-ltb, leb-true}
 use Rattle.std.proofs.lemmas.List.{map-append}
 use Rattle.std.proofs.lemmas.Option.{get_or_from_slice_get}
 use Rattle.term_model.specs.Blocks.{list_in, IsAt}
-use Rattle.term_model.specs.Space.{Makes, MakesNone, IsApplied, IsList}
+use Rattle.term_model.specs.Space.{GoesBack, Makes, MakesNone, IsApplied, IsList}
 use Rattle.term_model.specs.Limits.{max_weight}
 use Rattle.term_model.specs.Symbol.{Symbol}
 use Rattle.term_model.specs.Term.{Tree, term, head_of, parts_of, annos_of, trees_of, weights, Fits}
@@ -19,9 +19,10 @@ use Rattle.term_model.specs.declared.parts.Block.{Block}
 use Rattle.term_model.proofs.TermLemmas.{list_of-trees_of}
 use Rattle.term_store.specs.Chains.{IsBlockIn}
 use Rattle.term_store.specs.Shapes.{shape_head, shape_parts, shape_annos}
+use Rattle.term_store.specs.Places.{small_count}
 use Rattle.term_store.specs.Store.{head_in}
 use Rattle.term_store.specs.StoredTerms.{stored_terms}
-use Rattle.term_store.specs.Space.{count, term_of, chain_at, shape_term, Stand, MayStand, IsShapeAt, IsMade, Keeps, KeepsChains}
+use Rattle.term_store.specs.Space.{count, held_count, term_of, chain_at, shape_term, Stand, MayStand, IsShapeAt, IsMade, Keeps, KeepsChains}
 use Rattle.term_store.specs.declared.store.StoreSpace.{StoreSpace}
 use Rattle.term_store.specs.declared.stored.StoredHead.{StoredHead}
 use Rattle.term_store.specs.declared.stored.StoredHead.TheVariants as stored
@@ -101,7 +102,27 @@ makes s t u (Ok made.Oversize) is same = λ fits. is (subst Fits (sym same) fits
 
 -- where no shape is made, exactly what stood stands
 pub makes_none : (old new : StoreSpace) → count new ≡ count old → MakesNone stored_terms old new
-makes_none old new e = record { standing = λ r. ap (nat_lt r) e; valid = λ m. ap (nat_le m) e }
+makes_none old new e =
+    let one = old.small in
+    let other = new.small in
+    let held : held_count new ≡ held_count old = omega (arith, e, one, other) in
+    record { standing = λ r. ap (nat_lt r) e; valid = λ m. ap (nat_le m) held }
+
+-- a store goes back to where it is
+pub goes_nowhere : (s : StoreSpace) (mark held : ℕ) → held ≡ held_count s → s.shapes.small ≤ count s → held ≤ mark → IsTrue (nat_le mark (held_count s)) → GoesBack stored_terms s mark s
+goes_nowhere s mark held e some far valid =
+    let small = s.small in
+    let near = leb-true mark (held_count s) valid in
+    let same : held_count s ≡ mark = omega (arith, e, far, near) in
+    let all : count s ≡ mark + small_count = omega (arith, same, some, small) in
+    record {
+      was_valid = valid;
+      exactly = λ r. subst (λ n. IsTrue (nat_lt r (count s)) ↔ IsTrue (nat_lt r n)) all (λ h. h, λ h. h);
+      terms = λ r h. refl;
+      valid = λ m h. subst (λ n. IsTrue (nat_le m n)) (sym same) h;
+      known = λ n h. h;
+      symbols = λ n h. refl;
+    }
 
 -- the term of a shape after chains came
 pub shape_then : (old mid : StoreSpace) (x : StoredShape) (h : Head) (ps qs : List ℕ) → KeepsChains old mid → head_in mid.symbols.keys (shape_head x) ≡ h → list_in mid.chains (shape_parts x) ≡ ps → chain_at mid (shape_annos x) ≡ qs

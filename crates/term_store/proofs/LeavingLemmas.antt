@@ -23,8 +23,8 @@ set_left f (x ∷ xs) (suc at) zero t u given is e = given 0 u e
 set_left f (x ∷ xs) (suc at) (suc k) t u given is e = set_left (λ j. f (suc j)) xs at k t u (λ j. given (suc j)) is e
 
 -- one more term is there
-pub one_left : (s : StoreSpace) (terms : List (Option Tree)) (at : ℕ) (t : Tree) → AreLeft s terms → t ≡ term_of s at → AreLeft s (slice_set terms at (Some t))
-one_left s terms at t left is k u e = set_left (term_of s) terms at k t u left is e
+pub one_left : (s : StoreSpace) (terms : List (Option Tree)) (at number : ℕ) (t : Tree) → at ≡ s.shapes.small + number → AreLeft s terms → t ≡ term_of s at → AreLeft s (slice_set terms number (Some t))
+one_left s terms at number t there left is k u e = set_left (λ j. term_of s (s.shapes.small + j)) terms number k t u left (is ∙ ap (term_of s) there) e
 
 -- the place at an index of the stack is before another
 pub place_below : (xs ys : List ℕ) (bottom index at place d : ℕ) → All (λ i. i < at) (drop bottom xs) → ys ≡ xs → bottom ≤ index → index < length xs → place ≡ get_or ys index d → place < at

@@ -1,6 +1,8 @@
 pub mod ChainLemmas
 pub mod PlainLemmas
 pub mod StoreLemmas
+pub mod PlaceLaws
+pub mod ExtentLaws
 pub mod StoreChanges
 pub mod SpaceLemmas
 pub mod ShapeLaws

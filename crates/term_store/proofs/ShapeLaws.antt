@@ -1,11 +1,22 @@
 -- The shape at a place.
-use Rattle.std.proofs.Common.{◌≡◌, ℕ, ◌<◌, get_or, refl, subst, arith}
+use Rattle.std.proofs.Common.{◌≡◌, ℕ, ◌<◌, List, [], map, get_or, refl, subst, ap, ◌∙◌, arith}
+use Rattle.std.specs.Prelude.{ℤ}
+use Rattle.term_model.specs.Term.{term}
+use Rattle.term_model.specs.declared.term.Head.TheVariants as heads
+use Rattle.term_store.specs.Places.{IsPlaced}
+use Rattle.term_store.specs.declared.stored.StoredShape.TheVariants as forms
 use Rattle.term_store.specs.Store.{IsEntry}
-use Rattle.term_store.specs.Space.{count, IsShapeAt}
+use Rattle.term_store.specs.Space.{count, term_of, IsShapeAt}
 use Rattle.term_store.specs.declared.store.StoreSpace.{StoreSpace}
 use Rattle.term_store.specs.declared.stored.StoredShape.{StoredShape}
 use Rattle.term_store.specs.declared.stored.Extent.{Extent}
 use Rattle.term_store.proofs.StoreLemmas.{held_at, none_extent}
+
+-- the term of an integer without annotations
+pub integer_term : (s : StoreSpace) (at : ℕ) (z : ℤ) → at < count s → IsPlaced s.shapes at (forms.Int 0 z) → term_of s at ≡ term (heads.Int z) [] []
+integer_term s at z within is =
+    held_at s.symbols.keys s.chains s.shapes.keys s.extents.items s.spans.items at (forms.Int 0 z) s.store within (is (forms.Int 0 z))
+    ∙ ap (λ xs. term (heads.Int z) (map (term_of s) xs) (map (term_of s) xs)) s.store.empty
 
 pub shape_is : (s : StoreSpace) (at : ℕ) (x : StoredShape) → at < count s → get_or s.shapes.keys at x ≡ x → IsShapeAt s at x
 shape_is s at x within is =

@@ -1,6 +1,14 @@
 -- Lemmas that the store's calls cite.
 use Rattle.std.proofs.Common.{◌≡◌, ℕ, zero, suc, ◌<◌, List, [], ◌∷◌, length, get_or, refl, All, arith}
-use Rattle.term_store.specs.Store.{IsStore}
+use Rattle.std.specs.Prelude.{ℤ}
+use Rattle.term_model.specs.Term.{term}
+use Rattle.term_model.specs.declared.term.Head.TheVariants as heads
+use Rattle.term_store.specs.Store.{IsShape, IsSize, IsStore}
+use Rattle.term_store.specs.Places.{integer_at, integers}
+use Rattle.term_store.specs.Extents.{small_extent, small_extents}
+use Rattle.term_store.specs.declared.stored.StoredShape.TheVariants as forms
+use Rattle.term_store.proofs.StoreLemmas.{store_push}
+use Rattle.term_store.proofs.PlaceLaws.{length-integers}
 
 -- a store that holds nothing
 pub nothing : IsStore [] ([] ∷ []) [] [] []
@@ -26,4 +34,26 @@ get_or_any [] i d e h = absurd (omega arith)
 get_or_any (x ∷ xs) zero d e h = refl
 get_or_any (x ∷ xs) (suc i) d e h = get_or_any xs i d e (omega arith)
 
-pub ruleset space = (nothing)
+-- a store that holds nothing, in which the small integers have their places
+pub small_store : (negative small : ℕ) → IsStore [] ([] ∷ []) (integers negative small) (small_extents small) []
+small_store negative zero = nothing
+small_store negative (suc k) =
+    let store = small_store negative k in
+    let long = length-integers negative k in
+    store_push [] ([] ∷ []) (integers negative k) (small_extents k) [] (forms.Int 0 (integer_at negative k)) small_extent store (integer_shape (length (integers negative k)) (integer_at negative k)) refl refl (integer_size (integer_at negative k))
+  where
+    integer_shape : (k : ℕ) (z : ℤ) → IsShape [] ([] ∷ []) k 0 (forms.Int 0 z)
+    integer_shape k z = record {
+      head = refl;
+      rest = omega arith;
+      annos = omega arith;
+      whole = record { long = refl };
+      none = λ e. refl;
+      places = record { parts = λ j d h. absurd (omega (arith, h)); annos = λ j d h. absurd (omega (arith, h)) };
+      bare = λ e. refl;
+    }
+
+    integer_size : (z : ℤ) → IsSize (term (heads.Int z) [] []) small_extent
+    integer_size z = record { weight = refl; depth = refl; fits = record { weight = omega arith; depth = omega arith } }
+
+pub ruleset space = (small_store)

@@ -8,7 +8,7 @@ use Rattle.term_model.specs.declared.term.Head.{Head}
 use Rattle.term_model.specs.Symbol.{Symbol, Tuple}
 use Rattle.term_model.specs.Term.{Tree, term, trees_of, weights, depths, head_weight}
 use Rattle.term_model.specs.Limits.{max_weight, max_depth}
-use Rattle.std.specs.Prelude.{min, max, not}
+use Rattle.std.specs.Prelude.{min, max}
 use Rattle.term_store.specs.Chains.{AreApart, IsWhole}
 use Rattle.term_model.specs.Blocks.{front_list, list_in}
 use Rattle.term_store.specs.Plain.{Plain, term_at, IsPlain, ArePlain}
@@ -287,15 +287,13 @@ held_pushed symbols chains shapes extents others spans at s store places within 
     held_at symbols chains (shapes ++ s ∷ []) others spans at s store within is ∙ (ap (λ ts. term (head_in symbols (shape_head s)) ts (map (held symbols chains (shapes ++ s ∷ [])) (get_or chains (shape_annos s) []))) parts ∙ ap (λ ts. term (head_in symbols (shape_head s)) (map (held symbols chains shapes) (list_in chains (shape_parts s))) ts) annos_)
 
 -- the keys after an insertion
-pub new_keys : {X : Type 0} (b added : Bool) (xs ks : List X) (x : X) → added ≡ not b → added ≡ true → ks ≡ (if b then xs else xs ++ x ∷ []) → ks ≡ xs ++ x ∷ []
-new_keys true true xs ks x e n k = cc
-new_keys true false xs ks x e n k = cc
-new_keys false added xs ks x e n k = k
+pub new_keys : {X : Type 0} (added : Bool) (xs ys ks : List X) → added ≡ true → ks ≡ (if added then ys else xs) → ks ≡ ys
+new_keys true xs ys ks e k = k
+new_keys false xs ys ks e k = cc
 
-pub old_keys : {X : Type 0} (b added : Bool) (xs ks : List X) (x : X) → added ≡ not b → added ≡ false → ks ≡ (if b then xs else xs ++ x ∷ []) → ks ≡ xs
-old_keys true added xs ks x e n k = k
-old_keys false true xs ks x e n k = cc
-old_keys false false xs ks x e n k = cc
+pub old_keys : {X : Type 0} (added : Bool) (xs ys ks : List X) → added ≡ false → ks ≡ (if added then ys else xs) → ks ≡ xs
+old_keys true xs ys ks e k = cc
+old_keys false xs ys ks e k = k
 
 -- the size of a term that fits, by those of its parts and annotations
 pub made_size : (h : Head) (ps ts : List Tree) (name pw pd aw ad last known : ℕ) → name ≡ min (head_weight h) (max_weight + 1) → pw ≡ weights (trees_of ps) → pd ≡ depths (trees_of ps) → aw ≡ weights (trees_of ts) → ad ≡ depths (trees_of ts)

@@ -2,6 +2,8 @@ pub mod Chains
 pub mod Hashing
 pub mod Plain
 pub mod Shapes
+pub mod Places
+pub mod Extents
 pub mod Store
 pub mod Space
 pub mod StoredTerms

@@ -1,5 +1,5 @@
 -- What the calls of a store say.
-use Rattle.std.specs.Prelude.{◌≡◌, ◌<◌, ◌≤◌, ℕ, List, [], length, map, slice_index_or, All}
+use Rattle.std.specs.Prelude.{◌≡◌, ◌<◌, ◌≤◌, ◌-◌, ℕ, List, [], length, map, slice_index_or, All}
 use Rattle.term_model.specs.Symbol.{Symbol, Tuple}
 use Rattle.term_model.specs.Term.{Tree, Fits, term, weights, trees_of}
 use Rattle.term_model.specs.Limits.{max_weight}
@@ -13,9 +13,13 @@ use Rattle.term_store.specs.Store.{held, head_in, IsAmong, MayHave}
 use Rattle.term_store.specs.declared.stored.StoredShape.{StoredShape}
 use Rattle.term_store.specs.declared.store.StoreSpace.{StoreSpace}
 
--- how many shapes are held
+-- how many places there are: each small integer has one, and each shape that is held
 abbrev pub count : StoreSpace → ℕ
 count s = length s.shapes.keys
+
+-- how many shapes are held
+abbrev pub held_count : StoreSpace → ℕ
+held_count s = length s.shapes.keys - s.shapes.small
 
 -- the term at a place
 abbrev pub term_of : StoreSpace → ℕ → Tree

@@ -70,6 +70,12 @@ pub record IsSize (t : Tree) (e : Extent) : Type 0 where
   pub depth : e.depth ≡ depth t
   pub fits : Fits t
 
+-- the weight and the depth of a term that fits
+pub record IsSizeOf (t : Tree) (weight_ depth_ : ℕ) : Type 0 where
+  pub weight : weight_ ≡ weight t
+  pub depth : depth_ ≡ depth t
+  pub fits : Fits t
+
 -- the size of terms that are not too heavy together
 pub record IsSum (ts : List Tree) (s : Span) : Type 0 where
   pub weight : s.weight ≡ weights (trees_of ts)

@@ -1,19 +1,20 @@
 -- The store as a space of terms.
-use Rattle.std.specs.Prelude.{ℕ, pos, IsTrue, length, nat_lt, nat_le}
+use Rattle.std.specs.Prelude.{ℕ, pos, IsTrue, length, nat_lt, nat_le, ◌+◌}
 use Rattle.std.proofs.lemmas.Bool.{ltb-true}
 use Rattle.term_model.specs.Space.{Space}
 use Rattle.term_model.specs.Term.{Fits}
-use Rattle.term_store.specs.Space.{count, term_of, symbol_at}
+use Rattle.term_store.specs.Space.{count, held_count, term_of, symbol_at}
+use Rattle.term_store.specs.Places.{small_count}
 use Rattle.term_store.specs.declared.store.StoreSpace.{StoreSpace}
 use Rattle.term_store.specs.declared.stored.StoredShape.TheVariants as forms
 
--- a reference is the place of a shape, a mark is how many shapes were held, and a name is the number of a symbol
+-- a reference is a place, a mark is how many shapes were held, and a name is the number of a symbol
 abbrev pub stored_terms : Space StoreSpace ℕ ℕ ℕ
 stored_terms = record {
   stands = λ s r. nat_lt r (count s);
   term_of = λ s r. term_of s r;
-  is_valid = λ s m. nat_le m (count s);
-  covers = λ m r. nat_lt r m;
+  is_valid = λ s m. nat_le m (held_count s);
+  covers = λ m r. nat_lt r (m + small_count);
   covers_mark = λ m n. nat_le n m;
   knows = λ s n. nat_lt n s.named;
   symbol_of = λ s n. symbol_at s n;

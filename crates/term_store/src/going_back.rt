@@ -6,10 +6,12 @@ ghost use Rattle.term_store.specs.Space.{count, GoesBack};
 use crate::store::StoreSpace;
 
 impl StoreSpace {
-    // Keeps the first `mark` shapes, and the chains and symbols that were there when the last of them came. The symbols of names stay.
+    // Keeps the first `mark` places, and the chains and symbols that were there when the last of their shapes came. The symbols of names
+    // stay.
     #[inline(never)]
     pub(crate) fn cut(&mut self, mark: usize)
-        requires { mark < count self.old }
+        requires small { self.old.shapes.small ≤ mark }
+        requires within { mark < count self.old }
         ensures { GoesBack self.old self.new mark }
     {
         let last = self.chains_at(mark);
@@ -21,27 +23,25 @@ impl StoreSpace {
         self.symbols.truncate(symbols as usize);
     }
 
-    // The last chain that the first shapes may name.
+    // The last chain that the shapes of the first places may name.
     fn chains_at(&self, mark: usize) -> u32
         requires { mark ≤ count self.now }
         ensures { IsLast self.now.chains self.now.extents.items mark result }
     {
-        let extents = self.extents.as_slice();
         if mark == 0 {
             return 0;
         }
-        extents[mark - 1].chains
+        self.extents.get(mark - 1).chains
     }
 
-    // How many symbols the first shapes may name.
+    // How many symbols the shapes of the first places may name.
     fn symbols_at(&self, mark: usize) -> u32
         requires { mark ≤ count self.now }
         ensures { AreNamed self.now.symbols.keys self.now.extents.items mark result }
     {
-        let extents = self.extents.as_slice();
         if mark == 0 {
             return 0;
         }
-        extents[mark - 1].symbols
+        self.extents.get(mark - 1).symbols
     }
 }

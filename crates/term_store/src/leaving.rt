@@ -18,7 +18,7 @@ impl StoreSpace {
         requires { at < count self.now }
         ensures { IfOk result (λ t. t ≡ term_of self.now at) }
     {
-        let mut terms = none_left(alloc, at)?;
+        let mut terms = none_left(alloc, self.shapes.held())?;
         let mut stack = Vec::new(alloc);
         let term = self.leave_term(alloc, at, &mut terms, &mut stack)?;
         Ok(term)
@@ -35,14 +35,18 @@ impl StoreSpace {
         stack: &mut Vec<u32>,
     ) -> Result<Term, AllocError>
         requires at { at < count self.now }
-        requires within { at < vec_len terms.old }
+        requires within { at < self.now.shapes.small + vec_len terms.old }
         requires left { AreLeft self.now terms.old.items }
         ensures term { IfOk result (λ t. t ≡ term_of self.now at) }
         ensures long { OnOk result (vec_len terms.new ≡ vec_len terms.old) }
         ensures left { OnOk result (AreLeft self.now terms.new.items) }
         ensures stack { OnOk result (stack.new.items ≡ stack.old.items) }
     {
-        if let Some(term) = &terms[at as usize] {
+        if let Some(value) = self.shapes.integer(at) {
+            return Term::int(alloc, value);
+        }
+        let number = self.shapes.number_of(at);
+        if let Some(term) = &terms[number] {
             let copy = term.clone()?;
             return Ok(copy);
         }
@@ -55,7 +59,7 @@ impl StoreSpace {
             unreachable!()
         };
         let copy = term.clone()?;
-        terms[at as usize] = Some(copy);
+        terms[number] = Some(copy);
         Ok(term)
     }
 
@@ -71,7 +75,7 @@ impl StoreSpace {
         stack: &mut Vec<u32>,
     ) -> Result<Vec<Term>, AllocError>
         requires at { at < count self.now }
-        requires within { at < vec_len terms.old }
+        requires within { at < self.now.shapes.small + vec_len terms.old }
         requires left { AreLeft self.now terms.old.items }
         requires block { IsBlockIn self.now.chains block (list_in self.now.chains block) }
         requires below { All (λ i. i < at) (list_in self.now.chains block) }
@@ -99,7 +103,7 @@ impl StoreSpace {
         stack: &mut Vec<u32>,
     ) -> Result<Vec<Term>, AllocError>
         requires at { at < count self.now }
-        requires within { at < vec_len terms.old }
+        requires within { at < self.now.shapes.small + vec_len terms.old }
         requires left { AreLeft self.now terms.old.items }
         requires bottom { bottom ≤ vec_len stack.old }
         requires below { All (λ i. i < at) (drop bottom stack.old.items) }
@@ -138,11 +142,10 @@ impl StoreSpace {
     }
 }
 
-// No term for each place up to this one.
-fn none_left(alloc: Global, at: u32) -> Result<Vec<Option<Term>>, AllocError>
-    ensures { IfOk result (λ terms. terms.items ≡ replicate (at + 1) None) }
+// No term for each of these shapes.
+fn none_left(alloc: Global, count: usize) -> Result<Vec<Option<Term>>, AllocError>
+    ensures { IfOk result (λ terms. terms.items ≡ replicate count None) }
 {
-    let count = at as usize + 1;
     let mut terms = Vec::with_capacity(alloc, count)?;
     for _ in 0..count {
         terms.push(None)?;

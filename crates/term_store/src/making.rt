@@ -12,8 +12,8 @@ use std::alloc::AllocError;
 use term_model::term::{MAX_DEPTH, MAX_WEIGHT};
 use term_model::{Block, Front, Made};
 
-// The most shapes that there are.
-const MAX_SHAPES: usize = 4_294_967_295;
+// The most places that there are.
+const MAX_PLACES: usize = 4_294_967_295;
 
 // For more chains than these, room is made at once.
 const FEW_LINKS: usize = 1_000;
@@ -35,14 +35,14 @@ impl StoreSpace {
         }
         let chains = self.chains.len();
         let symbols = self.symbols.len();
-        if self.shapes.len() >= MAX_SHAPES
+        if self.shapes.len() >= MAX_PLACES
             || chains > u32::MAX as usize
             || symbols > u32::MAX as usize
         {
             return Err(AllocError);
         }
-        self.extents.reserve(1)?;
-        let (at, added) = self.shapes.insert_full(shape)?;
+        self.extents.reserve()?;
+        let (at, added) = self.shapes.insert(shape)?;
         if !added {
             return Ok(Made::Fits(at as u32));
         }

@@ -1,14 +1,15 @@
 // What is held at a place, and how heavy and deep it is.
-ghost use Rattle.std.specs.Prelude.{◌≡◌, ◌<◌, ◌+◌, [], length, map, min};
+ghost use Rattle.std.specs.Prelude.{◌≡◌, ◌<◌, ◌+◌, [], length, map, min, MatchOption};
 ghost use Rattle.term_model.specs.Limits.{max_weight};
 ghost use Rattle.term_model.specs.Term.{head_weight};
 ghost use Rattle.term_model.specs.Blocks.{list_in};
-ghost use Rattle.term_store.specs.Store.{head_in, IsAmong, IsSize, IsSum, IsTotal};
+ghost use Rattle.term_store.specs.Store.{head_in, IsAmong, IsSizeOf, IsSum, IsTotal};
 ghost use Rattle.term_store.specs.Space.{count, term_of, chain_at, MayStand, IsBlockOver, IsShapeAt};
+ghost use Rattle.term_store.specs.Places.{HasInteger};
 ghost use Rattle.term_store.specs.Sizes.{IsBareOf};
 
 use crate::store::StoreSpace;
-use crate::stored::{Extent, Span, StoredHead, StoredShape};
+use crate::stored::{Span, StoredHead, StoredShape};
 use term_model::term::MAX_WEIGHT;
 use term_model::{Block, Front};
 
@@ -26,25 +27,28 @@ impl StoreSpace {
         requires { at < count self.now }
         ensures { IsShapeAt self.now at result }
     {
-        *self.shape_ref(at)
+        self.shapes.get(at)
     }
 
-    // The shape at a place, lent.
+    // The shape at a place, lent, if it is held there.
     #[inline]
-    pub(crate) fn shape_ref(&self, at: u32) -> &StoredShape
+    pub(crate) fn held_shape(&self, at: u32) -> Option<&StoredShape>
         requires { at < count self.now }
-        ensures { IsShapeAt self.now at result.now }
+        ensures { MatchOption result (HasInteger self.now.shapes at) (λ s. IsShapeAt self.now at s.now) }
     {
-        self.shapes.get_index(at as usize).unwrap()
+        match self.shapes.held_at(at) {
+            Some(shape) => Some(shape),
+            None => None,
+        }
     }
 
     // How heavy and deep the term at a place is.
     #[inline]
-    pub(crate) fn extent(&self, at: u32) -> Extent
+    pub(crate) fn extent(&self, at: u32) -> Size
         requires { at < count self.now }
-        ensures { IsSize (term_of self.now at) result }
+        ensures { IsSizeOf (term_of self.now at) result.weight result.depth }
     {
-        self.extents[at as usize]
+        self.extents.size(at)
     }
 
     // How heavy, deep and many the terms of a chain are.

@@ -5,7 +5,9 @@ ghost use Rattle.term_model.specs.Space.{Keeps, Makes, MayHave};
 ghost use Rattle.term_store.specs.Space as stored;
 
 use crate::chains::Chains;
+use crate::extents::Extents;
 use crate::oversize::{LastOversize, OversizeTerm};
+use crate::shapes::{Shapes, small_integers};
 use crate::store::StoreSpace;
 use crate::stored::{StoredHead, StoredShape};
 use indexmap::IndexSet;
@@ -17,24 +19,26 @@ impl StoreSpace {
     /// A store that holds nothing, which hashes by this hasher.
     #[tactic(auto, using(crate::proofs::SpaceLemmas::space))]
     pub fn new(alloc: Global, hasher: BuildHasherDefault<FoldHasher>) -> StoreSpace
-        ensures { stored.count result ≡ 0 }
+        ensures { stored.held_count result ≡ 0 }
     {
+        let small = small_integers();
         StoreSpace {
             symbols: IndexSet::with_hasher(alloc, hasher),
             named: 0,
             chains: Chains::new(alloc, hasher),
-            shapes: IndexSet::with_hasher(alloc, hasher),
-            extents: Vec::new(alloc),
+            shapes: Shapes::new(alloc, hasher, small),
+            extents: Extents::new(alloc, small),
             spans: Vec::new(alloc),
             oversize: LastOversize::new(),
         }
     }
 
-    /// How many shapes are held: each term that was made or entered, and each part and annotation of it, counts once.
+    /// How many shapes are held: each term that was made or entered, and each part and annotation of it, counts once, but
+    /// for the small integers without annotations, of which none is held.
     pub fn len(&self) -> usize
-        ensures { result ≡ stored.count self.now }
+        ensures { result ≡ stored.held_count self.now }
     {
-        self.shapes.len()
+        self.shapes.held()
     }
 
     /// The size of the last term that did not fit, if there was one. Going back leaves it. No contract speaks of it.
@@ -43,8 +47,8 @@ impl StoreSpace {
     }
 }
 
-/// A reference is the place of a shape, and so two references are the same number exactly where their terms are equal. A
-/// mark is how many shapes were held. A name is the number of a symbol; it keeps the symbols that came before it, too.
+/// A reference is a place, and so two references are the same number exactly where their terms are equal. A mark is how
+/// many shapes were held. A name is the number of a symbol; it keeps the symbols that came before it, too.
 impl TermSpace for StoreSpace {
     ghost use Rattle.term_store.specs.StoredTerms.{stored_terms, stored_fit};
 
@@ -75,12 +79,15 @@ impl TermSpace for StoreSpace {
 
     #[tactic(auto, using(crate::proofs::LawsOfSpace::reading))]
     fn parts<'a>(&'a self, at: &'a u32) -> Parts<'a, u32> {
-        self.places(self.shape_ref(*at))
+        match self.held_shape(*at) {
+            Some(shape) => self.places(shape),
+            None => Parts::of_slice(&[]),
+        }
     }
 
     #[tactic(auto, using(crate::proofs::LawsOfSpace::reading))]
     fn annos<'a>(&'a self, at: &'a u32) -> Parts<'a, u32> {
-        let shape = self.shape_ref(*at);
+        let shape = self.shape_at(*at);
         self.chain_places(shape.annos())
     }
 
@@ -111,7 +118,7 @@ impl TermSpace for StoreSpace {
 
     #[tactic(auto, using(crate::proofs::LawsOfSpace::reading))]
     fn is_app(&self, at: &u32, name: &u32, count: usize) -> bool {
-        let shape = self.shape_ref(*at);
+        let shape = self.shape_at(*at);
         self.is_symbol(shape.head(), *name) && self.len_in(shape.parts()) == count
     }
 
@@ -132,8 +139,8 @@ impl TermSpace for StoreSpace {
 
     #[tactic(auto, using(crate::proofs::LawsOfSpace::reading))]
     fn part(&self, at: &u32, index: usize) -> Result<u32, AllocError> {
-        let shape = self.shape_ref(*at);
-        Ok(*self.place_in(shape, index).unwrap())
+        let shape = self.shape_at(*at);
+        Ok(*self.place_in(&shape, index).unwrap())
     }
 
     #[tactic(auto, using(crate::proofs::LawsOfSpace::reading))]
@@ -163,6 +170,9 @@ impl TermSpace for StoreSpace {
     #[tactic(auto, using(crate::proofs::LawsOfSpace::making))]
     fn int(&mut self, alloc: Global, value: i64) -> Result<u32, AllocError> {
         let _ = alloc;
+        if let Some(place) = self.shapes.place_of(value) {
+            return Ok(place);
+        }
         let made = self.make_plain(StoredHead::Int(value), &[])?;
         match made {
             Made::Fits(place) => Ok(place),
@@ -258,13 +268,13 @@ impl TermSpace for StoreSpace {
 
     #[tactic(auto, using(crate::proofs::LawsOfSpace::marking))]
     fn mark(&self) -> usize {
-        self.shapes.len()
+        self.shapes.held()
     }
 
     #[tactic(auto, using(crate::proofs::LawsOfSpace::marking))]
     fn back_to(&mut self, mark: usize) {
-        if mark < self.shapes.len() {
-            self.cut(mark);
+        if mark < self.shapes.held() {
+            self.cut(small_integers() as usize + mark);
         }
     }
 

@@ -30,4 +30,4 @@ returns c =
       bound = λ k e h. subst (λ (x : Extent). (get_or s.extents.items k e).chains ≤ x.chains) (get_or_any s.extents.items (c.args.mark - 1) e zero_ (omega (arith, below, many))) (store.ordered k (c.args.mark - 1) e (omega (arith, h)) below);
       early = λ j h k d within. let one = (store.entries (c.args.mark - 1) none_shape zero_ below).early j h k d within in omega (arith, one);
     } in
-    subst (λ xs. IsLast s.chains s.extents.items c.args.mark (get_or xs (c.args.mark - 1) zero_).chains) (sym c.as_slice-extents.ensures.value) is
+    subst (λ (x : Extent). IsLast s.chains s.extents.items c.args.mark x.chains) (sym (c.get.ensures zero_)) is

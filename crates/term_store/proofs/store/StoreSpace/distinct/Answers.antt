@@ -1,10 +1,6 @@
-use Rattle.std.proofs.Common.{rules}
 use Rattle.term_model.specs.Same.{same_symbol, same_symbol-refl}
 use Rattle.term_store.proofs.ChainLemmas.{distinct_places}
 use Rattle.term_store.proofs.store.StoreSpace.distinct.Goals as goal
 
 pub returns-clause-symbols : goal.returns-clause-symbols
 returns-clause-symbols c = distinct_places same_symbol same_symbol-refl c.args.self.now.symbols.keys c.len.ensures.unique
-
-pub returns-clause-shapes : goal.returns-clause-shapes
-returns-clause-shapes c = distinct_places _ (λ x. search rules) c.args.self.now.shapes.keys c.len-3.ensures.unique

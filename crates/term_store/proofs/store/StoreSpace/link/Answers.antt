@@ -27,7 +27,7 @@ invariant_of-self-2 c =
     let is = c.size_in-size.ensures in
     let long : c.len_in-length.result ≡ length (map (term_of s) xs) = c.len_in-length.ensures ∙ sym (length-places (term_of s) xs) in
     let sum : IsSum (map (term_of s) xs) sp = record { weight = is.weight; depth = is.depth; long = long; light = c.if-size-gt-MAX_WEIGHT.false; flat = is.flat } in
-    record { store = rw (chains, spans) (store_more s.symbols.keys s.chains s.shapes.keys s.extents.items s.spans.items s.store xs sp c.requires.block.stand sum); within = s.within }
+    record { store = rw (chains, spans) (store_more s.symbols.keys s.chains s.shapes.keys s.extents.items s.spans.items s.store xs sp c.requires.block.stand sum); small = s.small; sized = s.sized; within = s.within }
 
 pub returns-clause-keeps : goal.returns-clause-keeps
 returns-clause-keeps c =

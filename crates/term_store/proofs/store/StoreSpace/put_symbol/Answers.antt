@@ -12,7 +12,7 @@ invariant_of-self c =
     let new = c.insert_full.new.self.keys in
     let agree : Agree s.symbols.keys new (length s.symbols.keys) = inserted c.insert_full.result _ s.symbols.keys new _ c.insert_full.ensures.keys c.insert_full.ensures.err in
     let long : length s.symbols.keys ≤ length new = agree.long in
-    record { store = store_named s new agree; within = omega (arith, long) }
+    record { store = store_named s new agree; small = s.small; sized = s.sized; within = omega (arith, long) }
 
 pub returns-clause-keeps : goal.returns-clause-keeps
 returns-clause-keeps c =

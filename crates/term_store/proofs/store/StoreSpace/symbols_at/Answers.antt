@@ -25,4 +25,4 @@ returns c =
       there = (store.entries (c.args.mark - 1) none_shape zero_ below).known;
       bound = λ k e h. subst (λ (x : Extent). (get_or s.extents.items k e).symbols ≤ x.symbols) (get_or_any s.extents.items (c.args.mark - 1) e zero_ (omega (arith, below, many))) (store.in_turn k (c.args.mark - 1) e (omega (arith, h)) below);
     } in
-    subst (λ xs. AreNamed s.symbols.keys s.extents.items c.args.mark (get_or xs (c.args.mark - 1) zero_).symbols) (sym c.as_slice-extents.ensures.value) is
+    subst (λ (x : Extent). AreNamed s.symbols.keys s.extents.items c.args.mark x.symbols) (sym (c.get.ensures zero_)) is
