@@ -89,6 +89,10 @@ impl Shape {
         }
     }
 
+    fn is_small_integer(&self) -> bool {
+        matches!(*self, Shape::Int { annos: 0, value } if (-1_073_741_824..1_073_741_824).contains(&value))
+    }
+
     fn annos(&self) -> u32 {
         match *self {
             Shape::Int { annos, .. } | Shape::Applied { annos, .. } | Shape::List { annos, .. } => annos,
@@ -178,8 +182,9 @@ pub struct Store {
 }
 
 impl Store {
+    /// How many shapes there are, without those of small integers, which the other store does not hold.
     pub fn len(&self) -> usize {
-        self.shapes.keys.len()
+        self.shapes.keys.iter().filter(|shape| !shape.is_small_integer()).count()
     }
 
     pub fn name(&mut self, symbol: &Symbol) -> u32 {

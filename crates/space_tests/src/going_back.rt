@@ -24,7 +24,7 @@ const ROWS: &[(&[u8], &[u8], &[u8], u32, usize, bool)] = &[
         b"1",
         b"1",
         6,
-        1,
+        0,
         true,
     ),
     (
@@ -32,7 +32,7 @@ const ROWS: &[(&[u8], &[u8], &[u8], u32, usize, bool)] = &[
         b"[1,2]",
         b"",
         8,
-        3,
+        1,
         false,
     ),
 ];

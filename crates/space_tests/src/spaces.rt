@@ -352,21 +352,42 @@ fn goes_back<S: TermSpace + Holds>(
     Ok(([entered, made, space.held()], left))
 }
 
-// Equal parts are one, and what came after a mark is given back.
-fn run_going_back<S: TermSpace + Holds + Drop>(alloc: Global, space: S) -> Result<bool, Fail> {
+// Equal parts are one, and what came after a mark is given back. Returns how many shapes the space holds with the pair, with one more, and
+// after it goes back; nothing if the pair is another then.
+fn run_going_back<S: TermSpace + Holds + Drop>(
+    alloc: Global,
+    space: S,
+    text: &[u8],
+) -> Result<Option<[usize; 3]>, Fail> {
     let mut space = space;
-    let pair = read_term(alloc, b"F(1,1)")?;
+    let pair = read_term(alloc, text)?;
     if !is_one_twice(alloc, &mut space, &pair)? {
-        return Ok(false);
+        return Ok(None);
     }
     let (held, left) = goes_back(alloc, &mut space, &pair)?;
-    Ok(held == [2, 3, 2] && left == pair)
+    Ok(if left == pair { Some(held) } else { None })
 }
+
+// Pairs, and how many shapes the store holds with them, with one more, and after it goes back. It holds no small integer
+// without annotations.
+const PAIRS: &[(&[u8], [usize; 3])] = &[
+    (b"F(A(),A())", [2, 3, 2]),
+    (b"F(1,1)", [1, 2, 1]),
+    (b"F(1{A()},1{A()})", [3, 4, 3]),
+    (b"F(1073741823,1073741823)", [1, 2, 1]),
+    (b"F(1073741824,1073741824)", [2, 3, 2]),
+    (b"F(-1073741824,-1073741824)", [1, 2, 1]),
+    (b"F(-1073741825,-1073741825)", [2, 3, 2]),
+    (b"F(-9223372036854775808,-9223372036854775808)", [2, 3, 2]),
+    (b"F(9223372036854775807,9223372036854775807)", [2, 3, 2]),
+];
 
 #[test]
 fn shared(rt: HostRuntime) -> Result<(), Fail> {
-    if !run_going_back(rt.alloc(), store(rt.alloc()))? {
-        return Err(Fail::new("another number of shapes"));
+    for (index, (text, held)) in PAIRS.iter().enumerate() {
+        if run_going_back(rt.alloc(), store(rt.alloc()), text)? != Some(*held) {
+            return Err(Fail::new(index));
+        }
     }
     Ok(())
 }
@@ -390,7 +411,7 @@ fn run_lists<S: TermSpace<Ref = u32> + Holds + Drop>(
 }
 
 // Lengths of lists, and how many shapes the space holds then.
-const LISTS: &[(i64, usize)] = &[(7, 15), (100, 201)];
+const LISTS: &[(i64, usize)] = &[(7, 8), (100, 101)];
 
 #[test]
 fn numbers_of_lists(rt: HostRuntime) -> Result<(), Fail> {

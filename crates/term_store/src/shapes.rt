@@ -40,11 +40,7 @@ impl Model for Shapes {
 
 impl Shapes {
     // The shapes of this many small integers, of which half are negative.
-    pub(crate) fn new(
-        alloc: Global,
-        hasher: BuildHasherDefault<FoldHasher>,
-        small: u32,
-    ) -> Shapes
+    pub(crate) fn new(alloc: Global, hasher: BuildHasherDefault<FoldHasher>, small: u32) -> Shapes
         ensures small { result.small ≡ small }
         ensures keys { result.keys ≡ integers (small / 2) small }
     {
@@ -103,11 +99,7 @@ impl Shapes {
         if at < self.small {
             return None;
         }
-        Some(
-            self.held
-                .get_index((at - self.small) as usize)
-                .unwrap(),
-        )
+        Some(self.held.get_index((at - self.small) as usize).unwrap())
     }
 
     // The integer of a place, if it is that of a small integer.

@@ -12,8 +12,9 @@ use indexmap::IndexSet;
 use term_model::Sym;
 
 /// Terms under their places, each held once: a shape is a head, with the places of its parts and annotations, and
-/// comes after them. Numbers have 32 bits: where 4,294,967,295 shapes, chains of parts or symbols are held, a call that
-/// needs one more returns `AllocError`, as where there is no memory.
+/// comes after them. The first 2,147,483,648 places are those of the integers from -1,073,741,824 to 1,073,741,823 without
+/// annotations, which are not held and take no memory. Numbers have 32 bits: if 2,147,483,647 shapes are held, or
+/// 4,294,967,295 chains of parts or symbols, a call that needs one more returns `AllocError`, as if out of memory.
 #[derive(Drop)]
 pub struct StoreSpace {
     pub(crate) symbols: IndexSet<Sym>,

@@ -165,7 +165,7 @@ const EXPLAINED: &[Row] = &[
         "7",
         0,
         "7\n",
-        "strc: 2 rules, 4 steps, 1 shapes\n",
+        "strc: 2 rules, 4 steps, 0 shapes\n",
     ),
     (
         "strc --explain id.str bad.trm",

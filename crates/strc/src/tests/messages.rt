@@ -180,12 +180,12 @@ const RUNS: &[(&str, &str, &str)] = &[
     (
         "strc --stats id.str",
         "F(1,1)",
-        "strc: 2 rules, 4 steps, 2 shapes\n",
+        "strc: 2 rules, 4 steps, 1 shapes\n",
     ),
     (
         "strc --stats --rules 0 id.str",
         "7",
-        "strc: the budget of 0 rules is spent; --rules sets another\nstrc: 0 rules, 1 steps, 1 shapes\n",
+        "strc: the budget of 0 rules is spent; --rules sets another\nstrc: 0 rules, 1 steps, 0 shapes\n",
     ),
     (
         "strc --rules 1 id.str",

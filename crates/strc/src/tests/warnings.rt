@@ -125,7 +125,7 @@ const RESULTS: &[(&str, &str, &str)] = &[
     (
         "strc --explain --stats",
         "strategies main = id f = id\n#term\n7",
-        "stdin:1:22: warning: f is never called\nstrc: 2 rules, 4 steps, 1 shapes\n",
+        "stdin:1:22: warning: f is never called\nstrc: 2 rules, 4 steps, 0 shapes\n",
     ),
     (
         "strc --explain",
