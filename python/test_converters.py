@@ -4,7 +4,8 @@
 Files of Python's standard library are converted to terms and back: 150 of them, or with --all each one, which takes a minute or two. Files
 that are no programs, and those whose terms do not fit, are counted, and the latter are listed. JSON, S-expressions and bad input are
 tested by samples. If the environment variable STRC names the program, the programs of python/examples run and their outputs are compared,
-and terms of samples are read and written by strc as they are by `aterm.py`.
+and terms of samples are read and written by strc as they are by `aterm.py`. If OLD_PYTHON names a Python before 3.10, each converter is run
+with that, too, and has to say that it is too old.
 """
 
 import argparse
@@ -24,20 +25,16 @@ HERE = Path(__file__).resolve().parent
 sys.path.insert(0, str(HERE))
 
 import aterm  # noqa: E402
-import aterm_to_json  # noqa: E402
-import aterm_to_python  # noqa: E402
-import command  # noqa: E402
-import json_to_aterm  # noqa: E402
-import python_kinds  # noqa: E402
-import python_to_aterm  # noqa: E402
-import sexp_to_aterm  # noqa: E402
+from converters import aterm_to_json, aterm_to_python, command, json_to_aterm  # noqa: E402
+from converters import python_kinds, python_signature, python_to_aterm, sexp_to_aterm  # noqa: E402
 
 EXAMPLES = HERE / "examples"
 LIBRARY = Path(sysconfig.get_paths()["stdlib"])
 STRC = os.environ.get("STRC") or None
+OLD = os.environ.get("OLD_PYTHON") or None
 SAMPLE = 150
 TAKES_ALL = "--all" in sys.argv
-sys.set_int_max_str_digits(0)
+command.allow_long_integers()
 SAMPLES = [
     b"7",
     b'f(1,"g"(a),(),[(b),[]]){c{d},"e"}',
@@ -97,9 +94,14 @@ class Refusals(unittest.TestCase):
             sys.setrecursionlimit(limit)
 
     def refused_apart(self, converter, text):
-        status, output, complaint = run(converter.__name__, text)
+        name = converter.__name__.partition(".")[2]
+        status, output, complaint = run(name, text)
         self.assertEqual((status, output), (2, b""), text[:40])
-        self.assertRegex(complaint, rf"^{converter.__name__}\.py: stdin:.*\n$")
+        self.assertRegex(complaint, rf"^{name}\.py: stdin:.*\n$")
+
+    def complains(self, converter, text, complaint):
+        """That the input ends with this message and with status 2."""
+        self.assertEqual(run(converter, text), (2, b"", f"{converter}.py: stdin:{complaint}\n"))
 
 
 # ---- terms
@@ -236,9 +238,26 @@ class Python(Refusals):
 
     def test_clauses_and_patterns(self):
         self.kept("def f(a, /, b: int = 1, *c, d, e=2, **g) -> 'h': return lambda *, i=1: {**j, 1: 2}")
-        self.kept("try: pass\nexcept* (A, B) as e: raise e from None\nelse: pass\nfinally: pass")
+        star = "*" if sys.version_info >= (3, 11) else ""
+        self.kept(f"try: pass\nexcept{star} (A, B) as e: raise e from None\nelse: pass\nfinally: pass")
         self.kept("match a:\n case {'b': 1, **c} | D(e, f=-2) | [1, *_, None] if g: pass\n case 'h' | i.j as k: pass\n case _: pass")
         self.kept("f'{a!r:>{b}} {{}} {c}'\nasync def f():\n  async with a as b: return await c\nfrom .. import d as e, f")
+
+    def test_no_type_parameters(self):
+        text = self.kept("def f(): pass\nasync def g(): pass\nclass A: pass")
+        parameters = "arguments([],[],None,[],[],None,[])"
+        functions = [f'{kind}("{name}",{parameters},[Pass],[],None)' for kind, name in (("FunctionDef", "f"), ("AsyncFunctionDef", "g"))]
+        self.assertEqual(text, f'Module([{",".join(functions)},ClassDef("A",[],[],[Pass],[])],[])')
+
+    @unittest.skipIf(sys.version_info < (3, 12), "this Python has no type parameters")
+    def test_type_parameters(self):
+        text = self.kept("def f[T: int, *U, **V](): pass\nasync def g[T](): pass\nclass A[T]: pass\ntype B[T] = A[T]\ntype C = int")
+        self.assertIn('[Pass],[],None,[TypeVar("T",Name("int")),TypeVarTuple("U"),ParamSpec("V")])', text)
+        self.assertIn('ClassDef("A",[],[],[Pass],[],[TypeVar("T",None)])', text)
+        self.assertIn('TypeAlias(Name("C"),[],Name("int"))', text)
+        self.assertEqual(run("aterm_to_python", b'ClassDef("A",[],[],[Pass],[],[])')[:2], (0, b"class A:\n    pass\n"))
+        if sys.version_info >= (3, 13):
+            self.assertIn('TypeVar("T",None,Name("int"))', self.kept("class A[T = int]: pass"))
 
     def test_positions(self):
         term = python_to_aterm.term_of(ast.parse("é = f(\n x)"), has_positions=True)
@@ -283,6 +302,42 @@ class Python(Refusals):
             self.refused(aterm_to_python, text)
         self.refused_apart(aterm_to_python, b"f(")
         self.refused_apart(aterm_to_python, b"7")
+
+
+    def test_messages(self):
+        for text, complaint in [
+            (b'BinOp(Constant(1,None),"*",Name("x"))', ' in BinOp, part op: "*" is not of the sort operator; write Mult()'),
+            (b'BinOp(Name("x"),Mul,Name("x"))', " in BinOp, part op: Mul is not of the sort operator; did you mean Mult()?"),
+            (b'UnaryOp("-",Name("x"))', ' in UnaryOp, part op: "-" is not of the sort unaryop; write USub()'),
+            (b'BoolOp(7,[Name("x")])', " in BoolOp, part op: 7 is not of the sort boolop; write one of And(), Or()"),
+            (b"Return(1)", " in Return, part value: 1 is not of the sort expr; write Constant(1,None)"),
+            (b'[Name("x")]', ' Name("x") is not of the sort stmt; write Expr(..) around an expression'),
+            (b'Import(["a"])', ' in Import, part names: "a" is not of the sort alias; write alias(name, asname)'),
+            (b'Call(Name("f"),Name("x"),[])', ' in Call, part args: Name("x") is not a list; write [Name("x")]'),
+            (b'Call(Name("f"),None,[])', " in Call, part args: None is not a list; write []"),
+            (b'Global([Name("x")])', ' in Global, part names: Name("x") is not a string'),
+            (b"If(1)", " If(1) has 1 part; If has 3: test, body, orelse"),
+            (b"Expr(Yield(1,2))", " in Expr, part value: Yield(1,2) has 2 parts; Yield has 1: value"),
+            (b"Pass(1)", " Pass(1) has 1 part; Pass has none"),
+        ]:
+            self.complains("aterm_to_python", text, complaint)
+
+    def test_signature(self):
+        status, output, complaint = run("python_to_aterm", b"", "--signature")
+        self.assertEqual((status, output, complaint), (0, python_signature.signature().encode(), ""))
+
+    @unittest.skipIf(STRC is None, "STRC does not name the program")
+    def test_signature_with_strc(self):
+        rules = "rules\n  swap : BinOp(x, Add(), y) -> BinOp(y, Add(), x)\nstrategies\n  main = topdown(try(swap))\n"
+        with tempfile.TemporaryDirectory() as folder:
+            definitions = Path(folder) / "swap.str"
+            definitions.write_text(python_signature.signature() + rules, encoding="utf-8")
+            checked = subprocess.run([STRC, "--check", definitions], capture_output=True, timeout=60, check=False)
+            self.assertEqual((checked.returncode, checked.stdout, checked.stderr), (0, b"", b""))
+            for path in [HERE / "test_converters.py", *library()[:20]]:
+                term = run("python_to_aterm", path.read_bytes(), "--positions")[1]
+                self.assertEqual(strc(definitions, term, "--strict")[:7], b"Module(", path)
+            self.assertEqual(strc(definitions, b"Foo", "--strict"), b"#refused TermUndeclared\n")
 
 
 # ---- JSON
@@ -336,6 +391,16 @@ class Json(Refusals):
             self.refused(aterm_to_json, text)
         self.refused_apart(aterm_to_json, b"f")
 
+    def test_messages(self):
+        values = 'write an integer, a string, a list, Object([..]), Number(".."), True, False or Null'
+        for text, complaint in [
+            (b'[1,Object([("a",f)])]', f' in Object, member "a": f is not a value of JSON; {values}'),
+            (b'Object([("a",[1,f])])', f" in a list, element 2: f is not a value of JSON; {values}"),
+            (b'[Number("01")]', ' in a list, element 1: "01" is not the text of a number of JSON'),
+        ]:
+            self.complains("aterm_to_json", text, complaint)
+        self.complains("json_to_aterm", b"\n", " the input is empty: expected a value of JSON")
+
 
 UNINDENTED = argparse.Namespace(indent=None)
 
@@ -387,7 +452,7 @@ WORDS = r'[UNEXPECTED("x"),UNEXPECTED("\n"),UNEXPECTED("\'"),UNEXPECTED("255")]'
 # ---- command lines and examples
 
 
-class CommandLines(unittest.TestCase):
+class CommandLines(Refusals):
     CONVERTERS = ["python_to_aterm", "aterm_to_python", "json_to_aterm", "aterm_to_json", "sexp_to_aterm"]
 
     def test_help_and_faults(self):
@@ -396,6 +461,30 @@ class CommandLines(unittest.TestCase):
             self.assertEqual(run(converter, b"", "--unknown")[0], 2)
             status, output, complaint = run(converter, b"", "no such file")
             self.assertEqual((status, output, complaint), (2, b"", f"{converter}.py: no such file: No such file or directory\n"))
+
+    def test_lines_that_are_no_terms(self):
+        for converter in ("aterm_to_python", "aterm_to_json"):
+            for line in ("#failed", "#spent", "#oversize", "#refused UnknownStrategy"):
+                self.complains(converter, line.encode() + b"\n", f"1:1: `{line}` is a line that strc writes, not a term")
+            self.complains(converter, b"1\n#term\n2", "2:1: `#term` is not a term: no line of a term begins with `#`")
+            self.complains(converter, b" \n", " the input is empty: expected a term")
+
+    def test_old_versions(self):
+        """The beginning of each converter, which is all that an old version may need to read, with such a version in its place."""
+        for converter in self.CONVERTERS:
+            lines = (HERE / f"{converter}.py").read_text(encoding="utf-8")
+            self.assertNotIn("f\"", lines)
+            old = f"import sys; sys.version_info = (3, 9, 1)\n{lines}"
+            done = subprocess.run([sys.executable, "-c", old], capture_output=True, timeout=60, check=False)
+            complaint = f"{converter}.py: Python 3.10 or later is needed, and this is Python 3.9\n"
+            self.assertEqual((done.returncode, done.stdout, done.stderr.decode()), (2, b"", complaint))
+
+    @unittest.skipIf(not OLD, "the environment variable OLD_PYTHON does not name an old version of Python")
+    def test_old_version(self):
+        for converter in self.CONVERTERS:
+            done = subprocess.run([OLD, HERE / f"{converter}.py"], capture_output=True, timeout=60, check=False)
+            self.assertEqual((done.returncode, done.stdout), (2, b""))
+            self.assertRegex(done.stderr.decode(), rf"^{converter}\.py: Python 3\.10 or later is needed, and this is Python \d+\.\d+\n$")
 
     def test_pairs(self):
         self.assertEqual(run("json_to_aterm", b"1", "--pair", "f( 2 )"), (0, b"(f(2),1)\n", ""))
@@ -412,10 +501,18 @@ class Examples(unittest.TestCase):
     def compare(self, file, output):
         self.assertEqual(output.decode(), (EXAMPLES / file).read_text(encoding="utf-8"))
 
+    def compare_python(self, file, term):
+        """That the term is that of a file. The text is compared under 3.11 or later: 3.10 writes more brackets."""
+        status, output, complaint = run("aterm_to_python", term)
+        self.assertEqual((status, complaint), (0, ""))
+        if sys.version_info >= (3, 11):
+            self.compare(file, output)
+        self.assertEqual(run("python_to_aterm", output)[1], self.term("python_to_aterm", file))
+
     def test_tidy(self):
         term = self.term("python_to_aterm", "tidy.input.py")
-        self.compare("tidy.output.py", run("aterm_to_python", strc(EXAMPLES / "tidy.str", term))[1])
-        self.compare("tidy.careful.py", run("aterm_to_python", strc(EXAMPLES / "tidy.str", term, "--main", "careful"))[1])
+        self.compare_python("tidy.output.py", strc(EXAMPLES / "tidy.str", term))
+        self.compare_python("tidy.careful.py", strc(EXAMPLES / "tidy.str", term, "--main", "careful"))
 
     def test_tidy_again(self):
         term = self.term("python_to_aterm", "tidy.output.py")
@@ -423,13 +520,24 @@ class Examples(unittest.TestCase):
 
     def test_rename_local(self):
         term = self.term("python_to_aterm", "rename_local.input.py", "--pair", 'Rename("area","w","breadth")')
-        self.compare("rename_local.output.py", run("aterm_to_python", strc(EXAMPLES / "rename_local.str", term))[1])
+        self.compare_python("rename_local.output.py", strc(EXAMPLES / "rename_local.str", term))
 
     def test_refusals(self):
         for line in (EXAMPLES / "rename_local.refusals").read_text(encoding="utf-8").splitlines():
             task, answer = line.split(" => ")
             term = self.term("python_to_aterm", "rename_local.input.py", "--pair", task)
             self.assertEqual(strc(EXAMPLES / "rename_local.str", term).decode(), answer + "\n", task)
+
+    def test_type_parameters(self):
+        """That what has type parameters is not renamed in. The terms are those of Python 3.12 or later."""
+        parameters, name = "arguments([],[],None,[],[],None,[])", '[Assign([Name("x")],Name("T"))]'
+        inner = [f'{kind}("g",{parameters},{name},[],None,[TypeVar("T",None)])' for kind in ("FunctionDef", "AsyncFunctionDef")]
+        inner += [f'ClassDef("g",[],[],{name},[],[TypeVar("T",None)])', 'TypeAlias(Name("g"),[],Name("x"))']
+        for each in inner:
+            program = f'Module([FunctionDef("f",{parameters},[{each},Assign([Name("x")],Name("a"))],[],None)],[])'
+            for function, around in (("f", program), ("g", f"Module([{each}],[])")):
+                term = f'(Rename("{function}","x","y"),{around})'.encode()
+                self.assertEqual(strc(EXAMPLES / "rename_local.str", term), b'Refused(IsGeneric("g"))\n')
 
     def test_settings(self):
         defaults = self.term("json_to_aterm", "settings.defaults.json").decode()

@@ -12,6 +12,8 @@ from pathlib import Path
 
 import aterm
 
+RESULTS = ("#failed", "#spent", "#oversize", "#refused")
+LINE = re.compile(rb"^#[^\r\n]*", re.MULTILINE)  # no line of a term begins with this mark
 FRAMES = 20_000  # enough for terms of depth 1,000, and for the trees that Python's parser makes, which have at most about 3,000 levels
 PLACED = re.compile(r"\d+:\d+: ")  # the beginning of a message that has a line and a column
 
@@ -23,6 +25,24 @@ class Fault(Exception):
 def allow_deep_calls():
     """Lets functions call each other as deeply as terms need. Until then, Python's usual limit keeps its parser from using up the stack."""
     sys.setrecursionlimit(FRAMES)
+
+
+def allow_long_integers():
+    """Lets integers be as long as they are. Versions of Python before 3.10.7 do so anyway."""
+    if hasattr(sys, "set_int_max_str_digits"):
+        sys.set_int_max_str_digits(0)
+
+
+class Print(argparse.Action):
+    """An option that prints what the function `text` returns, and ends, as --help does."""
+
+    def __init__(self, option_strings, dest, text, help):
+        super().__init__(option_strings, dest, nargs=0, help=help)
+        self.text = text
+
+    def __call__(self, parser, *_):
+        sys.stdout.write(self.text())
+        parser.exit()
 
 
 def parser_of(description):
@@ -39,6 +59,22 @@ def add_pair(parser):
 
 def read_input(file):
     return sys.stdin.buffer.read() if file == "-" else Path(file).read_bytes()
+
+
+def term_of(text):
+    """The term of an input, with messages of their own for an empty input, and for a line that strc prints in place of a term."""
+    if not text.strip(b" \t\r\n"):
+        raise Fault("the input is empty: expected a term")
+    try:
+        return aterm.read(text)
+    except aterm.TermError:
+        found = LINE.search(text)
+        if found is None:
+            raise
+    line = found[0].decode("utf-8", "replace")
+    what = "a line that strc writes, not a term" if line.split()[0] in RESULTS else "not a term: no line of a term begins with `#`"
+    number = text.count(b"\n", 0, found.start()) + 1
+    raise Fault(f"{number}:1: `{line[:60]}` is {what}")
 
 
 def name_of(file):

@@ -5,6 +5,16 @@ import re
 from dataclasses import dataclass
 
 DROPPED = {"ctx", "type_comment"}  # the place of a node says its context; type comments are comments
+# What a later version of Python has added at the end of a kind. A term has such a part only if it is not empty, so that a program without
+# type parameters has the same term under each version.
+LATER = {
+    ("FunctionDef", "type_params"),
+    ("AsyncFunctionDef", "type_params"),
+    ("ClassDef", "type_params"),
+    ("TypeVar", "default_value"),
+    ("ParamSpec", "default_value"),
+    ("TypeVarTuple", "default_value"),
+}
 HOLES = {("Dict", "keys"), ("arguments", "kw_defaults")}  # lists in which None stands for what is absent
 FIELD = re.compile(r"(\w+)([*?]*) (\w+)")
 
@@ -15,6 +25,7 @@ class Field:
     sort: str  # identifier, string, int, constant, or a class of `ast`
     is_list: bool
     may_be_absent: bool  # the field, or an element of the list
+    is_later: bool  # left out if it is empty or absent
 
 
 def kinds():
@@ -26,9 +37,18 @@ def kinds():
 def fields(kind):
     """The fields of a kind that are parts of its term, in order."""
     name = kind.__name__
-    found = [Field(it[3], it[1], "*" in it[2], "?" in it[2] or (name, it[3]) in HOLES) for it in FIELD.finditer(kind.__doc__)]
-    return [it for it in found if it.name not in DROPPED]
+    found = [it.groups() for it in FIELD.finditer(kind.__doc__) if it[3] not in DROPPED]
+    return [
+        Field(field, sort, "*" in marks, "?" in marks or (name, field) in HOLES, (name, field) in LATER) for sort, marks, field in found
+    ]
+
+
+def kinds_of(sort):
+    """The names of the kinds that belong to a class of `ast`, in the order of the alphabet."""
+    return sorted(name for name, kind in KINDS.items() if issubclass(kind, getattr(ast, sort)))
 
 
 KINDS = kinds()
 FIELDS = {name: fields(kind) for name, kind in KINDS.items()}
+# The parts that each term of a kind has, which are all fields but the later ones.
+LEAST = {name: [it for it in found if not it.is_later] for name, found in FIELDS.items()}
