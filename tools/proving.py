@@ -1,7 +1,7 @@
 """Proves a crate and those below it with the kit, several crates at a time: for tools/install.
 
-`rt` lets only one command at a time use a library of a checkout. So each crate is proved in a tree of its own below one folder: a copy of it and
-of what it stands on, with the libraries as they were built in their own trees. The trees stay there with what `rt` keeps in them.
+`rt` lets only one command at a time use a library of a checkout. So each crate is proved in a tree of its own below one directory: a copy of it and
+of what it depends on, with the libraries as they were built in their own trees. The trees stay there with what `rt` keeps in them.
 """
 
 import contextlib
@@ -23,7 +23,7 @@ PARTS = ["src", "specs", "proofs"]
 LANE, JOB, DISK, MOST = 4 * GIB, 2 * GIB, 10 * GIB, 8
 LAST_LINES = 15
 NO_KIT = """tools/install: the command rt is not on PATH. It belongs to the Rattle kit, which proves and builds strc: unpack the kit, and add
-its folder bin/, where rt is, to PATH. `rt version` prints the name of a kit, and README.md has the name of the one that strc was proved with."""
+its directory bin/, which has rt, to PATH. `rt version` prints the name of a kit, and README.md has the name of the one that strc was proved with."""
 
 
 def stop(why):
@@ -46,14 +46,14 @@ def counted(number, word):
 
 
 def read_crates():
-    """The line of each crate in crates.txt, and the crates that it stands on."""
+    """The line of each crate in crates.txt, and the crates that it depends on."""
     rows = [line.partition("#")[0].strip() for line in (ROOT / "crates.txt").read_text(encoding="utf-8").splitlines()]
     lines = {row.partition(":")[0].split()[0]: row for row in rows if row}
     return lines, {name: [it for it in row.partition(":")[2].split() if it in lines] for name, row in lines.items()}
 
 
 def with_below(crate, uses):
-    """The crate and all that it stands on, each after those that it stands on itself."""
+    """The crate and all that it depends on, each after those that it depends on itself."""
     found = []
     for name in uses[crate]:
         found += [it for it in with_below(name, uses) if it not in found]
@@ -61,7 +61,7 @@ def with_below(crate, uses):
 
 
 def ways(order, uses):
-    """How much work lies between the beginning of each crate and the end of the last one. A crate counts by the bytes of its source, which are
+    """How much work is between the beginning of each crate and the end of the last one. A crate counts by the bytes of its source, which are
     nearly in proportion to the time that its proof takes."""
     found = {}
     for name in reversed(order):
@@ -71,7 +71,7 @@ def ways(order, uses):
 
 
 def replace(folder, source):
-    """Puts a copy of a folder in the place of another. It is made of links: `rt` changes no source, and no file of a built library."""
+    """Puts a copy of a directory in the place of another. It is made of links: `rt` changes no source, and no file of a built library."""
 
     def link_or_copy(one, other):
         try:
@@ -85,7 +85,7 @@ def replace(folder, source):
 
 
 class Trees:
-    """The trees below a folder, and the commands that work in them."""
+    """The trees below a directory, and the commands that work in them."""
 
     def __init__(self, top, goal):
         self.top, self.running = top, {}
@@ -227,8 +227,8 @@ def shares(asked):
 
 @contextlib.contextmanager
 def alone_in(work):
-    """Makes the folder of the trees. Stops if another call works there, or if the disk is too small."""
-    other = "name another folder with --work"
+    """Makes the directory of the trees. Stops if another call works there, or if the disk is too small."""
+    other = "name another directory with --work"
     try:
         work.mkdir(parents=True, exist_ok=True)
         lock = open(work / "lock", "w", encoding="utf-8")
