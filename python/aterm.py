@@ -42,7 +42,7 @@ STEPS = {b",": 0, **dict.fromkeys(CLOSING, 1), **dict.fromkeys(CLOSING.values(),
 
 
 class TermError(ValueError):
-    """What is wrong with a text or with a term, for people."""
+    """What is wrong with a text or with a term, as a message."""
 
 
 @dataclass(slots=True)
@@ -77,7 +77,7 @@ def pair(first, second):
 
 
 def symbol(name, parts=()):
-    """The application of a plain name where the string is one, and otherwise of a quoted text."""
+    """The application of a plain name if the string is one, and otherwise of a quoted text."""
     return Application(name, parts) if NAME.fullmatch(name) else Text(name.encode("utf-8", "surrogatepass"), parts)
 
 
@@ -106,7 +106,7 @@ def shown(term):
 
 
 def read(text):
-    """The term that the bytes spell; a TermError with line and column where they spell none."""
+    """The term that the bytes spell; a TermError with line and column if they spell none."""
     if len(text) > LONGEST:
         raise TermError(f"the text has {len(text)} bytes; the most is {LONGEST}")
     return Reader(text).term()

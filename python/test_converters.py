@@ -112,7 +112,7 @@ class Terms(unittest.TestCase):
         for text in SAMPLES:
             self.assertEqual(aterm.write(aterm.read(text)), text)
 
-    def test_blanks_and_empty_lists_are_not_written(self):
+    def test_whitespace_and_empty_lists_are_not_written(self):
         self.assertEqual(aterm.write(aterm.read(b' f ( 1 , a-1+b\t, "g"( ) { } ) { 007 }\r\n')), b'f(1,a-1+b,"g"){7}')
         self.assertEqual(aterm.write(aterm.read(b"-" + b"0" * 5000)), b"0")
 

@@ -3,7 +3,7 @@
 The term is a Module, a list of statements, a statement or an expression. Annotations are ignored. The text is that of `ast.unparse`, with
 these additions:
 
-    a Name, Attribute, Subscript, Starred, List or Tuple is set where it is the target of an assignment, a loop, a `with`, a comprehension,
+    a Name, Attribute, Subscript, Starred, List or Tuple is set if it is the target of an assignment, a loop, a `with`, a comprehension,
     a `:=` or a `type` statement, deleted in a `del`, and read everywhere else;
     a Constant with a number below 0 is the negation of a constant, since literals have no sign: (-1) ** 2 keeps its brackets.
 

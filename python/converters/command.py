@@ -1,7 +1,7 @@
 """What the converters have in common: the command line, reading, writing, and how faults are reported.
 
 A converter reads a file or standard input, and writes to standard output. The status is 0, or 2 if the command line or the input is wrong
-or something cannot be read or written; standard error then says what and, where that is known, at which line and column.
+or something cannot be read or written; standard error then says what and, if that is known, at which line and column.
 """
 
 import argparse
@@ -19,7 +19,7 @@ PLACED = re.compile(r"\d+:\d+: ")  # the beginning of a message that has a line 
 
 
 class Fault(Exception):
-    """What is wrong with an input, for people."""
+    """What is wrong with an input, as a message."""
 
 
 def allow_deep_calls():
@@ -53,7 +53,7 @@ def parser_of(description):
 
 
 def add_pair(parser):
-    """The option of converters to terms that puts another term in front of the result."""
+    """The option of converters to terms that puts another term before the result."""
     parser.add_argument("--pair", metavar="TERM", help="print the pair of this term, which is ATerm text, and the term of the input")
 
 

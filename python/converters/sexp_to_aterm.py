@@ -31,7 +31,7 @@ TOKEN = re.compile(
     )""",
     re.VERBOSE | re.DOTALL,
 )
-BLANKS = re.compile(r"\s*")
+SPACE = re.compile(r"\s*")
 
 
 @dataclass
@@ -84,7 +84,7 @@ class Reader:
 
     def field(self, token):
         if not self.opened:
-            self.fault("a field stands in a node")
+            self.fault("a field must be in a node")
         self.field_name = token["field"]
 
     def position(self, token):
@@ -130,7 +130,7 @@ class Reader:
         return b"\n".join([lines[0][column:], *lines[1:]])
 
     def fault(self, message):
-        begin = BLANKS.match(self.text, self.place).end()
+        begin = SPACE.match(self.text, self.place).end()
         line = self.text.count("\n", 0, begin) + 1
         column = begin - self.text.rfind("\n", 0, begin)
         raise command.Fault(f"{line}:{column}: {message}")
