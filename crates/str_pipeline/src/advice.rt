@@ -13,6 +13,18 @@ pub enum Advice {
     DynamicRules,
     ConcreteSyntax,
     AppliedInMatch,
+    /// Terms are compared by `<`.
+    Less,
+    /// Terms are compared by `>`.
+    Greater,
+    /// Terms are compared by `<=`.
+    AtMost,
+    /// Terms are compared by `>=`.
+    AtLeast,
+    /// Terms are compared by `==`.
+    Equality,
+    /// Terms are compared by `!=`.
+    Inequality,
     /// The term is missing to which a strategy between `<` and `>` is applied.
     MissingOperand,
     /// A wildcard stands where a strategy is expected.
@@ -42,6 +54,15 @@ pub enum Advice {
 }
 
 impl Advice {
+    /// The name of the primitive with two arguments that the advice needs, if it needs one.
+    pub fn primitive(self) -> Option<&'static str> {
+        match self {
+            Advice::Less | Advice::Greater | Advice::AtMost | Advice::AtLeast => Some("less"),
+            Advice::Interpolation => Some("concat"),
+            _ => None,
+        }
+    }
+
     /// Returns the advice in words, a part of a sentence without a full stop.
     pub fn words(self) -> &'static str {
         match self {
@@ -62,6 +83,18 @@ impl Advice {
             Advice::AppliedInMatch => {
                 "a match has no '<..>'; match a variable x, and write where(<s> x => p)"
             }
+            Advice::Less => { "a comparison is a strategy: for x < y write prim(\"less\", x, y)" }
+            Advice::Greater => {
+                "a comparison is a strategy: for x > y write prim(\"less\", y, x)"
+            }
+            Advice::AtMost => {
+                "a comparison is a strategy: for x <= y write not(prim(\"less\", y, x))"
+            }
+            Advice::AtLeast => {
+                "a comparison is a strategy: for x >= y write not(prim(\"less\", x, y))"
+            }
+            Advice::Equality => "a comparison is a strategy: for x == y write !x => y",
+            Advice::Inequality => "a comparison is a strategy: for x != y write not(!x => y)",
             Advice::MissingOperand => "'<s>' applies s to a term: write <s> p => q, or s => q",
             Advice::WildcardAsStrategy =>
                 "'_' is a pattern; a strategy that succeeds on each term is id",

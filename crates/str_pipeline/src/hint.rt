@@ -1,7 +1,9 @@
 //! What was probably meant where a text is refused, in words.
 
 use crate::advice::Advice;
+use crate::context::Context;
 use crate::explanation::{NamedLine, Position};
+use crate::operations::Operation;
 use crate::shown::Shown;
 use std::fmt;
 
@@ -28,6 +30,21 @@ pub enum Hint {
     },
     /// A keyword stands where a name is expected.
     KeywordAsName(Shown),
+    /// A primitive does what the operator there does in other languages.
+    Operation {
+        operation: Operation,
+        context: Context,
+    },
+    /// The primitive with this name, in quotes, is called in a build.
+    PrimitiveInBuild {
+        name: Shown,
+        context: Context,
+    },
+    /// A term stands among the strategies of a call of this name. The definition has terms and, maybe, strategies.
+    TermsAfterBar {
+        name: Shown,
+        has_strategies: bool,
+    },
     /// What is known of the name.
     OnName(NameHint),
 }
@@ -66,6 +83,15 @@ impl Hint {
         match self {
             Hint::TakenAsOperand { line, .. } | Hint::JoinedByOperator { line, .. } => Some(*line),
             Hint::NeverClosed { place, .. } => Some(place.line),
+            _ => None,
+        }
+    }
+
+    /// The name of the primitive with two arguments that the hint needs, if it needs one that is not named at the place itself.
+    pub fn primitive(&self) -> Option<&'static str> {
+        match self {
+            Hint::Advice(advice) => advice.primitive(),
+            Hint::Operation { operation, .. } => Some(operation.primitive()),
             _ => None,
         }
     }
@@ -114,6 +140,22 @@ impl fmt::Display for HintOnLine<'_> {
                 write!(f, "the '{shown}' on {line}, column {column} is not closed")
             }
             Hint::KeywordAsName(word) => write!(f, "'{word}' is a keyword and cannot be a name"),
+            Hint::Operation { operation, context } => {
+                let (words, primitive) = (operation.words(), operation.primitive());
+                let (open, close) = context.around_strategy();
+                write!(f, "{words} with {open}prim(\"{primitive}\", x, y){close}")
+            }
+            Hint::PrimitiveInBuild { name, context } => {
+                let (open, close) = context.around_strategy();
+                write!(f, "in a build, write {open}prim({name}, ..){close}")
+            }
+            Hint::TermsAfterBar {
+                name,
+                has_strategies,
+            } => {
+                let strategies = if *has_strategies { ".. " } else { "" };
+                write!(f, "terms come after a bar: {name}({strategies}| ..)")
+            }
             Hint::OnName(hint) => write!(f, "{hint}"),
         }
     }

@@ -221,7 +221,7 @@ impl RunNotes {
             Fault::Lexical { at } => {
                 let (before, after) = (text_before(text, *at), text_after(text, *at));
                 self.keep(text, *at, no_token_reason(before, after));
-                self.hint = lexical_hint(before, after);
+                self.hint = known(lexical_hint(alloc, before, after), primitives);
             }
             Fault::ReservedWord { at } => {
                 let after = text_after(text, *at);
@@ -232,7 +232,8 @@ impl RunNotes {
                 let wanted = found.expected.map(Wanted::InDefinitions);
                 let rest = text_after(text, *at);
                 self.keep(text, *at, syntax_reason(Subject::Definitions, rest, wanted));
-                self.hint = syntax_hint(alloc, text, index_of(*at), found.expected);
+                let hint = syntax_hint(alloc, text, index_of(*at), found.expected);
+                self.hint = known(hint, primitives);
             }
             Fault::Nesting { at } => {
                 self.keep(text, *at, Reason::NestedTooDeeply);
@@ -342,6 +343,15 @@ impl RunNotes {
         };
         self.reason = Some(reason);
         self.place = Some(Excerpt::new(text, at));
+    }
+}
+
+// The hint, unless it needs a primitive that there is not.
+fn known(hint: Option<Hint>, primitives: &PrimNames) -> Option<Hint> {
+    let hint = hint?;
+    match hint.primitive() {
+        Some(name) if !primitives.has(name.as_bytes(), 2) => None,
+        _ => Some(hint),
     }
 }
 

@@ -99,8 +99,8 @@ fn led_by(tokens: &[Token], index: usize, named: usize) -> Option<usize> {
     }
 }
 
-// Whether the colon at an index is that of a scope, as in `{x, y: s}`.
-fn is_of_scope(tokens: &[Token], colon: usize) -> bool {
+/// Whether the colon at an index is that of a scope, as in `{x, y: s}`.
+pub(crate) fn is_of_scope(tokens: &[Token], colon: usize) -> bool {
     match colon.checked_sub(2).and_then(|index| tokens.get(index)) {
         Some(token) => is_mark(token, Mark::OpenBrace) || is_mark(token, Mark::Comma),
         None => false,

@@ -259,8 +259,10 @@ pub(crate) fn no_token_reason(before: &[u8], text: &[u8]) -> Reason {
     if text.starts_with(b"\xEF\xBB\xBF") {
         return Reason::ByteOrderMark;
     }
-    match text.first() {
-        Some(byte) if is_digit_byte(*byte) || *byte == b'-' => Reason::IntegerOutOfRange,
+    match text {
+        [b'-', next, ..] if is_digit_byte(*next) => Reason::IntegerOutOfRange,
+        [b'-', ..] => Reason::NoToken(Shown::new(b"-")),
+        [byte, ..] if is_digit_byte(*byte) => Reason::IntegerOutOfRange,
         _ => Reason::NoToken(token_of(Subject::Definitions, text)),
     }
 }

@@ -1,7 +1,10 @@
 //! What was probably meant where the tokens of definitions are no phrase.
 
 use crate::advice::Advice;
+use crate::comparisons::comparison;
+use crate::context::{Role, closes, context_at, opens};
 use crate::hint::Hint;
+use crate::operations::{Operation, infix_hint, negative_hint, plus_hint};
 use crate::phrases::{is_keyword, is_mark, is_name};
 use crate::pieces::{piece, position_in};
 use crate::shown::Shown;
@@ -24,19 +27,22 @@ pub(crate) fn syntax_hint(
         index,
         expected,
     };
+    if let Some(advice) = comparison(&site) {
+        return Some(Hint::Advice(advice));
+    }
     match site.token_hint() {
         Some(hint) => Some(hint),
         None => site.bracket_hint(alloc).ok()?,
     }
 }
 
-// The tokens of a text, the index of the first one with which no phrase goes on, and what would go on there.
+/// The tokens of a text, the index of the first one with which no phrase goes on, and what would go on there.
 #[derive(Clone, Copy)]
-struct Site<'a> {
-    text: &'a [u8],
-    tokens: &'a [Token],
-    index: usize,
-    expected: Option<Expected>,
+pub(crate) struct Site<'a> {
+    pub(crate) text: &'a [u8],
+    pub(crate) tokens: &'a [Token],
+    pub(crate) index: usize,
+    pub(crate) expected: Option<Expected>,
 }
 
 impl<'a> Site<'a> {
@@ -53,16 +59,84 @@ impl<'a> Site<'a> {
                 Some(Hint::Advice(Advice::SectionWord))
             }
             _ if self.index == 0 => Some(Hint::Advice(Advice::NoDefinitions)),
+            TokenKind::Integer(_) | TokenKind::Quoted(_) => self.literal_hint(),
             _ => None,
         }
+    }
+
+    // What an integer or a text at fault tells.
+    fn literal_hint(&self) -> Option<Hint> {
+        if self.expected == Some(Expected::Strategy) {
+            self.bar_hint()
+        } else {
+            negative_hint(self)
+        }
+    }
+
+    // What a term among the strategies of a call tells, if definitions of that name have terms.
+    fn bar_hint(&self) -> Option<Hint> {
+        let name = self.name_around()?;
+        let last = self.index.checked_sub(1)?;
+        let is_argument = last == name.saturating_add(1) || self.has_mark(last, Mark::Comma);
+        let is_inside = (name.saturating_add(2)..last).any(|index| self.opens_other(index));
+        if !is_argument || is_inside {
+            return None;
+        }
+        Some(Hint::TermsAfterBar {
+            name: self.shown(name),
+            has_strategies: self.has_strategies(name)?,
+        })
+    }
+
+    // Whether a bracket that is no parenthesis opens at an index.
+    fn opens_other(&self, index: usize) -> bool {
+        match self.tokens.get(index) {
+            Some(token) => opens(token) && !is_mark(token, Mark::OpenParenthesis),
+            None => false,
+        }
+    }
+
+    // Whether the definitions of the name at an index that have terms have strategies, too, if they are alike in this.
+    fn has_strategies(&self, name: usize) -> Option<bool> {
+        let token = self.tokens.get(name)?;
+        let called = piece(self.text, token.from, token.to);
+        let mut found = None;
+        for (index, other) in self.tokens.iter().enumerate() {
+            let is_same = is_name(other) && piece(self.text, other.from, other.to) == called;
+            if !is_same || !self.is_head(index) {
+                continue;
+            }
+            let before = self.before_bar(index);
+            if found.is_some() && before.is_some() && found != before {
+                return None;
+            }
+            found = before.or(found);
+        }
+        found
+    }
+
+    // Whether there are names in front of the bar among the parameters of the definition whose name is at an index.
+    fn before_bar(&self, name: usize) -> Option<bool> {
+        let first = name.saturating_add(2);
+        for index in first..self.tokens.len() {
+            let token = self.tokens.get(index)?;
+            if is_mark(token, Mark::Bar) {
+                return Some(index > first);
+            }
+            if !is_name(token) && !is_mark(token, Mark::Comma) {
+                return None;
+            }
+        }
+        None
     }
 
     // What a mark at fault tells.
     fn mark_hint(&self, mark: Mark) -> Option<Hint> {
         match mark {
             _ if self.index == 0 => Some(Hint::Advice(Advice::NoDefinitions)),
-            Mark::Plus => Some(Hint::Advice(Advice::LeftChoice)),
-            Mark::Colon if self.touches_next(Mark::Equals) => Some(Hint::Advice(
+            Mark::Plus => plus_hint(self),
+            Mark::Star => infix_hint(self, Operation::Product),
+            Mark::Colon if self.touches(self.index, Mark::Equals) => Some(Hint::Advice(
                 Advice::Assignment,
             )),
             Mark::Colon if self.is_in_parameters() => Some(Hint::Advice(Advice::TypedParameters)),
@@ -71,7 +145,7 @@ impl<'a> Site<'a> {
             Mark::OpenParenthesis if self.comes_after(Keyword::Rules) => {
                 Some(Hint::Advice(Advice::DynamicRules))
             }
-            Mark::Bar if self.touches_next(Mark::OpenBracket) => {
+            Mark::Bar if self.touches(self.index, Mark::OpenBracket) => {
                 Some(Hint::Advice(Advice::ConcreteSyntax))
             }
             Mark::Less if self.expected == Some(Expected::Pattern) => {
@@ -107,12 +181,34 @@ impl<'a> Site<'a> {
         if keyword == Keyword::Rules && is_called {
             return Some(Hint::Advice(Advice::DynamicRules));
         }
+        if keyword == Keyword::Prim && is_called && self.is_in_build() {
+            return self.primitive_hint();
+        }
         let is_defined = next.is_some_and(|next| is_mark(next, Mark::Equals)
             || is_mark(next, Mark::Colon));
         if is_defined || (is_wanted && !begins_section(keyword)) {
             return Some(Hint::KeywordAsName(self.shown(self.index)));
         }
         None
+    }
+
+    // Whether a pattern would go on there that is built.
+    fn is_in_build(&self) -> bool {
+        let context = context_at(self.tokens, self.index);
+        let is_built = context.is_some_and(|context| context.role == Role::Build);
+        is_built && self.expected == Some(Expected::Pattern)
+    }
+
+    // What the call of a primitive tells, of which the token at fault is the first.
+    fn primitive_hint(&self) -> Option<Hint> {
+        let name = self.index.saturating_add(2);
+        match &self.tokens.get(name)?.kind {
+            TokenKind::Quoted(_) => Some(Hint::PrimitiveInBuild {
+                name: self.shown(name),
+                context: context_at(self.tokens, self.index)?,
+            }),
+            _ => None,
+        }
     }
 
     // What it tells that the token at this index is the name of a definition, with the token in front of it.
@@ -143,8 +239,8 @@ impl<'a> Site<'a> {
         }
     }
 
-    // Whether the token at fault is among the parameters of a definition.
-    fn is_swallowed(&self) -> bool {
+    /// Whether the token at fault is among the parameters of a definition.
+    pub(crate) fn is_swallowed(&self) -> bool {
         self.name_around().is_some_and(|name| self.is_head(name))
     }
 
@@ -195,13 +291,35 @@ impl<'a> Site<'a> {
         is_among && self.name_in_front().is_some() && self.name_around().is_some()
     }
 
-    // Whether this mark follows the token at fault without a blank between them.
-    fn touches_next(&self, wanted: Mark) -> bool {
-        let next = self.index.saturating_add(1);
-        match (self.tokens.get(self.index), self.tokens.get(next)) {
+    /// The mark at an index.
+    pub(crate) fn mark_at(&self, index: usize) -> Option<Mark> {
+        match &self.tokens.get(index)?.kind {
+            TokenKind::Mark(mark) => Some(*mark),
+            _ => None,
+        }
+    }
+
+    // Whether this mark is at an index.
+    fn has_mark(&self, index: usize, wanted: Mark) -> bool {
+        self.mark_at(index) == Some(wanted)
+    }
+
+    /// Whether this mark follows the token at an index without a blank between them.
+    pub(crate) fn touches(&self, index: usize, wanted: Mark) -> bool {
+        let next = index.saturating_add(1);
+        match (self.tokens.get(index), self.tokens.get(next)) {
             (Some(token), Some(next)) => is_mark(next, wanted) && token.to == next.from,
             _ => false,
         }
+    }
+
+    /// Whether the token at fault comes after a name.
+    pub(crate) fn follows_name(&self) -> bool {
+        let before = self
+            .index
+            .checked_sub(1)
+            .and_then(|index| self.tokens.get(index));
+        before.is_some_and(|before| is_name(before))
     }
 
     // Whether the token at fault comes after this mark.
@@ -279,8 +397,8 @@ impl<'a> Site<'a> {
         }
     }
 
-    // Whether the name at an index is followed by what follows the name of a definition.
-    fn is_head(&self, name: usize) -> bool {
+    /// Whether the name at an index is followed by what follows the name of a definition.
+    pub(crate) fn is_head(&self, name: usize) -> bool {
         let mut depth: usize = 0;
         for token in self.tokens.iter().skip(name.saturating_add(1)) {
             if is_mark(token, Mark::OpenParenthesis) {
@@ -323,18 +441,4 @@ fn begins_section(keyword: Keyword) -> bool {
         keyword,
         Keyword::Signature | Keyword::Rules | Keyword::Strategies
     )
-}
-
-// Whether the token opens a bracket.
-fn opens(token: &Token) -> bool {
-    is_mark(token, Mark::OpenParenthesis)
-        || is_mark(token, Mark::OpenBracket)
-        || is_mark(token, Mark::OpenBrace)
-}
-
-// Whether the token closes a bracket.
-fn closes(token: &Token) -> bool {
-    is_mark(token, Mark::CloseParenthesis)
-        || is_mark(token, Mark::CloseBracket)
-        || is_mark(token, Mark::CloseBrace)
 }

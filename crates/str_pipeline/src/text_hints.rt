@@ -2,6 +2,8 @@
 
 use crate::advice::Advice;
 use crate::hint::Hint;
+use crate::operations::sign_hint;
+use std::alloc::Global;
 use term_model::bytes::{is_blank_byte, is_digit_byte};
 
 // What a run prints in place of a term.
@@ -23,7 +25,7 @@ const LEFT_OUT: &[(&str, Advice)] = &[
 ];
 
 /// What was probably meant by a text of definitions that begins no token where this part of it comes before, and this one after.
-pub(crate) fn lexical_hint(before: &[u8], after: &[u8]) -> Option<Hint> {
+pub(crate) fn lexical_hint(alloc: Global, before: &[u8], after: &[u8]) -> Option<Hint> {
     if begins_with_outcome(after) {
         return Some(Hint::Advice(Advice::Outcome));
     }
@@ -31,6 +33,7 @@ pub(crate) fn lexical_hint(before: &[u8], after: &[u8]) -> Option<Hint> {
         Some(b'#') if !after.starts_with(b"#term") => Some(Hint::Advice(Advice::Comment)),
         Some(b'$') => Some(Hint::Advice(Advice::Interpolation)),
         Some(b'\'') => Some(Hint::Advice(Advice::SingleQuotes)),
+        Some(b'-' | b'/') => sign_hint(alloc, before, after),
         _ => common_hint(before, after),
     }
 }
