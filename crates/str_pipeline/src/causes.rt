@@ -147,6 +147,21 @@ pub(crate) fn push_failure(
     }
 }
 
+/// That a call of the library fails, and what to call instead if its strategy may fail on a term.
+pub(crate) fn search_failure(listing: &Listing, call: Option<Phrase>) -> &'static [u8] {
+    let Some(call) = call else {
+        return b" fails".as_slice();
+    };
+    let text = listing.text_of(call);
+    if text.starts_with(b"bottomup(") {
+        return b" fails; bottomup(try(..)) keeps the terms on which its strategy fails".as_slice();
+    }
+    if text.starts_with(b"topdown(") {
+        return b" fails; topdown(try(..)) keeps the terms on which its strategy fails".as_slice();
+    }
+    b" fails".as_slice()
+}
+
 // Puts on the line that a `fail` is reached, or that a `not` fails.
 fn push_giving_up(listing: &Listing, leaf: &Leaf, line: &mut Vec<u8>) -> Result<(), AllocError> {
     let Some(phrase) = leaf.phrase else {

@@ -2,7 +2,9 @@
 ghost use Rattle.prim_registry.specs.Entries.{Covers, IsHonest};
 
 use crate::callers::{call_sites, callers_line, search_site};
-use crate::causes::{Leaf, is_negation, push_excess, push_failure, push_phrase, variables};
+use crate::causes::{
+    Leaf, is_negation, push_excess, push_failure, push_phrase, search_failure, variables,
+};
 use crate::checking::findings_in;
 use crate::explanation::{Explanation, Remark};
 use crate::followed::FollowedSpace;
@@ -323,13 +325,14 @@ impl<'a> Explainer<'a> {
             return Ok(());
         };
         let mut text = self.beginning_at(offset)?;
-        match self.listing.call_at(offset) {
+        let call = self.listing.call_at(offset);
+        match call {
             Some(phrase) => push_phrase(self.listing, phrase, &mut text)?,
             None => text.extend_from_slice(b"a call")?,
         }
         text.extend_from_slice(match self.run.account.ending {
             Ending::Oversize => b" makes the term".as_slice(),
-            _ => b" fails".as_slice(),
+            _ => search_failure(self.listing, call),
         })?;
         self.push_at(offset, text, remarks)?;
         self.add_callers(&sites[..index.min(sites.len())], remarks)
