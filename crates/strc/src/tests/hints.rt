@@ -234,6 +234,213 @@ const ROWS: &[(&str, &str)] = &[
         "strategies main = id\n#term\n\u{feff}1",
         "save the text without a byte order mark",
     ),
+    (
+        "signature constructors A : N * N -> N N : N -> N rules\n  main : A(x, y) -> x + y\n#term\n1",
+        "add integers with (<prim(\"add\", x, y)>)",
+    ),
+    (
+        "signature constructors A : N * N -> N N : N -> N rules\n  main : A(x, y) -> N(x + 1)\n#term\n1",
+        "add integers with <prim(\"add\", x, y)>",
+    ),
+    (
+        "signature constructors A : N * N -> N N : N -> N rules\n  main : A(x, y) -> \"x\" + y\n#term\n1",
+        "join texts with (<prim(\"concat\", x, y)>)",
+    ),
+    (
+        "signature constructors A : N * N -> N N : N -> N rules\n  main : A(x, y) -> N(<f + g> x)\n#term\n1",
+        "write '<+' for a choice; '+' stands only in s1 < s2 + s3",
+    ),
+    (
+        "signature constructors A : N * N -> N N : N -> N strategies\n  main = !x + y\n#term\n1",
+        "write '<+' for a choice; '+' stands only in s1 < s2 + s3",
+    ),
+    (
+        "signature constructors A : N * N -> N N : N -> N strategies\n  main = !x + 1\n#term\n1",
+        "add integers with (<prim(\"add\", x, y)>)",
+    ),
+    (
+        "signature constructors A : N * N -> N N : N -> N strategies\n  main = {x: f + g}\n#term\n1",
+        "write '<+' for a choice; '+' stands only in s1 < s2 + s3",
+    ),
+    (
+        "signature constructors A : N * N -> N N : N -> N strategies\n  main = \\ x -> x + 1 \\\n#term\n1",
+        "add integers with (<prim(\"add\", x, y)>)",
+    ),
+    (
+        "signature constructors A : N * N -> N N : N -> N strategies\n  main = f(| x + y)\n#term\n1",
+        "add integers with <prim(\"add\", x, y)>",
+    ),
+    (
+        "signature constructors A : N * N -> N N : N -> N rules\n  main(| x + y) : x -> x\n#term\n1",
+        "",
+    ),
+    (
+        "signature constructors A : N * N -> N N : N -> N rules\n  main : A(x + 1, y) -> x\n#term\n1",
+        "",
+    ),
+    ("signature constructors A : N + N -> N\n#term\n1", ""),
+    (
+        "signature constructors A : N * N -> N N : N -> N rules\n  main : A(x, y) -> x - y\n#term\n1",
+        "subtract integers with (<prim(\"sub\", x, y)>)",
+    ),
+    (
+        "signature constructors A : N * N -> N N : N -> N rules\n  main : A(x, y) -> N(x -1)\n#term\n1",
+        "subtract integers with <prim(\"sub\", x, y)>",
+    ),
+    (
+        "signature constructors A : N * N -> N N : N -> N rules\n  main : A(x, y) -> A(1 -1)\n#term\n1",
+        "",
+    ),
+    (
+        "signature constructors A : N * N -> N N : N -> N rules\n  main : A(x - 1, y) -> x\n#term\n1",
+        "",
+    ),
+    (
+        "signature constructors A : N * N -> N N : N -> N strategies\n  main = id -- x\n#term\n1",
+        "",
+    ),
+    (
+        "signature constructors A : N * N -> N N : N -> N rules\n  main : A(x, y) -> [x * 2]\n#term\n1",
+        "multiply integers with <prim(\"mul\", x, y)>",
+    ),
+    (
+        "signature constructors A : N * N -> N N : N -> N rules\n  main : A(x, y) -> x where x * y => 1\n#term\n1",
+        "multiply integers with prim(\"mul\", x, y)",
+    ),
+    (
+        "signature constructors A : N * N -> N N : N -> N rules\n  main : A(x, y) -> [x*]\n#term\n1",
+        "",
+    ),
+    ("signature constructors A : List(N * N) -> N\n#term\n1", ""),
+    (
+        "signature constructors A : N * N -> N N : N -> N rules\n  main : A(x, y) -> x / y\n#term\n1",
+        "divide integers with (<prim(\"div\", x, y)>)",
+    ),
+    (
+        "signature constructors A : N * N -> N N : N -> N strategies\n  main = / x\n#term\n1",
+        "",
+    ),
+    (
+        "signature constructors A : N * N -> N N : N -> N rules\n  main : A(x, y) -> N(x < y)\n#term\n1",
+        "a comparison is a strategy: for x < y write prim(\"less\", x, y)",
+    ),
+    (
+        "signature constructors A : N * N -> N N : N -> N rules\n  main : A(x, y) -> x > y\n#term\n1",
+        "a comparison is a strategy: for x > y write prim(\"less\", y, x)",
+    ),
+    (
+        "signature constructors A : N * N -> N N : N -> N rules\n  main : A(x, y) -> N(x <f> y)\n#term\n1",
+        "",
+    ),
+    (
+        "signature constructors A : N * N -> N N : N -> N rules\n  main : A(x, y) -> x where x < 3\n#term\n1",
+        "a comparison is a strategy: for x < y write prim(\"less\", x, y)",
+    ),
+    (
+        "signature constructors A : N * N -> N N : N -> N rules\n  main : A(x, y) -> x where x < y\n#term\n1",
+        "a comparison is a strategy: for x < y write prim(\"less\", x, y)",
+    ),
+    (
+        "signature constructors A : N * N -> N N : N -> N rules\n  main : A(x, y) -> x where f < g\n#term\n1",
+        "",
+    ),
+    (
+        "signature constructors A : N * N -> N N : N -> N rules\n  main : A(x, y) -> x where f < 1 + 2\n#term\n1",
+        "",
+    ),
+    (
+        "signature constructors A : N * N -> N N : N -> N rules\n  main : A(x, y) -> x where 3 < x\n#term\n1",
+        "a comparison is a strategy: for x < y write prim(\"less\", x, y)",
+    ),
+    (
+        "signature constructors A : N * N -> N N : N -> N rules\n  main : A(x, y) -> x where x > y\n#term\n1",
+        "a comparison is a strategy: for x > y write prim(\"less\", y, x)",
+    ),
+    (
+        "signature constructors A : N * N -> N N : N -> N rules\n  main : A(x, y) -> x where f > g\n#term\n1",
+        "",
+    ),
+    (
+        "signature constructors A : N * N -> N N : N -> N rules\n  main : A(x, y) -> x where x <= y\n#term\n1",
+        "a comparison is a strategy: for x <= y write not(prim(\"less\", y, x))",
+    ),
+    (
+        "signature constructors A : N * N -> N N : N -> N rules\n  main : A(x, y) -> x where x >= 3\n#term\n1",
+        "a comparison is a strategy: for x >= y write not(prim(\"less\", x, y))",
+    ),
+    (
+        "signature constructors A : N * N -> N N : N -> N rules\n  main : A(x, y) -> x where x == y\n#term\n1",
+        "a comparison is a strategy: for x == y write !x => y",
+    ),
+    (
+        "signature constructors A : N * N -> N N : N -> N rules\n  main : A(x, y) -> x where x = y\n#term\n1",
+        "the 'where' on line 2 made 'x' part of the definition before it",
+    ),
+    (
+        "signature constructors A : N * N -> N N : N -> N rules\n  main : A(x, y) -> x where x != y\n#term\n1",
+        "a comparison is a strategy: for x != y write not(!x => y)",
+    ),
+    (
+        "signature constructors A : N * N -> N N : N -> N strategies\n  main = ?A(x, y); if x == y then id end\n#term\n1",
+        "a comparison is a strategy: for x == y write !x => y",
+    ),
+    (
+        "signature constructors A : N * N -> N N : N -> N rules\n  main : A(x, y) -> prim(\"add\", x, y)\n#term\n1",
+        "in a build, write (<prim(\"add\", ..)>)",
+    ),
+    (
+        "signature constructors A : N * N -> N N : N -> N rules\n  main : A(x, y) -> N(prim(\"add\", x, y))\n#term\n1",
+        "in a build, write <prim(\"add\", ..)>",
+    ),
+    (
+        "signature constructors A : N * N -> N N : N -> N strategies\n  main = ?prim(\"add\", x, y)\n#term\n1",
+        "'prim' is a keyword and cannot be a name",
+    ),
+    (
+        "signature constructors A : N * N -> N N : N -> N strategies\n  main = f(\"a\") f(| x) = id\n#term\n1",
+        "terms come after a bar: f(| ..)",
+    ),
+    (
+        "signature constructors A : N * N -> N N : N -> N strategies\n  main = f(id, 1) f(s | x) = s\n#term\n1",
+        "terms come after a bar: f(.. | ..)",
+    ),
+    (
+        "signature constructors A : N * N -> N N : N -> N strategies\n  main = f(1) f(s) = s\n#term\n1",
+        "",
+    ),
+    (
+        "signature constructors A : N * N -> N N : N -> N strategies\n  main = f(1) f(s | x) = s f(| x) = id\n#term\n1",
+        "",
+    ),
+    (
+        "signature constructors A : N * N -> N N : N -> N strategies\n  main = f([id, 1]) f(s | x) = s\n#term\n1",
+        "",
+    ),
+    (
+        "signature constructors A : N * N -> N N : N -> N strategies\n  main = f(id, fail) f(s | x) = s\n#term\n1",
+        "terms come after a bar: f(.. | ..)",
+    ),
+    (
+        "signature constructors A : N * N -> N N : N -> N strategies\n  main = f(id, fail) f(s) = s\n#term\n1",
+        "",
+    ),
+    (
+        "signature constructors A : N * N -> N N : N -> N F == N -> N\n#term\n1",
+        "",
+    ),
+    (
+        "signature constructors A : N * N -> N N : N -> N rules\n  main : A(x, y) -> N(A<x, y)\n#term\n1",
+        "",
+    ),
+    (
+        "signature constructors A : N * N -> N N : N -> N rules\n  main : [x | xs] -> map> xs\n#term\n1",
+        "",
+    ),
+    (
+        "signature constructors A : N * N -> N N : N -> N rules\n  main : A(x, y) -> x where x<3\n#term\n1",
+        "a comparison is a strategy: for x < y write prim(\"less\", x, y)",
+    ),
+    ("strategies main = {x== id}\n#term\n1", ""),
 ];
 
 /// Whether the last line of the report is this hint or, where that is empty, no line of the report is one.
@@ -252,6 +459,38 @@ fn has_hint(alloc: Global, text: &str, hint: &str) -> Result<bool, AllocError> {
 fn what_was_probably_meant(rt: HostRuntime) -> Result<(), Fail> {
     for (text, hint) in ROWS {
         if !has_hint(rt.alloc(), text, hint)? {
+            return Err(Fail::new(text));
+        }
+    }
+    Ok(())
+}
+
+// The joined form of a run that fails, and the first line of its explanation.
+const FAILING: &[(&str, &str)] = &[
+    (
+        "rules r : 1 -> 2 strategies main = bottomup(r)\n#term\n[1]",
+        "stdin:1:36: in main: bottomup(r) fails; bottomup(try(..)) keeps the terms on which its strategy fails\n",
+    ),
+    (
+        "rules r : 1 -> 2 strategies main = topdown(r)\n#term\n[1]",
+        "stdin:1:36: in main: topdown(r) fails; topdown(try(..)) keeps the terms on which its strategy fails\n",
+    ),
+    (
+        "rules r : 1 -> 2 strategies main = map(r)\n#term\n[2]",
+        "stdin:1:36: in main: map(r) fails\n",
+    ),
+];
+
+/// Whether the explanation begins with this line.
+fn is_explained(alloc: Global, text: &str, line: &str) -> Result<bool, AllocError> {
+    let ran = run_on(alloc, "strc --explain", text.as_bytes(), None, None, None)?;
+    Ok(ran.status == 1 && ran.diagnostics.written().starts_with(line.as_bytes()))
+}
+
+#[test]
+fn traversals_that_fail(rt: HostRuntime) -> Result<(), Fail> {
+    for (text, line) in FAILING {
+        if !is_explained(rt.alloc(), text, line)? {
             return Err(Fail::new(text));
         }
     }
