@@ -1,7 +1,7 @@
 //! What was probably meant by a comparison of two terms, which the language does not write with a sign.
 
 use crate::advice::Advice;
-use crate::context::{Role, context_at};
+use crate::context::{Role, context_at, near_context};
 use crate::phrases::{is_name, next_is};
 use crate::pieces::piece;
 use crate::syntax_hints::Site;
@@ -174,7 +174,7 @@ fn is_variable(site: &Site<'_>, named: usize) -> bool {
 
 // Whether the name at an index is a variable of a pattern.
 fn is_in_pattern(tokens: &[Token], index: usize) -> bool {
-    match context_at(tokens, index) {
+    match near_context(tokens, index) {
         Some(context) => {
             context.role != Role::Strategy && !next_is(tokens, index, Mark::OpenParenthesis)
         }

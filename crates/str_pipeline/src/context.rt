@@ -32,18 +32,28 @@ impl Context {
     }
 }
 
-/// What the token at an index belongs to, if the tokens in front of it begin a file; nothing for one of a signature.
+// How many tokens are looked at for what leads to a token.
+const NEAR: usize = 500;
+
+/// What the token at an index belongs to, if the tokens in front of it begin a file; nothing for one of a signature, or if what leads to
+/// it is too far away.
 pub(crate) fn context_at(tokens: &[Token], index: usize) -> Option<Context> {
     if is_in_signature(tokens, index) {
         return None;
     }
+    near_context(tokens, index)
+}
+
+/// What the token at an index belongs to, which is not in a signature; nothing if what leads to it is too far away.
+pub(crate) fn near_context(tokens: &[Token], index: usize) -> Option<Context> {
     let mut way = Way {
         depth: 0,
         is_part: false,
         is_parted: false,
         is_after_bar: false,
     };
-    for at in (0..index.min(tokens.len())).rev() {
+    let end = index.min(tokens.len());
+    for at in (end.saturating_sub(NEAR)..end).rev() {
         if let Some(role) = way.step(tokens, at, at.saturating_add(1) == index) {
             return Some(Context {
                 role,
@@ -68,7 +78,7 @@ struct Way {
 }
 
 impl Way {
-    // Goes on to the token at an index, and tells what it leads to. It may stand right before the one from which the way begins.
+    // Goes on to the token at an index, and returns what it leads to. It may be right before the one from which the way begins.
     fn step(&mut self, tokens: &[Token], at: usize, is_last: bool) -> Option<Role> {
         let token = tokens.get(at)?;
         if closes(token) {

@@ -105,7 +105,8 @@ impl Shapes {
     // The integer of a place, if it is that of a small integer.
     #[tactic(auto, using(crate::proofs::PlaceLaws::places))]
     pub(crate) fn integer(&self, at: u32) -> Option<i64>
-        ensures { MatchOption result (self.now.small ≤ at) (λ z. IsPlaced self.now at (forms.Int 0 z)) }
+        ensures { MatchOption result (self.now.small ≤ at)
+            (λ z. IsPlaced self.now at (forms.Int 0 z)) }
     {
         if at < self.small {
             return Some(integer_of(at, self.negative));
@@ -187,7 +188,8 @@ fn small_place_of(shape: &StoredShape, negative: u32, small: u32) -> Option<u32>
 #[inline]
 fn small_place(value: i64, negative: u32, small: u32) -> Option<u32>
     ensures within { MatchOption result ⊤ (λ p. p < small) }
-    ensures placed { MatchOption result (IsLarge negative small value) (λ p. value ≡ integer_at negative p) }
+    ensures placed { MatchOption result (IsLarge negative small value)
+        (λ p. value ≡ integer_at negative p) }
 {
     let above_least = value.checked_add(negative as i64)?;
     match u32::try_from(above_least) {

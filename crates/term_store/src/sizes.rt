@@ -34,7 +34,8 @@ impl StoreSpace {
     #[inline]
     pub(crate) fn held_shape(&self, at: u32) -> Option<&StoredShape>
         requires { at < count self.now }
-        ensures { MatchOption result (HasInteger self.now.shapes at) (λ s. IsShapeAt self.now at s.now) }
+        ensures { MatchOption result (HasInteger self.now.shapes at)
+            (λ s. IsShapeAt self.now at s.now) }
     {
         match self.shapes.held_at(at) {
             Some(shape) => Some(shape),
