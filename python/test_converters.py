@@ -13,7 +13,6 @@ import ast
 import collections
 import concurrent.futures
 import os
-import re
 import subprocess
 import sys
 import sysconfig
@@ -27,10 +26,9 @@ sys.path.insert(0, str(HERE))
 import aterm  # noqa: E402
 from converters import aterm_to_json, aterm_to_python, command, json_to_aterm  # noqa: E402
 from converters import python_kinds, python_signature, python_to_aterm, sexp_to_aterm  # noqa: E402
+from test_examples import STRC, Examples, run, strc  # noqa: E402, F401
 
-EXAMPLES = HERE / "examples"
 LIBRARY = Path(sysconfig.get_paths()["stdlib"])
-STRC = os.environ.get("STRC") or None
 OLD = os.environ.get("OLD_PYTHON") or None
 SAMPLE = 150
 TAKES_ALL = "--all" in sys.argv
@@ -67,18 +65,6 @@ BAD_TERMS = [
     b"[" * 1001 + b"]" * 1001,
     b"f(" * 1000 + b"x" + b")" * 1000,
 ]
-
-
-def run(converter, text, *words):
-    """The status, the output and the complaint of a converter."""
-    done = subprocess.run([sys.executable, HERE / f"{converter}.py", *words], input=text, capture_output=True, timeout=60, check=False)
-    return done.returncode, done.stdout, done.stderr.decode()
-
-
-def strc(definitions, term, *words):
-    """What strc prints for a file of definitions and the text of a term."""
-    command_line = [STRC, "--rules", "1000000000", *words, definitions]
-    return subprocess.run(command_line, input=term, capture_output=True, timeout=60, check=False).stdout
 
 
 class Refusals(unittest.TestCase):
@@ -489,74 +475,6 @@ class CommandLines(Refusals):
     def test_pairs(self):
         self.assertEqual(run("json_to_aterm", b"1", "--pair", "f( 2 )"), (0, b"(f(2),1)\n", ""))
         self.assertEqual(run("json_to_aterm", b"1", "--pair", "f(")[0], 2)
-
-
-@unittest.skipIf(STRC is None, "STRC does not name the program")
-class Examples(unittest.TestCase):
-    def term(self, converter, file, *words):
-        status, output, complaint = run(converter, b"", *words, EXAMPLES / file)
-        self.assertEqual((status, complaint), (0, ""))
-        return output
-
-    def compare(self, file, output):
-        self.assertEqual(output.decode(), (EXAMPLES / file).read_text(encoding="utf-8"))
-
-    def compare_python(self, file, term):
-        """That the term is that of a file. The text is compared under 3.11 or later: 3.10 writes more brackets."""
-        status, output, complaint = run("aterm_to_python", term)
-        self.assertEqual((status, complaint), (0, ""))
-        if sys.version_info >= (3, 11):
-            self.compare(file, output)
-        self.assertEqual(run("python_to_aterm", output)[1], self.term("python_to_aterm", file))
-
-    def test_tidy(self):
-        term = self.term("python_to_aterm", "tidy.input.py")
-        self.compare_python("tidy.output.py", strc(EXAMPLES / "tidy.str", term))
-        self.compare_python("tidy.careful.py", strc(EXAMPLES / "tidy.str", term, "--main", "careful"))
-
-    def test_tidy_again(self):
-        term = self.term("python_to_aterm", "tidy.output.py")
-        self.assertEqual(strc(EXAMPLES / "tidy.str", term), term)
-
-    def test_rename_local(self):
-        term = self.term("python_to_aterm", "rename_local.input.py", "--pair", 'Rename("area","w","breadth")')
-        self.compare_python("rename_local.output.py", strc(EXAMPLES / "rename_local.str", term))
-
-    def test_refusals(self):
-        for line in (EXAMPLES / "rename_local.refusals").read_text(encoding="utf-8").splitlines():
-            task, answer = line.split(" => ")
-            term = self.term("python_to_aterm", "rename_local.input.py", "--pair", task)
-            self.assertEqual(strc(EXAMPLES / "rename_local.str", term).decode(), answer + "\n", task)
-
-    def test_type_parameters(self):
-        """That what has type parameters is not renamed in. The terms are those of Python 3.12 or later."""
-        parameters, name = "arguments([],[],None,[],[],None,[])", '[Assign([Name("x")],Name("T"))]'
-        inner = [f'{kind}("g",{parameters},{name},[],None,[TypeVar("T",None)])' for kind in ("FunctionDef", "AsyncFunctionDef")]
-        inner += [f'ClassDef("g",[],[],{name},[],[TypeVar("T",None)])', 'TypeAlias(Name("g"),[],Name("x"))']
-        for each in inner:
-            program = f'Module([FunctionDef("f",{parameters},[{each},Assign([Name("x")],Name("a"))],[],None)],[])'
-            for function, around in (("f", program), ("g", f"Module([{each}],[])")):
-                term = f'(Rename("{function}","x","y"),{around})'.encode()
-                self.assertEqual(strc(EXAMPLES / "rename_local.str", term), b'Refused(IsGeneric("g"))\n')
-
-    def test_settings(self):
-        defaults = self.term("json_to_aterm", "settings.defaults.json").decode()
-        term = self.term("json_to_aterm", "settings.input.json", "--pair", defaults)
-        self.compare("settings.output.json", run("aterm_to_json", strc(EXAMPLES / "settings.str", term), "--indent", "2")[1])
-
-    def test_page(self):
-        page = (HERE.parent / "docs" / "CONVERTERS.md").read_text(encoding="utf-8")
-        program, definitions = re.findall(r"^```(?:python)?\n(.*?)^```$", page, re.MULTILINE | re.DOTALL)[:2]
-        with tempfile.TemporaryDirectory() as folder:
-            (Path(folder) / "modern.str").write_text(definitions, encoding="utf-8")
-            term = strc(Path(folder) / "modern.str", run("python_to_aterm", program.encode())[1])
-        lines = run("aterm_to_python", term)[1].decode().splitlines()
-        self.assertEqual([it.strip() for it in lines[-2:]], ["self.assertEqual(total([1, 2]), 3)", "self.assertEqual(total([]), 0)"])
-
-    def test_calls(self):
-        term = self.term("sexp_to_aterm", "calls.input.sexp", "--positions", "--source", EXAMPLES / "calls.input.py")
-        self.compare("calls.output.aterm", strc(EXAMPLES / "calls.str", term))
-        self.compare("calls.faults.aterm", strc(EXAMPLES / "calls.str", term, "--main", "faults"))
 
 
 if __name__ == "__main__":
