@@ -10,6 +10,7 @@ mod hints;
 mod language;
 mod libraries;
 mod messages;
+mod operators;
 mod primitives;
 mod requests;
 mod results;
