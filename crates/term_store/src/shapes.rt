@@ -103,6 +103,7 @@ impl Shapes {
     }
 
     // The integer of a place, if it is that of a small integer.
+    #[inline]
     #[tactic(auto, using(crate::proofs::PlaceLaws::places))]
     pub(crate) fn integer(&self, at: u32) -> Option<i64>
         ensures { MatchOption result (self.now.small ≤ at)

@@ -87,8 +87,10 @@ impl TermSpace for StoreSpace {
 
     #[tactic(auto, using(crate::proofs::LawsOfSpace::reading))]
     fn annos<'a>(&'a self, at: &'a u32) -> Parts<'a, u32> {
-        let shape = self.shape_at(*at);
-        self.chain_places(shape.annos())
+        match self.held_shape(*at) {
+            Some(shape) => self.chain_places(shape.annos()),
+            None => Parts::of_slice(&[]),
+        }
     }
 
     #[tactic(auto, using(crate::proofs::LawsOfSpace::reading))]
@@ -102,6 +104,9 @@ impl TermSpace for StoreSpace {
 
     #[tactic(auto, using(crate::proofs::LawsOfSpace::reading))]
     fn int_of(&self, at: &u32) -> Option<i64> {
+        if let Some(value) = self.shapes.integer(*at) {
+            return Some(value);
+        }
         match self.shape_at(*at) {
             StoredShape::Int { value, .. } => Some(value),
             StoredShape::Applied { .. } | StoredShape::List { .. } => None,
@@ -118,8 +123,12 @@ impl TermSpace for StoreSpace {
 
     #[tactic(auto, using(crate::proofs::LawsOfSpace::reading))]
     fn is_app(&self, at: &u32, name: &u32, count: usize) -> bool {
-        let shape = self.shape_at(*at);
-        self.is_symbol(shape.head(), *name) && self.len_in(shape.parts()) == count
+        match self.held_shape(*at) {
+            Some(shape) => {
+                self.is_symbol(shape.head(), *name) && self.len_in(shape.parts()) == count
+            }
+            None => false,
+        }
     }
 
     fn number(&self, name: &u32) -> usize {
@@ -128,8 +137,10 @@ impl TermSpace for StoreSpace {
 
     #[tactic(auto, using(crate::proofs::LawsOfSpace::reading))]
     fn root_number(&self, at: &u32) -> Option<usize> {
-        let shape = self.shape_at(*at);
-        self.symbol_number(shape.head())
+        match self.held_shape(*at) {
+            Some(shape) => self.symbol_number(shape.head()),
+            None => None,
+        }
     }
 
     #[tactic(auto, using(crate::proofs::LawsOfSpace::reading))]
@@ -139,8 +150,10 @@ impl TermSpace for StoreSpace {
 
     #[tactic(auto, using(crate::proofs::LawsOfSpace::reading))]
     fn part(&self, at: &u32, index: usize) -> Result<u32, AllocError> {
-        let shape = self.shape_at(*at);
-        Ok(*self.place_in(&shape, index).unwrap())
+        match self.held_shape(*at) {
+            Some(shape) => Ok(*self.place_in(shape, index).unwrap()),
+            None => unreachable!(),
+        }
     }
 
     #[tactic(auto, using(crate::proofs::LawsOfSpace::reading))]

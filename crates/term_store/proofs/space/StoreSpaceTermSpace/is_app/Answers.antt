@@ -1,19 +1,17 @@
-use Rattle.std.proofs.Common.{◌≡◌, ◌∙◌, ap, length, sym}
-use Rattle.std.proofs.lemmas.Bool.{eqb-true, eq-eqb}
-use Rattle.term_model.specs.Blocks.{list_in}
-use Rattle.term_store.specs.Shapes.{shape_parts}
-use Rattle.term_store.specs.Store.{head_in}
-use Rattle.term_store.specs.Space.{symbol_at}
-use Rattle.term_store.proofs.LawsOfSpace.{applied_at, length_applied}
+use Rattle.std.proofs.Common.{◌≡◌, ◌∙◌, ap, false, sym, true}
+use Rattle.std.proofs.lemmas.Bool.{ltb-true}
+use Rattle.term_model.specs.Term.{head_of}
+use Rattle.term_model.specs.declared.term.Head.TheVariants as heads
+use Rattle.term_store.specs.Space.{count, symbol_at}
+use Rattle.term_store.proofs.ShapeLaws.{integer_term}
 use Rattle.term_store.proofs.space.StoreSpaceTermSpace.is_app.Goals as goal
 
-pub returns-then-is_symbol : goal.returns-then-is_symbol
-returns-then-is_symbol c =
+pub returns-in-None : goal.returns-in-None
+returns-in-None c =
     let s = c.args.self.now in
     let at = c.args.at.now in
-    let x = c.shape_at-shape.result in
-    let long : c.len_in.result ≡ length (list_in s.chains (shape_parts x)) = c.len_in.ensures ∙ ap (λ b. length (list_in s.chains b)) c.parts.ensures in
-    let name = symbol_at s c.args.name.now in (
-      λ same. applied_at s at c.len_in.result c.args.count x name c.shape_at-shape.ensures (sym (ap (head_in s.symbols.keys) c.head.ensures) ∙ c.is_symbol.ensures.0 c.if-is_symbol.true) long (eqb-true c.len_in.result c.args.count same),
-      λ applied. eq-eqb c.len_in.result c.args.count (length_applied s at c.len_in.result c.args.count x name c.shape_at-shape.ensures long applied),
+    let is = c.in-None.ensures in
+    let integer = integer_term s at is.0 (ltb-true at (count s) c.requires.stands) is.1 in (
+      λ yes. absurd (let clash : false ≡ true = yes in cc),
+      λ applied. let clash : heads.Int is.0 ≡ heads.App (symbol_at s c.args.name.now) = sym (ap head_of integer) ∙ applied.head in cc,
     )
