@@ -1,10 +1,10 @@
 -- Shapes under their places.
-use Rattle.std.proofs.Common.{rules, Bool, true, false, if◌then◌else◌, not, ◌≡◌, ℕ, zero, suc, ◌+◌, ◌-◌, ◌<◌, ◌≤◌, List, [], ◌∷◌, ◌++◌, length, get_or, take, refl, sym, ◌∙◌, ap, subst, arith, length-append, ◌⊎◌, inl, inr}
-use Rattle.std.specs.Prelude.{ℤ, pos, ◌+ℤ◌, ◌-ℤ◌}
+use Rattle.std.proofs.Common.{rules, Bool, true, false, if◌then◌else◌, ◌≡◌, ℕ, zero, suc, ◌+◌, ◌-◌, ◌<◌, ◌≤◌, List, [], ◌∷◌, ◌++◌, length, get_or, take, refl, sym, ◌∙◌, ap, subst, arith, length-append, ◌⊎◌, inl, inr}
+use Rattle.std.specs.Prelude.{ℤ, pos, ◌+ℤ◌}
 use Rattle.std.proofs.Math.IntN.{ -ℤ-+ℤ_cancel}
-use Rattle.std.proofs.lemmas.List.{get_or_append_left, length-take-le, get_or-take}
-use Rattle.std.proofs.Math.Seq.{get_or-append_seam}
-use Rattle.term_store.specs.Places.{integer_at, integers, IsLarge, IsLargeShape, AreLarge}
+use Rattle.std.proofs.lemmas.List.{get_or_append_left, get_or-append-add}
+use Rattle.std.proofs.Math.Seq.{take-append-add}
+use Rattle.term_store.specs.Places.{integer_at, integers, IsLargeShape, AreLarge}
 use Rattle.term_store.specs.Store.{AreDistinct}
 use Rattle.term_store.specs.declared.stored.StoredShape.{StoredShape}
 use Rattle.term_store.specs.declared.stored.StoredShape.TheVariants as forms
@@ -32,28 +32,19 @@ integer_placed negative (suc n) k d h = placed_at negative n k d (push_at (integ
 pub small_at : (negative small : ℕ) (held : List StoredShape) (k : ℕ) (d : StoredShape) → k < small → get_or (integers negative small ++ held) k d ≡ forms.Int 0 (integer_at negative k)
 small_at negative small held k d h = get_or_append_left (integers negative small) held d k (let l = length-integers negative small in omega (arith, l, h)) ∙ integer_placed negative small k d h
 
--- what is after the first ones
-after_first : {X : Type 0} (xs ys : List X) (k : ℕ) (d : X) → get_or (xs ++ ys) (length xs + k) d ≡ get_or ys k d
-after_first {X = X} [] ys k d = let none : length {A = X} [] + k ≡ k = omega arith in ap (λ n. get_or ys n d) none
-after_first (x ∷ xs) ys k d = let more : length (x ∷ xs) + k ≡ suc (length xs + k) = omega arith in ap (λ n. get_or ((x ∷ xs) ++ ys) n d) more ∙ after_first xs ys k d
-
 -- the shape that is held under a number
 pub numbered_at : (negative small : ℕ) (held : List StoredShape) (k : ℕ) (d : StoredShape) → get_or (integers negative small ++ held) (small + k) d ≡ get_or held k d
-numbered_at negative small held k d = subst (λ n. get_or (integers negative small ++ held) (n + k) d ≡ get_or held k d) (length-integers negative small) (after_first (integers negative small) held k d)
+numbered_at negative small held k d = subst (λ n. get_or (integers negative small ++ held) (n + k) d ≡ get_or held k d) (length-integers negative small) (get_or-append-add (integers negative small) held k d)
 
 pub held_at : (negative small : ℕ) (held : List StoredShape) (k : ℕ) (d : StoredShape) → small ≤ k → get_or (integers negative small ++ held) k d ≡ get_or held (k - small) d
 held_at negative small held k d h = let same : small + (k - small) ≡ k = omega (arith, h) in subst (λ n. get_or (integers negative small ++ held) n d ≡ get_or held (k - small) d) same (numbered_at negative small held (k - small) d)
-
-take_after : {X : Type 0} (xs ys : List X) (k : ℕ) → take (length xs + k) (xs ++ ys) ≡ xs ++ take k ys
-take_after {X = X} [] ys k = let none : length {A = X} [] + k ≡ k = omega arith in ap (λ n. take n ys) none
-take_after (x ∷ xs) ys k = let more : length (x ∷ xs) + k ≡ suc (length xs + k) = omega arith in ap (λ n. take n ((x ∷ xs) ++ ys)) more ∙ ap (λ zs. x ∷ zs) (take_after xs ys k)
 
 -- the first places, of which all small integers are
 pub first_keys : (negative small : ℕ) (held : List StoredShape) (count : ℕ) → small ≤ count → integers negative small ++ take (count - small) held ≡ take count (integers negative small ++ held)
 first_keys negative small held count h =
     let same : small + (count - small) ≡ count = omega (arith, h) in
     let all : take (small + (count - small)) (integers negative small ++ held) ≡ integers negative small ++ take (count - small) held =
-    subst (λ n. take (n + (count - small)) (integers negative small ++ held) ≡ integers negative small ++ take (count - small) held) (length-integers negative small) (take_after (integers negative small) held (count - small)) in
+    subst (λ n. take (n + (count - small)) (integers negative small ++ held) ≡ integers negative small ++ take (count - small) held) (length-integers negative small) (take-append-add (integers negative small) held (count - small)) in
     sym all ∙ ap (λ n. take n (integers negative small ++ held)) same
 
 -- one shape more, which is not that of a small integer

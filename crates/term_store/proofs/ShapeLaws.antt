@@ -1,5 +1,5 @@
 -- The shape at a place.
-use Rattle.std.proofs.Common.{◌≡◌, ℕ, ◌<◌, List, [], map, get_or, refl, subst, ap, ◌∙◌, arith}
+use Rattle.std.proofs.Common.{◌≡◌, ℕ, ◌<◌, [], map, get_or, refl, subst, ap, ◌∙◌, arith}
 use Rattle.std.specs.Prelude.{ℤ}
 use Rattle.term_model.specs.Term.{term}
 use Rattle.term_model.specs.declared.term.Head.TheVariants as heads

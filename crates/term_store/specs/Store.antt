@@ -64,17 +64,15 @@ pub record IsShape (symbols : List Symbol) (chains : List (List ℕ)) (k last : 
   pub places : IsPlain k (plain symbols chains s)
   pub bare : MayHave (shape_head s) (list_in chains (shape_parts s))
 
--- the size of a term that fits
-pub record IsSize (t : Tree) (e : Extent) : Type 0 where
-  pub weight : e.weight ≡ weight t
-  pub depth : e.depth ≡ depth t
-  pub fits : Fits t
-
 -- the weight and the depth of a term that fits
 pub record IsSizeOf (t : Tree) (weight_ depth_ : ℕ) : Type 0 where
   pub weight : weight_ ≡ weight t
   pub depth : depth_ ≡ depth t
   pub fits : Fits t
+
+-- the extent of a term that fits
+abbrev pub IsSize : Tree → Extent → Type 0
+IsSize t e = IsSizeOf t e.weight e.depth
 
 -- the size of terms that are not too heavy together
 pub record IsSum (ts : List Tree) (s : Span) : Type 0 where

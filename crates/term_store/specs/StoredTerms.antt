@@ -1,5 +1,5 @@
 -- The store as a space of terms.
-use Rattle.std.specs.Prelude.{ℕ, pos, IsTrue, length, nat_lt, nat_le, ◌+◌}
+use Rattle.std.specs.Prelude.{ℕ, pos, IsTrue, nat_lt, nat_le, ◌+◌}
 use Rattle.std.proofs.lemmas.Bool.{ltb-true}
 use Rattle.term_model.specs.Space.{Space}
 use Rattle.term_model.specs.Term.{Fits}
