@@ -237,7 +237,7 @@ const ROWS: &[(&str, &str)] = &[
 ];
 
 /// Whether the last line of the report is this hint or, where that is empty, no line of the report is one.
-pub(crate) fn has_hint(alloc: Global, text: &str, hint: &str) -> Result<bool, AllocError> {
+fn has_hint(alloc: Global, text: &str, hint: &str) -> Result<bool, AllocError> {
     let ran = run_on(alloc, "strc", text.as_bytes(), None, None, None)?;
     let report = ran.diagnostics.written();
     if hint.is_empty() {
@@ -248,14 +248,22 @@ pub(crate) fn has_hint(alloc: Global, text: &str, hint: &str) -> Result<bool, Al
     Ok(ran.status == 2 && report.ends_with(end.as_bytes()))
 }
 
-#[test]
-fn what_was_probably_meant(rt: HostRuntime) -> Result<(), Fail> {
-    for (text, hint) in ROWS {
-        if !has_hint(rt.alloc(), text, hint)? {
+/// That each text has its hint.
+pub(crate) fn compare_hints(
+    alloc: Global,
+    rows: &[(&'static str, &'static str)],
+) -> Result<(), Fail> {
+    for (text, hint) in rows {
+        if !has_hint(alloc, text, hint)? {
             return Err(Fail::new(text));
         }
     }
     Ok(())
+}
+
+#[test]
+fn what_was_probably_meant(rt: HostRuntime) -> Result<(), Fail> {
+    compare_hints(rt.alloc(), ROWS)
 }
 
 // The joined form of a run that fails, and the first line of its explanation.

@@ -1,5 +1,5 @@
 //! What was probably meant by operators, comparisons and calls that other languages write in this way.
-use crate::tests::hints::has_hint;
+use crate::tests::hints::compare_hints;
 use std::test::Fail;
 
 // The joined form, and the hint on an operator; nothing if there is none.
@@ -223,30 +223,15 @@ const CALLS: &[(&str, &str)] = &[
 
 #[test]
 fn operators_between_terms(rt: HostRuntime) -> Result<(), Fail> {
-    for (text, hint) in OPERATORS {
-        if !has_hint(rt.alloc(), text, hint)? {
-            return Err(Fail::new(text));
-        }
-    }
-    Ok(())
+    compare_hints(rt.alloc(), OPERATORS)
 }
 
 #[test]
 fn comparisons_of_terms(rt: HostRuntime) -> Result<(), Fail> {
-    for (text, hint) in COMPARISONS {
-        if !has_hint(rt.alloc(), text, hint)? {
-            return Err(Fail::new(text));
-        }
-    }
-    Ok(())
+    compare_hints(rt.alloc(), COMPARISONS)
 }
 
 #[test]
 fn calls_with_terms(rt: HostRuntime) -> Result<(), Fail> {
-    for (text, hint) in CALLS {
-        if !has_hint(rt.alloc(), text, hint)? {
-            return Err(Fail::new(text));
-        }
-    }
-    Ok(())
+    compare_hints(rt.alloc(), CALLS)
 }
