@@ -7,7 +7,7 @@ use crate::records::{Record, Saved, Traversed};
 use crate::stack::Stack;
 use std::alloc::{AllocError, Global};
 use std::marker::Model;
-use strat_patterns::{narrow, push_on};
+use strat_patterns::{narrow, push_on, release_spare};
 
 // What a record holds itself.
 #[derive(Drop)]
@@ -82,6 +82,15 @@ impl<R: Drop, M: Drop> CompactRecords<R, M> {
         self.records.clear();
         self.checkpoints.clear();
         self.traversed.clear();
+    }
+
+    /// Gives back memory that fewer records than before have no use for.
+    pub(crate) fn release_spare(&mut self)
+        ensures { self.new ≡ self.old }
+    {
+        self.records.release_spare();
+        self.checkpoints.release_spare();
+        release_spare(&mut self.traversed);
     }
 
     /// Puts the record of a call on.

@@ -154,6 +154,15 @@ impl<R: Drop, M: Drop> Records<R, M> {
         self.left.clear();
     }
 
+    /// Gives back memory that fewer records and parts than before have no use for.
+    pub(crate) fn release_spare(&mut self)
+        ensures { self.new ≡ self.old }
+    {
+        self.records.release_spare();
+        self.done.release_spare();
+        self.left.release_spare();
+    }
+
     /// Takes the newest record off, if it is of a call: its next address and its frame.
     pub(crate) fn pop_call(&mut self) -> Option<(usize, usize)>
         ensures { MatchOption result (IsNoCall (records_of self.old))

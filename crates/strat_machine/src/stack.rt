@@ -4,7 +4,7 @@ ghost use Rattle.strat_machine.specs.PartsOf.{PutsParts};
 
 use std::alloc::{AllocError, Global};
 use std::marker::Model;
-use strat_patterns::push_on;
+use strat_patterns::{push_on, release_spare};
 use term_model::TermSpace;
 
 /// Items, of which the newest is seen first.
@@ -36,6 +36,13 @@ impl<T: Drop> Stack<T> {
         ensures { self.new ≡ [] }
     {
         self.items.clear();
+    }
+
+    /// Gives back memory that fewer items than before have no use for.
+    pub(crate) fn release_spare(&mut self)
+        ensures { self.new ≡ self.old }
+    {
+        release_spare(&mut self.items);
     }
 
     /// The number of items.

@@ -1,5 +1,5 @@
 // The machine's memory while it runs.
-ghost use Rattle.std.specs.Prelude.{◌≡◌, length};
+ghost use Rattle.std.specs.Prelude.{◌≡◌, length, take};
 ghost use Rattle.strat_machine.specs.RecordStack.{saved_of};
 ghost use Rattle.strat_machine.specs.Running.{IsClear};
 ghost use Rattle.strat_steps.specs.State as state;
@@ -8,6 +8,12 @@ use crate::records::{Records, Saved};
 use prim_registry::Flat;
 use std::alloc::Global;
 use strat_patterns::{Frames, Places};
+
+// A call that ends gives memory back if its frame is one of the last RELEASING of each FRAMES frames: those of a deep recursion do so
+// from time to time, and others never. As not each frame is that of a call, there are some such frames and not one.
+const FRAMES: usize = 65_536;
+
+const RELEASING: usize = 256;
 
 /// The stacks, and the nodes that are left of the budget.
 #[derive(Drop)]
@@ -84,6 +90,30 @@ impl<R: Drop, M: Drop> Stacks<R, M> {
         self.frames.clear();
         self.places.clear();
         self.records.clear();
+    }
+
+    /// Takes off the frame of a call that ends, with those after it, and the places from its first one on.
+    pub(crate) fn end_frame(&mut self, frame: usize, base: usize)
+        ensures { self.new ≡ record self.old {
+          frames = take frame self.old.frames;
+          places = record self.old.places { slots = take base self.old.places.slots };
+        } }
+    {
+        self.places.cut(base);
+        self.frames.cut(frame);
+        if frame % FRAMES >= FRAMES - RELEASING {
+            self.release_spare();
+        }
+    }
+
+    // Gives back memory that the stacks have no more use for after a deep recursion.
+    #[inline(never)]
+    fn release_spare(&mut self)
+        ensures { self.new ≡ self.old }
+    {
+        self.frames.release_spare();
+        self.places.release_spare();
+        self.records.release_spare();
     }
 
     /// What a failure restores, with this frame.

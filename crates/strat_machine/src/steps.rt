@@ -132,8 +132,7 @@ pub(crate) fn leave_definition<S: TermSpace>(
     if base < stacks.places.barrier() {
         return Next::Stuck;
     }
-    stacks.places.cut(base);
-    stacks.frames.cut(position.frame);
+    stacks.end_frame(position.frame, base);
     position.address = next_address;
     position.frame = frame;
     Next::Running

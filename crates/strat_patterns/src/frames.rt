@@ -5,7 +5,7 @@ ghost use Rattle.strat_steps.specs.State as state;
 ghost use Rattle.strat_steps.specs.State.{around, frames_up, place_at, closure_in, closed};
 ghost use Rattle.strat_patterns.specs.Frames.{closure_of, frames_in, IsBaseOf, AreLaid};
 
-use crate::memory::{narrow, push_on};
+use crate::memory::{narrow, push_on, release_spare};
 use core_lang::Coordinate;
 use std::alloc::{AllocError, Global};
 use std::marker::Model;
@@ -73,6 +73,14 @@ impl Frames {
     {
         self.frames.clear();
         self.closures.clear();
+    }
+
+    /// Gives back memory that fewer frames than before have no use for.
+    pub fn release_spare(&mut self)
+        ensures { self.new ≡ self.old }
+    {
+        release_spare(&mut self.frames);
+        release_spare(&mut self.closures);
     }
 
     /// Returns the first place of the frame at a position and the position of the frame around it, or `None` if there is no such frame.

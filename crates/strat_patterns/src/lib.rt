@@ -18,5 +18,5 @@ pub use loaded::{LoadedPattern, load_pattern, load_patterns};
 pub use lookup::value;
 pub use making::outcome;
 pub use matching::{is_integer, match_pattern};
-pub use memory::{narrow, push_on};
+pub use memory::{narrow, push_on, release_spare};
 pub use places::Places;

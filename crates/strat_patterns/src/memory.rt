@@ -1,4 +1,4 @@
-// Memory for the stacks: vectors that take more of it, and numbers in 32 bits.
+// Memory for the stacks: vectors that take more of it or give it back, and numbers in 32 bits.
 ghost use Rattle.std.specs.Prelude.{◌≡◌, ◌<◌, vec_len, vec_capacity, IfOk, OnOk, OnErr, [], ◌∷◌, ◌++◌};
 
 use std::alloc::AllocError;
@@ -29,6 +29,18 @@ fn grow<T: Drop>(items: &mut Vec<T>) -> Result<(), AllocError>
 {
     items.reserve(1)?;
     Ok(())
+}
+
+/// Gives memory back if less than half of what the vector has is in use, and keeps half as much again as that.
+///
+/// Where no smaller block of memory can be had, the vector keeps what it has.
+pub fn release_spare<T: Drop>(items: &mut Vec<T>)
+    ensures { items.new.items ≡ items.old.items }
+{
+    let count = items.len();
+    if count < items.capacity() / 2 {
+        items.shrink_to(count + count / 2);
+    }
 }
 
 /// Returns the number in 32 bits.

@@ -3,7 +3,7 @@ ghost use Rattle.std.specs.Prelude.{◌≡◌, ◌<◌, ◌-◌, List, Option, d
 ghost use Rattle.strat_steps.specs.Binding.{cleared, undone, above, down_to, trimmed, with_term};
 ghost use Rattle.strat_patterns.specs.PlaceStack.{PlaceStack};
 
-use crate::memory::{narrow, push_on};
+use crate::memory::{narrow, push_on, release_spare};
 use std::alloc::{AllocError, Global};
 use std::marker::Model;
 
@@ -49,6 +49,14 @@ impl<R: Drop> Places<R> {
         self.slots.clear();
         self.trail.clear();
         self.barrier = 0;
+    }
+
+    /// Gives back memory that fewer places and entries of the trail than before have no use for.
+    pub fn release_spare(&mut self)
+        ensures { self.new ≡ self.old }
+    {
+        release_spare(&mut self.slots);
+        release_spare(&mut self.trail);
     }
 
     /// Returns the number of places.
