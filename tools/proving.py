@@ -266,4 +266,8 @@ def prove(work, goal, asked):
                 trees.end_all()
         if not is_proved:
             stop("nothing is installed. What was proved is kept for the next call")
-        return trees.folder(goal) / "out" / goal
+        program = trees.folder(goal) / "out" / goal
+        if program.is_file():
+            # tools/example tells by this that the program is newer than its tree.
+            os.utime(program)
+        return program
