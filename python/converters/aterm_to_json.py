@@ -106,5 +106,5 @@ def convert(text, asked):
 
 def main():
     parser = command.parser_of(__doc__)
-    parser.add_argument("--indent", metavar="N", type=int, choices=range(17), help="write several lines, with N spaces for each level")
+    parser.add_argument("--indent", metavar="N", type=int, choices=range(17), help="write several lines, with N spaces for each level, from 0 to 16")
     return command.run(parser, convert)

@@ -99,17 +99,20 @@ def term_line(term, asked):
 def run(parser, convert):
     """Converts as the command line says. `convert` makes the bytes of the output of those of the input and of what is asked for."""
     asked = parser.parse_args()
+    place = name_of(asked.file)
     try:
-        write_output(convert(read_input(asked.file), asked))
+        output = convert(read_input(asked.file), asked)
+        place = "stdout"
+        write_output(output)
         return 0
     except BrokenPipeError:
         os.dup2(os.open(os.devnull, os.O_WRONLY), sys.stdout.fileno())
         return 2
     except (Fault, aterm.TermError) as fault:
-        message = f"{name_of(asked.file)}:{'' if PLACED.match(str(fault)) else ' '}{fault}"
+        message = f"{place}:{'' if PLACED.match(str(fault)) else ' '}{fault}"
     except OSError as fault:
-        message = f"{name_of(asked.file)}: {fault.strerror or fault}"
+        message = f"{place}: {fault.strerror or fault}"
     except (RecursionError, MemoryError):
-        message = f"{name_of(asked.file)}: the input is nested too deeply or is too large"
+        message = f"{place}: the input is nested too deeply or is too large"
     print(f"{parser.prog}: {message}", file=sys.stderr)
     return 2
