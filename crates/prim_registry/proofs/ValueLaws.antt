@@ -1,5 +1,5 @@
 -- What arguments of the right kinds give.
-use Rattle.std.proofs.Common.{◌≡◌, ℕ, ℤ, pos, negsuc, zero, suc, ◌+ℤ◌, ◌-ℤ◌, ◌*ℤ◌, List, Option, Some, None, true, false, Bool, int_div, int_rem, FitsSigned, arith, ap, refl, sym, ◌∙◌}
+use Rattle.std.proofs.Common.{◌≡◌, ℤ, pos, negsuc, zero, suc, ◌+ℤ◌, ◌-ℤ◌, ◌*ℤ◌, List, Option, Some, None, true, false, Bool, int_div, int_rem, FitsSigned, arith, ap, refl, sym, ◌∙◌}
 use Rattle.std.specs.Prelude.{◌&&◌, if◌then◌else◌, nat_le}
 use Rattle.std.proofs.lemmas.Int.{quot-rem, ints}
 use Rattle.std.proofs.lemmas.Bool.{leb-true, le-leb}

@@ -16,5 +16,5 @@ abbrev pub registered : List NameKey → Meaning → Meaning
 registered keys M f vs = if list_any (same_key (f, length vs)) keys then M f vs else None
 
 -- what the primitives of a registry mean
-abbrev pub meaning_of : {M X : Type 0} {F : X → Type 0} {g : _} → Meaning → Registry M X F g → Meaning
+abbrev pub meaning_of : {M X Y : Type 0} {F : X → Type 0} {G : Y → Type 0} {g : _} {h : _} → Meaning → Registry M X Y F G g h → Meaning
 meaning_of answer r = registered (entries_of r) answer

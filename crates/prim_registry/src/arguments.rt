@@ -1,4 +1,4 @@
-// Arguments of the kinds that a primitive takes.
+//! Arguments of the kinds that a primitive takes.
 ghost use Rattle.std.specs.Prelude.{◌≡◌};
 ghost use Rattle.std.specs.Option.{option_map};
 ghost use Rattle.prim_registry.specs.Standard.{one_integer as integer_of, one_list as list_of, one_text as text_of, two_integers as integers_of, two_texts as texts_of};

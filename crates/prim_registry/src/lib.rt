@@ -2,6 +2,7 @@
 #![tactic(auto)]
 
 mod arguments;
+mod calculations;
 pub mod flat;
 pub mod primitive;
 pub mod registry;
@@ -10,7 +11,7 @@ mod standard_primitive;
 mod texts;
 
 pub use flat::{Bytes, Flat, Numbers};
-pub use primitive::{Action, Prim, PrimMeaning, Primitive};
+pub use primitive::{Action, Calculation, Prim, PrimMeaning, Primitive};
 pub use registry::Registry;
 pub use standard::Standard;
 pub use standard_primitive::{STANDARD, StandardPrimitive};

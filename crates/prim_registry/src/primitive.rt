@@ -1,7 +1,9 @@
 //! A primitive: a name, a number of arguments and a function, kept with what the function returns.
-ghost use Rattle.std.specs.Prelude.{◌≡◌, ℕ, List, Option, length, IfOk};
-ghost use Rattle.prim_registry.specs.Answers.{AnswersBy};
+ghost use Rattle.std.specs.Prelude.{◌≡◌, ◌∷◌, [], ℕ, ℤ, List, Option, length, IfOk, IfSome};
+ghost use Rattle.std.specs.Option.{option_map};
+ghost use Rattle.prim_registry.specs.Answers.{AnswersBy, CalculatesBy};
 ghost use Rattle.prim_registry.specs.Values.{answer_of, values_of};
+ghost use Rattle.term_model.specs.Flat.{number};
 
 use crate::flat::{Bytes, Flat};
 use std::alloc::AllocError;
@@ -17,12 +19,23 @@ pub trait PrimMeaning {
 /// The function of a primitive: it returns a flat value or none, and `AllocError` where a growth of memory is refused.
 pub type Action = Box<dyn Fn(&[Flat]) -> Result<Option<Flat>, AllocError>>;
 
+/// A function on two integers: it returns an integer or none.
+pub type Calculation = Box<dyn Fn(i64, i64) -> Option<i64>>;
+
+// A function on two integers that may be called on any.
+#[derive(Drop)]
+struct Calculator {
+    calculation: Calculation,
+    ghost may_run: { (left right : ℤ) → Calculation.pre calculation left right },
+}
+
 /// A named function on a number of flat values, which returns what the meaning `M` has for the name.
 #[derive(Drop)]
 pub struct Primitive<M> {
     name: Bytes,
     arity: usize,
     action: Action,
+    calculator: Option<Calculator>,
     meaning: PhantomData<M>,
     ghost may_run: { (args : _) → length args.now ≡ arity → Action.pre action args },
 }
@@ -44,6 +57,26 @@ impl<M: PrimMeaning> Primitive<M> {
             name,
             arity,
             action,
+            calculator: None,
+            meaning: PhantomData,
+        }
+    }
+
+    /// Returns the primitive with a second function for calls on two integers, which needs neither a slice nor `Flat`. The function may be
+    /// called on any two integers, and returns what the meaning has for the name and them.
+    pub fn with_calculation(self, calculation: Calculation) -> Primitive<M>
+        requires may_run { (left right : ℤ) → Calculation.pre calculation left right }
+        requires answers { AnswersAs M.answer self }
+        requires calculates { CalculatesBy (Calculation.post calculation) (M.answer (name_of self)) }
+        ensures name { name_of result ≡ name_of self }
+        ensures arity { arity_of result ≡ arity_of self }
+        ensures answers { AnswersAs M.answer result }
+    {
+        Primitive {
+            name: self.name,
+            arity: self.arity,
+            action: self.action,
+            calculator: Some(Calculator { calculation }),
             meaning: PhantomData,
         }
     }
@@ -70,6 +103,17 @@ impl<M: PrimMeaning> Primitive<M> {
         ensures { IfOk result (λ answer. answer_of answer ≡ M.answer (name_of self.now) (values_of args.now)) }
     {
         (self.action)(args)
+    }
+
+    /// Calls the function on two integers, if there is one: returns what the meaning has for the name and the integers. `None` where
+    /// there is no such function. Takes no memory.
+    pub fn calculate(&self, left: i64, right: i64) -> Option<Option<i64>>
+        requires answers { AnswersAs M.answer self.now }
+        ensures { IfSome result (λ answer. option_map number answer ≡
+            M.answer (name_of self.now) (number left ∷ number right ∷ [])) }
+    {
+        let calculator = self.calculator.as_ref()?;
+        Some((calculator.calculation)(left, right))
     }
 }
 

@@ -2,6 +2,8 @@
 ghost use Rattle.std.specs.Prelude.{◌≡◌, ◌↔◌, ◌⊎◌, ◌++◌, ◌∷◌, ◌<◌, [], length, Contains, Err, IsTrue, IfOk, IfErr, IfSome, IsSome, OnOk, OnErr};
 ghost use Rattle.prim_registry.specs.Entries.{arity_of, entries_of, entry_at, name_of, primitives_of, AnswersAs, AreNamesOf, Covers, HasName, IsHonest};
 ghost use Rattle.prim_registry.specs.Values.{answer_of, values_of};
+ghost use Rattle.std.specs.Option.{option_map};
+ghost use Rattle.term_model.specs.Flat.{number};
 ghost use Rattle.term_model.specs.declared.fault.Fault.TheVariants.{DuplicateDeclaration, Memory};
 
 use crate::flat::Flat;
@@ -131,6 +133,17 @@ impl<M: PrimMeaning> Registry<M> {
             Ok(answer) => Ok(answer),
             Err(AllocError) => Err(Fault::Memory),
         }
+    }
+
+    /// Calls the function on two integers of the primitive at this place, if it has one: returns what the meaning has for its name and
+    /// the integers. `None` where it has none. Takes no memory.
+    pub fn calculate_at(&self, index: usize, left: i64, right: i64) -> Option<Option<i64>>
+        requires honest { IsHonest M.answer self.now }
+        requires within { index < length (entries_of self.now) }
+        ensures { IfSome result (λ answer. option_map number answer ≡
+            M.answer (entry_at self.now index).0 (number left ∷ number right ∷ [])) }
+    {
+        self.primitives[index].calculate(left, right)
     }
 
     /// Calls the primitive of this name, which takes as many arguments as there are: returns what the meaning has for the name and

@@ -6,6 +6,7 @@ ghost use Rattle.prim_registry.specs.Values.{answer_of, values_of};
 ghost use Rattle.term_model.specs.Flat.{number};
 
 use crate::arguments::{one_text, two_integers};
+use crate::calculations::{difference, lesser, product, quotient, remainder, sum};
 use crate::flat::Flat;
 use crate::primitive::PrimMeaning;
 pub use crate::texts::{concat, explode, implode, int_text, text_int};
@@ -30,7 +31,7 @@ pub fn add(args: &[Flat]) -> Option<Flat>
     ensures { answer_of result ≡ standard (codes "add") (values_of args.now) }
 {
     let (left, right) = two_integers(args)?;
-    answer(left.checked_add(right))
+    answer(sum(left, right))
 }
 
 /// Returns the first of two integers without the second, where that has 64 bits; `None` at other arguments.
@@ -38,7 +39,7 @@ pub fn sub(args: &[Flat]) -> Option<Flat>
     ensures { answer_of result ≡ standard (codes "sub") (values_of args.now) }
 {
     let (left, right) = two_integers(args)?;
-    answer(left.checked_sub(right))
+    answer(difference(left, right))
 }
 
 /// Returns the product of two integers, where it has 64 bits; `None` at other arguments.
@@ -46,7 +47,7 @@ pub fn mul(args: &[Flat]) -> Option<Flat>
     ensures { answer_of result ≡ standard (codes "mul") (values_of args.now) }
 {
     let (left, right) = two_integers(args)?;
-    answer(left.checked_mul(right))
+    answer(product(left, right))
 }
 
 /// Returns the quotient of two integers, cut towards 0. `None` where the second is 0, where the quotient has more than 64 bits, and
@@ -55,10 +56,7 @@ pub fn div(args: &[Flat]) -> Option<Flat>
     ensures { answer_of result ≡ standard (codes "div") (values_of args.now) }
 {
     let (left, right) = two_integers(args)?;
-    if right == 0 {
-        return None;
-    }
-    answer(left.checked_div(right))
+    answer(quotient(left, right))
 }
 
 /// Returns what is left of the first of two integers without the second times their quotient, which is cut towards 0 and may
@@ -67,10 +65,7 @@ pub fn modulo(args: &[Flat]) -> Option<Flat>
     ensures { answer_of result ≡ standard (codes "mod") (values_of args.now) }
 {
     let (left, right) = two_integers(args)?;
-    if right == 0 {
-        return None;
-    }
-    Some(Flat::Int(left.wrapping_rem(right)))
+    answer(remainder(left, right))
 }
 
 /// Returns the first of two integers where it is less than the second; `None` where it is not, and at other arguments.
@@ -78,11 +73,7 @@ pub fn less(args: &[Flat]) -> Option<Flat>
     ensures { answer_of result ≡ standard (codes "less") (values_of args.now) }
 {
     let (left, right) = two_integers(args)?;
-    if left < right {
-        Some(Flat::Int(left))
-    } else {
-        None
-    }
+    answer(lesser(left, right))
 }
 
 /// Returns the number of bytes of a string, where it has 64 bits; `None` at other arguments.

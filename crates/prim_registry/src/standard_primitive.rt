@@ -1,9 +1,12 @@
 //! The standard primitives as values, for whoever registers them.
-ghost use Rattle.std.specs.Prelude.{◌≡◌, IfOk};
+ghost use Rattle.std.specs.Prelude.{◌≡◌, ◌∷◌, [], IfOk, IsTrue};
+ghost use Rattle.std.specs.Option.{option_map};
 ghost use Rattle.prim_registry.specs.Standard.{standard};
-ghost use Rattle.prim_registry.specs.StandardPrimitives.{key_of};
+ghost use Rattle.prim_registry.specs.StandardPrimitives.{is_arithmetic, key_of};
 ghost use Rattle.prim_registry.specs.Values.{answer_of, values_of};
+ghost use Rattle.term_model.specs.Flat.{number};
 
+use crate::calculations::{difference, lesser, product, quotient, remainder, sum};
 use crate::flat::Flat;
 use crate::standard::{
     add, concat, div, explode, implode, int_text, length, less, modulo, mul, sub, text_int,
@@ -101,6 +104,37 @@ impl StandardPrimitive {
             StandardPrimitive::Implode => implode(alloc, args),
             StandardPrimitive::IntText => int_text(alloc, args),
             StandardPrimitive::TextInt => Ok(text_int(args)),
+        }
+    }
+
+    /// Whether it takes two integers and returns an integer or none.
+    pub fn is_arithmetic(self) -> bool
+        ensures { result ≡ is_arithmetic self }
+    {
+        matches!(
+            self,
+            StandardPrimitive::Add
+                | StandardPrimitive::Sub
+                | StandardPrimitive::Mul
+                | StandardPrimitive::Div
+                | StandardPrimitive::Mod
+                | StandardPrimitive::Less
+        )
+    }
+
+    /// Returns what an arithmetic primitive has for two integers, and `None` for each other primitive.
+    pub fn calculate(self, left: i64, right: i64) -> Option<i64>
+        ensures { IsTrue (is_arithmetic self) →
+            option_map number result ≡ standard (key_of self).0 (number left ∷ number right ∷ []) }
+    {
+        match self {
+            StandardPrimitive::Add => sum(left, right),
+            StandardPrimitive::Sub => difference(left, right),
+            StandardPrimitive::Mul => product(left, right),
+            StandardPrimitive::Div => quotient(left, right),
+            StandardPrimitive::Mod => remainder(left, right),
+            StandardPrimitive::Less => lesser(left, right),
+            _ => None,
         }
     }
 }

@@ -1,4 +1,4 @@
-// The standard primitives on strings. Each function takes the arguments of a call, of whatever number and kinds.
+//! The standard primitives on strings. Each function takes the arguments of a call, of whatever number and kinds.
 ghost use Rattle.std.specs.Prelude.{◌≡◌, ◌<◌, ◌≤◌, codes, length, map, pos, true, IfOk, MatchOption};
 ghost use Rattle.std.specs.List.{list_all};
 ghost use Rattle.std.specs.Option.{option_map};

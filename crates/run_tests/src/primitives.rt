@@ -1,9 +1,15 @@
 //! The standard primitives, and registries of primitives; what is expected was worked out by hand.
-ghost use Rattle.prim_registry.specs.Entries.{IsHonest};
+ghost use Rattle.std.specs.Prelude.{◌≡◌, ◌<◌, ◌∷◌, [], IfOk, IsTrue, length};
+ghost use Rattle.std.specs.Option.{option_map};
+ghost use Rattle.term_model.specs.Flat.{number};
+ghost use Rattle.prim_registry.specs.Entries.{IsHonest, entries_of};
+ghost use Rattle.prim_registry.specs.Standard.{standard};
+ghost use Rattle.prim_registry.specs.StandardPrimitives.{is_arithmetic, key_of};
+ghost use Rattle.prim_registry.specs.Values.{answer_of, values_of};
 
 use prim_registry::standard::add;
 use prim_registry::{
-    Action, Bytes, Flat, Numbers, Prim, PrimMeaning, Registry, STANDARD, Standard,
+    Action, Bytes, Calculation, Flat, Numbers, Prim, PrimMeaning, Registry, STANDARD, Standard,
 };
 use std::alloc::{AllocError, Global};
 use std::test::Fail;
@@ -197,21 +203,53 @@ fn returns(alloc: Global, registry: &Registry<Standard>, case: &Case) -> Result<
         return Ok(false);
     };
     let answer = registry.call_at(index, &args)?;
-    Ok(is_expected(&answer, expected))
+    Ok(is_expected(&answer, expected) && calculates(registry, index, case))
 }
 
-/// Each primitive returns what is expected, where the standard primitives are registered.
+/// Whether the primitive at this place has the same for two integers, if the arguments are these.
+fn calculates(registry: &Registry<Standard>, index: usize, case: &Case) -> bool
+    requires honest { IsHonest ⟦<Standard as PrimMeaning>⟧.answer registry.now }
+    requires within { index < length (entries_of registry.now) }
+{
+    let (_, samples, expected) = case;
+    let [left, right] = samples else {
+        return true;
+    };
+    let (Int(left), Int(right)) = (left, right) else {
+        return true;
+    };
+    match registry.calculate_at(index, *left, *right) {
+        Some(value) => is_expected(&value.map(Flat::Int), expected),
+        None => false,
+    }
+}
+
+/// Each primitive returns what is expected, where the standard primitives are registered, the arithmetic ones with their functions on two
+/// integers.
 fn check_cases(alloc: Global, cases: &[Case]) -> Result<(), Fail> {
     let mut registry = Registry::<Standard>::new(alloc);
     for primitive in STANDARD {
         let action: Action = Box::new(
             alloc,
-            move |args: &[Flat]| -> Result<Option<Flat>, AllocError> {
-                primitive.answer(alloc, args)
-            },
+            move |args: &[Flat]| -> Result<Option<Flat>, AllocError>
+                ensures { IfOk result (λ answer. answer_of answer ≡
+                    standard (key_of primitive).0 (values_of args.now)) }
+            { primitive.answer(alloc, args) },
+        )?;
+        let calculation: Calculation = Box::new(
+            alloc,
+            move |left: i64, right: i64| -> Option<i64>
+                ensures { IsTrue (is_arithmetic primitive) → option_map number result ≡
+                    standard (key_of primitive).0 (number left ∷ number right ∷ []) }
+            { primitive.calculate(left, right) },
         )?;
         let name = primitive.name().to_vec(alloc)?;
-        registry.register(Prim::new(name, primitive.arity(), action))?;
+        let plain = Prim::new(name, primitive.arity(), action);
+        if primitive.is_arithmetic() {
+            registry.register(plain.with_calculation(calculation))?;
+        } else {
+            registry.register(plain)?;
+        }
     }
     for case in cases {
         if !returns(alloc, &registry, case)? {

@@ -59,11 +59,15 @@ module _ {R : Type 0} (keys : List NameKey) (M : Meaning) (f : List ℕ) (term_o
   pub not_called : at ≡ None → option_map flat.term_of (option_and_then (registered keys M f) (all_flat (trees_of (map term_of rs)))) ≡ None
   not_called is = ap (option_map flat.term_of) (nothing_called keys M f (map term_of rs) (length rs) (length-map rs term_of) (subst (λ o. IsPosition keys o (f, length rs)) is position))
 
+  pub calculated_at : (i : ℕ) (v : Option FlatValue) → at ≡ Some i → v ≡ option_and_then (M (key_at keys i).0) (all_flat (trees_of (map term_of rs))) →
+      option_map flat.term_of v ≡ option_map flat.term_of (option_and_then (registered keys M f) (all_flat (trees_of (map term_of rs))))
+  calculated_at i v is call =
+      let there = subst (λ o. IsPosition keys o (f, length rs)) is position in
+      ap (option_map flat.term_of) (was_called keys M f (map term_of rs) (length rs) (length-map rs term_of) i v there.0 there.1 call)
+
   pub called_at : (i : ℕ) (v : Option FlatValue) (t : Tree) → at ≡ Some i → v ≡ option_and_then (M (key_at keys i).0) (all_flat (trees_of (map term_of rs))) → option_map flat.term_of v ≡ Some t →
       option_map flat.term_of (option_and_then (registered keys M f) (all_flat (trees_of (map term_of rs)))) ≡ Some t
-  called_at i v t is call made =
-      let there = subst (λ o. IsPosition keys o (f, length rs)) is position in
-      ap (option_map flat.term_of) (sym (was_called keys M f (map term_of rs) (length rs) (length-map rs term_of) i v there.0 there.1 call)) ∙ made
+  called_at i v t is call made = sym (calculated_at i v is call) ∙ made
 
 -- as many references as patterns
 as_many_instances : {R : Type 0} (f : R → Tree) (place : Coordinate → Option ℕ) (e : Bindings) (ps : List (Pattern Coordinate)) (rs : List R) → instances place (patterns_in ps) e ≡ Some (trees f rs) → length rs ≡ length ps

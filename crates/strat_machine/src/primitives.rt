@@ -104,11 +104,54 @@ fn answer<S: TermSpace, M: PrimMeaning>(
     let Some(index) = position else {
         return Ok(Built::NoInstance);
     };
+    if let Some(value) = calculate(space, registry, index, terms) {
+        let built = make_integer(space, alloc, value)?;
+        return Ok(built);
+    }
     let Some(value) = call(space, alloc, registry, index, terms, values)? else {
         return Ok(Built::NoInstance);
     };
     let made = make_flat(space, alloc, &value)?;
     Ok(outcome(made))
+}
+
+// Calls the function on two integers of the primitive at a place of the registry, if it has one and the terms are two integers.
+fn calculate<S: TermSpace, M: PrimMeaning>(
+    space: &S,
+    registry: &Registry<M>,
+    index: usize,
+    terms: &[S::Ref],
+) -> Option<Option<i64>>
+    requires honest { IsHonest M.answer registry.now }
+    requires within { index < length (entries_of registry.now) }
+    requires standing { AllRefs (λ r. IsTrue (S.space.stands space.now r)) terms.now }
+    ensures { IfSome result (λ value. option_map flat.number value ≡
+        option_and_then (M.answer (entry_at registry.now index).0)
+        (all_flat (trees_of (map (S.space.term_of space.now) terms.now)))) }
+{
+    let [left, right] = terms else {
+        return None;
+    };
+    let left = space.int_of(left)?;
+    let right = space.int_of(right)?;
+    registry.calculate_at(index, left, right)
+}
+
+// Makes the integer, if there is one.
+fn make_integer<S: TermSpace>(
+    space: &mut S,
+    alloc: Global,
+    value: Option<i64>,
+) -> Result<Built<S::Ref>, AllocError>
+    ensures keeps { Keeps S.space space.old space.new }
+    ensures made { IfOk result
+        (Builds S.space space.new (option_map flat.term_of (option_map flat.number value))) }
+{
+    let Some(value) = value else {
+        return Ok(Built::NoInstance);
+    };
+    let made = space.int(alloc, value)?;
+    Ok(Built::Made(made))
 }
 
 // Calls the primitive at a place of the registry with the flat values that the terms are, if each is one. The values are

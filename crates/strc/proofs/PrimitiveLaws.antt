@@ -74,12 +74,12 @@ pub whole : (i : ℕ) (keys : List NameKey) → length standard_primitives ≤ i
 whole i keys end so = so ∙ ap (map key_of) (take_whole i standard_primitives end)
 
 -- the names that a registry has
-named : {M X : Type 0} {F : X → Type 0} {g : _} (ps : List (Primitive M X F g)) → map name_of ps ≡ names_of (map entry_of ps)
+named : {M X Y : Type 0} {F : X → Type 0} {G : Y → Type 0} {g : _} {h : _} (ps : List (Primitive M X Y F G g h)) → map name_of ps ≡ names_of (map entry_of ps)
 named [] = refl
 named (p ∷ ps) = ap (λ xs. p.name ∷ xs) (named ps)
 
 -- a name that the registry lacks can be registered, but for memory
-pub memory_alone : {M X : Type 0} {F : X → Type 0} {g : _} {A : Type 0} (r : Registry M X F g) (name other : List ℕ) (w : Result A Fault) → other ≡ name
+pub memory_alone : {M X Y : Type 0} {F : X → Type 0} {G : Y → Type 0} {g : _} {h : _} {A : Type 0} (r : Registry M X Y F G g h) (name other : List ℕ) (w : Result A Fault) → other ≡ name
     → (Contains (names_of (entries_of r)) name → ⊥) → ((w ≡ Err DuplicateDeclaration) ↔ HasName r other)
     → IfErr w (λ fault. (fault ≡ DuplicateDeclaration) ⊎ (fault ≡ Memory)) → IfErr w (λ fault. fault ≡ Memory)
 memory_alone r name other (Ok v) is free duplicate kinds = tt

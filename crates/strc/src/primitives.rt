@@ -1,16 +1,19 @@
 //! The standard primitives, and the program over a registry of them.
-ghost use Rattle.std.specs.Prelude.{◌≡◌, ◌+◌, ◌<◌, ◌≤◌, ◌++◌, ◌∷◌, ℕ, [], List, length, Contains, IfErr, IfSome, IsOkAnd, OnOk};
+ghost use Rattle.std.specs.Prelude.{◌≡◌, ◌+◌, ◌<◌, ◌≤◌, ◌++◌, ◌∷◌, ℕ, ℤ, [], List, length, Contains, IsTrue, IfErr, IfOk, IfSome, IsOkAnd, OnOk};
+ghost use Rattle.std.specs.Option.{option_map};
+ghost use Rattle.term_model.specs.Flat.{number};
 ghost use Rattle.term_model.specs.declared.fault.Fault.{Fault};
-ghost use Rattle.prim_registry.specs.Answers.{AnswersBy};
+ghost use Rattle.prim_registry.specs.Answers.{AnswersBy, CalculatesBy};
 ghost use Rattle.prim_registry.specs.Entries.{IsHonest, entries_of};
 ghost use Rattle.prim_registry.specs.Standard.{standard};
+ghost use Rattle.prim_registry.specs.Values.{answer_of, values_of};
 ghost use Rattle.str_pipeline.specs.declared.status.Options.{Options};
 ghost use Rattle.str_pipeline.specs.declared.status.Status.{Status};
 ghost use Rattle.str_pipeline.specs.Joined.{IsSplit};
 ghost use Rattle.str_pipeline.specs.Written.{HasWritten, HasBegun};
 ghost use Rattle.str_pipeline.specs.Faults.{HoldsRefusal, IsTransferFault};
 ghost use Rattle.str_pipeline.specs.Limits.{max_definitions, max_term};
-ghost use Rattle.prim_registry.specs.StandardPrimitives.{key_of};
+ghost use Rattle.prim_registry.specs.StandardPrimitives.{is_arithmetic, key_of};
 ghost use Rattle.strc.specs.Primitives.{names_of, standard_setting};
 ghost use Rattle.strc.specs.Report.{exit_of, IsCause, TellsStop, IsReported};
 ghost use Rattle.strc.specs.Request.{ArePlain};
@@ -20,30 +23,39 @@ use crate::program::run;
 use crate::stopping::stop;
 use crate::words::refuse;
 use prim_registry::{
-    Action, Flat, Prim, PrimMeaning, Registry, STANDARD, Standard, StandardPrimitive,
+    Action, Calculation, Flat, Prim, PrimMeaning, Registry, STANDARD, Standard, StandardPrimitive,
 };
 use std::alloc::{AllocError, Global};
 use std::io;
 use str_pipeline::{Sink, Source};
 use term_model::Fault;
 
-/// Registers a standard primitive, whose name the registry does not have, with its function. The fault is `Memory`.
+/// Registers a standard primitive, whose name the registry does not have, with its function and, if it is arithmetic, with that on two
+/// integers. The fault is `Memory`.
 fn register(
     alloc: Global,
     registry: &mut Registry<Standard>,
     primitive: StandardPrimitive,
     action: Action,
+    calculation: Calculation,
 ) -> Result<(), Fault>
     requires honest { IsHonest ⟦<Standard as PrimMeaning>⟧.answer registry.old }
     requires fresh { Contains (names_of (entries_of registry.old)) (key_of primitive).0 → ⊥ }
     requires may_run { (args : _) → length args.now ≡ (key_of primitive).1 → Action.pre action args }
     requires answers { AnswersBy (Action.post action) (key_of primitive).1 (standard (key_of primitive).0) }
+    requires may_calculate { (left right : ℤ) → Calculation.pre calculation left right }
+    requires calculates { IsTrue (is_arithmetic primitive) →
+        CalculatesBy (Calculation.post calculation) (standard (key_of primitive).0) }
     ensures honest { IsHonest ⟦<Standard as PrimMeaning>⟧.answer registry.new }
     ensures registered { OnOk result (entries_of registry.new ≡ entries_of registry.old ++ key_of primitive ∷ []) }
     ensures fault { IfErr result (λ fault. fault ≡ Fault.Memory) }
 {
     let name = primitive.name().to_vec(alloc)?;
-    registry.register(Prim::new(name, primitive.arity(), action))
+    let plain = Prim::new(name, primitive.arity(), action);
+    if !primitive.is_arithmetic() {
+        return registry.register(plain);
+    }
+    registry.register(plain.with_calculation(calculation))
 }
 
 /// Does as `run` does, over the twelve standard primitives. They are registered before the words of the command line are looked at; where
@@ -85,14 +97,25 @@ pub fn run_standard<P: Paths, I: Source, W: Sink, E: Sink>(
     for primitive in STANDARD {
         let boxed = Box::new(
             alloc,
-            move |args: &[Flat]| -> Result<Option<Flat>, AllocError> {
-                primitive.answer(alloc, args)
-            },
+            move |args: &[Flat]| -> Result<Option<Flat>, AllocError>
+                ensures { IfOk result (λ answer. answer_of answer ≡
+                    standard (key_of primitive).0 (values_of args.now)) }
+            { primitive.answer(alloc, args) },
         );
         let Ok(action) = boxed else {
             return stop(&Fault::Memory, diagnostics);
         };
-        if let Err(fault) = register(alloc, &mut registry, primitive, action) {
+        let boxed = Box::new(
+            alloc,
+            move |left: i64, right: i64| -> Option<i64>
+                ensures { IsTrue (is_arithmetic primitive) → option_map number result ≡
+                    standard (key_of primitive).0 (number left ∷ number right ∷ []) }
+            { primitive.calculate(left, right) },
+        );
+        let Ok(calculation) = boxed else {
+            return stop(&Fault::Memory, diagnostics);
+        };
+        if let Err(fault) = register(alloc, &mut registry, primitive, action, calculation) {
             return stop(&fault, diagnostics);
         }
     }

@@ -66,6 +66,24 @@ returns-in_default-clause-plain_stopped g c = λ alone four. (
       c.loop-primitive.invariant.silent (line_told _ Memory _ _ _ _ c.stop.ensures.told),
 )
 
+pub returns-in_default-boxed-clause-stopped : goal.returns-in_default-boxed-clause-stopped
+returns-in_default-boxed-clause-stopped g c = λ four. (
+  Memory,
+  (omega arith, omega arith),
+  subst (λ before. TellsStop (record { before = g.W.Sink.failed_writes c.args.out.now; after = g.W.Sink.failed_writes c.args.out.now }) Memory
+      (g.E.Sink.failed_writes before) (g.E.Sink.failed_writes c.stop-in_default-boxed.new.diagnostics) (g.E.Sink.written before) (g.E.Sink.written c.stop-in_default-boxed.new.diagnostics))
+      c.loop-primitive.invariant.silent (line_told _ Memory _ _ _ _ c.stop-in_default-boxed.ensures.told),
+)
+
+pub returns-in_default-boxed-clause-plain_stopped : goal.returns-in_default-boxed-clause-plain_stopped
+returns-in_default-boxed-clause-plain_stopped g c = λ alone four. (
+  Memory,
+  (refl, refl),
+  subst (λ before. TellsStop (record { before = g.W.Sink.failed_writes c.args.out.now; after = g.W.Sink.failed_writes c.args.out.now }) Memory
+      (g.E.Sink.failed_writes before) (g.E.Sink.failed_writes c.stop-in_default-boxed.new.diagnostics) (g.E.Sink.written before) (g.E.Sink.written c.stop-in_default-boxed.new.diagnostics))
+      c.loop-primitive.invariant.silent (line_told _ Memory _ _ _ _ c.stop-in_default-boxed.ensures.told),
+)
+
 pub returns-clause-stopped : goal.returns-clause-stopped
 returns-clause-stopped g c = λ four. (
   Memory,
