@@ -1,20 +1,16 @@
 use Rattle.std.proofs.Common.{◌<◌, [], arith, length, subst, sym}
-use Rattle.std.proofs.lemmas.Bool.{ltb-true}
 use Rattle.term_model.specs.Term.{Tree, parts_of, term}
 use Rattle.term_model.specs.declared.term.Head.TheVariants as heads
 use Rattle.term_model.specs.Blocks.{list_in}
 use Rattle.term_store.specs.Shapes.{shape_parts}
-use Rattle.term_store.specs.Space.{count}
-use Rattle.term_store.proofs.ShapeLaws.{integer_term}
+use Rattle.term_store.proofs.ShapeLaws.{integer_standing}
 use Rattle.term_store.proofs.LawsOfSpace.{count_at, there, item_at, part_stands, part_is}
 use Rattle.term_store.proofs.space.StoreSpaceTermSpace.part.Goals as goal
 
 pub unreachable-requires : goal.unreachable-requires
 unreachable-requires c =
-    let s = c.args.self.now in
-    let at = c.args.at.now in
     let is = c.in-None.ensures in
-    let integer = integer_term s at is.0 (ltb-true at (count s) c.requires.stands) is.1 in
+    let integer = integer_standing c.args.self.now c.args.at.now c.requires.stands is in
     let none : c.args.index < length (parts_of (term (heads.Int is.0) [] [])) = subst (λ (t : Tree). c.args.index < length (parts_of t)) integer c.requires.within in
     omega arith
 
