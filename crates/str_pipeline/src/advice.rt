@@ -31,6 +31,16 @@ pub enum Advice {
     WildcardAsStrategy,
     /// Annotations stand after a strategy.
     AnnotatedStrategy,
+    /// A rule stands in place of a strategy.
+    RuleInStrategy,
+    /// A strategy stands in place of a rule.
+    StrategyAfterColon,
+    /// Terms are compared by `=` in a condition.
+    EqualsInCondition,
+    /// A rule has a further `where`.
+    SecondCondition,
+    /// A pattern takes a term apart whatever its constructor.
+    AnyConstructor,
     /// An unknown strategy has a name such as constructors have.
     UndeclaredConstructor,
     /// The outcome of a run is given as a text.
@@ -99,6 +109,19 @@ impl Advice {
             Advice::WildcardAsStrategy =>
                 "'_' is a pattern; a strategy that succeeds on each term is id",
             Advice::AnnotatedStrategy => "annotations stand only in patterns, such as ?p{a}",
+            Advice::RuleInStrategy => {
+                "a rule in a strategy is written \\ p -> q \\; one with a name is name : p -> q"
+            }
+            Advice::StrategyAfterColon => {
+                "a strategy is defined with '='; after ':' there is a rule p -> q"
+            }
+            Advice::EqualsInCondition => {
+                "'=' begins a definition; for a comparison of x and y write !x => y"
+            }
+            Advice::SecondCondition => "a rule has one 'where'; join conditions with ';'",
+            Advice::AnyConstructor => {
+                "c#(xs) is not supported; get-arguments of the prelude returns the parts of a term"
+            }
             Advice::UndeclaredConstructor => "if it is a constructor, declare it in a signature",
             Advice::Outcome =>
                 "this is the outcome of another run, which has no term as its result",
@@ -119,7 +142,7 @@ impl Advice {
             Advice::Module => {
                 "a file has no header; it begins with 'signature', 'rules' or 'strategies'"
             }
-            Advice::Imports => "write all definitions into one file",
+            Advice::Imports => "files are not imported; read another file with --with FILE",
             Advice::Overlays => "write the pattern itself in place of each overlay",
             Advice::With => "'where' does the same as long as its strategy succeeds",
             Advice::Conditional => "write 'if', or s1 < s2 + s3",

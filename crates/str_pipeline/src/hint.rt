@@ -59,6 +59,10 @@ pub enum NameHint {
         name: Shown,
         parts: usize,
     },
+    /// What seems to be a definition is declared as a constructor of this name.
+    AmongConstructors(Shown),
+    /// The prelude, which is not read, defines the name.
+    InPrelude(Shown),
     /// A primitive has the name, with another number of terms.
     OfPrimitive {
         name: Shown,
@@ -173,6 +177,11 @@ impl fmt::Display for NameHint {
                 let s = plural(*parts);
                 write!(f, "the constructor {name} has {parts} part{s}")
             }
+            NameHint::AmongConstructors(name) => write!(
+                f,
+                "{name} is declared as a constructor; definitions come after 'rules' or 'strategies'"
+            ),
+            NameHint::InPrelude(name) => write!(f, "{name} is in the prelude: use --with prelude"),
             NameHint::OfPrimitive { name, terms } => {
                 let s = plural(*terms);
                 write!(f, "the primitive {name} has {terms} term{s}")

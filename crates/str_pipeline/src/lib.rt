@@ -26,6 +26,8 @@ mod operations;
 mod phrases;
 mod pieces;
 mod pipeline;
+mod placement;
+mod prelude_names;
 mod program;
 mod progress;
 mod reason;

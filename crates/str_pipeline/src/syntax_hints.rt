@@ -7,6 +7,7 @@ use crate::hint::Hint;
 use crate::operations::{Operation, infix_hint, negative_hint, plus_hint};
 use crate::phrases::{is_keyword, is_mark, is_name};
 use crate::pieces::{piece, position_in};
+use crate::placement::{is_compared, is_in_rule, is_in_strategy, placement_advice};
 use crate::shown::Shown;
 use std::alloc::{AllocError, Global};
 use str_lexer::{Keyword, Mark, Token, TokenKind, lex};
@@ -140,7 +141,9 @@ impl<'a> Site<'a> {
                 Advice::Assignment,
             )),
             Mark::Colon if self.is_in_parameters() => Some(Hint::Advice(Advice::TypedParameters)),
+            Mark::Equals if is_compared(self) => Some(Hint::Advice(Advice::EqualsInCondition)),
             Mark::Colon | Mark::Equals => self.head_hint(self.name_in_front()?),
+            Mark::Arrow if is_in_strategy(self) => Some(Hint::Advice(Advice::RuleInStrategy)),
             Mark::Bar if self.is_swallowed() => self.head_hint(self.name_around()?),
             Mark::OpenParenthesis if self.comes_after(Keyword::Rules) => {
                 Some(Hint::Advice(Advice::DynamicRules))
@@ -176,6 +179,9 @@ impl<'a> Site<'a> {
                     | Expected::Pattern
             )
         );
+        if let Some(advice) = placement_advice(self, keyword) {
+            return Some(Hint::Advice(advice));
+        }
         let next = self.tokens.get(self.index.saturating_add(1));
         let is_called = next.is_some_and(|next| is_mark(next, Mark::OpenParenthesis));
         if keyword == Keyword::Rules && is_called {
@@ -244,8 +250,8 @@ impl<'a> Site<'a> {
         self.name_around().is_some_and(|name| self.is_head(name))
     }
 
-    // The index of the name in front of the token at fault, or of that in front of the parentheses there.
-    fn name_in_front(&self) -> Option<usize> {
+    /// The index of the name in front of the token at fault, or of that in front of the parentheses there.
+    pub(crate) fn name_in_front(&self) -> Option<usize> {
         let last = self.index.checked_sub(1)?;
         let name = if is_mark(self.tokens.get(last)?, Mark::CloseParenthesis) {
             self.opening_of(last)?.checked_sub(1)?
@@ -393,26 +399,34 @@ impl<'a> Site<'a> {
         match &token.kind {
             TokenKind::Keyword(keyword) => begins_section(*keyword),
             TokenKind::Name => self.is_head(self.index),
+            TokenKind::Mark(Mark::Arrow) => is_in_rule(self),
             _ => false,
         }
     }
 
     /// Whether the name at an index is followed by what follows the name of a definition.
     pub(crate) fn is_head(&self, name: usize) -> bool {
+        self.sign_after(name).is_some()
+    }
+
+    /// The index of the `=` or `:` after the name at an index and its parameters, if there is one.
+    pub(crate) fn sign_after(&self, name: usize) -> Option<usize> {
         let mut depth: usize = 0;
-        for token in self.tokens.iter().skip(name.saturating_add(1)) {
+        for index in name.saturating_add(1)..self.tokens.len() {
+            let token = self.tokens.get(index)?;
             if is_mark(token, Mark::OpenParenthesis) {
                 depth = depth.saturating_add(1);
                 continue;
             }
             if depth == 0 {
-                return is_mark(token, Mark::Equals) || is_mark(token, Mark::Colon);
+                let is_sign = is_mark(token, Mark::Equals) || is_mark(token, Mark::Colon);
+                return if is_sign { Some(index) } else { None };
             }
             if is_mark(token, Mark::CloseParenthesis) {
                 depth = depth.saturating_sub(1);
             }
         }
-        false
+        None
     }
 }
 

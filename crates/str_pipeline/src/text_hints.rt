@@ -3,6 +3,7 @@
 use crate::advice::Advice;
 use crate::hint::Hint;
 use crate::operations::sign_hint;
+use crate::shown::Shown;
 use std::alloc::Global;
 use term_model::bytes::{is_blank_byte, is_digit_byte};
 
@@ -29,7 +30,11 @@ pub(crate) fn lexical_hint(alloc: Global, before: &[u8], after: &[u8]) -> Option
     if begins_with_outcome(after) {
         return Some(Hint::Advice(Advice::Outcome));
     }
+    let follows_name = before.last().is_some_and(|last| continues_word(*last));
     match after.first() {
+        Some(b'#') if follows_name && after.starts_with(b"#(") => {
+            Some(Hint::Advice(Advice::AnyConstructor))
+        }
         Some(b'#') if !after.starts_with(b"#term") => Some(Hint::Advice(Advice::Comment)),
         Some(b'$') => Some(Hint::Advice(Advice::Interpolation)),
         Some(b'\'') => Some(Hint::Advice(Advice::SingleQuotes)),
@@ -42,10 +47,24 @@ pub(crate) fn lexical_hint(alloc: Global, before: &[u8], after: &[u8]) -> Option
 pub(crate) fn left_out_hint(text: &[u8]) -> Option<Hint> {
     for (word, advice) in LEFT_OUT {
         if begins_with_word(text, word.as_bytes()) {
-            return Some(Hint::Advice(*advice));
+            return Some(if is_name_before(&text[word.len().min(text.len())..]) {
+                Hint::KeywordAsName(Shown::new(word.as_bytes()))
+            } else {
+                Hint::Advice(*advice)
+            });
         }
     }
     None
+}
+
+// Whether what comes before this text seems to be a name: one that is defined, a variable or an argument.
+fn is_name_before(text: &[u8]) -> bool {
+    let at = text.iter().position(|byte| !is_blank_byte(*byte));
+    let next = at.and_then(|index| text.get(index));
+    matches!(
+        next,
+        Some(b',' | b')' | b'-' | b'=' | b':' | b';' | b']' | b'@')
+    )
 }
 
 /// What was probably meant by a text that is no term where this part of it comes before, and this one after.

@@ -8,7 +8,7 @@ use std::io::ErrorKind;
 const OUTPUT: &str = "stdout";
 
 /// What is said next where the installed prelude cannot be opened.
-const OTHER_FILES: &str = "hint: --with FILE takes any file\n";
+const OTHER_FILES: &str = "hint: without an installation write --with share/strc/prelude.str\n";
 
 /// What could not be opened, read or written, and why.
 #[derive(Clone, Copy, Drop)]
@@ -29,7 +29,7 @@ impl<'a> Failure<'a> {
         }
     }
 
-    /// A file in front of the definitions that could not be opened; of the installed prelude a hint says that any file will do.
+    /// A file in front of the definitions that could not be opened; where it is the installed prelude a hint names the file of the repository.
     pub(crate) fn of_library(
         path: &'a str,
         kind: Option<ErrorKind>,

@@ -236,6 +236,97 @@ const ROWS: &[(&str, &str)] = &[
     ),
 ];
 
+// The joined form, and the hint on a rule, a strategy or a condition in a place where it cannot be; nothing if there is none.
+const MISPLACED: &[(&str, &str)] = &[
+    (
+        "signature constructors P : N * N -> N strategies main = P(x, y) -> x\n#term\n1",
+        "a rule in a strategy is written \\ p -> q \\; one with a name is name : p -> q",
+    ),
+    (
+        "signature constructors P : N * N -> N strategies main = {x: innermost(P(x, y) -> x)}\n#term\n1",
+        "a rule in a strategy is written \\ p -> q \\; one with a name is name : p -> q",
+    ),
+    (
+        "signature constructors P : N -> N rules main : P(x -> x\n#term\n1",
+        "the '(' on line 1, column 49 is not closed",
+    ),
+    (
+        "strategies main : bottomup(id)\n#term\n1",
+        "a strategy is defined with '='; after ':' there is a rule p -> q",
+    ),
+    (
+        "rules main : x -> id\n#term\n1",
+        "'id' is a keyword and cannot be a name",
+    ),
+    (
+        "rules main : x -> y where x = y\n#term\n1",
+        "'=' begins a definition; for a comparison of x and y write !x => y",
+    ),
+    (
+        "rules main : x -> y where !x => z; z = y\n#term\n1",
+        "'=' begins a definition; for a comparison of x and y write !x => y",
+    ),
+    (
+        "strategies main = where(id); g = id\n#term\n1",
+        "the ';' on line 1 made 'g' part of the definition before it",
+    ),
+    (
+        "rules main : x -> y where !x => y where !y => x\n#term\n1",
+        "a rule has one 'where'; join conditions with ';'",
+    ),
+    ("strategies main = id where id\n#term\n1", ""),
+    (
+        "strategies main = ?c#(xs)\n#term\n1",
+        "c#(xs) is not supported; get-arguments of the prelude returns the parts of a term",
+    ),
+    (
+        "strategies main = id #(xs)\n#term\n1",
+        "comments begin with '//', or stand between '/*' and '*/'",
+    ),
+    (
+        "rules main : case -> case\n#term\n1",
+        "'case' is a keyword and cannot be a name",
+    ),
+    (
+        "strategies main = switch id case id : id end\n#term\n1",
+        "write 'if', or s1 < s2 + s3",
+    ),
+    (
+        "rules main : x -> <prim(\"addi\", x, x)>\n#term\n1",
+        "did you mean add?",
+    ),
+    ("rules main : x -> <prim(\"print\", x, x)>\n#term\n1", ""),
+];
+
+// The joined form, and the hint on a name that is not defined in the text, or not as a strategy; nothing if there is none.
+const DEFINED_ELSEWHERE: &[(&str, &str)] = &[
+    (
+        "strategies main = foldr(id, id)\n#term\n1",
+        "foldr is in the prelude: use --with prelude",
+    ),
+    (
+        "strategies main = zip\n#term\n1",
+        "zip is in the prelude: use --with prelude",
+    ),
+    (
+        "signature constructors Snd : N -> N strategies main = Snd\n#term\n1",
+        "the constructor Snd has 1 part",
+    ),
+    ("strategies main = insert_(id)\n#term\n1", ""),
+    (
+        "signature constructors A : N swap : A -> N strategies main = swap\n#term\n1",
+        "swap is declared as a constructor; definitions come after 'rules' or 'strategies'",
+    ),
+    (
+        "signature constructors A : N main : A -> N\n#term\n1",
+        "main is declared as a constructor; definitions come after 'rules' or 'strategies'",
+    ),
+    (
+        "signature constructors mian : N -> N strategies maim = id\n#term\n1",
+        "did you mean maim?",
+    ),
+];
+
 /// Whether the last line of the report is this hint or, where that is empty, no line of the report is one.
 fn has_hint(alloc: Global, text: &str, hint: &str) -> Result<bool, AllocError> {
     let ran = run_on(alloc, "strc", text.as_bytes(), None, None, None)?;
@@ -264,6 +355,16 @@ pub(crate) fn compare_hints(
 #[test]
 fn what_was_probably_meant(rt: HostRuntime) -> Result<(), Fail> {
     compare_hints(rt.alloc(), ROWS)
+}
+
+#[test]
+fn rules_and_strategies_in_the_wrong_place(rt: HostRuntime) -> Result<(), Fail> {
+    compare_hints(rt.alloc(), MISPLACED)
+}
+
+#[test]
+fn names_that_are_defined_elsewhere(rt: HostRuntime) -> Result<(), Fail> {
+    compare_hints(rt.alloc(), DEFINED_ELSEWHERE)
 }
 
 // The joined form of a run that fails, and the first line of its explanation.

@@ -198,7 +198,7 @@ const REFUSALS: &[Row] = &[
         "5",
         2,
         "#refused UnknownStrategy\n",
-        "strc: UnknownStrategy\nmore.str:1:20: strategy inc with 0 strategy and 0 term parameters is not defined\n    strategies twice = inc; inc\n                       ^\n",
+        "strc: UnknownStrategy\nmore.str:1:20: strategy inc with 0 strategy and 0 term parameters is not defined\n    strategies twice = inc; inc\n                       ^\nhint: inc is in the prelude: use --with prelude\n",
     ),
     (
         "strc --with open.str use.str",
@@ -251,7 +251,7 @@ const REMARKS: &[Row] = &[
         "",
         2,
         "",
-        "strc: UnknownStrategy\nextra.str:2:10: strategy inc with 0 strategy and 0 term parameters is not defined\nextra.str:3:11: strategy inc with 0 strategy and 0 term parameters is not defined\nguard.str:2:16: warning: y is never bound: this build always fails\n",
+        "strc: UnknownStrategy\nextra.str:2:10: strategy inc with 0 strategy and 0 term parameters is not defined\n  hint: inc is in the prelude: use --with prelude\nextra.str:3:11: strategy inc with 0 strategy and 0 term parameters is not defined\n  hint: inc is in the prelude: use --with prelude\nguard.str:2:16: warning: y is never bound: this build always fails\n",
     ),
     (
         "strc --explain --with lib.str --with guard.str use.str",
@@ -267,11 +267,11 @@ const PRELUDES: &[(Option<&str>, &str)] = &[
     (Some("home/prelude.str"), ""),
     (
         Some("away/prelude.str"),
-        "strc: Read\naway/prelude.str: no such file or directory\nhint: --with FILE takes any file\n",
+        "strc: Read\naway/prelude.str: no such file or directory\nhint: without an installation write --with share/strc/prelude.str\n",
     ),
     (
         None,
-        "strc: Read\nprelude: the place of the program is not known\nhint: --with FILE takes any file\n",
+        "strc: Read\nprelude: the place of the program is not known\nhint: without an installation write --with share/strc/prelude.str\n",
     ),
 ];
 

@@ -40,7 +40,7 @@ const ROWS: &[(&str, &str)] = &[
     ),
     (
         "strategies main = id ->\n#term\n1",
-        "strc: Syntax at byte 21\nstdin:1:22: unexpected '->': expected an operator, a definition or a section\n    strategies main = id ->\n                         ^\n",
+        "strc: Syntax at byte 21\nstdin:1:22: unexpected '->': expected an operator, a definition or a section\n    strategies main = id ->\n                         ^\nhint: a rule in a strategy is written \\ p -> q \\; one with a name is name : p -> q\n",
     ),
     (
         "strategies main = id;\n#term\n1",

@@ -148,7 +148,7 @@ const COMPARISONS: &[(&str, &str)] = &[
     ),
     (
         "signature constructors A : N * N -> N N : N -> N rules\n  main : A(x, y) -> x where x = y\n#term\n1",
-        "the 'where' on line 2 made 'x' part of the definition before it",
+        "'=' begins a definition; for a comparison of x and y write !x => y",
     ),
     (
         "signature constructors A : N * N -> N N : N -> N rules\n  main : A(x, y) -> x where x != y\n#term\n1",
