@@ -175,15 +175,23 @@ def report_failure(trees, screen, name, status):
         print("It was killed, most likely for lack of memory: `--jobs 1` takes less")
 
 
+def jobs_of(crate, others, way, jobs, lanes):
+    """How many jobs a crate has beside these others: all of them if there are no others, half of them if it has the longest way, and else one. A
+    proof with several jobs ends earlier, but takes more processor time."""
+    if lanes == 1 or not others:
+        return min(MOST, jobs)
+    return min(MOST, half(jobs)) if way[crate] >= max(way[it] for it in others) else 1
+
+
 def prove_all(trees, jobs, lanes, screen):
-    """Proves all crates, and returns whether that succeeded. A crate has half of the jobs, and all of them if no other crate can be proved."""
+    """Proves all crates, and returns whether that succeeded."""
     way, done, began = ways(trees.order, trees.uses), set(), time.monotonic()
     while len(done) < len(trees.order):
         waiting = [it for it in trees.order if it not in done and it not in trees.running]
         ready = sorted((it for it in waiting if done.issuperset(trees.uses[it])), key=lambda it: -way[it])
-        is_alone = lanes == 1 or len(ready) + len(trees.running) == 1
         for name in ready[: lanes - len(trees.running)]:
-            number = min(MOST, jobs if is_alone else half(jobs))
+            others = {*ready, *trees.running} - {name}
+            number = jobs_of(name, others, way, jobs, lanes)
             screen.line(f"{name}: begins, with {counted(number, 'job')}")
             trees.start(name, number)
         for name, status, seconds in trees.ended():
