@@ -6,11 +6,13 @@ pub mod StepLaws
 pub mod FailLaws
 pub mod TraversalLaws
 pub mod PartLaws
+pub mod FewParts
 pub mod PatternLaws
 pub mod TableLaws
 pub mod ActionLaws
 pub mod ReferenceFlats
 pub mod PrimitiveLaws
+pub mod CalculatingLaws
 pub mod SelectingLaws
 pub mod IndexLaws
 pub mod NumberLaws

@@ -47,8 +47,18 @@ lasts_stands S r w nexts.Oversize p m h = h
 lasts_stands S r w nexts.Spent p m h = h
 lasts_stands S r w nexts.Stuck p m h = h
 
+-- neither going on nor failing
+pub goes_on_not : (next : Next) → (next ≡ nexts.Running → ⊥) → (next ≡ nexts.Failing → ⊥) → GoesOn next → ⊥
+goes_on_not nexts.Running running failing h = running refl
+goes_on_not nexts.Failing running failing h = failing refl
+goes_on_not _ running failing h = absurd h
+
 -- a run has come to a position
 module _ {W R Y N : Type 0} {S : Space W R Y N} {code : Code} {M : Meaning} {w w1 : W} {t : R} {budget k : ℕ} {next : Next} {p : Position R} {m : Stacks R Y} where
+  pub way_at : {after : Next} → next ≡ after → UnderWay S code M w t budget k w1 next p m →
+      UnderWay S code M w t budget k w1 after p m
+  way_at is u = subst (λ n. UnderWay S code M w t budget k w1 n p m) is u
+
   pub way_holds : UnderWay S code M w t budget k w1 next p m → Stands S w t → Holds S w1 (state_of next p m)
   way_holds u st = (steps_keep u.steps (holds_at_start S w t budget st) tt).0
 

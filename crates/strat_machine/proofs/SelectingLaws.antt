@@ -15,17 +15,20 @@ use Rattle.term_model.specs.Space.{Space, IsApplied, IsList}
 use Rattle.term_model.specs.Term.{Tree, node, Trees, end, more, head_of, list_of}
 use Rattle.term_model.proofs.FitsLaws.{both}
 use Rattle.core_lang.specs.Roots.{Root, are_many, has_root, integer_root, symbol_root, list_root}
-use Rattle.strat_code.specs.Code.{select}
+use Rattle.strat_code.specs.Code.{Instr, select}
 use Rattle.strat_steps.specs.State.{Frame, run_spent, saved}
 use Rattle.strat_steps.specs.References.{Places, RefRecord, RefState, ref_choice, ref_running, ref_stopped}
 use Rattle.strat_steps.specs.ReferenceSteps.{Selecting, selects_none, selects_this, selects_later, selects_spent, selects}
 use Rattle.strat_machine.specs.RecordStack.{records_of}
 use Rattle.strat_machine.specs.Stacks.{Performs, PutsChoice, state_of}
+use Rattle.strat_machine.specs.Selecting.{Selects}
 use Rattle.strat_machine.specs.Indexing.{nodes_before, IsFirst}
 use Rattle.strat_machine.specs.Tables.{root_meant, case_has, case_meant, cases_meant, loaded_at, RootKnown, CasesKnown, TableKnown, TablesKnown}
 use Rattle.strat_machine.proofs.StepLaws.{does_to}
 use Rattle.strat_machine.specs.declared.tables.LoadedCase.{LoadedCase}
 use Rattle.strat_machine.specs.declared.tables.LoadedTable.{LoadedTable}
+use Rattle.strat_machine.specs.declared.select.Selected.{Selected}
+use Rattle.strat_machine.specs.declared.select.Selected.TheVariants as selected
 use Rattle.strat_machine.specs.declared.stacks.Stacks.{Stacks}
 use Rattle.strat_machine.specs.declared.stacks.Position.{Position}
 use Rattle.strat_machine.specs.declared.stacks.Next.{Next}
@@ -121,9 +124,11 @@ module _ {W R Y N : Type 0} (S : Space W R Y N) (symbol_of : N → Symbol) (w : 
           Performs S M (select n (map (case_meant symbol_of) cs) last) j p w m w Spent p m1
       spent_at_case M n j other low = selects (comes_here (ref_stopped run_spent m1.left) (selects_spent other low))
 
-      pub selects_case : (M : Meaning) (n j : ℕ) (m2 : Stacks R Y) → has_root (root_meant symbol_of c.root) (S.term_of w p.term) ≡ true → PutsChoice S w m1 c.otherwise p m2 →
-          Performs S M (select n (map (case_meant symbol_of) cs) last) j p w m w Running (record p { address = c.body }) m2
-      selects_case M n j m2 has x =
+      pub selects_case : (M : Meaning) (n j : ℕ) → has_root (root_meant symbol_of c.root) (S.term_of w p.term) ≡ true →
+          Selects S M (select n (map (case_meant symbol_of) cs) last) j p w m (selected.Case c.otherwise) (record p {
+            address = c.body;
+          }) m1
+      selects_case M n j has m2 x =
           let run : Stacks R Y → RefState R Y = λ v. ref_running c.body p.frame p.term v.places.slots v.frames v.places.trail (length v.places.slots)
           (ref_choice c.otherwise p.term (saved p.frame (length v.frames) (length v.places.trail) v.places.barrier) x.mark ∷ records_of v.records) v.left in
           does_to (selects (comes_here (run (record m { left = m1.left })) (selects_this has x.marks))) (sym (x.leads c.body ∙ ap run so_far.kept))
@@ -202,9 +207,11 @@ drop_at xs i x is =
 
 module _ {W R Y N : Type 0} (S : Space W R Y N) (symbol_of : N → Symbol) (w : W) (last : ℕ) (p : Position R) (cs : List (LoadedCase N)) (m : Stacks R Y) where
   -- a walk over the cases from number k on
-  pub walks_rest : (M : Meaning) (n j k : ℕ) (rest : List (LoadedCase N)) (next : Next) (q : Position R) (m1 : Stacks R Y) → rest ≡ drop k cs → Performs S M (select n (map (case_meant symbol_of) rest) last) j p w m w next q m1 →
-      Performs S M (select n (drop k (map (case_meant symbol_of) cs)) last) j p w m w next q m1
-  walks_rest M n j k rest next q m1 are h = subst (λ ds. Performs S M (select n ds last) j p w m w next q m1) (ap (map (case_meant symbol_of)) are ∙ map_drop (case_meant symbol_of) k cs) h
+  pub walks_rest : (M : Meaning) (n j k : ℕ) (rest : List (LoadedCase N)) (x : Selected) (q : Position R) (m1 : Stacks
+      R Y) → rest ≡ drop k cs → Selects S M (select n (map (case_meant symbol_of) rest) last) j p w m x q m1 →
+      Selects S M (select n (drop k (map (case_meant symbol_of) cs)) last) j p w m x q m1
+  walks_rest M n j k rest x q m1 are h = subst (λ ds. Selects S M (select n ds last) j p w m x q m1) (ap (map
+      (case_meant symbol_of)) are ∙ map_drop (case_meant symbol_of) k cs) h
 
   pub nothing_left : (M : Meaning) (n j k : ℕ) → length cs ≤ k → Performs S M (select n (drop k (map (case_meant symbol_of) cs)) last) j p w m w Running (record p { address = last }) m
   nothing_left M n j k past =
@@ -227,8 +234,9 @@ module _ {W R Y N : Type 0} (S : Space W R Y N) (symbol_of : N → Symbol) (w : 
         (subst (λ ds. Selecting S w last p.frame p.term m.places.slots m.frames m.places.trail m.places.barrier (records_of m.records) (map (case_meant symbol_of) ds) (m.left - cost) (ref_running last p.frame p.term m.places.slots m.frames m.places.trail m.places.barrier (records_of m.records) (m.left - cost)))
         (sym (drop_all i cs past)) selects_none)
 
-    pub comes_to_case : (c : LoadedCase N) → slice_get cs i ≡ Some c → (M : Meaning) (n j : ℕ) (m2 : Stacks R Y) → PutsChoice S w (record m { left = m.left - cost }) c.otherwise p m2 →
-        Performs S M (select n (drop k (map (case_meant symbol_of) cs)) last) j p w m w Running (record p { address = c.body }) m2
+    pub comes_to_case : (c : LoadedCase N) → slice_get cs i ≡ Some c → (M : Meaning) (n j : ℕ) →
+        Selects S M (select n (drop k (map (case_meant symbol_of) cs)) last) j p w m (selected.Case c.otherwise)
+        (record p { address = c.body }) (record m { left = m.left - cost })
     comes_to_case c at M n j m2 x =
         let u : RefState R Y = ref_running c.body p.frame p.term m.places.slots m.frames m.places.trail (length m.places.slots) (ref_choice c.otherwise p.term (saved p.frame (length m.frames) (length m.places.trail) m.places.barrier) x.mark ∷ records_of m.records) (m.left - cost) in
         let this : Selecting S w last p.frame p.term m.places.slots m.frames m.places.trail m.places.barrier (records_of m.records) (map (case_meant symbol_of) (c ∷ drop (i + 1) cs)) (m.left - cost) u = selects_this (first.has_it c at) x.marks in
@@ -254,9 +262,12 @@ module _ {N : Type 0} where
   no_table (y ∷ ts) (suc j) is = no_table ts j is
 
 module _ {W R Y N : Type 0} (S : Space W R Y N) (symbol_of : N → Symbol) (w : W) (last : ℕ) (p : Position R) (ts : List (LoadedTable N)) (m : Stacks R Y) (table k : ℕ) where
-  pub selects_in : (x : LoadedTable N) (M : Meaning) (n j : ℕ) (next : Next) (q : Position R) (m1 : Stacks R Y) → slice_get ts table ≡ Some x → Performs S M (select n (drop k (map (case_meant symbol_of) x.cases.items)) last) j p w m w next q m1 →
-      Performs S M (select n (cases_meant symbol_of ts table k) last) j p w m w next q m1
-  selects_in x M n j next q m1 is h = subst (λ cs. Performs S M (select n (drop k (map (case_meant symbol_of) cs)) last) j p w m w next q m1) (sym (table_there ts table x is)) h
+  pub selects_in : (x : LoadedTable N) (M : Meaning) (n j : ℕ) (o : Selected) (q : Position R) (m1 : Stacks R Y) →
+      slice_get ts table ≡ Some x → Selects S M (select n (drop k (map (case_meant symbol_of) x.cases.items)) last) j
+      p w m o q m1 →
+      Selects S M (select n (cases_meant symbol_of ts table k) last) j p w m o q m1
+  selects_in x M n j o q m1 is h = subst (λ cs. Selects S M (select n (drop k (map (case_meant symbol_of) cs)) last) j
+      p w m o q m1) (sym (table_there ts table x is)) h
 
   pub selects_no_table : (M : Meaning) (n j : ℕ) → length ts ≤ table → Performs S M (select n (cases_meant symbol_of ts table k) last) j p w m w Running (record p { address = last }) m
   selects_no_table M n j is =
@@ -269,3 +280,20 @@ known_rest {N} knows cs rest k are h = subst (CasesKnown knows) (sym are) (later
     later xs zero h = h
     later [] (suc i) h = tt
     later (x ∷ xs) (suc i) h = later xs i h.1
+
+module _ {W R Y N : Type 0} (S : Space W R Y N) (M : Meaning) (w : W) (v : Instr) (i : ℕ) (p : Position R) (m : Stacks
+    R Y) where
+  -- what a selection comes to is this
+  pub selects_as : {x y : Selected} (q : Position R) (m1 : Stacks R Y) → x ≡ y → Selects S M v i p w m x q m1 →
+      Selects S M v i p w m y q m1
+  selects_as q m1 is h = subst (λ z. Selects S M v i p w m z q m1) is h
+
+  -- the case that a selection comes to is tried
+  pub case_tried : {q q1 : Position R} {m1 m2 : Stacks R Y} {o o1 : ℕ} (m3 : Stacks R Y) → q1 ≡ q → m2 ≡ m1 →
+      o1 ≡ o → Selects S M v i p w m (selected.Case o) q m1 → PutsChoice S w m2 o1 q1 m3 →
+      Performs S M v i p w m w Running q1 m3
+  case_tried {q} {q1} {m1} {m2} {o} {o1} m3 position stacks otherwise h x =
+      let here : PutsChoice S w m1 o1 q1 m3 = subst (λ y. PutsChoice S w y o1 q1 m3) stacks x in
+      let so : PutsChoice S w m1 o q1 m3 = subst (λ a. PutsChoice S w m1 a q1 m3) otherwise here in
+      subst (λ r. Performs S M v i p w m w Running r m3) (sym position) (h m3 (subst (λ r. PutsChoice S w m1 o r m3)
+      position so))

@@ -1,10 +1,10 @@
 -- Traversals of the Rust machine.
-use Rattle.std.proofs.Common.{◌≡◌, ℕ, zero, suc, ◌-◌, List, [], ◌∷◌, ◌++◌, length, take, drop, map, reverse, append_assoc, append-nil, refl, sym, ◌∙◌, ap, subst, arith}
-use Rattle.std.specs.Prelude.{Bool, true, false, All}
+use Rattle.std.proofs.Common.{◌≡◌, ℕ, suc, ◌-◌, List, [], ◌∷◌, ◌++◌, length, take, drop, map, reverse, append_assoc, append-nil, refl, sym, ◌∙◌, ap, subst, arith}
+use Rattle.std.specs.Prelude.{Bool, true, false}
 use Rattle.std.specs.Option.{option_map}
 use Rattle.std.proofs.Math.Seq.{take-append_seam, drop-append_seam}
 use Rattle.std.proofs.lemmas.List.{reverse-append, reverse-reverse, length-append}
-use Rattle.term_model.specs.Term.{Tree, node, end, more, term, head_of, parts_of, annos_of, trees_of, fits, Fits}
+use Rattle.term_model.specs.Term.{Tree, node, end, term, head_of, parts_of, annos_of, trees_of, fits, Fits}
 use Rattle.term_model.specs.declared.made.Made.{Made}
 use Rattle.term_model.specs.declared.made.Made.TheVariants as made
 use Rattle.term_model.specs.Space.{Space, Keeps, IsMark, Makes, Pushes}
@@ -18,7 +18,7 @@ use Rattle.core_lang.specs.Derivation.{parts}
 use Rattle.strat_steps.specs.Step.{in_order}
 use Rattle.strat_steps.specs.State as state
 use Rattle.strat_steps.specs.State.{Frame, run_oversize}
-use Rattle.strat_steps.specs.References.{Places, RefRecord, RefState, ref_all, ref_one, ref_some, ref_running, ref_failing, ref_stopped, trees, AllRefs}
+use Rattle.strat_steps.specs.References.{Places, RefRecord, RefState, ref_all, ref_one, ref_some, ref_running, ref_failing, ref_stopped, trees}
 use Rattle.term_model.specs.Flat.{Meaning}
 use Rattle.strat_code.specs.Code.{part_done}
 use Rattle.strat_machine.specs.CompactRecords.{AdvancesAll}

@@ -1,6 +1,7 @@
 pub mod RecordStack
 pub mod CompactRecords
 pub mod Stacks
+pub mod Selecting
 pub mod PartsOf
 pub mod Traversing
 pub mod Entered
@@ -8,3 +9,4 @@ pub mod Running
 pub mod Tables
 pub mod Actions
 pub mod Indexing
+pub mod Calculating

@@ -1,5 +1,5 @@
-// Calls of definitions, whose term arguments are there.
-ghost use Rattle.std.specs.Prelude.{◌≡◌, OnOk, map, take, drop};
+// Calls of definitions, whose term arguments have their places.
+ghost use Rattle.std.specs.Prelude.{◌≡◌, OnOk, map};
 ghost use Rattle.strat_code.specs.CodeOf.{argument_of};
 ghost use Rattle.strat_machine.specs.Stacks.{state_of};
 ghost use Rattle.strat_machine.specs.Entered.{entered};
@@ -20,27 +20,22 @@ pub(crate) struct Callee {
     pub(crate) next_address: usize,
 }
 
-/// Calls a definition with the references from a position on, which are moved out of the vector.
+/// Calls a definition whose term arguments have the places from `base` on.
 pub(crate) fn enter_definition<S: TermSpace>(
     stacks: &mut Stacks<S::Ref, S::Mark>,
     callee: Callee,
     arguments: &[Argument],
-    terms: &mut Vec<S::Ref>,
-    from: usize,
+    base: usize,
     position: &mut Position<S::Ref>,
 ) -> Result<(), AllocError>
-    ensures state { OnOk result (state_of Running position.new stacks.new ≡
+    ensures { OnOk result (state_of Running position.new stacks.new ≡
         entered stacks.old callee.frames callee.entry callee.room callee.next_address
-        position.old.frame
-        (map argument_of arguments.now) (drop from terms.old.items) position.old.term) }
-    ensures terms { OnOk result (terms.new.items ≡ take from terms.old.items) }
+        position.old.frame (map argument_of arguments.now) base position.old.term) }
 {
     let inner = stacks.frames.len();
     let here = position.frame;
     let up = stacks.frames.frames_up(here, callee.frames);
-    let base = stacks.places.len();
     stacks.frames.push_call(base, up, here, arguments)?;
-    stacks.places.push_terms(terms, from)?;
     stacks.places.extend(callee.room)?;
     let records = &mut stacks.records.records;
     records.push_call(callee.next_address, here)?;

@@ -97,16 +97,16 @@ impl<R: Drop, M: Drop> CompactRecords<R, M> {
     pub(crate) fn push_call(&mut self, next_address: usize, frame: usize) -> Result<(), AllocError>
         ensures { OnOk result (self.new ≡ Record.Call next_address frame ∷ self.old) }
     {
-        let next_address = narrow(next_address)?;
-        let frame = narrow(frame)?;
+        narrow(next_address.max(frame))?;
         self.records.push(CompactRecord::Call {
-            next_address,
-            frame,
+            next_address: next_address as u32,
+            frame: frame as u32,
         })?;
         Ok(())
     }
 
     /// Puts the record of a choice on.
+    #[inline]
     pub(crate) fn push_choice(
         &mut self,
         otherwise: usize,
@@ -353,16 +353,15 @@ fn count_newest<R: Drop>(traversed: &mut Vec<CompactTraversed<R>>, done: u32, le
 fn compact_traversed<R: Drop>(traversed: Traversed<R>) -> Result<CompactTraversed<R>, AllocError>
     ensures { IfOk result (λ c. traversed_in c ≡ traversed) }
 {
-    let body = narrow(traversed.body)?;
-    let next_address = narrow(traversed.next_address)?;
-    let done = narrow(traversed.done)?;
-    let left = narrow(traversed.left)?;
+    let addresses = traversed.body.max(traversed.next_address);
+    let counts = traversed.done.max(traversed.left);
+    narrow(addresses.max(counts))?;
     Ok(CompactTraversed {
-        body,
-        next_address,
+        body: traversed.body as u32,
+        next_address: traversed.next_address as u32,
         whole: traversed.whole,
-        done,
-        left,
+        done: traversed.done as u32,
+        left: traversed.left as u32,
     })
 }
 

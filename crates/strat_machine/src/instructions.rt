@@ -16,8 +16,8 @@ ghost use Rattle.strat_machine.specs.declared.stacks.Next.TheVariants.{Running};
 use crate::failing::fail;
 use crate::patterns::{perform_build, perform_call, perform_match};
 use crate::primitives::perform_primitive;
-use crate::program::{Action, LoadedProgram};
-use crate::select::perform_select;
+use crate::program::{Action, LoadedInstr, LoadedProgram};
+use crate::select::{Selected, perform_select};
 use crate::stacks::{Next, Position, Scratch, Stacks};
 use crate::steps::{
     call_parameter, commit_choice, enter_scope, extend_scope, leave_argument, leave_definition,
@@ -59,25 +59,30 @@ pub(crate) fn step<S: TermSpace, M: PrimMeaning>(
         space.new (state_of after position.new stacks.new)) }
 {
     match next {
-        Next::Running => perform(
-            space, alloc, stacks, code, program, registry, position, scratch,
-        ),
+        Next::Running => {
+            let instrs = program.instrs.as_slice();
+            perform(
+                space, alloc, stacks, code, program, instrs, registry, position, scratch,
+            )
+        }
         Next::Failing => fail(space, stacks, position),
         _ => Ok(next),
     }
 }
 
-// Performs the instruction at the position, if there is one and the budget suffices for it.
-fn perform<S: TermSpace, M: PrimMeaning>(
+/// Performs the instruction at the position, if there is one and the budget suffices for it. The instructions are those of the program.
+pub(crate) fn perform<S: TermSpace, M: PrimMeaning>(
     space: &mut S,
     alloc: Global,
     stacks: &mut Stacks<S::Ref, S::Mark>,
     code: &Code,
     program: &LoadedProgram<S::Name>,
+    instrs: &[LoadedInstr<S::Name>],
     registry: &Registry<M>,
     position: &mut Position<S::Ref>,
     scratch: &mut Scratch<S::Ref>,
 ) -> Result<Next, AllocError>
+    requires instrs { instrs.now ≡ program.now.instrs.items }
     requires holds { Holds S.space space.old (state_of Running position.old stacks.old) }
     requires counted { StateCounted (state_tree (S.space.term_of space.old)
         (state_of Running position.old stacks.old)) }
@@ -90,7 +95,6 @@ fn perform<S: TermSpace, M: PrimMeaning>(
         (meaning_of M.answer registry.now) space.old (state_of Running position.old stacks.old)
         space.new (state_of after position.new stacks.new)) }
 {
-    let instrs = program.instrs.as_slice();
     if position.address >= instrs.len() {
         return Ok(Next::Stuck);
     }
@@ -104,10 +108,7 @@ fn perform<S: TermSpace, M: PrimMeaning>(
         Action::Count => Ok(Next::Running),
         Action::GiveUp => Ok(Next::Failing),
         Action::Match(pattern) => perform_match(space, alloc, stacks, pattern, position),
-        Action::Build(pattern) => {
-            let made = &mut scratch.terms;
-            perform_build(space, alloc, stacks, pattern, position, made)
-        }
+        Action::Build(pattern) => perform_build(space, alloc, stacks, pattern, position, scratch),
         Action::Enter { places } => {
             enter_scope::<S>(stacks, *places, position)?;
             Ok(Next::Running)
@@ -118,20 +119,28 @@ fn perform<S: TermSpace, M: PrimMeaning>(
             Ok(Next::Running)
         }
         Action::Shrink { places } => Ok(shrink_scope::<S>(stacks, *places, position)),
-        Action::Try { otherwise } => {
-            put_choice(space, stacks, *otherwise, position)?;
+        Action::Try { .. } | Action::Select { .. } => {
+            let otherwise = match &instr.action {
+                Action::Try { otherwise } => *otherwise,
+                Action::Select {
+                    table,
+                    skipped,
+                    last,
+                } => {
+                    let tables = program.tables.as_slice();
+                    match perform_select(space, stacks, tables, *table, *skipped, *last, position) {
+                        Selected::NoCase => return Ok(Next::Running),
+                        Selected::Spent => return Ok(Next::Spent),
+                        Selected::Case(otherwise) => otherwise,
+                    }
+                }
+                _ => unreachable!(),
+            };
+            put_choice(space, stacks, otherwise, position)?;
             Ok(Next::Running)
         }
         Action::Commit { next_address } => {
             Ok(commit_choice::<S>(stacks, *next_address, position))
-        }
-        Action::Select {
-            table,
-            skipped,
-            last,
-        } => {
-            let tables = program.tables.as_slice();
-            perform_select(space, stacks, tables, *table, *skipped, *last, position)
         }
         Action::Jump { next_address } => {
             position.address = *next_address;
@@ -146,25 +155,18 @@ fn perform<S: TermSpace, M: PrimMeaning>(
             callee,
             arguments,
             terms,
-        } => {
-            let made = &mut scratch.terms;
-            perform_call(
-                space, alloc, stacks, *callee, arguments, terms, position, made,
-            )
-        }
+        } => perform_call(
+            space, alloc, stacks, *callee, arguments, terms, position, scratch,
+        ),
         Action::CallClosure { closure } => {
             call_parameter::<S>(stacks, *closure, position)?;
             Ok(Next::Running)
         }
         Action::EndDefinition => Ok(leave_definition::<S>(stacks, position)),
         Action::EndArgument => Ok(leave_argument::<S>(stacks, position)),
-        Action::ApplyPrimitive { index, terms } => {
-            let made = &mut scratch.terms;
-            let values = &mut scratch.values;
-            perform_primitive(
-                space, alloc, stacks, registry, *index, terms, position, made, values,
-            )
-        }
+        Action::ApplyPrimitive { index, terms } => perform_primitive(
+            space, alloc, stacks, registry, *index, terms, position, scratch,
+        ),
         Action::Finish => Ok(Next::Rewritten),
     }
 }

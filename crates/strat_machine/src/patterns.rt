@@ -10,10 +10,10 @@ ghost use Rattle.strat_machine.specs.Stacks.{Performs, IsSafe};
 
 use crate::calls::{Callee, enter_definition};
 use crate::primitives::go_on;
-use crate::stacks::{Next, Position, Stacks};
+use crate::stacks::{Next, Position, Scratch, Stacks};
 use std::alloc::{AllocError, Global};
 use strat_code::Argument;
-use strat_patterns::{LoadedPattern, Pushed, build, build_all, match_pattern};
+use strat_patterns::{LoadedPattern, Pushed, build_term, match_term, place_arguments};
 use term_model::TermSpace;
 
 /// Matches the term with a pattern.
@@ -36,7 +36,7 @@ pub(crate) fn perform_match<S: TermSpace>(
     let places = &mut stacks.places;
     let here = position.frame;
     let term = &position.term;
-    if match_pattern(space, alloc, &stacks.frames, here, pattern, term, places)? {
+    if match_term(space, alloc, &stacks.frames, here, pattern, term, places)? {
         return Ok(Next::Running);
     }
     Ok(Next::Failing)
@@ -49,12 +49,12 @@ pub(crate) fn perform_build<S: TermSpace>(
     stacks: &Stacks<S::Ref, S::Mark>,
     pattern: &LoadedPattern<S::Name>,
     position: &mut Position<S::Ref>,
-    stack: &mut Vec<S::Ref>,
+    scratch: &mut Scratch<S::Ref>,
 ) -> Result<Next, AllocError>
     requires known { Known (S.space.knows space.old) pattern.now }
     requires safe { IsSafe S.space space.old stacks.now (records_of stacks.now.records) }
     ensures keeps { Keeps S.space space.old space.new }
-    ensures stack { IfOk result (λ _. stack.new.items ≡ stack.old.items) }
+    ensures stack { IfOk result (λ _. scratch.new.terms.items ≡ scratch.old.terms.items) }
     ensures step { IfOk result (λ next. (M : Meaning) (n i : ℕ) → position.old.address ≡ suc i →
         Performs S.space M (build_term n (loaded_of (S.space.symbol_of space.old) pattern.now)) i
         position.old
@@ -62,7 +62,8 @@ pub(crate) fn perform_build<S: TermSpace>(
 {
     let slots = stacks.places.slots();
     let here = position.frame;
-    let built = build(space, alloc, &stacks.frames, here, slots, pattern, stack)?;
+    let made = &mut scratch.terms;
+    let built = build_term(space, alloc, &stacks.frames, here, slots, pattern, made)?;
     Ok(go_on(built, position))
 }
 
@@ -75,12 +76,12 @@ pub(crate) fn perform_call<S: TermSpace>(
     arguments: &[Argument],
     patterns: &[LoadedPattern<S::Name>],
     position: &mut Position<S::Ref>,
-    stack: &mut Vec<S::Ref>,
+    scratch: &mut Scratch<S::Ref>,
 ) -> Result<Next, AllocError>
     requires known { AllKnown (S.space.knows space.old) patterns.now }
     requires safe { IsSafe S.space space.old stacks.old (records_of stacks.old.records) }
     ensures keeps { Keeps S.space space.old space.new }
-    ensures stack { IfOk result (λ _. stack.new.items ≡ stack.old.items) }
+    ensures stack { IfOk result (λ _. scratch.new.terms.items ≡ scratch.old.terms.items) }
     ensures step { IfOk result (λ next. (M : Meaning) (n i : ℕ) →
         Performs S.space M (call_definition n callee.frames callee.entry callee.room
         callee.next_address
@@ -88,14 +89,15 @@ pub(crate) fn perform_call<S: TermSpace>(
         i position.old
         space.old stacks.old space.new next position.new stacks.new) }
 {
-    let from = stack.len();
-    let slots = stacks.places.slots();
     let here = position.frame;
-    match build_all(space, alloc, &stacks.frames, here, slots, patterns, stack)? {
+    let base = stacks.places.len();
+    let places = &mut stacks.places;
+    let made = &mut scratch.terms;
+    match place_arguments(space, alloc, &stacks.frames, here, patterns, places, made)? {
         Pushed::NoInstance => Ok(Next::Failing),
         Pushed::Oversize => Ok(Next::Oversize),
         Pushed::All => {
-            enter_definition::<S>(stacks, callee, arguments, stack, from, position)?;
+            enter_definition::<S>(stacks, callee, arguments, base, position)?;
             Ok(Next::Running)
         }
     }

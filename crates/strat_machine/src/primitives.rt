@@ -8,19 +8,24 @@ ghost use Rattle.term_model.specs.Space.{Keeps};
 ghost use Rattle.prim_registry.specs.Entries.{IsHonest, entries_of, entry_at};
 ghost use Rattle.prim_registry.specs.Registered.{meaning_of};
 ghost use Rattle.prim_registry.specs.Values.{answer_of};
+ghost use Rattle.core_lang.specs.Building.{instance, instances};
+ghost use Rattle.core_lang.specs.Ending.{answered, arguments, built};
+ghost use Rattle.core_lang.specs.Environment.{Bindings};
 ghost use Rattle.strat_code.specs.Code.{apply_primitive};
 ghost use Rattle.strat_patterns.specs.Builds.{Builds};
-ghost use Rattle.strat_steps.specs.References.{AllRefs};
-ghost use Rattle.strat_patterns.specs.Loaded.{AllKnown, all_loaded_of};
+ghost use Rattle.strat_steps.specs.References.{AllPlaces, AllRefs};
+ghost use Rattle.strat_steps.specs.State.{place_at};
+ghost use Rattle.strat_patterns.specs.Loaded.{AllKnown, all_loaded_of, loaded_of};
+ghost use Rattle.strat_machine.specs.Calculating.{HasNumber};
 ghost use Rattle.strat_machine.specs.Tables.{IsPosition};
 ghost use Rattle.strat_machine.specs.RecordStack.{records_of};
 ghost use Rattle.strat_machine.specs.Stacks.{Performs, IsSafe, next_with, position_with};
 
 use crate::flat_values::{flat_values, make_flat};
-use crate::stacks::{Next, Position, Stacks};
+use crate::stacks::{Next, Position, Scratch, Stacks};
 use prim_registry::{Flat, PrimMeaning, Registry};
 use std::alloc::{AllocError, Global};
-use strat_patterns::{Built, LoadedPattern, Pushed, build_all, outcome};
+use strat_patterns::{Built, Frames, LoadedPattern, Pushed, build_all, outcome, value};
 use term_model::TermSpace;
 
 /// Replaces the term with what the primitive at a position of the registry returns to the instances of the patterns; fails
@@ -33,8 +38,7 @@ pub(crate) fn perform_primitive<S: TermSpace, M: PrimMeaning>(
     index: Option<usize>,
     patterns: &[LoadedPattern<S::Name>],
     position: &mut Position<S::Ref>,
-    stack: &mut Vec<S::Ref>,
-    values: &mut Vec<Flat>,
+    scratch: &mut Scratch<S::Ref>,
 ) -> Result<Next, AllocError>
     requires honest { IsHonest M.answer registry.now }
     requires index { IfSome index (λ k. (k < length (entries_of registry.now)) ×
@@ -42,7 +46,7 @@ pub(crate) fn perform_primitive<S: TermSpace, M: PrimMeaning>(
     requires known { AllKnown (S.space.knows space.old) patterns.now }
     requires safe { IsSafe S.space space.old stacks.now (records_of stacks.now.records) }
     ensures keeps { Keeps S.space space.old space.new }
-    ensures stack { IfOk result (λ _. stack.new.items ≡ stack.old.items) }
+    ensures stack { IfOk result (λ _. scratch.new.terms.items ≡ scratch.old.terms.items) }
     ensures step { IfOk result (λ next. (f : List ℕ) (n i : ℕ) →
         IsPosition (entries_of registry.now) index (f, length patterns.now) → position.old.address ≡
         suc i →
@@ -51,13 +55,20 @@ pub(crate) fn perform_primitive<S: TermSpace, M: PrimMeaning>(
         position.old
         space.old stacks.now space.new next position.new stacks.now) }
 {
-    let from = stack.len();
     let slots = stacks.places.slots();
     let here = position.frame;
-    match build_all(space, alloc, &stacks.frames, here, slots, patterns, stack)? {
+    let frames = &stacks.frames;
+    if let Some(value) = calculate(space, frames, here, slots, registry, index, patterns) {
+        let made = make_integer(space, alloc, value)?;
+        return Ok(go_on(made, position));
+    }
+    let stack = &mut scratch.terms;
+    let from = stack.len();
+    match build_all(space, alloc, frames, here, slots, patterns, stack)? {
         Pushed::NoInstance => Ok(Next::Failing),
         Pushed::Oversize => Ok(Next::Oversize),
         Pushed::All => {
+            let values = &mut scratch.values;
             let answered = answer(space, alloc, registry, index, &stack[from..], values)?;
             stack.truncate(from);
             Ok(go_on(answered, position))
@@ -104,10 +115,6 @@ fn answer<S: TermSpace, M: PrimMeaning>(
     let Some(index) = position else {
         return Ok(Built::NoInstance);
     };
-    if let Some(value) = calculate(space, registry, index, terms) {
-        let built = make_integer(space, alloc, value)?;
-        return Ok(built);
-    }
     let Some(value) = call(space, alloc, registry, index, terms, values)? else {
         return Ok(Built::NoInstance);
     };
@@ -115,26 +122,58 @@ fn answer<S: TermSpace, M: PrimMeaning>(
     Ok(outcome(made))
 }
 
-// Calls the function on two integers of the primitive at a place of the registry, if it has one and the terms are two integers.
+// Calls the function on two integers of the primitive at the position, if it has one and the patterns have the instances for it.
 fn calculate<S: TermSpace, M: PrimMeaning>(
     space: &S,
+    frames: &Frames,
+    here: usize,
+    slots: &[Option<S::Ref>],
     registry: &Registry<M>,
-    index: usize,
-    terms: &[S::Ref],
+    index: Option<usize>,
+    patterns: &[LoadedPattern<S::Name>],
 ) -> Option<Option<i64>>
     requires honest { IsHonest M.answer registry.now }
-    requires within { index < length (entries_of registry.now) }
-    requires standing { AllRefs (λ r. IsTrue (S.space.stands space.now r)) terms.now }
-    ensures { IfSome result (λ value. option_map flat.number value ≡
-        option_and_then (M.answer (entry_at registry.now index).0)
-        (all_flat (trees_of (map (S.space.term_of space.now) terms.now)))) }
+    requires index { IfSome index (λ k. (k < length (entries_of registry.now)) ×
+        ((entry_at registry.now k).1 ≡ length patterns.now)) }
+    requires slots { AllPlaces (λ r. IsTrue (S.space.stands space.now r)) slots.now }
+    ensures { IfSome result (λ value. (f : List ℕ) (e : Bindings) →
+        IsPosition (entries_of registry.now) index (f, length patterns.now) →
+        answered (meaning_of M.answer registry.now f)
+        (arguments (instances (place_at frames.now here)
+        (all_loaded_of (S.space.symbol_of space.now) patterns.now)
+        (map (option_map (S.space.term_of space.now)) slots.now)) e) ≡
+        built (option_map flat.term_of (option_map flat.number value)) e) }
 {
-    let [left, right] = terms else {
+    let index = index?;
+    let [left, right] = patterns else {
         return None;
     };
-    let left = space.int_of(left)?;
-    let right = space.int_of(right)?;
+    let left = integer_of(space, frames, here, slots, left)?;
+    let right = integer_of(space, frames, here, slots, right)?;
     registry.calculate_at(index, left, right)
+}
+
+// The integer that the instance of a pattern is, where nothing has to be built to tell.
+fn integer_of<S: TermSpace>(
+    space: &S,
+    frames: &Frames,
+    here: usize,
+    slots: &[Option<S::Ref>],
+    pattern: &LoadedPattern<S::Name>,
+) -> Option<i64>
+    requires { AllPlaces (λ r. IsTrue (S.space.stands space.now r)) slots.now }
+    ensures { IfSome result (HasNumber (instance (place_at frames.now here)
+        (loaded_of (S.space.symbol_of space.now) pattern.now)
+        (map (option_map (S.space.term_of space.now)) slots.now))) }
+{
+    match pattern {
+        LoadedPattern::Integer(integer) => Some(*integer),
+        LoadedPattern::Variable(variable) => {
+            let held = value(space, frames, here, *variable, slots)?;
+            space.int_of(held)
+        }
+        _ => None,
+    }
 }
 
 // Makes the integer, if there is one.

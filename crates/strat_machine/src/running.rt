@@ -11,7 +11,8 @@ ghost use Rattle.prim_registry.specs.Registered.{meaning_of};
 ghost use Rattle.strat_steps.specs.Run.{start_ref};
 ghost use Rattle.strat_machine.specs.Running.{IsClear, GoesOn, HasEnded, IsOutcomeAt, rules_of};
 
-use crate::instructions::step;
+use crate::failing::fail;
+use crate::instructions::perform;
 use crate::program::LoadedProgram;
 use crate::stacks::{Next, Position, Scratch, Stacks};
 use core_lang::{Outcome, Run};
@@ -60,19 +61,21 @@ pub(crate) fn run_code<S: TermSpace, M: PrimMeaning>(
         frame: 0,
         term,
     };
-    while goes_on(next) {
-        next = step(
-            space,
-            alloc,
-            stacks,
-            code,
-            program,
-            registry,
-            next,
-            &mut position,
-            &mut scratch,
-        )?;
+    let instrs = program.instrs.as_slice();
+    loop {
+        while let Next::Running = next {
+            steps += 1;
+            let at = &mut position;
+            let spare = &mut scratch;
+            next = perform(
+                space, alloc, stacks, code, program, instrs, registry, at, spare,
+            )?;
+        }
+        let Next::Failing = next else {
+            break;
+        };
         steps += 1;
+        next = fail(space, stacks, &mut position)?;
     }
     let outcome = outcome_of(next, position);
     let rules = rules_of(&outcome, budget, stacks.left);

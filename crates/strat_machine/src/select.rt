@@ -1,20 +1,28 @@
 // Selections: the first case of a table that has a term's root.
-ghost use Rattle.std.specs.Prelude.{◌≤◌, ℕ, IfOk, IsTrue, drop, length, map};
+ghost use Rattle.std.specs.Prelude.{◌≡◌, ◌≤◌, ℕ, IsTrue, drop, length, map};
 ghost use Rattle.term_model.specs.Flat.{Meaning};
 ghost use Rattle.strat_code.specs.Code.{select};
 ghost use Rattle.strat_machine.specs.Indexing.{IsIndex};
+ghost use Rattle.strat_machine.specs.Selecting.{Selects};
 ghost use Rattle.strat_machine.specs.Tables.{CasesKnown, TableKnown, TablesKnown, case_meant, cases_meant};
-ghost use Rattle.strat_machine.specs.Stacks.{Performs};
 
 use crate::index::{Index, find_case};
 use crate::roots::has_root;
-use crate::stacks::{Next, Position, Stacks};
-use crate::steps::put_choice;
+use crate::stacks::{Position, Stacks};
 use crate::tables::{LoadedCase, LoadedTable};
-use std::alloc::{AllocError, Global};
 use term_model::TermSpace;
 
-/// Tries the first case of the table, from number `skipped` on, that has the term's root; those before it are paid for. Where
+/// What a selection comes to.
+pub(crate) enum Selected {
+    /// No case has the term's root: the position is at the last address.
+    NoCase,
+    /// The budget does not suffice for the cases that are passed by.
+    Spent,
+    /// The position is at the body of a case. A failure of the case goes on at this address.
+    Case(usize),
+}
+
+/// Goes to the first case of the table, from number `skipped` on, that has the term's root; those before it are paid for. Where
 /// none has it, or there is no such table, goes on at the last address.
 pub(crate) fn perform_select<S: TermSpace>(
     space: &S,
@@ -24,24 +32,24 @@ pub(crate) fn perform_select<S: TermSpace>(
     skipped: usize,
     last: usize,
     position: &mut Position<S::Ref>,
-) -> Result<Next, AllocError>
+) -> Selected
     requires known { TablesKnown (S.space.knows space.now) S.space.number_of tables.now }
     requires stands { IsTrue (S.space.stands space.now position.old.term) }
-    ensures { IfOk result (λ next. (M : Meaning) (n i : ℕ) →
-        Performs S.space M (select n (cases_meant (S.space.symbol_of space.now) tables.now table
-        skipped) last) i position.old
-        space.now stacks.old space.now next position.new stacks.new) }
+    ensures term { position.new.term ≡ position.old.term }
+    ensures selects { (M : Meaning) (n i : ℕ) →
+        Selects S.space M (select n (cases_meant (S.space.symbol_of space.now) tables.now table
+        skipped) last) i position.old space.now stacks.old result position.new stacks.new }
 {
     match tables.get(table) {
         Some(found) => select_in(space, stacks, found, skipped, last, position),
         None => {
             position.address = last;
-            Ok(Next::Running)
+            Selected::NoCase
         }
     }
 }
 
-// Tries the first case of this table.
+// Goes to the first case of this table.
 fn select_in<S: TermSpace>(
     space: &S,
     stacks: &mut Stacks<S::Ref, S::Mark>,
@@ -49,19 +57,19 @@ fn select_in<S: TermSpace>(
     skipped: usize,
     last: usize,
     position: &mut Position<S::Ref>,
-) -> Result<Next, AllocError>
+) -> Selected
     requires known { TableKnown (S.space.knows space.now) S.space.number_of table.now }
     requires stands { IsTrue (S.space.stands space.now position.old.term) }
-    ensures { IfOk result (λ next. (M : Meaning) (n i : ℕ) →
-        Performs S.space M (select n (drop skipped
+    ensures term { position.new.term ≡ position.old.term }
+    ensures selects { (M : Meaning) (n i : ℕ) →
+        Selects S.space M (select n (drop skipped
         (map (case_meant (S.space.symbol_of space.now)) table.now.cases.items)) last) i
-        position.old
-        space.now stacks.old space.now next position.new stacks.new) }
+        position.old space.now stacks.old result position.new stacks.new }
 {
     let cases = table.cases.as_slice();
     if skipped >= cases.len() {
         position.address = last;
-        return Ok(Next::Running);
+        return Selected::NoCase;
     }
     match &table.index {
         Some(index) => select_by(space, stacks, cases, index, skipped, last, position),
@@ -69,7 +77,7 @@ fn select_in<S: TermSpace>(
     }
 }
 
-// Tries the first of the cases by their index.
+// Goes to the first of the cases by their index.
 fn select_by<S: TermSpace>(
     space: &S,
     stacks: &mut Stacks<S::Ref, S::Mark>,
@@ -78,15 +86,16 @@ fn select_by<S: TermSpace>(
     skipped: usize,
     last: usize,
     position: &mut Position<S::Ref>,
-) -> Result<Next, AllocError>
+) -> Selected
     requires known { CasesKnown (S.space.knows space.now) cases.now }
     requires index { IsIndex S.space.number_of cases.now index.now }
     requires skipped { skipped ≤ length cases.now }
     requires stands { IsTrue (S.space.stands space.now position.old.term) }
-    ensures { IfOk result (λ next. (M : Meaning) (n i : ℕ) →
-        Performs S.space M (select n (drop skipped
+    ensures term { position.new.term ≡ position.old.term }
+    ensures selects { (M : Meaning) (n i : ℕ) →
+        Selects S.space M (select n (drop skipped
         (map (case_meant (S.space.symbol_of space.now)) cases.now)) last) i position.old
-        space.now stacks.old space.now next position.new stacks.new) }
+        space.now stacks.old result position.new stacks.new }
 {
     let found = find_case(space, cases, index, skipped, &position.term);
     let nodes = index.sums[found] - index.sums[skipped];
@@ -97,43 +106,41 @@ fn select_by<S: TermSpace>(
     stacks.left -= nodes;
     match cases.get(found) {
         Some(case) => {
-            put_choice(space, stacks, case.otherwise, position)?;
             position.address = case.body;
-            Ok(Next::Running)
+            Selected::Case(case.otherwise)
         }
         None => {
             position.address = last;
-            Ok(Next::Running)
+            Selected::NoCase
         }
     }
 }
 
-// Tries the first of the cases that has the term's root, one after another.
+// Goes to the first of the cases that has the term's root, one after another.
 fn walk_cases<S: TermSpace>(
     space: &S,
     stacks: &mut Stacks<S::Ref, S::Mark>,
     cases: &[LoadedCase<S::Name>],
     last: usize,
     position: &mut Position<S::Ref>,
-) -> Result<Next, AllocError>
+) -> Selected
     requires known { CasesKnown (S.space.knows space.now) cases.now }
     requires stands { IsTrue (S.space.stands space.now position.old.term) }
-    ensures { IfOk result (λ next. (M : Meaning) (n i : ℕ) →
-        Performs S.space M (select n (map (case_meant (S.space.symbol_of space.now)) cases.now)
-        last) i position.old
-        space.now stacks.old space.now next position.new stacks.new) }
+    ensures term { position.new.term ≡ position.old.term }
+    ensures selects { (M : Meaning) (n i : ℕ) →
+        Selects S.space M (select n (map (case_meant (S.space.symbol_of space.now)) cases.now)
+        last) i position.old space.now stacks.old result position.new stacks.new }
 {
     for case in cases {
         if has_root(space, &case.root, &position.term) {
-            put_choice(space, stacks, case.otherwise, position)?;
             position.address = case.body;
-            return Ok(Next::Running);
+            return Selected::Case(case.otherwise);
         }
         if stacks.left < case.nodes {
-            return Ok(Next::Spent);
+            return Selected::Spent;
         }
         stacks.left -= case.nodes;
     }
     position.address = last;
-    Ok(Next::Running)
+    Selected::NoCase
 }

@@ -1,5 +1,6 @@
 // A stack, whose newest item is the first.
 ghost use Rattle.std.specs.Prelude.{◌≡◌, ◌-◌, ◌≤◌, min, IsTrue, MatchOption, IfOk, OnOk, OnErr, [], ◌∷◌, ◌++◌, length, reverse, take, drop};
+ghost use Rattle.term_model.specs.Term.{parts_of};
 ghost use Rattle.strat_machine.specs.PartsOf.{PutsParts};
 
 use std::alloc::{AllocError, Global};
@@ -113,6 +114,9 @@ impl<T: Drop> Stack<T> {
     }
 }
 
+// The most parts of a term that are put on a stack one by one.
+const FEW: usize = 3;
+
 /// Puts the parts of a term on a stack, the last one first, and returns how many there are.
 pub(crate) fn push_parts_of<S: TermSpace>(
     space: &S,
@@ -122,11 +126,36 @@ pub(crate) fn push_parts_of<S: TermSpace>(
     requires { IsTrue (S.space.stands space.now of.now) }
     ensures { IfOk result (λ n. PutsParts S.space space.now of.now n stack.old stack.new) }
 {
+    let parts = space.count(of);
+    if parts <= FEW {
+        push_few_parts(space, stack, of, parts)?;
+        return Ok(parts);
+    }
     let before = stack.items.len();
     space.push_parts(of, &mut stack.items)?;
     let count = stack.items.len().saturating_sub(before);
     reverse_from(&mut stack.items, before);
     Ok(count)
+}
+
+// Puts the parts of a term, of which there are `count`, on a stack one by one, the last one first.
+fn push_few_parts<S: TermSpace>(
+    space: &S,
+    stack: &mut Stack<S::Ref>,
+    of: &S::Ref,
+    count: usize,
+) -> Result<(), AllocError>
+    requires stands { IsTrue (S.space.stands space.now of.now) }
+    requires count { count ≡ length (parts_of (S.space.term_of space.now of.now)) }
+    ensures { OnOk result (PutsParts S.space space.now of.now count stack.old stack.new) }
+{
+    let mut index = count;
+    while index > 0 {
+        index -= 1;
+        let part = space.part(of, index)?;
+        stack.push(part)?;
+    }
+    Ok(())
 }
 
 // Reverses the items from a position on.

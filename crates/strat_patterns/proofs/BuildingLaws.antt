@@ -6,7 +6,7 @@ use Rattle.std.specs.Option.{option_map}
 use Rattle.std.proofs.lemmas.Option.{slice_get-map}
 use Rattle.std.proofs.lemmas.List.{length-drop}
 use Rattle.std.proofs.Math.Seq.{take-length}
-use Rattle.core_lang.specs.Building.{value_in, value_at, with_front, made_with, applied_to, list_term, elements_of}
+use Rattle.core_lang.specs.Building.{value_in, value_at, with_front, made_like, made_with, applied_to, list_term, elements_of}
 use Rattle.core_lang.proofs.ElementLaws.{with_none}
 use Rattle.term_model.specs.declared.term.Head.TheVariants as heads
 use Rattle.term_model.specs.declared.made.Made.{Made}
@@ -87,6 +87,12 @@ bare_fits_too (node h ts xs) f =
 
 with_nothing : (t : Tree) → annos_of t ≡ [] → made_with (Some t) (Some end) ≡ Some t
 with_nothing (node h ts xs) bare = ap (λ k. Some (node h ts k)) (sym (no_annos xs bare))
+
+-- a term without annotations is given none
+pub like_bare : {X : Type 0} (f : X → Tree) (rs : List X) (o : Option Tree) (v : Tree) → IsBare o → map f rs ≡ annos_of v → length rs ≡ 0 → made_like o (Some v) ≡ o
+like_bare f (r ∷ rs) o v bare are few = absurd (omega arith)
+like_bare f [] None v bare are few = refl
+like_bare f [] (Some (node h ts xs)) (node k us ys) bare are few = ap (λ zs. Some (node h ts zs)) (no_annos ys (sym are) ∙ sym (no_annos xs bare))
 
 large_with_any : (t : Tree) (us : Trees) → annos_of t ≡ [] → fits t ≡ false → (u : Tree) × (made_with (Some t) (Some us) ≡ Some u) × (fits u ≡ false)
 large_with_any (node h ts xs) us bare large = (node h ts us, refl, bare_large h ts us (subst (λ k. fits (node h ts k) ≡ false) (no_annos xs bare) large))

@@ -7,7 +7,7 @@ use Rattle.core_lang.specs.Environment.{Bindings}
 use Rattle.core_lang.specs.Program.{Pattern}
 use Rattle.core_lang.specs.Views.{patterns_in}
 use Rattle.term_model.specs.Space.{Space}
-use Rattle.term_model.specs.Term.{Tree, Trees, end, more, trees_of, all_fit}
+use Rattle.term_model.specs.Term.{Tree, Trees, end, trees_of, all_fit}
 use Rattle.strat_patterns.specs.Builds.{instances_then, Builds, AreBuilt, AreArguments, Puts}
 use Rattle.strat_patterns.specs.declared.building.Built.TheVariants as built_forms
 use Rattle.strat_patterns.specs.declared.building.Pushed.{Pushed}

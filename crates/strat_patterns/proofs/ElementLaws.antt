@@ -117,6 +117,18 @@ front_push : (ts : List Tree) (t : Tree) (o : Option Trees) → in_front ts (wit
 front_push [] t o = refl
 front_push (u ∷ ts) t o = ap (λ v. with_front (Some u) v) (front_push ts t o)
 
+front_more : (ts us : List Tree) (o : Option Trees) → in_front ts (in_front us o) ≡ in_front (ts ++ us) o
+front_more [] us o = refl
+front_more (t ∷ ts) us o = ap (λ v. with_front (Some t) v) (front_more ts us o)
+
+both_fit : (ts us : List Tree) → all_fit (trees_of ts) ≡ true → all_fit (trees_of us) ≡ true → all_fit (trees_of (ts ++ us)) ≡ true
+both_fit [] us h k = k
+both_fit (t ∷ ts) us h k = by_first (fits t) h (λ l. both_fit ts us l k)
+  where
+    by_first : (b : Bool) → (b && all_fit (trees_of ts)) ≡ true → (all_fit (trees_of ts) ≡ true → all_fit (trees_of (ts ++ us)) ≡ true) → (b && all_fit (trees_of (ts ++ us))) ≡ true
+    by_first true h go = go h
+    by_first false h go = absurd (cc)
+
 false_and : (b : Bool) → (b && false) ≡ false
 false_and true = refl
 false_and false = refl
@@ -274,6 +286,26 @@ module _ {W R Y N : Type 0} (S : Space W R Y N) where
       where
         differ : Some false ≡ None → ⊥
         differ e = cc
+
+  -- the instances of the patterns that were left, after the others
+  module _ (w w1 : W) (all rest : Option Trees → Option Trees) (later : (r : R) → IsTrue (S.stands w r) → IsTrue (S.stands w1 r)) (same : (r : R) → IsTrue (S.stands w r) → S.term_of w1 r ≡ S.term_of w r) where
+    built_after : (rs us : List R) (p : Pushed) → map (S.term_of w1) rs ≡ map (S.term_of w) rs → AreBuiltBefore S.term_of w all rest rs true → AreBuilt S.term_of w1 rest us p → AreBuilt S.term_of w1 all (rs ++ us) p
+    built_after rs us pushed.All terms h k =
+        let them : map (S.term_of w1) (rs ++ us) ≡ map (S.term_of w) rs ++ map (S.term_of w1) us = map-append (S.term_of w1) rs us ∙ ap (λ ts. ts ++ map (S.term_of w1) us) terms in (
+          λ v. h.0 v ∙ (ap (in_front (map (S.term_of w) rs)) (k.0 v) ∙ (front_more (map (S.term_of w) rs) (map (S.term_of w1) us) v ∙ ap (λ ts. in_front ts v) (sym them))),
+          ap (λ ts. all_fit (trees_of ts)) them ∙ both_fit (map (S.term_of w) rs) (map (S.term_of w1) us) h.1 k.1,
+        )
+    built_after rs us pushed.NoInstance terms h k = λ v. h.0 v ∙ (ap (in_front (map (S.term_of w) rs)) (k v) ∙ front_none (map (S.term_of w) rs))
+    built_after rs us pushed.Oversize terms h k =
+        (map (S.term_of w) rs ++ k.0, λ v. h.0 v ∙ (ap (in_front (map (S.term_of w) rs)) (k.1 v) ∙ front_more (map (S.term_of w) rs) k.0 v), large_after (map (S.term_of w) rs) k.0 k.2)
+
+    pub building_goes_on : (old middle new : List R) (p : Pushed) → Puts S w old middle (λ rs. AreBuiltBefore S.term_of w all rest rs true) → Puts S w1 middle new (λ rs. AreBuilt S.term_of w1 rest rs p) → Puts S w1 old new (λ rs. AreBuilt S.term_of w1 all rs p)
+    building_goes_on old middle new p x y = record {
+      put = x.put ++ y.put;
+      after = y.after ∙ (ap (λ xs. xs ++ y.put) x.after ∙ append_assoc old x.put y.put);
+      standing = refs_append (λ r. IsTrue (S.stands w1 r)) x.put y.put (refs_later later x.put x.standing) y.standing;
+      are = built_after x.put y.put p (refs_same same x.put x.standing) x.are y.are;
+    }
 
 -- what was built, for another name of the instance
 pub builds_as : {W R Y N : Type 0} (S : Space W R Y N) (w : W) (o other : Option Tree) (b : Built R) → other ≡ o → Builds S w o b → Builds S w other b

@@ -141,6 +141,28 @@ grown_laid fs seen cs ds laid kept =
 pub grown_frames : (fs : List Frame) (cs ds : List Closure) → AreLaid 0 fs (length cs) → take (length cs) ds ≡ cs → frames_in ds fs ≡ frames_in cs fs
 grown_frames fs cs ds laid kept = sym (frames_within 0 fs (length cs) ds laid) ∙ ap (λ l. frames_in l fs) kept
 
+-- the closures of a call's arguments were added, and the frames stayed as they were
+pub record IsGrown (fs gs : List Frame) (cs ds : List Closure) (p : ℕ) (args : List Argument) : Type 0 where
+  pub frames : gs ≡ fs
+  pub kept : take (length cs) ds ≡ cs
+  pub are : map closure_of ds ≡ map closure_of cs ++ closed (frames_in cs fs) p (map argument_of args)
+
+pub grown_by_call : (fs gs seen : List Frame) (cs ds es : List Closure) (p : ℕ) {args : List Argument} → gs ≡ fs → ds ≡ es → take (length cs) es ≡ cs → seen ≡ fs →
+    map closure_of es ≡ map closure_of cs ++ closed (frames_in cs seen) p (map argument_of args) → IsGrown fs gs cs ds p args
+grown_by_call fs gs seen cs ds es p {args = args} same same_closures kept looked are = record {
+  frames = same;
+  kept = ap (take (length cs)) same_closures ∙ kept;
+  are = ap (map closure_of) same_closures ∙ (are ∙ ap (λ l. map closure_of cs ++ closed (frames_in cs l) p (map argument_of args)) looked);
+}
+
+pub grown_by_nothing : (fs gs : List Frame) (cs ds : List Closure) (p : ℕ) (args : List Argument) → gs ≡ fs → ds ≡ cs → length args ≡ 0 → IsGrown fs gs cs ds p args
+grown_by_nothing fs gs cs ds p [] same same_closures none = record {
+  frames = same;
+  kept = ap (take (length cs)) same_closures ∙ take-length cs;
+  are = ap (map closure_of) same_closures ∙ sym (append-nil (map closure_of cs));
+}
+grown_by_nothing fs gs cs ds p (a ∷ args) same same_closures none = absurd (omega arith)
+
 -- the frame of a call is added, with its closures
 module _ (fs gs seen : List Frame) (f : Frame) (cs ds : List Closure) (p : ℕ) (args : List Argument) (laid : AreLaid 0 fs (length cs)) (first : f.first ≡ length cs) (count : f.count ≡ length args)
     (put : gs ≡ fs ++ f ∷ []) (kept : take (length cs) ds ≡ cs) (looked : seen ≡ fs)
@@ -177,3 +199,21 @@ module _ (fs gs seen : List Frame) (f : Frame) (cs ds : List Closure) (p : ℕ) 
       (map-append (frame_in ds) fs (f ∷ []) ∙
       (ap (λ F. F ++ frame_in ds f ∷ []) (grown_frames fs cs ds laid kept) ∙
       ap (λ l. frames_in cs fs ++ state.frame f.base f.up l ∷ []) own))
+
+-- the same where the frames after the closures are those that there were
+module _ (fs gs hs : List Frame) (cs ds : List Closure) (p : ℕ) (args : List Argument) (laid : AreLaid 0 fs (length cs)) (grown : IsGrown fs gs cs ds p args) where
+  pub same_laid : hs ≡ gs → AreLaid 0 hs (length ds)
+  same_laid is = subst (λ l. AreLaid 0 l (length ds)) (sym (is ∙ grown.frames)) (grown_laid fs fs cs ds laid grown.kept)
+
+  pub same_frames : hs ≡ gs → frames_in ds hs ≡ frames_in cs fs
+  same_frames is = ap (frames_in ds) (is ∙ grown.frames) ∙ grown_frames fs cs ds laid grown.kept
+
+  module _ (f : Frame) (first : f.first ≡ length cs) (count : f.count ≡ length args) (put : hs ≡ gs ++ f ∷ []) where
+    put_here : hs ≡ fs ++ f ∷ []
+    put_here = put ∙ ap (λ l. l ++ f ∷ []) grown.frames
+
+    pub one_more_laid : AreLaid 0 hs (length ds)
+    one_more_laid = call_laid fs hs fs f cs ds p args laid first count put_here grown.kept refl grown.are
+
+    pub one_more_frame : frames_in ds hs ≡ frames_in cs fs ++ state.frame f.base f.up (closed (frames_in cs fs) p (map argument_of args)) ∷ []
+    one_more_frame = call_frames fs hs fs f cs ds p args laid first count put_here grown.kept refl grown.are

@@ -1,3 +1,5 @@
+pub mod AppliedLaws
+pub mod ArgumentLaws
 pub mod ResultLaws
 pub mod ReferenceLists
 pub mod FrameLaws

@@ -297,30 +297,30 @@ module _ {W R Y N : Type 0} {S : Space W R Y N} where
 
 module _ {W R Y N : Type 0} {S : Space W R Y N} (place : Coordinate → Option ℕ) where
   -- one pattern of several, and the others after it, with several terms
-  one_goes : {w w1 : W} {e f : Places R} {T U : List ℕ} {b : ℕ} (ps : List (LoadedPattern N)) (ts : List Tree) (i : ℕ) (p : LoadedPattern N) (t : Tree) → AllKnown (S.knows w) ps → Keeps S w w1 →
+  one_goes : {whole : Bindings → List ℕ → Attempt} {w w1 : W} {e f : Places R} {T U : List ℕ} {b : ℕ} (ps : List (LoadedPattern N)) (ts : List Tree) (i : ℕ) (p : LoadedPattern N) (t : Tree) → AllKnown (S.knows w) ps → Keeps S w w1 →
       i < length ps → p ≡ get_or ps i p → slice_get ts i ≡ Some t →
-      Goes S b (first_attempted place b (map (loaded_of (S.symbol_of w)) ps) ts) (first_attempted place b (drop i (map (loaded_of (S.symbol_of w)) ps)) (drop i ts)) w e T w1 f U →
-      Goes S b (first_attempted place b (map (loaded_of (S.symbol_of w)) ps) ts)
+      Goes S b whole (first_attempted place b (drop i (map (loaded_of (S.symbol_of w)) ps)) (drop i ts)) w e T w1 f U →
+      Goes S b whole
       (λ g V. and_go (attempted place b (loaded_of (S.symbol_of w1) p) t g V) (λ g1 V1. first_attempted place b (drop (suc i) (map (loaded_of (S.symbol_of w)) ps)) (drop (suc i) ts) g1 V1)) w e T w1 f U
-  one_goes {w} {w1} {b = b} ps ts i p t known keeps within is part x =
+  one_goes {w = w} {w1 = w1} {b = b} ps ts i p t known keeps within is part x =
       let pattern = mapped_at (loaded_of (S.symbol_of w)) ps i p within is ∙ ap (λ q. Some q) (sym (loaded_same (S.knows w) (S.symbol_of w) (S.symbol_of w1) keeps.symbols p (known_at (S.knows w) ps i p known within is))) in
       goes_as (λ g V. refl) (λ g V. first_step place b (map (loaded_of (S.symbol_of w)) ps) ts i (loaded_of (S.symbol_of w1) p) t g V pattern part) x
 
-  pub match_next : {w w1 w2 : W} {e f g : Places R} {T U V : List ℕ} {b : ℕ} (ps : List (LoadedPattern N)) (ts : List Tree) (i : ℕ) (p : LoadedPattern N) (t : Tree) (test : Bool) (d : ℕ) → AllKnown (S.knows w) ps → Keeps S w w1 →
+  pub match_next : {whole : Bindings → List ℕ → Attempt} {w w1 w2 : W} {e f g : Places R} {T U V : List ℕ} {b : ℕ} (ps : List (LoadedPattern N)) (ts : List Tree) (i : ℕ) (p : LoadedPattern N) (t : Tree) (test : Bool) (d : ℕ) → AllKnown (S.knows w) ps → Keeps S w w1 →
       i < length ps → p ≡ get_or ps i p → slice_get ts i ≡ Some t →
-      Goes S b (first_attempted place b (map (loaded_of (S.symbol_of w)) ps) ts) (first_attempted place b (drop i (map (loaded_of (S.symbol_of w)) ps)) (drop i ts)) w e T w1 f U →
+      Goes S b whole (first_attempted place b (drop i (map (loaded_of (S.symbol_of w)) ps)) (drop i ts)) w e T w1 f U →
       Keeps S w1 w2 → d ≡ b → test ≡ true → Goes S d (attempted place d (loaded_of (S.symbol_of w1) p) t) (attempt test) w1 f U w2 g V →
-      Goes S b (first_attempted place b (map (loaded_of (S.symbol_of w)) ps) ts) (first_attempted place b (drop (i + 1) (map (loaded_of (S.symbol_of w)) ps)) (drop (i + 1) ts)) w e T w2 g V
-  match_next {w} {w1} {w2} {f = f} {g = g} {U = U} {V = V} {b = b} ps ts i p t test d known keeps within is part x later same_barrier so y =
+      Goes S b whole (first_attempted place b (drop (i + 1) (map (loaded_of (S.symbol_of w)) ps)) (drop (i + 1) ts)) w e T w2 g V
+  match_next {w = w} {w1 = w1} {w2 = w2} {f = f} {g = g} {U = U} {V = V} {b = b} ps ts i p t test d known keeps within is part x later same_barrier so y =
       let own = subst (λ d. Goes S d (attempted place d (loaded_of (S.symbol_of w1) p) t) (attempt test) w1 f U w2 g V) same_barrier y in
       rw add-one (goes_then (one_goes ps ts i p t known keeps within is part x) later.standing (goes_and (λ g1 V1. first_attempted place b (drop (suc i) (map (loaded_of (S.symbol_of w)) ps)) (drop (suc i) ts) g1 V1) test so own))
 
-  pub match_stops : {w w1 w2 : W} {e f g : Places R} {T U V : List ℕ} {b : ℕ} (ps : List (LoadedPattern N)) (ts : List Tree) (i : ℕ) (p : LoadedPattern N) (t : Tree) (test : Bool) (d : ℕ) → AllKnown (S.knows w) ps → Keeps S w w1 →
+  pub match_stops : {whole : Bindings → List ℕ → Attempt} {w w1 w2 : W} {e f g : Places R} {T U V : List ℕ} {b : ℕ} (ps : List (LoadedPattern N)) (ts : List Tree) (i : ℕ) (p : LoadedPattern N) (t : Tree) (test : Bool) (d : ℕ) → AllKnown (S.knows w) ps → Keeps S w w1 →
       i < length ps → p ≡ get_or ps i p → slice_get ts i ≡ Some t →
-      Goes S b (first_attempted place b (map (loaded_of (S.symbol_of w)) ps) ts) (first_attempted place b (drop i (map (loaded_of (S.symbol_of w)) ps)) (drop i ts)) w e T w1 f U →
+      Goes S b whole (first_attempted place b (drop i (map (loaded_of (S.symbol_of w)) ps)) (drop i ts)) w e T w1 f U →
       Keeps S w1 w2 → d ≡ b → test ≡ false → Goes S d (attempted place d (loaded_of (S.symbol_of w1) p) t) (attempt test) w1 f U w2 g V →
-      Goes S b (first_attempted place b (map (loaded_of (S.symbol_of w)) ps) ts) (attempt false) w e T w2 g V
-  match_stops {w} {w1} {w2} {f = f} {g = g} {U = U} {V = V} {b = b} ps ts i p t test d known keeps within is part x later same_barrier so y =
+      Goes S b whole (attempt false) w e T w2 g V
+  match_stops {w = w} {w1 = w1} {w2 = w2} {f = f} {g = g} {U = U} {V = V} {b = b} ps ts i p t test d known keeps within is part x later same_barrier so y =
       let own = subst (λ d. Goes S d (attempted place d (loaded_of (S.symbol_of w1) p) t) (attempt test) w1 f U w2 g V) same_barrier y in
       goes_then (one_goes ps ts i p t known keeps within is part x) later.standing (goes_not (λ g1 V1. first_attempted place b (drop (suc i) (map (loaded_of (S.symbol_of w)) ps)) (drop (suc i) ts) g1 V1) test so own)
 
@@ -480,6 +480,6 @@ module _ {W R Y N : Type 0} {S : Space W R Y N} (place : Coordinate → Option �
   }
 
   -- several patterns that are all done, or more than there are parts
-  pub match_lacks : {N : Type 0} {w w1 : W} {e f : Places R} {T U : List ℕ} {b : ℕ} (as_pattern : N → Pattern Coordinate) (ps : List N) (ts : List Tree) (i n : ℕ) → i < length ps → n ≡ length ts → n ≤ i →
-      Goes S b (first_attempted place b (map as_pattern ps) ts) (first_attempted place b (drop i (map as_pattern ps)) (drop i ts)) w e T w1 f U → Goes S b (first_attempted place b (map as_pattern ps) ts) (attempt false) w e T w1 f U
+  pub match_lacks : {N : Type 0} {whole : Bindings → List ℕ → Attempt} {w w1 : W} {e f : Places R} {T U : List ℕ} {b : ℕ} (as_pattern : N → Pattern Coordinate) (ps : List N) (ts : List Tree) (i n : ℕ) → i < length ps → n ≡ length ts → n ≤ i →
+      Goes S b whole (first_attempted place b (drop i (map as_pattern ps)) (drop i ts)) w e T w1 f U → Goes S b whole (attempt false) w e T w1 f U
   match_lacks {b = b} as_pattern ps ts i n h is k x = let long = length-map ps as_pattern in goes_as (λ g V. refl) (λ g V. first_lacks place b (map as_pattern ps) ts i g V (omega arith) (omega arith)) x

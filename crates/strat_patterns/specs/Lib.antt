@@ -1,3 +1,4 @@
+pub mod Applied
 pub mod Frames
 pub mod PlaceStack
 pub mod Builds

@@ -1,11 +1,14 @@
 // What a build makes of a pattern, over references.
-ghost use Rattle.std.specs.Prelude.{◌≡◌, IfOk, IsTrue, Option, Some, [], ◌≤◌, is_some, length, map, drop};
+ghost use Rattle.std.specs.Prelude.{◌≡◌, ℕ, IfOk, IsTrue, Option, Some, [], ◌≤◌, is_some, length, map, drop};
 ghost use Rattle.std.specs.Option.{option_map};
 ghost use Rattle.core_lang.specs.Building.{element_instances, elements_of, instance, instances, made_like, made_with};
+ghost use Rattle.core_lang.specs.Environment.{Bindings};
 ghost use Rattle.core_lang.specs.Views.{elements_in};
+ghost use Rattle.core_lang.specs.declared.coordinate.Coordinate.{Coordinate};
+ghost use Rattle.term_model.specs.Symbol.{Symbol};
 ghost use Rattle.term_model.specs.Space.{Keeps};
 ghost use Rattle.term_model.specs.Term.{Trees, end};
-ghost use Rattle.strat_patterns.specs.Builds.{joined_elements, instances_then, Builds, IsKept, AreBuilt, AreArguments, AreElements, Puts};
+ghost use Rattle.strat_patterns.specs.Builds.{joined_elements, instances_then, Builds, IsBare, IsKept, AreBuilt, AreElements, Puts};
 ghost use Rattle.strat_patterns.specs.Loaded.{Known, AllKnown, RestKnown, all_loaded_of, loaded_of, rest_loaded_of};
 ghost use Rattle.strat_steps.specs.References.{AllPlaces, AllRefs};
 ghost use Rattle.strat_steps.specs.State.{place_at};
@@ -52,14 +55,13 @@ pub(crate) enum Elements<R> {
     Oversize,
 }
 
-/// Makes the instance of the pattern, whose variables are seen from the frame at `here`. The stack has room for parts that are made on the
-/// way, and is afterwards as it was.
+/// Makes the instance of the pattern, by the rule for each form of patterns; `build_term` says what it needs.
 ///
 /// # Errors
 ///
 /// Returns an error if there is no memory. The stack may then have further references on it; the space keeps the terms of its references.
 #[cycle(building)]
-pub fn build<S: TermSpace>(
+pub(crate) fn build<S: TermSpace>(
     space: &mut S,
     alloc: Global,
     frames: &Frames,
@@ -123,6 +125,33 @@ pub fn build<S: TermSpace>(
     }
 }
 
+// Whether the instances of the pattern have no annotations, and take none from the term.
+fn takes_nothing<S: TermSpace>(space: &S, pattern: &LoadedPattern<S::Name>, like: &S::Ref) -> bool
+    requires { IsTrue (S.space.stands space.now like.now) }
+    ensures { IsTrue result → (symbol_of : S.Name → Symbol) (place : Coordinate → Option ℕ)
+        (e : Bindings) → made_like (instance place (loaded_of symbol_of pattern.now) e)
+        (Some (S.space.term_of space.now like.now)) ≡
+        instance place (loaded_of symbol_of pattern.now) e }
+{
+    if space.annos(like).len() > 0 {
+        return false;
+    }
+    is_bare(pattern)
+}
+
+/// Whether the pattern is of a kind whose instances have no annotations.
+fn is_bare<N>(pattern: &LoadedPattern<N>) -> bool
+    ensures { IsTrue result → (symbol_of : N → Symbol) (place : Coordinate → Option ℕ)
+        (e : Bindings) → IsBare (instance place (loaded_of symbol_of pattern.now) e) }
+{
+    match pattern {
+        LoadedPattern::Integer(_) => true,
+        LoadedPattern::Applied(_, _) => true,
+        LoadedPattern::List(_, _) => true,
+        _ => false,
+    }
+}
+
 /// Makes the instance of the pattern with the annotations of another term. Its own annotations are not made.
 #[cycle(building)]
 fn make_like<S: TermSpace>(
@@ -146,6 +175,10 @@ fn make_like<S: TermSpace>(
         (map (option_map (S.space.term_of space.old)) slots.now))
         (Some (S.space.term_of space.old like.now)))) }
 {
+    if takes_nothing::<S>(space, pattern, like) {
+        let built = build(space, alloc, frames, here, slots, pattern, stack)?;
+        return Ok(built);
+    }
     let from = stack.len();
     space.push_annos(like, stack)?;
     let built = make_with(
@@ -350,51 +383,10 @@ fn push_tail<S: TermSpace>(
     }
 }
 
-/// Makes the instances of the patterns, and puts them on the stack if each of them exists and fits; otherwise the stack is as it was.
-///
-/// # Errors
-///
-/// Returns an error if there is no memory. The stack may then have further references on it; the space keeps the terms of its references.
-pub fn build_all<S: TermSpace>(
-    space: &mut S,
-    alloc: Global,
-    frames: &Frames,
-    here: usize,
-    slots: &[Option<S::Ref>],
-    patterns: &[LoadedPattern<S::Name>],
-    stack: &mut Vec<S::Ref>,
-) -> Result<Pushed, AllocError>
-    requires known { AllKnown (S.space.knows space.old) patterns.now }
-    requires slots { AllPlaces (λ r. IsTrue (S.space.stands space.old r)) slots.now }
-    ensures keeps { Keeps S.space space.old space.new }
-    ensures built { IfOk result (λ made. Puts S.space space.new stack.old.items stack.new.items
-        (λ rs. AreArguments S.space.term_of space.new
-        (instances (place_at frames.now here)
-        (all_loaded_of (S.space.symbol_of space.old) patterns.now)
-        (map (option_map (S.space.term_of space.old)) slots.now)) rs made)) }
-{
-    if patterns.is_empty() {
-        return Ok(Pushed::All);
-    }
-    let from = stack.len();
-    let made = push_all(space, alloc, frames, here, slots, patterns, stack)?;
-    match made {
-        Pushed::All => Ok(Pushed::All),
-        Pushed::NoInstance => {
-            stack.truncate(from);
-            Ok(Pushed::NoInstance)
-        }
-        Pushed::Oversize => {
-            stack.truncate(from);
-            Ok(Pushed::Oversize)
-        }
-    }
-}
-
 /// Puts the instances of the patterns on the stack; where one does not fit, the others are still built, since one may
 /// have no instance.
 #[cycle(building)]
-fn push_all<S: TermSpace>(
+pub(crate) fn push_all<S: TermSpace>(
     space: &mut S,
     alloc: Global,
     frames: &Frames,

@@ -104,7 +104,11 @@ impl Frames {
         ensures { MatchOption result ((i : ℕ) → place_at self.now here variable ≡ Some i →
             count ≤ i) (λ i. (place_at self.now here variable ≡ Some i) × (i < count)) }
     {
-        let home = self.frames_up(here, variable.layers_up);
+        let home = if variable.layers_up == 0 {
+            here
+        } else {
+            self.frames_up(here, variable.layers_up)
+        };
         let (base, _) = self.base_of(home)?;
         let place = base.checked_add(variable.slot)?;
         if place < count { Some(place) } else { None }
@@ -146,6 +150,7 @@ impl Frames {
     /// # Errors
     ///
     /// Returns an error if there is no memory, or if a number needs more than 32 bits. The frames then stay as they are.
+    #[inline]
     pub fn push_call(
         &mut self,
         base: usize,
@@ -157,17 +162,18 @@ impl Frames {
             state.frame base up (closed self.old here (map argument_of arguments.now)) ∷ []) }
         ensures err { OnErr result (self.new ≡ self.old) }
     {
-        let base = narrow(base)?;
-        let up = narrow(up)?;
-        let first = narrow(self.closures.len())?;
-        let count = narrow(arguments.len())?;
+        let first = self.closures.len();
+        let count = arguments.len();
+        narrow(base.max(up).max(first).max(count))?;
         let frame = Frame {
-            base,
-            up,
-            first,
-            count,
+            base: base as u32,
+            up: up as u32,
+            first: first as u32,
+            count: count as u32,
         };
-        push_closures(&self.frames[..], &mut self.closures, here, arguments)?;
+        if count > 0 {
+            push_closures(&self.frames[..], &mut self.closures, here, arguments)?;
+        }
         push_on(&mut self.frames, frame)?;
         Ok(())
     }
@@ -248,6 +254,7 @@ fn closure_of_argument(
 
 // Puts the closures of the arguments after those that there are, one for each.
 #[tactic(auto, using(crate::proofs::FrameLaws::pushing))]
+#[inline(never)]
 fn push_closures(
     frames: &[Frame],
     closures: &mut Vec<Closure>,

@@ -22,18 +22,16 @@ use std::alloc::{AllocError, Global};
 use term_model::TermSpace;
 
 // At most as many parts are asked for one by one, and the space walks to each; more are put on a vector by one walk.
-const FEW: usize = 8;
+pub(crate) const FEW: usize = 8;
 
-/// Returns whether the pattern matches the term. The variables are seen from the frame at `here`. If it matches, each variable of the
-/// pattern that had no term has one; if not, some of them may have been given one. A pattern with neither a list tail nor braces leaves the
-/// space as it is.
+/// Returns whether the pattern matches the term, by the rule for each form of patterns; `match_term` says what a match is.
 ///
 /// # Errors
 ///
 /// Returns an error if there is no memory. The places may then have been changed as by a failed match; the space keeps the terms of its
 /// references.
 #[cycle(matching)]
-pub fn match_pattern<S: TermSpace>(
+pub(crate) fn match_pattern<S: TermSpace>(
     space: &mut S,
     alloc: Global,
     frames: &Frames,
@@ -281,7 +279,7 @@ fn match_each<S: TermSpace>(
 
 // Whether the pattern matches the part. Most parts of patterns are variables, which need no further call.
 #[cycle(matching)]
-fn match_part<S: TermSpace>(
+pub(crate) fn match_part<S: TermSpace>(
     space: &mut S,
     alloc: Global,
     frames: &Frames,
@@ -348,7 +346,8 @@ fn match_rest<S: TermSpace>(
 }
 
 // Gives the variable the term; where it has one, whether they are the same.
-fn bind_variable<S: TermSpace>(
+#[inline]
+pub(crate) fn bind_variable<S: TermSpace>(
     space: &S,
     frames: &Frames,
     here: usize,
@@ -388,7 +387,12 @@ pub fn is_integer<S: TermSpace>(space: &S, at: &S::Ref, value: &i64) -> bool
     }
 }
 
-fn is_application<S: TermSpace>(space: &S, at: &S::Ref, name: &S::Name, count: usize) -> bool
+pub(crate) fn is_application<S: TermSpace>(
+    space: &S,
+    at: &S::Ref,
+    name: &S::Name,
+    count: usize,
+) -> bool
     requires stands { IsTrue (S.space.stands space.now at.now) }
     requires known { IsTrue (S.space.knows space.now name.now) }
     requires count { count ≡ length (parts_of (S.space.term_of space.now at.now)) }

@@ -1,5 +1,5 @@
 // Memory for the stacks: vectors that take more of it or give it back, and numbers in 32 bits.
-ghost use Rattle.std.specs.Prelude.{◌≡◌, ◌<◌, vec_len, vec_capacity, IfOk, OnOk, OnErr, [], ◌∷◌, ◌++◌};
+ghost use Rattle.std.specs.Prelude.{◌≡◌, ◌+◌, ◌<◌, ◌≤◌, vec_len, vec_capacity, IfOk, OnOk, OnErr, [], ◌∷◌, ◌++◌};
 
 use std::alloc::AllocError;
 
@@ -18,6 +18,31 @@ pub fn push_on<T: Drop>(items: &mut Vec<T>, item: T) -> Result<(), AllocError>
         grow(items)?;
     }
     items.push_reserved(item);
+    Ok(())
+}
+
+/// Makes room for `count` more items.
+///
+/// # Errors
+///
+/// Returns an error if there is no memory for them. The vector has the items that it had in any case.
+pub(crate) fn reserve_on<T: Drop>(items: &mut Vec<T>, count: usize) -> Result<(), AllocError>
+    ensures same { items.new.items ≡ items.old.items }
+    ensures room { OnOk result (vec_len items.new + count ≤ vec_capacity items.new) }
+{
+    if items.capacity() - items.len() < count {
+        grow_by(items, count)?;
+    }
+    Ok(())
+}
+
+// Takes memory for `count` more items.
+#[inline(never)]
+fn grow_by<T: Drop>(items: &mut Vec<T>, count: usize) -> Result<(), AllocError>
+    ensures same { items.new.items ≡ items.old.items }
+    ensures room { OnOk result (vec_len items.new + count ≤ vec_capacity items.new) }
+{
+    items.reserve(count)?;
     Ok(())
 }
 

@@ -1,9 +1,9 @@
 // The places of variables, and the trail of those that a failure empties again.
-ghost use Rattle.std.specs.Prelude.{◌≡◌, ◌<◌, ◌-◌, List, Option, drop, nat_lt, if◌then◌else◌, Some, None, MatchOption, OnOk, [], ◌∷◌, ◌++◌, length, map, replicate, reverse, take, slice_get};
+ghost use Rattle.std.specs.Prelude.{◌≡◌, ◌<◌, ◌-◌, List, Option, drop, nat_lt, if◌then◌else◌, Some, None, MatchOption, OnOk, OnErr, [], ◌∷◌, ◌++◌, length, map, replicate, reverse, take, slice_get};
 ghost use Rattle.strat_steps.specs.Binding.{cleared, undone, above, down_to, trimmed, with_term};
 ghost use Rattle.strat_patterns.specs.PlaceStack.{PlaceStack};
 
-use crate::memory::{narrow, push_on, release_spare};
+use crate::memory::{narrow, push_on, release_spare, reserve_on};
 use std::alloc::{AllocError, Global};
 use std::marker::Model;
 
@@ -120,6 +120,20 @@ impl<R: Drop> Places<R> {
         self.slots.truncate(count);
     }
 
+    /// Adds a place with a reference.
+    ///
+    /// # Errors
+    ///
+    /// Returns an error if there is no memory for one more place. The places then stay as they were.
+    pub fn push_term(&mut self, reference: R) -> Result<(), AllocError>
+        ensures pushed { OnOk result (self.new ≡
+            record self.old { slots = self.old.slots ++ Some reference ∷ [] }) }
+        ensures err { OnErr result (self.new ≡ self.old) }
+    {
+        push_on(&mut self.slots, Some(reference))?;
+        Ok(())
+    }
+
     /// Adds places with the references of the vector from position `from` on, which are moved out of it.
     ///
     /// # Errors
@@ -155,12 +169,13 @@ impl<R: Drop> Places<R> {
     }
 
     /// Gives a place a reference, and puts the place on the trail if it is below the barrier. After an error it may be missing there.
+    #[inline]
     pub(crate) fn give(&mut self, place: usize, reference: R) -> Result<(), AllocError>
         ensures { OnOk result (self.new ≡
             record self.old {
               slots = with_term place reference self.old.slots;
-              trail =
-                  (if nat_lt place self.old.barrier then place ∷ self.old.trail else self.old.trail);
+              trail = (if nat_lt place self.old.barrier
+                  then place ∷ self.old.trail else self.old.trail);
             }) }
     {
         fill(&mut self.slots, place, reference);
@@ -207,8 +222,9 @@ impl<R: Drop> Places<R> {
 fn push_empty<R: Drop>(slots: &mut Vec<Option<R>>, count: usize) -> Result<(), AllocError>
     ensures { OnOk result (slots.new.items ≡ slots.old.items ++ replicate count None) }
 {
+    reserve_on(slots, count)?;
     for _i in 0..count {
-        push_on(slots, None)?;
+        slots.push_reserved(None);
     }
     Ok(())
 }

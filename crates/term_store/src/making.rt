@@ -136,6 +136,7 @@ impl StoreSpace {
     }
 
     // The block of these places; `None` where their terms are too heavy together.
+    #[inline]
     pub(crate) fn block_of(&mut self, places: &[u32]) -> Result<Option<Block<u32>>, AllocError>
         requires stand { Stand self.old places.now }
         ensures keeps { KeepsChains self.old self.new }

@@ -1,7 +1,6 @@
 use Rattle.std.proofs.Common.{◌≡◌, ◌+◌, ◌-◌, ℕ, length, refl, arith}
 use Rattle.std.proofs.lemmas.List.{take_rest}
 use Rattle.std.proofs.lemmas.Option.{slice_get_read}
-use Rattle.std.proofs.lemmas.Result.{IfOk-weaker}
 use Rattle.strat_machine.specs.Indexing.{nodes_before}
 use Rattle.strat_machine.proofs.IndexLaws.{sums_within, sum_read, nodes_rise}
 use Rattle.strat_machine.proofs.SelectingLaws.{known_rest, walks_rest, passes_all, comes_to_case}
@@ -25,14 +24,14 @@ overflow_sub-nodes g c =
 pub walk_cases-requires-clause-known : goal.walk_cases-requires-clause-known
 walk_cases-requires-clause-known g c = known_rest (g.S.TermSpace.space.knows c.args.space.now) c.args.cases.now _ c.args.skipped (take_rest c.args.cases.now c.args.skipped) c.requires.known
 
-pub returns-then-stacks-nodes : goal.returns-then-stacks-nodes
-returns-then-stacks-nodes g c =
+pub returns-then-stacks-nodes-clause-selects : goal.returns-then-stacks-nodes-clause-selects
+returns-then-stacks-nodes-clause-selects g c = λ M n i.
     let s = g.S.TermSpace.space in
-    IfOk-weaker c.walk_cases.result _ _ (λ next h M n i. walks_rest s (s.symbol_of c.args.space.now) c.args.space.now c.args.last c.args.position.now c.args.cases.now c.args.stacks.now M n i c.args.skipped _ next c.walk_cases.new.position c.walk_cases.new.stacks
-    (take_rest c.args.cases.now c.args.skipped) (h M n i)) c.walk_cases.ensures
+    walks_rest s (s.symbol_of c.args.space.now) c.args.space.now c.args.last c.args.position.now c.args.cases.now c.args.stacks.now M n i c.args.skipped _ c.walk_cases.result c.walk_cases.new.position c.walk_cases.new.stacks
+    (take_rest c.args.cases.now c.args.skipped) (c.walk_cases.ensures.selects M n i)
 
-pub returns-in-None : goal.returns-in-None
-returns-in-None g c = λ M n i.
+pub returns-in-None-clause-selects : goal.returns-in-None-clause-selects
+returns-in-None-clause-selects g c = λ M n i.
     let s = g.S.TermSpace.space in
     let cases = c.args.cases.now in
     let found = c.find_case-found.result in
@@ -43,8 +42,8 @@ returns-in-None g c = λ M n i.
     let is : cost + nodes_before cases c.args.skipped ≡ nodes_before cases found = omega (arith, to, from, rise) in
     passes_all s (s.symbol_of c.args.space.now) c.args.space.now c.args.last c.args.position.now cases c.args.stacks.now c.args.skipped found cost c.find_case-found.ensures is c.if-stacks-nodes.false M n i c.in-None.ensures.lookup.3
 
-pub returns-in_ok-put_choice-in-Some : goal.returns-in_ok-put_choice-in-Some
-returns-in_ok-put_choice-in-Some g c = λ M n i.
+pub returns-in-Some-clause-selects : goal.returns-in-Some-clause-selects
+returns-in-Some-clause-selects g c = λ M n i.
     let s = g.S.TermSpace.space in
     let cases = c.args.cases.now in
     let found = c.find_case-found.result in
@@ -54,4 +53,4 @@ returns-in_ok-put_choice-in-Some g c = λ M n i.
     let cost : ℕ = c.index.result.now - c.index-2.result.now in
     let is : cost + nodes_before cases c.args.skipped ≡ nodes_before cases found = omega (arith, to, from, rise) in
     comes_to_case s (s.symbol_of c.args.space.now) c.args.space.now c.args.last c.args.position.now cases c.args.stacks.now c.args.skipped found cost c.find_case-found.ensures is c.if-stacks-nodes.false c.in-Some.case.now
-    (slice_get_read cases (length cases) found c.in-Some.case.now refl c.in-Some.ensures.lookup.3.0 c.in-Some.ensures.lookup.1) M n i c.put_choice.new.stacks c.in_ok-put_choice-in-Some.ensures
+    (slice_get_read cases (length cases) found c.in-Some.case.now refl c.in-Some.ensures.lookup.3.0 c.in-Some.ensures.lookup.1) M n i

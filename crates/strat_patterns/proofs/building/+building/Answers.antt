@@ -141,6 +141,12 @@ push_tail-returns-in_ok-elements-in-Annotated-clause-keeps = elements.push_tail-
 pub push_tail-returns-in_ok-elements-in-Annotated-clause-elements : goal.push_tail-returns-in_ok-elements-in-Annotated-clause-elements
 push_tail-returns-in_ok-elements-in-Annotated-clause-elements = elements.push_tail-returns-in_ok-elements-in-Annotated-clause-elements
 
+pub make_like-returns-then-takes_nothing-clause-built : goal.make_like-returns-then-takes_nothing-clause-built
+make_like-returns-then-takes_nothing-clause-built = like.make_like-returns-then-takes_nothing-clause-built
+
+pub make_like-make_with-requires : goal.make_like-make_with-requires
+make_like-make_with-requires = like.make_like-make_with-requires
+
 pub make_like-returns-clause-built : goal.make_like-returns-clause-built
 make_like-returns-clause-built = like.make_like-returns-clause-built
 

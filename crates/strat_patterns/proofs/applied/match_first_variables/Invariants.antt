@@ -1,0 +1,19 @@
+use Rattle.std.proofs.Common.{◌≡◌, ◌≤◌, length, drop, map}
+use Rattle.term_model.specs.Term.{parts_of}
+use Rattle.strat_patterns.specs.Loaded.{loaded_of}
+use Rattle.strat_steps.specs.Matches.{Goes, first_attempted}
+use Rattle.strat_steps.specs.State.{place_at}
+use Rattle.strat_patterns.proofs.applied.match_first_variables.Given as goal
+
+abbrev pub invariant-loop-i : goal.invariant-loop-i
+invariant-loop-i g l =
+    let s = g.S.TermSpace.space in
+    let w = l.space in
+    let old = l.initial.places in
+    let place = place_at l.frames l.here in
+    let ps = map (loaded_of (s.symbol_of w)) l.patterns in
+    let ts = parts_of (s.term_of w l.at) in
+    (l.places.barrier ≡ old.barrier) × (l.i ≤ length ts) ×
+    Goes s old.barrier (first_attempted place old.barrier ps ts)
+    (first_attempted place old.barrier (drop l.i ps) (drop l.i ts)) w old.slots old.trail w l.places.slots
+    l.places.trail

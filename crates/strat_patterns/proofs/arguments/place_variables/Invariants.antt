@@ -1,0 +1,16 @@
+use Rattle.std.proofs.Common.{drop, map, true}
+use Rattle.std.specs.Option.{option_map}
+use Rattle.strat_patterns.specs.Applied.{PutsOnPlaces}
+use Rattle.strat_patterns.specs.Builds.{instances_then, AreBuiltBefore}
+use Rattle.strat_patterns.specs.Loaded.{loaded_of}
+use Rattle.strat_steps.specs.State.{place_at}
+use Rattle.strat_patterns.proofs.arguments.place_variables.Given as goal
+
+abbrev pub invariant-loop-pattern : goal.invariant-loop-pattern
+invariant-loop-pattern g l =
+    let s = g.S.TermSpace.space in
+    let w = l.space in
+    let all = instances_then (place_at l.frames l.here) (map (option_map (s.term_of w)) l.initial.places.slots) in
+    let ps = map (loaded_of (s.symbol_of w)) l.patterns in
+    PutsOnPlaces s w l.initial.places l.places
+    (λ rs. AreBuiltBefore s.term_of w (all ps) (all (drop l.pattern-index ps)) rs true)
