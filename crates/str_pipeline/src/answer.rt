@@ -11,13 +11,13 @@ ghost use Rattle.str_pipeline.specs.Written.{line_of, refusal_line};
 ghost use Rattle.str_pipeline.specs.Steps.{IsStop, IsProgramOf, IsTermRead, IsTextResult, status_of, text_line};
 ghost use Rattle.str_pipeline.specs.Faults.{IsOfDefinitions, IsTransferFault, is_read_fault, is_write_fault};
 
-use crate::notes::RunNotes;
 use crate::program::Program;
 use crate::runs::{Holds, run_code};
 use crate::sink::{Sink, write_all};
 use crate::status::{Options, Status};
 use aterm_text::read_in;
 use core_lang::Outcome;
+use diagnostics::RunNotes;
 use prim_registry::{PrimMeaning, Registry};
 use scope_check::Checked;
 use signature_core::Signature;

@@ -1,8 +1,7 @@
 //! The definitions that wait for a strategy, as explanations name them.
 
 use crate::causes::file_offset;
-use crate::line::{MOST_OF_NAME, push_cut, push_number};
-use crate::listing::Listing;
+use diagnostics::{Listing, MOST_OF_NAME, push_cut, push_number};
 use std::alloc::{AllocError, Global};
 use strat_code::{Code, Instr};
 

@@ -1,7 +1,6 @@
 //! What explanations say of a failing instruction: the strategy as it is written, and why it fails.
 
-use crate::line::{MOST_OF_NAME, push_cut};
-use crate::listing::{Listing, Phrase};
+use diagnostics::{Listing, MOST_OF_NAME, Phrase, push_cut};
 use std::alloc::{AllocError, Global};
 use str_lexer::Keyword;
 use strat_code::{Code, Instr, SourceMark};

@@ -6,15 +6,14 @@ ghost use Rattle.str_pipeline.specs.Judged.{IsVerdict};
 ghost use Rattle.str_pipeline.specs.Faults.{IsReadingFault, is_read_fault};
 
 use crate::answer::MAX_DEFINITIONS;
-use crate::explanation::{Explanation, Position, Remark};
-use crate::name_hints::{name_hint_in, primitive_place, whole_file};
-use crate::notes::RunNotes;
-use crate::pieces::position_in;
 use crate::program::{Program, noted_program};
 use crate::progress::library_bytes;
 use crate::source::{Source, read_all};
 use crate::status::Options;
-use crate::warnings::{Definitions, add_count, add_warnings};
+use diagnostics::{
+    Definitions, Explanation, Position, Remark, RunNotes, add_count, add_warnings, name_hint_in,
+    position_in, primitive_place, whole_file,
+};
 use prim_registry::{PrimMeaning, Registry};
 use scope_check::{Detail, Note, Notes, note_faults};
 use std::alloc::{AllocError, Global};

@@ -6,16 +6,15 @@ use crate::causes::{
     Leaf, is_negation, push_excess, push_failure, push_phrase, search_failure, variables,
 };
 use crate::checking::findings_in;
-use crate::explanation::{Explanation, Remark};
 use crate::followed::FollowedSpace;
-use crate::line::{MOST_OF_NAME, push_cut, push_number};
-use crate::listing::{Listing, Phrase};
-use crate::notes::{Found, RunNotes};
 use crate::program::{Purpose, program_of};
 use crate::status::{Options, Status};
 use crate::usage::usage_line;
-use crate::warnings::{Definitions, add_warnings};
 use aterm_text::{read_in, write_term};
+use diagnostics::{
+    Definitions, Explanation, Found, Listing, MOST_OF_NAME, Phrase, Remark, RunNotes, add_warnings,
+    push_cut, push_number,
+};
 use prim_registry::{PrimMeaning, Registry};
 use std::alloc::{AllocError, Global};
 use strat_code::Code;

@@ -7,8 +7,8 @@ ghost use Rattle.str_pipeline.specs.Device.{IsDry};
 
 mod front;
 
-use crate::notes::RunNotes;
 use crate::source::{PIECE, Source, read_onto};
+use diagnostics::RunNotes;
 pub(crate) use front::Front;
 use std::alloc::Global;
 use term_model::Fault;

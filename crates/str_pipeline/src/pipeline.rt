@@ -15,13 +15,13 @@ ghost use Rattle.str_pipeline.specs.Faults.{HoldsRefusal, IsRefusal, IsTransferF
 use crate::answer::{MAX_DEFINITIONS, MAX_TERM, outcome_of, write_outcome, write_refusal};
 use crate::explaining::note_explanation;
 use crate::joined::read_front;
-use crate::notes::RunNotes;
 use crate::program::noted_program;
 use crate::progress::library_bytes;
 use crate::sink::Sink;
 use crate::source::{Source, read_all};
 use crate::status::{Options, Status};
 use core_lang::Outcome;
+use diagnostics::RunNotes;
 use prim_registry::{PrimMeaning, Registry};
 use std::alloc::Global;
 use std::hash::BuildHasherDefault;

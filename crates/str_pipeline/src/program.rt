@@ -8,9 +8,9 @@ ghost use Rattle.prim_registry.specs.Entries.{Covers};
 ghost use Rattle.str_pipeline.specs.Setting.{setting_of, setting_with};
 ghost use Rattle.str_pipeline.specs.Steps.{IsProgram};
 
-use crate::notes::{Found, RunNotes};
 use crate::status::Options;
 use core_lang::Core;
+use diagnostics::{Found, RunNotes};
 use prim_registry::{PrimMeaning, Registry};
 use scope_check::{Checked, check_with_notes};
 use std::alloc::{AllocError, Global};

@@ -4,9 +4,9 @@ ghost use Rattle.prim_registry.specs.Entries.{Covers, IsHonest};
 ghost use Rattle.strat_steps.specs.Outcomes.{OutcomeStands, outcome_tree};
 ghost use Rattle.str_pipeline.specs.Steps.{IsTextOf, IsTextOfRun};
 
-use crate::notes::{RunNotes, Used};
 use aterm_text::write_out;
 use core_lang::Outcome;
+use diagnostics::{RunNotes, Used};
 use prim_registry::{PrimMeaning, Registry};
 use std::alloc::{AllocError, Global};
 use strat_code::Code;

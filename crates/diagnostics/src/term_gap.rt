@@ -55,7 +55,7 @@ pub(crate) struct TermGap {
 
 impl TermGap {
     // Returns what is open at the end of this text.
-    pub(crate) fn after(text: &[u8]) -> TermGap {
+    pub fn after(text: &[u8]) -> TermGap {
         let mut gap = TermGap {
             open: [0; MOST],
             depth: 0,
@@ -76,7 +76,7 @@ impl TermGap {
     }
 
     // What could stand next.
-    pub(crate) fn expected(&self) -> TermExpected {
+    pub fn expected(&self) -> TermExpected {
         if self.is_signed {
             return TermExpected::Digit;
         }

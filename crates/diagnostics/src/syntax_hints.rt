@@ -298,7 +298,7 @@ impl<'a> Site<'a> {
     }
 
     /// The mark at an index.
-    pub(crate) fn mark_at(&self, index: usize) -> Option<Mark> {
+    pub fn mark_at(&self, index: usize) -> Option<Mark> {
         match &self.tokens.get(index)?.kind {
             TokenKind::Mark(mark) => Some(*mark),
             _ => None,
@@ -405,7 +405,7 @@ impl<'a> Site<'a> {
     }
 
     /// Whether the name at an index is followed by what follows the name of a definition.
-    pub(crate) fn is_head(&self, name: usize) -> bool {
+    pub fn is_head(&self, name: usize) -> bool {
         self.sign_after(name).is_some()
     }
 

@@ -5,16 +5,16 @@ use itoa::Buffer;
 use std::alloc::AllocError;
 
 /// The most bytes of a name that are shown.
-pub(crate) const MOST_OF_NAME: usize = 60;
+pub const MOST_OF_NAME: usize = 60;
 
 /// Puts a number on the line.
-pub(crate) fn push_number(number: u64, line: &mut Vec<u8>) -> Result<(), AllocError> {
+pub fn push_number(number: u64, line: &mut Vec<u8>) -> Result<(), AllocError> {
     let mut digits = Buffer::new();
     line.extend_from_slice(digits.format(number).as_bytes())
 }
 
 /// Puts bytes on the line, this number of them at most, and `..` after them where they are not all. No character is cut in two.
-pub(crate) fn push_cut(bytes: &[u8], most: usize, line: &mut Vec<u8>) -> Result<(), AllocError> {
+pub fn push_cut(bytes: &[u8], most: usize, line: &mut Vec<u8>) -> Result<(), AllocError> {
     if bytes.len() <= most {
         return line.extend_from_slice(bytes);
     }

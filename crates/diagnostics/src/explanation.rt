@@ -46,7 +46,7 @@ pub struct Explanation {
 
 impl Explanation {
     /// The explanation that has these remarks.
-    pub(crate) fn new(remarks: Vec<Remark>) -> Explanation {
+    pub fn new(remarks: Vec<Remark>) -> Explanation {
         Explanation { remarks }
     }
 

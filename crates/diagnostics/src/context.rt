@@ -23,7 +23,7 @@ pub struct Context {
 impl Context {
     /// What has to stand before and after a strategy there: it is applied in a build. At its end that is in parentheses, since what comes
     /// after it may be read as the operand.
-    pub fn around_strategy(&self) -> (&'static str, &'static str) {
+    pub(crate) fn around_strategy(&self) -> (&'static str, &'static str) {
         match self.role {
             Role::Build if self.is_part => ("<", ">"),
             Role::Build => ("(<", ">)"),

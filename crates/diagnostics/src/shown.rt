@@ -76,7 +76,7 @@ fn is_unseen(first: u8, second: u8, third: u8) -> bool {
 
 impl Shown {
     /// Shows the piece of text.
-    pub(crate) fn new(text: &[u8]) -> Shown {
+    pub fn new(text: &[u8]) -> Shown {
         let length = whole_length(text);
         let is_readable = is_readable(&text[..length.min(text.len())]);
         let mut bytes = [0; MOST];

@@ -54,7 +54,7 @@ pub(crate) struct Walk<'a> {
 
 impl<'a> Walk<'a> {
     /// A walk that has seen nothing.
-    pub(crate) fn new(alloc: Global, signature: &'a Signature) -> Walk<'a> {
+    pub fn new(alloc: Global, signature: &'a Signature) -> Walk<'a> {
         Walk {
             alloc,
             signature,

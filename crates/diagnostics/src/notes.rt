@@ -60,15 +60,15 @@ pub struct RunNotes {
 
 // What was found in definitions while a program was made of them.
 #[derive(Drop)]
-pub(crate) struct Found {
+pub struct Found {
     // What could stand at the place of a fault of syntax.
-    pub(crate) expected: Option<Expected>,
-    pub(crate) checks: Notes,
+    pub expected: Option<Expected>,
+    pub checks: Notes,
 }
 
 impl Found {
     // Nothing was found.
-    pub(crate) fn none() -> Found {
+    pub fn none() -> Found {
         Found {
             expected: None,
             checks: Notes::none(),
@@ -105,7 +105,7 @@ impl RunNotes {
     }
 
     // Drops what was noted before.
-    pub(crate) fn begin(&mut self) {
+    pub fn begin(&mut self) {
         let wants_explanation = self.wants_explanation;
         *self = RunNotes::none();
         self.wants_explanation = wants_explanation;
@@ -157,59 +157,59 @@ impl RunNotes {
     }
 
     // Notes the size of a term that did not fit.
-    pub(crate) fn note_oversize(&mut self, size: Option<OversizeTerm>) {
+    pub fn note_oversize(&mut self, size: Option<OversizeTerm>) {
         self.oversize = size;
     }
 
     // Keeps the text of the definitions, if a run is to be explained.
-    pub(crate) fn keep_definitions(&mut self, text: Vec<u8>) {
+    pub fn keep_definitions(&mut self, text: Vec<u8>) {
         if self.wants_explanation {
             self.definitions = Some(text);
         }
     }
 
     // Keeps the text of the term, if a run is to be explained.
-    pub(crate) fn keep_term(&mut self, text: Vec<u8>) {
+    pub fn keep_term(&mut self, text: Vec<u8>) {
         if self.wants_explanation {
             self.term = Some(text);
         }
     }
 
     // Notes how many bytes of the definitions, from the first on, are a library.
-    pub(crate) fn note_library(&mut self, bytes: usize) {
+    pub fn note_library(&mut self, bytes: usize) {
         self.library = bytes;
     }
 
     // How many bytes of the definitions, from the first on, are a library.
-    pub(crate) fn library(&self) -> usize {
+    pub fn library(&self) -> usize {
         self.library
     }
 
     // Hands out the texts that are kept, the definitions first.
-    pub(crate) fn take_texts(&mut self) -> Option<(Vec<u8>, Vec<u8>)> {
+    pub fn take_texts(&mut self) -> Option<(Vec<u8>, Vec<u8>)> {
         let definitions = self.definitions.take()?;
         let term = self.term.take()?;
         Some((definitions, term))
     }
 
     // Notes why the run has no result.
-    pub(crate) fn note_explanation(&mut self, explanation: Explanation) {
+    pub fn note_explanation(&mut self, explanation: Explanation) {
         self.explanation = Some(explanation);
     }
 
     // Notes what the run used.
-    pub(crate) fn note_run(&mut self, used: Used) {
+    pub fn note_run(&mut self, used: Used) {
         self.used = Some(used);
     }
 
     // Notes that the term comes after this part of the joined form, and whether a line `#term` ends it.
-    pub(crate) fn begin_term(&mut self, front: &[u8], has_term_line: bool) {
+    pub fn begin_term(&mut self, front: &[u8], has_term_line: bool) {
         self.lines_before_term = line_feeds(front);
         self.has_term_line = has_term_line;
     }
 
     // Notes why these definitions are refused. Where memory for a hint is refused there is none.
-    pub(crate) fn note_definitions(
+    pub fn note_definitions(
         &mut self,
         alloc: Global,
         text: &[u8],
@@ -269,12 +269,12 @@ impl RunNotes {
     }
 
     // Notes that the definitions are too long.
-    pub(crate) fn note_long_definitions(&mut self) {
+    pub fn note_long_definitions(&mut self) {
         self.reason = Some(Reason::DefinitionsTooLong);
     }
 
     // Notes the first application in this text of a term that the signature does not declare, if memory for the search is there.
-    pub(crate) fn note_undeclared(&mut self, alloc: Global, text: &[u8], signature: &Signature) {
+    pub fn note_undeclared(&mut self, alloc: Global, text: &[u8], signature: &Signature) {
         let Some(application) = undeclared_application(alloc, text, signature) else {
             return;
         };
@@ -288,7 +288,7 @@ impl RunNotes {
     }
 
     // Notes why this text of a term is refused.
-    pub(crate) fn note_term(&mut self, text: &[u8], fault: &Fault) {
+    pub fn note_term(&mut self, text: &[u8], fault: &Fault) {
         self.subject = Subject::Term;
         match fault {
             Fault::TermSyntax { .. } if is_blank(text) => {
@@ -318,7 +318,7 @@ impl RunNotes {
     }
 
     // Notes why a text was refused of which no place is known.
-    pub(crate) fn note_outcome(&mut self, outcome: &Result<Outcome<Vec<u8>>, Fault>) {
+    pub fn note_outcome(&mut self, outcome: &Result<Outcome<Vec<u8>>, Fault>) {
         match outcome {
             Err(Fault::DefsTooLong) => self.note_long_definitions(),
             Err(Fault::TermTooLong) => {

@@ -31,7 +31,7 @@ fn first_line(text: &[u8]) -> &[u8] {
 }
 
 // Returns the number of line line_feeds.
-pub(crate) fn line_feeds(text: &[u8]) -> usize {
+pub fn line_feeds(text: &[u8]) -> usize {
     let mut count: usize = 0;
     for byte in text {
         if *byte == b'\n' {
@@ -66,7 +66,7 @@ fn boundary_after(line: &[u8], offset: usize) -> usize {
 
 impl Excerpt {
     /// Shows the line of the text in which the byte of this offset stands. An offset beyond the text is that of its end.
-    pub(crate) fn new(text: &[u8], offset: usize) -> Excerpt {
+    pub fn new(text: &[u8], offset: usize) -> Excerpt {
         let at = offset.min(text.len());
         let before = &text[..at];
         let in_line = bytes_in_line(before);

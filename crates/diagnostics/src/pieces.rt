@@ -4,13 +4,13 @@ use crate::excerpt::{bytes_in_line, line_feeds};
 use crate::explanation::Position;
 
 /// The bytes of a text from one offset up to another, as far as they are there.
-pub(crate) fn piece(text: &[u8], from: usize, to: usize) -> &[u8] {
+pub fn piece(text: &[u8], from: usize, to: usize) -> &[u8] {
     let to = to.min(text.len());
     &text[from.min(to)..to]
 }
 
 /// The line and the column of a byte of a text.
-pub(crate) fn position_in(text: &[u8], offset: usize) -> Position {
+pub fn position_in(text: &[u8], offset: usize) -> Position {
     let before = piece(text, 0, offset);
     Position {
         line: line_feeds(before).saturating_add(1),

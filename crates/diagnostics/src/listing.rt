@@ -15,21 +15,21 @@ use term_model::Fault;
 
 /// The name of a rule or a definition at the top of the file, from a byte up to another.
 #[derive(Clone, Copy, Debug, PartialEq, Eq)]
-pub(crate) struct Head {
+pub struct Head {
     from: usize,
     to: usize,
 }
 
 /// Tokens that belong together, from an index up to another.
 #[derive(Clone, Copy, Debug, PartialEq, Eq)]
-pub(crate) struct Phrase {
-    pub(crate) first: usize,
-    pub(crate) after: usize,
+pub struct Phrase {
+    pub first: usize,
+    pub after: usize,
 }
 
 /// The text of definitions in which nothing is wrong, its tokens, and the heads of its definitions in the order in which they stand.
 #[derive(Drop)]
-pub(crate) struct Listing<'a> {
+pub struct Listing<'a> {
     text: &'a [u8],
     tokens: Vec<Token>,
     heads: Vec<Head>,
@@ -37,7 +37,7 @@ pub(crate) struct Listing<'a> {
 
 impl<'a> Listing<'a> {
     /// The listing of the text. The fault is `Memory` where the text is that of definitions.
-    pub(crate) fn new(alloc: Global, text: &'a [u8]) -> Result<Listing<'a>, Fault> {
+    pub fn new(alloc: Global, text: &'a [u8]) -> Result<Listing<'a>, Fault> {
         let tokens = lex(alloc, text)?;
         let file = parse(alloc, text, &tokens)?;
         let heads = heads_of(alloc, &file)?;
@@ -49,24 +49,24 @@ impl<'a> Listing<'a> {
     }
 
     /// The line and the column of a byte.
-    pub(crate) fn position(&self, offset: usize) -> Position {
+    pub fn position(&self, offset: usize) -> Position {
         position_in(self.text, offset)
     }
 
     /// How many heads there are.
-    pub(crate) fn heads(&self) -> usize {
+    pub fn heads(&self) -> usize {
         self.heads.len()
     }
 
     /// The index of the last head that is not after a byte: the definition in which the byte stands.
-    pub(crate) fn head_before(&self, offset: usize) -> Option<usize> {
+    pub fn head_before(&self, offset: usize) -> Option<usize> {
         self.heads
             .partition_point(|head| head.from <= offset)
             .checked_sub(1)
     }
 
     /// The name of the definition whose head has this index.
-    pub(crate) fn name_of(&self, head: usize) -> &[u8] {
+    pub fn name_of(&self, head: usize) -> &[u8] {
         match self.heads.get(head) {
             Some(head) => piece(self.text, head.from, head.to),
             None => b"?",
@@ -74,12 +74,12 @@ impl<'a> Listing<'a> {
     }
 
     /// Whether two definitions have the same name.
-    pub(crate) fn have_one_name(&self, one: usize, other: usize) -> bool {
+    pub fn have_one_name(&self, one: usize, other: usize) -> bool {
         one == other || self.name_of(one) == self.name_of(other)
     }
 
     /// Whether the name of a definition begins with this byte.
-    pub(crate) fn is_head(&self, offset: usize) -> bool {
+    pub fn is_head(&self, offset: usize) -> bool {
         match self.head_before(offset) {
             Some(index) => self.heads.get(index).map(|head| head.from) == Some(offset),
             None => false,
@@ -87,7 +87,7 @@ impl<'a> Listing<'a> {
     }
 
     /// How many alternatives the definition has whose head has this index, if that is the last one of them.
-    pub(crate) fn alternatives_before(&self, head: usize) -> Option<usize> {
+    pub fn alternatives_before(&self, head: usize) -> Option<usize> {
         let name = self.name_of(head);
         let mut count: usize = 0;
         for (index, other) in self.heads.iter().enumerate() {
@@ -102,7 +102,7 @@ impl<'a> Listing<'a> {
     }
 
     /// Whether a rule in backslashes begins with this byte.
-    pub(crate) fn is_lambda(&self, offset: usize) -> bool {
+    pub fn is_lambda(&self, offset: usize) -> bool {
         match self
             .token_at(offset)
             .and_then(|index| self.tokens.get(index))
@@ -114,31 +114,31 @@ impl<'a> Listing<'a> {
 
     /// The pattern in which the last token stands that is not after this byte, with the sign in front of it if there is one. After a backslash
     /// or the `<` of an application it is the one to which these lead.
-    pub(crate) fn pattern_at(&self, offset: usize) -> Option<Phrase> {
+    pub fn pattern_at(&self, offset: usize) -> Option<Phrase> {
         let after = self.tokens.partition_point(|token| token.from <= offset);
         let named = after.checked_sub(1)?;
         Some(self.phrase_from(first_of_pattern(&self.tokens, named)))
     }
 
     /// The left side of the rule whose name begins with this byte; nothing for a definition.
-    pub(crate) fn left_side(&self, offset: usize) -> Option<Phrase> {
+    pub fn left_side(&self, offset: usize) -> Option<Phrase> {
         let first = after_mark(&self.tokens, self.token_at(offset)?, Mark::Colon)?;
         Some(self.phrase_from(first))
     }
 
     /// The right side of the rule that begins with this byte, or whose name does; nothing for a definition.
-    pub(crate) fn right_side(&self, offset: usize) -> Option<Phrase> {
+    pub fn right_side(&self, offset: usize) -> Option<Phrase> {
         let first = after_mark(&self.tokens, self.token_at(offset)?, Mark::Arrow)?;
         Some(self.phrase_from(first))
     }
 
     /// The call or congruence whose name begins with this byte.
-    pub(crate) fn call_at(&self, offset: usize) -> Option<Phrase> {
+    pub fn call_at(&self, offset: usize) -> Option<Phrase> {
         Some(self.phrase_from(self.token_at(offset)?))
     }
 
     /// The call of the primitive of this name in the definition of a head, if there is one alone.
-    pub(crate) fn primitive_in(&self, head: usize, name: &[u8]) -> Option<Phrase> {
+    pub fn primitive_in(&self, head: usize, name: &[u8]) -> Option<Phrase> {
         let mut found = None;
         for index in self.tokens_of(head) {
             if is_quoted(&self.tokens, index, name) {
@@ -152,7 +152,7 @@ impl<'a> Listing<'a> {
     }
 
     /// The strategy in the definition of a head that begins with one or the other of two keywords, if there is one alone.
-    pub(crate) fn form_in(&self, head: usize, one: Keyword, other: Keyword) -> Option<Phrase> {
+    pub fn form_in(&self, head: usize, one: Keyword, other: Keyword) -> Option<Phrase> {
         let mut found = None;
         for index in self.tokens_of(head) {
             if is_keyword(&self.tokens, index, one) || is_keyword(&self.tokens, index, other) {
@@ -166,7 +166,7 @@ impl<'a> Listing<'a> {
     }
 
     /// The byte with which a phrase begins.
-    pub(crate) fn offset_of(&self, phrase: Phrase) -> usize {
+    pub fn offset_of(&self, phrase: Phrase) -> usize {
         match self.tokens.get(phrase.first) {
             Some(token) => token.from,
             None => self.text.len(),
@@ -174,7 +174,7 @@ impl<'a> Listing<'a> {
     }
 
     /// The text of a phrase.
-    pub(crate) fn text_of(&self, phrase: Phrase) -> &[u8] {
+    pub fn text_of(&self, phrase: Phrase) -> &[u8] {
         let from = self.offset_of(phrase);
         match phrase
             .after
@@ -187,7 +187,7 @@ impl<'a> Listing<'a> {
     }
 
     /// The term arguments of a call: what stands after its first bar.
-    pub(crate) fn terms_of(&self, call: Phrase) -> Phrase {
+    pub fn terms_of(&self, call: Phrase) -> Phrase {
         let mut depth: usize = 0;
         for (index, token) in self.tokens.iter().enumerate() {
             if index < call.first || index >= call.after {
@@ -209,11 +209,7 @@ impl<'a> Listing<'a> {
 
     /// The variables of patterns in a phrase, in the order in which they stand: the names that no parenthesis follows and, each as a whole,
     /// the applications `<s> p` of a build.
-    pub(crate) fn variables_in(
-        &self,
-        alloc: Global,
-        phrase: Phrase,
-    ) -> Result<Vec<Phrase>, AllocError> {
+    pub fn variables_in(&self, alloc: Global, phrase: Phrase) -> Result<Vec<Phrase>, AllocError> {
         let mut found = Vec::new(alloc);
         let mut next = phrase.first;
         for (index, token) in self.tokens.iter().enumerate() {

@@ -30,7 +30,7 @@ pub(crate) struct Alternative<'a> {
 }
 
 impl<'a> Alternative<'a> {
-    pub(crate) fn head(self) -> &'a DefinitionHead {
+    pub fn head(self) -> &'a DefinitionHead {
         match self.form {
             DefinitionForm::Rule(rule) => &rule.head,
             DefinitionForm::Strategy(definition) => &definition.head,
@@ -38,7 +38,7 @@ impl<'a> Alternative<'a> {
     }
 
     /// The byte of the definitions at which its name begins.
-    pub(crate) fn offset(self) -> usize {
+    pub fn offset(self) -> usize {
         usize::try_from(self.head().name.offset()).unwrap_or(usize::MAX)
     }
 }
@@ -46,22 +46,18 @@ impl<'a> Alternative<'a> {
 /// The definitions that warnings are about: their text, of which the first bytes are a library, their file with its signature, the name of
 /// the definition that is applied, and whether nothing is wrong in them.
 #[derive(Clone, Copy)]
-pub(crate) struct Definitions<'a> {
-    pub(crate) text: &'a [u8],
-    pub(crate) library: usize,
-    pub(crate) file: &'a File,
-    pub(crate) signature: &'a Signature,
-    pub(crate) main: &'a [u8],
-    pub(crate) is_sound: bool,
+pub struct Definitions<'a> {
+    pub text: &'a [u8],
+    pub library: usize,
+    pub file: &'a File,
+    pub signature: &'a Signature,
+    pub main: &'a [u8],
+    pub is_sound: bool,
 }
 
 impl<'a> Definitions<'a> {
     /// Definitions of this text in which nothing is wrong. Its first bytes, as many as `library` says, are a library.
-    pub(crate) fn of_checked(
-        text: &'a [u8],
-        library: usize,
-        checked: &'a Checked,
-    ) -> Definitions<'a> {
+    pub fn of_checked(text: &'a [u8], library: usize, checked: &'a Checked) -> Definitions<'a> {
         Definitions {
             text,
             library,
@@ -75,7 +71,7 @@ impl<'a> Definitions<'a> {
 
 /// Adds the warnings about the definitions as remarks: the first hundred, in the order of the text but those about a library last, and how
 /// many there are.
-pub(crate) fn add_warnings(
+pub fn add_warnings(
     alloc: Global,
     definitions: &Definitions<'_>,
     remarks: &mut Vec<Remark>,
@@ -112,7 +108,7 @@ fn text_of(alloc: Global, warning: &Warning) -> Result<Vec<u8>, AllocError> {
 }
 
 /// Adds how many of these things there are, if only the first hundred are told.
-pub(crate) fn add_count(
+pub fn add_count(
     alloc: Global,
     count: usize,
     things: &[u8],
