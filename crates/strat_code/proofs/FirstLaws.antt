@@ -13,7 +13,8 @@ pub data StandsFirst (code : Code) (i x : ℕ) : Type 0 where
 first_less : {code : Code} {i x : ℕ} → StandsFirst code i (suc x) → StandsFirst code i x
 first_less (stands_first v at h) = stands_first v at (omega arith)
 
-pub first_of_range : {code : Code} {I : List Specialization} {w : Option ℕ} {C : Context} {i x j : ℕ} {s : ResolvedStrategy} → Ranges code I w C i x s j → StandsFirst code i x
+pub first_of_range : {code : Code} {I : List Specialization} {w : Option ℕ} {C : Context} {i x j : ℕ}
+    {s : ResolvedStrategy} → Ranges code I w C i x s j → StandsFirst code i x
 first_of_range (id_range at) = stands_first _ at (omega arith)
 first_of_range (fail_range at) = stands_first _ at (omega arith)
 first_of_range (seq_range r q) = first_less (first_of_range r)

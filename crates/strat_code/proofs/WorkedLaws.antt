@@ -16,8 +16,10 @@ small_stands = record {
   entries = entry_at 6 1 ∷ entry_at 2 0 ∷ [];
   specializations = [];
   specialization_bodies = no_specializations;
-  bodies = roomy_bodies (seq_range (match_range (omega arith, tt) refl) (seq_range (build_range (omega arith) refl) (parameter_range (omega arith) refl))) refl
-      (more_bodies (call_range refl (refl, refl) refl (code_argument tt (id_range refl) refl no_arguments) tt refl) refl no_bodies);
+  bodies = roomy_bodies (seq_range (match_range (omega arith, tt) refl)
+      (seq_range (build_range (omega arith) refl) (parameter_range (omega arith) refl))) refl
+      (more_bodies (call_range refl (refl, refl) refl (code_argument tt (id_range refl) refl no_arguments) tt refl)
+      refl no_bodies);
   begins = call_range refl (refl, refl) refl no_arguments tt refl;
   ends = refl;
 }
@@ -35,38 +37,60 @@ small_is_code = record {
   program = small_program;
   main = 1;
   core = record {
-    in_range = record { each = (((omega arith, tt), (omega arith, ((omega arith, refl, refl), tt, tt))), (((refl, refl), (tt, tt), tt), tt)); main = (refl, refl) };
+    in_range = record {
+      each = (
+        ((omega arith, tt), (omega arith, ((omega arith, refl, refl), tt, tt))),
+        (((refl, refl), (tt, tt), tt), tt),
+      );
+      main = (refl, refl);
+    };
     occurring = λ f k. ((λ h. absurd (nothing_in h)), λ h. absurd (no_primitive f k h));
   };
   stands = small_stands;
-  addresses = ((omega arith, omega arith, tt), (tt, ((omega arith, omega arith, (omega arith, tt)), (tt, (tt, (tt, (tt, (tt, (tt, (tt, tt))))))))));
+  addresses = (
+    (omega arith, omega arith, tt),
+    (tt, ((omega arith, omega arith, (omega arith, tt)), (tt, (tt, (tt, (tt, (tt, (tt, (tt, tt))))))))),
+  );
 }
   where
     nothing_in : {f : List ℕ} {k : ℕ} → Contains {X = List ℕ × ℕ} [] (f, k) → ⊥
     nothing_in h = absurd (omega (arith, h.1))
 
 -- a rule, from extend to shrink
-rule_range : {C : Context} (f i : ℕ) → At walking_code i (extend 1 1) → At walking_code (suc i) (match_in_rule f) → At walking_code (suc (suc i)) (build_term 1 (variable (here 0))) →
-    At walking_code (suc (suc (suc i))) (shrink 1) → Ranges walking_code walking_specializations (Some 0) C i 0 (unwraps f) (suc (suc (suc (suc i))))
+rule_range : {C : Context} (f i : ℕ) → At walking_code i (extend 1 1) → At walking_code (suc i) (match_in_rule f) →
+    At walking_code (suc (suc i)) (build_term 1 (variable (here 0))) →
+    At walking_code (suc (suc (suc i))) (shrink 1) →
+    Ranges walking_code walking_specializations (Some 0) C i 0 (unwraps f) (suc (suc (suc (suc i))))
 rule_range f i a b c d = inner_range a (seq_range (match_range (omega arith, tt) b) (build_range (omega arith) c)) d
 
 pub walking_stands : StandsFor walking_code walking_program 3
 walking_stands = record {
   entries = walking_entries;
   specializations = walking_specializations;
-  bodies = more_bodies (seq_range (all_range refl (call_range refl (refl, refl) refl (parameter_argument (omega arith) no_arguments) tt refl) refl) (parameter_range (omega arith) refl)) refl
-      (more_bodies (select_range refl (select_last (asks_scope (asks_seq asks_match)) one_case (rule_range 70 27 refl refl refl refl) refl (rule_range 71 32 refl refl refl refl))) refl
+  bodies = more_bodies (seq_range
+      (all_range refl (call_range refl (refl, refl) refl (parameter_argument (omega arith) no_arguments) tt refl) refl)
+      (parameter_range (omega arith) refl)) refl
+      (more_bodies (select_range refl
+      (select_last (asks_scope (asks_seq asks_match)) one_case (rule_range 70 27 refl refl refl refl)
+      refl (rule_range 71 32 refl refl refl refl))) refl
       (more_bodies (else_range refl (parameter_range (omega arith) refl) refl (id_range refl)) refl
-      (more_bodies (specialization_range 0 refl (refl, refl) refl (own_known tt (hides_framed (keeps_definitions hides_top)) none_known) tt refl) refl no_bodies)));
+      (more_bodies (specialization_range 0 refl (refl, refl)
+      refl (own_known tt (hides_framed (keeps_definitions hides_top)) none_known) tt refl) refl no_bodies)));
   specialization_bodies = more_specializations first_body
       (seq_range
-      (all_range refl (specialization_range 0 refl (refl, refl) refl (parameter_known (refl, refl) none_known) tt refl) refl)
-      (known_range (refl, refl) (inline_range (keeps_definitions hides_top) (refl, refl) (later_body (later_body first_body)) (own_known tt (hides_hidden (keeps_definitions hides_top)) none_known)
+      (all_range refl (specialization_range 0 refl (refl, refl) refl (parameter_known (refl, refl) none_known) tt refl)
+      refl)
+      (known_range (refl, refl)
+      (inline_range (keeps_definitions hides_top) (refl, refl) (later_body (later_body first_body))
+      (own_known tt (hides_hidden (keeps_definitions hides_top)) none_known)
       (select_range refl (select_last
-      (asks_known (refl, refl) (asks_inline (keeps_definitions hides_top) (later_body first_body) none_known (asks_choice (asks_scope (asks_seq asks_match)) (asks_scope (asks_seq asks_match)))))
+      (asks_known (refl, refl) (asks_inline (keeps_definitions hides_top) (later_body first_body)
+      none_known (asks_choice (asks_scope (asks_seq asks_match)) (asks_scope (asks_seq asks_match)))))
       (more_cases one_case)
-      (known_range (refl, refl) (inline_range (keeps_definitions hides_top) (refl, refl) (later_body first_body) none_known
-      (select_range refl (select_last (asks_scope (asks_seq asks_match)) one_case (rule_range 70 14 refl refl refl refl) refl (rule_range 71 19 refl refl refl refl)))))
+      (known_range (refl, refl)
+      (inline_range (keeps_definitions hides_top) (refl, refl) (later_body first_body) none_known
+      (select_range refl (select_last (asks_scope (asks_seq asks_match)) one_case (rule_range 70 14 refl refl refl refl)
+      refl (rule_range 71 19 refl refl refl refl)))))
       refl (id_range refl))))))
       refl no_specializations;
   begins = call_range refl (refl, refl) refl no_arguments tt refl;

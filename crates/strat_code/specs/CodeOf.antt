@@ -1,3 +1,4 @@
+-- The headline does not rest on this file.
 -- What the instructions of the Rust code are seen as, and what holds of every Code.
 use Rattle.std.specs.Prelude.{ℕ, zero, suc, ◌<◌, List, [], ◌∷◌, map, length, drop, Vec}
 use Rattle.std.specs.declared.alloc.Global.{Global}
@@ -64,7 +65,8 @@ module _ (tables : List (Vec Case Global)) where
   instr_of (forms.Jump a) = jump a
   instr_of (forms.Traverse n k a) = traverse n (traversal_of k) a
   instr_of forms.PartDone = part_done
-  instr_of (forms.CallDefinition n h a k to us ps) = call_definition n h a k to (map argument_of us.items) (patterns_of ps.items)
+  instr_of (forms.CallDefinition n h a k to us ps) =
+      call_definition n h a k to (map argument_of us.items) (patterns_of ps.items)
   instr_of (forms.CallClosure n y) = call_closure n y
   instr_of forms.EndDefinition = end_definition
   instr_of forms.EndArgument = end_argument
@@ -117,8 +119,8 @@ module _ (n : ℕ) where
   AllInRange [] = Unit {0}
   AllInRange (v ∷ vs) = AddressesInRange v × AllInRange vs
 
--- There is a core with these primitives that the code stands for, and each address in the code is one of its instructions.
--- That each place of an instruction is one of its frame is part of what ranges are.
+-- There is a core with these primitives that the code stands for, and each address in the code is one of its
+-- instructions. That each place of an instruction is one of its frame is part of what ranges are.
 pub record IsCode (code : Code) (prims : List NameKey) : Type 0 where
   pub program : ResolvedDefinitions
   pub main : ℕ

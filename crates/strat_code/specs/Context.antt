@@ -1,3 +1,4 @@
+-- The headline does not rest on this file.
 -- The context of a range of instructions: which layers have frames, and where their places and definitions are.
 use Rattle.std.specs.Prelude.{◌≡◌, ℕ, zero, suc, ◌+◌, ◌<◌, List}
 use Rattle.core_lang.specs.declared.coordinate.Coordinate.{Coordinate}
@@ -18,11 +19,11 @@ mutual
     defining : ResolvedDefinitions → (entries : List Entry) → Context → Context
     -- of a definition whose strategy parameters are known: its places are those of the frame, which keeps no closures
     known : (variables : ℕ) → Knowns → Context → Context
-    -- of any of these, where the code looks at no place and at no closure of it, but at strategy parameters that are known
-    -- alone; this layer has no frame
+    -- of any of these, where the code looks at no place and at no closure of it, but at strategy parameters that are
+    -- known alone; this layer has no frame
     hidden : Knowns → Context → Context
-    -- of an open call, which is made in place: its strategy parameters are known, and may look at the frame that is the innermost
-    -- one there; this layer has no frame
+    -- of an open call, which is made in place: its strategy parameters are known, and may look at the frame that is the
+    -- innermost one there; this layer has no frame
     open_call : Knowns → Context → Context
 
   -- strategies that are known when code is made, each in its context
@@ -30,8 +31,8 @@ mutual
     no_knowns : Knowns
     more_knowns : ResolvedStrategy → Context → Knowns → Knowns
 
--- A specialization of a definition, which stands at a position in the definitions of a context: its code, for these strategies as
--- parameters, has an entry
+-- A specialization of a definition, which stands at a position in the definitions of a context: its code, for these
+-- strategies as parameters, has an entry
 pub data Specialization : Type 0 where
   specialization_at : Context → (slot : ℕ) → Knowns → (entry room : ℕ) → Specialization
 
@@ -116,14 +117,16 @@ KnowsOpen (known k ks C) i s D = ⊥
 KnowsOpen (hidden ks C) i s D = ⊥
 KnowsOpen (open_call ks C) i s D = IsKnown ks i s D
 
--- The second context is the first one without frames. Definitions stay where no frame is around them, known parameters where
--- they are wanted
+-- The second context is the first one without frames. Definitions stay where no frame is around them, known parameters
+-- where they are wanted
 pub data Hides : Context → Context → Type 0 where
   hides_top : Hides top top
   hides_framed : {m k : ℕ} {C D : Context} → Hides C D → Hides (framed m k C) (hidden no_knowns D)
   hides_within : {k offset : ℕ} {C D : Context} → Hides C D → Hides (within k offset C) (hidden no_knowns D)
-  hides_definitions : {ds : ResolvedDefinitions} {es : List Entry} {C D : Context} → Hides C D → Hides (defining ds es C) (hidden no_knowns D)
-  keeps_definitions : {ds : ResolvedDefinitions} {es : List Entry} {C : Context} → Hides C C → Hides (defining ds es C) (defining ds es C)
+  hides_definitions : {ds : ResolvedDefinitions} {es : List Entry} {C D : Context} → Hides C D →
+      Hides (defining ds es C) (hidden no_knowns D)
+  keeps_definitions : {ds : ResolvedDefinitions} {es : List Entry} {C : Context} → Hides C C →
+      Hides (defining ds es C) (defining ds es C)
   hides_known : {k : ℕ} {ks : Knowns} {C D : Context} → Hides C D → Hides (known k ks C) (hidden no_knowns D)
   keeps_known : {k : ℕ} {ks : Knowns} {C D : Context} → Hides C D → Hides (known k ks C) (hidden ks D)
   hides_open : {ks : Knowns} {C D : Context} → Hides C D → Hides (open_call ks C) (hidden no_knowns D)

@@ -1,3 +1,4 @@
+-- The headline does not rest on this file.
 -- What it is for code to stand for a program.
 use Rattle.std.specs.Prelude.{ℕ, None, List}
 use Rattle.core_lang.specs.Program.{call, no_strategies, no_patterns}
@@ -6,8 +7,8 @@ use Rattle.strat_code.specs.Code.{Entry, Code, At, finish}
 use Rattle.strat_code.specs.Context.{top, defining, Specialization}
 use Rattle.strat_code.specs.Ranges.{Ranges, Bodies, Specializations}
 
--- the code stands for the program whose main is the ith definition: it begins with the call of main and the end of the run,
--- and each definition has an entry
+-- the code stands for the program whose main is the ith definition: it begins with the call of main and the end of the
+-- run, and each definition has an entry
 pub record StandsFor (code : Code) (P : ResolvedDefinitions) (i : ℕ) : Type 0 where
   pub entries : List Entry
   pub specializations : List Specialization

@@ -1,3 +1,4 @@
+-- The headline does not rest on this file.
 -- Two small programs and their code.
 use Rattle.std.specs.Prelude.{ℕ, List, [], ◌∷◌}
 use Rattle.term_model.specs.Symbol.{Plain}
@@ -15,7 +16,8 @@ far h i = record { layers_up = h; slot = i }
 -- f(s) = {x: ?F(x); !x; s}, main = f(id)
 abbrev pub small_program : ResolvedDefinitions
 small_program =
-    more_definitions (here 0) 1 0 (scope 1 (seq (match (applied (Plain (70 ∷ [])) (more_patterns (variable (here 0)) no_patterns)))
+    more_definitions (here 0) 1 0
+    (scope 1 (seq (match (applied (Plain (70 ∷ [])) (more_patterns (variable (here 0)) no_patterns)))
     (seq (build (variable (here 0))) (call (far 1 0) no_strategies no_patterns))))
     (more_definitions (here 0) 0 0 (call (far 1 0) (more_strategies id no_strategies) no_patterns) no_definitions)
 
@@ -23,7 +25,8 @@ small_program =
 abbrev pub match_of_small : Instr
 match_of_small = match_term 3 (applied (Plain (70 ∷ [])) (more_patterns (variable (here 0)) no_patterns))
 
--- main's call at address 0; main's body at 2, the code of its argument id at 3; the body of f at 6, in a frame with room for x
+-- main's call at address 0; main's body at 2, the code of its argument id at 3; the body of f at 6, in a frame with
+-- room for x
 abbrev pub small_code : Code
 small_code =
     call_definition 1 0 2 0 1 [] no_patterns ∷
@@ -41,7 +44,8 @@ small_code =
 
 -- {x: ?F(x); !x}, where F has this number
 abbrev pub unwraps : ℕ → ResolvedStrategy
-unwraps f = scope 1 (seq (match (applied (Plain (f ∷ [])) (more_patterns (variable (here 0)) no_patterns))) (build (variable (here 0))))
+unwraps f = scope 1 (seq (match (applied (Plain (f ∷ [])) (more_patterns (variable (here 0)) no_patterns)))
+    (build (variable (here 0))))
 
 -- a call without arguments
 abbrev pub call_of : Coordinate → ResolvedStrategy
@@ -54,10 +58,12 @@ tries_rules = call (far 1 2) (more_strategies (call_of (far 1 1)) no_strategies)
 -- bottomup(s) = all(bottomup(s)); s, rules = F(x) -> x <+ G(x) -> x, try(s) = s <+ id, main = bottomup(try(rules))
 abbrev pub walking_program : ResolvedDefinitions
 walking_program =
-    more_definitions (here 0) 1 0 (seq (all (call (far 1 0) (more_strategies (call_of (here 0)) no_strategies) no_patterns)) (call_of (here 0)))
+    more_definitions (here 0) 1 0
+    (seq (all (call (far 1 0) (more_strategies (call_of (here 0)) no_strategies) no_patterns)) (call_of (here 0)))
     (more_definitions (here 0) 0 0 (choice (unwraps 70) id (unwraps 71))
     (more_definitions (here 0) 1 0 (choice (call_of (here 0)) id id)
-    (more_definitions (here 0) 0 0 (call (far 1 0) (more_strategies tries_rules no_strategies) no_patterns) no_definitions)))
+    (more_definitions (here 0) 0 0 (call (far 1 0) (more_strategies tries_rules no_strategies) no_patterns)
+    no_definitions)))
 
 abbrev pub walking_entries : List Entry
 walking_entries = entry_at 4 0 ∷ entry_at 26 0 ∷ entry_at 37 0 ∷ entry_at 2 0 ∷ []
@@ -97,7 +103,8 @@ walking_code =
     part_done ∷
     call_closure 1 (here 0) ∷
     end_definition ∷
-    -- 9: the specialization of bottomup for try(rules), which calls itself; from 12 on try in place, from 13 on rules in place
+    -- 9: the specialization of bottomup for try(rules), which calls itself; from 12 on try in place, from 13 on rules
+    -- in place
     traverse 2 all_parts 12 ∷
     call_definition 1 1 9 0 11 [] no_patterns ∷
     part_done ∷

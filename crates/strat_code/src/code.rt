@@ -1,4 +1,4 @@
-// Code: instructions that stand for a core.
+//! Code: instructions that stand for a core.
 ghost use Rattle.std.specs.Prelude.{◌≡◌, ◌<◌, length, slice_get, Some};
 ghost use Rattle.strat_code.specs.CodeOf.{code_of, IsCode};
 
@@ -18,10 +18,10 @@ pub struct SourceMark {
 #[derive(Drop)]
 pub struct Code {
     instrs: Vec<Instr>,
-    // Several instructions may select from one table, each without its first cases.
+    /// Several instructions may select from one table, each without its first cases.
     tables: Vec<Vec<Case>>,
     prims: PrimNames,
-    // Where strategies stand in the definition file, by addresses. The view leaves this out.
+    /// Where strategies stand in the definition file, by addresses. The view leaves this out.
     marks: Vec<SourceMark>,
 }
 
@@ -36,7 +36,12 @@ impl Model for Code {
 
     ghost coded = { Prim.hlevel (codes, instructions.the_row.coded, cases.the_row.coded) };
 
-    ghost view = { λ c. record { instrs = c.instrs.items; tables = c.tables.items; prims = c.prims } };
+    ghost view = { λ c. record {
+      instrs = c.instrs.items;
+      tables = c.tables.items;
+      prims =
+          c.prims;
+    } };
 
     ghost invariant = { λ c. IsCode (code_of c.tables.items c.instrs.items) c.prims };
 }

@@ -1,4 +1,4 @@
-// Instructions.
+//! Instructions.
 use core_lang::{Coordinate, CorePattern};
 use term_model::Sym;
 

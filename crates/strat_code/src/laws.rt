@@ -19,5 +19,6 @@ pub fn walking_code_stands()
 
 /// Code that stands for a program does so with further instructions at its end.
 pub fn longer_code_stands()
-    ensures stands { (code more : Code) (P : ResolvedDefinitions) (i : ℕ) → StandsFor code P i → StandsFor (code ++ more) P i }
+    ensures stands { (code more : Code) (P : ResolvedDefinitions) (i : ℕ) → StandsFor code P i →
+        StandsFor (code ++ more) P i }
 {}

@@ -2,13 +2,14 @@
 use Rattle.std.proofs.Common.{◌≡◌, ◌≤◌, ℕ, ℤ, suc, Option, Some, None, List, [], ◌∷◌, length, get_or, map, refl, sym, ◌∙◌, ap, subst, arith}
 use Rattle.std.specs.Prelude.{true, ◌&&◌}
 use Rattle.std.specs.Option.{option_map, option_and_then, IfSome}
+use Rattle.std.proofs.lemmas.List.{get_or_default}
 use Rattle.term_model.specs.Flat.{FlatValue, Meaning, number, flat_of, with_flat}
 use Rattle.term_model.specs.Flat as flat
 use Rattle.term_model.specs.PrimNames.{NameKey, key_at}
 use Rattle.term_model.specs.Space.{Space, Keeps}
 use Rattle.term_model.specs.Term.{Tree, end, more, fits}
 use Rattle.prim_registry.specs.Registered.{registered}
-use Rattle.prim_registry.proofs.RegisteredLaws.{registered_call, at_default}
+use Rattle.prim_registry.proofs.RegisteredLaws.{registered_call}
 use Rattle.core_lang.specs.declared.coordinate.Coordinate.{Coordinate}
 use Rattle.core_lang.specs.Building.{with_front, instance, instances}
 use Rattle.core_lang.specs.Ending.{built, arguments, answered, if_fits}
@@ -61,7 +62,7 @@ module _ {X : Type 0} (keys : List NameKey) (M : Meaning) (place : Coordinate �
       let A = registered keys M f in
       let found : IsPosition keys (Some i) (f, length ps) = subst (λ o. IsPosition keys o (f, length ps)) is position in
       let there : IsPosition keys (Some i) (f, 2) = subst (λ qs. IsPosition keys (Some i) (f, length qs)) two found in
-      let key = at_default keys i (f, 2) ([], 0) there.0 ∙ there.1 in
+      let key = get_or_default keys i (f, 2) ([], 0) there.0 ∙ there.1 in
       ap (λ qs. answered A (arguments (instances place (patterns_in (map meant qs)) e) b)) two ∙
       answered_two A (instance place (meant l) e) (instance place (meant r) e) y z v b h k
       (registered_call keys M f (number y ∷ number z ∷ []) (key_at keys i) 2 v there.1 refl (i, there.0, key) call)

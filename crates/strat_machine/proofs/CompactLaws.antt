@@ -1,5 +1,5 @@
 -- Compact records: the newest one changed in place.
-use Rattle.std.proofs.Common.{◌≡◌, ℕ, suc, ◌+◌, ◌-◌, ◌<◌, List, [], ◌∷◌, ◌++◌, length, reverse, take, get_or, sym, ◌∙◌, ap, subst, refl, arith}
+use Rattle.std.proofs.Common.{◌≡◌, ℕ, suc, ◌+◌, ◌-◌, ◌<◌, List, [], ◌∷◌, ◌++◌, length, reverse, take, get_or, sym, ◌∙◌, ap, subst, refl, arith, add-one}
 use Rattle.std.specs.Prelude.{Option, Some, None, MatchOption, slice_set}
 use Rattle.std.proofs.lemmas.List.{reverse-append, reverse-reverse, length-reverse, length-append}
 use Rattle.std.proofs.Math.Seq.{set-append_seam, get_or-append_seam}
@@ -24,13 +24,17 @@ module _ {A : Type 0} (xs : List A) {v : A} {rest : List A} (is : reverse xs ≡
 
   pub newest_set : (u : A) (i : ℕ) → i ≡ length xs - 1 → reverse (slice_set xs i u) ≡ u ∷ rest
   newest_set u i at =
-      ap (λ ys. reverse (slice_set ys i u)) in_front ∙ (ap (λ k. reverse (slice_set (reverse rest ++ v ∷ []) k u)) (at ∙ before) ∙
-      (ap reverse (set-append_seam (reverse rest) v [] u) ∙ (reverse-append (reverse rest) (u ∷ []) ∙ ap (λ ys. u ∷ ys) (reverse-reverse rest))))
+      ap (λ ys. reverse (slice_set ys i u)) in_front ∙
+      (ap (λ k. reverse (slice_set (reverse rest ++ v ∷ []) k u)) (at ∙ before) ∙
+      (ap reverse (set-append_seam (reverse rest) v [] u) ∙
+      (reverse-append (reverse rest) (u ∷ []) ∙ ap (λ ys. u ∷ ys) (reverse-reverse rest))))
 
   pub newest_read : (d : A) (i : ℕ) → i ≡ length xs - 1 → get_or xs i d ≡ v
-  newest_read d i at = ap (λ ys. get_or ys i d) in_front ∙ (ap (λ k. get_or (reverse rest ++ v ∷ []) k d) (at ∙ before) ∙ get_or-append_seam (reverse rest) v [] d)
+  newest_read d i at = ap (λ ys. get_or ys i d) in_front ∙
+      (ap (λ k. get_or (reverse rest ++ v ∷ []) k d) (at ∙ before) ∙ get_or-append_seam (reverse rest) v [] d)
 
-pub newest_is : {A : Type 0} (xs : List A) (x : A) (i : ℕ) → 0 < length xs → i ≡ length xs - 1 → x ≡ get_or xs i x → (rest : List A) × (reverse xs ≡ x ∷ rest)
+pub newest_is : {A : Type 0} (xs : List A) (x : A) (i : ℕ) → 0 < length xs → i ≡ length xs - 1 → x ≡ get_or xs i x →
+    (rest : List A) × (reverse xs ≡ x ∷ rest)
 newest_is {A} xs x i some at read = split (reverse xs) refl_is
   where
     refl_is : reverse xs ≡ reverse xs
@@ -40,24 +44,32 @@ newest_is {A} xs x i some at read = split (reverse xs) refl_is
     split [] none = let a = length-reverse xs in let b = ap length none in absurd (omega (arith, a, b, some))
     split (v ∷ rest) is = (rest, is ∙ ap (λ u. u ∷ rest) (sym (read ∙ newest_read xs is x i at)))
 
-pub newest_in : {A : Type 0} (ys xs : List A) (x : A) → ys ≡ xs → 0 < length ys → x ≡ get_or ys (length ys - 1) x → (rest : List A) × (reverse xs ≡ x ∷ rest)
-newest_in ys xs x same some read = subst (λ zs. (rest : List _) × (reverse zs ≡ x ∷ rest)) same (newest_is ys x (length ys - 1) some refl read)
-
-one_on : (n : ℕ) → n + 1 ≡ suc n
-one_on n = omega arith
+pub newest_in : {A : Type 0} (ys xs : List A) (x : A) → ys ≡ xs → 0 < length ys → x ≡ get_or ys (length ys - 1) x →
+    (rest : List A) × (reverse xs ≡ x ∷ rest)
+newest_in ys xs x same some read =
+    subst (λ zs. (rest : List _) × (reverse zs ≡ x ∷ rest)) same (newest_is ys x (length ys - 1) some refl read)
 
 -- the counts of the newest traversal are changed
-pub counts_set : {R : Type 0} (xs : List (CompactTraversed R)) (n : ℕ) (x : CompactTraversed R) (done left : ℕ) (v : CompactTraversed R) (rest : List (CompactTraversed R)) → reverse xs ≡ v ∷ rest → n ≡ length xs → x ≡ get_or xs (n - 1) x →
-    reverse (slice_set xs (n - 1) (record x { done = done; left = left })) ≡ record v { done = done; left = left } ∷ rest
+pub counts_set : {R : Type 0} (xs : List (CompactTraversed R)) (n : ℕ) (x : CompactTraversed R) (done left : ℕ)
+    (v : CompactTraversed R) (rest : List (CompactTraversed R)) → reverse xs ≡ v ∷ rest → n ≡ length xs →
+    x ≡ get_or xs (n - 1) x →
+    reverse (slice_set xs (n - 1) (record x { done = done; left = left })) ≡ record v { done = done; left = left } ∷
+    rest
 counts_set {R} xs n x done left v rest is many read =
     let at : n - 1 ≡ length xs - 1 = ap (λ k. k - 1) many in
     let counts : CompactTraversed R → List (CompactTraversed R) = λ u. record u { done = done; left = left } ∷ rest in
-    newest_set xs is (record x { done = done; left = left }) (n - 1) at ∙ ap counts (read ∙ newest_read xs is x (n - 1) at)
+    newest_set xs is (record x { done = done; left = left }) (n - 1) at ∙
+    ap counts (read ∙ newest_read xs is x (n - 1) at)
 
 -- all(s) goes on
-module _ {R Y : Type 0} (Z : List (Checkpoint Y)) (xs ys : List (CompactTraversed R)) (x : CompactTraversed R) (left others : List R) (part : R) where
-  pub advances : (rs : List (CompactRecord R)) (L : List (Record R Y)) (item : CompactRecord R) (done less : ℕ) → joined rs Z (reverse xs) ≡ L → take 1 rs ≡ item ∷ [] → item ≡ compact.All → (rest : List (CompactTraversed R)) × (reverse xs ≡ x ∷ rest) → 0 < x.left →
-      done ≡ x.done + 1 → less ≡ x.left - 1 → left ≡ part ∷ others → ((v : CompactTraversed R) (rest : List (CompactTraversed R)) → reverse xs ≡ v ∷ rest → reverse ys ≡ record v { done = done; left = less } ∷ rest) →
+module _ {R Y : Type 0} (Z : List (Checkpoint Y)) (xs ys : List (CompactTraversed R)) (x : CompactTraversed R)
+    (left others : List R) (part : R) where
+  pub advances : (rs : List (CompactRecord R)) (L : List (Record R Y)) (item : CompactRecord R) (done less : ℕ) →
+      joined rs Z (reverse xs) ≡ L → take 1 rs ≡ item ∷ [] → item ≡ compact.All → (rest : List (CompactTraversed R)) ×
+      (reverse xs ≡ x ∷ rest) → 0 < x.left →
+      done ≡ x.done + 1 → less ≡ x.left - 1 → left ≡ part ∷ others →
+      ((v : CompactTraversed R) (rest : List (CompactTraversed R)) → reverse xs ≡ v ∷ rest →
+      reverse ys ≡ record v { done = done; left = less } ∷ rest) →
       AdvancesAll L left x.body part (joined rs Z (reverse ys)) others
   advances [] L item done less seen newest all there more d l taken changes = absurd (cc)
   advances (r ∷ rs) L item done less seen newest all there more d l taken changes =
@@ -66,8 +78,12 @@ module _ {R Y : Type 0} (Z : List (Checkpoint Y)) (xs ys : List (CompactTraverse
       record {
         traversed = traversed_in x;
         rest = joined rs Z there.0;
-        was = sym seen ∙ (ap (λ q. joined (q ∷ rs) Z (reverse xs)) kind ∙ ap (λ vs. joined (compact.All ∷ rs) Z vs) there.1);
-        is = ap (λ q. joined (q ∷ rs) Z (reverse ys)) kind ∙ (ap (λ vs. joined (compact.All ∷ rs) Z vs) now ∙ (ap (λ k. joined (compact.All ∷ rs) Z (record x { done = k; left = less } ∷ there.0)) (d ∙ one_on x.done) ∙ ap (λ k. joined (compact.All ∷ rs) Z (record x { done = suc x.done; left = k } ∷ there.0)) l));
+        was = sym seen ∙ (ap (λ q. joined (q ∷ rs) Z (reverse xs)) kind ∙
+            ap (λ vs. joined (compact.All ∷ rs) Z vs) there.1);
+        is = ap (λ q. joined (q ∷ rs) Z (reverse ys)) kind ∙
+            (ap (λ vs. joined (compact.All ∷ rs) Z vs) now ∙
+            (ap (λ k. joined (compact.All ∷ rs) Z (record x { done = k; left = less } ∷ there.0)) (d ∙ add-one x.done) ∙
+            ap (λ k. joined (compact.All ∷ rs) Z (record x { done = suc x.done; left = k } ∷ there.0)) l));
         more = more;
         code = refl;
         taken = taken;
@@ -91,12 +107,15 @@ module _ {R Y : Type 0} (D E : List R) where
   no_choice (records.One v u s m ∷ L) h = tt
   no_choice (records.Some v u found s m ∷ L) h = tt
 
-  pub call_popped : (L K : List (Record R Y)) (o : Option (ℕ × ℕ)) → MatchOption o ((K ≡ L) × HasNoCall L) (λ c. L ≡ records.Call c.0 c.1 ∷ K) →
+  pub call_popped : (L K : List (Record R Y)) (o : Option (ℕ × ℕ)) →
+      MatchOption o ((K ≡ L) × HasNoCall L) (λ c. L ≡ records.Call c.0 c.1 ∷ K) →
       MatchOption o (IsNoCall (records_in L D E)) (λ c. records_in L D E ≡ ref_call c.0 c.1 ∷ records_in K D E)
   call_popped L K None h = no_call L h.1
   call_popped L K (Some c) h = ap (λ x. records_in x D E) h
 
-  pub choice_dropped : (L K : List (Record R Y)) (o : Option Saved) → MatchOption o (HasNoChoice L) (λ s. HasChoice L s K) →
+  pub choice_dropped : (L K : List (Record R Y)) (o : Option Saved) →
+      MatchOption o (HasNoChoice L) (λ s. HasChoice L s K) →
       MatchOption o (IsNoChoice (records_in L D E)) (λ s. IsChoice (records_in L D E) (saved_of s) (records_in K D E))
   choice_dropped L K None h = no_choice L h
-  choice_dropped L K (Some s) h = record { otherwise = h.otherwise; term = h.term; mark = h.mark; are = ap (λ x. records_in x D E) h.are }
+  choice_dropped L K (Some s) h =
+      record { otherwise = h.otherwise; term = h.term; mark = h.mark; are = ap (λ x. records_in x D E) h.are }

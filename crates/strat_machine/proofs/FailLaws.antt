@@ -24,8 +24,10 @@ take_none zero = refl
 take_none (suc n) = refl
 
 -- the next of n parts is taken
-pub part_taken : {R : Type 0} (n : ℕ) (old new : List R) (v : Option R) → (n ≡ 0 → ⊥) → MatchOption v ((old ≡ []) × (new ≡ [])) (λ r. old ≡ r ∷ new) →
-    MatchOption v ((take n old ≡ []) × (new ≡ old)) (λ r. (take n old ≡ r ∷ take (n - 1) new) × (drop n old ≡ drop (n - 1) new))
+pub part_taken : {R : Type 0} (n : ℕ) (old new : List R) (v : Option R) → (n ≡ 0 → ⊥) →
+    MatchOption v ((old ≡ []) × (new ≡ [])) (λ r. old ≡ r ∷ new) →
+    MatchOption v ((take n old ≡ []) × (new ≡ old)) (λ r. (take n old ≡ r ∷ take (n - 1) new) ×
+    (drop n old ≡ drop (n - 1) new))
 part_taken zero old new v some h = absurd (some refl)
 part_taken (suc n) old new None some h = (ap (take (suc n)) h.0 ∙ take_none (suc n), h.1 ∙ sym h.0)
 part_taken (suc n) old new (Some r) some h =
@@ -43,7 +45,8 @@ module _ {R Y : Type 0} (rs np : Records R Y) (kept : np ≡ record rs { left = 
   same_done = ap (λ r. r.done) kept
 
   -- the traversal's parts are taken off
-  pub cut_records : (cut : Records R Y) (d l : ℕ) → np.left ≡ rs.left → cut ≡ record { records = np.records; done = drop d np.done; left = drop l np.left } →
+  pub cut_records : (cut : Records R Y) (d l : ℕ) → np.left ≡ rs.left →
+      cut ≡ record { records = np.records; done = drop d np.done; left = drop l np.left } →
       records_in rs.records (drop d rs.done) (drop l rs.left) ≡ records_of cut
   cut_records cut d l same is =
       let a = same_records in let b = same_done in
@@ -51,9 +54,12 @@ module _ {R Y : Type 0} (rs np : Records R Y) (kept : np ≡ record rs { left = 
       cc
 
 -- the next part after one that failed
-module _ {R Y : Type 0} (rs np : Records R Y) (kept : np ≡ record rs { left = np.left }) (v others : Traversed R) (part next : R) (D : List R)
-    (other : others ≡ record v { done = suc v.done; left = v.left - 1 }) (put : D ≡ part ∷ np.done) (after : drop v.left rs.left ≡ drop (v.left - 1) np.left) where
-  rest_same : records_in np.records (drop others.done D) (drop others.left np.left) ≡ records_in rs.records (drop v.done rs.done) (drop v.left rs.left)
+module _ {R Y : Type 0} (rs np : Records R Y) (kept : np ≡ record rs { left = np.left }) (v others : Traversed R)
+    (part next : R) (D : List R)
+    (other : others ≡ record v { done = suc v.done; left = v.left - 1 }) (put : D ≡ part ∷ np.done)
+    (after : drop v.left rs.left ≡ drop (v.left - 1) np.left) where
+  rest_same : records_in np.records (drop others.done D) (drop others.left np.left) ≡
+      records_in rs.records (drop v.done rs.done) (drop v.left rs.left)
   rest_same =
       let a = same_records rs np kept in let b = same_done rs np kept in
       let n = ap (λ u. u.done) other in let j = ap (λ u. u.left) other in
@@ -61,46 +67,58 @@ module _ {R Y : Type 0} (rs np : Records R Y) (kept : np ≡ record rs { left = 
       (ap (λ l. records_in np.records (drop (suc v.done) l) (drop others.left np.left)) put ∙
       (ap (λ l. records_in np.records (drop v.done l) (drop others.left np.left)) b ∙
       (ap (λ k. records_in np.records (drop v.done rs.done) (drop k np.left)) j ∙
-      (ap (λ l. records_in np.records (drop v.done rs.done) l) (sym after) ∙ ap (λ r. records_in r (drop v.done rs.done) (drop v.left rs.left)) a))))
+      (ap (λ l. records_in np.records (drop v.done rs.done) l) (sym after) ∙
+      ap (λ r. records_in r (drop v.done rs.done) (drop v.left rs.left)) a))))
 
   done_same : take others.done D ≡ part ∷ take v.done rs.done
-  done_same = ap (λ k. take k D) (ap (λ u. u.done) other) ∙ (ap (take (suc v.done)) put ∙ ap (λ l. part ∷ take v.done l) (same_done rs np kept))
+  done_same = ap (λ k. take k D) (ap (λ u. u.done) other) ∙
+      (ap (take (suc v.done)) put ∙ ap (λ l. part ∷ take v.done l) (same_done rs np kept))
 
   left_same : take others.left np.left ≡ take (v.left - 1) np.left
   left_same = ap (λ k. take k np.left) (ap (λ u. u.left) other)
 
   pub one_next : (g : Saved) (m : Y) (sv : state.Saved) → saved_of g ≡ sv →
       with_record (records.One others next g m) (record { records = np.records; done = D; left = np.left }) ≡
-      ref_one v.body v.next_address v.whole (part ∷ take v.done rs.done) next (take (v.left - 1) np.left) sv m ∷ records_in rs.records (drop v.done rs.done) (drop v.left rs.left)
+      ref_one v.body v.next_address v.whole (part ∷ take v.done rs.done) next (take (v.left - 1) np.left) sv m ∷
+      records_in rs.records (drop v.done rs.done) (drop v.left rs.left)
   one_next g m sv is =
       let a = rest_same in let b = done_same in let c = left_same in
-      let body = ap (λ u. u.body) other in let to = ap (λ u. u.next_address) other in let whole = ap (λ u. u.whole) other in
+      let body = ap (λ u. u.body) other in let to = ap (λ u. u.next_address) other in let whole =
+      ap (λ u. u.whole) other in
       cc
 
   pub some_next : (found : Bool) (g : Saved) (m : Y) (sv : state.Saved) → saved_of g ≡ sv →
       with_record (records.Some others next found g m) (record { records = np.records; done = D; left = np.left }) ≡
-      ref_some v.body v.next_address v.whole (part ∷ take v.done rs.done) next (take (v.left - 1) np.left) found sv m ∷ records_in rs.records (drop v.done rs.done) (drop v.left rs.left)
+      ref_some v.body v.next_address v.whole (part ∷ take v.done rs.done) next (take (v.left - 1) np.left) found sv m ∷
+      records_in rs.records (drop v.done rs.done) (drop v.left rs.left)
   some_next found g m sv is =
       let a = rest_same in let b = done_same in let c = left_same in
-      let body = ap (λ u. u.body) other in let to = ap (λ u. u.next_address) other in let whole = ap (λ u. u.whole) other in
+      let body = ap (λ u. u.body) other in let to = ap (λ u. u.next_address) other in let whole =
+      ap (λ u. u.whole) other in
       cc
 
 -- what is saved after going back
-saves_same : {R : Type 0} {P : PlaceStack R} {F F1 : List Frame} {s : state.Saved} {X : Places R} {T : List ℕ} (q d : ℕ) → P ≡ record { slots = X; trail = T; barrier = d } → F1 ≡ F →
+saves_same : {R : Type 0} {P : PlaceStack R} {F F1 : List Frame} {s : state.Saved} {X : Places R} {T : List ℕ}
+    (q d : ℕ) → P ≡ record { slots = X; trail = T; barrier = d } → F1 ≡ F →
     s ≡ state.saved q (length F1) (length P.trail) P.barrier → s ≡ state.saved q (length F) (length T) d
 saves_same {P = P} {F} {T = T} q d restored fewer saves =
-    saves ∙ (ap (λ G. state.saved q (length G) (length P.trail) P.barrier) fewer ∙ (ap (λ U. state.saved q (length F) (length U) P.barrier) (ap (λ p. p.trail) restored) ∙
+    saves ∙ (ap (λ G. state.saved q (length G) (length P.trail) P.barrier) fewer ∙
+    (ap (λ U. state.saved q (length F) (length U) P.barrier) (ap (λ p. p.trail) restored) ∙
     ap (λ c. state.saved q (length F) (length T) c) (ap (λ p. p.barrier) restored)))
 
 -- a part is done, and one is no longer left
-pub other_is : {R : Type 0} (v more other : Traversed R) → more ≡ record v { done = suc v.done } → other ≡ record more { left = more.left - 1 } → other ≡ record v { done = suc v.done; left = v.left - 1 }
+pub other_is : {R : Type 0} (v more other : Traversed R) → more ≡ record v { done = suc v.done } →
+    other ≡ record more { left = more.left - 1 } → other ≡ record v { done = suc v.done; left = v.left - 1 }
 other_is v more other is less = less ∙ ap (λ (u : Traversed _). record u { left = u.left - 1 }) is
 
 -- states from parts that are the same
-pub same_failing : {R Y : Type 0} {b d l : ℕ} {e f : Places R} {F G : List Frame} {T U : List ℕ} {K L : List (RefRecord R Y)} → e ≡ f → F ≡ G → T ≡ U → b ≡ d → K ≡ L → ref_failing e F T b K l ≡ ref_failing f G U d L l
+pub same_failing : {R Y : Type 0} {b d l : ℕ} {e f : Places R} {F G : List Frame} {T U : List ℕ}
+    {K L : List (RefRecord R Y)} → e ≡ f → F ≡ G → T ≡ U → b ≡ d → K ≡ L →
+    ref_failing e F T b K l ≡ ref_failing f G U d L l
 same_failing e F T b K = cc
 
-pub same_running : {R Y : Type 0} {i p b d l : ℕ} {t : R} {e f : Places R} {F G : List Frame} {T U : List ℕ} {K L : List (RefRecord R Y)} → e ≡ f → F ≡ G → T ≡ U → b ≡ d → K ≡ L →
+pub same_running : {R Y : Type 0} {i p b d l : ℕ} {t : R} {e f : Places R} {F G : List Frame} {T U : List ℕ}
+    {K L : List (RefRecord R Y)} → e ≡ f → F ≡ G → T ≡ U → b ≡ d → K ≡ L →
     ref_running i p t e F T b K l ≡ ref_running i p t f G U d L l
 same_running e F T b K = cc
 
@@ -111,86 +129,146 @@ module _ {W R Y N : Type 0} {S : Space W R Y N} {code : Code} {M : Meaning} {w w
   pub step_from : {m m1 n : RefState R Y} → StepRef S code M w m w1 n → m ≡ m1 → StepRef S code M w m1 w1 n
   step_from {n = n} x is = subst (λ m. StepRef S code M w m w1 n) is x
 
-module _ {W R Y N : Type 0} {S : Space W R Y N} {code : Code} {M : Meaning} {w w1 : W} {e : Places R} {F F1 : List Frame} {T : List ℕ} {b l q k h d : ℕ} {P : PlaceStack R} (mark : Y) (back : GoesBack S w mark w1)
-    (restored : P ≡ record { slots = take b (undone (above h T) e); trail = down_to h T; barrier = d }) (fewer : F1 ≡ take k F) (rs : Records R Y) {np : Records R Y} (kept : np ≡ record rs { left = np.left }) (v : Traversed R) (part : R) where
-  pub one_ends : (cut : Records R Y) → take v.left rs.left ≡ [] → np.left ≡ rs.left → cut ≡ record { records = np.records; done = drop v.done np.done; left = drop v.left np.left } →
-      StepRef S code M w (ref_failing e F T b (with_record (records.One v part (record { frame = q; frames = k; height = h; barrier = d }) mark) rs) l) w1 (ref_failing P.slots F1 P.trail P.barrier (records_of cut) l)
+module _ {W R Y N : Type 0} {S : Space W R Y N} {code : Code} {M : Meaning} {w w1 : W} {e : Places R}
+    {F F1 : List Frame} {T : List ℕ} {b l q k h d : ℕ} {P : PlaceStack R} (mark : Y) (back : GoesBack S w mark w1)
+    (restored : P ≡ record { slots = take b (undone (above h T) e); trail = down_to h T; barrier = d })
+    (fewer : F1 ≡ take k F) (rs : Records R Y) {np : Records R Y} (kept : np ≡ record rs { left = np.left })
+    (v : Traversed R) (part : R) where
+  pub one_ends : (cut : Records R Y) → take v.left rs.left ≡ [] → np.left ≡ rs.left →
+      cut ≡ record { records = np.records; done = drop v.done np.done; left = drop v.left np.left } →
+      StepRef S code M w (ref_failing e F T b
+      (with_record (records.One v part (record { frame = q; frames = k; height = h; barrier = d }) mark) rs) l)
+      w1 (ref_failing P.slots F1 P.trail P.barrier (records_of cut) l)
   one_ends cut none same is =
       let K0 = records_in rs.records (drop v.done rs.done) (drop v.left rs.left) in
       step_from
       (step_to (fails_one_last back)
-      (same_failing (ap (λ p. p.slots) (sym restored)) (sym fewer) (ap (λ p. p.trail) (sym restored)) (ap (λ p. p.barrier) (sym restored)) (cut_records rs np kept cut v.done v.left same is)))
-      (ap (λ us. ref_failing e F T b (ref_one v.body v.next_address v.whole (take v.done rs.done) part us (state.saved q k h d) mark ∷ K0) l) (sym none))
+      (same_failing (ap (λ p. p.slots) (sym restored)) (sym fewer) (ap (λ p. p.trail) (sym restored))
+      (ap (λ p. p.barrier) (sym restored)) (cut_records rs np kept cut v.done v.left same is)))
+      (ap (λ us. ref_failing e F T b
+      (ref_one v.body v.next_address v.whole (take v.done rs.done) part us (state.saved q k h d) mark ∷ K0) l)
+      (sym none))
 
-  pub some_ends : (cut : Records R Y) (found : Bool) → found ≡ false → take v.left rs.left ≡ [] → np.left ≡ rs.left → cut ≡ record { records = np.records; done = drop v.done np.done; left = drop v.left np.left } →
-      StepRef S code M w (ref_failing e F T b (with_record (records.Some v part found (record { frame = q; frames = k; height = h; barrier = d }) mark) rs) l) w1 (ref_failing P.slots F1 P.trail P.barrier (records_of cut) l)
+  pub some_ends : (cut : Records R Y) (found : Bool) → found ≡ false → take v.left rs.left ≡ [] → np.left ≡ rs.left →
+      cut ≡ record { records = np.records; done = drop v.done np.done; left = drop v.left np.left } →
+      StepRef S code M w (ref_failing e F T b
+      (with_record (records.Some v part found (record { frame = q; frames = k; height = h; barrier = d }) mark) rs)
+      l) w1 (ref_failing P.slots F1 P.trail P.barrier (records_of cut) l)
   some_ends cut found not_found none same is =
       let K0 = records_in rs.records (drop v.done rs.done) (drop v.left rs.left) in
       step_from
       (step_to (fails_some_none back)
-      (same_failing (ap (λ p. p.slots) (sym restored)) (sym fewer) (ap (λ p. p.trail) (sym restored)) (ap (λ p. p.barrier) (sym restored)) (cut_records rs np kept cut v.done v.left same is)))
-      (ap (λ us. ref_failing e F T b (ref_some v.body v.next_address v.whole (take v.done rs.done) part us false (state.saved q k h d) mark ∷ K0) l) (sym none)
-      ∙ ap (λ y. ref_failing e F T b (ref_some v.body v.next_address v.whole (take v.done rs.done) part (take v.left rs.left) y (state.saved q k h d) mark ∷ K0) l) (sym not_found))
+      (same_failing (ap (λ p. p.slots) (sym restored)) (sym fewer) (ap (λ p. p.trail) (sym restored))
+      (ap (λ p. p.barrier) (sym restored)) (cut_records rs np kept cut v.done v.left same is)))
+      (ap (λ us. ref_failing e F T b
+      (ref_some v.body v.next_address v.whole (take v.done rs.done) part us false (state.saved q k h d) mark ∷ K0)
+      l) (sym none)
+      ∙ ap (λ y. ref_failing e F T b
+      (ref_some v.body v.next_address v.whole (take v.done rs.done) part (take v.left rs.left)
+      y (state.saved q k h d) mark ∷ K0) l) (sym not_found))
 
   -- the whole is made next
-  pub some_last : (stack : List (Record R Y)) (E : List R) (found : Bool) (ending : Traversed R) (address : ℕ) → found ≡ true → take v.left rs.left ≡ [] → np.left ≡ rs.left → E ≡ drop v.left np.left → ending ≡ record v { left = 0 } →
+  pub some_last : (stack : List (Record R Y)) (E : List R) (found : Bool) (ending : Traversed R) (address : ℕ) →
+      found ≡ true → take v.left rs.left ≡ [] → np.left ≡ rs.left → E ≡ drop v.left np.left →
+      ending ≡ record v { left = 0 } →
       stack ≡ records.All ending ∷ np.records → address ≡ v.next_address - 1 →
-      StepRef S code M w (ref_failing e F T b (with_record (records.Some v part found (record { frame = q; frames = k; height = h; barrier = d }) mark) rs) l) w1
+      StepRef S code M w (ref_failing e F T b
+      (with_record (records.Some v part found (record { frame = q; frames = k; height = h; barrier = d }) mark) rs)
+      l) w1
       (ref_running address q part P.slots F1 P.trail P.barrier (records_in stack np.done E) l)
   some_last stack E found ending address was_found none same cut end put at =
       let K0 = records_in rs.records (drop v.done rs.done) (drop v.left rs.left) in
       let all : ref_all v.body v.next_address v.whole (take v.done rs.done) [] ∷ K0 ≡ records_in stack np.done E =
-      ap (λ r. ref_all v.body v.next_address v.whole (take v.done rs.done) [] ∷ records_in r (drop v.done rs.done) (drop v.left rs.left)) (sym (same_records rs np kept)) ∙
-      (ap (λ D. ref_all v.body v.next_address v.whole (take v.done D) [] ∷ records_in np.records (drop v.done D) (drop v.left rs.left)) (sym (same_done rs np kept)) ∙
-      (ap (λ G. ref_all v.body v.next_address v.whole (take v.done np.done) [] ∷ records_in np.records (drop v.done np.done) (drop v.left G)) (sym same) ∙
-      (ap (λ G. ref_all v.body v.next_address v.whole (take v.done np.done) [] ∷ records_in np.records (drop v.done np.done) G) (sym cut) ∙
-      (ap (λ u. records_in (records.All u ∷ np.records) np.done E) (sym end) ∙ ap (λ r. records_in r np.done E) (sym put)))))
+      ap (λ r. ref_all v.body v.next_address v.whole (take v.done rs.done) [] ∷
+      records_in r (drop v.done rs.done) (drop v.left rs.left)) (sym (same_records rs np kept)) ∙
+      (ap (λ D. ref_all v.body v.next_address v.whole (take v.done D) [] ∷
+      records_in np.records (drop v.done D) (drop v.left rs.left)) (sym (same_done rs np kept)) ∙
+      (ap (λ G. ref_all v.body v.next_address v.whole (take v.done np.done) [] ∷
+      records_in np.records (drop v.done np.done) (drop v.left G)) (sym same) ∙
+      (ap (λ G. ref_all v.body v.next_address v.whole (take v.done np.done) [] ∷
+      records_in np.records (drop v.done np.done) G) (sym cut) ∙
+      (ap (λ u. records_in (records.All u ∷ np.records) np.done E) (sym end) ∙
+      ap (λ r. records_in r np.done E) (sym put)))))
       in
       step_from
       (step_to (fails_some_last back)
-      (same_running (ap (λ p. p.slots) (sym restored)) (sym fewer) (ap (λ p. p.trail) (sym restored)) (ap (λ p. p.barrier) (sym restored)) all
+      (same_running (ap (λ p. p.slots) (sym restored)) (sym fewer) (ap (λ p. p.trail) (sym restored))
+      (ap (λ p. p.barrier) (sym restored)) all
       ∙ ap (λ a. ref_running a q part P.slots F1 P.trail P.barrier (records_in stack np.done E) l) (sym at)))
-      (ap (λ us. ref_failing e F T b (ref_some v.body v.next_address v.whole (take v.done rs.done) part us true (state.saved q k h d) mark ∷ K0) l) (sym none)
-      ∙ ap (λ y. ref_failing e F T b (ref_some v.body v.next_address v.whole (take v.done rs.done) part (take v.left rs.left) y (state.saved q k h d) mark ∷ K0) l) (sym was_found))
+      (ap (λ us. ref_failing e F T b
+      (ref_some v.body v.next_address v.whole (take v.done rs.done) part us true (state.saved q k h d) mark ∷ K0) l)
+      (sym none)
+      ∙ ap (λ y. ref_failing e F T b
+      (ref_some v.body v.next_address v.whole (take v.done rs.done) part (take v.left rs.left)
+      y (state.saved q k h d) mark ∷ K0) l) (sym was_found))
 
-  module _ (others : Traversed R) (next : R) (D : List R) (other : others ≡ record v { done = suc v.done; left = v.left - 1 }) (put : D ≡ part ∷ np.done)
-      (taken : take v.left rs.left ≡ next ∷ take (v.left - 1) np.left) (after : drop v.left rs.left ≡ drop (v.left - 1) np.left) (g : Saved) (mark2 : Y)
+  module _ (others : Traversed R) (next : R) (D : List R)
+      (other : others ≡ record v { done = suc v.done; left = v.left - 1 }) (put : D ≡ part ∷ np.done)
+      (taken : take v.left rs.left ≡ next ∷ take (v.left - 1) np.left)
+      (after : drop v.left rs.left ≡ drop (v.left - 1) np.left) (g : Saved) (mark2 : Y)
       (saves : saved_of g ≡ state.saved q (length F1) (length P.trail) P.barrier) (marks : IsMark S w1 mark2) where
-    pub one_goes_on : StepRef S code M w (ref_failing e F T b (with_record (records.One v part (record { frame = q; frames = k; height = h; barrier = d }) mark) rs) l) w1
-        (ref_running others.body q next P.slots F1 P.trail (length P.slots) (with_record (records.One others next g mark2) (record { records = np.records; done = D; left = np.left })) l)
+    pub one_goes_on : StepRef S code M w
+        (ref_failing e F T b (with_record
+        (records.One v part (record { frame = q; frames = k; height = h; barrier = d }) mark) rs) l) w1
+        (ref_running others.body q next P.slots F1 P.trail (length P.slots)
+        (with_record (records.One others next g mark2) (record { records = np.records; done = D; left = np.left }))
+        l)
     one_goes_on =
         let K0 = records_in rs.records (drop v.done rs.done) (drop v.left rs.left) in
         let slots = ap (λ p. p.slots) (sym restored) in
         step_from
         (step_to (fails_one_next back marks)
         (same_running slots (sym fewer) (ap (λ p. p.trail) (sym restored)) (ap length slots)
-        (sym (one_next rs np kept v others part next D other put after g mark2 (state.saved q (length (take k F)) (length (down_to h T)) d) (saves_same q d restored fewer saves)))
-        ∙ ap (λ a. ref_running a q next P.slots F1 P.trail (length P.slots) (with_record (records.One others next g mark2) (record { records = np.records; done = D; left = np.left })) l) (ap (λ u. u.body) (sym other))))
-        (ap (λ us. ref_failing e F T b (ref_one v.body v.next_address v.whole (take v.done rs.done) part us (state.saved q k h d) mark ∷ K0) l) (sym taken))
+        (sym (one_next rs np kept v others part next D other put after g mark2
+        (state.saved q (length (take k F)) (length (down_to h T)) d) (saves_same q d restored fewer saves)))
+        ∙ ap (λ a. ref_running a q next P.slots F1 P.trail (length P.slots)
+        (with_record (records.One others next g mark2) (record { records = np.records; done = D; left = np.left }))
+        l) (ap (λ u. u.body) (sym other))))
+        (ap (λ us. ref_failing e F T b
+        (ref_one v.body v.next_address v.whole (take v.done rs.done) part us (state.saved q k h d) mark ∷ K0) l)
+        (sym taken))
 
-    pub some_goes_on : (found : Bool) → StepRef S code M w (ref_failing e F T b (with_record (records.Some v part found (record { frame = q; frames = k; height = h; barrier = d }) mark) rs) l) w1
-        (ref_running others.body q next P.slots F1 P.trail (length P.slots) (with_record (records.Some others next found g mark2) (record { records = np.records; done = D; left = np.left })) l)
+    pub some_goes_on : (found : Bool) →
+        StepRef S code M w (ref_failing e F T b
+        (with_record (records.Some v part found (record { frame = q; frames = k; height = h; barrier = d }) mark) rs) l)
+        w1
+        (ref_running others.body q next P.slots F1 P.trail (length P.slots)
+        (with_record (records.Some others next found g mark2)
+        (record { records = np.records; done = D; left = np.left })) l)
     some_goes_on found =
         let K0 = records_in rs.records (drop v.done rs.done) (drop v.left rs.left) in
         let slots = ap (λ p. p.slots) (sym restored) in
         step_from
         (step_to (fails_some_next back marks)
         (same_running slots (sym fewer) (ap (λ p. p.trail) (sym restored)) (ap length slots)
-        (sym (some_next rs np kept v others part next D other put after found g mark2 (state.saved q (length (take k F)) (length (down_to h T)) d) (saves_same q d restored fewer saves)))
-        ∙ ap (λ a. ref_running a q next P.slots F1 P.trail (length P.slots) (with_record (records.Some others next found g mark2) (record { records = np.records; done = D; left = np.left })) l) (ap (λ u. u.body) (sym other))))
-        (ap (λ us. ref_failing e F T b (ref_some v.body v.next_address v.whole (take v.done rs.done) part us found (state.saved q k h d) mark ∷ K0) l) (sym taken))
+        (sym (some_next rs np kept v others part next D other put after found g mark2
+        (state.saved q (length (take k F)) (length (down_to h T)) d) (saves_same q d restored fewer saves)))
+        ∙ ap (λ a. ref_running a q next P.slots F1 P.trail (length P.slots)
+        (with_record (records.Some others next found g mark2)
+        (record { records = np.records; done = D; left = np.left })) l) (ap (λ u. u.body) (sym other))))
+        (ap (λ us. ref_failing e F T b
+        (ref_some v.body v.next_address v.whole (take v.done rs.done) part us found (state.saved q k h d) mark ∷ K0)
+        l) (sym taken))
 
 -- the newest record is taken off
-module _ {W R Y N : Type 0} {S : Space W R Y N} {w : W} {e : Places R} {T : List ℕ} {b : ℕ} {old new : List (Record R Y)} {r v : Record R Y} (D E : List R) where
+module _ {W R Y N : Type 0} {S : Space W R Y N} {w : W} {e : Places R} {T : List ℕ} {b : ℕ}
+    {old new : List (Record R Y)} {r v : Record R Y} (D E : List R) where
   pub safe_at : Safe S w e T b (records_in old D E) → old ≡ v ∷ new → v ≡ r → Safe S w e T b (records_in (r ∷ new) D E)
-  safe_at safe popped is = subst (λ x. Safe S w e T b (records_in (x ∷ new) D E)) is (subst (λ rs. Safe S w e T b (records_in rs D E)) popped safe)
+  safe_at safe popped is = subst (λ x. Safe S w e T b (records_in (x ∷ new) D E))
+      is (subst (λ rs. Safe S w e T b (records_in rs D E)) popped safe)
 
-  pub step_at : {code : Code} {M : Meaning} {w1 : W} {F : List Frame} {l : ℕ} {n : RefState R Y} → StepRef S code M w (ref_failing e F T b (records_in (r ∷ new) D E) l) w1 n → old ≡ v ∷ new → v ≡ r →
+  pub step_at : {code : Code} {M : Meaning} {w1 : W} {F : List Frame} {l : ℕ} {n : RefState R Y} →
+      StepRef S code M w (ref_failing e F T b (records_in (r ∷ new) D E) l) w1 n → old ≡ v ∷ new → v ≡ r →
       StepRef S code M w (ref_failing e F T b (records_in old D E) l) w1 n
-  step_at {F = F} {l} x popped is = step_from x (ap (λ y. ref_failing e F T b (records_in (y ∷ new) D E) l) (sym is) ∙ ap (λ rs. ref_failing e F T b (records_in rs D E) l) (sym popped))
+  step_at {F = F} {l} x popped is =
+      step_from x (ap (λ y. ref_failing e F T b (records_in (y ∷ new) D E) l) (sym is) ∙
+      ap (λ rs. ref_failing e F T b (records_in rs D E) l) (sym popped))
 
 -- the record of a call is taken off
-pub fails_popped : {W R Y N : Type 0} {S : Space W R Y N} {code : Code} {M : Meaning} {w : W} {e : Places R} {F : List Frame} {T : List ℕ} {b l : ℕ} (L K : List (Record R Y)) (D E : List R) (o : Option (ℕ × ℕ)) →
-    MatchOption o ((K ≡ L) × HasNoCall L) (λ c. L ≡ records.Call c.0 c.1 ∷ K) → (HasNoCall L → ⊥) → StepRef S code M w (ref_failing e F T b (records_in L D E) l) w (ref_failing e F T b (records_in K D E) l)
+pub fails_popped : {W R Y N : Type 0} {S : Space W R Y N} {code : Code} {M : Meaning} {w : W} {e : Places R}
+    {F : List Frame} {T : List ℕ} {b l : ℕ} (L K : List (Record R Y)) (D E : List R) (o : Option (ℕ × ℕ)) →
+    MatchOption o ((K ≡ L) × HasNoCall L) (λ c. L ≡ records.Call c.0 c.1 ∷ K) → (HasNoCall L → ⊥) →
+    StepRef S code M w (ref_failing e F T b (records_in L D E) l) w (ref_failing e F T b (records_in K D E) l)
 fails_popped L K D E None h call = absurd (call h.1)
-fails_popped {e = e} {F} {T} {b} {l} L K D E (Some c) h call = step_from fails_call (ap (λ rs. ref_failing e F T b (records_in rs D E) l) (sym h))
+fails_popped {e = e} {F} {T} {b} {l} L K D E (Some c) h call =
+    step_from fails_call (ap (λ rs. ref_failing e F T b (records_in rs D E) l) (sym h))

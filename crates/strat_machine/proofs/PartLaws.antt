@@ -34,56 +34,89 @@ use Rattle.strat_machine.proofs.TraversalLaws.{in_order_are, parts_are, rebuilt_
 use Rattle.strat_patterns.proofs.ReferenceLists.{refs_append, refs_reverse}
 
 -- the parts are open
-opened : {W R Y N : Type 0} {S : Space W R Y N} {w : W} {t : R} (n : ℕ) (rs new : Records R Y) (o : OpensParts S w t n rs new) (P : List (RefRecord R Y) → List R → List R → Type 0) →
-    P (records_in new.records (drop 0 new.done) (drop n new.left)) (take 0 new.done) (take n new.left) → P (records_of rs) [] o.parts
+opened : {W R Y N : Type 0} {S : Space W R Y N} {w : W} {t : R} (n : ℕ) (rs new : Records R Y)
+    (o : OpensParts S w t n rs new) (P : List (RefRecord R Y) → List R → List R → Type 0) →
+    P (records_in new.records (drop 0 new.done) (drop n new.left)) (take 0 new.done) (take n new.left) →
+    P (records_of rs) [] o.parts
 opened n rs new o P x =
     let x1 : P (records_in rs.records rs.done (drop n (o.parts ++ rs.left))) [] (take n (o.parts ++ rs.left)) =
     subst (λ y. P (records_in y.records (drop 0 y.done) (drop n y.left)) (take 0 y.done) (take n y.left)) o.after x in
-    let x2 : P (records_in rs.records rs.done (drop (length o.parts) (o.parts ++ rs.left))) [] (take (length o.parts) (o.parts ++ rs.left)) =
-    subst (λ j. P (records_in rs.records rs.done (drop j (o.parts ++ rs.left))) [] (take j (o.parts ++ rs.left))) o.count x1 in
+    let x2 : P (records_in rs.records rs.done (drop (length o.parts) (o.parts ++ rs.left)))
+    [] (take (length o.parts) (o.parts ++ rs.left)) =
+    subst (λ j. P (records_in rs.records rs.done (drop j (o.parts ++ rs.left))) [] (take j (o.parts ++ rs.left)))
+    o.count x1 in
     let x3 : P (records_in rs.records rs.done rs.left) [] (take (length o.parts) (o.parts ++ rs.left)) =
-    subst (λ E. P (records_in rs.records rs.done E) [] (take (length o.parts) (o.parts ++ rs.left))) (drop-append_seam o.parts rs.left) x2 in
+    subst (λ E. P (records_in rs.records rs.done E) [] (take (length o.parts) (o.parts ++ rs.left)))
+    (drop-append_seam o.parts rs.left) x2 in
     subst (λ us. P (records_in rs.records rs.done rs.left) [] us) (take-append_seam o.parts rs.left) x3
 
-module _ {W R Y N : Type 0} {S : Space W R Y N} {M : Meaning} {w : W} {i here b l k next : ℕ} {t : R} {e : Places R} {F : List Frame} {T : List ℕ} {st : RefState R Y} {kind : Traversal} (body n : ℕ) (rs new : Records R Y) (o : OpensParts S w t n rs new) (at : body ≡ suc i) where
-  pub all_begins : {w1 : W} → kind ≡ all_parts → OnAll S w body next here t e F T b (records_in new.records (drop 0 new.done) (drop n new.left)) l (take 0 new.done) (take n new.left) w1 st → Does S M w (traverse k kind next) i here t e F T b (records_of rs) l w1 st
+module _ {W R Y N : Type 0} {S : Space W R Y N} {M : Meaning} {w : W} {i here b l k next : ℕ} {t : R} {e : Places R}
+    {F : List Frame} {T : List ℕ} {st : RefState R Y} {kind : Traversal} (body n : ℕ) (rs new : Records R Y)
+    (o : OpensParts S w t n rs new) (at : body ≡ suc i) where
+  pub all_begins : {w1 : W} → kind ≡ all_parts →
+      OnAll S w body next here t e F T b (records_in new.records (drop 0 new.done) (drop n new.left))
+      l (take 0 new.done) (take n new.left) w1 st →
+      Does S M w (traverse k kind next) i here t e F T b (records_of rs) l w1 st
   all_begins {w1} is x =
       subst (λ j. Does S M w (traverse k j next) i here t e F T b (records_of rs) l w1 st) (sym is)
-      (begins_all (parts_are (S.term_of w) o.parts (S.term_of w t) o.are) o.standing (subst (λ a. OnAll S w a next here t e F T b (records_of rs) l [] o.parts w1 st) at (opened n rs new o (λ K done us. OnAll S w body next here t e F T b K l done us w1 st) x)))
+      (begins_all (parts_are (S.term_of w) o.parts (S.term_of w t) o.are)
+      o.standing (subst (λ a. OnAll S w a next here t e F T b (records_of rs) l [] o.parts w1 st)
+      at (opened n rs new o (λ K done us. OnAll S w body next here t e F T b K l done us w1 st) x)))
 
-  pub one_begins : kind ≡ one_part → OnOne S w body next here t e F T b (records_in new.records (drop 0 new.done) (drop n new.left)) l (take 0 new.done) (take n new.left) st → Does S M w (traverse k kind next) i here t e F T b (records_of rs) l w st
+  pub one_begins : kind ≡ one_part →
+      OnOne S w body next here t e F T b (records_in new.records (drop 0 new.done) (drop n new.left))
+      l (take 0 new.done) (take n new.left) st →
+      Does S M w (traverse k kind next) i here t e F T b (records_of rs) l w st
   one_begins is x =
       subst (λ j. Does S M w (traverse k j next) i here t e F T b (records_of rs) l w st) (sym is)
-      (begins_one (parts_are (S.term_of w) o.parts (S.term_of w t) o.are) o.standing (subst (λ a. OnOne S w a next here t e F T b (records_of rs) l [] o.parts st) at (opened n rs new o (λ K done us. OnOne S w body next here t e F T b K l done us st) x)))
+      (begins_one (parts_are (S.term_of w) o.parts (S.term_of w t) o.are)
+      o.standing (subst (λ a. OnOne S w a next here t e F T b (records_of rs) l [] o.parts st)
+      at (opened n rs new o (λ K done us. OnOne S w body next here t e F T b K l done us st) x)))
 
-  pub some_begins : {w1 : W} → kind ≡ some_parts → OnSome S w body next here t e F T b (records_in new.records (drop 0 new.done) (drop n new.left)) l (take 0 new.done) false (take n new.left) w1 st → Does S M w (traverse k kind next) i here t e F T b (records_of rs) l w1 st
+  pub some_begins : {w1 : W} → kind ≡ some_parts →
+      OnSome S w body next here t e F T b (records_in new.records (drop 0 new.done) (drop n new.left))
+      l (take 0 new.done) false (take n new.left) w1 st →
+      Does S M w (traverse k kind next) i here t e F T b (records_of rs) l w1 st
   some_begins {w1} is x =
       subst (λ j. Does S M w (traverse k j next) i here t e F T b (records_of rs) l w1 st) (sym is)
-      (begins_some (parts_are (S.term_of w) o.parts (S.term_of w t) o.are) o.standing (subst (λ a. OnSome S w a next here t e F T b (records_of rs) l [] false o.parts w1 st) at (opened n rs new o (λ K done us. OnSome S w body next here t e F T b K l done false us w1 st) x)))
+      (begins_some (parts_are (S.term_of w) o.parts (S.term_of w t) o.are)
+      o.standing (subst (λ a. OnSome S w a next here t e F T b (records_of rs) l [] false o.parts w1 st)
+      at (opened n rs new o (λ K done us. OnSome S w body next here t e F T b K l done false us w1 st) x)))
 
 -- a term without parts is as it was
-module _ {W R Y N : Type 0} {S : Space W R Y N} {w : W} {t : R} (n : ℕ) (rs new : Records R Y) (o : OpensParts S w t n rs new) (none : n ≡ 0) where
+module _ {W R Y N : Type 0} {S : Space W R Y N} {w : W} {t : R} (n : ℕ) (rs new : Records R Y)
+    (o : OpensParts S w t n rs new) (none : n ≡ 0) where
   no_parts : OpensParts S w t 0 rs new
   no_parts = subst (λ m. OpensParts S w t m rs new) none o
 
-  leaf : (parts : List R) → 0 ≡ length parts → map (S.term_of w) parts ≡ parts_of (S.term_of w t) → parts_of (S.term_of w t) ≡ []
+  leaf : (parts : List R) → 0 ≡ length parts → map (S.term_of w) parts ≡ parts_of (S.term_of w t) →
+      parts_of (S.term_of w t) ≡ []
   leaf [] long are = sym are
   leaf (u ∷ parts) long are = absurd (omega arith)
 
-  rebuilt_leaf : Fits (S.term_of w t) → (bound : Bindings) → rebuilt (S.term_of w t) (ok end bound) ≡ ok (S.term_of w t) bound
+  rebuilt_leaf : Fits (S.term_of w t) → (bound : Bindings) →
+      rebuilt (S.term_of w t) (ok end bound) ≡ ok (S.term_of w t) bound
   rebuilt_leaf fit bound =
       let same : S.term_of w t ≡ term (head_of (S.term_of w t)) [] (annos_of (S.term_of w t)) =
-      sym (whole (S.term_of w t)) ∙ ap (λ us. term (head_of (S.term_of w t)) us (annos_of (S.term_of w t))) (leaf o.parts (sym none ∙ o.count) o.are) in
+      sym (whole (S.term_of w t)) ∙
+      ap (λ us. term (head_of (S.term_of w t)) us (annos_of (S.term_of w t)))
+      (leaf o.parts (sym none ∙ o.count) o.are) in
       rebuilt_fits (S.term_of w) (S.term_of w t) [] bound (S.term_of w t) same (subst Fits same fit)
 
   module _ {M : Meaning} {i here b l k next : ℕ} {e : Places R} {F : List Frame} {T : List ℕ} {kind : Traversal} where
-    pub all_of_leaf : kind ≡ all_parts → Stands S w t → Fits (S.term_of w t) → Does S M w (traverse k kind next) i here t e F T b (records_of rs) l w (ref_running next here t e F T b (records_of new) l)
-    all_of_leaf is stands fit = all_begins (suc i) 0 rs new no_parts refl is (all_whole (keeps_same S w) stands (rebuilt_leaf fit (map (option_map (S.term_of w)) e)))
+    pub all_of_leaf : kind ≡ all_parts → Stands S w t → Fits (S.term_of w t) →
+        Does S M w (traverse k kind next) i here t e F T b (records_of rs)
+        l w (ref_running next here t e F T b (records_of new) l)
+    all_of_leaf is stands fit =
+        all_begins (suc i) 0 rs new no_parts refl is
+        (all_whole (keeps_same S w) stands (rebuilt_leaf fit (map (option_map (S.term_of w)) e)))
 
-    pub one_of_leaf : kind ≡ one_part → Does S M w (traverse k kind next) i here t e F T b (records_of rs) l w (ref_failing e F T b (records_of new) l)
+    pub one_of_leaf : kind ≡ one_part →
+        Does S M w (traverse k kind next) i here t e F T b (records_of rs) l w (ref_failing e F T b (records_of new) l)
     one_of_leaf is = one_begins (suc i) 0 rs new no_parts refl is one_none
 
-    pub some_of_leaf : kind ≡ some_parts → Does S M w (traverse k kind next) i here t e F T b (records_of rs) l w (ref_failing e F T b (records_of new) l)
+    pub some_of_leaf : kind ≡ some_parts →
+        Does S M w (traverse k kind next) i here t e F T b (records_of rs) l w (ref_failing e F T b (records_of new) l)
     some_of_leaf is = some_begins (suc i) 0 rs new no_parts refl is some_none
 
 list_of_trees : {R : Type 0} (f : R → Tree) (rs : List R) → length (list_of (trees f rs)) ≡ length rs
@@ -91,83 +124,144 @@ list_of_trees f [] = refl
 list_of_trees f (r ∷ rs) = ap suc (list_of_trees f rs)
 
 -- what holds of the newest record, which is taken off
-module _ {W R Y N : Type 0} {S : Space W R Y N} {w : W} {e : Places R} {T : List ℕ} {b : ℕ} {old new : List (Record R Y)} {r : Record R Y} (D E : List R)
-    (safe : Safe S w e T b (records_in old D E)) (counted : AllCounted (map (record_tree (S.term_of w)) (records_in old D E))) (popped : old ≡ r ∷ new) where
+module _ {W R Y N : Type 0} {S : Space W R Y N} {w : W} {e : Places R} {T : List ℕ} {b : ℕ}
+    {old new : List (Record R Y)} {r : Record R Y} (D E : List R)
+    (safe : Safe S w e T b (records_in old D E))
+    (counted : AllCounted (map (record_tree (S.term_of w)) (records_in old D E))) (popped : old ≡ r ∷ new) where
   safe_now : (x : Record R Y) → r ≡ x → Safe S w e T b (records_in (x ∷ new) D E)
-  safe_now x is = subst (λ y. Safe S w e T b (records_in (y ∷ new) D E)) is (subst (λ rs. Safe S w e T b (records_in rs D E)) popped safe)
+  safe_now x is = subst (λ y. Safe S w e T b (records_in (y ∷ new) D E))
+      is (subst (λ rs. Safe S w e T b (records_in rs D E)) popped safe)
 
   counted_now : (x : Record R Y) → r ≡ x → AllCounted (map (record_tree (S.term_of w)) (records_in (x ∷ new) D E))
-  counted_now x is = subst (λ y. AllCounted (map (record_tree (S.term_of w)) (records_in (y ∷ new) D E))) is (subst (λ rs. AllCounted (map (record_tree (S.term_of w)) (records_in rs D E))) popped counted)
+  counted_now x is = subst (λ y. AllCounted (map (record_tree (S.term_of w)) (records_in (y ∷ new) D E)))
+      is (subst (λ rs. AllCounted (map (record_tree (S.term_of w)) (records_in rs D E))) popped counted)
 
-  many : (d l : ℕ) (whole : R) → length (list_of (trees (S.term_of w) (take d D))) + suc (length (list_of (trees (S.term_of w) (take l E)))) ≡ length (parts_of (S.term_of w whole)) →
+  many : (d l : ℕ) (whole : R) →
+      length (list_of (trees (S.term_of w) (take d D))) +
+      suc (length (list_of (trees (S.term_of w) (take l E)))) ≡ length (parts_of (S.term_of w whole)) →
       length (take d D) + suc (length (take l E)) ≡ length (parts_of (S.term_of w whole))
-  many d l whole h = ap (λ k. k + suc (length (take l E))) (sym (list_of_trees (S.term_of w) (take d D))) ∙ (ap (λ k. length (list_of (trees (S.term_of w) (take d D))) + suc k) (sym (list_of_trees (S.term_of w) (take l E))) ∙ h)
+  many d l whole h = ap (λ k. k + suc (length (take l E))) (sym (list_of_trees (S.term_of w) (take d D))) ∙
+      (ap (λ k. length (list_of (trees (S.term_of w) (take d D))) + suc k)
+      (sym (list_of_trees (S.term_of w) (take l E))) ∙ h)
 
-  pub all_tried : {t : R} → Stands S w t → (v : Traversed R) → r ≡ records.All v → HasTried S w (record { records = new; done = D; left = E }) v t
+  pub all_tried : {t : R} → Stands S w t → (v : Traversed R) → r ≡ records.All v →
+      HasTried S w (record { records = new; done = D; left = E }) v t
   all_tried stands v is =
       let s = (safe_now (records.All v) is).records.0 in
-      record { part = stands; whole = s.0; done = s.1; left = s.2; count = many v.done v.left v.whole (counted_now (records.All v) is).0 }
+      record {
+        part = stands;
+        whole = s.0;
+        done = s.1;
+        left = s.2;
+        count =
+            many v.done v.left v.whole (counted_now (records.All v) is).0;
+      }
 
-  pub one_tried : {t : R} → Stands S w t → (v : Traversed R) (u : R) (g : Saved) (m : Y) → r ≡ records.One v u g m → HasTried S w (record { records = new; done = D; left = E }) v t
+  pub one_tried : {t : R} → Stands S w t → (v : Traversed R) (u : R) (g : Saved) (m : Y) → r ≡ records.One v u g m →
+      HasTried S w (record { records = new; done = D; left = E }) v t
   one_tried stands v u g m is =
       let s = (safe_now (records.One v u g m) is).records.0 in
-      record { part = stands; whole = s.0; done = s.1; left = s.3; count = many v.done v.left v.whole (counted_now (records.One v u g m) is).0 }
+      record {
+        part = stands;
+        whole = s.0;
+        done = s.1;
+        left = s.3;
+        count =
+            many v.done v.left v.whole (counted_now (records.One v u g m) is).0;
+      }
 
-  pub some_tried : {t : R} → Stands S w t → (v : Traversed R) (u : R) (found : Bool) (g : Saved) (m : Y) → r ≡ records.Some v u found g m → HasTried S w (record { records = new; done = D; left = E }) v t
+  pub some_tried : {t : R} → Stands S w t → (v : Traversed R) (u : R) (found : Bool) (g : Saved) (m : Y) →
+      r ≡ records.Some v u found g m → HasTried S w (record { records = new; done = D; left = E }) v t
   some_tried stands v u found g m is =
       let s = (safe_now (records.Some v u found g m) is).records.0 in
-      record { part = stands; whole = s.0; done = s.1; left = s.3; count = many v.done v.left v.whole (counted_now (records.Some v u found g m) is).0 }
+      record {
+        part = stands;
+        whole = s.0;
+        done = s.1;
+        left = s.3;
+        count =
+            many v.done v.left v.whole (counted_now (records.Some v u found g m) is).0;
+      }
 
-pub part_of_nothing : {W R Y N : Type 0} {S : Space W R Y N} {M : Meaning} {w : W} {i here b l : ℕ} {t : R} {e : Places R} {F : List Frame} {T : List ℕ} {old : List (Record R Y)} (D E : List R) → old ≡ [] →
+pub part_of_nothing : {W R Y N : Type 0} {S : Space W R Y N} {M : Meaning} {w : W} {i here b l : ℕ} {t : R}
+    {e : Places R} {F : List Frame} {T : List ℕ} {old : List (Record R Y)} (D E : List R) → old ≡ [] →
     Does S M w part_done i here t e F T b (records_in old D E) l w (ref_stopped stuck l)
-part_of_nothing {S = S} {M} {w} {i} {here} {b} {l} {t} {e} {F} {T} D E none = subst (λ rs. Does S M w part_done i here t e F T b (records_in rs D E) l w (ref_stopped stuck l)) (sym none) (sticks refl)
+part_of_nothing {S = S} {M} {w} {i} {here} {b} {l} {t} {e} {F} {T} D E none =
+    subst (λ rs. Does S M w part_done i here t e F T b (records_in rs D E) l w (ref_stopped stuck l)) (sym none)
+    (sticks refl)
 
 -- what the end of a part's code does, with the newest record taken off
-module _ {W R Y N : Type 0} {S : Space W R Y N} {M : Meaning} {w : W} {i here b l : ℕ} {t : R} {e : Places R} {F : List Frame} {T : List ℕ} {old new : List (Record R Y)} {r : Record R Y} (D E : List R) where
-  pub part_at : {w1 : W} {n : RefState R Y} (x : Record R Y) → Does S M w part_done i here t e F T b (records_in (x ∷ new) D E) l w1 n → old ≡ r ∷ new → r ≡ x → Does S M w part_done i here t e F T b (records_in old D E) l w1 n
+module _ {W R Y N : Type 0} {S : Space W R Y N} {M : Meaning} {w : W} {i here b l : ℕ} {t : R} {e : Places R}
+    {F : List Frame} {T : List ℕ} {old new : List (Record R Y)} {r : Record R Y} (D E : List R) where
+  pub part_at : {w1 : W} {n : RefState R Y} (x : Record R Y) →
+      Does S M w part_done i here t e F T b (records_in (x ∷ new) D E) l w1 n → old ≡ r ∷ new → r ≡ x →
+      Does S M w part_done i here t e F T b (records_in old D E) l w1 n
   part_at {w1} {n} x y popped is =
-      subst (λ rs. Does S M w part_done i here t e F T b (records_in rs D E) l w1 n) (sym popped) (subst (λ z. Does S M w part_done i here t e F T b (records_in (z ∷ new) D E) l w1 n) (sym is) y)
+      subst (λ rs. Does S M w part_done i here t e F T b (records_in rs D E) l w1 n) (sym popped)
+      (subst (λ z. Does S M w part_done i here t e F T b (records_in (z ∷ new) D E) l w1 n) (sym is) y)
 
-  pub part_of_call : (a h : ℕ) → old ≡ r ∷ new → r ≡ records.Call a h → Does S M w part_done i here t e F T b (records_in old D E) l w (ref_stopped stuck l)
+  pub part_of_call : (a h : ℕ) → old ≡ r ∷ new → r ≡ records.Call a h →
+      Does S M w part_done i here t e F T b (records_in old D E) l w (ref_stopped stuck l)
   part_of_call a h popped is = part_at (records.Call a h) (sticks refl) popped is
 
-  pub part_of_choice : (a : ℕ) (u : R) (g : Saved) (m : Y) → old ≡ r ∷ new → r ≡ records.Choice a u g m → Does S M w part_done i here t e F T b (records_in old D E) l w (ref_stopped stuck l)
+  pub part_of_choice : (a : ℕ) (u : R) (g : Saved) (m : Y) → old ≡ r ∷ new → r ≡ records.Choice a u g m →
+      Does S M w part_done i here t e F T b (records_in old D E) l w (ref_stopped stuck l)
   part_of_choice a u g m popped is = part_at (records.Choice a u g m) (sticks refl) popped is
 
 -- the whole is made at the end of the code for a part of one(s)
-pub one_made : {W R Y N : Type 0} {S : Space W R Y N} {M : Meaning} {w w1 : W} {i here body next q k h d b : ℕ} {t u v : R} {done us : List R} {T : List ℕ} {m : Stacks R Y} {e : Places R} {K : List (RefRecord R Y)} {mark : Y} {n : RefState R Y} →
-    RebuildsTo S w u (reverse done ++ t ∷ us) m K next here w1 n → m.places ≡ record { slots = e; trail = trimmed h d T; barrier = d } →
-    Does S M w part_done i here t e m.frames T b (ref_one body next u done v us (state.saved q k h d) mark ∷ K) m.left w1 n
-one_made {S = S} {w = w} {w1} {here = here} {next = next} {h = h} {d} {t = t} {u} {done = done} {us} {T} {m} {e} {K} (rebuilds {u = x} g sx is) places =
+pub one_made : {W R Y N : Type 0} {S : Space W R Y N} {M : Meaning} {w w1 : W} {i here body next q k h d b : ℕ}
+    {t u v : R} {done us : List R} {T : List ℕ} {m : Stacks R Y} {e : Places R} {K : List (RefRecord R Y)} {mark : Y}
+    {n : RefState R Y} →
+    RebuildsTo S w u (reverse done ++ t ∷ us) m K next here w1 n →
+    m.places ≡ record { slots = e; trail = trimmed h d T; barrier = d } →
+    Does S M w part_done i here t e m.frames T b (ref_one body next u done v us (state.saved q k h d) mark ∷ K)
+    m.left w1 n
+one_made {S = S} {w = w} {w1} {here = here} {next = next} {h = h} {d} {t = t} {u} {done =
+    done} {us} {T} {m} {e} {K} (rebuilds {u = x} g sx is) places =
     let f = S.term_of w in
-    let same : rebuilt (f u) (ok (in_order (trees f done) (more (f t) (trees f us))) (map (option_map f) e)) ≡ rebuilt (f u) (ok (trees f (reverse done ++ t ∷ us)) (map (option_map f) e)) =
+    let same : rebuilt (f u) (ok (in_order (trees f done) (more (f t) (trees f us))) (map (option_map f) e)) ≡
+    rebuilt (f u) (ok (trees f (reverse done ++ t ∷ us)) (map (option_map f) e)) =
     ap (λ ts. rebuilt (f u) (ok ts (map (option_map f) e))) (in_order_are f done (t ∷ us)) in
     let slots = ap (λ p. p.slots) places in
-    let is_so = subst (λ y. rebuilt (f u) (ok (trees f (reverse done ++ t ∷ us)) (map (option_map f) y)) ≡ ok (S.term_of w1 x) (map (option_map f) y)) slots is in
+    let is_so = subst (λ y. rebuilt (f u) (ok (trees f (reverse done ++ t ∷ us)) (map (option_map f) y)) ≡
+    ok (S.term_of w1 x) (map (option_map f) y)) slots is in
     does_to (part_of_one g sx (same ∙ is_so))
     (ap (λ y. ref_running next here x y m.frames (trimmed h d T) d K m.left) (sym slots) ∙
-    (ap (λ y. ref_running next here x m.places.slots m.frames y d K m.left) (ap (λ p. p.trail) (sym places)) ∙ ap (λ y. ref_running next here x m.places.slots m.frames m.places.trail y K m.left) (ap (λ p. p.barrier) (sym places))))
+    (ap (λ y. ref_running next here x m.places.slots m.frames y d K m.left) (ap (λ p. p.trail) (sym places)) ∙
+    ap (λ y. ref_running next here x m.places.slots m.frames m.places.trail y K m.left)
+    (ap (λ p. p.barrier) (sym places))))
 one_made {S = S} {w = w} {t = t} {u} {done = done} {us} {e = e} (rebuilds_none g is) places =
     let f = S.term_of w in
-    let same : rebuilt (f u) (ok (in_order (trees f done) (more (f t) (trees f us))) (map (option_map f) e)) ≡ rebuilt (f u) (ok (trees f (reverse done ++ t ∷ us)) (map (option_map f) e)) =
+    let same : rebuilt (f u) (ok (in_order (trees f done) (more (f t) (trees f us))) (map (option_map f) e)) ≡
+    rebuilt (f u) (ok (trees f (reverse done ++ t ∷ us)) (map (option_map f) e)) =
     ap (λ ts. rebuilt (f u) (ok ts (map (option_map f) e))) (in_order_are f done (t ∷ us)) in
-    part_of_one_oversize g (same ∙ subst (λ y. rebuilt (f u) (ok (trees f (reverse done ++ t ∷ us)) (map (option_map f) y)) ≡ oversize {A = Tree}) (ap (λ p. p.slots) places) is)
+    part_of_one_oversize g (same ∙
+    subst (λ y. rebuilt (f u) (ok (trees f (reverse done ++ t ∷ us)) (map (option_map f) y)) ≡ oversize {A = Tree})
+    (ap (λ p. p.slots) places) is)
 
 -- a part of some(s) is done
-pub some_ended : {W R Y N : Type 0} {S : Space W R Y N} {M : Meaning} {w w1 : W} {i here body next q k h d b l : ℕ} {t u v : R} {done us : List R} {F : List Frame} {T : List ℕ} {P : PlaceStack R} {e : Places R} {K : List (RefRecord R Y)} {found : Bool} {mark : Y} {n : RefState R Y} →
-    OnSome S w body next here u P.slots F P.trail P.barrier K l (t ∷ done) true us w1 n → P ≡ record { slots = e; trail = trimmed h d T; barrier = d } →
+pub some_ended : {W R Y N : Type 0} {S : Space W R Y N} {M : Meaning} {w w1 : W} {i here body next q k h d b l : ℕ}
+    {t u v : R} {done us : List R} {F : List Frame} {T : List ℕ} {P : PlaceStack R} {e : Places R}
+    {K : List (RefRecord R Y)} {found : Bool} {mark : Y} {n : RefState R Y} →
+    OnSome S w body next here u P.slots F P.trail P.barrier K l (t ∷ done) true us w1 n →
+    P ≡ record { slots = e; trail = trimmed h d T; barrier = d } →
     Does S M w part_done i here t e F T b (ref_some body next u done v us found (state.saved q k h d) mark ∷ K) l w1 n
-some_ended {S = S} {w = w} {w1} {here = here} {body} {next} {h = h} {d} {l = l} {t} {u} {done = done} {us} {F} {T} {P} {e} {K} {n = n} x places =
-    part_of_some (subst (λ y. OnSome S w body next here u y.slots F y.trail y.barrier K l (t ∷ done) true us w1 n) places x)
+some_ended {S = S} {w = w} {w1} {here = here} {body} {next} {h = h} {d} {l = l} {t} {u} {done =
+    done} {us} {F} {T} {P} {e} {K} {n = n} x places =
+    part_of_some (subst (λ y. OnSome S w body next here u y.slots F y.trail y.barrier K l (t ∷ done) true us w1 n)
+    places x)
 
 -- the machine's own records are not seen
-with_records : {W R Y N : Type 0} {S : Space W R Y N} {w w1 : W} {t : R} {ps : List R} {m : Stacks R Y} {K : List (RefRecord R Y)} {next here : ℕ} {n : RefState R Y} (rs : Records R Y) → RebuildsTo S w t ps m K next here w1 n →
+with_records : {W R Y N : Type 0} {S : Space W R Y N} {w w1 : W} {t : R} {ps : List R} {m : Stacks R Y}
+    {K : List (RefRecord R Y)} {next here : ℕ} {n : RefState R Y} (rs : Records R Y) →
+    RebuildsTo S w t ps m K next here w1 n →
     RebuildsTo S w t ps (record m { records = rs }) K next here w1 n
 with_records rs (rebuilds g s is) = rebuilds g s is
 with_records rs (rebuilds_none g is) = rebuilds_none g is
 
 -- the parts of one(s), all on one stack
-module _ {R : Type 0} (d l moved : ℕ) (D E one two : List R) (t : R) (put : one ≡ t ∷ D) (was : two ≡ reverse (take l E) ++ one) (many_moved : moved ≡ min l (length E)) where
+module _ {R : Type 0} (d l moved : ℕ) (D E one two : List R) (t : R) (put : one ≡ t ∷ D)
+    (was : two ≡ reverse (take l E) ++ one) (many_moved : moved ≡ min l (length E)) where
   two_is : two ≡ reverse (take l E) ++ t ∷ D
   two_is = was ∙ ap (λ x. reverse (take l E) ++ x) put
 
@@ -175,30 +269,50 @@ module _ {R : Type 0} (d l moved : ℕ) (D E one two : List R) (t : R) (put : on
   long = let a = length-reverse (take l E) in let c = length-take l E in omega arith
 
   pub parts_taken : take (suc d + moved) two ≡ reverse (take l E) ++ t ∷ take d D
-  parts_taken = ap (take (suc d + moved)) two_is ∙ (ap (λ k. take k (reverse (take l E) ++ t ∷ D)) long ∙ take-append-add (reverse (take l E)) (t ∷ D) (suc d))
+  parts_taken = ap (take (suc d + moved)) two_is ∙
+      (ap (λ k. take k (reverse (take l E) ++ t ∷ D)) long ∙ take-append-add (reverse (take l E)) (t ∷ D) (suc d))
 
   pub parts_left : drop (suc d + moved) two ≡ drop d D
-  parts_left = ap (drop (suc d + moved)) two_is ∙ (ap (λ k. drop k (reverse (take l E) ++ t ∷ D)) long ∙ drop-append-add (reverse (take l E)) (t ∷ D) (suc d))
+  parts_left = ap (drop (suc d + moved)) two_is ∙
+      (ap (λ k. drop k (reverse (take l E) ++ t ∷ D)) long ∙ drop-append-add (reverse (take l E)) (t ∷ D) (suc d))
 
   pub parts_in_order : reverse (take (suc d + moved) two) ≡ reverse (take d D) ++ t ∷ take l E
   parts_in_order =
-      ap reverse parts_taken ∙ (reverse-append (reverse (take l E)) (t ∷ take d D) ∙ (ap (λ x. reverse (t ∷ take d D) ++ x) (reverse-reverse (take l E)) ∙
-      (ap (λ x. x ++ take l E) (reverse-append (t ∷ []) (take d D)) ∙ append_assoc (reverse (take d D)) (t ∷ []) (take l E))))
+      ap reverse parts_taken ∙ (reverse-append (reverse (take l E)) (t ∷ take d D) ∙
+      (ap (λ x. reverse (t ∷ take d D) ++ x) (reverse-reverse (take l E)) ∙
+      (ap (λ x. x ++ take l E) (reverse-append (t ∷ []) (take d D)) ∙
+      append_assoc (reverse (take d D)) (t ∷ []) (take l E))))
 
-  pub parts_stand : (P : R → Type 0) → P t → AllRefs P (take d D) → AllRefs P (take l E) → AllRefs P (take (suc d + moved) two)
-  parts_stand P h ds us = subst (AllRefs P) (sym parts_taken) (refs_append P (reverse (take l E)) (t ∷ take d D) (refs_reverse P (take l E) us) (h, ds))
+  pub parts_stand : (P : R → Type 0) → P t → AllRefs P (take d D) → AllRefs P (take l E) →
+      AllRefs P (take (suc d + moved) two)
+  parts_stand P h ds us = subst (AllRefs P) (sym parts_taken)
+      (refs_append P (reverse (take l E)) (t ∷ take d D) (refs_reverse P (take l E) us) (h, ds))
 
-  module _ {W Y N : Type 0} {S : Space W R Y N} {w w1 : W} {here : ℕ} {m : Stacks R Y} {n : RefState R Y} (rs : List (Record R Y)) (records2 : Records R Y) (v end : Traversed R) (F : List R)
-      (at : v.done ≡ d) (left_at : v.left ≡ l) (ends : end ≡ record v { done = suc v.done + moved; left = 0 }) (cut : F ≡ drop l E) where
-    pub whole_of_one : RebuildsTo S w end.whole (reverse (take end.done two)) m (records_in rs (drop end.done two) (drop end.left F)) end.next_address here w1 n →
-        RebuildsTo S w v.whole (reverse (take d D) ++ t ∷ take l E) (record m { records = records2 }) (records_in rs (drop d D) (drop l E)) v.next_address here w1 n
+  module _ {W Y N : Type 0} {S : Space W R Y N} {w w1 : W} {here : ℕ} {m : Stacks R Y} {n : RefState R Y}
+      (rs : List (Record R Y)) (records2 : Records R Y) (v end : Traversed R) (F : List R)
+      (at : v.done ≡ d) (left_at : v.left ≡ l) (ends : end ≡ record v { done = suc v.done + moved; left = 0 })
+      (cut : F ≡ drop l E) where
+    pub whole_of_one : RebuildsTo S w end.whole (reverse (take end.done two))
+        m (records_in rs (drop end.done two) (drop end.left F)) end.next_address here w1 n →
+        RebuildsTo S w v.whole (reverse (take d D) ++ t ∷ take l E) (record m { records = records2 })
+        (records_in rs (drop d D) (drop l E)) v.next_address here w1 n
     whole_of_one x =
-        let x1 : RebuildsTo S w v.whole (reverse (take (suc v.done + moved) two)) m (records_in rs (drop (suc v.done + moved) two) F) v.next_address here w1 n =
-        subst (λ u. RebuildsTo S w u.whole (reverse (take u.done two)) m (records_in rs (drop u.done two) (drop u.left F)) u.next_address here w1 n) ends x in
-        let x2 : RebuildsTo S w v.whole (reverse (take (suc d + moved) two)) m (records_in rs (drop (suc d + moved) two) F) v.next_address here w1 n =
-        subst (λ k. RebuildsTo S w v.whole (reverse (take (suc k + moved) two)) m (records_in rs (drop (suc k + moved) two) F) v.next_address here w1 n) at x1 in
-        let x3 : RebuildsTo S w v.whole (reverse (take d D) ++ t ∷ take l E) m (records_in rs (drop (suc d + moved) two) F) v.next_address here w1 n =
-        subst (λ us. RebuildsTo S w v.whole us m (records_in rs (drop (suc d + moved) two) F) v.next_address here w1 n) parts_in_order x2 in
-        let x4 : RebuildsTo S w v.whole (reverse (take d D) ++ t ∷ take l E) m (records_in rs (drop d D) F) v.next_address here w1 n =
-        subst (λ us. RebuildsTo S w v.whole (reverse (take d D) ++ t ∷ take l E) m (records_in rs us F) v.next_address here w1 n) parts_left x3 in
-        with_records records2 (subst (λ us. RebuildsTo S w v.whole (reverse (take d D) ++ t ∷ take l E) m (records_in rs (drop d D) us) v.next_address here w1 n) cut x4)
+        let x1 : RebuildsTo S w v.whole (reverse (take (suc v.done + moved) two))
+        m (records_in rs (drop (suc v.done + moved) two) F) v.next_address here w1 n =
+        subst (λ u. RebuildsTo S w u.whole (reverse (take u.done two))
+        m (records_in rs (drop u.done two) (drop u.left F)) u.next_address here w1 n) ends x in
+        let x2 : RebuildsTo S w v.whole (reverse (take (suc d + moved) two))
+        m (records_in rs (drop (suc d + moved) two) F) v.next_address here w1 n =
+        subst (λ k. RebuildsTo S w v.whole (reverse (take (suc k + moved) two))
+        m (records_in rs (drop (suc k + moved) two) F) v.next_address here w1 n) at x1 in
+        let x3 : RebuildsTo S w v.whole (reverse (take d D) ++ t ∷ take l E)
+        m (records_in rs (drop (suc d + moved) two) F) v.next_address here w1 n =
+        subst (λ us. RebuildsTo S w v.whole us m (records_in rs (drop (suc d + moved) two) F) v.next_address here w1 n)
+        parts_in_order x2 in
+        let x4 : RebuildsTo S w v.whole (reverse (take d D) ++ t ∷ take l E) m (records_in rs (drop d D) F)
+        v.next_address here w1 n =
+        subst (λ us. RebuildsTo S w v.whole (reverse (take d D) ++ t ∷ take l E) m (records_in rs us F)
+        v.next_address here w1 n) parts_left x3 in
+        with_records records2 (subst
+        (λ us. RebuildsTo S w v.whole (reverse (take d D) ++ t ∷ take l E) m (records_in rs (drop d D) us)
+        v.next_address here w1 n) cut x4)

@@ -30,20 +30,25 @@ pub as_many_flat : (ts : List Tree) (vs : List FlatValue) → Some vs ≡ all_fl
 as_many_flat [] vs is = let same : vs ≡ [] = cc in ap length same
 as_many_flat (t ∷ ts) vs is = by (flat_of t) (all_flat (trees_of ts)) vs is (λ us same. as_many_flat ts us same)
   where
-    by : (o : Option FlatValue) (all : Option (List FlatValue)) (vs : List FlatValue) → Some vs ≡ with_flat o all → ((us : List FlatValue) → Some us ≡ all → length us ≡ length ts) → length vs ≡ suc (length ts)
+    by : (o : Option FlatValue) (all : Option (List FlatValue)) (vs : List FlatValue) → Some vs ≡ with_flat o all →
+        ((us : List FlatValue) → Some us ≡ all → length us ≡ length ts) → length vs ≡ suc (length ts)
     by None all vs is rest = absurd (cc)
     by (Some v) None vs is rest = absurd (cc)
     by (Some v) (Some us) vs is rest = let same : vs ≡ v ∷ us = cc in ap length same ∙ ap (λ n. suc n) (rest us refl)
 
 -- references as a space grows
 module _ {W R Y N : Type 0} {S : Space W R Y N} {w w1 : W} (keeps : Keeps S w w1) where
-  pub standing_later : (rs : List R) → AllRefs (λ r. IsTrue (S.stands w r)) rs → AllRefs (λ r. IsTrue (S.stands w1 r)) rs
+  pub standing_later : (rs : List R) → AllRefs (λ r. IsTrue (S.stands w r)) rs →
+      AllRefs (λ r. IsTrue (S.stands w1 r)) rs
   standing_later [] h = tt
   standing_later (r ∷ rs) h = (keeps.standing r h.0, standing_later rs h.1)
 
-  pub terms_later : (rs : List R) → AllRefs (λ r. IsTrue (S.stands w r)) rs → map (S.term_of w1) rs ≡ map (S.term_of w) rs
+  pub terms_later : (rs : List R) → AllRefs (λ r. IsTrue (S.stands w r)) rs →
+      map (S.term_of w1) rs ≡ map (S.term_of w) rs
   terms_later [] h = refl
-  terms_later (r ∷ rs) h = ap (λ t. t ∷ map (S.term_of w1) rs) (keeps.terms r h.0) ∙ ap (λ ts. S.term_of w r ∷ ts) (terms_later rs h.1)
+  terms_later (r ∷ rs) h = ap (λ t. t ∷ map (S.term_of w1) rs) (keeps.terms r h.0) ∙
+      ap (λ ts. S.term_of w r ∷ ts) (terms_later rs h.1)
 
-pub terms_push : {R : Type 0} (f : R → Tree) (rs new : List R) (r : R) → new ≡ rs ++ r ∷ [] → map f new ≡ map f rs ++ f r ∷ []
+pub terms_push : {R : Type 0} (f : R → Tree) (rs new : List R) (r : R) → new ≡ rs ++ r ∷ [] →
+    map f new ≡ map f rs ++ f r ∷ []
 terms_push f rs new r is = ap (map f) is ∙ map-append f rs (r ∷ [])

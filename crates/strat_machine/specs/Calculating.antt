@@ -1,3 +1,4 @@
+-- The headline does not rest on this file.
 -- Instances that are integers.
 use Rattle.std.specs.Prelude.{◌≡◌, ℤ, Option, Some, true}
 use Rattle.term_model.specs.Flat.{flat_of, number}

@@ -1,3 +1,4 @@
+-- The headline does not rest on this file.
 -- What compact records are seen as.
 use Rattle.std.specs.Prelude.{◌≡◌, ℕ, suc, ◌-◌, ◌<◌, List, [], ◌∷◌}
 use Rattle.strat_machine.specs.declared.compact_records.CompactRecord.{CompactRecord}
@@ -13,7 +14,8 @@ abbrev pub traversed_in : {R : Type 0} → CompactTraversed R → Traversed R
 traversed_in c = record { body = c.body; next_address = c.next_address; whole = c.whole; done = c.done; left = c.left }
 
 -- the records, each with its checkpoint and its traversal; they end where one of these is missing
-abbrev pub joined : {R Y : Type 0} → List (CompactRecord R) → List (Checkpoint Y) → List (CompactTraversed R) → List (Record R Y)
+abbrev pub joined : {R Y : Type 0} → List (CompactRecord R) → List (Checkpoint Y) → List (CompactTraversed R) →
+    List (Record R Y)
 joined [] Z V = []
 joined (compact.Call a h ∷ rs) Z V = records.Call a h ∷ joined rs Z V
 joined (compact.Choice a t ∷ rs) [] V = []
@@ -25,7 +27,8 @@ joined (compact.One u ∷ rs) (c ∷ Z) [] = []
 joined (compact.One u ∷ rs) (c ∷ Z) (v ∷ V) = records.One (traversed_in v) u c.saved c.mark ∷ joined rs Z V
 joined (compact.Some u found ∷ rs) [] V = []
 joined (compact.Some u found ∷ rs) (c ∷ Z) [] = []
-joined (compact.Some u found ∷ rs) (c ∷ Z) (v ∷ V) = records.Some (traversed_in v) u found c.saved c.mark ∷ joined rs Z V
+joined (compact.Some u found ∷ rs) (c ∷ Z) (v ∷ V) =
+    records.Some (traversed_in v) u found c.saved c.mark ∷ joined rs Z V
 
 module _ {R Y : Type 0} where
   -- the newest record is not of a call
@@ -51,7 +54,8 @@ module _ {R Y : Type 0} where
     pub are : old ≡ records.Choice otherwise term s mark ∷ new
 
   -- the newest record is of all(s), whose next part is taken off those that are left; one more is done
-  pub record AdvancesAll (old : List (Record R Y)) (left : List R) (body : ℕ) (part : R) (new : List (Record R Y)) (others : List R) : Type 0 where
+  pub record AdvancesAll (old : List (Record R Y)) (left : List R) (body : ℕ) (part : R) (new : List (Record R Y))
+      (others : List R) : Type 0 where
     pub traversed : Traversed R
     pub rest : List (Record R Y)
     pub was : old ≡ records.All traversed ∷ rest

@@ -1,3 +1,4 @@
+-- The headline does not rest on this file.
 -- Indexes of tables: the cases by the numbers of the roots that they ask for.
 use Rattle.std.specs.Prelude.{◌≡◌, ℕ, zero, suc, ◌+◌, ◌%◌, ◌<◌, ◌≤◌, Bool, true, false, Option, Some, None, List, [], ◌∷◌, ◌++◌, length, All, Contains, slice_get, unsigned_abs, Vec}
 use Rattle.std.specs.Option.{IfSome}
@@ -73,7 +74,8 @@ module _ {N : Type 0} where
     -- the first entry of the list, from k on and below a limit, whose case passes; the limit where there is none
     pub record IsFirstIn (list : List ℕ) (k limit i : ℕ) : Type 0 where
       pub low : i ≤ limit
-      pub passed : (j : ℕ) (c : LoadedCase N) → Contains list j → k ≤ j → j < i → slice_get cs j ≡ Some c → has c ≡ false
+      pub passed : (j : ℕ) (c : LoadedCase N) → Contains list j → k ≤ j → j < i → slice_get cs j ≡ Some c →
+          has c ≡ false
       pub from : i < limit → (k ≤ i) × Contains list i
       pub has_it : i < limit → (c : LoadedCase N) → slice_get cs i ≡ Some c → has c ≡ true
 

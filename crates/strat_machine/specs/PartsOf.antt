@@ -1,3 +1,4 @@
+-- The headline does not rest on this file.
 -- The parts of a term on a stack.
 use Rattle.std.specs.Prelude.{◌≡◌, ℕ, IsTrue, List, ◌++◌, length, map, All}
 use Rattle.term_model.specs.Space.{Space}

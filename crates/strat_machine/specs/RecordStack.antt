@@ -1,3 +1,4 @@
+-- The headline does not rest on this file.
 -- What the control records of the Rust machine are seen as.
 use Rattle.std.specs.Prelude.{◌≡◌, ℕ, List, [], ◌∷◌, take, drop}
 use Rattle.strat_steps.specs.State as state
@@ -15,10 +16,15 @@ abbrev pub records_in : {R Y : Type 0} → List (Record R Y) → (done left : Li
 records_in [] D E = []
 records_in (records.Call a h ∷ rs) D E = ref_call a h ∷ records_in rs D E
 records_in (records.Choice a t s m ∷ rs) D E = ref_choice a t (saved_of s) m ∷ records_in rs D E
-records_in (records.All v ∷ rs) D E = ref_all v.body v.next_address v.whole (take v.done D) (take v.left E) ∷ records_in rs (drop v.done D) (drop v.left E)
-records_in (records.One v u s m ∷ rs) D E = ref_one v.body v.next_address v.whole (take v.done D) u (take v.left E) (saved_of s) m ∷ records_in rs (drop v.done D) (drop v.left E)
+records_in (records.All v ∷ rs) D E =
+    ref_all v.body v.next_address v.whole (take v.done D) (take v.left E) ∷
+    records_in rs (drop v.done D) (drop v.left E)
+records_in (records.One v u s m ∷ rs) D E =
+    ref_one v.body v.next_address v.whole (take v.done D) u (take v.left E) (saved_of s) m ∷
+    records_in rs (drop v.done D) (drop v.left E)
 records_in (records.Some v u found s m ∷ rs) D E =
-    ref_some v.body v.next_address v.whole (take v.done D) u (take v.left E) found (saved_of s) m ∷ records_in rs (drop v.done D) (drop v.left E)
+    ref_some v.body v.next_address v.whole (take v.done D) u (take v.left E) found (saved_of s) m ∷
+    records_in rs (drop v.done D) (drop v.left E)
 
 abbrev pub records_of : {R Y : Type 0} → Records R Y → List (RefRecord R Y)
 records_of rs = records_in rs.records rs.done rs.left
@@ -46,7 +52,8 @@ IsNoChoice (ref_one body after t done u left s m ∷ K) = Unit {0}
 IsNoChoice (ref_some body after t done u left found s m ∷ K) = Unit {0}
 
 -- the first record is of a choice, with these others after it
-pub record IsChoice {R Y : Type 0} (L : List (RefRecord R Y)) (s : state.Saved) (K : List (RefRecord R Y)) : Type 0 where
+pub record IsChoice {R Y : Type 0} (L : List (RefRecord R Y)) (s : state.Saved)
+    (K : List (RefRecord R Y)) : Type 0 where
   pub otherwise : ℕ
   pub term : R
   pub mark : Y

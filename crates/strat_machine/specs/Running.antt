@@ -1,3 +1,4 @@
+-- The headline does not rest on this file.
 -- A run of the Rust machine: steps from its start to its end.
 use Rattle.std.specs.Prelude.{◌≡◌, ℕ, ◌-◌, []}
 use Rattle.term_model.specs.Flat.{Meaning}
@@ -49,6 +50,7 @@ rules_of outcomes.Oversize b l = b - l
 rules_of outcomes.Spent b l = b
 
 -- n steps have led from the start of a run to this, and names are known as at the start
-pub record UnderWay {W R Y N : Type 0} (S : Space W R Y N) (code : Code) (M : Meaning) (w : W) (t : R) (budget k : ℕ) (w1 : W) (next : Next) (p : Position R) (m1 : Stacks R Y) : Type 0 where
+pub record UnderWay {W R Y N : Type 0} (S : Space W R Y N) (code : Code) (M : Meaning) (w : W) (t : R) (budget k : ℕ)
+    (w1 : W) (next : Next) (p : Position R) (m1 : Stacks R Y) : Type 0 where
   pub steps : StepsRef S code M k w (start_ref t budget) w1 (state_of next p m1)
   pub names : KeepsNames S w w1

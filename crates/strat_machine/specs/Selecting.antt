@@ -1,3 +1,4 @@
+-- The headline does not rest on this file.
 -- What a selection comes to.
 use Rattle.std.specs.Prelude.{ℕ}
 use Rattle.term_model.specs.Flat.{Meaning}

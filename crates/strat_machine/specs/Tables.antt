@@ -1,3 +1,4 @@
+-- The headline does not rest on this file.
 -- The tables of a loaded program.
 use Rattle.std.specs.Prelude.{◌≡◌, ℕ, ◌<◌, Bool, IsTrue, Option, Some, None, List, [], ◌∷◌, length, drop, map, Contains, zero, suc, Vec}
 use Rattle.std.specs.declared.alloc.Global.{Global}

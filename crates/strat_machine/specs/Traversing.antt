@@ -1,3 +1,4 @@
+-- The headline does not rest on this file.
 -- What the steps of a traversal do to the Rust machine.
 use Rattle.std.specs.Prelude.{◌≡◌, ℕ, suc, ◌+◌, Bool, List, ◌++◌, length, map, take, drop}
 use Rattle.std.specs.Option.{option_map}
@@ -17,11 +18,16 @@ use Rattle.strat_machine.specs.declared.records.Records.{Records}
 
 module _ {W R Y N : Type 0} (S : Space W R Y N) (w : W) where
   -- the term is rebuilt of these parts, and the machine goes on with it at an address, or ends
-  pub data RebuildsTo (t : R) (parts : List R) (m : Stacks R Y) (K : List (RefRecord R Y)) (next here : ℕ) (w1 : W) : RefState R Y → Type 0 where
+  pub data RebuildsTo (t : R) (parts : List R) (m : Stacks R Y) (K : List (RefRecord R Y)) (next here : ℕ)
+      (w1 : W) : RefState R Y → Type 0 where
     rebuilds : {u : R} → Keeps S w w1 → Stands S w1 u →
-        rebuilt (S.term_of w t) (ok (trees (S.term_of w) parts) (map (option_map (S.term_of w)) m.places.slots)) ≡ ok (S.term_of w1 u) (map (option_map (S.term_of w)) m.places.slots) →
-        RebuildsTo t parts m K next here w1 (ref_running next here u m.places.slots m.frames m.places.trail m.places.barrier K m.left)
-    rebuilds_none : Keeps S w w1 → rebuilt (S.term_of w t) (ok (trees (S.term_of w) parts) (map (option_map (S.term_of w)) m.places.slots)) ≡ oversize →
+        rebuilt (S.term_of w t) (ok (trees (S.term_of w) parts) (map (option_map (S.term_of w)) m.places.slots)) ≡
+        ok (S.term_of w1 u) (map (option_map (S.term_of w)) m.places.slots) →
+        RebuildsTo t parts m K next here w1
+        (ref_running next here u m.places.slots m.frames m.places.trail m.places.barrier K m.left)
+    rebuilds_none : Keeps S w w1 →
+        rebuilt (S.term_of w t) (ok (trees (S.term_of w) parts) (map (option_map (S.term_of w)) m.places.slots)) ≡
+        oversize →
         RebuildsTo t parts m K next here w1 (ref_stopped run_oversize m.left)
 
   -- the parts of a term are put where those that are left stand
@@ -32,7 +38,8 @@ module _ {W R Y N : Type 0} (S : Space W R Y N) (w : W) where
     pub standing : AllRefs (Stands S w) parts
     pub are : map (S.term_of w) parts ≡ parts_of (S.term_of w t)
 
-  -- a traversal whose record is off: its references stand, and what is done and what is left are as many as the whole has
+  -- a traversal whose record is off: its references stand, and what is done and what is left are as many as the whole
+  -- has
   pub record HasParts (rs : Records R Y) (v : Traversed R) : Type 0 where
     pub whole : Stands S w v.whole
     pub done : AllRefs (Stands S w) (take v.done rs.done)
@@ -45,20 +52,27 @@ module _ {W R Y N : Type 0} (S : Space W R Y N) (w : W) where
     pub whole : Stands S w v.whole
     pub done : AllRefs (Stands S w) (take v.done rs.done)
     pub left : AllRefs (Stands S w) (take v.left rs.left)
-    pub count : length (take v.done rs.done) + suc (length (take v.left rs.left)) ≡ length (parts_of (S.term_of w v.whole))
+    pub count : length (take v.done rs.done) +
+        suc (length (take v.left rs.left)) ≡ length (parts_of (S.term_of w v.whole))
 
   -- such a traversal goes on with its next part, or ends
-  abbrev pub GoesOnAll : Stacks R Y → Traversed R → (done : List R) → (here : ℕ) → W → Next → Position R → Stacks R Y → Type 0
+  abbrev pub GoesOnAll : Stacks R Y → Traversed R → (done : List R) → (here : ℕ) → W → Next → Position R → Stacks R Y →
+      Type 0
   GoesOnAll m v done here w1 next p m1 =
-      OnAll S w v.body v.next_address here v.whole m.places.slots m.frames m.places.trail m.places.barrier (records_in m.records.records (drop v.done m.records.done) (drop v.left m.records.left)) m.left
+      OnAll S w v.body v.next_address here v.whole m.places.slots m.frames m.places.trail m.places.barrier
+      (records_in m.records.records (drop v.done m.records.done) (drop v.left m.records.left)) m.left
       done (take v.left m.records.left) w1 (state_of next p m1)
 
-  abbrev pub GoesOnOne : Stacks R Y → Traversed R → (done : List R) → (here : ℕ) → Next → Position R → Stacks R Y → Type 0
+  abbrev pub GoesOnOne : Stacks R Y → Traversed R → (done : List R) → (here : ℕ) → Next → Position R → Stacks R Y →
+      Type 0
   GoesOnOne m v done here next p m1 =
-      OnOne S w v.body v.next_address here v.whole m.places.slots m.frames m.places.trail m.places.barrier (records_in m.records.records (drop v.done m.records.done) (drop v.left m.records.left)) m.left
+      OnOne S w v.body v.next_address here v.whole m.places.slots m.frames m.places.trail m.places.barrier
+      (records_in m.records.records (drop v.done m.records.done) (drop v.left m.records.left)) m.left
       done (take v.left m.records.left) (state_of next p m1)
 
-  abbrev pub GoesOnSome : Stacks R Y → Traversed R → (done : List R) → Bool → (here : ℕ) → W → Next → Position R → Stacks R Y → Type 0
+  abbrev pub GoesOnSome : Stacks R Y → Traversed R → (done : List R) → Bool → (here : ℕ) → W → Next → Position R →
+      Stacks R Y → Type 0
   GoesOnSome m v done found here w1 next p m1 =
-      OnSome S w v.body v.next_address here v.whole m.places.slots m.frames m.places.trail m.places.barrier (records_in m.records.records (drop v.done m.records.done) (drop v.left m.records.left)) m.left
+      OnSome S w v.body v.next_address here v.whole m.places.slots m.frames m.places.trail m.places.barrier
+      (records_in m.records.records (drop v.done m.records.done) (drop v.left m.records.left)) m.left
       done found (take v.left m.records.left) w1 (state_of next p m1)

@@ -1,4 +1,4 @@
-// Calls of definitions, whose term arguments have their places.
+//! Calls of definitions, whose term arguments have their places.
 ghost use Rattle.std.specs.Prelude.{◌≡◌, OnOk, map};
 ghost use Rattle.strat_code.specs.CodeOf.{argument_of};
 ghost use Rattle.strat_machine.specs.Stacks.{state_of};
@@ -23,13 +23,14 @@ pub(crate) struct Callee {
 /// Calls a definition whose term arguments have the places from `base` on.
 pub(crate) fn enter_definition<S: TermSpace>(
     stacks: &mut Stacks<S::Ref, S::Mark>,
-    callee: Callee,
+    callee: &Callee,
     arguments: &[Argument],
     base: usize,
     position: &mut Position<S::Ref>,
 ) -> Result<(), AllocError>
     ensures { OnOk result (state_of Running position.new stacks.new ≡
-        entered stacks.old callee.frames callee.entry callee.room callee.next_address
+        entered stacks.old callee.now.frames callee.now.entry callee.now.room
+        callee.now.next_address
         position.old.frame (map argument_of arguments.now) base position.old.term) }
 {
     let inner = stacks.frames.len();

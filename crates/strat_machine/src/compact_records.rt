@@ -1,4 +1,4 @@
-// Control records in little memory: what a failure restores and the traversals stand on stacks of their own.
+//! Control records in little memory: what a failure restores and the traversals stand on stacks of their own.
 ghost use Rattle.std.specs.Prelude.{◌≡◌, false, IsTrue, MatchOption, IfOk, OnOk, List, [], ◌∷◌, reverse};
 ghost use Rattle.strat_machine.specs.declared.compact_records.CompactTraversed.{CompactTraversed};
 ghost use Rattle.strat_machine.specs.CompactRecords.{HasNoCall, HasNoChoice, HasNoAll, HasChoice, AdvancesAll, traversed_in};
@@ -9,7 +9,7 @@ use std::alloc::{AllocError, Global};
 use std::marker::Model;
 use strat_patterns::{narrow, push_on, release_spare};
 
-// What a record holds itself.
+/// What a record holds itself.
 #[derive(Drop)]
 enum CompactRecord<R: Drop> {
     Call { next_address: u32, frame: u32 },
@@ -19,14 +19,14 @@ enum CompactRecord<R: Drop> {
     Some { part: R, found: bool },
 }
 
-// What a failure restores, with the mark to which the space goes back.
+/// What a failure restores, with the mark to which the space goes back.
 #[derive(Drop)]
 struct Checkpoint<M: Drop> {
     saved: Saved,
     mark: M,
 }
 
-// A traversal.
+/// A traversal.
 #[derive(Drop)]
 struct CompactTraversed<R: Drop> {
     body: u32,
@@ -116,10 +116,12 @@ impl<R: Drop, M: Drop> CompactRecords<R, M> {
     ) -> Result<(), AllocError>
         ensures { OnOk result (self.new ≡ Record.Choice otherwise term saved mark ∷ self.old) }
     {
-        let otherwise = narrow(otherwise)?;
+        narrow(otherwise)?;
         self.checkpoints.push(Checkpoint { saved, mark })?;
-        self.records
-            .push(CompactRecord::Choice { otherwise, term })?;
+        self.records.push(CompactRecord::Choice {
+            otherwise: otherwise as u32,
+            term,
+        })?;
         Ok(())
     }
 
@@ -335,7 +337,7 @@ impl<R: Drop, M: Drop> CompactRecords<R, M> {
     }
 }
 
-// The newest traversal has this many parts done and left.
+/// The newest traversal has this many parts done and left.
 fn count_newest<R: Drop>(traversed: &mut Vec<CompactTraversed<R>>, done: u32, left: u32)
     ensures { (v : CompactTraversed R) (rest : List (CompactTraversed R)) →
         reverse traversed.old.items ≡ v ∷ rest →

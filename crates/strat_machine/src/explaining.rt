@@ -1,4 +1,4 @@
-// What explanations of a run are made of: what it cost, how it ended, and where it stood.
+//! What explanations of a run are made of: what it cost, how it ended, and where it stood.
 ghost use Rattle.std.specs.Prelude.{IsTrue};
 ghost use Rattle.prim_registry.specs.Entries.{IsHonest, entries_of};
 ghost use Rattle.strat_steps.specs.Marks.{Holds};
@@ -128,7 +128,7 @@ pub(crate) fn stand_after<S: TermSpace, M: PrimMeaning>(
     stand_at(space, alloc, stacks, code, &progress)
 }
 
-// Where a run stands, if an instruction comes next.
+/// Where a run stands, if an instruction comes next.
 fn stand_at<S: TermSpace>(
     space: &S,
     alloc: Global,
@@ -156,7 +156,7 @@ fn stand_at<S: TermSpace>(
     }))
 }
 
-// What the variables in the patterns of the instruction at an address have.
+/// What the variables in the patterns of the instruction at an address have.
 fn values_at<S: TermSpace>(
     space: &S,
     alloc: Global,
@@ -182,7 +182,7 @@ fn values_at<S: TermSpace>(
     Ok(values)
 }
 
-// How a run ended, after whose last step this came next. Code of a program is never stuck.
+/// How a run ended, after whose last step this came next. Code of a program is never stuck.
 fn ending_of(next: Next) -> Ending {
     match next {
         Next::Rewritten => Ending::Rewritten,

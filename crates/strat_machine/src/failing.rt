@@ -1,4 +1,4 @@
-// Steps after a failure.
+//! Steps after a failure.
 ghost use Rattle.std.specs.Prelude.{◌≡◌, [], IfOk, IsTrue};
 ghost use Rattle.strat_steps.specs.Marks.{MarksCover};
 ghost use Rattle.term_model.specs.Space.{KeepsNames};
@@ -41,7 +41,7 @@ pub(crate) fn fail<S: TermSpace>(
     fail_traversal(space, stacks, position)
 }
 
-// After a failure where the newest record is neither of a choice nor of a call.
+/// After a failure where the newest record is neither of a choice nor of a call.
 fn fail_traversal<S: TermSpace>(
     space: &mut S,
     stacks: &mut Stacks<S::Ref, S::Mark>,
@@ -84,7 +84,7 @@ fn fail_traversal<S: TermSpace>(
     }
 }
 
-// After a failure in the first alternative of a choice, whose record is on.
+/// After a failure in the first alternative of a choice, whose record is on.
 fn fail_newest_choice<S: TermSpace>(
     space: &mut S,
     stacks: &mut Stacks<S::Ref, S::Mark>,
@@ -113,7 +113,7 @@ fn fail_newest_choice<S: TermSpace>(
     Next::Running
 }
 
-// After a failure in the first alternative of a choice, whose record is off.
+/// After a failure in the first alternative of a choice, whose record is off.
 fn fail_choice<S: TermSpace>(
     space: &mut S,
     stacks: &mut Stacks<S::Ref, S::Mark>,
@@ -143,7 +143,7 @@ fn fail_choice<S: TermSpace>(
     position.term = term;
 }
 
-// After a failure on a part of one(s), whose record is off: the next part is tried, if there is one.
+/// After a failure on a part of one(s), whose record is off: the next part is tried, if there is one.
 fn fail_one<S: TermSpace>(
     space: &mut S,
     stacks: &mut Stacks<S::Ref, S::Mark>,
@@ -179,7 +179,7 @@ fn fail_one<S: TermSpace>(
     Ok(Next::Running)
 }
 
-// After a failure on a part of some(s), whose record is off: the next part is tried, or the traversal ends.
+/// After a failure on a part of some(s), whose record is off: the next part is tried, or the traversal ends.
 fn fail_some<S: TermSpace>(
     space: &mut S,
     stacks: &mut Stacks<S::Ref, S::Mark>,

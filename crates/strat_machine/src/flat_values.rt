@@ -1,4 +1,4 @@
-// References as flat values, and flat values as references.
+//! References as flat values, and flat values as references.
 ghost use Rattle.std.specs.Prelude.{◌≡◌, if◌then◌else◌, IfOk, IsTrue, Some, None, List, [], length, map};
 ghost use Rattle.prim_registry.specs.Values.{answer_of, value_of, values_of};
 ghost use Rattle.term_model.specs.declared.term.Head.TheVariants as heads;
@@ -36,7 +36,7 @@ pub(crate) fn flat_values<S: TermSpace>(
     Ok(true)
 }
 
-// Returns the flat value that the term is.
+/// Returns the flat value that the term is.
 fn flat_value<S: TermSpace>(
     space: &S,
     alloc: Global,
@@ -50,10 +50,7 @@ fn flat_value<S: TermSpace>(
     }
     match space.head(at) {
         Top::Int(value) => Ok(Some(Flat::Int(value))),
-        Top::App(symbol) => {
-            let text = text(alloc, symbol, space.count(at))?;
-            Ok(text)
-        }
+        Top::App(symbol) => { text(alloc, symbol, space.count(at)) }
         Top::List => match numbers(space, alloc, at)? {
             Some(numbers) => Ok(Some(Flat::Ints(numbers))),
             None => Ok(None),
@@ -61,7 +58,7 @@ fn flat_value<S: TermSpace>(
     }
 }
 
-// Returns the string that a symbol with this number of parts is.
+/// Returns the string that a symbol with this number of parts is.
 fn text(alloc: Global, symbol: &Sym, count: usize) -> Result<Option<Flat>, AllocError>
     ensures { IfOk result (λ value. (parts : List Tree) → length parts ≡ count → answer_of value ≡
         flat_of (term (heads.App symbol.now) parts [])) }
@@ -76,7 +73,7 @@ fn text(alloc: Global, symbol: &Sym, count: usize) -> Result<Option<Flat>, Alloc
     Ok(Some(Flat::Str(Bytes::new(bytes))))
 }
 
-// Returns the integers that the elements of the list are.
+/// Returns the integers that the elements of the list are.
 fn numbers<S: TermSpace>(
     space: &S,
     alloc: Global,
@@ -88,11 +85,10 @@ fn numbers<S: TermSpace>(
 {
     let mut elements = Vec::new(alloc);
     space.push_parts(list, &mut elements)?;
-    let numbers = numbers_of(space, alloc, &elements)?;
-    Ok(numbers)
+    numbers_of(space, alloc, &elements)
 }
 
-// Returns the integers that the terms are.
+/// Returns the integers that the terms are.
 fn numbers_of<S: TermSpace>(
     space: &S,
     alloc: Global,
@@ -131,18 +127,16 @@ pub(crate) fn make_flat<S: TermSpace>(
         Flat::Str(text) => {
             let symbol = Sym::quoted(alloc, text.as_slice())?;
             let none = Vec::new(alloc);
-            let made = space.make(alloc, Head::App(symbol), none, Vec::new(alloc))?;
-            Ok(made)
+            space.make(alloc, Head::App(symbol), none, Vec::new(alloc))
         }
         Flat::Ints(numbers) => {
             let elements = make_integers(space, alloc, numbers.as_slice())?;
-            let made = space.list(alloc, &elements)?;
-            Ok(made)
+            space.list(alloc, &elements)
         }
     }
 }
 
-// Makes the integers.
+/// Makes the integers.
 fn make_integers<S: TermSpace>(
     space: &mut S,
     alloc: Global,

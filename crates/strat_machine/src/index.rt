@@ -1,4 +1,4 @@
-// An index of a table's cases, by which the first case that has a term's root is found without a walk.
+//! An index of a table's cases, by which the first case that has a term's root is found without a walk.
 ghost use Rattle.std.specs.Prelude.{◌≡◌, ◌<◌, ◌≤◌, ℕ, true, [], length, Some, IfOk, OnOk, IfSome, IsTrue};
 ghost use Rattle.std.specs.List.Sorted.{IsNonDecreasing};
 ghost use Rattle.core_lang.specs.Roots as roots;
@@ -11,22 +11,22 @@ use crate::tables::{LoadedCase, LoadedRoot};
 use std::alloc::{AllocError, Global};
 use term_model::TermSpace;
 
-// So few cases are found by a walk.
+/// So few cases are found by a walk.
 const FEW: usize = 4;
 
 /// The cases by the numbers of their roots, each in one list. A list rises.
 #[derive(Drop)]
 pub(crate) struct Groups {
-    // A case whose root has a number is in the list at the remainder of the number by how many lists there are.
+    /// A case whose root has a number is in the list at the remainder of the number by how many lists there are.
     closed: Vec<Vec<usize>>,
-    // The others: terms of several numbers have their roots.
+    /// The others: terms of several numbers have their roots.
     open: Vec<usize>,
 }
 
 /// An index of cases.
 #[derive(Drop)]
 pub(crate) struct Index {
-    // For each number of cases, from none to all, the nodes of that many of the first ones.
+    /// For each number of cases, from none to all, the nodes of that many of the first ones.
     pub(crate) sums: Vec<usize>,
     groups: Groups,
 }
@@ -50,7 +50,7 @@ pub(crate) fn index_cases<S: TermSpace>(
     Ok(Some(Index { sums, groups }))
 }
 
-// For each number of cases, from none to all, the nodes of that many of the first ones, if they are numbers of 64 bits.
+/// For each number of cases, from none to all, the nodes of that many of the first ones, if they are numbers of 64 bits.
 fn sums_of<N>(alloc: Global, cases: &[LoadedCase<N>]) -> Result<Option<Vec<usize>>, AllocError>
     ensures { IfOk result (λ x. IfSome x (λ s. s.items ≡ sums_from 0 cases.now)) }
 {
@@ -67,7 +67,7 @@ fn sums_of<N>(alloc: Global, cases: &[LoadedCase<N>]) -> Result<Option<Vec<usize
     Ok(Some(sums))
 }
 
-// Puts each case into the group of its number.
+/// Puts each case into the group of its number.
 fn group_cases<S: TermSpace>(
     space: &S,
     alloc: Global,
@@ -89,7 +89,7 @@ fn group_cases<S: TermSpace>(
     Ok(groups)
 }
 
-// So many empty groups.
+/// So many empty groups.
 fn empty_groups(alloc: Global, count: usize) -> Result<Vec<Vec<usize>>, AllocError>
     ensures many { IfOk result (λ gs. length gs.items ≡ count) }
     ensures empty { IfOk result (λ gs. (k : ℕ) → group_at gs.items k ≡ []) }
@@ -101,7 +101,7 @@ fn empty_groups(alloc: Global, count: usize) -> Result<Vec<Vec<usize>>, AllocErr
     Ok(groups)
 }
 
-// Puts a case into the group of its number.
+/// Puts a case into the group of its number.
 fn put_into(groups: &mut Groups, number: Option<usize>, entry: usize) -> Result<(), AllocError>
     requires { 0 < length groups.old.closed.items }
     ensures { OnOk result (PutsInto groups.old number entry groups.new) }
@@ -115,7 +115,7 @@ fn put_into(groups: &mut Groups, number: Option<usize>, entry: usize) -> Result<
     Ok(())
 }
 
-// The number by which a root is found.
+/// The number by which a root is found.
 fn number_of_root<S: TermSpace>(space: &S, root: &LoadedRoot<S::Name>) -> Option<usize>
     requires { RootKnown (S.space.knows space.now) root.now }
     ensures { result ≡ number_in S.space.number_of root.now }
@@ -133,7 +133,7 @@ fn number_of_root<S: TermSpace>(space: &S, root: &LoadedRoot<S::Name>) -> Option
     }
 }
 
-// The number of a term: that of each root with a number that it has.
+/// The number of a term: that of each root with a number that it has.
 fn number_of_term<S: TermSpace>(space: &S, at: &S::Ref) -> usize
     requires { IsTrue (S.space.stands space.now at.now) }
     ensures { (r : LoadedRoot S.Name) (n : ℕ) → RootKnown (S.space.knows space.now) r →
@@ -172,8 +172,8 @@ pub(crate) fn find_case<S: TermSpace>(
     first_in(space, cases, group, skipped, limit, term)
 }
 
-// The first entry of the list, from `skipped` on and below the limit, whose case has the term's root; the limit where there is
-// none.
+/// The first entry of the list, from `skipped` on and below the limit, whose case has the term's root; the limit where there is
+/// none.
 fn first_in<S: TermSpace>(
     space: &S,
     cases: &[LoadedCase<S::Name>],
@@ -195,7 +195,7 @@ fn first_in<S: TermSpace>(
     first_after(space, cases, list, skipped, limit, term)
 }
 
-// The same in a list of any length.
+/// The same in a list of any length.
 fn first_after<S: TermSpace>(
     space: &S,
     cases: &[LoadedCase<S::Name>],
@@ -215,7 +215,7 @@ fn first_after<S: TermSpace>(
     first_of(space, cases, &list[start..], limit, term)
 }
 
-// The first entry of the list below the limit whose case has the term's root; the limit where there is none.
+/// The first entry of the list below the limit whose case has the term's root; the limit where there is none.
 fn first_of<S: TermSpace>(
     space: &S,
     cases: &[LoadedCase<S::Name>],

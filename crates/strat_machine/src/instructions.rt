@@ -1,5 +1,5 @@
-// The step of the machine.
-ghost use Rattle.std.specs.Prelude.{◌≡◌, IfOk, IsTrue};
+//! The step of the machine.
+ghost use Rattle.std.specs.Prelude.{◌≡◌, ◌<◌, length, IfOk, IsTrue};
 ghost use Rattle.prim_registry.specs.Entries.{IsHonest, entries_of};
 ghost use Rattle.prim_registry.specs.Registered.{meaning_of};
 ghost use Rattle.term_model.specs.Space.{Keeps, KeepsNames};
@@ -61,6 +61,9 @@ pub(crate) fn step<S: TermSpace, M: PrimMeaning>(
     match next {
         Next::Running => {
             let instrs = program.instrs.as_slice();
+            if position.address >= instrs.len() {
+                return Ok(Next::Stuck);
+            }
             perform(
                 space, alloc, stacks, code, program, instrs, registry, position, scratch,
             )
@@ -70,7 +73,7 @@ pub(crate) fn step<S: TermSpace, M: PrimMeaning>(
     }
 }
 
-/// Performs the instruction at the position, if there is one and the budget suffices for it. The instructions are those of the program.
+/// Performs the instruction at the position, if the budget suffices for it. The instructions are those of the program.
 pub(crate) fn perform<S: TermSpace, M: PrimMeaning>(
     space: &mut S,
     alloc: Global,
@@ -83,6 +86,7 @@ pub(crate) fn perform<S: TermSpace, M: PrimMeaning>(
     scratch: &mut Scratch<S::Ref>,
 ) -> Result<Next, AllocError>
     requires instrs { instrs.now ≡ program.now.instrs.items }
+    requires in_range { position.old.address < length instrs.now }
     requires holds { Holds S.space space.old (state_of Running position.old stacks.old) }
     requires counted { StateCounted (state_tree (S.space.term_of space.old)
         (state_of Running position.old stacks.old)) }
@@ -95,9 +99,6 @@ pub(crate) fn perform<S: TermSpace, M: PrimMeaning>(
         (meaning_of M.answer registry.now) space.old (state_of Running position.old stacks.old)
         space.new (state_of after position.new stacks.new)) }
 {
-    if position.address >= instrs.len() {
-        return Ok(Next::Stuck);
-    }
     let instr = &instrs[position.address];
     if stacks.left < instr.nodes {
         return Ok(Next::Spent);
@@ -156,7 +157,7 @@ pub(crate) fn perform<S: TermSpace, M: PrimMeaning>(
             arguments,
             terms,
         } => perform_call(
-            space, alloc, stacks, *callee, arguments, terms, position, scratch,
+            space, alloc, stacks, callee, arguments, terms, position, scratch,
         ),
         Action::CallClosure { closure } => {
             call_parameter::<S>(stacks, *closure, position)?;

@@ -1,4 +1,4 @@
-// The machine: it runs code on the terms of a space.
+//! The machine: it runs code on the terms of a space.
 ghost use Rattle.std.specs.Prelude.{◌≡◌, ◌+◌, ◌*◌, ◌≤◌, ℕ, List, IsTrue, IfOk, IfErr};
 ghost use Rattle.term_model.specs.Space.{Keeps, KeepsNames};
 ghost use Rattle.core_lang.specs.Named.{Name};
@@ -12,6 +12,7 @@ ghost use Rattle.strat_code.specs.CodeOf.{code_of};
 ghost use Rattle.strat_code.specs.StandsFor.{StandsFor};
 ghost use Rattle.strat_steps.specs.Outcomes.{OutcomeStands, Ran, outcome_tree};
 ghost use Rattle.prim_registry.specs.Registered.{meaning_of};
+ghost use Rattle.term_model.specs.Results.{Returns};
 
 use crate::explaining::{Account, Stand, account_of, stand_after};
 use crate::program::load_program;
@@ -29,7 +30,7 @@ use term_model::{Fault, Term, TermSpace};
 pub struct Machine<S: TermSpace + Drop> {
     alloc: Global,
     space: S,
-    // Clear between runs. Their memory is kept.
+    /// Clear between runs. Their memory is kept.
     stacks: Stacks<S::Ref, S::Mark>,
 }
 
@@ -68,17 +69,15 @@ impl<S: TermSpace + Drop> Machine<S> {
         ensures stands { IfOk result (λ r. IsTrue (S.space.stands self.new r)) }
         ensures term { IfOk result (λ r. S.space.term_of self.new r ≡ term.now) }
     {
-        let reference = self.space.enter(self.alloc, term)?;
-        Ok(reference)
+        self.space.enter(self.alloc, term)
     }
 
     /// Returns the term of a reference.
     pub fn leave(&self, reference: &S::Ref) -> Result<Term, AllocError>
         requires { IsTrue (S.space.stands self.now reference.now) }
-        ensures { IfOk result (λ t. t ≡ S.space.term_of self.now reference.now) }
+        ensures { Returns result (S.space.term_of self.now reference.now) }
     {
-        let term = self.space.leave(self.alloc, reference)?;
-        Ok(term)
+        self.space.leave(self.alloc, reference)
     }
 
     /// Runs the code on the term within a budget of rules. The outcome is that of every program that the code stands for, where

@@ -1,4 +1,4 @@
-// The first steps of a run, and what is noted of them.
+//! The first steps of a run, and what is noted of them.
 ghost use Rattle.term_model.specs.Space.{KeepsNames};
 ghost use Rattle.std.specs.Prelude.{◌≡◌, IsTrue, IfOk};
 ghost use Rattle.prim_registry.specs.Entries.{IsHonest, entries_of};
@@ -26,11 +26,11 @@ pub(crate) struct Notes {
     /// How many steps came before that of the deepest instruction that failed, of those since a call last returned. Of several at the same
     /// depth it is the last one behind a match or a call that returned and, if there is none, the last one.
     pub(crate) before_deepest: u64,
-    // How many frames there were then.
+    /// How many frames there were then.
     depth: usize,
-    // Whether that instruction was behind a match.
+    /// Whether that instruction was behind a match.
     is_behind_match: bool,
-    // Whether a match has succeeded, or a call has returned, since the last failure or the beginning of the last call.
+    /// Whether a match has succeeded, or a call has returned, since the last failure or the beginning of the last call.
     has_matched: bool,
 }
 
@@ -77,7 +77,7 @@ impl Notes {
         })
     }
 
-    // Notes a step.
+    /// Notes a step.
     fn add(&mut self, step: Step) {
         self.before_last = step.steps;
         if step.address < self.rules.len() {
@@ -92,7 +92,7 @@ impl Notes {
         }
     }
 
-    // Notes a failure, if none since a call last returned is deeper, or as deep and behind a match where this one is not.
+    /// Notes a failure, if none since a call last returned is deeper, or as deep and behind a match where this one is not.
     fn note_failure(&mut self, step: Step) {
         let is_as_deep = step.depth == self.depth && (self.has_matched || !self.is_behind_match);
         if step.depth > self.depth || is_as_deep {
@@ -103,7 +103,7 @@ impl Notes {
         self.has_matched = false;
     }
 
-    // Notes that a call has returned: what failed in it was caught.
+    /// Notes that a call has returned: what failed in it was caught.
     fn note_return(&mut self) {
         self.depth = 0;
         self.is_behind_match = false;
@@ -189,7 +189,7 @@ pub(crate) fn run_part<S: TermSpace, M: PrimMeaning>(
     Ok(Progress { next, position })
 }
 
-// What came of the instruction at an address, after which this comes next.
+/// What came of the instruction at an address, after which this comes next.
 fn effect_of(code: &Code, address: usize, next: Next) -> Effect {
     match next {
         Next::Failing => Effect::Failed,

@@ -1,4 +1,4 @@
-// Instructions that handle patterns.
+//! Instructions that handle patterns.
 ghost use Rattle.std.specs.Prelude.{◌≡◌, ℕ, suc, IfOk, IsTrue, map};
 ghost use Rattle.term_model.specs.Flat.{Meaning};
 ghost use Rattle.term_model.specs.Space.{Keeps};
@@ -72,7 +72,7 @@ pub(crate) fn perform_call<S: TermSpace>(
     space: &mut S,
     alloc: Global,
     stacks: &mut Stacks<S::Ref, S::Mark>,
-    callee: Callee,
+    callee: &Callee,
     arguments: &[Argument],
     patterns: &[LoadedPattern<S::Name>],
     position: &mut Position<S::Ref>,
@@ -83,8 +83,8 @@ pub(crate) fn perform_call<S: TermSpace>(
     ensures keeps { Keeps S.space space.old space.new }
     ensures stack { IfOk result (λ _. scratch.new.terms.items ≡ scratch.old.terms.items) }
     ensures step { IfOk result (λ next. (M : Meaning) (n i : ℕ) →
-        Performs S.space M (call_definition n callee.frames callee.entry callee.room
-        callee.next_address
+        Performs S.space M (call_definition n callee.now.frames callee.now.entry callee.now.room
+        callee.now.next_address
         (map argument_of arguments.now) (all_loaded_of (S.space.symbol_of space.old) patterns.now))
         i position.old
         space.old stacks.old space.new next position.new stacks.new) }

@@ -1,4 +1,4 @@
-// Primitives, applied to the instances of patterns.
+//! Primitives, applied to the instances of patterns.
 ghost use Rattle.std.specs.Prelude.{◌≡◌, ◌<◌, ℕ, List, IfOk, IfSome, IsTrue, length, map, suc};
 ghost use Rattle.std.specs.Option.{option_and_then, option_map};
 ghost use Rattle.term_model.specs.Flat.{all_flat};
@@ -91,8 +91,8 @@ pub(crate) fn go_on<R: Drop>(built: Built<R>, position: &mut Position<R>) -> Nex
     }
 }
 
-// Makes the term of what the primitive at the position returns to the terms; none where one of them is no flat value, or
-// where it returns nothing.
+/// Makes the term of what the primitive at the position returns to the terms; none where one of them is no flat value, or
+/// where it returns nothing.
 fn answer<S: TermSpace, M: PrimMeaning>(
     space: &mut S,
     alloc: Global,
@@ -122,7 +122,7 @@ fn answer<S: TermSpace, M: PrimMeaning>(
     Ok(outcome(made))
 }
 
-// Calls the function on two integers of the primitive at the position, if it has one and the patterns have the instances for it.
+/// Calls the function on two integers of the primitive at the position, if it has one and the patterns have the instances for it.
 fn calculate<S: TermSpace, M: PrimMeaning>(
     space: &S,
     frames: &Frames,
@@ -153,7 +153,7 @@ fn calculate<S: TermSpace, M: PrimMeaning>(
     registry.calculate_at(index, left, right)
 }
 
-// The integer that the instance of a pattern is, where nothing has to be built to tell.
+/// The integer that the instance of a pattern is, where nothing has to be built to tell.
 fn integer_of<S: TermSpace>(
     space: &S,
     frames: &Frames,
@@ -176,7 +176,7 @@ fn integer_of<S: TermSpace>(
     }
 }
 
-// Makes the integer, if there is one.
+/// Makes the integer, if there is one.
 fn make_integer<S: TermSpace>(
     space: &mut S,
     alloc: Global,
@@ -193,8 +193,8 @@ fn make_integer<S: TermSpace>(
     Ok(Built::Made(made))
 }
 
-// Calls the primitive at a place of the registry with the flat values that the terms are, if each is one. The values are
-// put on the vector for the call.
+/// Calls the primitive at a place of the registry with the flat values that the terms are, if each is one. The values are
+/// put on the vector for the call.
 fn call<S: TermSpace, M: PrimMeaning>(
     space: &S,
     alloc: Global,

@@ -1,4 +1,4 @@
-// A loaded program: code whose instructions hold all that they need of a space and a registry.
+//! A loaded program: code whose instructions hold all that they need of a space and a registry.
 ghost use Rattle.std.specs.Prelude.{◌≡◌, IfOk, List, Vec};
 ghost use Rattle.std.specs.declared.alloc.Global.{Global};
 ghost use Rattle.term_model.specs.Space.{Keeps, MakesNone};
@@ -103,7 +103,7 @@ pub(crate) fn load_program<S: TermSpace, M: PrimMeaning>(
     Ok(LoadedProgram { instrs, tables })
 }
 
-// Loads instructions.
+/// Loads instructions.
 fn load_instrs<S: TermSpace, M: PrimMeaning>(
     space: &mut S,
     alloc: Global,
@@ -127,7 +127,7 @@ fn load_instrs<S: TermSpace, M: PrimMeaning>(
     Ok(loaded)
 }
 
-// Loads what an instruction does.
+/// Loads what an instruction does.
 fn load_action<S: TermSpace, M: PrimMeaning>(
     space: &mut S,
     alloc: Global,
@@ -218,7 +218,7 @@ fn load_action<S: TermSpace, M: PrimMeaning>(
     }
 }
 
-// The nodes that an instruction is charged.
+/// The nodes that an instruction is charged.
 fn nodes(instr: &Instr) -> usize
     ensures { (tables : List (Vec Case Global)) → result ≡ nodes_of (instr_of tables instr.now) }
 {

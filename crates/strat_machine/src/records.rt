@@ -1,7 +1,8 @@
-// Control records, and the parts of the terms that are traversed.
-ghost use Rattle.std.specs.Prelude.{◌≡◌, ◌+◌, ◌-◌, suc, MatchOption, IfOk, [], ◌∷◌, take, drop};
+//! Control records, and the parts of the terms that are traversed.
+ghost use Rattle.std.specs.Prelude.{◌≡◌, ◌+◌, ◌-◌, suc, MatchOption, [], ◌∷◌, take, drop};
 ghost use Rattle.strat_steps.specs.References.{ref_call};
 ghost use Rattle.strat_machine.specs.RecordStack.{records_of, saved_of, IsNoCall, IsNoChoice, IsChoice};
+ghost use Rattle.term_model.specs.Results.{Returns};
 
 use crate::compact_records::CompactRecords;
 use crate::stack::Stack;
@@ -31,7 +32,7 @@ pub(crate) struct Traversed<R: Drop> {
 impl<R: Drop> Traversed<R> {
     /// The traversal with one part more that is done.
     pub(crate) fn one_more(self) -> Result<Traversed<R>, AllocError>
-        ensures { IfOk result (λ v. v ≡ record self { done = suc self.done }) }
+        ensures { Returns result (record self { done = suc self.done }) }
     {
         let Some(done) = self.done.checked_add(1) else {
             return Err(AllocError);
@@ -59,8 +60,8 @@ impl<R: Drop> Traversed<R> {
     }
 
     /// The traversal with one part more that is done, and `moved` parts that were left.
-    pub(crate) fn ended(self, moved: usize) -> Result<Traversed<R>, AllocError>
-        ensures { IfOk result (λ v. v ≡ record self { done = suc self.done + moved; left = 0 }) }
+    pub(crate) fn with_part_done(self, moved: usize) -> Result<Traversed<R>, AllocError>
+        ensures { Returns result (record self { done = suc self.done + moved; left = 0 }) }
     {
         let more = self.one_more()?;
         let Some(done) = more.done.checked_add(moved) else {

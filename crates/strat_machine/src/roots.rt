@@ -1,4 +1,4 @@
-// Roots of terms, with the space's names in place of symbols.
+//! Roots of terms, with the space's names in place of symbols.
 ghost use Rattle.std.specs.Prelude.{◌≡◌, ◌↔◌, true, IsTrue};
 ghost use Rattle.core_lang.specs.Roots as roots;
 ghost use Rattle.strat_machine.specs.Tables.{RootKnown, root_meant};
@@ -22,7 +22,7 @@ pub(crate) fn has_root<S: TermSpace>(space: &S, root: &LoadedRoot<S::Name>, at: 
     }
 }
 
-// Whether the term is a list of `count` elements or, where the root is open, of at least `count`.
+/// Whether the term is a list of `count` elements or, where the root is open, of at least `count`.
 fn is_list_of<S: TermSpace>(space: &S, at: &S::Ref, count: usize, is_open: bool) -> bool
     requires { IsTrue (S.space.stands space.now at.now) }
     ensures { IsTrue result ↔ (roots.has_root (roots.list_root count is_open)

@@ -1,4 +1,4 @@
-// Runs: steps from the start to the end.
+//! Runs: steps from the start to the end.
 ghost use Rattle.term_model.specs.Space.{KeepsNames};
 ghost use Rattle.std.specs.Prelude.{◌≡◌, ◌↔◌, ◌+◌, ◌*◌, ◌≤◌, IsTrue, IfOk};
 ghost use Rattle.core_lang.specs.declared.run.Outcome.TheVariants as outcomes;
@@ -50,7 +50,7 @@ pub(crate) fn run_code<S: TermSpace, M: PrimMeaning>(
         (S.space.term_of space.new r ≡ S.space.term_of space.old r) }
     ensures names { KeepsNames S.space space.old space.new }
 {
-    // The code stands for some program, so the run ends in time and is never stuck.
+    // The code stands for some program, so the run ends in time and is never stuck, and each address is one of the code's.
     let _ = code.instrs();
     stacks.left = budget as usize;
     let mut scratch = Scratch::new(alloc);
@@ -93,7 +93,7 @@ pub(crate) fn goes_on(next: Next) -> bool
     matches!(next, Next::Running | Next::Failing)
 }
 
-// The outcome of a run that has ended.
+/// The outcome of a run that has ended.
 fn outcome_of<R: Drop>(next: Next, position: Position<R>) -> Outcome<R>
     requires { HasEnded next }
     ensures { IsOutcomeAt next position result }
@@ -107,7 +107,7 @@ fn outcome_of<R: Drop>(next: Next, position: Position<R>) -> Outcome<R>
     }
 }
 
-// The nodes of a run with this outcome that leaves so much of its budget.
+/// The nodes of a run with this outcome that leaves so much of its budget.
 fn rules_of<R: Drop>(outcome: &Outcome<R>, budget: u32, left: usize) -> u32
     requires { (outcome.now ≡ outcomes.Spent → ⊥) → left ≤ budget }
     ensures { result ≡ rules_of outcome.now budget left }

@@ -1,4 +1,4 @@
-// Selections: the first case of a table that has a term's root.
+//! Selections: the first case of a table that has a term's root.
 ghost use Rattle.std.specs.Prelude.{◌≡◌, ◌≤◌, ℕ, IsTrue, drop, length, map};
 ghost use Rattle.term_model.specs.Flat.{Meaning};
 ghost use Rattle.strat_code.specs.Code.{select};
@@ -49,7 +49,7 @@ pub(crate) fn perform_select<S: TermSpace>(
     }
 }
 
-// Goes to the first case of this table.
+/// Goes to the first case of this table.
 fn select_in<S: TermSpace>(
     space: &S,
     stacks: &mut Stacks<S::Ref, S::Mark>,
@@ -77,7 +77,7 @@ fn select_in<S: TermSpace>(
     }
 }
 
-// Goes to the first of the cases by their index.
+/// Goes to the first of the cases by their index.
 fn select_by<S: TermSpace>(
     space: &S,
     stacks: &mut Stacks<S::Ref, S::Mark>,
@@ -116,7 +116,7 @@ fn select_by<S: TermSpace>(
     }
 }
 
-// Goes to the first of the cases that has the term's root, one after another.
+/// Goes to the first of the cases that has the term's root, one after another.
 fn walk_cases<S: TermSpace>(
     space: &S,
     stacks: &mut Stacks<S::Ref, S::Mark>,

@@ -1,13 +1,13 @@
-// The first nodes of terms, for messages.
+//! The first nodes of terms, for messages.
 ghost use Rattle.std.specs.Prelude.{All, IsTrue};
 
 use std::alloc::{AllocError, Global};
 use term_model::{Made, Parts, Sym, Term, TermSpace, Top};
 
-// How many nodes of a term are kept.
+/// How many nodes of a term are kept.
 const NODES: usize = 200;
 
-// How deep they are at most, where the root is 1 deep.
+/// How deep they are at most, where the root is 1 deep.
 const DEPTH: usize = 100;
 
 /// The first 200 nodes of a term that are at most 100 deep, in the order of its text: a node, its parts, its annotations. Where others
@@ -21,11 +21,10 @@ pub(crate) fn first_nodes<S: TermSpace>(
     requires { IsTrue (S.space.stands space.now at.now) }
 {
     let mut left = NODES;
-    let term = shorten(space, alloc, at, DEPTH - 1, &mut left)?;
-    Ok(term)
+    shorten(space, alloc, at, DEPTH - 1, &mut left)
 }
 
-// The first `left` nodes of a term that are at most `depth` levels below its root.
+/// The first `left` nodes of a term that are at most `depth` levels below its root.
 #[cycle(shortening)]
 fn shorten<S: TermSpace>(
     space: &S,
@@ -53,8 +52,8 @@ fn shorten<S: TermSpace>(
     fitting(alloc, made)
 }
 
-// The first `left` nodes of several terms that are at most `depth` deep, each term's root being 1 deep, and one `_` for the terms
-// that are left out.
+/// The first `left` nodes of several terms that are at most `depth` deep, each term's root being 1 deep, and one `_` for the terms
+/// that are left out.
 #[cycle(shortening)]
 fn shorten_all<S: TermSpace>(
     space: &S,
@@ -77,7 +76,7 @@ fn shorten_all<S: TermSpace>(
     Ok(terms)
 }
 
-// The term that was made, or `_` where it does not fit: an integer weighs less than the `_` that stands for it.
+/// The term that was made, or `_` where it does not fit: an integer weighs less than the `_` that stands for it.
 fn fitting(alloc: Global, made: Made<Term>) -> Result<Term, AllocError> {
     match made {
         Made::Fits(term) => Ok(term),
@@ -85,7 +84,7 @@ fn fitting(alloc: Global, made: Made<Term>) -> Result<Term, AllocError> {
     }
 }
 
-// The term `_`, which stands for what is left out.
+/// The term `_`, which stands for what is left out.
 fn left_out(alloc: Global) -> Result<Term, AllocError> {
     let symbol = Sym::named(alloc, b"_")?;
     let Made::Fits(term) = Term::app(alloc, symbol, Vec::new(alloc))? else {

@@ -1,7 +1,8 @@
-// A stack, whose newest item is the first.
+//! A stack, whose newest item is the first.
 ghost use Rattle.std.specs.Prelude.{◌≡◌, ◌-◌, ◌≤◌, min, IsTrue, MatchOption, IfOk, OnOk, OnErr, [], ◌∷◌, ◌++◌, length, reverse, take, drop};
 ghost use Rattle.term_model.specs.Term.{parts_of};
 ghost use Rattle.strat_machine.specs.PartsOf.{PutsParts};
+ghost use Rattle.term_model.specs.Results.{Returns};
 
 use std::alloc::{AllocError, Global};
 use std::marker::Model;
@@ -101,7 +102,7 @@ impl<T: Drop> Stack<T> {
     ) -> Result<usize, AllocError>
         ensures moved { OnOk result (other.new ≡ reverse (take count self.old) ++ other.old) }
         ensures cut { OnOk result (self.new ≡ drop count self.old) }
-        ensures count { IfOk result (λ n. n ≡ min count (length self.old)) }
+        ensures count { Returns result (min count (length self.old)) }
     {
         let moved = count.min(self.len());
         for _ in 0..moved {
@@ -114,7 +115,7 @@ impl<T: Drop> Stack<T> {
     }
 }
 
-// The most parts of a term that are put on a stack one by one.
+/// The most parts of a term that are put on a stack one by one.
 const FEW: usize = 3;
 
 /// Puts the parts of a term on a stack, the last one first, and returns how many there are.
@@ -138,7 +139,7 @@ pub(crate) fn push_parts_of<S: TermSpace>(
     Ok(count)
 }
 
-// Puts the parts of a term, of which there are `count`, on a stack one by one, the last one first.
+/// Puts the parts of a term, of which there are `count`, on a stack one by one, the last one first.
 fn push_few_parts<S: TermSpace>(
     space: &S,
     stack: &mut Stack<S::Ref>,
@@ -158,7 +159,7 @@ fn push_few_parts<S: TermSpace>(
     Ok(())
 }
 
-// Reverses the items from a position on.
+/// Reverses the items from a position on.
 fn reverse_from<T: Drop>(items: &mut Vec<T>, from: usize)
     requires { from ≤ length items.old.items }
     ensures { items.new.items ≡ take from items.old.items ++ reverse (drop from items.old.items) }

@@ -1,4 +1,4 @@
-// The machine's memory while it runs.
+//! The machine's memory while it runs.
 ghost use Rattle.std.specs.Prelude.{◌≡◌, length, take};
 ghost use Rattle.strat_machine.specs.RecordStack.{saved_of};
 ghost use Rattle.strat_machine.specs.Running.{IsClear};
@@ -9,8 +9,8 @@ use prim_registry::Flat;
 use std::alloc::Global;
 use strat_patterns::{Frames, Places};
 
-// A call that ends gives memory back if its frame is one of the last RELEASING of each FRAMES frames: those of a deep recursion do so
-// from time to time, and others never. As not each frame is that of a call, there are some such frames and not one.
+/// A call that ends gives memory back if its frame is one of the last RELEASING of each FRAMES frames: those of a deep recursion do so
+/// from time to time, and others never. As not each frame is that of a call, there are some such frames and not one.
 const FRAMES: usize = 65_536;
 
 const RELEASING: usize = 256;
@@ -106,7 +106,7 @@ impl<R: Drop, M: Drop> Stacks<R, M> {
         }
     }
 
-    // Gives back memory that the stacks have no more use for after a deep recursion.
+    /// Gives back memory that the stacks have no more use for after a deep recursion.
     #[inline(never)]
     fn release_spare(&mut self)
         ensures { self.new ≡ self.old }
@@ -117,7 +117,7 @@ impl<R: Drop, M: Drop> Stacks<R, M> {
     }
 
     /// What a failure restores, with this frame.
-    pub(crate) fn saved(&self, frame: usize) -> Saved
+    pub(crate) fn state_to_restore(&self, frame: usize) -> Saved
         ensures { saved_of result ≡ state.saved frame (length self.now.frames)
             (length self.now.places.trail) self.now.places.barrier }
     {

@@ -1,4 +1,4 @@
-// Steps that change the stacks alone.
+//! Steps that change the stacks alone.
 ghost use Rattle.std.specs.Prelude.{◌≡◌, ℕ, suc, IsTrue, OnOk};
 ghost use Rattle.term_model.specs.Flat.{Meaning};
 ghost use Rattle.strat_code.specs.Code.{enter, leave, extend, shrink, commit, call_closure, end_definition, end_argument};
@@ -168,7 +168,7 @@ pub(crate) fn put_choice<S: TermSpace>(
         stacks.new) }
 {
     let term = space.dup(&position.term)?;
-    let saved = stacks.saved(position.frame);
+    let saved = stacks.state_to_restore(position.frame);
     let records = &mut stacks.records.records;
     records.push_choice(otherwise, term, saved, space.mark())?;
     stacks.places.guard();

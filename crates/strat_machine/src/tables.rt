@@ -1,4 +1,4 @@
-// The tables that selections select from, with the space's names in place of symbols.
+//! The tables that selections select from, with the space's names in place of symbols.
 ghost use Rattle.std.specs.Prelude.{IfOk, map};
 ghost use Rattle.term_model.specs.Space.{Keeps, MakesNone};
 ghost use Rattle.strat_code.specs.CodeOf.{case_of, root_of};
@@ -53,7 +53,7 @@ pub(crate) fn load_tables<S: TermSpace>(
     Ok(loaded)
 }
 
-// Brings the names of a table in, and makes its index.
+/// Brings the names of a table in, and makes its index.
 fn load_table<S: TermSpace>(
     space: &mut S,
     alloc: Global,
@@ -72,7 +72,7 @@ fn load_table<S: TermSpace>(
     })
 }
 
-// Brings the names of cases in.
+/// Brings the names of cases in.
 fn load_cases<S: TermSpace>(
     space: &mut S,
     alloc: Global,
@@ -96,7 +96,7 @@ fn load_cases<S: TermSpace>(
     Ok(loaded)
 }
 
-// Brings the name of a root in, if it has one.
+/// Brings the name of a root in, if it has one.
 fn load_root<S: TermSpace>(
     space: &mut S,
     alloc: Global,

@@ -1,4 +1,4 @@
-// Traversals: the parts of a term one after another, and the whole made of what they have become.
+//! Traversals: the parts of a term one after another, and the whole made of what they have become.
 ghost use Rattle.std.specs.Prelude.{◌≡◌, ◌+◌, ℕ, suc, IfOk, IsTrue, true, false, [], ◌∷◌, ◌++◌, length, map, take, drop, reverse};
 ghost use Rattle.term_model.specs.Flat.{Meaning};
 ghost use Rattle.term_model.specs.Space.{Keeps};
@@ -58,7 +58,7 @@ pub(crate) fn traverse_parts<S: TermSpace>(
     }
 }
 
-// Puts the parts of a term where those that are left stand, and returns how many there are.
+/// Puts the parts of a term where those that are left stand, and returns how many there are.
 fn open_parts<S: TermSpace>(
     space: &S,
     records: &mut Records<S::Ref, S::Mark>,
@@ -70,7 +70,7 @@ fn open_parts<S: TermSpace>(
     push_parts_of(space, &mut records.left, of)
 }
 
-// Goes on with the next part of all(s), whose record is off, or makes the whole.
+/// Goes on with the next part of all(s), whose record is off, or makes the whole.
 fn next_of_all<S: TermSpace>(
     space: &mut S,
     alloc: Global,
@@ -94,7 +94,7 @@ fn next_of_all<S: TermSpace>(
     Ok(Next::Running)
 }
 
-// Goes on with the next part of one(s), whose record is off, or fails.
+/// Goes on with the next part of one(s), whose record is off, or fails.
 fn next_of_one<S: TermSpace>(
     space: &S,
     stacks: &mut Stacks<S::Ref, S::Mark>,
@@ -114,7 +114,7 @@ fn next_of_one<S: TermSpace>(
     Ok(Next::Running)
 }
 
-// Goes on with the next part of some(s), whose record is off; where none is left, makes the whole or fails.
+/// Goes on with the next part of some(s), whose record is off; where none is left, makes the whole or fails.
 fn next_of_some<S: TermSpace>(
     space: &mut S,
     alloc: Global,
@@ -140,7 +140,7 @@ fn next_of_some<S: TermSpace>(
     Ok(Next::Running)
 }
 
-// Makes the whole of what the parts have become.
+/// Makes the whole of what the parts have become.
 fn rebuild_whole<S: TermSpace>(
     space: &mut S,
     alloc: Global,
@@ -195,7 +195,7 @@ pub(crate) fn end_part<S: TermSpace>(
     end_tried_part(space, alloc, stacks, position)
 }
 
-// A part has become this, where the newest record is not of all(s).
+/// A part has become this, where the newest record is not of all(s).
 fn end_tried_part<S: TermSpace>(
     space: &mut S,
     alloc: Global,
@@ -238,7 +238,7 @@ fn end_tried_part<S: TermSpace>(
     }
 }
 
-// A part of all(s), whose record is on, has become this.
+/// A part of all(s), whose record is on, has become this.
 fn end_part_of_all<S: TermSpace>(
     space: &mut S,
     alloc: Global,
@@ -269,8 +269,8 @@ fn end_part_of_all<S: TermSpace>(
     end_last_part(space, alloc, stacks, traversed, position)
 }
 
-// The last part of all(s), whose record is off, has become this: the whole is made. Memory is out where more parts are left than can be
-// counted.
+/// The last part of all(s), whose record is off, has become this: the whole is made. Memory is out where more parts are left than can be
+/// counted.
 fn end_last_part<S: TermSpace>(
     space: &mut S,
     alloc: Global,
@@ -293,7 +293,7 @@ fn end_last_part<S: TermSpace>(
     rebuild_whole(space, alloc, stacks, more, position)
 }
 
-// The part of one(s), whose record is off, has become this: the whole is made.
+/// The part of one(s), whose record is off, has become this: the whole is made.
 fn end_part_of_one<S: TermSpace>(
     space: &mut S,
     alloc: Global,
@@ -314,11 +314,11 @@ fn end_part_of_one<S: TermSpace>(
     stacks.records.done.push(done)?;
     let records = &mut stacks.records;
     let moved = records.left.move_to(&mut records.done, traversed.left)?;
-    let ended = traversed.ended(moved)?;
+    let ended = traversed.with_part_done(moved)?;
     rebuild_whole(space, alloc, stacks, ended, position)
 }
 
-// A part of some(s), whose record is off, has become this.
+/// A part of some(s), whose record is off, has become this.
 fn end_part_of_some<S: TermSpace>(
     space: &mut S,
     alloc: Global,

@@ -1,4 +1,4 @@
-// A part of a term is tried: the record that a failure on it goes back to.
+//! A part of a term is tried: the record that a failure on it goes back to.
 ghost use Rattle.std.specs.Prelude.{OnOk, IsTrue};
 ghost use Rattle.strat_machine.specs.Stacks.{TriesPart};
 ghost use Rattle.strat_machine.specs.declared.records.Record.TheVariants as records;
@@ -23,7 +23,7 @@ pub(crate) fn try_one<S: TermSpace>(
 {
     position.term = space.dup(&part)?;
     position.address = traversed.body;
-    let saved = stacks.saved(position.frame);
+    let saved = stacks.state_to_restore(position.frame);
     let mark = space.mark();
     stacks
         .records
@@ -49,7 +49,7 @@ pub(crate) fn try_some<S: TermSpace>(
 {
     position.term = space.dup(&part)?;
     position.address = traversed.body;
-    let saved = stacks.saved(position.frame);
+    let saved = stacks.state_to_restore(position.frame);
     let mark = space.mark();
     let records = &mut stacks.records.records;
     records.push_some(traversed, part, found, saved, mark)?;

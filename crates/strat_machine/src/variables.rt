@@ -1,4 +1,4 @@
-// The variables in the patterns of instructions.
+//! The variables in the patterns of instructions.
 use core_lang::{Coordinate, CorePattern};
 use std::alloc::{AllocError, Global};
 use strat_code::Instr;
@@ -16,7 +16,7 @@ pub(crate) fn variables_of(alloc: Global, instr: &Instr) -> Result<Vec<Coordinat
     Ok(variables)
 }
 
-// Adds the variables in a pattern. The variable of `Like` is not written.
+/// Adds the variables in a pattern. The variable of `Like` is not written.
 #[cycle(variables)]
 fn add_variables(pattern: &CorePattern, variables: &mut Vec<Coordinate>) -> Result<(), AllocError> {
     match pattern {
@@ -43,7 +43,7 @@ fn add_variables(pattern: &CorePattern, variables: &mut Vec<Coordinate>) -> Resu
     }
 }
 
-// Adds the variables in the rest of a list, if it has one.
+/// Adds the variables in the rest of a list, if it has one.
 #[cycle(variables)]
 fn add_rest(
     rest: &Option<Box<CorePattern>>,
@@ -55,7 +55,7 @@ fn add_rest(
     }
 }
 
-// Adds the variables in several patterns.
+/// Adds the variables in several patterns.
 #[cycle(variables)]
 fn add_all(patterns: &[CorePattern], variables: &mut Vec<Coordinate>) -> Result<(), AllocError> {
     for part in patterns {

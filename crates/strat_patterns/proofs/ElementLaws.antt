@@ -3,6 +3,8 @@ use Rattle.std.proofs.Common.{◌≡◌, ℕ, ℤ, zero, suc, ◌+◌, ◌-◌, 
 use Rattle.std.specs.Prelude.{Bool, true, false, ◌&&◌, IsTrue, is_some, slice_get}
 use Rattle.std.specs.Option.{option_map}
 use Rattle.std.proofs.lemmas.List.{drop_all, length-map, map-append}
+use Rattle.std.proofs.Math.Bool.{and-false}
+use Rattle.std.proofs.Math.Seq.{drop-append_seam, take-append_seam}
 use Rattle.core_lang.specs.declared.coordinate.Coordinate.{Coordinate}
 use Rattle.core_lang.specs.Building.{value_in, with_front, made_like, made_with, applied_to, list_term, elements_of, instance, instances, element_instances}
 use Rattle.core_lang.specs.Environment.{Bindings}
@@ -22,19 +24,11 @@ use Rattle.strat_patterns.specs.declared.building.Pushed.TheVariants as pushed
 use Rattle.strat_patterns.specs.declared.building.Elements.{Elements}
 use Rattle.strat_patterns.specs.declared.building.Elements.TheVariants as elements
 use Rattle.strat_steps.specs.References.{Places, AllPlaces, AllRefs}
-use Rattle.strat_patterns.proofs.BuildingLaws.{slice_is}
+use Rattle.strat_patterns.proofs.BuildingLaws.{front_end, slice_is}
 use Rattle.strat_steps.proofs.ReferenceSteps.{places_same}
 use Rattle.strat_patterns.proofs.ReferenceLists.{refs_append, refs_of_all}
 
 -- what was put on a stack
-drop_put : {X : Type 0} (xs ys : List X) → drop (length xs) (xs ++ ys) ≡ ys
-drop_put [] ys = refl
-drop_put (x ∷ xs) ys = drop_put xs ys
-
-take_put : {X : Type 0} (xs ys : List X) → take (length xs) (xs ++ ys) ≡ xs
-take_put [] ys = refl
-take_put (x ∷ xs) ys = ap (λ zs. x ∷ zs) (take_put xs ys)
-
 long_put : {X : Type 0} (xs ys : List X) → length xs ≤ length (xs ++ ys)
 long_put [] ys = omega arith
 long_put (x ∷ xs) ys = let h = long_put xs ys in omega arith
@@ -49,10 +43,10 @@ append_assoc (x ∷ xs) ys zs = ap (λ us. x ∷ us) (append_assoc xs ys zs)
 
 module _ {W R Y N : Type 0} {S : Space W R Y N} {w : W} {old new : List R} {Are : List R → Type 0} (p : Puts S w old new Are) (from : ℕ) (at : from ≡ length old) where
   put_is : drop from new ≡ p.put
-  put_is = ap (λ k. drop k new) at ∙ (ap (drop (length old)) p.after ∙ drop_put old p.put)
+  put_is = ap (λ k. drop k new) at ∙ (ap (drop (length old)) p.after ∙ drop-append_seam old p.put)
 
   pub kept_is : take from new ≡ old
-  kept_is = ap (λ k. take k new) at ∙ (ap (take (length old)) p.after ∙ take_put old p.put)
+  kept_is = ap (λ k. take k new) at ∙ (ap (take (length old)) p.after ∙ take-append_seam old p.put)
 
   pub put_within : from ≤ length new
   put_within = subst (λ xs. from ≤ length xs) (sym p.after) (subst (λ k. k ≤ length (old ++ p.put)) (sym at) (long_put old p.put))
@@ -110,9 +104,6 @@ front_all : (ts us : List Tree) → in_front ts (Some (trees_of us)) ≡ Some (t
 front_all [] us = refl
 front_all (t ∷ ts) us = ap (λ o. with_front (Some t) o) (front_all ts us)
 
-pub front_end : (ts : List Tree) → in_front ts (Some end) ≡ Some (trees_of ts)
-front_end ts = front_all ts [] ∙ ap (λ xs. Some (trees_of xs)) (sym (append_nothing ts))
-
 front_push : (ts : List Tree) (t : Tree) (o : Option Trees) → in_front ts (with_front (Some t) o) ≡ in_front (ts ++ t ∷ []) o
 front_push [] t o = refl
 front_push (u ∷ ts) t o = ap (λ v. with_front (Some u) v) (front_push ts t o)
@@ -129,10 +120,6 @@ both_fit (t ∷ ts) us h k = by_first (fits t) h (λ l. both_fit ts us l k)
     by_first true h go = go h
     by_first false h go = absurd (cc)
 
-false_and : (b : Bool) → (b && false) ≡ false
-false_and true = refl
-false_and false = refl
-
 large_before : (ts us : List Tree) → all_fit (trees_of ts) ≡ false → all_fit (trees_of (ts ++ us)) ≡ false
 large_before [] us h = absurd (cc)
 large_before (t ∷ ts) us h = by_first (fits t) h (large_before ts us)
@@ -143,7 +130,7 @@ large_before (t ∷ ts) us h = by_first (fits t) h (large_before ts us)
 
 large_after : (ts us : List Tree) → all_fit (trees_of us) ≡ false → all_fit (trees_of (ts ++ us)) ≡ false
 large_after [] us h = h
-large_after (t ∷ ts) us h = ap (λ b. fits t && b) (large_after ts us h) ∙ false_and (fits t)
+large_after (t ∷ ts) us h = ap (λ b. fits t && b) (large_after ts us h) ∙ and-false (fits t)
 
 -- the first elements of a list, and the others
 module _ {W R Y N : Type 0} (S : Space W R Y N) (w : W) (f : Option Trees → Option Trees) where
@@ -231,7 +218,7 @@ module _ {W R Y N : Type 0} (S : Space W R Y N) where
     one_large rs t true at large h = (
       map (S.term_of w) rs ++ t ∷ [],
       λ v. h.0 v ∙ (ap (in_front (map (S.term_of w) rs)) (is v ∙ ap (λ x. with_front x (next v)) at) ∙ front_push (map (S.term_of w) rs) t (next v)),
-      all_fit-last (map (S.term_of w) rs) t ∙ (ap (λ b. all_fit (trees_of (map (S.term_of w) rs)) && b) large ∙ false_and (all_fit (trees_of (map (S.term_of w) rs)))),
+      all_fit-last (map (S.term_of w) rs) t ∙ (ap (λ b. all_fit (trees_of (map (S.term_of w) rs)) && b) large ∙ and-false (all_fit (trees_of (map (S.term_of w) rs)))),
     )
     one_large rs t false at large h =
         (h.0 ++ t ∷ [], λ v. h.1 v ∙ (ap (in_front h.0) (is v ∙ ap (λ x. with_front x (next v)) at) ∙ front_push h.0 t (next v)), large_before h.0 (t ∷ []) h.2)
@@ -264,7 +251,7 @@ module _ {W R Y N : Type 0} (S : Space W R Y N) where
         differ e = cc
     building_next old middle new built.Oversize kept this fit now_fit made k at test x =
         let no_so : this ≡ false = some_same (sym at ∙ k.0) in
-        let not_now : now_fit ≡ false = test ∙ (ap (λ b. fit && b) no_so ∙ false_and fit) in
+        let not_now : now_fit ≡ false = test ∙ (ap (λ b. fit && b) no_so ∙ and-false fit) in
         record {
           put = x.put;
           after = k.1 ∙ x.after;

@@ -2,7 +2,7 @@
 use Rattle.std.proofs.Common.{◌≡◌, ℕ, ℤ, zero, suc, ◌+◌, ◌<◌, ◌≤◌, Option, Some, None, List, [], ◌∷◌, ◌++◌, length, map, drop, take, min, get_or, Box, Global, refl, sym, ◌∙◌, ap, subst, arith, add-one}
 use Rattle.std.specs.Prelude.{Bool, true, false, IsTrue, ◌↔◌, nat_lt, nat_eq, if◌then◌else◌, slice_get}
 use Rattle.std.specs.Option.{option_map}
-use Rattle.std.proofs.lemmas.Option.{slice_get-map}
+use Rattle.std.proofs.lemmas.Option.{slice_get-map, slice_get_past}
 use Rattle.std.proofs.lemmas.List.{drop_all, length-map, length-take}
 use Rattle.std.proofs.lemmas.Bool.{eq-eqb, eqb-true}
 use Rattle.term_model.specs.Symbol.{Symbol}
@@ -60,11 +60,6 @@ module _ {W R Y N : Type 0} {S : Space W R Y N} {b : ℕ} where
   goes_not go false is x = record { bound = x.bound; standing = x.standing; comes_to = ap (λ a. and_go a go) x.comes_to }
 
 -- one place
-past : {X : Type 0} (e : List X) (i : ℕ) → length e ≤ i → slice_get e i ≡ None
-past [] i h = refl
-past (v ∷ e) zero h = absurd (omega arith)
-past (v ∷ e) (suc i) h = past e i (omega arith)
-
 map_with : {A B : Type 0} (f : A → B) (i : ℕ) (r : A) (e : List (Option A)) → map (option_map f) (with_term i r e) ≡ with_term i (f r) (map (option_map f) e)
 map_with f i r [] = refl
 map_with f zero r (v ∷ e) = refl
@@ -85,7 +80,7 @@ module _ {R : Type 0} (f : R → Tree) (b : ℕ) (o : Option ℕ) (t : Tree) (e 
 
   bind_past : (n : ℕ) → ((i : ℕ) → o ≡ Some i → n ≤ i) → n ≡ length e → (p : Option ℕ) → o ≡ p → bind b o t (map (option_map f) e) T ≡ attempt false (map (option_map f) e) T
   bind_past n h is None at = ap (λ p. bind b p t (map (option_map f) e) T) at
-  bind_past n h is (Some i) at = let far = h i at in bind_by i None at (past e i (omega arith))
+  bind_past n h is (Some i) at = let far = h i at in bind_by i None at (slice_get_past e i (omega arith))
 
   pub bind_nowhere : (n : ℕ) → ((i : ℕ) → o ≡ Some i → n ≤ i) → n ≡ length e → bind b o t (map (option_map f) e) T ≡ attempt false (map (option_map f) e) T
   bind_nowhere n h is = bind_past n h is o refl

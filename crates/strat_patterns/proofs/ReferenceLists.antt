@@ -15,9 +15,11 @@ refs_append P (r ∷ rs) us h k = (h.0, refs_append P rs us h.1 k)
 
 pub refs_reverse : {R : Type 0} (P : R → Type 0) (rs : List R) → AllRefs P rs → AllRefs P (reverse rs)
 refs_reverse P [] h = tt
-refs_reverse P (r ∷ rs) h = subst (AllRefs P) (sym (reverse-append (r ∷ []) rs)) (refs_append P (reverse rs) (r ∷ []) (refs_reverse P rs h.1) (h.0, tt))
+refs_reverse P (r ∷ rs) h = subst (AllRefs P) (sym (reverse-append (r ∷ []) rs))
+    (refs_append P (reverse rs) (r ∷ []) (refs_reverse P rs h.1) (h.0, tt))
 
-pub standing_push : {R : Type 0} (P : R → Type 0) (rs new : List R) (r : R) → AllRefs P rs → P r → new ≡ rs ++ r ∷ [] → AllRefs P new
+pub standing_push : {R : Type 0} (P : R → Type 0) (rs new : List R) (r : R) → AllRefs P rs → P r → new ≡ rs ++ r ∷ [] →
+    AllRefs P new
 standing_push P rs new r h k is = subst (AllRefs P) (sym is) (by rs h)
   where
     by : (xs : List _) → AllRefs P xs → AllRefs P (xs ++ r ∷ [])

@@ -1,3 +1,4 @@
+-- The headline does not rest on this file.
 -- What matching the first parts of a term comes to, and building them; arguments on places.
 use Rattle.std.specs.Prelude.{◌≡◌, ℕ, ◌≤◌, ◌++◌, IsTrue, Option, Some, None, List, length, drop, map, true, false}
 use Rattle.core_lang.specs.Environment.{Bindings}

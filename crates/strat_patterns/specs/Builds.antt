@@ -1,3 +1,4 @@
+-- The headline does not rest on this file.
 -- What a build makes over references into a space.
 use Rattle.std.specs.Prelude.{◌≡◌, ℕ, Bool, true, false, IsTrue, Option, Some, None, List, [], ◌∷◌, ◌++◌, map, slice_get}
 use Rattle.term_model.specs.Space.{Space}
@@ -67,9 +68,11 @@ joined_elements pushed.Oversize elements.Oversize = elements.Oversize
 module _ {W R : Type 0} (term_of : W → R → Tree) (w : W) where
   -- what several patterns make, each of which fits; or that one has no instance; else that one does not fit
   abbrev pub AreBuilt : (Option Trees → Option Trees) → List R → Pushed → Type 0
-  AreBuilt all rs pushed.All = ((o : Option Trees) → all o ≡ in_front (map (term_of w) rs) o) × (all_fit (trees_of (map (term_of w) rs)) ≡ true)
+  AreBuilt all rs pushed.All = ((o : Option Trees) → all o ≡ in_front (map (term_of w) rs) o) ×
+      (all_fit (trees_of (map (term_of w) rs)) ≡ true)
   AreBuilt all rs pushed.NoInstance = (o : Option Trees) → all o ≡ None
-  AreBuilt all rs pushed.Oversize = (us : List Tree) × ((o : Option Trees) → all o ≡ in_front us o) × (all_fit (trees_of us) ≡ false)
+  AreBuilt all rs pushed.Oversize = (us : List Tree) × ((o : Option Trees) → all o ≡ in_front us o) ×
+      (all_fit (trees_of us) ≡ false)
 
 module _ {W R Y N : Type 0} (S : Space W R Y N) (w : W) where
   -- the reference of the instance, which fits; none; or that the instance does not fit
@@ -85,10 +88,12 @@ module _ {W R Y N : Type 0} (S : Space W R Y N) (w : W) where
   TailStands elements.NoInstance = Unit {0}
   TailStands elements.Oversize = Unit {0}
 
-  -- the elements of a list: those on the stack, and those of the list at their end; or that there is none, or one does not fit
+  -- the elements of a list: those on the stack, and those of the list at their end; or that there is none, or one does
+  -- not fit
   abbrev pub AreElements : Option Trees → List R → Elements R → Type 0
   AreElements all rs elements.All = all ≡ Some (trees_of (map (S.term_of w) rs))
-  AreElements all rs (elements.Before r) = IsTrue (S.stands w r) × (head_of (S.term_of w r) ≡ heads.List) × (all ≡ Some (trees_of (map (S.term_of w) rs ++ parts_of (S.term_of w r))))
+  AreElements all rs (elements.Before r) = IsTrue (S.stands w r) × (head_of (S.term_of w r) ≡ heads.List) ×
+      (all ≡ Some (trees_of (map (S.term_of w) rs ++ parts_of (S.term_of w r))))
   AreElements all rs elements.NoInstance = all ≡ None
   AreElements all rs elements.Oversize = (us : Trees) × (all ≡ Some us) × (all_fit us ≡ false)
 
@@ -109,8 +114,10 @@ module _ {W R : Type 0} (term_of : W → R → Tree) (w : W) where
 
   -- the same, before the patterns that are left; whether all so far fit
   abbrev pub AreBuiltBefore : (all rest : Option Trees → Option Trees) → List R → Bool → Type 0
-  AreBuiltBefore all rest rs true = ((o : Option Trees) → all o ≡ in_front (map (term_of w) rs) (rest o)) × (all_fit (trees_of (map (term_of w) rs)) ≡ true)
-  AreBuiltBefore all rest rs false = (us : List Tree) × ((o : Option Trees) → all o ≡ in_front us (rest o)) × (all_fit (trees_of us) ≡ false)
+  AreBuiltBefore all rest rs true = ((o : Option Trees) → all o ≡ in_front (map (term_of w) rs) (rest o)) ×
+      (all_fit (trees_of (map (term_of w) rs)) ≡ true)
+  AreBuiltBefore all rest rs false = (us : List Tree) × ((o : Option Trees) → all o ≡ in_front us (rest o)) ×
+      (all_fit (trees_of us) ≡ false)
 
 -- what was built is put on the stack, or is none, or does not fit
 abbrev pub IsKept : {R : Type 0} → Built R → Option Bool → List R → List R → Type 0

@@ -1,3 +1,4 @@
+-- The headline does not rest on this file.
 -- Patterns with a space's names in place of symbols.
 use Rattle.std.specs.Prelude.{◌≡◌, ℤ, Bool, IsTrue, List, [], ◌∷◌, map, Option, Some, None, Box}
 use Rattle.std.specs.declared.alloc.Global.{Global}
@@ -124,6 +125,7 @@ module _ {N : Type 0} (knows : N → Bool) (symbol_of : N → Symbol) where
     pub known : AllKnown knows ps
     pub are : map (loaded_of symbol_of) ps ≡ qs
 
-  pub record IsLoadedRest (rest : Option (Box (LoadedPattern N) Global)) (q : Option (Pattern Coordinate)) : Type 0 where
+  pub record IsLoadedRest (rest : Option (Box (LoadedPattern N) Global))
+      (q : Option (Pattern Coordinate)) : Type 0 where
     pub known : RestKnown knows rest
     pub is : rest_loaded_of symbol_of rest ≡ q

@@ -1,3 +1,4 @@
+-- The headline does not rest on this file.
 -- What the places of the Rust machine are seen as.
 use Rattle.std.specs.Prelude.{ℕ, List, Option}
 

@@ -1,4 +1,4 @@
-// The annotations of a term, and the term without them.
+//! The annotations of a term, and the term without them.
 ghost use Rattle.std.specs.Prelude.{◌≡◌, ◌<◌, IfOk, IsTrue, Some, [], length, slice_get};
 ghost use Rattle.term_model.specs.Space.{Keeps};
 ghost use Rattle.term_model.specs.Term.{annos_of, head_of, parts_of, term};
@@ -23,10 +23,7 @@ pub(crate) fn anno<S: TermSpace>(space: &S, at: &S::Ref, index: usize) -> Result
         Some (S.space.term_of space.now r)) }
 {
     match space.shape(at).annos.get(index) {
-        Some(reference) => {
-            let anno = space.dup(reference)?;
-            Ok(anno)
-        }
+        Some(reference) => { space.dup(reference) }
         None => unreachable!(),
     }
 }

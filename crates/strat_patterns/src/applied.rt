@@ -1,4 +1,4 @@
-// Applied patterns: matched and built at once as long as their parts are variables.
+//! Applied patterns: matched and built at once as long as their parts are variables.
 ghost use Rattle.std.specs.Prelude.{◌≡◌, ◌≤◌, ℕ, List, Option, true, false, IfOk, IsTrue, length, map, drop};
 ghost use Rattle.core_lang.specs.declared.coordinate.Coordinate.{Coordinate};
 ghost use Rattle.core_lang.specs.Environment.{Bindings};
@@ -80,7 +80,7 @@ pub fn match_term<S: TermSpace>(
     }
 }
 
-// Whether the name applied to the patterns matches the term.
+/// Whether the name applied to the patterns matches the term.
 #[inline]
 fn match_applied<S: TermSpace>(
     space: &mut S,
@@ -125,7 +125,7 @@ fn match_applied<S: TermSpace>(
     }
 }
 
-// Matches the first of the patterns with the parts of the term, as long as they are variables.
+/// Matches the first of the patterns with the parts of the term, as long as they are variables.
 #[inline]
 fn match_first_variables<S: TermSpace>(
     space: &S,
@@ -163,7 +163,7 @@ fn match_first_variables<S: TermSpace>(
     Ok(First::Matched(patterns.len()))
 }
 
-// Whether the pattern is an applied one, and the term has another root.
+/// Whether the pattern is an applied one, and the term has another root.
 fn has_other_root<S: TermSpace>(space: &S, pattern: &LoadedPattern<S::Name>, at: &S::Ref) -> bool
     requires known { Known (S.space.knows space.now) pattern.now }
     requires stands { IsTrue (S.space.stands space.now at.now) }
@@ -177,7 +177,7 @@ fn has_other_root<S: TermSpace>(space: &S, pattern: &LoadedPattern<S::Name>, at:
     }
 }
 
-// Whether each of the patterns from a number on matches the part of the same number.
+/// Whether each of the patterns from a number on matches the part of the same number.
 #[inline(never)]
 fn match_others<S: TermSpace>(
     space: &mut S,
@@ -263,7 +263,7 @@ pub fn build_term<S: TermSpace>(
     }
 }
 
-// Puts the instances of the patterns on the stack, as `push_all` does.
+/// Puts the instances of the patterns on the stack, as `push_all` does.
 fn push_parts<S: TermSpace>(
     space: &mut S,
     alloc: Global,
@@ -292,8 +292,8 @@ fn push_parts<S: TermSpace>(
     Ok(made)
 }
 
-// Puts the terms of the first of the patterns on the stack, as long as they are variables, and returns how many these are; `None` where one
-// has no term.
+/// Puts the terms of the first of the patterns on the stack, as long as they are variables, and returns how many these are; `None` where one
+/// has no term.
 #[inline]
 fn push_first_variables<S: TermSpace>(
     space: &S,

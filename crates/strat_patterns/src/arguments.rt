@@ -1,4 +1,4 @@
-// The arguments of calls and primitives: the instances of patterns, on a stack or on places of their own.
+//! The arguments of calls and primitives: the instances of patterns, on a stack or on places of their own.
 ghost use Rattle.std.specs.Prelude.{◌≡◌, IfOk, IsTrue, length, map, true};
 ghost use Rattle.std.specs.Option.{option_map};
 ghost use Rattle.core_lang.specs.Building.{instances};
@@ -100,8 +100,8 @@ pub fn place_arguments<S: TermSpace>(
     }
 }
 
-// Adds a place for each of the patterns with its term if all of them are variables that have terms, and returns whether they are; otherwise
-// some of the places are added.
+/// Adds a place for each of the patterns with its term if all of them are variables that have terms, and returns whether they are; otherwise
+/// some of the places are added.
 fn place_variables<S: TermSpace>(
     space: &S,
     frames: &Frames,
@@ -111,7 +111,8 @@ fn place_variables<S: TermSpace>(
 ) -> Result<bool, AllocError>
     requires { AllPlaces (λ r. IsTrue (S.space.stands space.now r)) places.old.slots }
     ensures { IfOk result (λ all. PutsOnPlaces S.space space.now places.old places.new
-        (λ rs. all ≡ true → AreArguments S.space.term_of space.now (instances (place_at frames.now here)
+        (λ rs. all ≡ true → AreArguments S.space.term_of space.now
+        (instances (place_at frames.now here)
         (all_loaded_of (S.space.symbol_of space.now) patterns.now)
         (map (option_map (S.space.term_of space.now)) places.old.slots)) rs pushed.All)) }
 {

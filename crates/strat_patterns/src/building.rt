@@ -1,4 +1,4 @@
-// What a build makes of a pattern, over references.
+//! What a build makes of a pattern, over references.
 ghost use Rattle.std.specs.Prelude.{◌≡◌, ℕ, IfOk, IsTrue, Option, Some, [], ◌≤◌, is_some, length, map, drop};
 ghost use Rattle.std.specs.Option.{option_map};
 ghost use Rattle.core_lang.specs.Building.{element_instances, elements_of, instance, instances, made_like, made_with};
@@ -16,7 +16,7 @@ ghost use Rattle.strat_steps.specs.State.{place_at};
 use crate::frames::Frames;
 use crate::loaded::LoadedPattern;
 use crate::lookup::value;
-use crate::making::{annotated, apply, list, with_built};
+use crate::making::{annotate, apply, list, with_built};
 use std::alloc::{AllocError, Global};
 use term_model::TermSpace;
 
@@ -104,7 +104,7 @@ pub(crate) fn build<S: TermSpace>(
             let first = first.as_slice();
             let firsts = push_all(space, alloc, frames, here, slots, first, stack)?;
             let others = push_rest(space, alloc, frames, here, slots, rest, stack)?;
-            let built = list(space, alloc, joined(firsts, others), from, stack)?;
+            let built = list(space, alloc, join(firsts, others), from, stack)?;
             Ok(built)
         }
         LoadedPattern::Like(part, x) => {
@@ -125,7 +125,7 @@ pub(crate) fn build<S: TermSpace>(
     }
 }
 
-// Whether the instances of the pattern have no annotations, and take none from the term.
+/// Whether the instances of the pattern have no annotations, and take none from the term.
 fn takes_nothing<S: TermSpace>(space: &S, pattern: &LoadedPattern<S::Name>, like: &S::Ref) -> bool
     requires { IsTrue (S.space.stands space.now like.now) }
     ensures { IsTrue result → (symbol_of : S.Name → Symbol) (place : Coordinate → Option ℕ)
@@ -235,17 +235,17 @@ fn make_with<S: TermSpace>(
         }
         LoadedPattern::Integer(_) => {
             let bare = build(space, alloc, frames, here, slots, pattern, stack)?;
-            let built = annotated(space, alloc, bare, pushed, &stack[from..])?;
+            let built = annotate(space, alloc, bare, pushed, &stack[from..])?;
             Ok(built)
         }
         LoadedPattern::Applied(_, _) => {
             let bare = build(space, alloc, frames, here, slots, pattern, stack)?;
-            let built = annotated(space, alloc, bare, pushed, &stack[from..])?;
+            let built = annotate(space, alloc, bare, pushed, &stack[from..])?;
             Ok(built)
         }
         LoadedPattern::List(_, _) => {
             let bare = build(space, alloc, frames, here, slots, pattern, stack)?;
-            let built = annotated(space, alloc, bare, pushed, &stack[from..])?;
+            let built = annotate(space, alloc, bare, pushed, &stack[from..])?;
             Ok(built)
         }
         LoadedPattern::Like(part, x) => {
@@ -359,7 +359,7 @@ fn push_tail<S: TermSpace>(
             let first = first.as_slice();
             let firsts = push_all(space, alloc, frames, here, slots, first, stack)?;
             let others = push_rest(space, alloc, frames, here, slots, rest, stack)?;
-            Ok(joined(firsts, others))
+            Ok(join(firsts, others))
         }
         LoadedPattern::Like(part, x) => {
             if value(space, frames, here, *x, slots).is_none() {
@@ -463,7 +463,7 @@ fn keep<R: Drop>(stack: &mut Vec<R>, built: Built<R>) -> Result<Option<bool>, Al
 }
 
 /// What came of the first elements of a list and of the others.
-fn joined<R: Drop>(firsts: Pushed, others: Elements<R>) -> Elements<R>
+fn join<R: Drop>(firsts: Pushed, others: Elements<R>) -> Elements<R>
     ensures { result ≡ joined_elements firsts others }
 {
     match firsts {

@@ -1,4 +1,4 @@
-// The first parts of a term.
+//! The first parts of a term.
 ghost use Rattle.std.specs.Prelude.{IfOk, IsTrue};
 ghost use Rattle.term_model.specs.Term.{parts_of};
 ghost use Rattle.strat_steps.specs.Matches.{AreFirst};

@@ -1,4 +1,4 @@
-// The frames of calls and scopes, and the closures of their strategy parameters.
+//! The frames of calls and scopes, and the closures of their strategy parameters.
 ghost use Rattle.std.specs.Prelude.{◌≡◌, ◌+◌, ◌<◌, ◌≤◌, ℕ, Some, MatchOption, IfOk, OnOk, OnErr, [], ◌∷◌, ◌++◌, length, map, take, slice_get};
 ghost use Rattle.strat_code.specs.CodeOf.{argument_of};
 ghost use Rattle.strat_steps.specs.State as state;
@@ -20,7 +20,7 @@ pub struct Closure {
     pub frame: u32,
 }
 
-// A frame: its first place, the position of the frame around it, and which closures are those of its strategy parameters.
+/// A frame: its first place, the position of the frame around it, and which closures are those of its strategy parameters.
 #[derive(Clone, Copy)]
 struct Frame {
     base: u32,
@@ -131,13 +131,12 @@ impl Frames {
         ensures pushed { OnOk result (self.new ≡ self.old ++ state.frame base up [] ∷ []) }
         ensures err { OnErr result (self.new ≡ self.old) }
     {
-        let base = narrow(base)?;
-        let up = narrow(up)?;
-        let first = narrow(self.closures.len())?;
+        let first = self.closures.len();
+        narrow(base.max(up).max(first))?;
         let frame = Frame {
-            base,
-            up,
-            first,
+            base: base as u32,
+            up: up as u32,
+            first: first as u32,
             count: 0,
         };
         push_on(&mut self.frames, frame)?;
@@ -191,7 +190,7 @@ impl Frames {
     }
 }
 
-// The frame `count` frames up.
+/// The frame `count` frames up.
 fn up_from(frames: &[Frame], closures: &[Closure], here: usize, count: usize) -> usize
     ensures { result ≡ frames_up (frames_in closures.now frames.now) here count }
 {
@@ -206,7 +205,7 @@ fn up_from(frames: &[Frame], closures: &[Closure], here: usize, count: usize) ->
     position
 }
 
-// The closure of a strategy parameter.
+/// The closure of a strategy parameter.
 fn closure_from(
     frames: &[Frame],
     closures: &[Closure],
@@ -232,7 +231,7 @@ fn closure_from(
     }
 }
 
-// The closure of an argument.
+/// The closure of an argument.
 fn closure_of_argument(
     frames: &[Frame],
     closures: &[Closure],
@@ -244,15 +243,17 @@ fn closure_of_argument(
 {
     match argument {
         Argument::Code(entry) => {
-            let entry = narrow(*entry)?;
-            let frame = narrow(here)?;
-            Ok(Closure { entry, frame })
+            narrow((*entry).max(here))?;
+            Ok(Closure {
+                entry: *entry as u32,
+                frame: here as u32,
+            })
         }
         Argument::Parameter(parameter) => Ok(closure_from(frames, closures, here, *parameter)),
     }
 }
 
-// Puts the closures of the arguments after those that there are, one for each.
+/// Puts the closures of the arguments after those that there are, one for each.
 #[tactic(auto, using(crate::proofs::FrameLaws::pushing))]
 #[inline(never)]
 fn push_closures(

@@ -1,4 +1,4 @@
-// Patterns as a run uses them, with the space's names in place of symbols.
+//! Patterns as a run uses them, with the space's names in place of symbols.
 ghost use Rattle.std.specs.Prelude.{IfOk, map};
 ghost use Rattle.core_lang.specs.Views.{pattern_of, rest_of};
 ghost use Rattle.term_model.specs.Space.{Keeps, MakesNone};
@@ -79,8 +79,7 @@ fn load_boxed<S: TermSpace>(
         (S.space.symbol_of space.new) p.value (pattern_of pattern.now)) }
 {
     let loaded = load_pattern(space, alloc, pattern)?;
-    let boxed = Box::new(alloc, loaded)?;
-    Ok(boxed)
+    Ok(Box::new(alloc, loaded)?)
 }
 
 #[cycle(load)]

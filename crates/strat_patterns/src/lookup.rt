@@ -1,4 +1,4 @@
-// What variables have.
+//! What variables have.
 ghost use Rattle.std.specs.Prelude.{◌≡◌, IsTrue, MatchOption, Some, None, map};
 ghost use Rattle.std.specs.Option.{option_map};
 ghost use Rattle.core_lang.specs.Building.{value_in};
@@ -31,7 +31,7 @@ pub fn value<'a, S: TermSpace>(
     held(frames, here, variable, slots)
 }
 
-// What the place of a variable has.
+/// What the place of a variable has.
 fn held<'a, R>(
     frames: &Frames,
     here: usize,

@@ -1,4 +1,4 @@
-// Terms of what was built: symbols applied to it, lists of it, and terms with it as annotations.
+//! Terms of what was built: symbols applied to it, lists of it, and terms with it as annotations.
 ghost use Rattle.std.specs.Prelude.{◌≡◌, ◌≤◌, IfOk, IsTrue, Option, Some, length, take, drop};
 ghost use Rattle.core_lang.specs.Building.{applied_to, list_term, made_with};
 ghost use Rattle.term_model.specs.Space.{Keeps};
@@ -125,7 +125,7 @@ pub(crate) fn with_built<S: TermSpace>(
 }
 
 /// What was built, which has no annotations, with these, or what came of them.
-pub(crate) fn annotated<S: TermSpace>(
+pub(crate) fn annotate<S: TermSpace>(
     space: &mut S,
     alloc: Global,
     bare: Built<S::Ref>,
@@ -153,7 +153,7 @@ pub(crate) fn annotated<S: TermSpace>(
     }
 }
 
-// What does not fit, with annotations.
+/// What does not fit, with annotations.
 fn large<R>(pushed: Pushed) -> Built<R>
     ensures { result ≡ large_with pushed }
 {
@@ -164,7 +164,7 @@ fn large<R>(pushed: Pushed) -> Built<R>
     }
 }
 
-// Whether all of several patterns are on the stack.
+/// Whether all of several patterns are on the stack.
 fn are_all(pushed: &Pushed) -> bool
     ensures { IsTrue result → pushed.now ≡ forms.All }
 {

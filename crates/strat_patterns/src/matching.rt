@@ -1,4 +1,4 @@
-// Matching a pattern with the term of a reference.
+//! Matching a pattern with the term of a reference.
 ghost use Rattle.std.specs.Prelude.{◌≡◌, ◌≤◌, IfOk, IsTrue, None, true, [], length, map, drop};
 ghost use Rattle.core_lang.specs.Program.{list};
 ghost use Rattle.term_model.specs.declared.term.Head.TheVariants as heads;
@@ -21,7 +21,7 @@ use core_lang::Coordinate;
 use std::alloc::{AllocError, Global};
 use term_model::TermSpace;
 
-// At most as many parts are asked for one by one, and the space walks to each; more are put on a vector by one walk.
+/// At most as many parts are asked for one by one, and the space walks to each; more are put on a vector by one walk.
 pub(crate) const FEW: usize = 8;
 
 /// Returns whether the pattern matches the term, by the rule for each form of patterns; `match_term` says what a match is.
@@ -105,8 +105,8 @@ pub(crate) fn match_pattern<S: TermSpace>(
     }
 }
 
-// Whether the pattern matches the term without its annotations. That term is made only where the pattern binds it or asks for its
-// annotations.
+/// Whether the pattern matches the term without its annotations. That term is made only where the pattern binds it or asks for its
+/// annotations.
 #[cycle(matching)]
 fn match_bare<S: TermSpace>(
     space: &mut S,
@@ -138,7 +138,7 @@ fn match_bare<S: TermSpace>(
     Ok(yes)
 }
 
-// Whether each pattern matches the annotation at its place, of which there are as many.
+/// Whether each pattern matches the annotation at its place, of which there are as many.
 #[cycle(matching)]
 fn match_annos<S: TermSpace>(
     space: &mut S,
@@ -176,7 +176,7 @@ fn match_annos<S: TermSpace>(
     Ok(true)
 }
 
-// Whether the pattern binds the term, or asks for its annotations.
+/// Whether the pattern binds the term, or asks for its annotations.
 fn sees_annos<N>(pattern: &LoadedPattern<N>) -> bool
     ensures { (symbol_of : N → Symbol) → result ≡
         sees_annotations (loaded_of symbol_of pattern.now) }
@@ -193,7 +193,7 @@ fn sees_annos<N>(pattern: &LoadedPattern<N>) -> bool
     }
 }
 
-// Whether the term has at least as many parts, and each pattern matches its own.
+/// Whether the term has at least as many parts, and each pattern matches its own.
 #[cycle(matching)]
 fn match_first<S: TermSpace>(
     space: &mut S,
@@ -238,7 +238,7 @@ fn match_first<S: TermSpace>(
     Ok(true)
 }
 
-// Whether there are at least as many terms, and each pattern matches its own.
+/// Whether there are at least as many terms, and each pattern matches its own.
 #[cycle(matching)]
 fn match_each<S: TermSpace>(
     space: &mut S,
@@ -277,7 +277,7 @@ fn match_each<S: TermSpace>(
     Ok(true)
 }
 
-// Whether the pattern matches the part. Most parts of patterns are variables, which need no further call.
+/// Whether the pattern matches the part. Most parts of patterns are variables, which need no further call.
 #[cycle(matching)]
 pub(crate) fn match_part<S: TermSpace>(
     space: &mut S,
@@ -309,7 +309,7 @@ pub(crate) fn match_part<S: TermSpace>(
     Ok(yes)
 }
 
-// Whether the pattern matches the rest of the list; with no pattern, whether there is none.
+/// Whether the pattern matches the rest of the list; with no pattern, whether there is none.
 #[cycle(matching)]
 fn match_rest<S: TermSpace>(
     space: &mut S,
@@ -345,7 +345,7 @@ fn match_rest<S: TermSpace>(
     }
 }
 
-// Gives the variable the term; where it has one, whether they are the same.
+/// Gives the variable the term; where it has one, whether they are the same.
 #[inline]
 pub(crate) fn bind_variable<S: TermSpace>(
     space: &S,
@@ -379,7 +379,8 @@ pub(crate) fn bind_variable<S: TermSpace>(
 /// Returns whether the term is the integer, whatever its annotations.
 pub fn is_integer<S: TermSpace>(space: &S, at: &S::Ref, value: &i64) -> bool
     requires { IsTrue (S.space.stands space.now at.now) }
-    ensures { result ≡ same_head (head_of (S.space.term_of space.now at.now)) (heads.Int value.now) }
+    ensures { result ≡ same_head (head_of (S.space.term_of space.now at.now))
+        (heads.Int value.now) }
 {
     match space.int_of(at) {
         Some(other) => other == *value,

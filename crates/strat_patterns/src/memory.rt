@@ -1,5 +1,6 @@
-// Memory for the stacks: vectors that take more of it or give it back, and numbers in 32 bits.
-ghost use Rattle.std.specs.Prelude.{◌≡◌, ◌+◌, ◌<◌, ◌≤◌, vec_len, vec_capacity, IfOk, OnOk, OnErr, [], ◌∷◌, ◌++◌};
+//! Memory for the stacks: vectors that take more of it or give it back, and numbers in 32 bits.
+ghost use Rattle.std.specs.Prelude.{◌≡◌, ◌+◌, ◌<◌, ◌≤◌, vec_len, vec_capacity, OnOk, OnErr, [], ◌∷◌, ◌++◌};
+ghost use Rattle.term_model.specs.Results.{Returns};
 
 use std::alloc::AllocError;
 
@@ -36,7 +37,7 @@ pub(crate) fn reserve_on<T: Drop>(items: &mut Vec<T>, count: usize) -> Result<()
     Ok(())
 }
 
-// Takes memory for `count` more items.
+/// Takes memory for `count` more items.
 #[inline(never)]
 fn grow_by<T: Drop>(items: &mut Vec<T>, count: usize) -> Result<(), AllocError>
     ensures same { items.new.items ≡ items.old.items }
@@ -46,7 +47,7 @@ fn grow_by<T: Drop>(items: &mut Vec<T>, count: usize) -> Result<(), AllocError>
     Ok(())
 }
 
-// Takes memory for one more item.
+/// Takes memory for one more item.
 #[inline(never)]
 fn grow<T: Drop>(items: &mut Vec<T>) -> Result<(), AllocError>
     ensures same { items.new.items ≡ items.old.items }
@@ -74,7 +75,7 @@ pub fn release_spare<T: Drop>(items: &mut Vec<T>)
 ///
 /// Returns an error if the number needs more than 32 bits: no stack has room for it.
 pub fn narrow(number: usize) -> Result<u32, AllocError>
-    ensures { IfOk result (λ n. n ≡ number) }
+    ensures { Returns result number }
 {
     if number > u32::MAX as usize {
         return Err(AllocError);

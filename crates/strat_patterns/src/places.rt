@@ -1,4 +1,4 @@
-// The places of variables, and the trail of those that a failure empties again.
+//! The places of variables, and the trail of those that a failure empties again.
 ghost use Rattle.std.specs.Prelude.{◌≡◌, ◌<◌, ◌-◌, List, Option, drop, nat_lt, if◌then◌else◌, Some, None, MatchOption, OnOk, OnErr, [], ◌∷◌, ◌++◌, length, map, replicate, reverse, take, slice_get};
 ghost use Rattle.strat_steps.specs.Binding.{cleared, undone, above, down_to, trimmed, with_term};
 ghost use Rattle.strat_patterns.specs.PlaceStack.{PlaceStack};
@@ -153,7 +153,7 @@ impl<R: Drop> Places<R> {
         self.move_terms(terms, from)
     }
 
-    // Adds places with the references from a position on.
+    /// Adds places with the references from a position on.
     fn move_terms(&mut self, terms: &mut Vec<R>, from: usize) -> Result<(), AllocError>
         ensures places { OnOk result (self.new ≡
             record self.old {
@@ -218,7 +218,7 @@ impl<R: Drop> Places<R> {
     }
 }
 
-// Adds `count` empty places.
+/// Adds `count` empty places.
 fn push_empty<R: Drop>(slots: &mut Vec<Option<R>>, count: usize) -> Result<(), AllocError>
     ensures { OnOk result (slots.new.items ≡ slots.old.items ++ replicate count None) }
 {
@@ -229,7 +229,7 @@ fn push_empty<R: Drop>(slots: &mut Vec<Option<R>>, count: usize) -> Result<(), A
     Ok(())
 }
 
-// Gives a place a reference, if there is such a place.
+/// Gives a place a reference, if there is such a place.
 #[tactic(auto, using(crate::proofs::PlaceLaws::placing))]
 fn fill<R: Drop>(slots: &mut Vec<Option<R>>, place: usize, reference: R)
     ensures { slots.new.items ≡ with_term place reference slots.old.items }
@@ -239,7 +239,7 @@ fn fill<R: Drop>(slots: &mut Vec<Option<R>>, place: usize, reference: R)
     }
 }
 
-// Gives the last places, which have nothing, the references from a position on.
+/// Gives the last places, which have nothing, the references from a position on.
 fn fill_last<R: Drop>(slots: &mut Vec<Option<R>>, terms: &mut Vec<R>, from: usize)
     ensures slots { (e : List (Option R)) → slots.old.items ≡ e ++
         replicate (length terms.old.items - from) None → slots.new.items ≡ e ++
@@ -256,7 +256,7 @@ fn fill_last<R: Drop>(slots: &mut Vec<Option<R>>, terms: &mut Vec<R>, from: usiz
     }
 }
 
-// Empties a place, if there is such a place.
+/// Empties a place, if there is such a place.
 #[tactic(auto, using(crate::proofs::PlaceLaws::placing))]
 fn empty<R: Drop>(slots: &mut Vec<Option<R>>, place: usize)
     ensures { slots.new.items ≡ cleared place slots.old.items }
@@ -266,7 +266,7 @@ fn empty<R: Drop>(slots: &mut Vec<Option<R>>, place: usize)
     }
 }
 
-// Empties the places that were put on the trail above a height.
+/// Empties the places that were put on the trail above a height.
 fn undo<R: Drop>(slots: &mut Vec<Option<R>>, trail: &mut Vec<u32>, height: usize)
     ensures slots { slots.new.items ≡ undone (above height (reverse trail.old.items))
         slots.old.items }
@@ -280,7 +280,7 @@ fn undo<R: Drop>(slots: &mut Vec<Option<R>>, trail: &mut Vec<u32>, height: usize
     }
 }
 
-// Drops the last entries above a height that are not below the barrier.
+/// Drops the last entries above a height that are not below the barrier.
 #[tactic(auto, using(crate::proofs::PlaceLaws::trim_low))]
 fn trim_trail(trail: &mut Vec<u32>, height: usize, barrier: usize)
     ensures { reverse trail.new.items ≡ trimmed height barrier (reverse trail.old.items) }

@@ -35,32 +35,48 @@ lacks_others [] qs t h = h
 lacks_others (r ∷ rs) qs t h = lacks_others rs qs t h.1
 
 module _ (code : Code) (I : List Specialization) (M : Meaning) where
-  known_fails : {V : ResolvedEnvironment} {D : Context} {y : Coordinate} {ss : ResolvedStrategies} {ps : Patterns Coordinate} {s : ResolvedStrategy} {t : Tree} {e : Bindings} {n : ℕ} {v : Option ResolvedCallee} →
-      called by_coordinates V y ss ps ≡ v → ParameterIs code I s D v → ((W : ResolvedEnvironment) → Fits code I D W → Derives by_coordinates M W s t e failed n) → Derives by_coordinates M V (call y ss ps) t e failed (suc n)
+  known_fails : {V : ResolvedEnvironment} {D : Context} {y : Coordinate} {ss : ResolvedStrategies}
+      {ps : Patterns Coordinate} {s : ResolvedStrategy} {t : Tree} {e : Bindings} {n : ℕ} {v : Option ResolvedCallee} →
+      called by_coordinates V y ss ps ≡ v → ParameterIs code I s D v →
+      ((W : ResolvedEnvironment) → Fits code I D W → Derives by_coordinates M W s t e failed n) →
+      Derives by_coordinates M V (call y ss ps) t e failed (suc n)
   known_fails callee (parameter_is {W = W} fit) inside = by_parameter callee (inside W fit) (omega arith)
 
-  body_fails : {V : ResolvedEnvironment} {D : Context} {y : Coordinate} {ss : ResolvedStrategies} {s : ResolvedStrategy} {t : Tree} {e : Bindings} {n : ℕ} {v : Option ResolvedCallee} →
+  body_fails : {V : ResolvedEnvironment} {D : Context} {y : Coordinate} {ss : ResolvedStrategies} {s : ResolvedStrategy}
+      {t : Tree} {e : Bindings} {n : ℕ} {v : Option ResolvedCallee} →
       called by_coordinates V y ss no_patterns ≡ v → BodyIs code I D s v →
-      ((m : ℕ) (W : ResolvedEnvironment) → Fits code I D W → Derives by_coordinates M (layer (length e) m 0 (closures_of by_coordinates V ss) W) s t (e ++ filled_places end) failed n) →
+      ((m : ℕ) (W : ResolvedEnvironment) → Fits code I D W →
+      Derives by_coordinates M (layer (length e) m 0 (closures_of by_coordinates V ss) W) s t (e ++
+      filled_places end) failed n) →
       Derives by_coordinates M V (call y ss no_patterns) t e failed (suc n)
   body_fails callee (body_of {m = m} {W = W} fit) inside = by_call callee refl (inside m W fit) refl (omega arith)
 
-  asks_fails : {C : Context} {s : ResolvedStrategy} {rs : List Root} {n : ℕ} → AsksFor C s rs n → {F : List Frame} {V : ResolvedEnvironment} {p : ℕ} {t : Tree} {e : Bindings} → Represents code I F C V p → Lacks rs t →
+  asks_fails : {C : Context} {s : ResolvedStrategy} {rs : List Root} {n : ℕ} → AsksFor C s rs n →
+      {F : List Frame} {V : ResolvedEnvironment} {p : ℕ} {t : Tree} {e : Bindings} → Represents code I F C V p →
+      Lacks rs t →
       Derives by_coordinates M V s t e failed n
   asks_fails asks_fail rep h = by_fail
   asks_fails asks_match rep h = begins_fails begins_match h.0
   asks_fails (asks_seq {n = n} a) rep h = by_seq_stop (asks_fails a rep h) (omega arith)
-  asks_fails (asks_choice {rs = rs} {qs = qs} {n = n} {k = k} a b) {t = t} rep h = by_choice_else (asks_fails a rep (lacks_first rs qs t h)) (asks_fails b rep (lacks_others rs qs t h)) (omega arith)
+  asks_fails (asks_choice {rs = rs} {qs = qs} {n = n} {k = k} a b) {t = t} rep h =
+      by_choice_else (asks_fails a rep (lacks_first rs qs t h)) (asks_fails b rep (lacks_others rs qs t h))
+      (omega arith)
   asks_fails (asks_scope {n = n} a) rep h = by_scope (asks_fails a (of_hidden nothing_known rep) h) refl (omega arith)
   asks_fails (asks_let {n = n} a) rep h = by_definitions (asks_fails a (of_no_definitions rep) h) (omega arith)
-  asks_fails (asks_known {D = D} {y = y} {s = s} k a) {F = F} rep h = known_fails refl (same_parameter rep y s D k) (λ W fit. asks_fails a {F = F} (fitting 0 fit) h)
-  asks_fails (asks_inline {y = y} hides is args a) {F = F} rep h = body_fails refl (same_body_of rep y hides is) (λ m W fit. asks_fails a {F = F} (of_hidden (arguments_known rep args) (fitting 0 fit)) h)
+  asks_fails (asks_known {D = D} {y = y} {s = s} k a) {F = F} rep h =
+      known_fails refl (same_parameter rep y s D k) (λ W fit. asks_fails a {F = F} (fitting 0 fit) h)
+  asks_fails (asks_inline {y = y} hides is args a) {F = F} rep h =
+      body_fails refl (same_body_of rep y hides is)
+      (λ m W fit. asks_fails a {F = F} (of_hidden (arguments_known rep args) (fitting 0 fit)) h)
 
-  known_to_fail : {V : ResolvedEnvironment} {s : ResolvedStrategy} {t : Tree} {e : Bindings} {n b c : ℕ} {q : Verdict Tree} → Derives by_coordinates M V s t e failed n → Settled by_coordinates M V s t e b q c → FailsBy n b q c
+  known_to_fail : {V : ResolvedEnvironment} {s : ResolvedStrategy} {t : Tree} {e : Bindings} {n b c : ℕ}
+      {q : Verdict Tree} → Derives by_coordinates M V s t e failed n → Settled by_coordinates M V s t e b q c →
+      FailsBy n b q c
   known_to_fail x (settled y h) = let q = unique y x in let same = q.nodes in inl (ap ends q.outcome, omega arith)
   known_to_fail x (unsettled lacks) = inr (refl, lacks _ _ x)
 
   -- with the budget threaded
-  pub fails_by_roots : {C : Context} {s : ResolvedStrategy} {rs : List Root} {n : ℕ} → AsksFor C s rs n → {F : List Frame} {V : ResolvedEnvironment} {p : ℕ} {t : Tree} {e : Bindings} {b c : ℕ} {q : Verdict Tree} →
+  pub fails_by_roots : {C : Context} {s : ResolvedStrategy} {rs : List Root} {n : ℕ} → AsksFor C s rs n →
+      {F : List Frame} {V : ResolvedEnvironment} {p : ℕ} {t : Tree} {e : Bindings} {b c : ℕ} {q : Verdict Tree} →
       Represents code I F C V p → Lacks rs t → Goes by_coordinates M V s t e b q c → FailsBy n b q c
   fails_by_roots a rep h x = known_to_fail (asks_fails a rep h) (settled_so x)

@@ -21,23 +21,27 @@ record Stayed (n : ℕ) (r s : Result) (l k : ℕ) : Type 0 where
   result : s ≡ r
   left : k ≡ l
 
-stays : {code : Code} {M : Meaning} {n l k : ℕ} {r s : Result} → Steps code M n (ended r l) (ended s k) → Stayed n r s l k
+stays : {code : Code} {M : Meaning} {n l k : ℕ} {r s : Result} → Steps code M n (ended r l) (ended s k) →
+    Stayed n r s l k
 stays no_step = record { none = refl; result = refl; left = refl }
 stays (more_steps going h x) = absurd (going)
 
 -- no run takes longer
-few_steps : (M : Meaning) (P : ResolvedDefinitions) (i : ℕ) (t : Tree) (budget : ℕ) (r : Result) (left steps : ℕ) → Says M P i t budget r left steps → steps ≤ 10 * budget + 10
+few_steps : (M : Meaning) (P : ResolvedDefinitions) (i : ℕ) (t : Tree) (budget : ℕ) (r : Result) (left steps : ℕ) →
+    Says M P i t budget r left steps → steps ≤ 10 * budget + 10
 few_steps M P i t budget (rewritten u) left steps s = let a = s.1.few in let b = s.1.paid in omega arith
 few_steps M P i t budget run_failed left steps s = let a = s.few in let b = s.paid in omega arith
 few_steps M P i t budget run_oversize left steps s = let a = s.few in let b = s.paid in omega arith
 few_steps M P i t budget run_spent left steps s = s.1
 few_steps M P i t budget stuck left steps s = absurd s
 
-going_on : {code : Code} {M : Meaning} {n left : ℕ} {m : State} {r : Result} → IsGoing m → Steps code M n m (ended r left) → 0 < n
+going_on : {code : Code} {M : Meaning} {n left : ℕ} {m : State} {r : Result} → IsGoing m →
+    Steps code M n m (ended r left) → 0 < n
 going_on going no_step = absurd going
 going_on going (more_steps g h x) = omega arith
 
-module _ {code : Code} {M : Meaning} (P : ResolvedDefinitions) (i : ℕ) (stands : StandsFor code P i) (t : Tree) (budget : ℕ) where
+module _ {code : Code} {M : Meaning} (P : ResolvedDefinitions) (i : ℕ) (stands : StandsFor code P i) (t : Tree)
+    (budget : ℕ) where
   -- the steps that lead to an end say what the program does
   pub end_says : {k l : ℕ} {r : Result} → Steps code M k (start t budget) (ended r l) → Says M P i t budget r l k
   end_says {k} {l} {r} x =
@@ -46,7 +50,9 @@ module _ {code : Code} {M : Meaning} (P : ResolvedDefinitions) (i : ℕ) (stands
       let s = stays a.lead in
       let are = a.are in let none = s.none in
       let same : run.steps ≡ k = omega arith in
-      subst (λ v. Says M P i t budget v l k) s.result (subst (λ n. Says M P i t budget run.result n k) s.left (subst (λ n. Says M P i t budget run.result run.left n) same run.says))
+      subst (λ v. Says M P i t budget v l k)
+      s.result (subst (λ n. Says M P i t budget run.result n k)
+      s.left (subst (λ n. Says M P i t budget run.result run.left n) same run.says))
 
   -- after that number of steps a run has ended
   pub ends_in_time : {k : ℕ} {m : State} → Steps code M k (start t budget) m → IsGoing m → k < 10 * budget + 10
@@ -58,15 +64,22 @@ module _ {code : Code} {M : Meaning} (P : ResolvedDefinitions) (i : ℕ) (stands
       let are = a.are in
       omega arith
 
-pub holds_at_start : {W R Y N : Type 0} (S : Space W R Y N) (w : W) (t : R) (budget : ℕ) → Stands S w t → Holds S w (start_ref t budget)
-holds_at_start S w t budget st = (st, record { places = tt; records = tt; covered = nothing_covered; low = omega arith })
+pub holds_at_start : {W R Y N : Type 0} (S : Space W R Y N) (w : W) (t : R) (budget : ℕ) → Stands S w t →
+    Holds S w (start_ref t budget)
+holds_at_start S w t budget st =
+    (st, record { places = tt; records = tt; covered = nothing_covered; low = omega arith })
 
-module _ {W R Y N : Type 0} {S : Space W R Y N} {code : Code} {M : Meaning} (P : ResolvedDefinitions) (i : ℕ) (stands : StandsFor code P i) {w w1 : W} {t : R} {budget : ℕ} (st : Stands S w t) where
-  pub rewritten_says : {k l : ℕ} {u : R} → StepsRef S code M k w (start_ref t budget) w1 (ref_rewritten u l) → Says M P i (S.term_of w t) budget (rewritten (S.term_of w1 u)) l k
+module _ {W R Y N : Type 0} {S : Space W R Y N} {code : Code} {M : Meaning} (P : ResolvedDefinitions) (i : ℕ)
+    (stands : StandsFor code P i) {w w1 : W} {t : R} {budget : ℕ} (st : Stands S w t) where
+  pub rewritten_says : {k l : ℕ} {u : R} → StepsRef S code M k w (start_ref t budget) w1 (ref_rewritten u l) →
+      Says M P i (S.term_of w t) budget (rewritten (S.term_of w1 u)) l k
   rewritten_says x = end_says P i stands (S.term_of w t) budget (steps_so x (holds_at_start S w t budget st)).0
 
-  pub stopped_says : {k l : ℕ} {r : Result} → StepsRef S code M k w (start_ref t budget) w1 (ref_stopped r l) → Says M P i (S.term_of w t) budget r l k
+  pub stopped_says : {k l : ℕ} {r : Result} → StepsRef S code M k w (start_ref t budget) w1 (ref_stopped r l) →
+      Says M P i (S.term_of w t) budget r l k
   stopped_says x = end_says P i stands (S.term_of w t) budget (steps_so x (holds_at_start S w t budget st)).0
 
-  pub ended_in_time : {k : ℕ} {m : RefState R Y} → StepsRef S code M k w (start_ref t budget) w1 m → IsGoing (state_tree (S.term_of w1) m) → k < 10 * budget + 10
-  ended_in_time x going = ends_in_time P i stands (S.term_of w t) budget (steps_so x (holds_at_start S w t budget st)).0 going
+  pub ended_in_time : {k : ℕ} {m : RefState R Y} → StepsRef S code M k w (start_ref t budget) w1 m →
+      IsGoing (state_tree (S.term_of w1) m) → k < 10 * budget + 10
+  ended_in_time x going = ends_in_time P i stands (S.term_of w t)
+      budget (steps_so x (holds_at_start S w t budget st)).0 going

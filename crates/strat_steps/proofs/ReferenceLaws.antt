@@ -63,7 +63,8 @@ all_less P (less_none {v = Some r} x) h = all_less P x h.1
 all_less P (less_same {v = None} x) h = all_less P x h
 all_less P (less_same {v = Some r} x) h = (h.0, all_less P x h.1)
 
-pub all_changed : {R : Type 0} {P Q : R → Type 0} → ((r : R) → P r → Q r) → (e : Places R) → AllPlaces P e → AllPlaces Q e
+pub all_changed : {R : Type 0} {P Q : R → Type 0} → ((r : R) → P r → Q r) → (e : Places R) → AllPlaces P e →
+    AllPlaces Q e
 all_changed g [] h = tt
 all_changed g (None ∷ e) h = all_changed g e h
 all_changed g (Some r ∷ e) h = (g r h.0, all_changed g e h.1)
@@ -91,11 +92,13 @@ length_with (suc i) r (v ∷ e) = ap suc (length_with i r e)
 -- the trail
 pub above_append : (new T : List ℕ) (h : ℕ) → h ≤ length T → above h (new ++ T) ≡ new ++ above h T
 above_append [] T h l = refl
-above_append (i ∷ new) T h l = if_less _ _ h (suc (length (new ++ T))) (let k = length-append new T in omega arith) ∙ ap (λ A. i ∷ A) (above_append new T h l)
+above_append (i ∷ new) T h l = if_less _ _ h (suc (length (new ++ T))) (let k = length-append new T in omega arith) ∙
+    ap (λ A. i ∷ A) (above_append new T h l)
 
 pub down_append : (new T : List ℕ) (h : ℕ) → h ≤ length T → down_to h (new ++ T) ≡ down_to h T
 down_append [] T h l = refl
-down_append (i ∷ new) T h l = if_less _ _ h (suc (length (new ++ T))) (let k = length-append new T in omega arith) ∙ down_append new T h l
+down_append (i ∷ new) T h l = if_less _ _ h (suc (length (new ++ T))) (let k = length-append new T in omega arith) ∙
+    down_append new T h l
 
 -- a trail in two parts at a height
 pub record Parted (T : List ℕ) (h : ℕ) : Type 0 where
@@ -130,16 +133,20 @@ parted (i ∷ T) h l = by_height (nat_cases h (suc (length T)) l) (λ k. parted 
     by_height (is_less e) others = parted_on i (others (omega arith))
 
 -- what a record restores is no more than before
-pub restored_less : {R : Type 0} (b h : ℕ) (new T : List ℕ) (e f : Places R) → h ≤ length T → Less (take b (undone new f)) e →
+pub restored_less : {R : Type 0} (b h : ℕ) (new T : List ℕ) (e f : Places R) → h ≤ length T →
+    Less (take b (undone new f)) e →
     Less (take b (undone (above h (new ++ T)) f)) (take b (undone (above h T) e))
 restored_less b h new T e f l x =
     subst (λ g. Less g (take b (undone (above h T) e)))
-    (take_less b b (undone (above h T) (undone new f)) (omega arith) ∙ ap (take b) (sym (undone_append new (above h T) f) ∙ ap (λ A. undone A f) (sym (above_append new T h l))))
-    (take_keeps b (subst (λ g. Less g (undone (above h T) e)) (sym (take_undone b (above h T) (undone new f))) (undone_keeps (above h T) x)))
+    (take_less b b (undone (above h T) (undone new f)) (omega arith) ∙
+    ap (take b) (sym (undone_append new (above h T) f) ∙ ap (λ A. undone A f) (sym (above_append new T h l))))
+    (take_keeps b (subst (λ g. Less g (undone (above h T) e)) (sym (take_undone b (above h T) (undone new f)))
+    (undone_keeps (above h T) x)))
 
 module _ {W R Y N : Type 0} {S : Space W R Y N} where
   -- what is covered stays so, as places below the barrier are given terms and put on the trail
-  kept_moves : {e : Places R} {T : List ℕ} {b h d : ℕ} {m : Y} {K : List (RefRecord R Y)} (new : List ℕ) (f : Places R) → Kept S e T b h d m K → Less (take b (undone new f)) e → Kept S f (new ++ T) b h d m K
+  kept_moves : {e : Places R} {T : List ℕ} {b h d : ℕ} {m : Y} {K : List (RefRecord R Y)} (new : List ℕ)
+      (f : Places R) → Kept S e T b h d m K → Less (take b (undone new f)) e → Kept S f (new ++ T) b h d m K
   kept_moves {e} {T} {b} {h} {m = m} new f k x = let l = length-append new T in let l1 = k.height in record {
     places = all_less (Covers S m) (restored_less b h new T e f k.height x) k.places;
     records = k.records;
@@ -147,25 +154,30 @@ module _ {W R Y N : Type 0} {S : Space W R Y N} where
     lower = k.lower;
   }
 
-  pub covered_moves : {e : Places R} {T : List ℕ} {b : ℕ} {K : List (RefRecord R Y)} (new : List ℕ) (f : Places R) → Covered S e T b K → Less (take b (undone new f)) e → Covered S f (new ++ T) b K
+  pub covered_moves : {e : Places R} {T : List ℕ} {b : ℕ} {K : List (RefRecord R Y)} (new : List ℕ) (f : Places R) →
+      Covered S e T b K → Less (take b (undone new f)) e → Covered S f (new ++ T) b K
   covered_moves new f nothing_covered x = nothing_covered
   covered_moves new f (call_covered c) x = call_covered (covered_moves new f c x)
   covered_moves new f (all_covered c) x = all_covered (covered_moves new f c x)
   covered_moves {e} {T} {b} new f (choice_covered {h = h} {d = d} {K = K} k t c) x =
       choice_covered (kept_moves new f k x) t
       (subst (λ A. Covered S (take b (undone (above h (new ++ T)) f)) A d K) (sym (down_append new T h k.height))
-      (covered_moves [] (take b (undone (above h (new ++ T)) f)) c (less_trans (less_taken d _) (restored_less b h new T e f k.height x))))
+      (covered_moves [] (take b (undone (above h (new ++ T)) f))
+      c (less_trans (less_taken d _) (restored_less b h new T e f k.height x))))
   covered_moves {e} {T} {b} new f (one_covered {h = h} {d = d} {K = K} k t done u rest c) x =
       one_covered (kept_moves new f k x) t done u rest
       (subst (λ A. Covered S (take b (undone (above h (new ++ T)) f)) A d K) (sym (down_append new T h k.height))
-      (covered_moves [] (take b (undone (above h (new ++ T)) f)) c (less_trans (less_taken d _) (restored_less b h new T e f k.height x))))
+      (covered_moves [] (take b (undone (above h (new ++ T)) f))
+      c (less_trans (less_taken d _) (restored_less b h new T e f k.height x))))
   covered_moves {e} {T} {b} new f (some_covered {h = h} {d = d} {K = K} k t done u rest c) x =
       some_covered (kept_moves new f k x) t done u rest
       (subst (λ A. Covered S (take b (undone (above h (new ++ T)) f)) A d K) (sym (down_append new T h k.height))
-      (covered_moves [] (take b (undone (above h (new ++ T)) f)) c (less_trans (less_taken d _) (restored_less b h new T e f k.height x))))
+      (covered_moves [] (take b (undone (above h (new ++ T)) f))
+      c (less_trans (less_taken d _) (restored_less b h new T e f k.height x))))
 
 -- what binding comes to
-pub record Bound {R : Type 0} (P : R → Type 0) (b : ℕ) (e : Places R) (T : List ℕ) (f : Places R) (U : List ℕ) : Type 0 where
+pub record Bound {R : Type 0} (P : R →
+    Type 0) (b : ℕ) (e : Places R) (T : List ℕ) (f : Places R) (U : List ℕ) : Type 0 where
   pub new : List ℕ
   pub are : U ≡ new ++ T
   pub back : Less (take b (undone new f)) e
@@ -185,7 +197,8 @@ nat_less zero i = above_it (omega arith)
 nat_less (suc b) zero = below (omega arith)
 nat_less (suc b) (suc i) = less_suc (nat_less b i)
 
-unbind_less : {R : Type 0} (i : ℕ) (r : R) (e : Places R) → slice_get e i ≡ Some None → Less (cleared i (with_term i r e)) e
+unbind_less : {R : Type 0} (i : ℕ) (r : R) (e : Places R) → slice_get e i ≡ Some None →
+    Less (cleared i (with_term i r e)) e
 unbind_less i r [] h = less_end
 unbind_less zero r (v ∷ e) h = less_none (less_refl e)
 unbind_less (suc i) r (v ∷ e) h = less_same (unbind_less i r e h)
@@ -196,7 +209,8 @@ beyond_less (suc b) i r [] h = less_end
 beyond_less (suc b) zero r (v ∷ e) h = absurd (omega arith)
 beyond_less (suc b) (suc i) r (v ∷ e) h = less_same (beyond_less b i r e (omega arith))
 
-pub all_with : {R : Type 0} (P : R → Type 0) (i : ℕ) (r : R) (e : Places R) → P r → AllPlaces P e → AllPlaces P (with_term i r e)
+pub all_with : {R : Type 0} (P : R → Type 0) (i : ℕ) (r : R) (e : Places R) → P r → AllPlaces P e →
+    AllPlaces P (with_term i r e)
 all_with P i r [] p h = tt
 all_with P zero r (None ∷ e) p h = (p, h)
 all_with P zero r (Some u ∷ e) p h = (p, h.1)
@@ -204,22 +218,29 @@ all_with P (suc i) r (None ∷ e) p h = all_with P i r e p h
 all_with P (suc i) r (Some u ∷ e) p h = (h.0, all_with P i r e p h.1)
 
 -- one more place, given a term before the others
-bound_more : {R : Type 0} {P : R → Type 0} {b i : ℕ} {e f : Places R} {T U : List ℕ} (r : R) → slice_get e i ≡ Some None → NatLess b i → Bound P b (with_term i r e) (if nat_lt i b then i ∷ T else T) f U → Bound P b e T f U
+bound_more : {R : Type 0} {P : R → Type 0} {b i : ℕ} {e f : Places R} {T U : List ℕ} (r : R) →
+    slice_get e i ≡ Some None → NatLess b i → Bound P b (with_term i r e) (if nat_lt i b then i ∷ T else T) f U →
+    Bound P b e T f U
 bound_more {b = b} {i} {e} {f} {T} {U} r free (below h) x = record {
   new = x.new ++ (i ∷ []);
   are = x.are ∙ ap (λ A. x.new ++ A) (if_less (i ∷ T) T i b h) ∙ append_assoc x.new (i ∷ []) T;
-  back = subst (λ g. Less g e) (sym (take_cleared b i (undone x.new f)) ∙ ap (take b) (sym (undone_append x.new (i ∷ []) f))) (less_trans (cleared_keeps i x.back) (unbind_less i r e free));
+  back = subst (λ g. Less g e) (sym (take_cleared b i (undone x.new f)) ∙
+      ap (take b) (sym (undone_append x.new (i ∷ []) f)))
+      (less_trans (cleared_keeps i x.back) (unbind_less i r e free));
   same = x.same ∙ length_with i r e;
   all = x.all;
 }
 bound_more {b = b} {i} {e} {f} {T} {U} r free (above_it h) x = record {
   new = x.new;
   are = x.are ∙ ap (λ A. x.new ++ A) (if_more (i ∷ T) T i b h);
-  back = subst (λ g. Less g e) (take_less b b (undone x.new f) (omega arith)) (less_trans (take_keeps b x.back) (beyond_less b i r e h));
+  back = subst (λ g. Less g e) (take_less b b (undone x.new f) (omega arith))
+      (less_trans (take_keeps b x.back) (beyond_less b i r e h));
   same = x.same ∙ length_with i r e;
   all = x.all;
 }
 
-pub bound_so : {R : Type 0} {P : R → Type 0} {b : ℕ} {e f : Places R} {T U : List ℕ} → Binds P b e T f U → AllPlaces P e → Bound P b e T f U
+pub bound_so : {R : Type 0} {P : R → Type 0} {b : ℕ} {e f : Places R} {T U : List ℕ} → Binds P b e T f U →
+    AllPlaces P e → Bound P b e T f U
 bound_so {b = b} {e = e} binds_none h = record { new = []; are = refl; back = less_taken b e; same = refl; all = h }
-bound_so {P = P} {b = b} {e = e} (binds_one i r free p x) h = bound_more r free (nat_less b i) (bound_so x (all_with P i r e p h))
+bound_so {P = P} {b = b} {e = e} (binds_one i r free p x) h =
+    bound_more r free (nat_less b i) (bound_so x (all_with P i r e p h))

@@ -2,6 +2,7 @@
 use Rattle.std.proofs.Common.{◌≡◌, ℕ, zero, suc, ◌-◌, ◌≤◌, Option, Some, None, List, [], ◌∷◌, length, take, map, ◌++◌, refl, sym, ◌∙◌, ap, arith, subst, length-append}
 use Rattle.std.specs.Prelude.{Bool, true, false, replicate}
 use Rattle.std.specs.Option.{option_map}
+use Rattle.std.proofs.lemmas.List.{map-append}
 use Rattle.term_model.specs.Term.{Tree, end, more}
 use Rattle.term_model.specs.Flat.{Meaning}
 use Rattle.core_lang.specs.Environment.{Bindings, empty_places, filled_places}
@@ -81,10 +82,6 @@ map_length f (v ∷ l) = ap suc (map_length f l)
 map_none : {A B : Type 0} (f : A → B) (k : ℕ) → map (option_map f) (replicate k None) ≡ replicate k None
 map_none f zero = refl
 map_none f (suc k) = ap (λ A. None ∷ A) (map_none f k)
-
-map_grown : {A B : Type 0} (f : A → B) (l m : List A) → map f (l ++ m) ≡ map f l ++ map f m
-map_grown f [] m = refl
-map_grown f (v ∷ l) m = ap (λ n. f v ∷ n) (map_grown f l m)
 
 low_taken : {A : Type 0} (b d : ℕ) (l : List A) → b ≤ d → b ≤ length l → b ≤ length (take d l)
 low_taken zero d l h k = omega arith
@@ -233,8 +230,8 @@ module _ {W R Y N : Type 0} {S : Space W R Y N} where
       ap (λ A. A ++ (filled_places (trees (S.term_of w1) rs) ++ empty_places k)) (grown_places g e x)
       ∙ ap (λ A. map (option_map (S.term_of w1)) e ++ (A ++ empty_places k)) (filled_same (S.term_of w1) rs)
       ∙ ap (λ A. map (option_map (S.term_of w1)) e ++ (map (option_map (S.term_of w1)) (map (λ r. Some r) rs) ++ A)) (sym (map_none (S.term_of w1) k))
-      ∙ ap (λ A. map (option_map (S.term_of w1)) e ++ A) (sym (map_grown (option_map (S.term_of w1)) (map (λ r. Some r) rs) (replicate k None)))
-      ∙ sym (map_grown (option_map (S.term_of w1)) e (map (λ r. Some r) rs ++ replicate k None))
+      ∙ ap (λ A. map (option_map (S.term_of w1)) e ++ A) (sym (map-append (option_map (S.term_of w1)) (map (λ r. Some r) rs) (replicate k None)))
+      ∙ sym (map-append (option_map (S.term_of w1)) e (map (λ r. Some r) rs ++ replicate k None))
 
   grown_trees : {w w1 : W} → Keeps S w w1 → (rs : List R) → AllRefs (Stands S w) rs → trees (S.term_of w) rs ≡ trees (S.term_of w1) rs
   grown_trees {w} {w1} g rs x = sym (trees_same (Stands S w) (S.term_of w) (S.term_of w1) g.terms rs x)
@@ -327,7 +324,7 @@ module _ {W R Y N : Type 0} {S : Space W R Y N} where
   does_so {w = w} {i = i} {p} {b} {l} {t} {e} {F} {T} {K} (leaves_low {base = base} is low) st safe =
       (ap (left F T b (map (record_tree (S.term_of w)) K) l (suc i) p (S.term_of w t) (map (option_map (S.term_of w)) e)) is ∙ if_less _ _ base b low, tt)
   does_so {w = w} {i = i} {p} {b} {l} {t} {e} {F} {T} {K} (extends {k = k}) st safe =
-      (run_same refl (ap (λ A. map (option_map (S.term_of w)) e ++ A) (sym (map_none (S.term_of w) k)) ∙ sym (map_grown (option_map (S.term_of w)) e (replicate k None))) refl, (st, more_safe (replicate k None) (all_none (Stands S w) k) safe))
+      (run_same refl (ap (λ A. map (option_map (S.term_of w)) e ++ A) (sym (map_none (S.term_of w) k)) ∙ sym (map-append (option_map (S.term_of w)) e (replicate k None))) refl, (st, more_safe (replicate k None) (all_none (Stands S w) k) safe))
   does_so {w = w} {i = i} {p} {b} {l} {t} {e} {F} {T} {K} (shrinks {k = k} low) st safe = (
     ap (λ n. cut_to (n - k) b l (running (suc i) p (S.term_of w t) (take (n - k) (map (option_map (S.term_of w)) e)) F T b (map (record_tree (S.term_of w)) K) l)) (map_length (option_map (S.term_of w)) e)
         ∙ if_more (ended stuck l) (running (suc i) p (S.term_of w t) (take (length e - k) (map (option_map (S.term_of w)) e)) F T b (map (record_tree (S.term_of w)) K) l) (length e - k) b low
@@ -349,7 +346,7 @@ module _ {W R Y N : Type 0} {S : Space W R Y N} where
       (ap (returned p (S.term_of w t) (map (option_map (S.term_of w)) e) F T b (call_record a h ∷ map (record_tree (S.term_of w)) K) l) is ∙ if_less _ _ base b low, tt)
   does_so {w = w} {i = i} {p} {b} {l} {t} {e} {F} {T} {K} (enters {k = k}) st safe = (
     ap (λ n. running (suc i) (length F) (S.term_of w t) (map (option_map (S.term_of w)) e ++ empty_places k) (F ++ frame n p [] ∷ []) T b (map (record_tree (S.term_of w)) K) l) (map_length (option_map (S.term_of w)) e)
-        ∙ run_same refl (ap (λ A. map (option_map (S.term_of w)) e ++ A) (sym (map_none (S.term_of w) k)) ∙ sym (map_grown (option_map (S.term_of w)) e (replicate k None))) refl,
+        ∙ run_same refl (ap (λ A. map (option_map (S.term_of w)) e ++ A) (sym (map_none (S.term_of w) k)) ∙ sym (map-append (option_map (S.term_of w)) e (replicate k None))) refl,
     (st, more_safe (replicate k None) (all_none (Stands S w) k) safe),
   )
   does_so {w = w} {i = i} {p} {b} {l} {t} {e} {F} {T} {K} (tries {a = a} {m = m} mark) st safe = (

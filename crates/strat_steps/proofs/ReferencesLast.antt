@@ -10,30 +10,40 @@ use Rattle.strat_steps.specs.Marks.{Lasts, MarksCover}
 use Rattle.strat_steps.specs.ReferenceSteps.{Does, sticks, leaves_code, OnAll, OnOne, OnSome, Selecting, StepRef, StepsRef, all_goes_on, all_oversize, all_whole, answers, answers_none, answers_oversize, begins_all, begins_one, begins_some, builds, builds_none, builds_oversize, calls, calls_closure, calls_none, calls_oversize, cannot_pay, commits, counts, ends_argument, ends_definition, ends_definition_low, enters, extends, fails_all, fails_call, fails_choice, fails_one_last, fails_one_next, fails_some_last, fails_some_next, fails_some_none, fails_whole, finishes, gives_up_so, jumps, leaves, leaves_low, matches, matches_not, more_steps_ref, no_step_ref, one_goes_on, one_none, part_of_all, part_of_one, part_of_one_oversize, part_of_some, performs, selects, selects_spent, selects_later, selects_none, selects_this, shrinks, shrinks_low, some_goes_on, some_none, some_oversize, some_whole, tries}
 
 module _ {W R Y N : Type 0} {S : Space W R Y N} (r : R) where
-  selecting_lasts : {w : W} {last p b : ℕ} {t : R} {e : Places R} {F : List Frame} {T : List ℕ} {K : List (RefRecord R Y)} {cs : List Case} {l : ℕ} {m1 : RefState R Y} → Selecting S w last p t e F T b K cs l m1 → Stands S w r → MarksCover S r K → Lasts S r w m1
+  selecting_lasts : {w : W} {last p b : ℕ} {t : R} {e : Places R} {F : List Frame} {T : List ℕ}
+      {K : List (RefRecord R Y)} {cs : List Case} {l : ℕ} {m1 : RefState R Y} →
+      Selecting S w last p t e F T b K cs l m1 → Stands S w r → MarksCover S r K → Lasts S r w m1
   selecting_lasts selects_none st c = (st, c)
   selecting_lasts (selects_this can mark) st c = (st, ((mark.exactly r).1 st, c))
   selecting_lasts (selects_later can pays x) st c = selecting_lasts x st c
   selecting_lasts (selects_spent can at_once) st c = st
 
-  all_lasts : {w w1 : W} {body after p b l : ℕ} {t : R} {e : Places R} {F : List Frame} {T : List ℕ} {K : List (RefRecord R Y)} {done rest : List R} {m1 : RefState R Y} → OnAll S w body after p t e F T b K l done rest w1 m1 → Stands S w r → MarksCover S r K →
+  all_lasts : {w w1 : W} {body after p b l : ℕ} {t : R} {e : Places R} {F : List Frame} {T : List ℕ}
+      {K : List (RefRecord R Y)} {done rest : List R} {m1 : RefState R Y} →
+      OnAll S w body after p t e F T b K l done rest w1 m1 → Stands S w r → MarksCover S r K →
       (S.term_of w1 r ≡ S.term_of w r) × Lasts S r w1 m1
   all_lasts all_goes_on st c = (refl, (st, c))
   all_lasts (all_whole g su h) st c = (g.terms r st, (g.standing r st, c))
   all_lasts (all_oversize g h) st c = (g.terms r st, g.standing r st)
 
-  one_lasts : {w : W} {body after p b l : ℕ} {t : R} {e : Places R} {F : List Frame} {T : List ℕ} {K : List (RefRecord R Y)} {done rest : List R} {m1 : RefState R Y} → OnOne S w body after p t e F T b K l done rest m1 → Stands S w r → MarksCover S r K → Lasts S r w m1
+  one_lasts : {w : W} {body after p b l : ℕ} {t : R} {e : Places R} {F : List Frame} {T : List ℕ}
+      {K : List (RefRecord R Y)} {done rest : List R} {m1 : RefState R Y} →
+      OnOne S w body after p t e F T b K l done rest m1 → Stands S w r → MarksCover S r K → Lasts S r w m1
   one_lasts (one_goes_on mark) st c = (st, ((mark.exactly r).1 st, c))
   one_lasts one_none st c = (st, c)
 
-  some_lasts : {w w1 : W} {body after p b l : ℕ} {t : R} {e : Places R} {F : List Frame} {T : List ℕ} {K : List (RefRecord R Y)} {done rest : List R} {found : Bool} {m1 : RefState R Y} → OnSome S w body after p t e F T b K l done found rest w1 m1 → Stands S w r → MarksCover S r K →
+  some_lasts : {w w1 : W} {body after p b l : ℕ} {t : R} {e : Places R} {F : List Frame} {T : List ℕ}
+      {K : List (RefRecord R Y)} {done rest : List R} {found : Bool} {m1 : RefState R Y} →
+      OnSome S w body after p t e F T b K l done found rest w1 m1 → Stands S w r → MarksCover S r K →
       (S.term_of w1 r ≡ S.term_of w r) × Lasts S r w1 m1
   some_lasts (some_goes_on mark) st c = (refl, (st, ((mark.exactly r).1 st, c)))
   some_lasts (some_whole g su h) st c = (g.terms r st, (g.standing r st, c))
   some_lasts (some_oversize g h) st c = (g.terms r st, g.standing r st)
   some_lasts some_none st c = (refl, (st, c))
 
-  does_lasts : {M : Meaning} {w w1 : W} {v : Instr} {i p b l : ℕ} {t : R} {e : Places R} {F : List Frame} {T : List ℕ} {K : List (RefRecord R Y)} {m1 : RefState R Y} → Does S M w v i p t e F T b K l w1 m1 → Stands S w r → MarksCover S r K →
+  does_lasts : {M : Meaning} {w w1 : W} {v : Instr} {i p b l : ℕ} {t : R} {e : Places R} {F : List Frame} {T : List ℕ}
+      {K : List (RefRecord R Y)} {m1 : RefState R Y} → Does S M w v i p t e F T b K l w1 m1 → Stands S w r →
+      MarksCover S r K →
       (S.term_of w1 r ≡ S.term_of w r) × Lasts S r w1 m1
   does_lasts counts st c = (refl, (st, c))
   does_lasts gives_up_so st c = (refl, (st, c))
@@ -72,7 +82,8 @@ module _ {W R Y N : Type 0} {S : Space W R Y N} (r : R) where
   does_lasts (part_of_one g sx is) st c = (g.terms r st, (g.standing r st, c.1))
   does_lasts (part_of_one_oversize g is) st c = (g.terms r st, g.standing r st)
 
-  pub step_lasts : {code : Code} {M : Meaning} {w w1 : W} {m m1 : RefState R Y} → StepRef S code M w m w1 m1 → Lasts S r w m → (S.term_of w1 r ≡ S.term_of w r) × Lasts S r w1 m1
+  pub step_lasts : {code : Code} {M : Meaning} {w w1 : W} {m m1 : RefState R Y} → StepRef S code M w m w1 m1 →
+      Lasts S r w m → (S.term_of w1 r ≡ S.term_of w r) × Lasts S r w1 m1
   step_lasts (performs rest at cost x) h = does_lasts x h.0 h.1
   step_lasts (cannot_pay at cost) h = (refl, h.0)
   step_lasts (leaves_code none) h = (refl, h.0)
@@ -81,11 +92,14 @@ module _ {W R Y N : Type 0} {S : Space W R Y N} (r : R) where
   step_lasts fails_all h = (refl, h)
   step_lasts (fails_choice back) h = (back.terms r h.1.0, ((back.exactly r).1 h.1.0, h.1.1))
   step_lasts (fails_one_last back) h = (back.terms r h.1.0, ((back.exactly r).1 h.1.0, h.1.1))
-  step_lasts (fails_one_next back mark) h = (back.terms r h.1.0, ((back.exactly r).1 h.1.0, ((mark.exactly r).1 ((back.exactly r).1 h.1.0), h.1.1)))
+  step_lasts (fails_one_next back mark) h =
+      (back.terms r h.1.0, ((back.exactly r).1 h.1.0, ((mark.exactly r).1 ((back.exactly r).1 h.1.0), h.1.1)))
   step_lasts (fails_some_none back) h = (back.terms r h.1.0, ((back.exactly r).1 h.1.0, h.1.1))
   step_lasts (fails_some_last back) h = (back.terms r h.1.0, ((back.exactly r).1 h.1.0, h.1.1))
-  step_lasts (fails_some_next back mark) h = (back.terms r h.1.0, ((back.exactly r).1 h.1.0, ((mark.exactly r).1 ((back.exactly r).1 h.1.0), h.1.1)))
+  step_lasts (fails_some_next back mark) h =
+      (back.terms r h.1.0, ((back.exactly r).1 h.1.0, ((mark.exactly r).1 ((back.exactly r).1 h.1.0), h.1.1)))
 
-  pub steps_last : {code : Code} {M : Meaning} {k : ℕ} {w w1 : W} {m m1 : RefState R Y} → StepsRef S code M k w m w1 m1 → Lasts S r w m → (S.term_of w1 r ≡ S.term_of w r) × Lasts S r w1 m1
+  pub steps_last : {code : Code} {M : Meaning} {k : ℕ} {w w1 : W} {m m1 : RefState R Y} →
+      StepsRef S code M k w m w1 m1 → Lasts S r w m → (S.term_of w1 r ≡ S.term_of w r) × Lasts S r w1 m1
   steps_last no_step_ref h = (refl, h)
   steps_last (more_steps_ref x xs) h = let y = step_lasts x h in let z = steps_last xs y.1 in (z.0 ∙ y.0, z.1)

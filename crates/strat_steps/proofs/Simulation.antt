@@ -22,17 +22,23 @@ use Rattle.strat_steps.proofs.TraversalRows.{SimulatesAll, SimulatesOne, Simulat
 module _ (code : Code) (I : List Specialization) (vs : Specializations code I I) (M : Meaning) where
   mutual
     -- each range goes as its strategy does
-    pub simulates : {V : ResolvedEnvironment} {s : ResolvedStrategy} {t : Tree} {e : Bindings} {b c : ℕ} {q : Verdict Tree} → Goes by_coordinates M V s t e b q c → Simulates code I M V s t e b q c
+    pub simulates : {V : ResolvedEnvironment} {s : ResolvedStrategy} {t : Tree} {e : Bindings} {b c : ℕ}
+        {q : Verdict Tree} → Goes by_coordinates M V s t e b q c → Simulates code I M V s t e b q c
     simulates {V} {s} {t} {e} go_spent = spent_row code I M V s t e
     simulates {V} {t = t} {e} (go_id {c = c}) = id_row code I M V t e c
     simulates {V} {t = t} {e} (go_fail {c = c}) = fail_row code I M V t e c
     simulates (go_seq {b = b} {d = d} x y) = seq_row code I M b d (simulates x) (simulates y)
     simulates (go_seq_end {b = b} x h) = seq_end_row code I M b (simulates x) h
-    simulates (go_then {b = b} {d = d} x y) = then_row code I M b d (simulates x) y (simulates y) (select_then code I M b d x (simulates x) y)
-    simulates (go_else {b = b} {d = d} x y) = else_row code I M b d (simulates x) (simulates y) (select_else code I M b d x (simulates x) y (simulates y) (simulates_chain y))
-    simulates (go_choice_halt {b = b} x h) = choice_halt_row code I M b (simulates x) h (select_halt code I M b x (simulates x) h)
+    simulates (go_then {b = b} {d = d} x y) =
+        then_row code I M b d (simulates x) y (simulates y) (select_then code I M b d x (simulates x) y)
+    simulates (go_else {b = b} {d = d} x y) =
+        else_row code I M b d (simulates x) (simulates y)
+        (select_else code I M b d x (simulates x) y (simulates y) (simulates_chain y))
+    simulates (go_choice_halt {b = b} x h) =
+        choice_halt_row code I M b (simulates x) h (select_halt code I M b x (simulates x) h)
     simulates (go_match {c = c} m) = match_row code I M c m
-    simulates {V} {t = t} {e} (go_no_match {p = p} {c = c} m) = no_match_row code I M c (none_tried code I M m (tried (by_coordinates.place_of V) p t e) refl)
+    simulates {V} {t = t} {e} (go_no_match {p = p} {c = c} m) =
+        no_match_row code I M c (none_tried code I M m (tried (by_coordinates.place_of V) p t e) refl)
     simulates (go_build {c = c}) = build_row code I M c
     simulates (go_scope {b = b} x) = scope_row code I M b (simulates x)
     simulates (go_all {b = b} {q = q} x) = all_row code I M b q (simulates_all x)
@@ -46,10 +52,12 @@ module _ (code : Code) (I : List Specialization) (vs : Specializations code I I)
     simulates (go_primitive {c = c}) = primitive_row code I M c
 
     -- also a chain of alternatives
-    simulates_chain : {V : ResolvedEnvironment} {s : ResolvedStrategy} {t : Tree} {e : Bindings} {b c : ℕ} {q : Verdict Tree} → Goes by_coordinates M V s t e b q c → SimulatesChain code I M V s t e b q c
+    simulates_chain : {V : ResolvedEnvironment} {s : ResolvedStrategy} {t : Tree} {e : Bindings} {b c : ℕ}
+        {q : Verdict Tree} → Goes by_coordinates M V s t e b q c → SimulatesChain code I M V s t e b q c
     simulates_chain go_spent = λ w C cs last to p F T bar K l choices rep on_top low is. absurd (omega arith)
     simulates_chain (go_then {b = b} {d = d} x y) = select_then code I M b d x (simulates x) y
-    simulates_chain (go_else {b = b} {d = d} x y) = select_else code I M b d x (simulates x) y (simulates y) (simulates_chain y)
+    simulates_chain (go_else {b = b} {d = d} x y) =
+        select_else code I M b d x (simulates x) y (simulates y) (simulates_chain y)
     simulates_chain (go_choice_halt {b = b} x h) = select_halt code I M b x (simulates x) h
     simulates_chain {V} {s} {t} {e} {b} {c} {q} go_id = none_selected code I M V _ t e _ _ _ tt
     simulates_chain {V} {s} {t} {e} {b} {c} {q} go_fail = none_selected code I M V _ t e _ _ _ tt
@@ -70,7 +78,8 @@ module _ (code : Code) (I : List Specialization) (vs : Specializations code I I)
     simulates_chain {V} {s} {t} {e} {b} {c} {q} go_primitive = none_selected code I M V _ t e _ _ _ tt
 
     -- also where the places of a scope are there
-    simulates_body : {V : ResolvedEnvironment} {s : ResolvedStrategy} {t : Tree} {e : Bindings} {b c : ℕ} {q : Verdict Tree} → Goes by_coordinates M V s t e b q c → SimulatesBody code I M V s t e b q c
+    simulates_body : {V : ResolvedEnvironment} {s : ResolvedStrategy} {t : Tree} {e : Bindings} {b c : ℕ}
+        {q : Verdict Tree} → Goes by_coordinates M V s t e b q c → SimulatesBody code I M V s t e b q c
     simulates_body {V} {s} {t} {e} go_spent = spent_inside code I M V s t e
     simulates_body {V} {s} {t} {e} {b} {c} {q} go_id = none_inside code I M V _ t e _ _ _ tt
     simulates_body {V} {s} {t} {e} {b} {c} {q} go_fail = none_inside code I M V _ t e _ _ _ tt
@@ -93,20 +102,28 @@ module _ (code : Code) (I : List Specialization) (vs : Specializations code I I)
     simulates_body {V} {s} {t} {e} {b} {c} {q} (go_nowhere callee) = none_inside code I M V _ t e _ _ _ tt
     simulates_body {V} {s} {t} {e} {b} {c} {q} go_primitive = none_inside code I M V _ t e _ _ _ tt
 
-    simulates_all : {V : ResolvedEnvironment} {s : ResolvedStrategy} {ts : Trees} {e : Bindings} {b c : ℕ} {q : Verdict Trees} → GoesAll by_coordinates M V s ts e b q c → SimulatesAll code I M V s ts e b q c
+    simulates_all : {V : ResolvedEnvironment} {s : ResolvedStrategy} {ts : Trees} {e : Bindings} {b c : ℕ}
+        {q : Verdict Trees} → GoesAll by_coordinates M V s ts e b q c → SimulatesAll code I M V s ts e b q c
     simulates_all (go_all_end {c = c}) = all_end_row code I M c
-    simulates_all (go_all_next {b = b} {d = d} {q = q} x y) = all_next_row code I M b d q (simulates x) (simulates_all y)
+    simulates_all (go_all_next {b = b} {d = d} {q = q} x y) =
+        all_next_row code I M b d q (simulates x) (simulates_all y)
     simulates_all (go_all_stop {b = b} x h) = all_stop_row code I M b (simulates x) h
 
-    simulates_one : {V : ResolvedEnvironment} {s : ResolvedStrategy} {ts : Trees} {e : Bindings} {b c : ℕ} {q : Verdict Trees} → GoesOne by_coordinates M V s ts e b q c → SimulatesOne code I M V s ts e b q c
+    simulates_one : {V : ResolvedEnvironment} {s : ResolvedStrategy} {ts : Trees} {e : Bindings} {b c : ℕ}
+        {q : Verdict Trees} → GoesOne by_coordinates M V s ts e b q c → SimulatesOne code I M V s ts e b q c
     simulates_one (go_one_end {c = c}) = one_end_row code I M c
     simulates_one (go_one_found {b = b} x) = one_found_row code I M b (simulates x)
     simulates_one (go_one_halt {b = b} x h) = one_halt_row code I M b (simulates x) h
-    simulates_one (go_one_next {b = b} {d = d} {q = q} x y) = one_next_row code I M b d q (simulates x) (simulates_one y)
+    simulates_one (go_one_next {b = b} {d = d} {q = q} x y) =
+        one_next_row code I M b d q (simulates x) (simulates_one y)
 
-    simulates_some : {V : ResolvedEnvironment} {s : ResolvedStrategy} {ts : Trees} {e : Bindings} {found : Bool} {b c : ℕ} {q : Verdict Trees} → GoesSome by_coordinates M V s ts e found b q c → SimulatesSome code I M V s ts e found b q c
+    simulates_some : {V : ResolvedEnvironment} {s : ResolvedStrategy} {ts : Trees} {e : Bindings} {found : Bool}
+        {b c : ℕ} {q : Verdict Trees} → GoesSome by_coordinates M V s ts e found b q c →
+        SimulatesSome code I M V s ts e found b q c
     simulates_some (go_some_end {c = c}) = some_end_row code I M c
     simulates_some (go_some_none {c = c}) = some_none_row code I M c
-    simulates_some (go_some_found {b = b} {d = d} {q = q} x y) = some_found_row code I M b d q (simulates x) (simulates_some y)
-    simulates_some (go_some_stays {b = b} {d = d} {q = q} x y) = some_stays_row code I M b d q (simulates x) (simulates_some y)
+    simulates_some (go_some_found {b = b} {d = d} {q = q} x y) =
+        some_found_row code I M b d q (simulates x) (simulates_some y)
+    simulates_some (go_some_stays {b = b} {d = d} {q = q} x y) =
+        some_stays_row code I M b d q (simulates x) (simulates_some y)
     simulates_some (go_some_halt {b = b} x h) = some_halt_row code I M b (simulates x) h

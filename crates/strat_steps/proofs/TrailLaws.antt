@@ -42,9 +42,6 @@ take_grown zero l m h = refl
 take_grown (suc a) [] m h = absurd (omega arith)
 take_grown (suc a) (v ∷ l) m h = ap (λ n. v ∷ n) (take_grown a l m (omega arith))
 
-pub take_front : {A : Type 0} (l m : List A) → take (length l) (l ++ m) ≡ l
-take_front l m = take_grown (length l) l m (omega arith) ∙ take_whole l
-
 lt_true : (a b : ℕ) → a < b → nat_lt a b ≡ true
 lt_true a b h = lt-ltb a b h
 
@@ -69,7 +66,8 @@ down_self (i ∷ T) h l = if_more _ _ h (suc (length T)) l
 pub above_new : (new T : List ℕ) → above (length T) (new ++ T) ≡ new
 above_new [] T = above_self T (length T) (omega arith)
 above_new (i ∷ new) T =
-    if_less _ _ (length T) (suc (length (new ++ T))) (let h = length-append new T in omega arith) ∙ ap (λ l. i ∷ l) (above_new new T)
+    if_less _ _ (length T) (suc (length (new ++ T))) (let h = length-append new T in omega arith) ∙
+    ap (λ l. i ∷ l) (above_new new T)
 
 pub down_new : (new T : List ℕ) → down_to (length T) (new ++ T) ≡ T
 down_new [] T = down_self T (length T) (omega arith)
@@ -90,10 +88,13 @@ trim_on : {X : Type 0} (i d : ℕ) (new T U : List ℕ) → d ≤ i → Trimmed 
 trim_on i d new T U h t = record {
   kept = t.kept;
   are = t.are;
-  undo_same = λ e. t.undo_same e ∙ ap (undone new) (sym (cleared_beyond i (take d e) (let k = length-take d e in let m = min-le_left d (length e) in omega arith)));
+  undo_same = λ e. t.undo_same e ∙
+      ap (undone new) (sym (cleared_beyond i (take d e) (let k = length-take d e in let m = min-le_left d (length e) in
+      omega arith)));
 }
 
-trim_cases : {X : Type 0} (v : Bool) (i d : ℕ) (new T U : List ℕ) → nat_lt i d ≡ v → Trimmed X d new T U → Trimmed X d (i ∷ new) T (if v then i ∷ (new ++ T) else U)
+trim_cases : {X : Type 0} (v : Bool) (i d : ℕ) (new T U : List ℕ) → nat_lt i d ≡ v → Trimmed X d new T U →
+    Trimmed X d (i ∷ new) T (if v then i ∷ (new ++ T) else U)
 trim_cases true i d new T U h t = record { kept = i ∷ new; are = refl; undo_same = λ e. refl }
 trim_cases false i d new T U h t = trim_on i d new T U (ltb-false i d h) t
 
@@ -110,7 +111,8 @@ pub restores_same : (b : ℕ) (e : Bindings) → Restores b e [] e
 restores_same b e = refl
 
 -- one after the other
-pub restores_then : (b : ℕ) (e f g : Bindings) (A B : List ℕ) → Restores b e A f → Restores b f B g → Restores b e (B ++ A) g
+pub restores_then : (b : ℕ) (e f g : Bindings) (A B : List ℕ) → Restores b e A f → Restores b f B g →
+    Restores b e (B ++ A) g
 restores_then b e f g A B h k = undone_append B A (take b g) ∙ ap (undone A) k ∙ h
 
 -- with a lower barrier
@@ -129,5 +131,6 @@ restores_grown b e g f A l h = h ∙ take_grown b e g l
 pub restores_taken : (b l : ℕ) (e f : Bindings) (A : List ℕ) → b ≤ l → Restores b e A f → Restores b e A (take l f)
 restores_taken b l e f A k h = ap (undone A) (take_less b l f k) ∙ h
 
-pub restores_trimmed : (d : ℕ) (e f : Bindings) (new T U : List ℕ) (t : Trimmed Tree d new T U) → Restores d e new f → Restores d e t.kept f
+pub restores_trimmed : (d : ℕ) (e f : Bindings) (new T U : List ℕ) (t : Trimmed Tree d new T U) → Restores d e new f →
+    Restores d e t.kept f
 restores_trimmed d e f new T U t h = t.undo_same f ∙ h

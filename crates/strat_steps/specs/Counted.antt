@@ -1,3 +1,4 @@
+-- The headline does not rest on this file.
 -- In each traversal no part is lost.
 use Rattle.std.specs.Prelude.{◌≡◌, ℕ, suc, ◌+◌, List, [], ◌∷◌, length}
 use Rattle.term_model.specs.Term.{list_of, parts_of}
@@ -8,8 +9,10 @@ abbrev pub IsCounted : Record → Type 0
 IsCounted (call_record a h) = Unit {0}
 IsCounted (choice_record a t s) = Unit {0}
 IsCounted (all_record body next t done left) = length (list_of done) + suc (length (list_of left)) ≡ length (parts_of t)
-IsCounted (one_record body next t done u left s) = length (list_of done) + suc (length (list_of left)) ≡ length (parts_of t)
-IsCounted (some_record body next t done u left found s) = length (list_of done) + suc (length (list_of left)) ≡ length (parts_of t)
+IsCounted (one_record body next t done u left s) =
+    length (list_of done) + suc (length (list_of left)) ≡ length (parts_of t)
+IsCounted (some_record body next t done u left found s) =
+    length (list_of done) + suc (length (list_of left)) ≡ length (parts_of t)
 
 abbrev pub AllCounted : List Record → Type 0
 AllCounted [] = Unit {0}

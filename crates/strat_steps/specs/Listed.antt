@@ -1,3 +1,4 @@
+-- The headline does not rest on this file.
 -- A list of trees as a space, for the laws.
 use Rattle.std.specs.Prelude.{ℕ, Option, Some, None, List, length, slice_get, true, nat_lt, nat_le}
 use Rattle.term_model.specs.declared.term.Head.TheVariants as heads

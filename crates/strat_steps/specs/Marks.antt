@@ -1,3 +1,4 @@
+-- The headline does not rest on this file.
 -- What marks cover while the machine runs over references into a space.
 use Rattle.std.specs.Prelude.{ℕ, ◌≤◌, Bool, List, [], ◌∷◌, length, take}
 use Rattle.strat_steps.specs.State.{saved}
@@ -15,18 +16,25 @@ module _ {W R Y N : Type 0} (S : Space W R Y N) where
 
   pub data Covered : Places R → List ℕ → ℕ → List (RefRecord R Y) → Type 0 where
     nothing_covered : {e : Places R} {T : List ℕ} {b : ℕ} → Covered e T b []
-    call_covered : {e : Places R} {T : List ℕ} {a h b : ℕ} {K : List (RefRecord R Y)} → Covered e T b K → Covered e T b (ref_call a h ∷ K)
-    all_covered : {e : Places R} {T : List ℕ} {body after b : ℕ} {t : R} {done rest : List R} {K : List (RefRecord R Y)} → Covered e T b K →
+    call_covered : {e : Places R} {T : List ℕ} {a h b : ℕ} {K : List (RefRecord R Y)} → Covered e T b K →
+        Covered e T b (ref_call a h ∷ K)
+    all_covered : {e : Places R} {T : List ℕ} {body after b : ℕ} {t : R} {done rest : List R}
+        {K : List (RefRecord R Y)} → Covered e T b K →
         Covered e T b (ref_all body after t done rest ∷ K)
-    choice_covered : {e : Places R} {T : List ℕ} {a q k h d b : ℕ} {t : R} {m : Y} {K : List (RefRecord R Y)} → Kept e T b h d m K → Covers S m t →
+    choice_covered : {e : Places R} {T : List ℕ} {a q k h d b : ℕ} {t : R} {m : Y} {K : List (RefRecord R Y)} →
+        Kept e T b h d m K → Covers S m t →
         Covered (take b (undone (above h T) e)) (down_to h T) d K → Covered e T b (ref_choice a t (saved q k h d) m ∷ K)
-    one_covered : {e : Places R} {T : List ℕ} {body after q k h d b : ℕ} {t u : R} {done rest : List R} {m : Y} {K : List (RefRecord R Y)} →
+    one_covered : {e : Places R} {T : List ℕ} {body after q k h d b : ℕ} {t u : R} {done rest : List R} {m : Y}
+        {K : List (RefRecord R Y)} →
         Kept e T b h d m K →
         Covers S m t → AllRefs (Covers S m) done → Covers S m u → AllRefs (Covers S m) rest →
-        Covered (take b (undone (above h T) e)) (down_to h T) d K → Covered e T b (ref_one body after t done u rest (saved q k h d) m ∷ K)
-    some_covered : {e : Places R} {T : List ℕ} {body after q k h d b : ℕ} {t u : R} {done rest : List R} {found : Bool} {m : Y} {K : List (RefRecord R Y)} → Kept e T b h d m K →
+        Covered (take b (undone (above h T) e)) (down_to h T) d K →
+        Covered e T b (ref_one body after t done u rest (saved q k h d) m ∷ K)
+    some_covered : {e : Places R} {T : List ℕ} {body after q k h d b : ℕ} {t u : R} {done rest : List R} {found : Bool}
+        {m : Y} {K : List (RefRecord R Y)} → Kept e T b h d m K →
         Covers S m t → AllRefs (Covers S m) done → Covers S m u → AllRefs (Covers S m) rest →
-        Covered (take b (undone (above h T) e)) (down_to h T) d K → Covered e T b (ref_some body after t done u rest found (saved q k h d) m ∷ K)
+        Covered (take b (undone (above h T) e)) (down_to h T) d K →
+        Covered e T b (ref_some body after t done u rest found (saved q k h d) m ∷ K)
 
   -- what holds of places and records: all stands, all marks are valid, and they cover what is restored with them
   pub record Safe (w : W) (e : Places R) (T : List ℕ) (b : ℕ) (K : List (RefRecord R Y)) : Type 0 where

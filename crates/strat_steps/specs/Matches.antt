@@ -1,3 +1,4 @@
+-- The headline does not rest on this file.
 -- Attempts to match over references into a space.
 use Rattle.std.specs.Prelude.{◌≡◌, ℕ, Bool, true, false, IsTrue, Option, Some, None, List, [], ◌∷◌, map, take}
 use Rattle.std.specs.Option.{option_map}
@@ -9,26 +10,31 @@ use Rattle.core_lang.specs.Program.{Pattern, anything, variable, alias, integer,
 use Rattle.strat_steps.specs.Binding.{Attempt, attempt, and_go, attempted}
 use Rattle.strat_steps.specs.References.{Places, AllPlaces, AllRefs, Binds}
 
--- From the references e in the state w on, it came to the references f in the state w1. Over the trees that they are, the
--- attempt comes to what the rest of it comes to from there
-pub record Goes {W R Y N : Type 0} (S : Space W R Y N) (b : ℕ) (whole rest : Bindings → List ℕ → Attempt) (w : W) (e : Places R) (T : List ℕ) (w1 : W) (f : Places R) (U : List ℕ) : Type 0 where
+-- From the references e in the state w on, it came to the references f in the state w1. Over the trees that they are,
+-- the attempt comes to what the rest of it comes to from there
+pub record Goes {W R Y N : Type 0} (S : Space W R Y N) (b : ℕ) (whole rest : Bindings → List ℕ →
+    Attempt) (w : W) (e : Places R) (T : List ℕ) (w1 : W) (f : Places R) (U : List ℕ) : Type 0 where
   pub bound : Binds (λ r. IsTrue (S.stands w1 r)) b e T f U
   pub standing : AllPlaces (λ r. IsTrue (S.stands w1 r)) f
   pub comes_to : whole (map (option_map (S.term_of w)) e) T ≡ rest (map (option_map (S.term_of w1)) f) U
 
 -- the references stand for the first terms of the list, of which there are at most `count`
-pub record AreFirst {W R Y N : Type 0} (S : Space W R Y N) (w : W) (terms : List Tree) (count : ℕ) (rs : List R) : Type 0 where
+pub record AreFirst {W R Y N : Type 0} (S : Space W R Y N) (w : W) (terms : List Tree) (count : ℕ)
+    (rs : List R) : Type 0 where
   pub standing : AllRefs (λ r. IsTrue (S.stands w r)) rs
   pub are : map (S.term_of w) rs ≡ take count terms
 
 -- several patterns with the first n of several terms
-abbrev pub first_attempted : {X : Type 0} → (X → Option ℕ) → ℕ → List (Pattern X) → List Tree → Bindings → List ℕ → Attempt
+abbrev pub first_attempted : {X : Type 0} → (X → Option ℕ) → ℕ → List (Pattern X) → List Tree → Bindings → List ℕ →
+    Attempt
 first_attempted place b [] ts e T = attempt true e T
 first_attempted place b (p ∷ ps) [] e T = attempt false e T
-first_attempted place b (p ∷ ps) (t ∷ ts) e T = and_go (attempted place b p t e T) (λ f U. first_attempted place b ps ts f U)
+first_attempted place b (p ∷ ps) (t ∷ ts) e T =
+    and_go (attempted place b p t e T) (λ f U. first_attempted place b ps ts f U)
 
 -- the rest of a list, or that there is none
-abbrev pub rest_attempted : {X : Type 0} → (X → Option ℕ) → ℕ → Option (Pattern X) → List Tree → Bindings → List ℕ → Attempt
+abbrev pub rest_attempted : {X : Type 0} → (X → Option ℕ) → ℕ → Option (Pattern X) → List Tree → Bindings → List ℕ →
+    Attempt
 rest_attempted place b None [] e T = attempt true e T
 rest_attempted place b None (t ∷ ts) e T = attempt false e T
 rest_attempted place b (Some p) ts e T = attempted place b p (term heads.List ts []) e T

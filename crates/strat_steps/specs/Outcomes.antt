@@ -1,3 +1,4 @@
+-- The headline does not rest on this file.
 -- Outcomes of runs over references into a space.
 use Rattle.std.specs.Prelude.{ℕ}
 use Rattle.term_model.specs.Flat.{Meaning}
@@ -33,9 +34,10 @@ end_ref Failed l = ref_stopped run_failed l
 end_ref Oversize l = ref_stopped run_oversize l
 end_ref Spent l = ref_stopped run_spent l
 
--- the names of the code are brought into the space, which makes no term, and from there the machine has come to this outcome by as
--- many steps as the run has
-pub record Ran {W R Y N : Type 0} (S : Space W R Y N) (code : Code) (M : Meaning) (w : W) (t : R) (budget : ℕ) (w1 : W) (run : Run R) : Type 0 where
+-- the names of the code are brought into the space, which makes no term, and from there the machine has come to this
+-- outcome by as many steps as the run has
+pub record Ran {W R Y N : Type 0} (S : Space W R Y N) (code : Code) (M : Meaning) (w : W) (t : R) (budget : ℕ) (w1 : W)
+    (run : Run R) : Type 0 where
   pub loaded : W
   pub kept : Keeps S w loaded
   pub none : MakesNone S w loaded

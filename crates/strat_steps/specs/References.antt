@@ -1,3 +1,4 @@
+-- The headline does not rest on this file.
 -- The machine over references into a space: its states, and the trees that they are.
 use Rattle.std.specs.Prelude.{◌≡◌, ℕ, nat_lt, Bool, if◌then◌else◌, Option, Some, None, List, [], ◌∷◌, map, slice_get}
 use Rattle.std.specs.Option.{option_map}
@@ -18,7 +19,8 @@ pub data RefRecord (R Y : Type 0) : Type 0 where
   ref_some : (body after : ℕ) → R → (done : List R) → R → (rest : List R) → (found : Bool) → Saved → Y → RefRecord R Y
 
 pub data RefState (R Y : Type 0) : Type 0 where
-  ref_running : (at here : ℕ) → R → Places R → List Frame → List ℕ → (barrier : ℕ) → List (RefRecord R Y) → (left : ℕ) → RefState R Y
+  ref_running : (at here : ℕ) → R → Places R → List Frame → List ℕ → (barrier : ℕ) → List (RefRecord R Y) → (left : ℕ) →
+      RefState R Y
   ref_failing : Places R → List Frame → List ℕ → (barrier : ℕ) → List (RefRecord R Y) → (left : ℕ) → RefState R Y
   ref_rewritten : R → (left : ℕ) → RefState R Y
   ref_stopped : Result → (left : ℕ) → RefState R Y
@@ -33,7 +35,8 @@ record_tree f (ref_call a h) = call_record a h
 record_tree f (ref_choice a t s m) = choice_record a (f t) s
 record_tree f (ref_all body after t done rest) = all_record body after (f t) (trees f done) (trees f rest)
 record_tree f (ref_one body after t done u rest s m) = one_record body after (f t) (trees f done) (f u) (trees f rest) s
-record_tree f (ref_some body after t done u rest found s m) = some_record body after (f t) (trees f done) (f u) (trees f rest) found s
+record_tree f (ref_some body after t done u rest found s m) =
+    some_record body after (f t) (trees f done) (f u) (trees f rest) found s
 
 abbrev pub state_tree : {R Y : Type 0} → (R → Tree) → RefState R Y → State
 state_tree f (ref_running i p t e F T b K l) = running i p (f t) (map (option_map f) e) F T b (map (record_tree f) K) l

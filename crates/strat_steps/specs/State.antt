@@ -1,3 +1,4 @@
+-- The headline does not rest on this file.
 -- States of the machine, on the level of terms.
 use Rattle.std.specs.Prelude.{ℕ, zero, suc, ◌+◌, Bool, Option, Some, None, List, [], ◌∷◌, slice_get}
 use Rattle.term_model.specs.Term.{Tree, Trees}
@@ -5,18 +6,18 @@ use Rattle.core_lang.specs.declared.coordinate.Coordinate.{Coordinate}
 use Rattle.core_lang.specs.Environment.{Bindings}
 use Rattle.strat_code.specs.Code.{Argument, code_at, parameter_at}
 
--- A frame of a call or of a scope: its first place, the position of the frame around it, and the closures of its strategy
--- parameters. A closure is an address and the position of the frame that its code runs in
+-- A frame of a call or of a scope: its first place, the position of the frame around it, and the closures of its
+-- strategy parameters. A closure is an address and the position of the frame that its code runs in
 pub data Frame : Type 0 where
   frame : (base up : ℕ) → (closures : List (ℕ × ℕ)) → Frame
 
--- What a failure restores: the current frame, how many frames there were, how many entries the trail had, and the barrier
--- that held before. The places need no number, for the barrier that holds while the record is there is theirs
+-- What a failure restores: the current frame, how many frames there were, how many entries the trail had, and the
+-- barrier that held before. The places need no number, for the barrier that holds while the record is there is theirs
 pub data Saved : Type 0 where
   saved : (current frames height barrier : ℕ) → Saved
 
--- Control records. In a traversal record stand the address of the code for a part, the next address after the traversal, the
--- whole term, what the parts before have become (the last first), and the parts that are left
+-- Control records. In a traversal record stand the address of the code for a part, the next address after the
+-- traversal, the whole term, what the parts before have become (the last first), and the parts that are left
 pub data Record : Type 0 where
   -- of a call: the next address and the frame that is current again
   call_record : (next_address current : ℕ) → Record
@@ -27,7 +28,8 @@ pub data Record : Type 0 where
   -- of one(s), with the part that s is tried on
   one_record : (body next_address : ℕ) → Tree → (done : Trees) → Tree → (left : Trees) → Saved → Record
   -- of some(s), with that part, and whether s was ok on a part before
-  some_record : (body next_address : ℕ) → Tree → (done : Trees) → Tree → (left : Trees) → (found : Bool) → Saved → Record
+  some_record : (body next_address : ℕ) → Tree → (done : Trees) → Tree → (left : Trees) → (found : Bool) → Saved →
+      Record
 
 pub data Result : Type 0 where
   rewritten : Tree → Result
@@ -37,12 +39,13 @@ pub data Result : Type 0 where
   -- what code of no program may come to
   stuck : Result
 
--- The barrier is the number of places that there were when the last record that a failure goes back to was put on, and 0
--- where there is none: places below it are put on the trail when they are given a term
+-- The barrier is the number of places that there were when the last record that a failure goes back to was put on, and
+-- 0 where there is none: places below it are put on the trail when they are given a term
 pub data State : Type 0 where
-  -- at an address, in a frame, with the current term; the places, the frames, the trail and the records (the last first both),
-  -- and the budget that is left
-  running : (address current : ℕ) → Tree → Bindings → List Frame → (trail : List ℕ) → (barrier : ℕ) → List Record → (left : ℕ) → State
+  -- at an address, in a frame, with the current term; the places, the frames, the trail and the records (the last first
+  -- both), and the budget that is left
+  running : (address current : ℕ) → Tree → Bindings → List Frame → (trail : List ℕ) → (barrier : ℕ) → List Record →
+      (left : ℕ) → State
   -- a failure is being dealt with
   failing : Bindings → List Frame → (trail : List ℕ) → (barrier : ℕ) → List Record → (left : ℕ) → State
   ended : Result → (left : ℕ) → State

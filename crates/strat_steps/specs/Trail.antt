@@ -1,3 +1,4 @@
+-- The headline does not rest on this file.
 -- That the trail leads back to earlier places.
 use Rattle.std.specs.Prelude.{◌≡◌, ℕ, List, take}
 use Rattle.core_lang.specs.Environment.{Bindings}

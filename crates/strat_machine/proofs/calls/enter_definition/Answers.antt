@@ -12,5 +12,7 @@ returns g c =
     let us = map argument_of c.args.arguments.now in
     let more = c.in_ok-extend.ensures in
     same_run refl c.len-inner.ensures (ap (λ v. v.slots) more)
-    (c.in_ok-push_call.ensures.pushed ∙ ap (λ u. F ++ frame c.args.base u (closed F c.args.position.now.frame us) ∷ []) c.frames_up-up.ensures)
-    (ap (λ v. v.trail) more) (ap (λ v. v.barrier) more) (ap (λ rs. records_in rs m.records.done m.records.left) c.in_ok-push_call-2.ensures)
+    (c.in_ok-push_call.ensures.pushed ∙
+    ap (λ u. F ++ frame c.args.base u (closed F c.args.position.now.frame us) ∷ []) c.frames_up-up.ensures)
+    (ap (λ v. v.trail) more) (ap (λ v. v.barrier) more)
+    (ap (λ rs. records_in rs m.records.done m.records.left) c.in_ok-push_call-2.ensures)

@@ -7,4 +7,5 @@ pub returns-clause-step : goal.returns-clause-step
 returns-clause-step g c = λ code M.
     let places = c.go_back.ensures in
     step_to (fails_choice c.back_to.ensures)
-    (same_running (ap (λ v. v.slots) (sym places)) (sym c.cut.ensures) (ap (λ v. v.trail) (sym places)) (ap (λ v. v.barrier) (sym places)) refl)
+    (same_running (ap (λ v. v.slots) (sym places)) (sym c.cut.ensures) (ap (λ v. v.trail) (sym places))
+    (ap (λ v. v.barrier) (sym places)) refl)

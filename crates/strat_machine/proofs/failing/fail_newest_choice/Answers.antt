@@ -8,4 +8,5 @@ use Rattle.strat_machine.proofs.failing.fail_newest_choice.Goals as goal
 pub returns-in_default-clause-step : goal.returns-in_default-clause-step
 returns-in_default-clause-step g c = λ code M.
     let m = c.args.stacks.now in
-    step_from fails_whole (ap (λ rs. ref_failing m.places.slots m.frames m.places.trail m.places.barrier (records_in rs m.records.done m.records.left) m.left) (sym (c.requires.choice c.in_default.ensures.1)))
+    step_from fails_whole (ap (λ rs. ref_failing m.places.slots m.frames m.places.trail m.places.barrier
+    (records_in rs m.records.done m.records.left) m.left) (sym (c.requires.choice c.in_default.ensures.1)))

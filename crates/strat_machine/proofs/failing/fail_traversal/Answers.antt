@@ -8,8 +8,10 @@ use Rattle.strat_machine.proofs.failing.fail_traversal.Goals as goal
 pub returns-in_default-clause-step : goal.returns-in_default-clause-step
 returns-in_default-clause-step g c = λ code M.
     let m = c.args.stacks.now in
-    step_from fails_whole (ap (λ rs. ref_failing m.places.slots m.frames m.places.trail m.places.barrier (records_in rs m.records.done m.records.left) m.left) (sym c.in_default.ensures))
+    step_from fails_whole (ap (λ rs. ref_failing m.places.slots m.frames m.places.trail m.places.barrier
+    (records_in rs m.records.done m.records.left) m.left) (sym c.in_default.ensures))
 
 pub returns-in-All-clause-step : goal.returns-in-All-clause-step
 returns-in-All-clause-step g c = λ code M.
-    step_at _ _ (step_to fails_all (same_failing refl refl refl refl (ap (λ rs. records_of rs) (sym c.cut.ensures)))) c.in-Some.ensures c.in-All.is
+    step_at _ _ (step_to fails_all (same_failing refl refl refl refl (ap (λ rs. records_of rs) (sym c.cut.ensures))))
+    c.in-Some.ensures c.in-All.is

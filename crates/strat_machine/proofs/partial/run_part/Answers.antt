@@ -8,7 +8,9 @@ use Rattle.strat_machine.proofs.partial.run_part.Goals as goal
 pub loop-alloc-init : goal.loop-alloc-init
 loop-alloc-init g c =
     let s = g.S.TermSpace.space in
-    started s (code_of c.args.code.now.tables c.args.code.now.instrs) (meaning_of g.M.PrimMeaning.answer c.args.registry.now) c.args.space.now c.args.term c.args.budget c.args.stacks.now c.requires.clear
+    started s (code_of c.args.code.now.tables c.args.code.now.instrs)
+    (meaning_of g.M.PrimMeaning.answer c.args.registry.now)
+    c.args.space.now c.args.term c.args.budget c.args.stacks.now c.requires.clear
 
 pub step-requires-clause-holds : goal.step-requires-clause-holds
 step-requires-clause-holds g c = way_holds c.loop-alloc.invariant c.requires.stands
@@ -17,17 +19,20 @@ pub step-requires-clause-counted : goal.step-requires-clause-counted
 step-requires-clause-counted g c = way_counted c.loop-alloc.invariant c.requires.stands
 
 pub step-requires-clause-loaded : goal.step-requires-clause-loaded
-step-requires-clause-loaded g c = let names = c.loop-alloc.invariant.names in program_later names.known names.symbols _ c.requires.loaded
+step-requires-clause-loaded g c = let names = c.loop-alloc.invariant.names in
+    program_later names.known names.symbols _ c.requires.loaded
 
 pub overflow_add-steps : goal.overflow_add-steps
 overflow_add-steps g c =
-    let low : c.loop-alloc.steps < 10 * c.args.budget + 10 = in_time c.instrs.ensures.stands c.requires.stands c.loop-alloc.invariant (c.loop-alloc-test.ensures.0 refl) in
+    let low : c.loop-alloc.steps < 10 * c.args.budget + 10 =
+    in_time c.instrs.ensures.stands c.requires.stands c.loop-alloc.invariant (c.loop-alloc-test.ensures.0 refl) in
     let small = c.ranges.budget.fits in
     omega arith
 
 pub loop-alloc-smaller : goal.loop-alloc-smaller
 loop-alloc-smaller g c =
-    let low : c.loop-alloc.steps < 10 * c.args.budget + 10 = in_time c.instrs.ensures.stands c.requires.stands c.loop-alloc.invariant (c.loop-alloc-test.ensures.0 refl) in
+    let low : c.loop-alloc.steps < 10 * c.args.budget + 10 =
+    in_time c.instrs.ensures.stands c.requires.stands c.loop-alloc.invariant (c.loop-alloc-test.ensures.0 refl) in
     omega arith
 
 pub loop-alloc-preserved : goal.loop-alloc-preserved

@@ -7,7 +7,8 @@ use Rattle.strat_machine.proofs.partial.run_part.Given as goal
 abbrev pub invariant-loop-alloc : goal.invariant-loop-alloc
 invariant-loop-alloc g l =
     let s = g.S.TermSpace.space in
-    UnderWay s (code_of l.code.tables l.code.instrs) (meaning_of g.M.PrimMeaning.answer l.registry) l.initial.space l.fn.term l.budget l.steps l.space l.next l.position l.stacks
+    UnderWay s (code_of l.code.tables l.code.instrs) (meaning_of g.M.PrimMeaning.answer l.registry)
+    l.initial.space l.fn.term l.budget l.steps l.space l.next l.position l.stacks
 
 abbrev pub decreases-loop-alloc : goal.decreases-loop-alloc
 decreases-loop-alloc g l = 10 * l.budget + 10 - l.steps

@@ -13,7 +13,9 @@ returns-clause-step g c = λ M n i at.
     let frames = c.args.stacks.now.frames in
     let keeps = c.in_ok-built.ensures.keeps in
     let slots = c.slots-slots.ensures in
-    goes_on_so s M c.args.space.now c.build_term.new.space (build_term n q) i c.args.position.now c.go_on.new.position c.args.stacks.now _ c.go_on.result c.in_ok-built.built c.go_on.ensures.next c.go_on.ensures.position c.in_ok-built.ensures.built
+    goes_on_so s M c.args.space.now c.build_term.new.space (build_term n q)
+    i c.args.position.now c.go_on.new.position c.args.stacks.now _ c.go_on.result c.in_ok-built.built
+    c.go_on.ensures.next c.go_on.ensures.position c.in_ok-built.ensures.built
     (λ u h. builds_so n here q frames keeps slots h refl at)
     (λ h. builds_none_so n here q frames keeps slots h refl)
     (λ h. builds_large_so n here q frames keeps slots h refl)

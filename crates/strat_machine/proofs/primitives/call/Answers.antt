@@ -11,5 +11,8 @@ call_at-requires-clause-arity g c =
     let f = g.S.TermSpace.space.term_of c.args.space.now in
     let values = c.flat_values.new.values.items in
     let yes : c.in_ok-flat_values.field-0 ≡ true = search rules in
-    let is : Some (values_of values) ≡ all_flat (trees_of (map f c.args.terms.now)) = sym (ap (λ b. if b then Some (values_of values) else None) yes) ∙ c.in_ok-flat_values.ensures in
-    c.requires.arity ∙ (sym (length-map c.args.terms.now f) ∙ (sym (as_many_flat (map f c.args.terms.now) (values_of values) is) ∙ (length-map values value_of ∙ sym (ap length c.as_slice.ensures.value))))
+    let is : Some (values_of values) ≡ all_flat (trees_of (map f c.args.terms.now)) =
+    sym (ap (λ b. if b then Some (values_of values) else None) yes) ∙ c.in_ok-flat_values.ensures in
+    c.requires.arity ∙ (sym (length-map c.args.terms.now f) ∙
+    (sym (as_many_flat (map f c.args.terms.now) (values_of values) is) ∙
+    (length-map values value_of ∙ sym (ap length c.as_slice.ensures.value))))

@@ -21,20 +21,31 @@ answer-requires-clause-position g c =
     let xs = c.deref.result.now in
     let from = c.len-from.result in
     takes_them (entries_of c.args.registry.now) c.args.index
-    (as_many_put s c.build_all.new.space (place_at c.args.stacks.now.frames c.args.position.now.frame) (map (option_map (s.term_of c.args.space.now)) c.slots-slots.result.now) (loaded_of (s.symbol_of c.args.space.now)) c.args.patterns.now
-    c.args.scratch.now.terms.items c.build_all.new.stack.items c.in_ok-build_all.field-0 from (take (length xs - from) (drop from xs)) c.in_ok-build_all.ensures.built c.in-All.is (c.len-from.ensures ∙ c.args.scratch.now.terms.ok.0)
+    (as_many_put s c.build_all.new.space (place_at c.args.stacks.now.frames c.args.position.now.frame)
+    (map (option_map (s.term_of c.args.space.now)) c.slots-slots.result.now)
+    (loaded_of (s.symbol_of c.args.space.now)) c.args.patterns.now
+    c.args.scratch.now.terms.items c.build_all.new.stack.items c.in_ok-build_all.field-0 from
+    (take (length xs - from) (drop from xs)) c.in_ok-build_all.ensures.built c.in-All.is (c.len-from.ensures ∙
+    c.args.scratch.now.terms.ok.0)
     (slice_is from xs c.build_all.new.stack.items c.deref.ensures.value)) c.requires.index
 
 pub returns-in-NoInstance-clause-step : goal.returns-in-NoInstance-clause-step
 returns-in-NoInstance-clause-step g c = λ f n i position at.
-    answers_none_so n f c.args.position.now.frame (all_loaded_of (g.S.TermSpace.space.symbol_of c.args.space.now) c.args.patterns.now) c.args.stacks.now.frames c.in_ok-build_all.ensures.keeps c.slots-slots.ensures c.in_ok-build_all.ensures.built c.in-NoInstance.is
+    answers_none_so n f c.args.position.now.frame
+    (all_loaded_of (g.S.TermSpace.space.symbol_of c.args.space.now) c.args.patterns.now)
+    c.args.stacks.now.frames c.in_ok-build_all.ensures.keeps c.slots-slots.ensures c.in_ok-build_all.ensures.built
+    c.in-NoInstance.is
 
 pub returns-in-Oversize-clause-step : goal.returns-in-Oversize-clause-step
 returns-in-Oversize-clause-step g c = λ f n i position at.
-    answers_large_so n f c.args.position.now.frame (all_loaded_of (g.S.TermSpace.space.symbol_of c.args.space.now) c.args.patterns.now) c.args.stacks.now.frames c.in_ok-build_all.ensures.keeps c.slots-slots.ensures c.in_ok-build_all.ensures.built c.in-Oversize.is
+    answers_large_so n f c.args.position.now.frame
+    (all_loaded_of (g.S.TermSpace.space.symbol_of c.args.space.now) c.args.patterns.now)
+    c.args.stacks.now.frames c.in_ok-build_all.ensures.keeps c.slots-slots.ensures c.in_ok-build_all.ensures.built
+    c.in-Oversize.is
 
 pub returns-in_ok-answered-in-All-clause-keeps : goal.returns-in_ok-answered-in-All-clause-keeps
-returns-in_ok-answered-in-All-clause-keeps g c = keeps_then c.in_ok-build_all.ensures.keeps c.in_ok-answered-in-All.ensures.keeps
+returns-in_ok-answered-in-All-clause-keeps g c =
+    keeps_then c.in_ok-build_all.ensures.keeps c.in_ok-answered-in-All.ensures.keeps
 
 pub returns-in-Some-clause-step : goal.returns-in-Some-clause-step
 returns-in-Some-clause-step g c = λ f n i position at.
@@ -70,11 +81,22 @@ returns-in_ok-answered-in-All-clause-step g c = λ f n i position at.
     let put = c.in_ok-build_all.ensures.built in
     let keeps = c.in_ok-build_all.ensures.keeps in
     let later = c.in_ok-answered-in-All.ensures.keeps in
-    let many = as_many_put s c.build_all.new.space (place_at frames c.args.position.now.frame) (map (option_map (s.term_of c.args.space.now)) c.slots-slots.result.now) (loaded_of (s.symbol_of c.args.space.now)) c.args.patterns.now
-    c.args.scratch.now.terms.items c.build_all.new.stack.items c.in_ok-build_all.field-0 from rs put c.in-All.is start slice in
-    let built = c.in_ok-answered-in-All.ensures.answer f (subst (λ k. IsPosition (entries_of c.args.registry.now) c.args.index (f, k)) many position) in
-    goes_on_so s answer c.args.space.now c.answer.new.space (apply_primitive n f ps) i c.args.position.now c.go_on-in-All.new.position c.args.stacks.now
-    (option_map flat.term_of (option_and_then (answer f) (all_flat (trees_of (map (s.term_of c.build_all.new.space) rs))))) c.go_on-in-All.result c.in_ok-answered-in-All.answered c.go_on-in-All.ensures.next c.go_on-in-All.ensures.position built
-    (λ u h. answers_so n f c.args.position.now.frame ps frames keeps c.slots-slots.ensures put c.answer.new.space from rs c.in-All.is start slice later h at)
-    (λ h. answers_nothing_so n f c.args.position.now.frame ps frames keeps c.slots-slots.ensures put c.answer.new.space from rs c.in-All.is start slice later h)
-    (λ h. answers_too_large_so n f c.args.position.now.frame ps frames keeps c.slots-slots.ensures put c.answer.new.space from rs c.in-All.is start slice later h)
+    let many = as_many_put s c.build_all.new.space (place_at frames c.args.position.now.frame)
+    (map (option_map (s.term_of c.args.space.now)) c.slots-slots.result.now)
+    (loaded_of (s.symbol_of c.args.space.now)) c.args.patterns.now
+    c.args.scratch.now.terms.items c.build_all.new.stack.items c.in_ok-build_all.field-0 from rs put c.in-All.is start
+    slice in
+    let built = c.in_ok-answered-in-All.ensures.answer f
+    (subst (λ k. IsPosition (entries_of c.args.registry.now) c.args.index (f, k)) many position) in
+    goes_on_so s answer c.args.space.now c.answer.new.space (apply_primitive n f ps)
+    i c.args.position.now c.go_on-in-All.new.position c.args.stacks.now
+    (option_map flat.term_of (option_and_then (answer f)
+    (all_flat (trees_of (map (s.term_of c.build_all.new.space) rs)))))
+    c.go_on-in-All.result c.in_ok-answered-in-All.answered c.go_on-in-All.ensures.next
+    c.go_on-in-All.ensures.position built
+    (λ u h. answers_so n f c.args.position.now.frame ps frames keeps c.slots-slots.ensures put c.answer.new.space from
+    rs c.in-All.is start slice later h at)
+    (λ h. answers_nothing_so n f c.args.position.now.frame ps frames keeps c.slots-slots.ensures put c.answer.new.space
+    from rs c.in-All.is start slice later h)
+    (λ h. answers_too_large_so n f c.args.position.now.frame ps frames keeps c.slots-slots.ensures put
+    c.answer.new.space from rs c.in-All.is start slice later h)

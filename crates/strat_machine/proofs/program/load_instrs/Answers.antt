@@ -10,8 +10,12 @@ loop-instr-preserved g c =
     let so_far = c.loop-instr.invariant in (
       keeps_then so_far.0 keeps,
       none_then so_far.1 c.in_ok-action.ensures.none,
-      one_more_instr keys c.loop-instr.loaded.items c.push.new.self.items (record { nodes = c.nodes.result; action = c.in_ok-action.action }) c.args.instrs.now c.loop-instr.instr-index c.instr-item.result (instrs_later keeps.known keeps.symbols keys so_far.2)
-          (record { nodes = c.nodes.ensures; action = c.in_ok-action.ensures.loaded }) c.loop-instr-test.true c.instr-item.is c.in_ok-push.ensures.items,
+      one_more_instr keys c.loop-instr.loaded.items c.push.new.self.items
+          (record { nodes = c.nodes.result; action = c.in_ok-action.action })
+          c.args.instrs.now c.loop-instr.instr-index c.instr-item.result
+          (instrs_later keeps.known keeps.symbols keys so_far.2)
+          (record { nodes = c.nodes.ensures; action = c.in_ok-action.ensures.loaded })
+          c.loop-instr-test.true c.instr-item.is c.in_ok-push.ensures.items,
     )
 
 pub returns-in_err-action-clause-keeps : goal.returns-in_err-action-clause-keeps

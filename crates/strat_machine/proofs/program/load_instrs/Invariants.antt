@@ -7,4 +7,6 @@ use Rattle.strat_machine.proofs.program.load_instrs.Given as goal
 abbrev pub invariant-loop-instr : goal.invariant-loop-instr
 invariant-loop-instr g l =
     let s = g.S.TermSpace.space in
-    Keeps s l.initial.space l.space × MakesNone s l.initial.space l.space × AreLoadedInstrs (s.knows l.space) (s.symbol_of l.space) (entries_of l.registry) l.loaded.items (take l.instr-index l.instrs)
+    Keeps s l.initial.space l.space × MakesNone s l.initial.space l.space ×
+    AreLoadedInstrs (s.knows l.space) (s.symbol_of l.space) (entries_of l.registry)
+    l.loaded.items (take l.instr-index l.instrs)

@@ -11,4 +11,6 @@ returns g c = λ M w n i next.
     let K = records_of c.args.stacks.now.records in
     does_to calls_closure
     (same_run (ap (λ v. v.0) (sym closure)) (ap (λ v. v.1) (sym closure)) refl refl refl refl
-    (ap (λ a. ref_call a c.args.position.now.frame ∷ K) (sym next) ∙ ap (λ rs. records_in rs c.args.stacks.now.records.done c.args.stacks.now.records.left) (sym c.in_ok-push_call.ensures)))
+    (ap (λ a. ref_call a c.args.position.now.frame ∷ K) (sym next) ∙
+    ap (λ rs. records_in rs c.args.stacks.now.records.done c.args.stacks.now.records.left)
+    (sym c.in_ok-push_call.ensures)))

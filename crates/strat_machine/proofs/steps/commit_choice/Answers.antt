@@ -9,4 +9,6 @@ returns-in_default g c = λ M w n i. commits_nothing c.in_default.ensures
 pub returns : goal.returns
 returns g c = λ M w n i.
     let places = c.trim.ensures in
-    commits_this c.in-Some.ensures (does_to commits (same_run refl refl (ap (λ v. v.slots) (sym places)) refl (ap (λ v. v.trail) (sym places)) (ap (λ v. v.barrier) (sym places)) refl))
+    commits_this c.in-Some.ensures
+    (does_to commits (same_run refl refl (ap (λ v. v.slots) (sym places)) refl (ap (λ v. v.trail) (sym places))
+    (ap (λ v. v.barrier) (sym places)) refl))

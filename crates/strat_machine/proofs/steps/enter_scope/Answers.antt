@@ -10,5 +10,6 @@ returns g c = λ M w n i next.
     let places = c.in_ok-extend.ensures in
     does_to enters
     (same_run (sym next) (sym c.len-inner.ensures) (ap (λ v. v.slots) (sym places))
-    (ap (λ k. m.frames ++ frame k c.args.position.now.frame [] ∷ []) (sym c.len.ensures) ∙ sym c.in_ok-push_scope.ensures.pushed)
+    (ap (λ k. m.frames ++ frame k c.args.position.now.frame [] ∷ []) (sym c.len.ensures) ∙
+    sym c.in_ok-push_scope.ensures.pushed)
     (ap (λ v. v.trail) (sym places)) (ap (λ v. v.barrier) (sym places)) refl)

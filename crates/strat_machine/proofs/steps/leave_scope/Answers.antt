@@ -16,4 +16,5 @@ returns g c = λ M w i next.
     let k = c.barrier.ensures in let l = c.if-base-barrier.false in
     let places = c.cut.ensures in
     does_to (leaves (some_frame _ _ _ c.in-Some.ensures).1 (omega arith))
-    (same_run (sym next) refl (ap (λ v. v.slots) (sym places)) (sym c.cut-2.ensures) (ap (λ v. v.trail) (sym places)) (ap (λ v. v.barrier) (sym places)) refl)
+    (same_run (sym next) refl (ap (λ v. v.slots) (sym places)) (sym c.cut-2.ensures) (ap (λ v. v.trail) (sym places))
+    (ap (λ v. v.barrier) (sym places)) refl)

@@ -12,8 +12,11 @@ returns g c =
     record {
       mark = c.mark.result;
       marks = c.mark.ensures;
-      leads = λ next. sym (same_run refl refl (ap (λ v. v.slots) (sym places)) refl (ap (λ v. v.trail) (sym places)) (ap (λ v. v.barrier) (sym places))
-          (ap (λ s. ref_choice c.args.otherwise c.args.position.now.term s c.mark.result ∷ K) (sym c.saved-saved.ensures) ∙
-          (ap (λ t. ref_choice c.args.otherwise t (saved_of c.saved-saved.result) c.mark.result ∷ K) (sym c.in_ok-term.ensures.same) ∙
+      leads = λ next. sym (same_run refl refl (ap (λ v. v.slots) (sym places)) refl (ap (λ v. v.trail) (sym places))
+          (ap (λ v. v.barrier) (sym places))
+          (ap (λ s. ref_choice c.args.otherwise c.args.position.now.term s c.mark.result ∷ K)
+          (sym c.state_to_restore-saved.ensures) ∙
+          (ap (λ t. ref_choice c.args.otherwise t (saved_of c.state_to_restore-saved.result) c.mark.result ∷ K)
+          (sym c.in_ok-term.ensures.same) ∙
           ap (λ rs. records_in rs m.records.done m.records.left) (sym c.in_ok-push_choice.ensures))));
     }

@@ -8,7 +8,9 @@ loop-table-preserved g c =
     let so_far = c.loop-table.invariant in (
       keeps_then so_far.0 keeps,
       none_then so_far.1 c.in_ok-table.ensures.none,
-      one_more_table c.loop-table.loaded.items c.push.new.self.items c.in_ok-table.table c.args.tables.now c.loop-table.table-index c.table-item.result (tables_kept keeps.known keeps.symbols _ _ _ so_far.2) c.deref.ensures.value c.in_ok-table.ensures.loaded
+      one_more_table c.loop-table.loaded.items c.push.new.self.items c.in_ok-table.table c.args.tables.now
+          c.loop-table.table-index c.table-item.result (tables_kept keeps.known keeps.symbols _ _ _ so_far.2)
+          c.deref.ensures.value c.in_ok-table.ensures.loaded
           c.loop-table-test.true c.table-item.is c.in_ok-push.ensures.items,
     )
 

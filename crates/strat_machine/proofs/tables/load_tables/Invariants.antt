@@ -6,4 +6,5 @@ use Rattle.strat_machine.proofs.tables.load_tables.Given as goal
 abbrev pub invariant-loop-table : goal.invariant-loop-table
 invariant-loop-table g l =
     let s = g.S.TermSpace.space in
-    Keeps s l.initial.space l.space × MakesNone s l.initial.space l.space × AreLoadedTables (s.knows l.space) (s.symbol_of l.space) s.number_of l.loaded.items (take l.table-index l.tables)
+    Keeps s l.initial.space l.space × MakesNone s l.initial.space l.space ×
+    AreLoadedTables (s.knows l.space) (s.symbol_of l.space) s.number_of l.loaded.items (take l.table-index l.tables)

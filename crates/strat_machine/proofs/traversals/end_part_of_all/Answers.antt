@@ -9,17 +9,26 @@ use Rattle.strat_machine.proofs.TraversalLaws.{all_advances}
 use Rattle.strat_machine.proofs.traversals.end_part_of_all.Goals as goal
 
 pub returns-in-Some-clause-step : goal.returns-in-Some-clause-step
-returns-in-Some-clause-step g c = λ M i. all_advances c.args.stacks.now.records _ _ _ _ _ c.in-Some.ensures (rw c.in_ok-done.ensures.same at c.in_ok-push.ensures.pushed)
+returns-in-Some-clause-step g c =
+    λ M i. all_advances c.args.stacks.now.records _ _ _ _ _ c.in-Some.ensures
+    (rw c.in_ok-done.ensures.same at c.in_ok-push.ensures.pushed)
 
 pub returns-in_default-pop_all-clause-step : goal.returns-in_default-pop_all-clause-step
-returns-in_default-pop_all-clause-step g c = λ M i. part_of_nothing _ _ (c.requires.all (subst HasNoAll c.in_default.ensures.0 c.in_default-pop_all.ensures.1))
+returns-in_default-pop_all-clause-step g c =
+    λ M i. part_of_nothing _ _ (c.requires.all (subst HasNoAll c.in_default.ensures.0 c.in_default-pop_all.ensures.1))
 
 pub end_last_part-requires : goal.end_last_part-requires
 end_last_part-requires g c =
     let rs = c.args.stacks.now.records in
-    subst (λ E. HasTried g.S.TermSpace.space c.args.space.now (record { records = c.pop_all.new.self; done = rs.done; left = E }) c.in-Some-pop_all.traversed c.args.position.now.term) (sym c.in_default.ensures.1)
-    (all_tried _ _ c.requires.safe c.requires.counted (sym c.in_default.ensures.0 ∙ c.in-Some-pop_all.ensures) c.requires.stands _ refl)
+    subst (λ E. HasTried g.S.TermSpace.space c.args.space.now
+    (record { records = c.pop_all.new.self; done = rs.done; left = E })
+    c.in-Some-pop_all.traversed c.args.position.now.term) (sym c.in_default.ensures.1)
+    (all_tried _ _ c.requires.safe c.requires.counted (sym c.in_default.ensures.0 ∙
+    c.in-Some-pop_all.ensures) c.requires.stands _ refl)
 
 pub returns-clause-step : goal.returns-clause-step
 returns-clause-step g c =
-    IfOk-weaker c.end_last_part.result _ _ (λ next h M i. part_at _ _ (records.All c.in-Some-pop_all.traversed) (part_of_all (rw c.in_default.ensures.1 at h)) (sym c.in_default.ensures.0 ∙ c.in-Some-pop_all.ensures) refl) c.end_last_part.ensures.step
+    IfOk-weaker c.end_last_part.result _ _
+    (λ next h M i. part_at _ _ (records.All c.in-Some-pop_all.traversed)
+    (part_of_all (rw c.in_default.ensures.1 at h)) (sym c.in_default.ensures.0 ∙ c.in-Some-pop_all.ensures) refl)
+    c.end_last_part.ensures.step

@@ -6,10 +6,12 @@ pub returns-in_default-clause-step : goal.returns-in_default-clause-step
 returns-in_default-clause-step g c = λ M i. part_of_nothing _ _ c.in_default.ensures
 
 pub end_part_of_one-requires : goal.end_part_of_one-requires
-end_part_of_one-requires g c = one_tried _ _ c.requires.safe c.requires.counted c.in-Some.ensures c.requires.stands _ _ _ _ c.in-One.is
+end_part_of_one-requires g c = one_tried _ _ c.requires.safe c.requires.counted c.in-Some.ensures c.requires.stands _ _
+    _ _ c.in-One.is
 
 pub end_part_of_some-requires : goal.end_part_of_some-requires
-end_part_of_some-requires g c = some_tried _ _ c.requires.safe c.requires.counted c.in-Some.ensures c.requires.stands _ _ _ _ _ c.in-Some-record.is
+end_part_of_some-requires g c =
+    some_tried _ _ c.requires.safe c.requires.counted c.in-Some.ensures c.requires.stands _ _ _ _ _ c.in-Some-record.is
 
 pub returns-in-Call-clause-step : goal.returns-in-Call-clause-step
 returns-in-Call-clause-step g c = λ M i. part_of_call _ _ _ _ c.in-Some.ensures c.in-Call.is
@@ -18,7 +20,12 @@ pub returns-in-Choice-clause-step : goal.returns-in-Choice-clause-step
 returns-in-Choice-clause-step g c = λ M i. part_of_choice _ _ _ _ _ _ c.in-Some.ensures c.in-Choice.is
 
 pub returns-in-One-clause-step : goal.returns-in-One-clause-step
-returns-in-One-clause-step g c = IfOk-weaker c.end_part_of_one.result _ _ (λ next h M i. part_at _ _ _ (one_made h c.trim.ensures) c.in-Some.ensures c.in-One.is) c.end_part_of_one.ensures.step
+returns-in-One-clause-step g c =
+    IfOk-weaker c.end_part_of_one.result _ _
+    (λ next h M i. part_at _ _ _ (one_made h c.trim.ensures) c.in-Some.ensures c.in-One.is)
+    c.end_part_of_one.ensures.step
 
 pub returns-clause-step : goal.returns-clause-step
-returns-clause-step g c = IfOk-weaker c.end_part_of_some.result _ _ (λ next h M i. part_at _ _ _ (some_ended h c.trim-in-Some-record.ensures) c.in-Some.ensures c.in-Some-record.is) c.end_part_of_some.ensures.step
+returns-clause-step g c = IfOk-weaker c.end_part_of_some.result _ _
+    (λ next h M i. part_at _ _ _ (some_ended h c.trim-in-Some-record.ensures) c.in-Some.ensures c.in-Some-record.is)
+    c.end_part_of_some.ensures.step

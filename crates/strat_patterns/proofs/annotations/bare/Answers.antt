@@ -7,10 +7,12 @@ use Rattle.strat_patterns.proofs.annotations.bare.Goals as goal
 pub returns-then-anno_count-eq0-clause-term : goal.returns-then-anno_count-eq0-clause-term
 returns-then-anno_count-eq0-clause-term g c =
     let f = g.S.TermSpace.space.term_of c.args.space.now in
-    bare_same (f c.args.at.now) (f c.in_ok-same.same) (sym c.anno_count.ensures ∙ c.if-anno_count-eq0.true) c.in_ok-same.ensures.term
+    bare_same (f c.args.at.now) (f c.in_ok-same.same) (sym c.anno_count.ensures ∙
+    c.if-anno_count-eq0.true) c.in_ok-same.ensures.term
 
 pub unreachable-requires : goal.unreachable-requires
 unreachable-requires g c =
     let s = g.S.TermSpace.space in
     let t = s.term_of c.args.space.now c.args.at.now in
-    subst (λ m. Makes s c.with_annos.new.self (term (head_of t) (parts_of t) []) m) c.in-Oversize.is c.in_ok-reference.ensures.made (bare_fits_too t (g.S.TermSpace.fits _ _ c.requires))
+    subst (λ m. Makes s c.with_annos.new.self (term (head_of t) (parts_of t) []) m)
+    c.in-Oversize.is c.in_ok-reference.ensures.made (bare_fits_too t (g.S.TermSpace.fits _ _ c.requires))

@@ -102,8 +102,10 @@ push_tail-push_rest-requires = elements.push_tail-push_rest-requires
 pub push_tail-returns-in_default-clause-elements : goal.push_tail-returns-in_default-clause-elements
 push_tail-returns-in_default-clause-elements = elements.push_tail-returns-in_default-clause-elements
 
-pub push_tail-returns-in_ok-tail-in-Variable-clause-elements : goal.push_tail-returns-in_ok-tail-in-Variable-clause-elements
-push_tail-returns-in_ok-tail-in-Variable-clause-elements = elements.push_tail-returns-in_ok-tail-in-Variable-clause-elements
+pub push_tail-returns-in_ok-tail-in-Variable-clause-elements :
+    goal.push_tail-returns-in_ok-tail-in-Variable-clause-elements
+push_tail-returns-in_ok-tail-in-Variable-clause-elements =
+    elements.push_tail-returns-in_ok-tail-in-Variable-clause-elements
 
 pub push_tail-returns-in_ok-others-in-List-clause-keeps : goal.push_tail-returns-in_ok-others-in-List-clause-keeps
 push_tail-returns-in_ok-others-in-List-clause-keeps = elements.push_tail-returns-in_ok-others-in-List-clause-keeps
@@ -135,11 +137,15 @@ push_tail-returns-then-not-branch-clause-elements = elements.push_tail-returns-t
 pub push_tail-push_tail-requires-in-Annotated : goal.push_tail-push_tail-requires-in-Annotated
 push_tail-push_tail-requires-in-Annotated = elements.push_tail-push_tail-requires-in-Annotated
 
-pub push_tail-returns-in_ok-elements-in-Annotated-clause-keeps : goal.push_tail-returns-in_ok-elements-in-Annotated-clause-keeps
-push_tail-returns-in_ok-elements-in-Annotated-clause-keeps = elements.push_tail-returns-in_ok-elements-in-Annotated-clause-keeps
+pub push_tail-returns-in_ok-elements-in-Annotated-clause-keeps :
+    goal.push_tail-returns-in_ok-elements-in-Annotated-clause-keeps
+push_tail-returns-in_ok-elements-in-Annotated-clause-keeps =
+    elements.push_tail-returns-in_ok-elements-in-Annotated-clause-keeps
 
-pub push_tail-returns-in_ok-elements-in-Annotated-clause-elements : goal.push_tail-returns-in_ok-elements-in-Annotated-clause-elements
-push_tail-returns-in_ok-elements-in-Annotated-clause-elements = elements.push_tail-returns-in_ok-elements-in-Annotated-clause-elements
+pub push_tail-returns-in_ok-elements-in-Annotated-clause-elements :
+    goal.push_tail-returns-in_ok-elements-in-Annotated-clause-elements
+push_tail-returns-in_ok-elements-in-Annotated-clause-elements =
+    elements.push_tail-returns-in_ok-elements-in-Annotated-clause-elements
 
 pub make_like-returns-then-takes_nothing-clause-built : goal.make_like-returns-then-takes_nothing-clause-built
 make_like-returns-then-takes_nothing-clause-built = like.make_like-returns-then-takes_nothing-clause-built
@@ -183,10 +189,12 @@ make_with-returns-then-not-branch-clause-built = like.make_with-returns-then-not
 pub make_with-make_with-requires-in-Annotated : goal.make_with-make_with-requires-in-Annotated
 make_with-make_with-requires-in-Annotated = like.make_with-make_with-requires-in-Annotated
 
-pub make_with-returns-in_err-built-in-Annotated-clause-keeps : goal.make_with-returns-in_err-built-in-Annotated-clause-keeps
+pub make_with-returns-in_err-built-in-Annotated-clause-keeps :
+    goal.make_with-returns-in_err-built-in-Annotated-clause-keeps
 make_with-returns-in_err-built-in-Annotated-clause-keeps = like.make_with-returns-in_err-built-in-Annotated-clause-keeps
 
-pub make_with-returns-in_ok-built-in-Annotated-clause-built : goal.make_with-returns-in_ok-built-in-Annotated-clause-built
+pub make_with-returns-in_ok-built-in-Annotated-clause-built :
+    goal.make_with-returns-in_ok-built-in-Annotated-clause-built
 make_with-returns-in_ok-built-in-Annotated-clause-built = like.make_with-returns-in_ok-built-in-Annotated-clause-built
 
 pub have_instances-returns-in-NoInstance-clause-all : goal.have_instances-returns-in-NoInstance-clause-all

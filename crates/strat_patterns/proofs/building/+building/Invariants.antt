@@ -13,4 +13,5 @@ invariant-push_all-loop-p g l =
     let all = instances_then (place_at l.frames l.here) (map (option_map (s.term_of w)) l.slots) in
     let ps = map (loaded_of (s.symbol_of w)) l.patterns in
     Keeps s w l.space ×
-    Puts s l.space l.initial.stack.items l.stack.items (λ rs. AreBuiltBefore s.term_of l.space (all ps) (all (drop l.p-index ps)) rs l.fit)
+    Puts s l.space l.initial.stack.items l.stack.items
+    (λ rs. AreBuiltBefore s.term_of l.space (all ps) (all (drop l.p-index ps)) rs l.fit)

@@ -19,8 +19,11 @@ loop-part-preserved g t =
     let longer : length t.push.new.self.items ≡ length held + 1 = ap length more ∙ length-append held (here ∷ []) in
     let others = t.if-len-count.false in
     record {
-      are = one_more_held tree held t.push.new.self.items t.loop-part.part-iterator rest t.in-Some.part.now here (parts_of (tree t.args.at.now)) was.are steps more t.in_ok-reference.ensures.term;
-      standing = standing_push (λ r. IsTrue (s.stands t.args.space.now r)) held t.push.new.self.items here was.standing t.in_ok-reference.ensures.stands more;
-      to_come = All-rest (λ r. IsTrue (s.stands t.args.space.now r)) t.in-Some.part.now rest t.loop-part.part-iterator steps was.to_come;
+      are = one_more_held tree held t.push.new.self.items t.loop-part.part-iterator rest t.in-Some.part.now here
+          (parts_of (tree t.args.at.now)) was.are steps more t.in_ok-reference.ensures.term;
+      standing = standing_push (λ r. IsTrue (s.stands t.args.space.now r))
+          held t.push.new.self.items here was.standing t.in_ok-reference.ensures.stands more;
+      to_come = All-rest (λ r. IsTrue (s.stands t.args.space.now r))
+          t.in-Some.part.now rest t.loop-part.part-iterator steps was.to_come;
       few = omega (arith, longer, was.few, others);
     }

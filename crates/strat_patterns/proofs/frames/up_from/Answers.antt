@@ -18,5 +18,9 @@ loop-preserved c =
     let fs = c.args.frames.now in
     let i = c.loop.position in
     let F = frames_in c.args.closures.now fs in
-    let there : slice_get fs i ≡ Some c.in-Some.frame.now = slice_get_read fs (length fs) i c.in-Some.frame.now refl c.in-Some.ensures.lookup.3.0 c.in-Some.ensures.lookup.1 in
-    ap (λ q. frames_up F q (c.args.count - (c.loop.counter + 1))) (sym (up_next c.args.closures.now fs i c.in-Some.frame.now there)) ∙ (up_one F i c.args.count c.loop.counter c.loop-test.true ∙ c.loop.invariant)
+    let there : slice_get fs i ≡ Some c.in-Some.frame.now =
+    slice_get_read fs (length fs)
+    i c.in-Some.frame.now refl c.in-Some.ensures.lookup.3.0 c.in-Some.ensures.lookup.1 in
+    ap (λ q. frames_up F q (c.args.count - (c.loop.counter + 1)))
+    (sym (up_next c.args.closures.now fs i c.in-Some.frame.now there)) ∙
+    (up_one F i c.args.count c.loop.counter c.loop-test.true ∙ c.loop.invariant)

@@ -7,4 +7,5 @@ use Rattle.strat_patterns.proofs.loaded.+load.Given as goal
 abbrev pub invariant-load_patterns-loop-p : goal.invariant-load_patterns-loop-p
 invariant-load_patterns-loop-p g l =
     let s = g.S.TermSpace.space in
-    Keeps s l.initial.space l.space × MakesNone s l.initial.space l.space × AreLoaded (s.knows l.space) (s.symbol_of l.space) l.loaded.items (map pattern_of (take l.p-index l.patterns))
+    Keeps s l.initial.space l.space × MakesNone s l.initial.space l.space ×
+    AreLoaded (s.knows l.space) (s.symbol_of l.space) l.loaded.items (map pattern_of (take l.p-index l.patterns))

@@ -12,12 +12,18 @@ pub returns-in_ok-made-in-All-clause-built : goal.returns-in_ok-made-in-All-clau
 returns-in_ok-made-in-All-clause-built g c = λ all built.
     let s = g.S.TermSpace.space in
     let stack = c.deref.result.now in
-    list_all s c.args.space.now c.list.new.self all (drop c.args.from c.args.stack.now.items) c.args.elements (take (length stack - c.args.from) (drop c.args.from stack)) c.in_ok-made-in-All.made c.outcome.result c.in-All.is built
-    (slice_is c.args.from stack c.args.stack.now.items c.deref.ensures.value) c.in_ok-made-in-All.ensures.made c.outcome.ensures
+    list_all s c.args.space.now c.list.new.self all (drop c.args.from c.args.stack.now.items)
+    c.args.elements (take (length stack - c.args.from) (drop c.args.from stack))
+    c.in_ok-made-in-All.made c.outcome.result c.in-All.is built
+    (slice_is c.args.from stack c.args.stack.now.items c.deref.ensures.value)
+    c.in_ok-made-in-All.ensures.made c.outcome.ensures
 
 pub returns-in_ok-made-in-Before-clause-built : goal.returns-in_ok-made-in-Before-clause-built
 returns-in_ok-made-in-Before-clause-built g c = λ all built.
     let s = g.S.TermSpace.space in
     let stack = c.deref-in-Before.result.now in
-    list_open s c.args.space.now c.prepend.new.self all (drop c.args.from c.args.stack.now.items) c.args.elements (take (length stack - c.args.from) (drop c.args.from stack)) c.in-Before.tail c.in_ok-made-in-Before.made c.outcome-in-Before.result
-    c.in-Before.is built (slice_is c.args.from stack c.args.stack.now.items c.deref-in-Before.ensures.value) c.in_ok-made-in-Before.ensures.made c.outcome-in-Before.ensures
+    list_open s c.args.space.now c.prepend.new.self all (drop c.args.from c.args.stack.now.items)
+    c.args.elements (take (length stack - c.args.from) (drop c.args.from stack))
+    c.in-Before.tail c.in_ok-made-in-Before.made c.outcome-in-Before.result
+    c.in-Before.is built (slice_is c.args.from stack c.args.stack.now.items c.deref-in-Before.ensures.value)
+    c.in_ok-made-in-Before.ensures.made c.outcome-in-Before.ensures

@@ -11,4 +11,5 @@ pub returns-in_ok-made-in-All-clause-built : goal.returns-in_ok-made-in-All-clau
 returns-in_ok-made-in-All-clause-built g c = λ all built.
     let s = g.S.TermSpace.space in
     let w = c.args.space.now in
-    given_all s w c.with_annos.new.self all c.args.annos.now c.args.pushed built (s.term_of w c.args.at.now) c.in_ok-made-in-All.made c.outcome.result c.in-All.is c.in_ok-made-in-All.ensures.made c.outcome.ensures
+    given_all s w c.with_annos.new.self all c.args.annos.now c.args.pushed built (s.term_of w c.args.at.now)
+    c.in_ok-made-in-All.made c.outcome.result c.in-All.is c.in_ok-made-in-All.ensures.made c.outcome.ensures

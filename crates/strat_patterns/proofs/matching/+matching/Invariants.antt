@@ -16,7 +16,9 @@ invariant-match_first-loop-i g l =
     let ps = map (loaded_of (s.symbol_of w)) l.patterns in
     let ts = parts_of (s.term_of w l.at) in
     Keeps s w l.space × (l.places.barrier ≡ old.barrier) × (l.i ≤ l.count) ×
-    Goes s old.barrier (first_attempted place old.barrier ps ts) (first_attempted place old.barrier (drop l.i ps) (drop l.i ts)) w old.slots old.trail l.space l.places.slots l.places.trail ×
+    Goes s old.barrier (first_attempted place old.barrier ps ts)
+    (first_attempted place old.barrier (drop l.i ps) (drop l.i ts))
+    w old.slots old.trail l.space l.places.slots l.places.trail ×
     (AllLeaveSpace (patterns_in ps) → l.space ≡ w)
 
 abbrev pub invariant-match_each-loop-i : goal.invariant-match_each-loop-i
@@ -28,7 +30,9 @@ invariant-match_each-loop-i g l =
     let ps = map (loaded_of (s.symbol_of w)) l.patterns in
     let ts = map (s.term_of w) l.terms in
     Keeps s w l.space × (l.places.barrier ≡ old.barrier) × (l.i ≤ l.count) ×
-    Goes s old.barrier (first_attempted place old.barrier ps ts) (first_attempted place old.barrier (drop l.i ps) (drop l.i ts)) w old.slots old.trail l.space l.places.slots l.places.trail ×
+    Goes s old.barrier (first_attempted place old.barrier ps ts)
+    (first_attempted place old.barrier (drop l.i ps) (drop l.i ts))
+    w old.slots old.trail l.space l.places.slots l.places.trail ×
     (AllLeaveSpace (patterns_in ps) → l.space ≡ w)
 
 abbrev pub invariant-match_annos-loop-i : goal.invariant-match_annos-loop-i
@@ -40,4 +44,6 @@ invariant-match_annos-loop-i g l =
     let ps = map (loaded_of (s.symbol_of w)) l.patterns in
     let ts = annos_of (s.term_of w l.at) in
     Keeps s w l.space × (l.places.barrier ≡ old.barrier) ×
-    Goes s old.barrier (first_attempted place old.barrier ps ts) (first_attempted place old.barrier (drop l.i ps) (drop l.i ts)) w old.slots old.trail l.space l.places.slots l.places.trail
+    Goes s old.barrier (first_attempted place old.barrier ps ts)
+    (first_attempted place old.barrier (drop l.i ps) (drop l.i ts))
+    w old.slots old.trail l.space l.places.slots l.places.trail

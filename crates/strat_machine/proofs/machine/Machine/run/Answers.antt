@@ -10,7 +10,10 @@ returns-clause-run g c = λ P main C i stands occurring resolved.
     let keeps = keeps_from s c.self.view_is c.in_ok-program.ensures.keeps in
     let h = c.in_ok-run.ensures in
     same_outcome g.M.PrimMeaning.answer P main c.args.budget _ (keeps.terms c.args.term c.requires.stands) h.rules
-    (registered_says (entries_of c.args.registry.now) c.args.code.now.prims g.M.PrimMeaning.answer occurring c.requires.covers resolved stands c.run_code-run.new.stacks.left (keeps.standing c.args.term c.requires.stands) c.in_ok-run.field-0.outcome h.steps)
+    (registered_says (entries_of c.args.registry.now)
+    c.args.code.now.prims g.M.PrimMeaning.answer occurring c.requires.covers resolved stands
+    c.run_code-run.new.stacks.left (keeps.standing c.args.term c.requires.stands)
+    c.in_ok-run.field-0.outcome h.steps)
 
 pub returns-clause-steps : goal.returns-clause-steps
 returns-clause-steps g c =

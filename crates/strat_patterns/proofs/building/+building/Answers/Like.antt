@@ -35,8 +35,16 @@ make_like-make_with-requires g t c κs within =
     let put = pushes_put c.in_ok-push_annos.ensures.pushed in
     let at = c.len-from.ensures ∙ c.args.stack.now.ok.0 in
     let from = put_within put c.len-from.result at in
-    let standing = put_stands put c.len-from.result at in
-    (search (rules, the_lemmas), (within.0, (within.1.0, (within.1.1.0, (within.1.1.1, (c.requires.known, (c.requires.slots, (from, standing))))))))
+    let standing = put_stands put c.len-from.result at in (
+      search (rules, the_lemmas),
+      (
+        within.0,
+        (
+          within.1.0,
+          (within.1.1.0, (within.1.1.1, (c.requires.known, (c.requires.slots, (from, standing))))),
+        ),
+      ),
+    )
 
 pub make_like-returns-clause-built : goal.make_like-returns-clause-built
 make_like-returns-clause-built g t c =

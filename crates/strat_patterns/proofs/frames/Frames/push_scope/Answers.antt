@@ -5,5 +5,6 @@ use Rattle.strat_patterns.proofs.frames.Frames.push_scope.Goals as goal
 
 pub invariant_of-self-2 : goal.invariant_of-self-2
 invariant_of-self-2 c =
-    let k = c.len.ensures in let l = c.in_ok-first.ensures in
-    subst (λ fs. AreLaid 0 fs (length c.self.inside.closures.items)) (sym c.in_ok-push_on.ensures.pushed) (laid_push 0 _ _ _ _ c.self.invariant (omega arith) (omega arith))
+    let k = c.len-first.ensures in
+    subst (λ fs. AreLaid 0 fs (length c.self.inside.closures.items)) (sym c.in_ok-push_on.ensures.pushed)
+    (laid_push 0 _ _ _ _ c.self.invariant (omega arith) (omega arith))
