@@ -27,7 +27,8 @@ ends_out at_done = refl
 pub spelled : (bs : List ℕ) (t : Tree) → IsText t bs → (outcome_of bs ≡ Read t) ⊎ (outcome_of bs ≡ TooDeepText)
 spelled bs t h = go (text_read t bs h)
   where
-    go : OrDeep (max_depth < depth t) (λ a. Ends a t []) (after (Expect []) bs) → (outcome_of bs ≡ Read t) ⊎ (outcome_of bs ≡ TooDeepText)
+    go : OrDeep (max_depth < depth t) (λ a. Ends a t []) (after (Expect []) bs) →
+        (outcome_of bs ≡ Read t) ⊎ (outcome_of bs ≡ TooDeepText)
     go (inl e) = inl (outcome_is bs ∙ ends_out e)
     go (inr e) = inr (outcome_is bs ∙ ap out e.0)
 
@@ -96,7 +97,8 @@ reading bs (Ok t) (e, fit) = record {
 reading bs (Err faults.Memory) e = tt
 reading bs (Err (faults.TermOversize _)) (inl (t, e, large)) = inr (t, read_is bs t e, large)
 reading bs (Err (faults.TermOversize _)) (inr e) = inl (deep_is bs e)
-reading bs (Err (faults.TermSyntax _)) e = (λ d. let f : outcome_of bs ≡ TooDeepText = deep bs d in absurd (cc), λ t h. none t (spelled bs t h))
+reading bs (Err (faults.TermSyntax _)) e =
+    (λ d. let f : outcome_of bs ≡ TooDeepText = deep bs d in absurd (cc), λ t h. none t (spelled bs t h))
   where
     none : (t : Tree) → (outcome_of bs ≡ Read t) ⊎ (outcome_of bs ≡ TooDeepText) → ⊥
     none t (inl f) = absurd (cc)

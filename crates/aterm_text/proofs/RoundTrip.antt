@@ -33,7 +33,8 @@ not_deep t bs h f d = go (text_read t bs h)
 alone : (t u : Tree) (bs : List ℕ) → Fits t → IsText t bs → IsText u bs → u ≡ t
 alone t u bs f h g = go (spelled bs t h) (spelled bs u g)
   where
-    go : (outcome_of bs ≡ Read t) ⊎ (outcome_of bs ≡ TooDeepText) → (outcome_of bs ≡ Read u) ⊎ (outcome_of bs ≡ TooDeepText) → u ≡ t
+    go : (outcome_of bs ≡ Read t) ⊎ (outcome_of bs ≡ TooDeepText) →
+        (outcome_of bs ≡ Read u) ⊎ (outcome_of bs ≡ TooDeepText) → u ≡ t
     go (inr d) e = absurd (not_deep t bs h f (deep_is bs d))
     go (inl d) (inr e) = absurd (not_deep t bs h f (deep_is bs e))
     go (inl d) (inl e) = cc
@@ -42,6 +43,7 @@ pub reads_back : (t : Tree) → IsTerm t → Fits t → ReadsBack t
 reads_back t i f (Ok u) h = inl (ap Ok (sym (h.only t (text_spells t i))))
 reads_back t i f (Err faults.Memory) h = inr refl
 reads_back t i f (Err (faults.TermOversize _)) (inl d) = absurd (not_deep t (text t) (text_spells t i) f d)
-reads_back t i f (Err (faults.TermOversize _)) (inr (u, h, large)) = absurd (large (subst Fits (sym (alone t u (text t) f (text_spells t i) h)) f))
+reads_back t i f (Err (faults.TermOversize _)) (inr (u, h, large)) =
+    absurd (large (subst Fits (sym (alone t u (text t) f (text_spells t i) h)) f))
 reads_back t i f (Err (faults.TermSyntax _)) h = absurd (h.1 t (text_spells t i))
 reads_back t i f (Err _) h = absurd h

@@ -1,4 +1,6 @@
--- What the reader keeps, for the contracts of its private functions alone: references on one stack, and the brackets that are open.
+-- The headline does not rest on this file.
+-- What the reader keeps, for the contracts of its private functions alone: references on one stack, and the brackets
+-- that are open.
 use Rattle.std.specs.Prelude.{◌≡◌, ◌==◌, ℕ, ◌≤◌, take, if◌then◌else◌, Bool, true, false, IsTrue, List, [], ◌∷◌, ◌++◌, length, map, reverse, All}
 use Rattle.term_model.specs.declared.made.Made.{Made}
 use Rattle.term_model.specs.declared.made.Made.TheVariants as made
@@ -53,8 +55,10 @@ module _ {W R M N : Type 0} (S : Space W R M N) (space : W) where
 
   pub data IsAt (reader : Reader R N) : Next → State → Type 0 where
     at_term : {s : List Open} → Keeping reader s [] → IsAt reader nexts.Term (Expect s)
-    at_first : {o : Open} {s : List Open} → o.earlier ≡ [] → Keeping reader (o ∷ s) [] → IsAt reader nexts.First (Fresh o s)
-    at_whole : {h : _} {ps : _} {s : List Open} → Keeping reader s (node h ps end ∷ []) → IsAt reader nexts.Whole (Whole h ps s)
+    at_first : {o : Open} {s : List Open} → o.earlier ≡ [] → Keeping reader (o ∷ s) [] →
+        IsAt reader nexts.First (Fresh o s)
+    at_whole : {h : _} {ps : _} {s : List Open} → Keeping reader s (node h ps end ∷ []) →
+        IsAt reader nexts.Whole (Whole h ps s)
     at_done : {t : Tree} {s : List Open} → Keeping reader s (t ∷ []) → IsAt reader nexts.Done (Done t s)
 
   -- the reader has read the text up to the index, and this may come next
@@ -97,12 +101,15 @@ closes_first (b ∷ bs) c = c == closing b.enclosing
 
 -- the term, if it fits, stands in place of those from the bottom on
 abbrev pub IsPut : {R N : Type 0} → Made R → ℕ → Reader R N → Reader R N → Type 0
-IsPut (made.Fits r) bottom old new = (new.open ≡ old.open) × (new.fits ≡ old.fits) × (new.terms.items ≡ take bottom old.terms.items ++ r ∷ [])
-IsPut made.Oversize bottom old new = (new.open ≡ old.open) × (new.fits ≡ false) × (new.terms.items ≡ take bottom old.terms.items)
+IsPut (made.Fits r) bottom old new = (new.open ≡ old.open) × (new.fits ≡ old.fits) ×
+    (new.terms.items ≡ take bottom old.terms.items ++ r ∷ [])
+IsPut made.Oversize bottom old new = (new.open ≡ old.open) × (new.fits ≡ false) ×
+    (new.terms.items ≡ take bottom old.terms.items)
 
 -- a bracket is opened after the terms
 pub record IsPushed {R N : Type 0} (enclosing : Enclosing N) (old new : Reader R N) : Type 0 where
-  pub bracket : new.open.items ≡ old.open.items ++ record { enclosing = enclosing; bottom = length old.terms.items } ∷ []
+  pub bracket : new.open.items ≡ old.open.items ++
+      record { enclosing = enclosing; bottom = length old.terms.items } ∷ []
   pub terms : new.terms ≡ old.terms
   pub fits : new.fits ≡ old.fits
 
@@ -113,7 +120,8 @@ module _ {W R M N : Type 0} (S : Space W R M N) (space : W) where
     pub keeping : Keeping S space reader s (taken o.opening ++ ts)
 
   -- the reader has these terms at hand, and the text has the outcome of such a state at the index
-  pub record Holds (text : List ℕ) (reader : Reader R N) (hand : List Tree) (state : List Open → State) (index : ℕ) : Type 0 where
+  pub record Holds (text : List ℕ) (reader : Reader R N) (hand : List Tree) (state : List Open →
+      State) (index : ℕ) : Type 0 where
     pub brackets : List Open
     pub keeping : Keeping S space reader brackets hand
     pub outcome : outcome_of text ≡ outcome_from text (state brackets) index

@@ -1,3 +1,4 @@
+-- The headline does not rest on this file.
 -- What the canonical text of a term is among texts.
 use Rattle.std.specs.Prelude.{◌≡◌, ◌⊎◌, true, not, ◌==◌, ℕ, List, ◌∷◌, Result, Ok, Err}
 use Rattle.std.specs.List.{list_all}

@@ -1,3 +1,4 @@
+-- The headline does not rest on this file.
 -- Bytes that are written after others, and the terms that are written.
 use Rattle.std.specs.Prelude.{◌≡◌, ℕ, List, ◌++◌, map}
 use Rattle.term_model.specs.Term.{Tree, Trees, trees_of, head_of, parts_of}
@@ -22,4 +23,5 @@ texts_in term_of space references = texts (trees_in term_of space references)
 
 -- the same in brackets, or nothing where there are no terms
 abbrev pub enclosed_in : {S R : Type 0} → (S → R → Tree) → S → List R → ℕ → ℕ → List ℕ
-enclosed_in term_of space references left right = enclosed (trees_in term_of space references) left right (texts_in term_of space references)
+enclosed_in term_of space references left right =
+    enclosed (trees_in term_of space references) left right (texts_in term_of space references)

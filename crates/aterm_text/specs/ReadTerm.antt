@@ -13,7 +13,8 @@ pub record Spelled (bs : List ℕ) (t : Tree) : Type 0 where
   pub not_deep : ¬ (TooDeep bs)
   pub only : (u : Tree) → IsText u bs → u ≡ t
 
--- a term that the text spells; else too deep or spelling what does not fit; else no spelling. Nothing is said of running out of memory.
+-- a term that the text spells; else too deep or spelling what does not fit; else no spelling. Nothing is said of
+-- running out of memory.
 abbrev pub IsReading : List ℕ → Result Tree Fault → Type 0
 IsReading bs (Ok t) = Spelled bs t
 IsReading bs (Err faults.Memory) = Unit {0}

@@ -1,5 +1,6 @@
--- Reading one byte at a time, with a stack of open brackets: for the contracts of the reader's private functions alone. What `read_term`
--- returns is said by the grammar.
+-- The headline does not rest on this file.
+-- Reading one byte at a time, with a stack of open brackets: for the contracts of the reader's private functions alone.
+-- What `read_term` returns is said by the grammar.
 use Rattle.std.specs.Prelude.{◌≡◌, ℕ, ◌+◌, ◌-◌, ◌*◌, ◌⊎◌, Bool, true, false, ◌==◌, nat_le, if◌then◌else◌, List, [], ◌∷◌, ◌++◌, length, drop, Option, Some, None, Result, Ok, Err}
 use Rattle.term_model.specs.Bytes.{is_between, is_blank, is_digit, signed, unescaped, is_octal}
 use Rattle.term_model.specs.declared.term.Head.{Head}
@@ -44,7 +45,8 @@ closed Elements ts s = Whole heads.List (trees_of ts) s
 closed (Annotations h ps) ts s = Done (node h ps (trees_of ts)) s
 
 abbrev pub digits : Bool → ℕ → ℕ → List Open → State
-digits sign v c s = if nat_le (10 * v + (c - 48)) (max_magnitude sign) then InDigits sign (10 * v + (c - 48)) s else Wrong
+digits sign v c s = if nat_le (10 * v + (c - 48)) (max_magnitude sign) then InDigits sign (10 * v + (c - 48)) s
+    else Wrong
 
 -- the first byte of a term
 abbrev pub first : List Open → ℕ → State
@@ -63,7 +65,8 @@ begin s c = if begins_term c then (if length s == max_depth then Deep else first
 -- a byte after a whole term
 abbrev pub next : Tree → List Open → ℕ → State
 next t [] c = Wrong
-next t (o ∷ s) c = if c == 44 then Expect (with o t ∷ s) else if c == closer o.opening then closed o.opening (with o t).earlier s else Wrong
+next t (o ∷ s) c = if c == 44 then Expect (with o t ∷ s)
+    else if c == closer o.opening then closed o.opening (with o t).earlier s else Wrong
 
 abbrev pub whole : Head → Trees → List Open → ℕ → State
 whole h ps s c =
@@ -92,7 +95,8 @@ escape None b s c = if is_between 48 51 c then InOctal b (c - 48) s else Wrong
 
 abbrev pub step : State → ℕ → State
 step (Expect s) c = if is_blank c then Expect s else begin s c
-step (Fresh o s) c = if is_blank c then Fresh o s else if c == closer o.opening then closed o.opening [] s else begin (o ∷ s) c
+step (Fresh o s) c = if is_blank c then Fresh o s else if c == closer o.opening then closed o.opening [] s
+    else begin (o ∷ s) c
 step (InName n s) c = if continues_name c then InName (n ++ c ∷ []) s else named (Plain n) s c
 step (InSign s) c = if is_digit c then digits true 0 c s else Wrong
 step (InDigits sign v s) c = if is_digit c then digits sign v c s else whole (heads.Int (signed sign v)) end s c

@@ -10,7 +10,8 @@ use Rattle.term_model.specs.Term.{Tree, node, Trees, end, more}
 abbrev pub octal_text : ℕ → List ℕ
 octal_text b = (48 + b / 64) ∷ (48 + b / 8 % 8) ∷ (48 + b % 8) ∷ []
 
--- a byte in quoted text: `"`, `\`, LF, TAB and CR by their letters, others below 32 and the byte 127 by their octal digits, the rest raw
+-- a byte in quoted text: `"`, `\`, LF, TAB and CR by their letters, others below 32 and the byte 127 by their octal
+-- digits, the rest raw
 abbrev pub item_text : ℕ → List ℕ
 item_text b =
     if b == 34 then 92 ∷ 34 ∷ []

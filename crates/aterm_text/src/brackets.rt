@@ -1,4 +1,4 @@
-// Brackets that open and close.
+//! Brackets that open and close.
 ghost use Rattle.std.specs.Prelude.{◌≡◌, ◌==◌, ◌≤◌, ◌<◌, ◌+◌, List, [], ◌∷◌, ◌++◌, length, slice_index, IfOk, OnOk, IsTrue, true, false};
 ghost use Rattle.aterm_text.specs.Brackets.{Closing, Holds, IsAt, IsPushed, IsPut, Keeping, Reached, closing, next_after};
 ghost use Rattle.aterm_text.specs.Depth.{Open};
@@ -12,7 +12,7 @@ use crate::scan::blanks_end;
 use std::alloc::{AllocError, Global};
 use term_model::{Made, TermSpace};
 
-// The byte that closes the bracket.
+/// The byte that closes the bracket.
 #[inline(always)]
 pub(crate) fn closer<N: Drop>(enclosing: &Enclosing<N>) -> u8
     ensures { result ≡ closing enclosing.now }
@@ -24,7 +24,7 @@ pub(crate) fn closer<N: Drop>(enclosing: &Enclosing<N>) -> u8
     }
 }
 
-// Puts a term in place of those from the bottom on, if it fits.
+/// Puts a term in place of those from the bottom on, if it fits.
 #[inline(always)]
 pub(crate) fn put<R: Drop, N: Drop>(
     reader: &mut Reader<R, N>,
@@ -41,7 +41,7 @@ pub(crate) fn put<R: Drop, N: Drop>(
     Ok(())
 }
 
-// Opens a bracket.
+/// Opens a bracket.
 #[inline(always)]
 pub(crate) fn open<R: Drop, N: Drop>(
     reader: &mut Reader<R, N>,
@@ -54,7 +54,7 @@ pub(crate) fn open<R: Drop, N: Drop>(
     Ok(())
 }
 
-// What may come after a bracket that closes.
+/// What may come after a bracket that closes.
 fn after_closing<N: Drop>(enclosing: &Enclosing<N>) -> Next
     ensures { result ≡ next_after enclosing.now }
 {
@@ -64,7 +64,7 @@ fn after_closing<N: Drop>(enclosing: &Enclosing<N>) -> Next
     }
 }
 
-// Closes a bracket that was taken off: the terms in it become one, and one that does not fit where any of those so far does not.
+/// Closes a bracket that was taken off: the terms in it become one, and one that does not fit where any of those so far does not.
 pub(crate) fn close<S: TermSpace>(
     space: &mut S,
     alloc: Global,
@@ -103,7 +103,7 @@ pub(crate) fn close<S: TermSpace>(
     }
 }
 
-// A symbol that ends before the index: it is applied where a bracket follows.
+/// A symbol that ends before the index: it is applied where a bracket follows.
 #[inline(always)]
 pub(crate) fn apply<S: TermSpace>(
     space: &mut S,
@@ -130,7 +130,7 @@ pub(crate) fn apply<S: TermSpace>(
     Ok((Next::Whole, index))
 }
 
-// Whether this byte is at the index.
+/// Whether this byte is at the index.
 #[inline(always)]
 fn has_byte(text: &[u8], index: usize, byte: u8) -> bool
     ensures yes { result ≡ true → (index < length text.now) × (slice_index text.now index ≡ byte) }
@@ -140,7 +140,7 @@ fn has_byte(text: &[u8], index: usize, byte: u8) -> bool
     index < text.len() && text[index] == byte
 }
 
-// Adds a symbol without parts, if all terms fit.
+/// Adds a symbol without parts, if all terms fit.
 #[inline(always)]
 fn add_symbol<S: TermSpace>(
     space: &mut S,

@@ -1,5 +1,5 @@
-// The length of the canonical text of a term, counted with no memory. Each function adds to what
-// is counted already.
+//! The length of the canonical text of a term, counted with no memory. Each function adds to what
+//! is counted already.
 ghost use Rattle.std.specs.Prelude.{◌≡◌, ◌<◌, ◌+◌, ◌^◌, length};
 ghost use Rattle.std.specs.Fmt.{signed_decimal};
 ghost use Rattle.aterm_text.specs.Text.{text, texts, enclosed, bare_text, item_text, quoted_text};
@@ -10,7 +10,7 @@ use term_model::symbol::Kind;
 use term_model::term::MAX_WEIGHT;
 use term_model::{Head, Term};
 
-// A text has at most 24 bytes for each unit of its term's weight.
+/// A text has at most 24 bytes for each unit of its term's weight.
 #[tactic(auto, using(crate::proofs::LengthLemmas::text_bound))]
 pub(crate) fn text_len(term: &Term) -> u64
     ensures { result ≡ length (text term.now) }
@@ -30,12 +30,14 @@ fn with_term(counted: u64, term: &Term) -> u64
     with_enclosed(counted, term.annos())
 }
 
-// A term without its annotations.
+/// A term without its annotations.
 #[cycle(length)]
 #[tactic(auto, using(crate::proofs::LengthLemmas::counting))]
 fn with_bare(counted: u64, head: &Head, parts: &[Term]) -> u64
-    requires { counted + length (bare_text head.now (trees_of parts.now) (texts (trees_of parts.now))) < 2 ^ 64 }
-    ensures { result ≡ counted + length (bare_text head.now (trees_of parts.now) (texts (trees_of parts.now))) }
+    requires { counted + length
+        (bare_text head.now (trees_of parts.now) (texts (trees_of parts.now))) < 2 ^ 64 }
+    ensures { result ≡ counted +
+        length (bare_text head.now (trees_of parts.now) (texts (trees_of parts.now))) }
 {
     match head {
         Head::Int(value) => counted + number_len(*value),
@@ -48,12 +50,14 @@ fn with_bare(counted: u64, head: &Head, parts: &[Term]) -> u64
     }
 }
 
-// The terms in brackets, or nothing where there are none.
+/// The terms in brackets, or nothing where there are none.
 #[cycle(length)]
 #[tactic(auto, using(crate::proofs::LengthLemmas::counting))]
 fn with_enclosed(counted: u64, terms: &[Term]) -> u64
-    requires { counted + length (enclosed (trees_of terms.now) 40 41 (texts (trees_of terms.now))) < 2 ^ 64 }
-    ensures { result ≡ counted + length (enclosed (trees_of terms.now) 40 41 (texts (trees_of terms.now))) }
+    requires { counted + length (enclosed (trees_of terms.now) 40 41 (texts (trees_of terms.now))) <
+        2 ^ 64 }
+    ensures { result ≡ counted +
+        length (enclosed (trees_of terms.now) 40 41 (texts (trees_of terms.now))) }
 {
     if terms.is_empty() {
         return counted;
@@ -61,7 +65,7 @@ fn with_enclosed(counted: u64, terms: &[Term]) -> u64
     with_between(counted, terms)
 }
 
-// The terms in brackets.
+/// The terms in brackets.
 #[cycle(length)]
 #[tactic(auto, using(crate::proofs::LengthLemmas::counting))]
 fn with_between(counted: u64, terms: &[Term]) -> u64
@@ -71,7 +75,7 @@ fn with_between(counted: u64, terms: &[Term]) -> u64
     with_all(counted + 2, terms)
 }
 
-// The terms with commas between.
+/// The terms with commas between.
 #[cycle(length)]
 #[tactic(auto, using(crate::proofs::LengthLemmas::counting))]
 fn with_all(counted: u64, terms: &[Term]) -> u64
@@ -95,7 +99,7 @@ fn number_len(value: i64) -> u64
     buffer.format(value).len() as u64
 }
 
-// Quoted text of these bytes.
+/// Quoted text of these bytes.
 #[tactic(auto, using(crate::proofs::LengthLemmas::counting))]
 fn with_quoted(counted: u64, bytes: &[u8]) -> u64
     requires { counted + length (quoted_text bytes.now) < 2 ^ 64 }

@@ -64,7 +64,8 @@ pub fn read_in<S: TermSpace>(space: &mut S, alloc: Global, text: &[u8]) -> Resul
 /// Where a growth was refused; the vector then holds what it held before.
 #[tactic(auto, using(term_model::proofs::SpaceLemmas::standing))]
 pub fn write_term(term: &Term, out: &mut Vec<u8>) -> Result<(), AllocError>
-    ensures { out.new.items ≡ (if is_ok result then out.old.items ++ text term.now else out.old.items) }
+    ensures { out.new.items ≡ (if is_ok result then out.old.items ++ text term.now
+        else out.old.items) }
 {
     term.fits();
     write_out(&RcSpace, term, out)

@@ -1,4 +1,4 @@
-// Integers.
+//! Integers.
 ghost use Rattle.std.specs.Prelude.{true, false, ◌≡◌, ◌≤◌, ◌<◌, ◌+◌, ◌-◌, List, [], ◌∷◌, OnOk, length, slice_index, IfOk, IfErr, IsTrue};
 ghost use Rattle.aterm_text.specs.Brackets.{Holds, Keeping, Reached};
 ghost use Rattle.aterm_text.specs.Depth.{Open};
@@ -15,7 +15,7 @@ use std::alloc::{AllocError, Global};
 use term_model::bytes::{is_digit_byte, signed, with_digit};
 use term_model::{Fault, Made, TermSpace};
 
-// The integer of the digits from the index on.
+/// The integer of the digits from the index on.
 #[inline(always)]
 pub(crate) fn read_number<S: TermSpace>(
     space: &mut S,
@@ -40,7 +40,7 @@ pub(crate) fn read_number<S: TermSpace>(
     Ok((Next::Whole, end))
 }
 
-// Adds an integer, if all terms fit.
+/// Adds an integer, if all terms fit.
 #[inline(always)]
 fn add_int<S: TermSpace>(
     space: &mut S,
@@ -64,7 +64,7 @@ fn add_int<S: TermSpace>(
     Ok(())
 }
 
-// The integer of the digits from the index on, which comes after a minus.
+/// The integer of the digits from the index on, which comes after a minus.
 #[inline(always)]
 pub(crate) fn read_negative<S: TermSpace>(
     space: &mut S,
@@ -90,7 +90,7 @@ pub(crate) fn read_negative<S: TermSpace>(
     read_number(space, alloc, reader, true, text, index)
 }
 
-// The number of the digits from the index on, and where they end.
+/// The number of the digits from the index on, and where they end.
 #[inline(always)]
 fn digits_end(text: &[u8], index: usize, negative: bool) -> Result<(u64, usize), Fault>
     requires { index ≤ length text.now }

@@ -1,4 +1,4 @@
-// Appends bytes to those that a vector holds. A growth that is refused leaves what it held.
+//! Appends bytes to those that a vector holds. A growth that is refused leaves what it held.
 ghost use Rattle.std.specs.Prelude.{◌≡◌, [], ◌∷◌, ◌++◌, OnOk};
 ghost use Rattle.std.specs.Fmt.{signed_decimal};
 ghost use Rattle.aterm_text.specs.Output.{Extends};
@@ -24,7 +24,7 @@ pub(crate) fn push_bytes(bytes: &[u8], out: &mut Vec<u8>) -> Result<(), AllocErr
     Ok(())
 }
 
-// The digits of a number, after a minus where it is negative.
+/// The digits of a number, after a minus where it is negative.
 pub(crate) fn push_number(value: i64, out: &mut Vec<u8>) -> Result<(), AllocError>
     ensures written { OnOk result (out.new.items ≡ out.old.items ++ signed_decimal value) }
     ensures kept { Extends out.old.items out.new.items }

@@ -1,10 +1,11 @@
-// Symbols: names and quoted text, of raw bytes and escapes.
+//! Symbols: names and quoted text, of raw bytes and escapes.
 ghost use Rattle.std.specs.Prelude.{◌≡◌, ◌≤◌, ◌<◌, ◌+◌, ◌-◌, ◌^◌, ℕ, List, [], ◌∷◌, ◌++◌, length, slice_index, slice_range, IfOk, IfErr, IsTrue, true};
 ghost use Rattle.aterm_text.specs.Depth.{Open};
 ghost use Rattle.aterm_text.specs.Reading.{InName, InText, InEscape, InOctal, InOctals, Named, Refuses, outcome_from, first};
 ghost use Rattle.term_model.specs.Bytes.{is_between, is_octal};
 ghost use Rattle.term_model.specs.Space.{Keeps};
 ghost use Rattle.term_model.specs.Symbol.{Quoted, begins_name};
+ghost use Rattle.term_model.specs.Results.{Returns};
 
 use crate::scan::{name_end, raw_end};
 use std::alloc::{AllocError, Global};
@@ -12,7 +13,7 @@ use term_model::bytes::{is_octal_byte, unescaped};
 use term_model::symbol::Kind;
 use term_model::{Fault, TermSpace};
 
-// The name that begins at the index, and where it ends.
+/// The name that begins at the index, and where it ends.
 #[inline(always)]
 pub(crate) fn read_plain<S: TermSpace>(
     space: &mut S,
@@ -35,7 +36,7 @@ pub(crate) fn read_plain<S: TermSpace>(
     Ok((name, end))
 }
 
-// The symbol of the quoted text that begins at the index, and the index after the closing quote.
+/// The symbol of the quoted text that begins at the index, and the index after the closing quote.
 #[inline(always)]
 pub(crate) fn read_quoted<S: TermSpace>(
     space: &mut S,
@@ -64,7 +65,7 @@ pub(crate) fn read_quoted<S: TermSpace>(
     Ok((name, after))
 }
 
-// The bytes that a quoted text stands for, and the index after the closing quote.
+/// The bytes that a quoted text stands for, and the index after the closing quote.
 fn read_escaped(alloc: Global, text: &[u8], index: usize) -> Result<(Vec<u8>, usize), Fault>
     requires within { index ≤ length text.now }
     ensures past { IfOk result (λ r. index < r.1) }
@@ -96,7 +97,7 @@ fn read_escaped(alloc: Global, text: &[u8], index: usize) -> Result<(Vec<u8>, us
     }
 }
 
-// The byte of an escape, of which the index is after the backslash, and where it ends.
+/// The byte of an escape, of which the index is after the backslash, and where it ends.
 fn read_escape(text: &[u8], index: usize) -> Result<(u8, usize), Fault>
     requires within { index ≤ length text.now }
     ensures low { IfOk result (λ r. index < r.1) }
@@ -122,19 +123,19 @@ fn read_escape(text: &[u8], index: usize) -> Result<(u8, usize), Fault>
     Ok((8 * (8 * (byte - b'0') + second) + third, index + 3))
 }
 
-// Whether the byte is the first of three octal digits of a byte.
+/// Whether the byte is the first of three octal digits of a byte.
 fn begins_octal(byte: u8) -> bool
     ensures { result ≡ is_between 48 51 byte }
 {
     matches!(byte, b'0'..=b'3')
 }
 
-// The octal digit at the index.
+/// The octal digit at the index.
 fn octal_digit(text: &[u8], index: usize) -> Result<u8, Fault>
     requires within { index ≤ length text.now }
     ensures within { IfOk result (λ d. index < length text.now) }
     ensures octal { IfOk result (λ d. is_octal (slice_index text.now index) ≡ true) }
-    ensures value { IfOk result (λ d. d ≡ slice_index text.now index - 48) }
+    ensures value { Returns result (slice_index text.now index - 48) }
     ensures small { IfOk result (λ d. d ≤ 7) }
     ensures err { (b : List ℕ) (v : ℕ) (s : List Open) →
         IfErr result (λ e. Refuses e (outcome_from text.now (InOctal b v s) index)) }

@@ -1,4 +1,4 @@
-// Writing quoted text.
+//! Writing quoted text.
 ghost use Rattle.std.specs.Prelude.{◌≡◌, ◌<◌, ◌≤◌, [], ◌∷◌, ◌++◌, ◌||◌, ◌==◌, nat_lt, not, length, drop, slice_range, IsTrue, IfOk, OnOk};
 ghost use Rattle.std.specs.List.{list_all};
 ghost use Rattle.aterm_text.specs.Text.{item_text, items_text, quoted_text, octal_text};
@@ -43,13 +43,14 @@ fn is_written_raw(byte: u8) -> bool
     byte >= 32 && !matches!(byte, b'"' | b'\\' | 127)
 }
 
-// Where the bytes end that are written as they are.
+/// Where the bytes end that are written as they are.
 #[tactic(auto, using(crate::proofs::QuotingLemmas::raw_run))]
 fn raw_end(bytes: &[u8], index: usize) -> usize
     requires { index ≤ length bytes.now }
     ensures low { index ≤ result }
     ensures high { result ≤ length bytes.now }
-    ensures raw { items_text (drop index bytes.now) ≡ slice_range bytes.now index result ++ items_text (drop result bytes.now) }
+    ensures raw { items_text (drop index bytes.now) ≡ slice_range bytes.now index result ++
+        items_text (drop result bytes.now) }
 {
     let mut end = index;
     while end < bytes.len() && is_written_raw(bytes[end]) {
@@ -58,12 +59,13 @@ fn raw_end(bytes: &[u8], index: usize) -> usize
     end
 }
 
-// Writes the bytes from the index on that are written as they are, and the one after them, and
-// returns the index at which to go on.
+/// Writes the bytes from the index on that are written as they are, and the one after them, and
+/// returns the index at which to go on.
 #[tactic(auto, using(crate::proofs::QuotingLemmas::runs))]
 fn push_run(bytes: &[u8], index: usize, out: &mut Vec<u8>) -> Result<usize, AllocError>
     requires { index < length bytes.now }
-    ensures written { IfOk result (λ next. out.new.items ++ items_text (drop next bytes.now) ≡ out.old.items ++ items_text (drop index bytes.now)) }
+    ensures written { IfOk result (λ next. out.new.items ++
+        items_text (drop next bytes.now) ≡ out.old.items ++ items_text (drop index bytes.now)) }
     ensures further { IfOk result (λ next. (index < next) × (next ≤ length bytes.now)) }
     ensures kept { Extends out.old.items out.new.items }
 {

@@ -1,4 +1,4 @@
-// Reading a term into a space, in one pass over its text.
+//! Reading a term into a space, in one pass over its text.
 ghost use Rattle.std.specs.Prelude.{false, ◌≡◌, ◌+◌, ◌<◌, List, [], ◌∷◌, reverse, length, slice_index, IfOk, IfErr, IsTrue};
 ghost use Rattle.aterm_text.specs.Brackets.{Holds, Reached, awaits_term, closes_first, closing_state};
 ghost use Rattle.aterm_text.specs.Reading.{Answers, Refuses, first as first_state, next as next_state, outcome_of};
@@ -19,7 +19,7 @@ use term_model::symbol::{Kind, begins};
 use term_model::term::MAX_DEPTH;
 use term_model::{Fault, TermSpace};
 
-// Whether the byte closes the innermost bracket.
+/// Whether the byte closes the innermost bracket.
 #[inline(always)]
 fn closes<N: Drop>(brackets: &[Bracket<N>], byte: u8) -> bool
     ensures { result ≡ closes_first (reverse brackets.now) byte }
@@ -30,7 +30,7 @@ fn closes<N: Drop>(brackets: &[Bracket<N>], byte: u8) -> bool
     }
 }
 
-// Closes the innermost bracket at the index, if it is the byte there that closes it.
+/// Closes the innermost bracket at the index, if it is the byte there that closes it.
 fn close_at<S: TermSpace>(
     space: &mut S,
     alloc: Global,
@@ -58,7 +58,7 @@ fn close_at<S: TermSpace>(
     Ok((next, index + 1))
 }
 
-// The first byte of a term, which may begin here.
+/// The first byte of a term, which may begin here.
 fn read_first_byte<S: TermSpace>(
     space: &mut S,
     alloc: Global,
@@ -102,7 +102,7 @@ fn read_first_byte<S: TermSpace>(
     }
 }
 
-// A term that begins at the index.
+/// A term that begins at the index.
 fn begin_term<S: TermSpace>(
     space: &mut S,
     alloc: Global,
@@ -129,7 +129,7 @@ fn begin_term<S: TermSpace>(
     read_first_byte(space, alloc, reader, text, index)
 }
 
-// The byte after a bracket that opens.
+/// The byte after a bracket that opens.
 fn begin_or_close<S: TermSpace>(
     space: &mut S,
     alloc: Global,
@@ -153,7 +153,7 @@ fn begin_or_close<S: TermSpace>(
     begin_term(space, alloc, reader, text, index)
 }
 
-// A byte after a term that takes no annotations.
+/// A byte after a term that takes no annotations.
 fn follow<S: TermSpace>(
     space: &mut S,
     alloc: Global,
@@ -179,7 +179,7 @@ fn follow<S: TermSpace>(
     close_at(space, alloc, reader, text, index)
 }
 
-// A byte after a term that may take annotations.
+/// A byte after a term that may take annotations.
 fn annotate_or_follow<S: TermSpace>(
     space: &mut S,
     alloc: Global,
@@ -204,7 +204,7 @@ fn annotate_or_follow<S: TermSpace>(
     follow(space, alloc, reader, text, index)
 }
 
-// The byte at the index, which is no blank.
+/// The byte at the index, which is no blank.
 fn step<S: TermSpace>(
     space: &mut S,
     alloc: Global,
@@ -231,7 +231,7 @@ fn step<S: TermSpace>(
     }
 }
 
-// The term that is read at the end of the text; the space is that of the references.
+/// The term that is read at the end of the text; the space is that of the references.
 fn finish<S: TermSpace>(
     space: &S,
     reader: Reader<S::Ref, S::Name>,
@@ -261,7 +261,7 @@ fn finish<S: TermSpace>(
     }
 }
 
-// Whether no term is whole.
+/// Whether no term is whole.
 fn needs_term(next: Next) -> bool
     ensures { result ≡ awaits_term next }
 {
@@ -271,7 +271,7 @@ fn needs_term(next: Next) -> bool
     }
 }
 
-// The term that the text spells, in the space.
+/// The term that the text spells, in the space.
 pub(crate) fn read_in<S: TermSpace>(
     space: &mut S,
     alloc: Global,

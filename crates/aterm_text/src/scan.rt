@@ -1,4 +1,4 @@
-// Runs of bytes in a text.
+//! Runs of bytes in a text.
 ghost use Rattle.std.specs.Prelude.{◌≡◌, ◌≤◌, ◌<◌, ℕ, length, slice_index, true, false};
 ghost use Rattle.aterm_text.specs.Depth.{begins_term};
 ghost use Rattle.term_model.specs.Bytes.{is_blank, is_raw};
@@ -7,7 +7,7 @@ ghost use Rattle.term_model.specs.Symbol.{continues_name};
 use term_model::bytes::{is_blank_byte, is_digit_byte};
 use term_model::symbol::{begins, continues};
 
-// Whether a term may begin with the byte.
+/// Whether a term may begin with the byte.
 #[inline(always)]
 pub(crate) fn is_first(byte: u8) -> bool
     ensures { result ≡ begins_term byte }
@@ -15,7 +15,7 @@ pub(crate) fn is_first(byte: u8) -> bool
     begins(byte) || is_digit_byte(byte) || matches!(byte, b'-' | b'"' | b'(' | b'[')
 }
 
-// Where the blanks end.
+/// Where the blanks end.
 #[inline(always)]
 pub(crate) fn blanks_end(text: &[u8], index: usize) -> usize
     requires { index ≤ length text.now }
@@ -31,7 +31,7 @@ pub(crate) fn blanks_end(text: &[u8], index: usize) -> usize
     end
 }
 
-// Where the bytes of a name end.
+/// Where the bytes of a name end.
 #[inline(always)]
 pub(crate) fn name_end(text: &[u8], index: usize) -> usize
     requires { index ≤ length text.now }
@@ -48,7 +48,7 @@ pub(crate) fn name_end(text: &[u8], index: usize) -> usize
     end
 }
 
-// Where the raw bytes of a quoted text end.
+/// Where the raw bytes of a quoted text end.
 #[inline(always)]
 pub(crate) fn raw_end(text: &[u8], index: usize) -> usize
     requires { index ≤ length text.now }

@@ -1,4 +1,4 @@
-// Writing the canonical text of a term.
+//! Writing the canonical text of a term.
 ghost use Rattle.std.specs.Prelude.{◌≡◌, [], ◌∷◌, ◌++◌, All, IsTrue, OnOk, is_ok, if◌then◌else◌};
 ghost use Rattle.aterm_text.specs.Text.{text};
 ghost use Rattle.aterm_text.specs.Output.{Extends, bare_text_of, enclosed_in, texts_in};
@@ -9,7 +9,7 @@ use std::alloc::AllocError;
 use term_model::symbol::Kind;
 use term_model::{Parts, TermSpace, Top};
 
-// The canonical text of the term, or nothing where a growth was refused.
+/// The canonical text of the term, or nothing where a growth was refused.
 #[tactic(auto, using(crate::proofs::WriteLemmas::cut_back))]
 pub(crate) fn write<S: TermSpace>(
     space: &S,
@@ -41,7 +41,7 @@ fn push_term<S: TermSpace>(space: &S, at: &S::Ref, out: &mut Vec<u8>) -> Result<
     Ok(())
 }
 
-// A term without its annotations.
+/// A term without its annotations.
 #[cycle(write)]
 #[tactic(auto, using(crate::proofs::WriteLemmas::writing))]
 fn push_bare<S: TermSpace>(space: &S, at: &S::Ref, out: &mut Vec<u8>) -> Result<(), AllocError>
@@ -67,7 +67,7 @@ fn push_bare<S: TermSpace>(space: &S, at: &S::Ref, out: &mut Vec<u8>) -> Result<
     }
 }
 
-// The terms in brackets, or nothing where there are none.
+/// The terms in brackets, or nothing where there are none.
 #[cycle(write)]
 #[tactic(auto, using(crate::proofs::WriteLemmas::writing))]
 fn push_enclosed<S: TermSpace>(
@@ -89,7 +89,7 @@ fn push_enclosed<S: TermSpace>(
     Ok(())
 }
 
-// The terms in brackets.
+/// The terms in brackets.
 #[cycle(write)]
 #[tactic(auto, using(crate::proofs::WriteLemmas::writing))]
 fn push_between<S: TermSpace>(
@@ -110,7 +110,7 @@ fn push_between<S: TermSpace>(
     Ok(())
 }
 
-// The terms with commas between.
+/// The terms with commas between.
 #[cycle(write)]
 #[tactic(auto, using(crate::proofs::WriteLemmas::writing))]
 fn push_all<S: TermSpace>(

@@ -38,20 +38,24 @@ no_term Oversize h = tt
 no_term Spent h = tt
 
 -- the same facts of things that are equal
-pub moved_to : {M : Meaning} {V W : Environment Coordinate ℕ} {s s' : Strategy Coordinate ℕ} {t : Tree} {e e' : Bindings} {b : ℕ} {v : Verdict Tree} {c : ℕ} →
+pub moved_to : {M : Meaning} {V W : Environment Coordinate ℕ} {s s' : Strategy Coordinate ℕ} {t : Tree}
+    {e e' : Bindings} {b : ℕ} {v : Verdict Tree} {c : ℕ} →
     W ≡ V → s' ≡ s → e' ≡ e → Evaluates M W s' t e' b v c → Evaluates M V s t e b v c
 moved_to {M} {V} {W} {s} {s'} {t} {e} {e'} {b} {v} {c} hv hs he x =
-    subst (λ z. Evaluates M z s t e b v c) hv (subst (λ z. Evaluates M W z t e b v c) hs (subst (λ z. Evaluates M W s' t z b v c) he x))
+    subst (λ z. Evaluates M z s t e b v c)
+    hv (subst (λ z. Evaluates M W z t e b v c) hs (subst (λ z. Evaluates M W s' t z b v c) he x))
 
 module _ {M : Meaning} {V : Environment Coordinate ℕ} {t : Tree} {e : Bindings} {b : ℕ} where
   -- a node is taken of a budget that is not zero
-  pub taken : {s s' : Strategy Coordinate ℕ} {v : Verdict Tree} {c : ℕ} → s ≡ s' → (b ≡ 0 → ⊥) → Evaluates M V s' t e (1 + (b - 1)) v c → Evaluates M V s t e b v c
+  pub taken : {s s' : Strategy Coordinate ℕ} {v : Verdict Tree} {c : ℕ} → s ≡ s' → (b ≡ 0 → ⊥) →
+      Evaluates M V s' t e (1 + (b - 1)) v c → Evaluates M V s t e b v c
   taken {s} {s'} {v} {c} h some_left x =
       let same : 1 + (b - 1) ≡ b = omega arith in
       subst (λ z. Evaluates M V z t e b v c) (sym h) (subst (λ m. Evaluates M V s' t e m v c) same x)
 
   pub at_zero : (s : Strategy Coordinate ℕ) → b ≡ 0 → Evaluates M V s t e b spent b
-  at_zero s h = subst (λ m. Evaluates M V s t e m spent b) (sym h) (record { settled = spent_at_zero V s t e b; left = omega arith })
+  at_zero s h = subst (λ m. Evaluates M V s t e m spent b) (sym h)
+      (record { settled = spent_at_zero V s t e b; left = omega arith })
 
   pub at_id : {s : Strategy Coordinate ℕ} → s ≡ id → (b ≡ 0 → ⊥) → Evaluates M V s t e b (ends (ok t e)) (b - 1)
   at_id h some_left = taken h some_left (record { settled = id_settled V t e (b - 1); left = omega arith })
@@ -60,25 +64,39 @@ module _ {M : Meaning} {V : Environment Coordinate ℕ} {t : Tree} {e : Bindings
   at_fail h some_left = taken h some_left (record { settled = fail_settled V t e (b - 1); left = omega arith })
 
   -- a match, whose node is paid
-  pub match_done : {p : Pattern Coordinate} {f : Bindings} → tried (by_coordinates.place_of V) p t e ≡ Some f → Evaluates M V (match p) t e (1 + b) (ends (ok t f)) b
-  match_done {p = p} {f = f} is = record { settled = match_settled V p t e f b (tried_matches (by_coordinates.place_of V) is); left = omega arith }
+  pub match_done : {p : Pattern Coordinate} {f : Bindings} → tried (by_coordinates.place_of V) p t e ≡ Some f →
+      Evaluates M V (match p) t e (1 + b) (ends (ok t f)) b
+  match_done {p = p} {f = f} is =
+      record { settled = match_settled V p t e f b (tried_matches (by_coordinates.place_of V) is); left = omega arith }
 
-  pub no_match_done : {p : Pattern Coordinate} → tried (by_coordinates.place_of V) p t e ≡ None → Evaluates M V (match p) t e (1 + b) (ends failed) b
-  no_match_done {p = p} is = record { settled = no_match_settled V p t e b (tried_none (by_coordinates.place_of V) is); left = omega arith }
+  pub no_match_done : {p : Pattern Coordinate} → tried (by_coordinates.place_of V) p t e ≡ None →
+      Evaluates M V (match p) t e (1 + b) (ends failed) b
+  no_match_done {p = p} is = record {
+    settled = no_match_settled V p t e b (tried_none (by_coordinates.place_of V) is);
+    left = omega arith;
+  }
 
-  pub at_build : {s : Strategy Coordinate ℕ} {p : Pattern Coordinate} {v : Verdict Tree} → s ≡ build p → (b ≡ 0 → ⊥) → v ≡ ends (built (instance (by_coordinates.place_of V) p e) e) → Evaluates M V s t e b v (b - 1)
-  at_build {s} {p} h some_left is = subst (λ z. Evaluates M V s t e b z (b - 1)) (sym is) (taken h some_left (record { settled = build_settled V p t e (b - 1); left = omega arith }))
+  pub at_build : {s : Strategy Coordinate ℕ} {p : Pattern Coordinate} {v : Verdict Tree} → s ≡ build p → (b ≡ 0 → ⊥) →
+      v ≡ ends (built (instance (by_coordinates.place_of V) p e) e) → Evaluates M V s t e b v (b - 1)
+  at_build {s} {p} h some_left is =
+      subst (λ z. Evaluates M V s t e b z (b - 1)) (sym is)
+      (taken h some_left (record { settled = build_settled V p t e (b - 1); left = omega arith }))
 
-  pub at_primitive : {s : Strategy Coordinate ℕ} {f : List ℕ} {ps : Patterns Coordinate} {v : Verdict Tree} → s ≡ primitive f ps → (b ≡ 0 → ⊥) →
-      v ≡ ends (answered (M f) (arguments (instances (by_coordinates.place_of V) ps e) e)) → Evaluates M V s t e b v (b - 1)
-  at_primitive {s} {f} {ps} h some_left is = subst (λ z. Evaluates M V s t e b z (b - 1)) (sym is) (taken h some_left (record { settled = primitive_settled V f ps t e (b - 1); left = omega arith }))
+  pub at_primitive : {s : Strategy Coordinate ℕ} {f : List ℕ} {ps : Patterns Coordinate} {v : Verdict Tree} →
+      s ≡ primitive f ps → (b ≡ 0 → ⊥) →
+      v ≡ ends (answered (M f) (arguments (instances (by_coordinates.place_of V) ps e) e)) →
+      Evaluates M V s t e b v (b - 1)
+  at_primitive {s} {f} {ps} h some_left is =
+      subst (λ z. Evaluates M V s t e b z (b - 1)) (sym is)
+      (taken h some_left (record { settled = primitive_settled V f ps t e (b - 1); left = omega arith }))
 
   -- a sequence, whose node is taken
   pub sequence_goes_on : {r s : Strategy Coordinate ℕ} {u : Tree} {f : Bindings} {d c : ℕ} {v : Verdict Tree} →
       Evaluates M V r t e b (ends (ok u f)) d → Evaluates M V s u f d v c → Evaluates M V (seq r s) t e (1 + b) v c
   sequence_goes_on x y = record { settled = seq_goes_on x.settled y.settled; left = omega arith }
 
-  pub sequence_stops : {r s : Strategy Coordinate ℕ} (f : Bindings) {c : ℕ} (o : Outcome Tree) → IsNoTerm o → Evaluates M V r t e b (verdict_of o f) c → Evaluates M V (seq r s) t e (1 + b) (verdict_of o f) c
+  pub sequence_stops : {r s : Strategy Coordinate ℕ} (f : Bindings) {c : ℕ} (o : Outcome Tree) → IsNoTerm o →
+      Evaluates M V r t e b (verdict_of o f) c → Evaluates M V (seq r s) t e (1 + b) (verdict_of o f) c
   sequence_stops f (Rewritten u) n x = absurd n
   sequence_stops f Failed n x = record { settled = seq_stops x.settled; left = omega arith }
   sequence_stops f Oversize n x = record { settled = seq_stops x.settled; left = omega arith }
@@ -89,10 +107,13 @@ module _ {M : Meaning} {V : Environment Coordinate ℕ} {t : Tree} {e : Bindings
       Evaluates M V r t e b (ends (ok u f)) d → Evaluates M V s u f d v c → Evaluates M V (choice r s q) t e (1 + b) v c
   choice_goes_on x y = record { settled = choice_then x.settled y.settled; left = omega arith }
 
-  pub choice_tries_other : {r s q : Strategy Coordinate ℕ} {d c : ℕ} {v : Verdict Tree} → Evaluates M V r t e b (ends failed) d → Evaluates M V q t e d v c → Evaluates M V (choice r s q) t e (1 + b) v c
+  pub choice_tries_other : {r s q : Strategy Coordinate ℕ} {d c : ℕ} {v : Verdict Tree} →
+      Evaluates M V r t e b (ends failed) d → Evaluates M V q t e d v c → Evaluates M V (choice r s q) t e (1 + b) v c
   choice_tries_other x y = record { settled = choice_else x.settled y.settled; left = omega arith }
 
-  pub choice_stops : {r s q : Strategy Coordinate ℕ} (f : Bindings) {c : ℕ} (o : Outcome Tree) → IsNoTerm o → (o ≡ Failed → ⊥) → Evaluates M V r t e b (verdict_of o f) c → Evaluates M V (choice r s q) t e (1 + b) (verdict_of o f) c
+  pub choice_stops : {r s q : Strategy Coordinate ℕ} (f : Bindings) {c : ℕ} (o : Outcome Tree) → IsNoTerm o →
+      (o ≡ Failed → ⊥) → Evaluates M V r t e b (verdict_of o f) c →
+      Evaluates M V (choice r s q) t e (1 + b) (verdict_of o f) c
   choice_stops f (Rewritten u) n h x = absurd n
   choice_stops f Failed n h x = absurd (h refl)
   choice_stops f Oversize n h x = record { settled = choice_oversize x.settled; left = omega arith }
@@ -100,7 +121,8 @@ module _ {M : Meaning} {V : Environment Coordinate ℕ} {t : Tree} {e : Bindings
 
   -- a scope, whose node is taken
   pub scope_done : {k : ℕ} {s : Strategy Coordinate ℕ} (f : Bindings) {c : ℕ} (o : Outcome Tree) →
-      Evaluates M (layer (length e) 0 k no_closures V) s t (e ++ empty_places k) b (verdict_of o f) c → Evaluates M V (scope k s) t e (1 + b) (verdict_of o (take (length e) f)) c
+      Evaluates M (layer (length e) 0 k no_closures V) s t (e ++ empty_places k) b (verdict_of o f) c →
+      Evaluates M V (scope k s) t e (1 + b) (verdict_of o (take (length e) f)) c
   scope_done f (Rewritten u) x = record { settled = scope_ends x.settled; left = omega arith }
   scope_done f Failed x = record { settled = scope_ends x.settled; left = omega arith }
   scope_done f Oversize x = record { settled = scope_ends x.settled; left = omega arith }
@@ -116,11 +138,13 @@ made_built (Some t) e = by_test (fits t)
     by_test false = refl
 
 -- a verdict on a term that the outcome has
-pub rewritten_to : {M : Meaning} {V : Environment Coordinate ℕ} {s : Strategy Coordinate ℕ} {t : Tree} {e : Bindings} {b : ℕ} {o : Outcome Tree} {u : Tree} (f : Bindings) {c : ℕ} →
+pub rewritten_to : {M : Meaning} {V : Environment Coordinate ℕ} {s : Strategy Coordinate ℕ} {t : Tree} {e : Bindings}
+    {b : ℕ} {o : Outcome Tree} {u : Tree} (f : Bindings) {c : ℕ} →
     o ≡ Rewritten u → Evaluates M V s t e b (verdict_of o f) c → Evaluates M V s t e b (ends (ok u f)) c
 rewritten_to {M} {V} {s} {t} {e} {b} f {c} is x = subst (λ z. Evaluates M V s t e b (verdict_of z f) c) is x
 
-pub failed_to : {M : Meaning} {V : Environment Coordinate ℕ} {s : Strategy Coordinate ℕ} {t : Tree} {e : Bindings} {b : ℕ} {o : Outcome Tree} (f : Bindings) {c : ℕ} →
+pub failed_to : {M : Meaning} {V : Environment Coordinate ℕ} {s : Strategy Coordinate ℕ} {t : Tree} {e : Bindings}
+    {b : ℕ} {o : Outcome Tree} (f : Bindings) {c : ℕ} →
     o ≡ Failed → Evaluates M V s t e b (verdict_of o f) c → Evaluates M V s t e b (ends failed) c
 failed_to {M} {V} {s} {t} {e} {b} f {c} is x = subst (λ z. Evaluates M V s t e b (verdict_of z f) c) is x
 
@@ -130,7 +154,8 @@ on_ok (Ok r) f h = f r h
 on_ok (Err x) f h = tt
 
 -- the next of a chain, and of the arms
-pub chain_next : (s : Strategy Coordinate ℕ) (xs rest : List CoreStrategy) (x : CoreStrategy) → IsFirstAndRest xs x rest →
+pub chain_next : (s : Strategy Coordinate ℕ) (xs rest : List CoreStrategy) (x : CoreStrategy) →
+    IsFirstAndRest xs x rest →
     chain s (map strategy_of xs) ≡ seq s (chain (strategy_of x) (map strategy_of rest))
 chain_next s xs rest x h = ap (λ ys. chain s (map strategy_of ys)) h.0
 
@@ -138,7 +163,8 @@ pub chain_ends : (s : Strategy Coordinate ℕ) (xs : List CoreStrategy) → leng
 chain_ends s [] h = refl
 chain_ends s (x ∷ xs) h = absurd (omega arith)
 
-pub arms_next : (xs rest : List CoreArm) (x : CoreArm) (q : Strategy Coordinate ℕ) → IsFirstAndRest xs x rest → first_of (map arm_of xs) q ≡ first_of (arm_of x ∷ map arm_of rest) q
+pub arms_next : (xs rest : List CoreArm) (x : CoreArm) (q : Strategy Coordinate ℕ) → IsFirstAndRest xs x rest →
+    first_of (map arm_of xs) q ≡ first_of (arm_of x ∷ map arm_of rest) q
 arms_next xs rest x q h = ap (λ ys. first_of (map arm_of ys) q) h.0
 
 pub no_arms : (xs : List CoreArm) (q : Strategy Coordinate ℕ) → length xs ≡ 0 → first_of (map arm_of xs) q ≡ q

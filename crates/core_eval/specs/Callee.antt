@@ -1,3 +1,4 @@
+-- The headline does not rest on this file.
 -- What is called.
 use Rattle.std.specs.Prelude.{ℕ}
 use Rattle.core_lang.specs.declared.coordinate.Coordinate.{Coordinate}
@@ -10,4 +11,5 @@ use Rattle.core_eval.specs.Frame.{environment_of, closure_of}
 
 abbrev pub callee_of : Callee → environment.Callee Coordinate ℕ
 callee_of (Parameter c) = closure (closure_of c).strategy (closure_of c).environment
-callee_of (Definition d home) = definition (def_of d.now).strats (def_of d.now).terms (def_of d.now).body (environment_of home.now)
+callee_of (Definition d home) =
+    definition (def_of d.now).strats (def_of d.now).terms (def_of d.now).body (environment_of home.now)

@@ -1,3 +1,4 @@
+-- The headline does not rest on this file.
 -- What an evaluation says.
 use Rattle.std.specs.Prelude.{◌≡◌, ◌≤◌, ℕ, Option, Some, None, List, []}
 use Rattle.term_model.specs.declared.made.Made.{Made}
@@ -33,15 +34,18 @@ verdict_of Oversize e = ends oversize
 verdict_of Spent e = spent
 
 -- with the primitives' meaning M: the strategy comes to this verdict from the budget b, and leaves the budget c
-pub record Evaluates (M : Meaning) (V : Environment Coordinate ℕ) (s : Strategy Coordinate ℕ) (t : Tree) (e : Bindings) (b : ℕ) (v : Verdict Tree) (c : ℕ) : Type 0 where
+pub record Evaluates (M : Meaning) (V : Environment Coordinate ℕ) (s : Strategy Coordinate ℕ) (t : Tree) (e : Bindings)
+    (b : ℕ) (v : Verdict Tree) (c : ℕ) : Type 0 where
   pub settled : Settled by_coordinates M V s t e b v c
   pub left : c ≤ b
 
 -- with the primitives' meaning M: the same without bindings, with some or other at the end
-abbrev pub EvaluatesOn : Meaning → Environment Coordinate ℕ → Strategy Coordinate ℕ → Tree → ℕ → Outcome Tree → ℕ → Type 0
+abbrev pub EvaluatesOn : Meaning → Environment Coordinate ℕ → Strategy Coordinate ℕ → Tree → ℕ → Outcome Tree → ℕ →
+    Type 0
 EvaluatesOn M V s t b r c = (e : Bindings) × Evaluates M V s t [] b (verdict_of r e) c
 
 -- a run by recursion: no machine takes a step
-pub record IsRun (M : Meaning) (P : Definitions Name (List Name)) (main : Name) (t : Tree) (budget : ℕ) (run : Run Tree) : Type 0 where
+pub record IsRun (M : Meaning) (P : Definitions Name (List Name)) (main : Name) (t : Tree) (budget : ℕ)
+    (run : Run Tree) : Type 0 where
   pub outcome : IsOutcome M P main t budget run.outcome run.rules
   pub steps : run.steps ≡ 0

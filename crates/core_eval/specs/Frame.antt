@@ -1,3 +1,4 @@
+-- The headline does not rest on this file.
 -- The environment that linked layers stand for.
 use Rattle.std.specs.Prelude.{ℕ, ◌≤◌, ◌+◌, nat_lt, if◌then◌else◌, List, [], ◌∷◌, Option, Some, None}
 use Rattle.core_lang.specs.declared.coordinate.Coordinate.{Coordinate}

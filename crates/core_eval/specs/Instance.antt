@@ -1,3 +1,4 @@
+-- The headline does not rest on this file.
 -- What making several terms says.
 use Rattle.std.specs.Borrow.{Bor}
 use Rattle.std.specs.Prelude.{◌≡◌, Bool, true, false, List, [], ◌∷◌, ◌++◌, Option, Some, None, Vec}

@@ -1,4 +1,4 @@
-// Bindings: the places of a run.
+//! Bindings: the places of a run.
 ghost use Rattle.std.specs.Prelude.{◌≡◌, ◌++◌, IfOk, OnOk};
 ghost use Rattle.core_lang.specs.Environment.{empty_places, filled_places};
 ghost use Rattle.term_model.specs.Term.{trees_of};
@@ -7,7 +7,7 @@ use std::alloc::{AllocError, Global};
 use term_model::Term;
 
 /// Returns a copy of the bindings.
-pub fn save(alloc: Global, places: &[Option<Term>]) -> Result<Vec<Option<Term>>, AllocError>
+pub(crate) fn save(alloc: Global, places: &[Option<Term>]) -> Result<Vec<Option<Term>>, AllocError>
     ensures { IfOk result (λ copy. copy.items ≡ places.now) }
 {
     let mut copy = Vec::new(alloc);
@@ -25,7 +25,7 @@ pub fn save(alloc: Global, places: &[Option<Term>]) -> Result<Vec<Option<Term>>,
 }
 
 /// Adds this number of new places, with nothing.
-pub fn push_empty(places: &mut Vec<Option<Term>>, count: usize) -> Result<(), AllocError>
+pub(crate) fn push_empty(places: &mut Vec<Option<Term>>, count: usize) -> Result<(), AllocError>
     ensures { OnOk result (places.new.items ≡ places.old.items ++ empty_places count) }
 {
     for _i in 0..count {
@@ -35,8 +35,9 @@ pub fn push_empty(places: &mut Vec<Option<Term>>, count: usize) -> Result<(), Al
 }
 
 /// Adds new places with these terms.
-pub fn push_terms(places: &mut Vec<Option<Term>>, terms: &[Term]) -> Result<(), AllocError>
-    ensures { OnOk result (places.new.items ≡ places.old.items ++ filled_places (trees_of terms.now)) }
+pub(crate) fn push_terms(places: &mut Vec<Option<Term>>, terms: &[Term]) -> Result<(), AllocError>
+    ensures { OnOk result (places.new.items ≡ places.old.items ++
+        filled_places (trees_of terms.now)) }
 {
     for t in terms {
         places.push(Some(t.clone()?))?;

@@ -1,4 +1,4 @@
-// What a call is of, and the closures of its arguments.
+//! What a call is of, and the closures of its arguments.
 ghost use Rattle.std.specs.Prelude.{◌≡◌, IfOk, MatchOption, None, Some, map};
 ghost use Rattle.core_lang.specs.Environment as environment;
 ghost use Rattle.core_lang.specs.Environment.{with_closure, more_closures, Closures};
@@ -20,8 +20,11 @@ pub enum Callee<'a> {
 }
 
 /// Returns what is called at a coordinate.
-pub fn callee_at<'a>(frame: &'a Frame<'a>, x: Coordinate) -> Option<Callee<'a>>
-    ensures { MatchOption result (callee_in (layers_up (environment_of frame.now) x.layers_up) x.slot ≡ None) (λ c. callee_in (layers_up (environment_of frame.now) x.layers_up) x.slot ≡ Some (callee_of c)) }
+pub(crate) fn callee_at<'a>(frame: &'a Frame<'a>, x: Coordinate) -> Option<Callee<'a>>
+    ensures { MatchOption result
+        (callee_in (layers_up (environment_of frame.now) x.layers_up) x.slot ≡ None)
+        (λ c. callee_in (layers_up (environment_of frame.now) x.layers_up) x.slot ≡
+        Some (callee_of c)) }
 {
     let home = layer(frame, x.layers_up);
     match home {
@@ -38,12 +41,13 @@ pub fn callee_at<'a>(frame: &'a Frame<'a>, x: Coordinate) -> Option<Callee<'a>>
 }
 
 /// Returns the closures of the strategy arguments of a call.
-pub fn closures_of<'a>(
+pub(crate) fn closures_of<'a>(
     alloc: Global,
     strategies: &'a [CoreStrategy],
     frame: &'a Frame<'a>,
 ) -> Result<Vec<Closure<'a>>, AllocError>
-    ensures { IfOk result (λ made. environment.closures_of by_coordinates (environment_of frame.now) (strategies_of strategies.now) ≡ closures_in (map closure_of made.items)) }
+    ensures { IfOk result (λ made. environment.closures_of by_coordinates (environment_of frame.now)
+        (strategies_of strategies.now) ≡ closures_in (map closure_of made.items)) }
 {
     let mut made = Vec::new(alloc);
     for s in strategies {
@@ -52,9 +56,11 @@ pub fn closures_of<'a>(
     Ok(made)
 }
 
-// Returns the closure of an argument: of a call of a strategy parameter that parameter's, of any other the argument's own.
+/// Returns the closure of an argument: of a call of a strategy parameter that parameter's, of any other the argument's own.
 fn handed_on<'a>(s: &'a CoreStrategy, frame: &'a Frame<'a>) -> Closure<'a>
-    ensures { (cs : ResolvedClosures) → with_closure by_coordinates (environment_of frame.now) (strategy_of s.now) cs ≡ more_closures (closure_of result).strategy (closure_of result).environment cs }
+    ensures { (cs : ResolvedClosures) →
+        with_closure by_coordinates (environment_of frame.now) (strategy_of s.now) cs ≡
+        more_closures (closure_of result).strategy (closure_of result).environment cs }
 {
     match s {
         CoreStrategy::Call(target, _, _) => match callee_at(frame, target.coordinate()) {

@@ -1,4 +1,4 @@
-// The evaluator, by recursion on the budget.
+//! The evaluator, by recursion on the budget.
 ghost use Rattle.std.specs.Prelude.{ℕ, ◌≡◌, ◌+◌, ◌∷◌, ◌<◌, IfOk, Some, length, map, slice_set};
 ghost use Rattle.core_lang.specs.Ending.{Ending, ok, failed, oversize};
 ghost use Rattle.core_lang.specs.Environment.{Bindings, definition};
@@ -15,7 +15,7 @@ use crate::bindings::{push_empty, push_terms, save};
 use crate::callee::{Callee, callee_at, closures_of};
 use crate::frame::Frame;
 use crate::instance::{instance, instances};
-use crate::making::built;
+use crate::making::build_outcome;
 use crate::matching::matches;
 use crate::primitive::evaluate_primitive;
 use crate::primitives::Primitives;
@@ -26,7 +26,7 @@ use term_model::{Made, Term};
 
 /// Evaluates the strategy on the term, each node of the derivation for one of the budget.
 #[cycle(eval)]
-pub fn evaluate<P: Primitives>(
+pub(crate) fn evaluate<P: Primitives>(
     primitives: &P,
     s: &CoreStrategy,
     frame: &Frame,
@@ -34,7 +34,9 @@ pub fn evaluate<P: Primitives>(
     state: &mut State,
 ) -> Result<Outcome<Term>, AllocError>
     requires { P.honest primitives.now }
-    ensures { IfOk result (λ r. Evaluates (P.meaning primitives.now) (environment_of frame.now) (strategy_of s.now) t.now state.old.places.items state.old.budget (verdict_of r state.new.places.items) state.new.budget) }
+    ensures { IfOk result (λ r. Evaluates (P.meaning primitives.now) (environment_of frame.now)
+        (strategy_of s.now) t.now state.old.places.items state.old.budget
+        (verdict_of r state.new.places.items) state.new.budget) }
 {
     if state.budget == 0 {
         return Ok(Outcome::Spent);
@@ -56,7 +58,7 @@ pub fn evaluate<P: Primitives>(
         CoreStrategy::Build(p) => {
             let p = p.pattern();
             let made = instance(state.alloc, p, None, frame, state.places.as_slice())?;
-            Ok(built(made))
+            Ok(build_outcome(made))
         }
         CoreStrategy::Scope(count, body) => evaluate_scope(
             primitives, *count, body, frame, t, state,
@@ -96,14 +98,17 @@ pub fn evaluate<P: Primitives>(
     }
 }
 
-// Matches the pattern with the term; the node of the match is paid.
+/// Matches the pattern with the term; the node of the match is paid.
 fn evaluate_match(
     p: &CorePattern,
     frame: &Frame,
     t: &Term,
     state: &mut State,
 ) -> Result<Outcome<Term>, AllocError>
-    ensures { IfOk result (λ r. (M : Meaning) → Evaluates M (environment_of frame.now) (program.match (pattern_of p.now)) t.now state.old.places.items (1 + state.old.budget) (verdict_of r state.new.places.items) state.new.budget) }
+    ensures { IfOk result (λ r. (M : Meaning) →
+        Evaluates M (environment_of frame.now) (program.match (pattern_of p.now))
+        t.now state.old.places.items (1 + state.old.budget) (verdict_of r state.new.places.items)
+        state.new.budget) }
 {
     if !matches(state.alloc, p, frame, t, &mut state.places)? {
         return Ok(Outcome::Failed);
@@ -111,7 +116,7 @@ fn evaluate_match(
     Ok(Outcome::Rewritten(t.clone()?))
 }
 
-// Evaluates a strategy that sees definitions; their node is paid.
+/// Evaluates a strategy that sees definitions; their node is paid.
 #[cycle(eval)]
 fn evaluate_let<P: Primitives>(
     primitives: &P,
@@ -122,7 +127,10 @@ fn evaluate_let<P: Primitives>(
     state: &mut State,
 ) -> Result<Outcome<Term>, AllocError>
     requires { P.honest primitives.now }
-    ensures { IfOk result (λ r. Evaluates (P.meaning primitives.now) (environment_of frame.now) (with_definitions (definitions_of defs.now) (strategy_of body.now)) t.now state.old.places.items (1 + state.old.budget) (verdict_of r state.new.places.items) state.new.budget) }
+    ensures { IfOk result (λ r. Evaluates (P.meaning primitives.now) (environment_of frame.now)
+        (with_definitions (definitions_of defs.now) (strategy_of body.now))
+        t.now state.old.places.items (1 + state.old.budget) (verdict_of r state.new.places.items)
+        state.new.budget) }
 {
     let inner = Frame::Definitions {
         defs,
@@ -132,7 +140,7 @@ fn evaluate_let<P: Primitives>(
     Ok(ending)
 }
 
-// Evaluates a sequence, whose first node is paid.
+/// Evaluates a sequence, whose first node is paid.
 #[cycle(eval)]
 fn evaluate_sequence<P: Primitives>(
     primitives: &P,
@@ -144,7 +152,10 @@ fn evaluate_sequence<P: Primitives>(
     state: &mut State,
 ) -> Result<Outcome<Term>, AllocError>
     requires { P.honest primitives.now }
-    ensures { IfOk result (λ r. Evaluates (P.meaning primitives.now) (environment_of frame.now) (chain (strategy_of first.now) (strategy_of second.now ∷ map strategy_of rest.now)) t.now state.old.places.items (1 + state.old.budget) (verdict_of r state.new.places.items) state.new.budget) }
+    ensures { IfOk result (λ r. Evaluates (P.meaning primitives.now) (environment_of frame.now)
+        (chain (strategy_of first.now) (strategy_of second.now ∷ map strategy_of rest.now))
+        t.now state.old.places.items (1 + state.old.budget) (verdict_of r state.new.places.items)
+        state.new.budget) }
 {
     match evaluate(primitives, first, frame, t, state)? {
         Outcome::Rewritten(u) => match rest.split_first() {
@@ -165,7 +176,7 @@ fn evaluate_sequence<P: Primitives>(
     }
 }
 
-// Evaluates a choice, whose first node is paid.
+/// Evaluates a choice, whose first node is paid.
 #[cycle(eval)]
 fn evaluate_arms<P: Primitives>(
     primitives: &P,
@@ -177,7 +188,10 @@ fn evaluate_arms<P: Primitives>(
     state: &mut State,
 ) -> Result<Outcome<Term>, AllocError>
     requires { P.honest primitives.now }
-    ensures { IfOk result (λ r. Evaluates (P.meaning primitives.now) (environment_of frame.now) (first_of (arm_of arm.now ∷ map arm_of more.now) (strategy_of otherwise.now)) t.now state.old.places.items (1 + state.old.budget) (verdict_of r state.new.places.items) state.new.budget) }
+    ensures { IfOk result (λ r. Evaluates (P.meaning primitives.now) (environment_of frame.now)
+        (first_of (arm_of arm.now ∷ map arm_of more.now) (strategy_of otherwise.now))
+        t.now state.old.places.items (1 + state.old.budget) (verdict_of r state.new.places.items)
+        state.new.budget) }
 {
     let before = save(state.alloc, state.places.as_slice())?;
     match evaluate(primitives, &arm.guard, frame, t, state)? {
@@ -206,7 +220,7 @@ fn evaluate_arms<P: Primitives>(
     }
 }
 
-// Evaluates a scope, whose node is paid.
+/// Evaluates a scope, whose node is paid.
 #[cycle(eval)]
 fn evaluate_scope<P: Primitives>(
     primitives: &P,
@@ -217,7 +231,9 @@ fn evaluate_scope<P: Primitives>(
     state: &mut State,
 ) -> Result<Outcome<Term>, AllocError>
     requires { P.honest primitives.now }
-    ensures { IfOk result (λ r. Evaluates (P.meaning primitives.now) (environment_of frame.now) (scope count (strategy_of body.now)) t.now state.old.places.items (1 + state.old.budget) (verdict_of r state.new.places.items) state.new.budget) }
+    ensures { IfOk result (λ r. Evaluates (P.meaning primitives.now) (environment_of frame.now)
+        (scope count (strategy_of body.now)) t.now state.old.places.items (1 + state.old.budget)
+        (verdict_of r state.new.places.items) state.new.budget) }
 {
     let base = state.places.len();
     push_empty(&mut state.places, count)?;
@@ -233,7 +249,7 @@ fn evaluate_scope<P: Primitives>(
     Ok(ending)
 }
 
-// Evaluates a strategy on each part of the term; its own node is paid.
+/// Evaluates a strategy on each part of the term; its own node is paid.
 #[cycle(eval)]
 fn evaluate_all<P: Primitives>(
     primitives: &P,
@@ -243,7 +259,9 @@ fn evaluate_all<P: Primitives>(
     state: &mut State,
 ) -> Result<Outcome<Term>, AllocError>
     requires { P.honest primitives.now }
-    ensures { IfOk result (λ r. Evaluates (P.meaning primitives.now) (environment_of frame.now) (all (strategy_of s.now)) t.now state.old.places.items (1 + state.old.budget) (verdict_of r state.new.places.items) state.new.budget) }
+    ensures { IfOk result (λ r. Evaluates (P.meaning primitives.now) (environment_of frame.now)
+        (all (strategy_of s.now)) t.now state.old.places.items (1 + state.old.budget)
+        (verdict_of r state.new.places.items) state.new.budget) }
 {
     let parts = t.children();
     let mut done = Vec::new(state.alloc);
@@ -256,10 +274,10 @@ fn evaluate_all<P: Primitives>(
         }
     }
     let made = t.rebuild(state.alloc, done)?;
-    Ok(built(Some(made)))
+    Ok(build_outcome(Some(made)))
 }
 
-// Evaluates a strategy on the first part of the term where it does not fail; its own node is paid.
+/// Evaluates a strategy on the first part of the term where it does not fail; its own node is paid.
 #[cycle(eval)]
 fn evaluate_one<P: Primitives>(
     primitives: &P,
@@ -269,16 +287,18 @@ fn evaluate_one<P: Primitives>(
     state: &mut State,
 ) -> Result<Outcome<Term>, AllocError>
     requires { P.honest primitives.now }
-    ensures { IfOk result (λ r. Evaluates (P.meaning primitives.now) (environment_of frame.now) (one (strategy_of s.now)) t.now state.old.places.items (1 + state.old.budget) (verdict_of r state.new.places.items) state.new.budget) }
+    ensures { IfOk result (λ r. Evaluates (P.meaning primitives.now) (environment_of frame.now)
+        (one (strategy_of s.now)) t.now state.old.places.items (1 + state.old.budget)
+        (verdict_of r state.new.places.items) state.new.budget) }
 {
     let parts = t.children();
     for (i, part) in parts.iter().enumerate() {
         let saved = save(state.alloc, state.places.as_slice())?;
         match evaluate(primitives, s, frame, part, state)? {
             Outcome::Rewritten(u) => {
-                let changed = replaced(state.alloc, parts, i, u)?;
+                let changed = replace_at(state.alloc, parts, i, u)?;
                 let made = t.rebuild(state.alloc, changed)?;
-                return Ok(built(Some(made)));
+                return Ok(build_outcome(Some(made)));
             }
             Outcome::Failed => {
                 state.places = saved;
@@ -289,7 +309,7 @@ fn evaluate_one<P: Primitives>(
     Ok(Outcome::Failed)
 }
 
-// Evaluates a strategy on each part of the term where it does not fail, one at least; its own node is paid.
+/// Evaluates a strategy on each part of the term where it does not fail, one at least; its own node is paid.
 #[cycle(eval)]
 fn evaluate_some<P: Primitives>(
     primitives: &P,
@@ -299,7 +319,9 @@ fn evaluate_some<P: Primitives>(
     state: &mut State,
 ) -> Result<Outcome<Term>, AllocError>
     requires { P.honest primitives.now }
-    ensures { IfOk result (λ r. Evaluates (P.meaning primitives.now) (environment_of frame.now) (some (strategy_of s.now)) t.now state.old.places.items (1 + state.old.budget) (verdict_of r state.new.places.items) state.new.budget) }
+    ensures { IfOk result (λ r. Evaluates (P.meaning primitives.now) (environment_of frame.now)
+        (some (strategy_of s.now)) t.now state.old.places.items (1 + state.old.budget)
+        (verdict_of r state.new.places.items) state.new.budget) }
 {
     let parts = t.children();
     let mut results = Vec::new(state.alloc);
@@ -322,10 +344,10 @@ fn evaluate_some<P: Primitives>(
         return Ok(Outcome::Failed);
     }
     let made = t.rebuild(state.alloc, results)?;
-    Ok(built(Some(made)))
+    Ok(build_outcome(Some(made)))
 }
 
-// Evaluates a call, whose node is paid. Where it is of nothing there is no derivation.
+/// Evaluates a call, whose node is paid. Where it is of nothing there is no derivation.
 #[cycle(eval)]
 fn evaluate_call<P: Primitives>(
     primitives: &P,
@@ -337,7 +359,10 @@ fn evaluate_call<P: Primitives>(
     state: &mut State,
 ) -> Result<Outcome<Term>, AllocError>
     requires { P.honest primitives.now }
-    ensures { IfOk result (λ r. Evaluates (P.meaning primitives.now) (environment_of frame.now) (call x (strategies_of strategies.now) (patterns_of terms.now)) t.now state.old.places.items (1 + state.old.budget) (verdict_of r state.new.places.items) state.new.budget) }
+    ensures { IfOk result (λ r. Evaluates (P.meaning primitives.now) (environment_of frame.now)
+        (call x (strategies_of strategies.now) (patterns_of terms.now))
+        t.now state.old.places.items (1 + state.old.budget) (verdict_of r state.new.places.items)
+        state.new.budget) }
 {
     match callee_at(&*frame, x) {
         None => Ok(Outcome::Spent),
@@ -354,7 +379,7 @@ fn evaluate_call<P: Primitives>(
     }
 }
 
-// Evaluates a call of a definition, whose node is paid.
+/// Evaluates a call of a definition, whose node is paid.
 #[cycle(eval)]
 fn evaluate_definition<P: Primitives>(
     primitives: &P,
@@ -367,8 +392,14 @@ fn evaluate_definition<P: Primitives>(
     state: &mut State,
 ) -> Result<Outcome<Term>, AllocError>
     requires { P.honest primitives.now }
-    ensures { IfOk result (λ r. (x : Coordinate) → callee_in (layers_up (environment_of frame.now) x.layers_up) x.slot ≡ Some (definition (def_of def.now).strats (def_of def.now).terms (def_of def.now).body (environment_of home.now)) →
-        Evaluates (P.meaning primitives.now) (environment_of frame.now) (call x (strategies_of strategies.now) (patterns_of terms.now)) t.now state.old.places.items (1 + state.old.budget) (verdict_of r state.new.places.items) state.new.budget) }
+    ensures { IfOk result (λ r. (x : Coordinate) →
+        callee_in (layers_up (environment_of frame.now) x.layers_up) x.slot ≡
+        Some (definition (def_of def.now).strats (def_of def.now).terms (def_of def.now).body
+        (environment_of home.now)) →
+        Evaluates (P.meaning primitives.now) (environment_of frame.now)
+        (call x (strategies_of strategies.now) (patterns_of terms.now))
+        t.now state.old.places.items (1 + state.old.budget)
+        (verdict_of r state.new.places.items) state.new.budget) }
 {
     let closures = closures_of(state.alloc, &*strategies, &*frame)?;
     match instances(state.alloc, terms, frame, state.places.as_slice())? {
@@ -392,8 +423,8 @@ fn evaluate_definition<P: Primitives>(
     }
 }
 
-// Returns the terms, with another one at this position.
-fn replaced(alloc: Global, terms: &[Term], at: usize, t: Term) -> Result<Vec<Term>, AllocError>
+/// Returns the terms, with another one at this position.
+fn replace_at(alloc: Global, terms: &[Term], at: usize, t: Term) -> Result<Vec<Term>, AllocError>
     requires { at < length terms.now }
     ensures { IfOk result (λ all. all.items ≡ slice_set terms.now at t) }
 {

@@ -1,10 +1,11 @@
-// Terms as flat values, and flat values as terms.
+//! Terms as flat values, and flat values as terms.
 ghost use Rattle.std.specs.Prelude.{◌≡◌, IfOk, [], length};
 ghost use Rattle.std.specs.Option.{option_map};
 ghost use Rattle.prim_registry.specs.Values.{answer_of, value_of, values_of};
 ghost use Rattle.term_model.specs.Flat.{all_flat, flat_of, integer_of, integers_of};
 ghost use Rattle.term_model.specs.Flat as flat;
 ghost use Rattle.term_model.specs.Term.{made_of, term, trees_of};
+ghost use Rattle.term_model.specs.Results.{Returns};
 
 use crate::making::integer;
 use prim_registry::{Bytes, Flat, Numbers};
@@ -12,8 +13,9 @@ use std::alloc::{AllocError, Global};
 use term_model::{Head, Kind, Made, Sym, Term};
 
 /// Returns the flat values that the terms are, annotations ignored; `None` where one of them is none.
-pub fn flat_values(alloc: Global, terms: &[Term]) -> Result<Option<Vec<Flat>>, AllocError>
-    ensures { IfOk result (λ values. option_map (λ flats. values_of flats.items) values ≡ all_flat (trees_of terms.now)) }
+pub(crate) fn flat_values(alloc: Global, terms: &[Term]) -> Result<Option<Vec<Flat>>, AllocError>
+    ensures { IfOk result (λ values. option_map (λ flats. values_of flats.items) values ≡
+        all_flat (trees_of terms.now)) }
 {
     let mut values = Vec::new(alloc);
     for t in terms {
@@ -27,7 +29,7 @@ pub fn flat_values(alloc: Global, terms: &[Term]) -> Result<Option<Vec<Flat>>, A
     Ok(Some(values))
 }
 
-// Returns the flat value that the term is.
+/// Returns the flat value that the term is.
 fn flat_value(alloc: Global, t: &Term) -> Result<Option<Flat>, AllocError>
     ensures { IfOk result (λ value. answer_of value ≡ flat_of t.now) }
 {
@@ -44,9 +46,10 @@ fn flat_value(alloc: Global, t: &Term) -> Result<Option<Flat>, AllocError>
     }
 }
 
-// Returns the string that the symbol with these parts is.
+/// Returns the string that the symbol with these parts is.
 fn text(alloc: Global, symbol: &Sym, parts: &[Term]) -> Result<Option<Flat>, AllocError>
-    ensures { IfOk result (λ value. answer_of value ≡ flat_of (term (Head.App symbol.now) parts.now [])) }
+    ensures { IfOk result (λ value. answer_of value ≡
+        flat_of (term (Head.App symbol.now) parts.now [])) }
 {
     let Kind::Quoted = symbol.kind() else {
         return Ok(None);
@@ -58,9 +61,9 @@ fn text(alloc: Global, symbol: &Sym, parts: &[Term]) -> Result<Option<Flat>, All
     Ok(Some(Flat::Str(Bytes::new(bytes))))
 }
 
-// Returns the integers that the terms are.
+/// Returns the integers that the terms are.
 fn numbers(alloc: Global, terms: &[Term]) -> Result<Option<Numbers>, AllocError>
-    ensures { IfOk result (λ numbers. numbers ≡ integers_of (trees_of terms.now)) }
+    ensures { Returns result (integers_of (trees_of terms.now)) }
 {
     let mut values = Vec::new(alloc);
     for t in terms {
@@ -74,7 +77,7 @@ fn numbers(alloc: Global, terms: &[Term]) -> Result<Option<Numbers>, AllocError>
     Ok(Some(Numbers::new(values)))
 }
 
-// Returns the integer that the term is.
+/// Returns the integer that the term is.
 fn number(t: &Term) -> Option<i64>
     ensures { result ≡ integer_of t.now }
 {
@@ -85,28 +88,23 @@ fn number(t: &Term) -> Option<i64>
 }
 
 /// Makes the term of a flat value, without annotations.
-pub fn term_of(alloc: Global, value: &Flat) -> Result<Made<Term>, AllocError>
-    ensures { IfOk result (λ made. made ≡ made_of (flat.term_of (value_of value.now))) }
+pub(crate) fn term_of(alloc: Global, value: &Flat) -> Result<Made<Term>, AllocError>
+    ensures { Returns result (made_of (flat.term_of (value_of value.now))) }
 {
     match value {
-        Flat::Int(number) => {
-            let made = integer(alloc, *number, None)?;
-            Ok(made)
-        }
+        Flat::Int(number) => { integer(alloc, *number, None) }
         Flat::Str(text) => {
             let symbol = Sym::quoted(alloc, text.as_slice())?;
-            let made = Term::app(alloc, symbol, Vec::new(alloc))?;
-            Ok(made)
+            Term::app(alloc, symbol, Vec::new(alloc))
         }
         Flat::Ints(numbers) => {
             let elements = integers(alloc, numbers.as_slice())?;
-            let made = Term::list(alloc, elements)?;
-            Ok(made)
+            Term::list(alloc, elements)
         }
     }
 }
 
-// Makes the integers.
+/// Makes the integers.
 fn integers(alloc: Global, numbers: &[i64]) -> Result<Vec<Term>, AllocError>
     ensures { IfOk result (λ terms. trees_of terms.items ≡ flat.integers numbers.now) }
 {

@@ -1,4 +1,4 @@
-// The layers that a strategy sees, linked on the stack, and where its variables are.
+//! The layers that a strategy sees, linked on the stack, and where its variables are.
 ghost use Rattle.std.specs.Prelude.{◌≡◌, ◌<◌, MatchOption, None, Some};
 ghost use Rattle.core_lang.specs.Resolved.{layers_up, by_coordinates};
 ghost use Rattle.core_lang.specs.Building.{value_in};
@@ -38,7 +38,7 @@ pub struct Closure<'a> {
 }
 
 /// Returns the layers without this number of the innermost ones.
-pub fn layer<'a>(frame: &'a Frame<'a>, count: usize) -> &'a Frame<'a>
+pub(crate) fn layer<'a>(frame: &'a Frame<'a>, count: usize) -> &'a Frame<'a>
     ensures { environment_of result.now ≡ layers_up (environment_of frame.now) count }
 {
     if count == 0 {
@@ -52,8 +52,10 @@ pub fn layer<'a>(frame: &'a Frame<'a>, count: usize) -> &'a Frame<'a>
 }
 
 /// Returns the position of the variable among this number of places.
-pub fn position(frame: &Frame, x: Coordinate, places: usize) -> Option<usize>
-    ensures { MatchOption result (IsPast (by_coordinates.place_of (environment_of frame.now) x) places) (λ at. (by_coordinates.place_of (environment_of frame.now) x ≡ Some at) × (at < places)) }
+pub(crate) fn position(frame: &Frame, x: Coordinate, places: usize) -> Option<usize>
+    ensures { MatchOption result
+        (IsPast (by_coordinates.place_of (environment_of frame.now) x) places)
+        (λ at. (by_coordinates.place_of (environment_of frame.now) x ≡ Some at) × (at < places)) }
 {
     match layer(&*frame, x.layers_up) {
         Frame::Outermost => None,
@@ -66,9 +68,10 @@ pub fn position(frame: &Frame, x: Coordinate, places: usize) -> Option<usize>
     }
 }
 
-// Returns the position of a variable of a layer that begins at a base and has this number of variables.
+/// Returns the position of a variable of a layer that begins at a base and has this number of variables.
 fn position_from(base: usize, count: usize, slot: usize, places: usize) -> Option<usize>
-    ensures { MatchOption result (IsPast (variable_place base count slot) places) (λ at. (variable_place base count slot ≡ Some at) × (at < places)) }
+    ensures { MatchOption result (IsPast (variable_place base count slot) places)
+        (λ at. (variable_place base count slot ≡ Some at) × (at < places)) }
 {
     if slot >= count {
         return None;
@@ -83,8 +86,15 @@ fn position_from(base: usize, count: usize, slot: usize, places: usize) -> Optio
 }
 
 /// Returns the term that a variable has.
-pub fn value<'a>(frame: &Frame, x: Coordinate, places: &'a [Option<Term>]) -> Option<&'a Term>
-    ensures { MatchOption result (value_in (by_coordinates.place_of (environment_of frame.now) x) places.now ≡ None) (λ t. value_in (by_coordinates.place_of (environment_of frame.now) x) places.now ≡ Some t.now) }
+pub(crate) fn value<'a>(
+    frame: &Frame,
+    x: Coordinate,
+    places: &'a [Option<Term>],
+) -> Option<&'a Term>
+    ensures { MatchOption result
+        (value_in (by_coordinates.place_of (environment_of frame.now) x) places.now ≡ None)
+        (λ t. value_in (by_coordinates.place_of (environment_of frame.now) x) places.now ≡
+        Some t.now) }
 {
     let at = position(frame, x, places.len())?;
     match &places[at] {

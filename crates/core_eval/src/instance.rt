@@ -1,4 +1,4 @@
-// What a build makes of a pattern.
+//! What a build makes of a pattern.
 ghost use Rattle.std.specs.Prelude.{◌≡◌, IfOk, [], Some, Option, false};
 ghost use Rattle.std.specs.Option.{option_map};
 ghost use Rattle.core_lang.specs.Building as building;
@@ -9,7 +9,7 @@ ghost use Rattle.core_eval.specs.Frame.{environment_of};
 ghost use Rattle.core_eval.specs.Instance.{AreMade, made_like_other};
 
 use crate::frame::{Frame, value};
-use crate::making::{application, integer, is_list, joined, keep, like_other, list};
+use crate::making::{append, application, integer, is_list, keep, like_other, list};
 use core_lang::{Coordinate, CorePattern};
 use std::alloc::{AllocError, Global};
 use term_model::{Head, Made, Term};
@@ -17,14 +17,17 @@ use term_model::{Head, Made, Term};
 /// The instance of the pattern, with the annotations of another term if there is one in place of its own; none where
 /// a variable has no term, however large the rest.
 #[cycle(instance)]
-pub fn instance(
+pub(crate) fn instance(
     alloc: Global,
     p: &CorePattern,
     other: Option<&Term>,
     frame: &Frame,
     places: &[Option<Term>],
 ) -> Result<Option<Made<Term>>, AllocError>
-    ensures { IfOk result (λ made. made ≡ option_map made_of (made_like_other (building.instance (by_coordinates.place_of (environment_of frame.now)) (pattern_of p.now) places.now) other.entry)) }
+    ensures { IfOk result (λ made. made ≡
+        option_map made_of (made_like_other
+        (building.instance (by_coordinates.place_of (environment_of frame.now)) (pattern_of p.now)
+        places.now) other.entry)) }
 {
     match p {
         CorePattern::Anything | CorePattern::Alias(_, _) => Ok(None),
@@ -44,7 +47,7 @@ pub fn instance(
         CorePattern::List(first, rest) => {
             let terms = instances(alloc, first.as_slice(), frame, places)?;
             let others = rest_elements(alloc, rest, frame, places)?;
-            let made = list(alloc, joined(terms, others)?, other)?;
+            let made = list(alloc, append(terms, others)?, other)?;
             Ok(made)
         }
         CorePattern::Like(part, x) => match value(frame, *x, places) {
@@ -56,15 +59,15 @@ pub fn instance(
         },
         CorePattern::Annotated(part, annotations) => {
             let annos = instances(alloc, annotations.as_slice(), frame, places)?;
-            let made = annotated(alloc, part, annos, other, frame, places)?;
+            let made = annotated_instance(alloc, part, annos, other, frame, places)?;
             Ok(made)
         }
     }
 }
 
-// Makes the instance of the pattern with these annotations, or with those of another term if there is one.
+/// Makes the instance of the pattern with these annotations, or with those of another term if there is one.
 #[cycle(instance)]
-fn annotated(
+fn annotated_instance(
     alloc: Global,
     p: &CorePattern,
     annos: Option<Made<Vec<Term>>>,
@@ -72,7 +75,11 @@ fn annotated(
     frame: &Frame,
     places: &[Option<Term>],
 ) -> Result<Option<Made<Term>>, AllocError>
-    ensures { IfOk result (λ made. (us : Option Trees) → AreMade us annos → made ≡ option_map made_of (made_like_other (building.made_with (building.instance (by_coordinates.place_of (environment_of frame.now)) (pattern_of p.now) places.now) us) other.entry)) }
+    ensures { IfOk result (λ made. (us : Option Trees) → AreMade us annos →
+        made ≡ option_map made_of
+        (made_like_other (building.made_with
+        (building.instance (by_coordinates.place_of (environment_of frame.now)) (pattern_of p.now)
+        places.now) us) other.entry)) }
 {
     let Some(annos) = annos else {
         return Ok(None);
@@ -89,7 +96,7 @@ fn annotated(
     }
 }
 
-// Makes the instance of the pattern with these annotations.
+/// Makes the instance of the pattern with these annotations.
 #[cycle(instance)]
 fn with_annotations(
     alloc: Global,
@@ -98,7 +105,10 @@ fn with_annotations(
     frame: &Frame,
     places: &[Option<Term>],
 ) -> Result<Option<Made<Term>>, AllocError>
-    ensures { IfOk result (λ made. (us : Option Trees) → AreMade us (Some annos) → made ≡ option_map made_of (building.made_with (building.instance (by_coordinates.place_of (environment_of frame.now)) (pattern_of p.now) places.now) us)) }
+    ensures { IfOk result (λ made. (us : Option Trees) → AreMade us (Some annos) →
+        made ≡ option_map made_of
+        (building.made_with (building.instance (by_coordinates.place_of (environment_of frame.now))
+        (pattern_of p.now) places.now) us)) }
 {
     let Made::Fits(holder) = holder(alloc, annos)? else {
         let made = too_large(alloc, p, frame, places)?;
@@ -108,9 +118,10 @@ fn with_annotations(
     Ok(made)
 }
 
-// Makes a term with these annotations: the empty list.
+/// Makes a term with these annotations: the empty list.
 fn holder(alloc: Global, annos: Made<Vec<Term>>) -> Result<Made<Term>, AllocError>
-    ensures { IfOk result (λ made. (us : Trees) → AreMade (Some us) (Some annos) → made ≡ made_of (node Head.List end us)) }
+    ensures { IfOk result (λ made. (us : Trees) → AreMade (Some us) (Some annos) →
+        made ≡ made_of (node Head.List end us)) }
 {
     match annos {
         Made::Fits(annos) => {
@@ -121,7 +132,7 @@ fn holder(alloc: Global, annos: Made<Vec<Term>>) -> Result<Made<Term>, AllocErro
     }
 }
 
-// What the instance of the pattern is with annotations that are too large for any term.
+/// What the instance of the pattern is with annotations that are too large for any term.
 #[cycle(instance)]
 fn too_large(
     alloc: Global,
@@ -129,7 +140,10 @@ fn too_large(
     frame: &Frame,
     places: &[Option<Term>],
 ) -> Result<Option<Made<Term>>, AllocError>
-    ensures { IfOk result (λ made. (us : Trees) → fits (node Head.List end us) ≡ false → made ≡ option_map made_of (building.made_with (building.instance (by_coordinates.place_of (environment_of frame.now)) (pattern_of p.now) places.now) (Some us))) }
+    ensures { IfOk result (λ made. (us : Trees) → fits (node Head.List end us) ≡ false →
+        made ≡ option_map made_of
+        (building.made_with (building.instance (by_coordinates.place_of (environment_of frame.now))
+        (pattern_of p.now) places.now) (Some us))) }
 {
     let Some(_) = instance(alloc, p, None, frame, places)? else {
         return Ok(None);
@@ -137,7 +151,7 @@ fn too_large(
     Ok(Some(Made::Oversize))
 }
 
-// Makes the term of the variable, with the annotations of another term if there is one; none where it has no term.
+/// Makes the term of the variable, with the annotations of another term if there is one; none where it has no term.
 fn variable(
     alloc: Global,
     x: Coordinate,
@@ -145,7 +159,10 @@ fn variable(
     frame: &Frame,
     places: &[Option<Term>],
 ) -> Result<Option<Made<Term>>, AllocError>
-    ensures { IfOk result (λ made. made ≡ option_map made_of (made_like_other (building.value_in (by_coordinates.place_of (environment_of frame.now) x) places.now) other.entry)) }
+    ensures { IfOk result (λ made. made ≡
+        option_map made_of (made_like_other
+        (building.value_in (by_coordinates.place_of (environment_of frame.now) x) places.now)
+        other.entry)) }
 {
     match value(frame, x, places) {
         Some(t) => {
@@ -156,7 +173,7 @@ fn variable(
     }
 }
 
-// Makes the elements of the instance of the rest of a list; an absent rest has none.
+/// Makes the elements of the instance of the rest of a list; an absent rest has none.
 #[cycle(instance)]
 fn rest_elements(
     alloc: Global,
@@ -164,7 +181,9 @@ fn rest_elements(
     frame: &Frame,
     places: &[Option<Term>],
 ) -> Result<Option<Made<Vec<Term>>>, AllocError>
-    ensures { IfOk result (λ made. AreMade (building.element_instances (by_coordinates.place_of (environment_of frame.now)) (elements_in [] (rest_of rest.now)) places.now) made) }
+    ensures { IfOk result (λ made. AreMade
+        (building.element_instances (by_coordinates.place_of (environment_of frame.now))
+        (elements_in [] (rest_of rest.now)) places.now) made) }
 {
     match rest {
         None => Ok(Some(Made::Fits(Vec::new(alloc)))),
@@ -175,7 +194,7 @@ fn rest_elements(
     }
 }
 
-// The elements of the instance of the pattern, which is a list; none where it is no list.
+/// The elements of the instance of the pattern, which is a list; none where it is no list.
 #[cycle(instance)]
 fn elements(
     alloc: Global,
@@ -183,7 +202,9 @@ fn elements(
     frame: &Frame,
     places: &[Option<Term>],
 ) -> Result<Option<Made<Vec<Term>>>, AllocError>
-    ensures { IfOk result (λ made. AreMade (building.elements_of (building.instance (by_coordinates.place_of (environment_of frame.now)) (pattern_of p.now) places.now)) made) }
+    ensures { IfOk result (λ made. AreMade
+        (building.elements_of (building.instance
+        (by_coordinates.place_of (environment_of frame.now)) (pattern_of p.now) places.now)) made) }
 {
     match p {
         CorePattern::Variable(x) => match value(frame, *x, places) {
@@ -200,7 +221,7 @@ fn elements(
         CorePattern::List(first, rest) => {
             let terms = instances(alloc, first.as_slice(), frame, places)?;
             let others = rest_elements(alloc, rest, frame, places)?;
-            let all = joined(terms, others)?;
+            let all = append(terms, others)?;
             Ok(all)
         }
         CorePattern::Like(part, x) => match value(frame, *x, places) {
@@ -226,13 +247,15 @@ fn elements(
 
 /// The instances of the patterns; none where one has none, else oversize where one does not fit.
 #[cycle(instance)]
-pub fn instances(
+pub(crate) fn instances(
     alloc: Global,
     patterns: &[CorePattern],
     frame: &Frame,
     places: &[Option<Term>],
 ) -> Result<Option<Made<Vec<Term>>>, AllocError>
-    ensures { IfOk result (λ made. AreMade (building.instances (by_coordinates.place_of (environment_of frame.now)) (patterns_of patterns.now) places.now) made) }
+    ensures { IfOk result (λ made. AreMade
+        (building.instances (by_coordinates.place_of (environment_of frame.now))
+        (patterns_of patterns.now) places.now) made) }
 {
     let mut terms = Vec::new(alloc);
     let mut fit = true;

@@ -1,4 +1,4 @@
-// Terms made of others.
+//! Terms made of others.
 ghost use Rattle.std.specs.Prelude.{◌≡◌, IfOk, Option, []};
 ghost use Rattle.std.specs.Option.{option_map};
 ghost use Rattle.core_lang.specs.Building.{applied_to, list_term};
@@ -8,13 +8,14 @@ ghost use Rattle.core_lang.specs.Environment.{Bindings};
 ghost use Rattle.core_lang.specs.Settled.{ends};
 ghost use Rattle.core_eval.specs.Evaluates.{made_ending, verdict_of};
 ghost use Rattle.core_eval.specs.Instance.{AreMade, Kept, both_terms, made_like_other, tree_like_other};
+ghost use Rattle.term_model.specs.Results.{Returns};
 
 use core_lang::Outcome;
 use std::alloc::{AllocError, Global};
 use term_model::{Head, Made, Sym, Term};
 
 /// Adds the term, if it fits, and says whether it does.
-pub fn keep(terms: &mut Vec<Term>, made: Made<Term>) -> Result<bool, AllocError>
+pub(crate) fn keep(terms: &mut Vec<Term>, made: Made<Term>) -> Result<bool, AllocError>
     ensures { IfOk result (λ fits. Kept made fits terms.old.items terms.new.items) }
 {
     match made {
@@ -27,8 +28,12 @@ pub fn keep(terms: &mut Vec<Term>, made: Made<Term>) -> Result<bool, AllocError>
 }
 
 /// Makes the term, with the annotations of another one if there is one in place of its own.
-pub fn like_other(alloc: Global, t: &Term, other: Option<&Term>) -> Result<Made<Term>, AllocError>
-    ensures { IfOk result (λ made. made ≡ made_of (tree_like_other t.now other.entry)) }
+pub(crate) fn like_other(
+    alloc: Global,
+    t: &Term,
+    other: Option<&Term>,
+) -> Result<Made<Term>, AllocError>
+    ensures { Returns result (made_of (tree_like_other t.now other.entry)) }
 {
     match other {
         None => {
@@ -43,7 +48,7 @@ pub fn like_other(alloc: Global, t: &Term, other: Option<&Term>) -> Result<Made<
     }
 }
 
-// Makes the term of this head with these parts, and with the annotations of another one if there is one.
+/// Makes the term of this head with these parts, and with the annotations of another one if there is one.
 fn node(
     alloc: Global,
     head: Head,
@@ -51,7 +56,8 @@ fn node(
     other: Option<&Term>,
 ) -> Result<Made<Term>, AllocError>
     requires { IsHead head (trees_of parts.items) }
-    ensures { IfOk result (λ made. made ≡ made_of (tree_like_other (term head parts.items []) other.entry)) }
+    ensures { IfOk result (λ made. made ≡
+        made_of (tree_like_other (term head parts.items []) other.entry)) }
 {
     match other {
         None => Term::new(alloc, head, parts, Vec::new(alloc)),
@@ -63,20 +69,26 @@ fn node(
 }
 
 /// Makes the integer, with the annotations of another term if there is one.
-pub fn integer(alloc: Global, number: i64, other: Option<&Term>) -> Result<Made<Term>, AllocError>
-    ensures { IfOk result (λ made. made ≡ made_of (tree_like_other (term (Head.Int number) [] []) other.entry)) }
+pub(crate) fn integer(
+    alloc: Global,
+    number: i64,
+    other: Option<&Term>,
+) -> Result<Made<Term>, AllocError>
+    ensures { IfOk result (λ made. made ≡
+        made_of (tree_like_other (term (Head.Int number) [] []) other.entry)) }
 {
     node(alloc, Head::Int(number), Vec::new(alloc), other)
 }
 
 /// Makes the symbol applied to the terms, with the annotations of another one if there is one.
-pub fn application(
+pub(crate) fn application(
     alloc: Global,
     symbol: &Sym,
     terms: Option<Made<Vec<Term>>>,
     other: Option<&Term>,
 ) -> Result<Option<Made<Term>>, AllocError>
-    ensures { IfOk result (λ made. (ts : Option Trees) → AreMade ts terms → made ≡ option_map made_of (made_like_other (applied_to ts symbol.now) other.entry)) }
+    ensures { IfOk result (λ made. (ts : Option Trees) → AreMade ts terms →
+        made ≡ option_map made_of (made_like_other (applied_to ts symbol.now) other.entry)) }
 {
     match terms {
         None => Ok(None),
@@ -89,12 +101,13 @@ pub fn application(
 }
 
 /// Makes the list of the terms, with the annotations of another one if there is one.
-pub fn list(
+pub(crate) fn list(
     alloc: Global,
     terms: Option<Made<Vec<Term>>>,
     other: Option<&Term>,
 ) -> Result<Option<Made<Term>>, AllocError>
-    ensures { IfOk result (λ made. (ts : Option Trees) → AreMade ts terms → made ≡ option_map made_of (made_like_other (list_term ts) other.entry)) }
+    ensures { IfOk result (λ made. (ts : Option Trees) → AreMade ts terms →
+        made ≡ option_map made_of (made_like_other (list_term ts) other.entry)) }
 {
     match terms {
         None => Ok(None),
@@ -107,11 +120,12 @@ pub fn list(
 }
 
 /// Returns the first terms and the others after them.
-pub fn joined(
+pub(crate) fn append(
     first: Option<Made<Vec<Term>>>,
     others: Option<Made<Vec<Term>>>,
 ) -> Result<Option<Made<Vec<Term>>>, AllocError>
-    ensures { IfOk result (λ all. (us vs : Option Trees) → AreMade us first → AreMade vs others → AreMade (both_terms us vs) all) }
+    ensures { IfOk result (λ all. (us vs : Option Trees) → AreMade us first → AreMade vs others →
+        AreMade (both_terms us vs) all) }
 {
     let Some(first) = first else {
         return Ok(None);
@@ -130,7 +144,7 @@ pub fn joined(
 }
 
 /// Returns whether the term is a list.
-pub fn is_list(t: &Term) -> bool
+pub(crate) fn is_list(t: &Term) -> bool
     ensures { result ≡ same_head (head_of t.now) Head.List }
 {
     match t.head() {
@@ -140,7 +154,7 @@ pub fn is_list(t: &Term) -> bool
 }
 
 /// Returns how a build ends.
-pub fn built(made: Option<Made<Term>>) -> Outcome<Term>
+pub(crate) fn build_outcome(made: Option<Made<Term>>) -> Outcome<Term>
     ensures { (e : Bindings) → verdict_of result e ≡ ends (made_ending made e) }
 {
     match made {

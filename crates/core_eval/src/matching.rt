@@ -1,4 +1,4 @@
-// Matching a pattern with a term.
+//! Matching a pattern with a term.
 ghost use Rattle.std.specs.Prelude.{◌≡◌, ◌≤◌, IfOk, [], length, drop, map};
 ghost use Rattle.core_lang.specs.Resolved.{by_coordinates};
 ghost use Rattle.core_lang.specs.Tried.{put, put_at, tried, tried_all, tried_elements};
@@ -7,6 +7,7 @@ ghost use Rattle.term_model.specs.Same.{same_head};
 ghost use Rattle.term_model.specs.Term.{head_of, parts_of, term, trees_of};
 ghost use Rattle.core_eval.specs.Frame.{environment_of};
 ghost use Rattle.core_eval.specs.Matching.{Found, FirstFound};
+ghost use Rattle.term_model.specs.Results.{Returns};
 
 use crate::frame::{Frame, position};
 use crate::making::is_list;
@@ -17,14 +18,16 @@ use term_model::{Head, Made, Sym, Term};
 /// Whether the pattern matches the term; each of its variables that had no term is then bound. Where it does not,
 /// some of them may be bound.
 #[cycle(matching)]
-pub fn matches(
+pub(crate) fn matches(
     alloc: Global,
     p: &CorePattern,
     frame: &Frame,
     t: &Term,
     places: &mut Vec<Option<Term>>,
 ) -> Result<bool, AllocError>
-    ensures { IfOk result (λ yes. Found (tried (by_coordinates.place_of (environment_of frame.now)) (pattern_of p.now) t.now places.old.items) yes places.new.items) }
+    ensures { IfOk result (λ yes. Found
+        (tried (by_coordinates.place_of (environment_of frame.now)) (pattern_of p.now)
+        t.now places.old.items) yes places.new.items) }
 {
     match p {
         CorePattern::Anything => Ok(true),
@@ -64,7 +67,7 @@ pub fn matches(
     }
 }
 
-// Whether there are as many terms, and each pattern matches its own.
+/// Whether there are as many terms, and each pattern matches its own.
 #[cycle(matching)]
 fn all_match(
     alloc: Global,
@@ -73,7 +76,9 @@ fn all_match(
     terms: &[Term],
     places: &mut Vec<Option<Term>>,
 ) -> Result<bool, AllocError>
-    ensures { IfOk result (λ yes. Found (tried_all (by_coordinates.place_of (environment_of frame.now)) (patterns_of patterns.now) (trees_of terms.now) places.old.items) yes places.new.items) }
+    ensures { IfOk result (λ yes. Found
+        (tried_all (by_coordinates.place_of (environment_of frame.now)) (patterns_of patterns.now)
+        (trees_of terms.now) places.old.items) yes places.new.items) }
 {
     if patterns.len() != terms.len() {
         return Ok(false);
@@ -86,7 +91,7 @@ fn all_match(
     Ok(true)
 }
 
-// Whether there are at least as many terms, and each pattern matches its own.
+/// Whether there are at least as many terms, and each pattern matches its own.
 #[cycle(matching)]
 fn first_match(
     alloc: Global,
@@ -95,7 +100,10 @@ fn first_match(
     terms: &[Term],
     places: &mut Vec<Option<Term>>,
 ) -> Result<bool, AllocError>
-    ensures { IfOk result (λ yes. FirstFound (by_coordinates.place_of (environment_of frame.now)) (map pattern_of patterns.now) (trees_of terms.now) places.old.items yes (trees_of (drop (length patterns.now) terms.now)) places.new.items (length patterns.now ≤ length terms.now)) }
+    ensures { IfOk result (λ yes. FirstFound (by_coordinates.place_of (environment_of frame.now))
+        (map pattern_of patterns.now) (trees_of terms.now)
+        places.old.items yes (trees_of (drop (length patterns.now) terms.now))
+        places.new.items (length patterns.now ≤ length terms.now)) }
 {
     if terms.len() < patterns.len() {
         return Ok(false);
@@ -108,8 +116,8 @@ fn first_match(
     Ok(true)
 }
 
-// Whether the rest of a list matches the parts of the term after this number of first ones; an absent rest, whether there
-// are none.
+/// Whether the rest of a list matches the parts of the term after this number of first ones; an absent rest, whether there
+/// are none.
 #[cycle(matching)]
 fn rest_matches(
     alloc: Global,
@@ -120,7 +128,10 @@ fn rest_matches(
     places: &mut Vec<Option<Term>>,
 ) -> Result<bool, AllocError>
     requires { from ≤ length (parts_of t.now) }
-    ensures { IfOk result (λ yes. Found (tried_elements (by_coordinates.place_of (environment_of frame.now)) (elements_in [] (rest_of rest.now)) (trees_of (drop from (parts_of t.now))) places.old.items) yes places.new.items) }
+    ensures { IfOk result (λ yes. Found
+        (tried_elements (by_coordinates.place_of (environment_of frame.now))
+        (elements_in [] (rest_of rest.now)) (trees_of (drop from (parts_of t.now)))
+        places.old.items) yes places.new.items) }
 {
     match rest {
         None => {
@@ -137,10 +148,10 @@ fn rest_matches(
     }
 }
 
-// Returns the parts of the term after this number of first ones, as a list.
+/// Returns the parts of the term after this number of first ones, as a list.
 fn list_after(alloc: Global, t: &Term, from: usize) -> Result<Term, AllocError>
     requires { from ≤ length (parts_of t.now) }
-    ensures { IfOk result (λ list. list ≡ term Head.List (drop from (parts_of t.now)) []) }
+    ensures { Returns result (term Head.List (drop from (parts_of t.now)) []) }
 {
     t.fits();
     let others = Vec::from_clones(alloc, &t.children()[from..])?;
@@ -150,9 +161,9 @@ fn list_after(alloc: Global, t: &Term, from: usize) -> Result<Term, AllocError>
     }
 }
 
-// Returns the term without its annotations.
+/// Returns the term without its annotations.
 fn bare(alloc: Global, t: &Term) -> Result<Term, AllocError>
-    ensures { IfOk result (λ made. made ≡ term (head_of t.now) (parts_of t.now) []) }
+    ensures { Returns result (term (head_of t.now) (parts_of t.now) []) }
 {
     t.fits();
     match t.with_annos(alloc, Vec::new(alloc))? {
@@ -161,14 +172,16 @@ fn bare(alloc: Global, t: &Term) -> Result<Term, AllocError>
     }
 }
 
-// Gives the variable the term; where it has one, whether they are the same.
+/// Gives the variable the term; where it has one, whether they are the same.
 fn bind_variable(
     x: Coordinate,
     frame: &Frame,
     t: &Term,
     places: &mut Vec<Option<Term>>,
 ) -> Result<bool, AllocError>
-    ensures { IfOk result (λ yes. Found (put_at (by_coordinates.place_of (environment_of frame.now) x) t.now places.old.items) yes places.new.items) }
+    ensures { IfOk result (λ yes. Found
+        (put_at (by_coordinates.place_of (environment_of frame.now) x) t.now places.old.items)
+        yes places.new.items) }
 {
     match position(frame, x, places.len()) {
         Some(at) => {
@@ -179,7 +192,7 @@ fn bind_variable(
     }
 }
 
-// Gives the place the term; where it has one, whether they are the same.
+/// Gives the place the term; where it has one, whether they are the same.
 fn bind(places: &mut Vec<Option<Term>>, at: usize, t: &Term) -> Result<bool, AllocError>
     ensures { IfOk result (λ yes. Found (put at t.now places.old.items) yes places.new.items) }
 {

@@ -1,4 +1,4 @@
-// Primitives as an evaluation calls them.
+//! Primitives as an evaluation calls them.
 ghost use Rattle.std.specs.Prelude.{◌≡◌, IfOk};
 ghost use Rattle.prim_registry.specs.Entries.{IsHonest};
 ghost use Rattle.prim_registry.specs.Values.{answer_of, values_of};
@@ -21,10 +21,11 @@ pub trait Primitives {
     /// the primitive is refused a growth.
     fn call(&self, name: &[u8], args: &[Flat]) -> Result<Option<Flat>, AllocError>
         requires { honest self.now }
-        ensures { IfOk result (λ answer. answer_of answer ≡ meaning self.now name.now (values_of args.now)) };
+        ensures { IfOk result (λ answer. answer_of answer ≡
+            meaning self.now name.now (values_of args.now)) };
 }
 
-// A name that is not registered with as many arguments returns nothing.
+/// A name that is not registered with as many arguments returns nothing.
 impl<M: PrimMeaning> Primitives for Registry<M> {
     ghost meaning = { λ r. meaning_of M.answer r };
 

@@ -1,4 +1,4 @@
-// Runs of a core.
+//! Runs of a core.
 ghost use Rattle.std.specs.Prelude.{◌≡◌, ◌≤◌, IfOk, OnOk, OnErr, IfErr, List, []};
 ghost use Rattle.core_lang.specs.Core.{program_of};
 ghost use Rattle.core_lang.specs.Named.{Name};
@@ -33,7 +33,8 @@ pub fn eval<M: PrimMeaning>(
     requires honest { IsHonest M.answer registry.now }
     requires covers { Covers registry.now core.now.prims }
     ensures run { IfOk result (λ run. (P : Definitions Name (List Name)) (main : Name) →
-        ResolvesProgram P main (program_of core.now) core.now.main → IsRun M.answer P main term.now budget run) }
+        ResolvesProgram P main (program_of core.now) core.now.main →
+        IsRun M.answer P main term.now budget run) }
     ensures fault { IfErr result (λ fault. fault ≡ Fault.Memory) }
 {
     let mut state = State {
@@ -53,7 +54,7 @@ pub fn eval<M: PrimMeaning>(
     })
 }
 
-// Evaluates the call of main, in a state without bindings.
+/// Evaluates the call of main, in a state without bindings.
 fn call_main<M: PrimMeaning>(
     core: &Core,
     term: &Term,
@@ -63,7 +64,10 @@ fn call_main<M: PrimMeaning>(
     requires places { state.old.places.items ≡ [] }
     requires honest { IsHonest M.answer registry.now }
     requires covers { Covers registry.now core.now.prims }
-    ensures outcome { IfOk result (λ r. EvaluatesOn M.answer (definitions (program_of core.now) outermost) (call (here core.now.main) no_strategies no_patterns) term.now state.old.budget r state.new.budget) }
+    ensures outcome { IfOk result
+        (λ r. EvaluatesOn M.answer (definitions (program_of core.now) outermost)
+        (call (here core.now.main) no_strategies no_patterns)
+        term.now state.old.budget r state.new.budget) }
     ensures left { OnOk result (state.new.budget ≤ state.old.budget) }
 {
     let main = Coordinate {

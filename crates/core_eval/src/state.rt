@@ -1,4 +1,4 @@
-// What an evaluation changes.
+//! What an evaluation changes.
 use std::alloc::Global;
 use term_model::Term;
 

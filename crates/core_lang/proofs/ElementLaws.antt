@@ -36,12 +36,14 @@ annotated_without None = refl
 annotated_without (Some t) = refl
 
 -- the elements of a list that a variable has
-pub elements_held : (t : Tree) (b : Bool) → b ≡ same_head (head_of t) heads.List → b ≡ true → elements_of (Some t) ≡ Some (trees_of (parts_of t))
+pub elements_held : (t : Tree) (b : Bool) → b ≡ same_head (head_of t) heads.List → b ≡ true →
+    elements_of (Some t) ≡ Some (trees_of (parts_of t))
 elements_held (node heads.List ts annos) b h is = ap (λ us. Some us) (sym (trees_of-list_of ts))
 elements_held (node (heads.Int z) ts annos) b h is = absurd (cc)
 elements_held (node (heads.App f) ts annos) b h is = absurd (cc)
 
-pub no_elements_held : (t : Tree) (b : Bool) → b ≡ same_head (head_of t) heads.List → b ≡ false → elements_of (Some t) ≡ None
+pub no_elements_held : (t : Tree) (b : Bool) → b ≡ same_head (head_of t) heads.List → b ≡ false →
+    elements_of (Some t) ≡ None
 no_elements_held (node heads.List ts annos) b h is = absurd (cc)
 no_elements_held (node (heads.Int z) ts annos) b h is = refl
 no_elements_held (node (heads.App f) ts annos) b h is = refl
@@ -64,7 +66,8 @@ pub with_again : (o : Option Tree) (us vs : Trees) → made_with (made_with o (S
 with_again None us vs = refl
 with_again (Some (node h ts annos)) us vs = refl
 
-pub with_then_like : (o : Option Tree) (us : Trees) (v : Tree) → made_like (made_with o (Some us)) (Some v) ≡ made_like o (Some v)
+pub with_then_like : (o : Option Tree) (us : Trees) (v : Tree) →
+    made_like (made_with o (Some us)) (Some v) ≡ made_like o (Some v)
 with_then_like None us v = refl
 with_then_like (Some (node h ts annos)) us (node g vs others) = refl
 

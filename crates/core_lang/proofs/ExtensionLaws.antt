@@ -39,11 +39,13 @@ rebuilt_to : (e : Bindings) (t : Tree) (r : Ending Trees) → ExtendsTo e r → 
 rebuilt_to e t (ok ts f) a = built_to (Some (with_parts t ts)) a
 rebuilt_to e t (stop q) a = tt
 
-all_fit_to : (e : Bindings) (b : Bool) (ts : Trees) (answer : List FlatValue → Option FlatValue) → ExtendsTo e (answered answer (if_fits b ts e))
+all_fit_to : (e : Bindings) (b : Bool) (ts : Trees) (answer : List FlatValue → Option FlatValue) →
+    ExtendsTo e (answered answer (if_fits b ts e))
 all_fit_to e true ts answer = built_to (option_map term_of (option_and_then answer (all_flat ts))) (extends_same e)
 all_fit_to e false ts answer = tt
 
-answered_to : (e : Bindings) (vs : Option Trees) (answer : List FlatValue → Option FlatValue) → ExtendsTo e (answered answer (arguments vs e))
+answered_to : (e : Bindings) (vs : Option Trees) (answer : List FlatValue → Option FlatValue) →
+    ExtendsTo e (answered answer (arguments vs e))
 answered_to e None answer = tt
 answered_to e (Some ts) answer = all_fit_to e (all_fit ts) ts answer
 
@@ -72,7 +74,8 @@ dropped_to e g (stop q) a = tt
 module _ {X B : Type 0} {R : Reading X B} {M : Meaning} where
   mutual
     -- an ok derivation keeps the places, and what they hold
-    pub extends_to : {V : Environment X B} {s : Strategy X B} {t : Tree} {e : Bindings} {o : Ending Tree} {n : ℕ} → Derives R M V s t e o n → ExtendsTo e o
+    pub extends_to : {V : Environment X B} {s : Strategy X B} {t : Tree} {e : Bindings} {o : Ending Tree} {n : ℕ} →
+        Derives R M V s t e o n → ExtendsTo e o
     extends_to {e = e} by_id = extends_same e
     extends_to by_fail = tt
     extends_to {o = o} (by_seq x y h) = then_to o (extends_to x) (extends_to y)
@@ -82,34 +85,48 @@ module _ {X B : Type 0} {R : Reading X B} {M : Meaning} where
     extends_to (by_choice_oversize x h) = tt
     extends_to (by_match m) = record { same_places = m.same_places; keeps = m.keeps }
     extends_to (by_no_match m) = tt
-    extends_to {V = V} {e = e} (by_build {p = p} h) = subst (λ o. ExtendsTo e o) (sym h) (built_to (instance (R.place_of V) p e) (extends_same e))
+    extends_to {V = V} {e = e} (by_build {p = p} h) =
+        subst (λ o. ExtendsTo e o) (sym h) (built_to (instance (R.place_of V) p e) (extends_same e))
     extends_to {e = e} (by_scope {o1 = p} x h k) = subst (λ o. ExtendsTo e o) (sym h) (dropped_to e _ p (extends_to x))
-    extends_to {t = t} {e = e} (by_all {r = r} x h k) = subst (λ o. ExtendsTo e o) (sym h) (rebuilt_to e t r (all_extend_to x))
-    extends_to {t = t} {e = e} (by_one {r = r} x h k) = subst (λ o. ExtendsTo e o) (sym h) (rebuilt_to e t r (one_extends_to x))
-    extends_to {t = t} {e = e} (by_some {r = r} x h k) = subst (λ o. ExtendsTo e o) (sym h) (rebuilt_to e t r (some_extend_to x))
+    extends_to {t = t} {e = e} (by_all {r = r} x h k) =
+        subst (λ o. ExtendsTo e o) (sym h) (rebuilt_to e t r (all_extend_to x))
+    extends_to {t = t} {e = e} (by_one {r = r} x h k) =
+        subst (λ o. ExtendsTo e o) (sym h) (rebuilt_to e t r (one_extends_to x))
+    extends_to {t = t} {e = e} (by_some {r = r} x h k) =
+        subst (λ o. ExtendsTo e o) (sym h) (rebuilt_to e t r (some_extend_to x))
     extends_to (by_definitions x h) = extends_to x
-    extends_to {e = e} (by_call {o1 = p} f us x h k) = subst (λ o. ExtendsTo e o) (sym h) (dropped_to e _ p (extends_to x))
+    extends_to {e = e} (by_call {o1 = p} f us x h k) =
+        subst (λ o. ExtendsTo e o) (sym h) (dropped_to e _ p (extends_to x))
     extends_to (by_call_stop f us) = tt
     extends_to (by_parameter f x h) = extends_to x
-    extends_to {V = V} {e = e} (by_primitive {f = g} {ps = ps} h) = subst (λ o. ExtendsTo e o) (sym h) (answered_to e (instances (R.place_of V) ps e) (M g))
+    extends_to {V = V} {e = e} (by_primitive {f = g} {ps = ps} h) =
+        subst (λ o. ExtendsTo e o) (sym h) (answered_to e (instances (R.place_of V) ps e) (M g))
 
-    pub all_extend_to : {V : Environment X B} {s : Strategy X B} {ts : Trees} {e : Bindings} {r : Ending Trees} {n : ℕ} → DerivesAll R M V s ts e r n → ExtendsTo e r
+    pub all_extend_to : {V : Environment X B} {s : Strategy X B} {ts : Trees} {e : Bindings} {r : Ending Trees}
+        {n : ℕ} → DerivesAll R M V s ts e r n → ExtendsTo e r
     all_extend_to {e = e} all_end = extends_same e
-    all_extend_to {e = e} (all_next {t1 = u} {r1 = q} x y h k) = subst (λ r. ExtendsTo e r) (sym h) (then_all_to u q (extends_to x) (all_extend_to y))
+    all_extend_to {e = e} (all_next {t1 = u} {r1 = q} x y h k) =
+        subst (λ r. ExtendsTo e r) (sym h) (then_all_to u q (extends_to x) (all_extend_to y))
     all_extend_to (all_stop x) = tt
 
-    pub one_extends_to : {V : Environment X B} {s : Strategy X B} {ts : Trees} {e : Bindings} {r : Ending Trees} {n : ℕ} → DerivesOne R M V s ts e r n → ExtendsTo e r
+    pub one_extends_to : {V : Environment X B} {s : Strategy X B} {ts : Trees} {e : Bindings} {r : Ending Trees}
+        {n : ℕ} → DerivesOne R M V s ts e r n → ExtendsTo e r
     one_extends_to one_end = tt
     one_extends_to (one_found x) = extends_to x
     one_extends_to (one_stop x) = tt
-    one_extends_to {e = e} (one_next {t = t} {r1 = q} x y h k) = subst (λ r. ExtendsTo e r) (sym h) (then_all_to t q (extends_same e) (one_extends_to y))
+    one_extends_to {e = e} (one_next {t = t} {r1 = q} x y h k) =
+        subst (λ r. ExtendsTo e r) (sym h) (then_all_to t q (extends_same e) (one_extends_to y))
 
-    pub some_extend_to : {V : Environment X B} {s : Strategy X B} {ts : Trees} {e : Bindings} {found : Bool} {r : Ending Trees} {n : ℕ} → DerivesSome R M V s ts e found r n → ExtendsTo e r
+    pub some_extend_to : {V : Environment X B} {s : Strategy X B} {ts : Trees} {e : Bindings} {found : Bool}
+        {r : Ending Trees} {n : ℕ} → DerivesSome R M V s ts e found r n → ExtendsTo e r
     some_extend_to {e = e} some_end = extends_same e
     some_extend_to some_none = tt
-    some_extend_to {e = e} (some_found {t1 = u} {r1 = q} x y h k) = subst (λ r. ExtendsTo e r) (sym h) (then_all_to u q (extends_to x) (some_extend_to y))
-    some_extend_to {e = e} (some_stays {t = t} {r1 = q} x y h k) = subst (λ r. ExtendsTo e r) (sym h) (then_all_to t q (extends_same e) (some_extend_to y))
+    some_extend_to {e = e} (some_found {t1 = u} {r1 = q} x y h k) =
+        subst (λ r. ExtendsTo e r) (sym h) (then_all_to u q (extends_to x) (some_extend_to y))
+    some_extend_to {e = e} (some_stays {t = t} {r1 = q} x y h k) =
+        subst (λ r. ExtendsTo e r) (sym h) (then_all_to t q (extends_same e) (some_extend_to y))
     some_extend_to (some_stop x) = tt
 
-  pub extends : {V : Environment X B} {s : Strategy X B} {t u : Tree} {e f : Bindings} {n : ℕ} → Derives R M V s t e (ok u f) n → Extends e f
+  pub extends : {V : Environment X B} {s : Strategy X B} {t u : Tree} {e f : Bindings} {n : ℕ} →
+      Derives R M V s t e (ok u f) n → Extends e f
   extends x = extends_to x

@@ -60,7 +60,9 @@ module _ (named : ℕ → Name) where
     strategy_named L (all s) = all (strategy_named L s)
     strategy_named L (one s) = one (strategy_named L s)
     strategy_named L (some s) = some (strategy_named L s)
-    strategy_named L (with_definitions ds s) = with_definitions (definitions_named (layer_of_definitions ds L) (free L) ds) (strategy_named (layer_of_definitions ds L) s)
+    strategy_named L (with_definitions ds s) =
+        with_definitions (definitions_named (layer_of_definitions ds L) (free L) ds)
+        (strategy_named (layer_of_definitions ds L) s)
     strategy_named L (call y ss ps) = call (name_of L y) (strategies_named L ss) (patterns_named L ps)
     strategy_named L (primitive f ps) = primitive f (patterns_named L ps)
 
@@ -72,10 +74,12 @@ module _ (named : ℕ → Name) where
     pub definitions_named : Layers → ℕ → ResolvedDefinitions → NamedDefinitions
     definitions_named L b no_definitions = no_definitions
     definitions_named L b (more_definitions y m k s ds) =
-        more_definitions (named b) (names_from (free L) m) (names_from (free L) k) (strategy_named (layer_of m k L) s) (definitions_named L (suc b) ds)
+        more_definitions (named b) (names_from (free L) m) (names_from (free L) k) (strategy_named (layer_of m k L) s)
+        (definitions_named L (suc b) ds)
 
   -- the same layers, with names
   abbrev pub scopes_named : Layers → Scopes
   scopes_named no_layers = nowhere
   scopes_named (layer_of m k L) = names (names_from (free L) m) (names_from (free L) k) (scopes_named L)
-  scopes_named (layer_of_definitions ds L) = defined (definitions_named (layer_of_definitions ds L) (free L) ds) (scopes_named L)
+  scopes_named (layer_of_definitions ds L) =
+      defined (definitions_named (layer_of_definitions ds L) (free L) ds) (scopes_named L)

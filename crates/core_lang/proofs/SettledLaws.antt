@@ -13,10 +13,13 @@ use Rattle.core_lang.specs.Settled.{Verdict, ends, spent, Settled, settled, unse
 use Rattle.core_lang.proofs.Unique.{unique, moved, moved_all, moved_some, moved_call, moved_closure, no_stop}
 
 -- the endings of one strategy are those of another one, changed, by one node more
-module _ {X B : Type 0} {R : Reading X B} {M : Meaning} {V W : Environment X B} {r s : Strategy X B} {t : Tree} {e f : Bindings} (g : Ending Tree → Ending Tree)
+module _ {X B : Type 0} {R : Reading X B} {M : Meaning} {V W : Environment X B} {r s : Strategy X B} {t : Tree}
+    {e f : Bindings} (g : Ending Tree → Ending Tree)
     (make : (o : Ending Tree) (n : ℕ) → Derives R M W s t f o n → Derives R M V r t e (g o) (1 + n))
-    (only : (o : Ending Tree) (n : ℕ) → Derives R M V r t e o n → (p : Ending Tree) × (i : ℕ) × Derives R M W s t f p i × (n ≡ 1 + i)) where
-  around_ends : {o : Ending Tree} {b c : ℕ} → Settled R M W s t f b (ends o) c → Settled R M V r t e (1 + b) (ends (g o)) c
+    (only : (o : Ending Tree) (n : ℕ) → Derives R M V r t e o n → (p : Ending Tree) × (i : ℕ) ×
+    Derives R M W s t f p i × (n ≡ 1 + i)) where
+  around_ends : {o : Ending Tree} {b c : ℕ} → Settled R M W s t f b (ends o) c →
+      Settled R M V r t e (1 + b) (ends (g o)) c
   around_ends (settled {n = n} x h) = settled (make _ n x) (omega arith)
 
   around_spent : {b c d : ℕ} → Settled R M W s t f b spent c → Settled R M V r t e (1 + b) spent d
@@ -28,7 +31,8 @@ module _ {X B : Type 0} {R : Reading X B} {M : Meaning} {V W : Environment X B} 
 
 module _ {X B : Type 0} {R : Reading X B} {M : Meaning} where
   -- a derivation has a node
-  pub has_node : {V : Environment X B} {s : Strategy X B} {t : Tree} {e : Bindings} {o : Ending Tree} {n : ℕ} → Derives R M V s t e o n → 0 < n
+  pub has_node : {V : Environment X B} {s : Strategy X B} {t : Tree} {e : Bindings} {o : Ending Tree} {n : ℕ} →
+      Derives R M V s t e o n → 0 < n
   has_node by_id = omega arith
   has_node by_fail = omega arith
   has_node (by_seq x y h) = omega arith
@@ -58,21 +62,26 @@ module _ {X B : Type 0} {R : Reading X B} {M : Meaning} where
       Settled R M V s t e b spent c → Derives R M V s t e o n → b < n
   spent_is (unsettled lacks) y = lacks _ _ y
 
-  pub spent_at_zero : (V : Environment X B) (s : Strategy X B) (t : Tree) (e : Bindings) (c : ℕ) → Settled R M V s t e 0 spent c
+  pub spent_at_zero : (V : Environment X B) (s : Strategy X B) (t : Tree) (e : Bindings) (c : ℕ) →
+      Settled R M V s t e 0 spent c
   spent_at_zero V s t e c = unsettled (λ o n d. has_node d)
 
   -- rows without parts
-  pub id_settled : (V : Environment X B) (t : Tree) (e : Bindings) (b : ℕ) → Settled R M V id t e (1 + b) (ends (ok t e)) b
+  pub id_settled : (V : Environment X B) (t : Tree) (e : Bindings) (b : ℕ) →
+      Settled R M V id t e (1 + b) (ends (ok t e)) b
   id_settled V t e b = settled by_id (omega arith)
 
-  pub fail_settled : (V : Environment X B) (t : Tree) (e : Bindings) (b : ℕ) → Settled R M V fail t e (1 + b) (ends failed) b
+  pub fail_settled : (V : Environment X B) (t : Tree) (e : Bindings) (b : ℕ) →
+      Settled R M V fail t e (1 + b) (ends failed) b
   fail_settled V t e b = settled by_fail (omega arith)
 
-  pub match_settled : (V : Environment X B) (p : Pattern X) (t : Tree) (e f : Bindings) (b : ℕ) → Matches (R.place_of V) p e t f →
+  pub match_settled : (V : Environment X B) (p : Pattern X) (t : Tree) (e f : Bindings) (b : ℕ) →
+      Matches (R.place_of V) p e t f →
       Settled R M V (match p) t e (1 + b) (ends (ok t f)) b
   match_settled V p t e f b m = settled (by_match m) (omega arith)
 
-  pub no_match_settled : (V : Environment X B) (p : Pattern X) (t : Tree) (e : Bindings) (b : ℕ) → ((f : Bindings) → Matches (R.place_of V) p e t f → ⊥) →
+  pub no_match_settled : (V : Environment X B) (p : Pattern X) (t : Tree) (e : Bindings) (b : ℕ) →
+      ((f : Bindings) → Matches (R.place_of V) p e t f → ⊥) →
       Settled R M V (match p) t e (1 + b) (ends failed) b
   no_match_settled V p t e b m = settled (by_no_match m) (omega arith)
 
@@ -102,10 +111,12 @@ module _ {X B : Type 0} {R : Reading X B} {M : Meaning} where
     seq_goes_on (settled x h) (settled y k) = settled (by_seq x y refl) (omega arith)
     seq_goes_on (settled x h) (unsettled lacks) = unsettled (λ o n d. seq_beyond x h lacks d)
 
-    pub seq_stops : {q : Stop} {b c : ℕ} → Settled R M V r t e b (ends (stop q)) c → Settled R M V (seq r s) t e (1 + b) (ends (stop q)) c
+    pub seq_stops : {q : Stop} {b c : ℕ} → Settled R M V r t e b (ends (stop q)) c →
+        Settled R M V (seq r s) t e (1 + b) (ends (stop q)) c
     seq_stops (settled x h) = settled (by_seq_stop x refl) (omega arith)
 
-    seq_over : {b : ℕ} {o : Ending Tree} {n : ℕ} → ((o : Ending Tree) (n : ℕ) → Derives R M V r t e o n → b < n) → Derives R M V (seq r s) t e o n → 1 + b < n
+    seq_over : {b : ℕ} {o : Ending Tree} {n : ℕ} → ((o : Ending Tree) (n : ℕ) → Derives R M V r t e o n → b < n) →
+        Derives R M V (seq r s) t e o n → 1 + b < n
     seq_over lacks (by_seq x y k) = let less = lacks _ _ x in omega arith
     seq_over lacks (by_seq_stop x k) = let less = lacks _ _ x in omega arith
 
@@ -126,7 +137,8 @@ module _ {X B : Type 0} {R : Reading X B} {M : Meaning} where
     then_beyond x h lacks (by_choice_oversize x' k) = let q = (unique x x').outcome in cc
 
     pub choice_then : {u : Tree} {f : Bindings} {b d c : ℕ} {q : Verdict Tree} →
-        Settled R M V r t e b (ends (ok u f)) d → Settled R M V s u f d q c → Settled R M V (choice r s p) t e (1 + b) q c
+        Settled R M V r t e b (ends (ok u f)) d → Settled R M V s u f d q c →
+        Settled R M V (choice r s p) t e (1 + b) q c
     choice_then (settled x h) (settled y k) = settled (by_choice_then x y refl) (omega arith)
     choice_then (settled x h) (unsettled lacks) = unsettled (λ o n d. then_beyond x h lacks d)
 
@@ -146,7 +158,8 @@ module _ {X B : Type 0} {R : Reading X B} {M : Meaning} where
     choice_else (settled x h) (settled y k) = settled (by_choice_else x y refl) (omega arith)
     choice_else (settled x h) (unsettled lacks) = unsettled (λ o n d. else_beyond x h lacks d)
 
-    pub choice_oversize : {b c : ℕ} → Settled R M V r t e b (ends oversize) c → Settled R M V (choice r s p) t e (1 + b) (ends oversize) c
+    pub choice_oversize : {b c : ℕ} → Settled R M V r t e b (ends oversize) c →
+        Settled R M V (choice r s p) t e (1 + b) (ends oversize) c
     choice_oversize (settled x h) = settled (by_choice_oversize x refl) (omega arith)
 
     choice_over : {b : ℕ} {o : Ending Tree} {n : ℕ} → ((o : Ending Tree) (n : ℕ) → Derives R M V r t e o n → b < n) →
@@ -161,14 +174,18 @@ module _ {X B : Type 0} {R : Reading X B} {M : Meaning} where
   -- a scope
   module _ {V : Environment X B} {xs : B} {s : Strategy X B} {t : Tree} {e : Bindings} where
     scope_only : (o : Ending Tree) (n : ℕ) → Derives R M V (scope xs s) t e o n →
-        (p : Ending Tree) × (i : ℕ) × Derives R M (layer (length e) R.none xs no_closures V) s t (e ++ empty_places (R.count xs)) p i × (n ≡ 1 + i)
+        (p : Ending Tree) × (i : ℕ) ×
+        Derives R M (layer (length e) R.none xs no_closures V) s t (e ++ empty_places (R.count xs)) p i ×
+        (n ≡ 1 + i)
     scope_only o n (by_scope {o1 = p} {n1 = i} x h c) = (p, i, x, c)
 
-    pub scope_ends : {o : Ending Tree} {b c : ℕ} → Settled R M (layer (length e) R.none xs no_closures V) s t (e ++ empty_places (R.count xs)) b (ends o) c →
+    pub scope_ends : {o : Ending Tree} {b c : ℕ} →
+        Settled R M (layer (length e) R.none xs no_closures V) s t (e ++ empty_places (R.count xs)) b (ends o) c →
         Settled R M V (scope xs s) t e (1 + b) (ends (keeping (length e) o)) c
     scope_ends h = around_ends (keeping (length e)) (λ o n x. by_scope x refl refl) scope_only h
 
-    pub scope_spent : {b c d : ℕ} → Settled R M (layer (length e) R.none xs no_closures V) s t (e ++ empty_places (R.count xs)) b spent c →
+    pub scope_spent : {b c d : ℕ} →
+        Settled R M (layer (length e) R.none xs no_closures V) s t (e ++ empty_places (R.count xs)) b spent c →
         Settled R M V (scope xs s) t e (1 + b) spent d
     scope_spent h = around_spent (keeping (length e)) (λ o n x. by_scope x refl refl) scope_only h
 
@@ -178,10 +195,12 @@ module _ {X B : Type 0} {R : Reading X B} {M : Meaning} where
         (p : Ending Tree) × (i : ℕ) × Derives R M (definitions ds V) s t e p i × (n ≡ 1 + i)
     definitions_only o n (by_definitions {n1 = i} x c) = (o, i, x, c)
 
-    pub definitions_ends : {o : Ending Tree} {b c : ℕ} → Settled R M (definitions ds V) s t e b (ends o) c → Settled R M V (with_definitions ds s) t e (1 + b) (ends o) c
+    pub definitions_ends : {o : Ending Tree} {b c : ℕ} → Settled R M (definitions ds V) s t e b (ends o) c →
+        Settled R M V (with_definitions ds s) t e (1 + b) (ends o) c
     definitions_ends h = around_ends (λ o. o) (λ o n x. by_definitions x refl) definitions_only h
 
-    pub definitions_spent : {b c d : ℕ} → Settled R M (definitions ds V) s t e b spent c → Settled R M V (with_definitions ds s) t e (1 + b) spent d
+    pub definitions_spent : {b c d : ℕ} → Settled R M (definitions ds V) s t e b spent c →
+        Settled R M V (with_definitions ds s) t e (1 + b) spent d
     definitions_spent h = around_spent (λ o. o) (λ o n x. by_definitions x refl) definitions_only h
 
   -- a call
@@ -196,46 +215,59 @@ module _ {X B : Type 0} {R : Reading X B} {M : Meaning} where
     call_of_nothing b c is = unsettled (λ o n d. absurd (no_callee o n is d))
 
     -- of a definition, an argument of which can't be built
-    pub call_stops : {W : Environment X B} {fs xs : B} {s : Strategy X B} {q : Stop} (b : ℕ) → called R V g ss ps ≡ Some (definition fs xs s W) →
-        arguments (instances (R.place_of V) ps e) e ≡ stop q → Settled R M V (call g ss ps) t e (1 + b) (ends (stop q)) b
+    pub call_stops : {W : Environment X B} {fs xs : B} {s : Strategy X B} {q : Stop} (b : ℕ) →
+        called R V g ss ps ≡ Some (definition fs xs s W) →
+        arguments (instances (R.place_of V) ps e) e ≡ stop q →
+        Settled R M V (call g ss ps) t e (1 + b) (ends (stop q)) b
     call_stops b is us = settled (by_call_stop is us) (omega arith)
 
-  module _ {V W : Environment X B} {g : X} {ss : Strategies X B} {ps : Patterns X} {fs xs : B} {s : Strategy X B} {ts : Trees} {t : Tree} {e : Bindings}
-      (is : called R V g ss ps ≡ Some (definition fs xs s W)) (given : arguments (instances (R.place_of V) ps e) e ≡ ok ts e) where
+  module _ {V W : Environment X B} {g : X} {ss : Strategies X B} {ps : Patterns X} {fs xs : B} {s : Strategy X B}
+      {ts : Trees} {t : Tree} {e : Bindings}
+      (is : called R V g ss ps ≡ Some (definition fs xs s W))
+      (given : arguments (instances (R.place_of V) ps e) e ≡ ok ts e) where
     call_only : (o : Ending Tree) (n : ℕ) → Derives R M V (call g ss ps) t e o n →
-        (p : Ending Tree) × (i : ℕ) × Derives R M (layer (length e) fs xs (closures_of R V ss) W) s t (e ++ filled_places ts) p i × (n ≡ 1 + i)
-    call_only o n (by_call {o1 = p} {n1 = i} is' given' x h c) = (p, i, moved_call V ss t e (sym is ∙ is') (sym given ∙ given') x, c)
+        (p : Ending Tree) × (i : ℕ) ×
+        Derives R M (layer (length e) fs xs (closures_of R V ss) W) s t (e ++ filled_places ts) p i × (n ≡ 1 + i)
+    call_only o n (by_call {o1 = p} {n1 = i} is' given' x h c) =
+        (p, i, moved_call V ss t e (sym is ∙ is') (sym given ∙ given') x, c)
     call_only o n (by_call_stop is' given') = absurd (no_stop (sym given ∙ given'))
     call_only o n (by_parameter is' x c) = let k = sym is ∙ is' in cc
 
-    pub call_ends : {o : Ending Tree} {b c : ℕ} → Settled R M (layer (length e) fs xs (closures_of R V ss) W) s t (e ++ filled_places ts) b (ends o) c →
+    pub call_ends : {o : Ending Tree} {b c : ℕ} →
+        Settled R M (layer (length e) fs xs (closures_of R V ss) W) s t (e ++ filled_places ts) b (ends o) c →
         Settled R M V (call g ss ps) t e (1 + b) (ends (keeping (length e) o)) c
     call_ends h = around_ends (keeping (length e)) (λ o n x. by_call is given x refl refl) call_only h
 
-    pub call_spent : {b c d : ℕ} → Settled R M (layer (length e) fs xs (closures_of R V ss) W) s t (e ++ filled_places ts) b spent c →
+    pub call_spent : {b c d : ℕ} →
+        Settled R M (layer (length e) fs xs (closures_of R V ss) W) s t (e ++ filled_places ts) b spent c →
         Settled R M V (call g ss ps) t e (1 + b) spent d
     call_spent h = around_spent (keeping (length e)) (λ o n x. by_call is given x refl refl) call_only h
 
-  module _ {V W : Environment X B} {g : X} {ss : Strategies X B} {ps : Patterns X} {s : Strategy X B} {t : Tree} {e : Bindings}
+  module _ {V W : Environment X B} {g : X} {ss : Strategies X B} {ps : Patterns X} {s : Strategy X B} {t : Tree}
+      {e : Bindings}
       (is : called R V g ss ps ≡ Some (closure s W)) where
-    parameter_only : (o : Ending Tree) (n : ℕ) → Derives R M V (call g ss ps) t e o n → (p : Ending Tree) × (i : ℕ) × Derives R M W s t e p i × (n ≡ 1 + i)
+    parameter_only : (o : Ending Tree) (n : ℕ) → Derives R M V (call g ss ps) t e o n → (p : Ending Tree) × (i : ℕ) ×
+        Derives R M W s t e p i × (n ≡ 1 + i)
     parameter_only o n (by_call is' given' x h c) = let k = sym is ∙ is' in cc
     parameter_only o n (by_call_stop is' given') = let k = sym is ∙ is' in cc
     parameter_only o n (by_parameter {n1 = i} is' x c) = (o, i, moved_closure t e (sym is ∙ is') x, c)
 
-    pub parameter_ends : {o : Ending Tree} {b c : ℕ} → Settled R M W s t e b (ends o) c → Settled R M V (call g ss ps) t e (1 + b) (ends o) c
+    pub parameter_ends : {o : Ending Tree} {b c : ℕ} → Settled R M W s t e b (ends o) c →
+        Settled R M V (call g ss ps) t e (1 + b) (ends o) c
     parameter_ends h = around_ends (λ o. o) (λ o n x. by_parameter is x refl) parameter_only h
 
     pub parameter_spent : {b c d : ℕ} → Settled R M W s t e b spent c → Settled R M V (call g ss ps) t e (1 + b) spent d
     parameter_spent h = around_spent (λ o. o) (λ o n x. by_parameter is x refl) parameter_only h
 
   -- all parts in turn
-  pub all_at_end : (V : Environment X B) (s : Strategy X B) (e : Bindings) (b : ℕ) → AllSettled R M V s end e b (ends (ok end e)) b
+  pub all_at_end : (V : Environment X B) (s : Strategy X B) (e : Bindings) (b : ℕ) →
+      AllSettled R M V s end e b (ends (ok end e)) b
   all_at_end V s e b = all_settled all_end (omega arith)
 
   module _ {V : Environment X B} {s : Strategy X B} {t : Tree} {ts : Trees} {e : Bindings} where
     next_beyond : {u : Tree} {f : Bindings} {b d i : ℕ} {r : Ending Trees} {n : ℕ} →
-        Derives R M V s t e (ok u f) i → b ≡ i + d → ((r : Ending Trees) (n : ℕ) → DerivesAll R M V s ts f r n → d < n) →
+        Derives R M V s t e (ok u f) i → b ≡ i + d →
+        ((r : Ending Trees) (n : ℕ) → DerivesAll R M V s ts f r n → d < n) →
         DerivesAll R M V s (more t ts) e r n → b < n
     next_beyond x h lacks (all_next x' y' k m) =
         let q = unique x x' in
@@ -246,14 +278,17 @@ module _ {X B : Type 0} {R : Reading X B} {M : Meaning} where
 
     -- the first is ok: all depends on the others
     pub all_goes_on : {u : Tree} {f : Bindings} {b d c : ℕ} {r : Verdict Trees} →
-        Settled R M V s t e b (ends (ok u f)) d → AllSettled R M V s ts f d r c → AllSettled R M V s (more t ts) e b (verdict_in_front u r) c
+        Settled R M V s t e b (ends (ok u f)) d → AllSettled R M V s ts f d r c →
+        AllSettled R M V s (more t ts) e b (verdict_in_front u r) c
     all_goes_on (settled x h) (all_settled y k) = all_settled (all_next x y refl refl) (omega arith)
     all_goes_on (settled x h) (all_unsettled lacks) = all_unsettled (λ r n d. next_beyond x h lacks d)
 
-    pub all_stops : {q : Stop} {b c : ℕ} → Settled R M V s t e b (ends (stop q)) c → AllSettled R M V s (more t ts) e b (ends (stop q)) c
+    pub all_stops : {q : Stop} {b c : ℕ} → Settled R M V s t e b (ends (stop q)) c →
+        AllSettled R M V s (more t ts) e b (ends (stop q)) c
     all_stops (settled x h) = all_settled (all_stop x) h
 
-    all_over : {b : ℕ} {r : Ending Trees} {n : ℕ} → ((o : Ending Tree) (n : ℕ) → Derives R M V s t e o n → b < n) → DerivesAll R M V s (more t ts) e r n → b < n
+    all_over : {b : ℕ} {r : Ending Trees} {n : ℕ} → ((o : Ending Tree) (n : ℕ) → Derives R M V s t e o n → b < n) →
+        DerivesAll R M V s (more t ts) e r n → b < n
     all_over lacks (all_next x y k m) = let less = lacks _ _ x in omega arith
     all_over lacks (all_stop x) = lacks _ _ x
 
@@ -261,17 +296,21 @@ module _ {X B : Type 0} {R : Reading X B} {M : Meaning} where
     all_spends (unsettled lacks) = all_unsettled (λ r n d. all_over lacks d)
 
   module _ {V : Environment X B} {s : Strategy X B} {t : Tree} {e : Bindings} where
-    pub all_rebuilt : {r : Ending Trees} {b c : ℕ} → AllSettled R M V s (parts t) e b (ends r) c → Settled R M V (all s) t e (1 + b) (ends (rebuilt t r)) c
+    pub all_rebuilt : {r : Ending Trees} {b c : ℕ} → AllSettled R M V s (parts t) e b (ends r) c →
+        Settled R M V (all s) t e (1 + b) (ends (rebuilt t r)) c
     all_rebuilt (all_settled x h) = settled (by_all x refl refl) (omega arith)
 
-    all_only : {b : ℕ} {o : Ending Tree} {n : ℕ} → ((r : Ending Trees) (n : ℕ) → DerivesAll R M V s (parts t) e r n → b < n) → Derives R M V (all s) t e o n → 1 + b < n
+    all_only : {b : ℕ} {o : Ending Tree} {n : ℕ} →
+        ((r : Ending Trees) (n : ℕ) → DerivesAll R M V s (parts t) e r n → b < n) → Derives R M V (all s) t e o n →
+        1 + b < n
     all_only lacks (by_all x h k) = let less = lacks _ _ x in omega arith
 
     pub all_spent : {b c d : ℕ} → AllSettled R M V s (parts t) e b spent c → Settled R M V (all s) t e (1 + b) spent d
     all_spent (all_unsettled lacks) = unsettled (λ o n d. all_only lacks d)
 
   -- one part
-  pub one_at_end : (V : Environment X B) (s : Strategy X B) (e : Bindings) (b : ℕ) → OneSettled R M V s end e b (ends failed) b
+  pub one_at_end : (V : Environment X B) (s : Strategy X B) (e : Bindings) (b : ℕ) →
+      OneSettled R M V s end e b (ends failed) b
   one_at_end V s e b = one_settled one_end (omega arith)
 
   module _ {V : Environment X B} {s : Strategy X B} {t : Tree} {ts : Trees} {e : Bindings} where
@@ -279,7 +318,8 @@ module _ {X B : Type 0} {R : Reading X B} {M : Meaning} where
         OneSettled R M V s (more t ts) e b (ends (ok (more u ts) f)) c
     one_finds (settled x h) = one_settled (one_found x) h
 
-    pub one_stops : {b c : ℕ} → Settled R M V s t e b (ends oversize) c → OneSettled R M V s (more t ts) e b (ends oversize) c
+    pub one_stops : {b c : ℕ} → Settled R M V s t e b (ends oversize) c →
+        OneSettled R M V s (more t ts) e b (ends oversize) c
     one_stops (settled x h) = one_settled (one_stop x) h
 
     other_beyond : {b d i : ℕ} {r : Ending Trees} {n : ℕ} →
@@ -295,11 +335,13 @@ module _ {X B : Type 0} {R : Reading X B} {M : Meaning} where
 
     -- the first fails: all depends on the others
     pub one_goes_on : {b d c : ℕ} {r : Verdict Trees} →
-        Settled R M V s t e b (ends failed) d → OneSettled R M V s ts e d r c → OneSettled R M V s (more t ts) e b (verdict_in_front t r) c
+        Settled R M V s t e b (ends failed) d → OneSettled R M V s ts e d r c →
+        OneSettled R M V s (more t ts) e b (verdict_in_front t r) c
     one_goes_on (settled x h) (one_settled y k) = one_settled (one_next x y refl refl) (omega arith)
     one_goes_on (settled x h) (one_unsettled lacks) = one_unsettled (λ r n d. other_beyond x h lacks d)
 
-    one_over : {b : ℕ} {r : Ending Trees} {n : ℕ} → ((o : Ending Tree) (n : ℕ) → Derives R M V s t e o n → b < n) → DerivesOne R M V s (more t ts) e r n → b < n
+    one_over : {b : ℕ} {r : Ending Trees} {n : ℕ} → ((o : Ending Tree) (n : ℕ) → Derives R M V s t e o n → b < n) →
+        DerivesOne R M V s (more t ts) e r n → b < n
     one_over lacks (one_found x) = lacks _ _ x
     one_over lacks (one_stop x) = lacks _ _ x
     one_over lacks (one_next x y k m) = let less = lacks _ _ x in omega arith
@@ -308,25 +350,31 @@ module _ {X B : Type 0} {R : Reading X B} {M : Meaning} where
     one_spends (unsettled lacks) = one_unsettled (λ r n d. one_over lacks d)
 
   module _ {V : Environment X B} {s : Strategy X B} {t : Tree} {e : Bindings} where
-    pub one_rebuilt : {r : Ending Trees} {b c : ℕ} → OneSettled R M V s (parts t) e b (ends r) c → Settled R M V (one s) t e (1 + b) (ends (rebuilt t r)) c
+    pub one_rebuilt : {r : Ending Trees} {b c : ℕ} → OneSettled R M V s (parts t) e b (ends r) c →
+        Settled R M V (one s) t e (1 + b) (ends (rebuilt t r)) c
     one_rebuilt (one_settled x h) = settled (by_one x refl refl) (omega arith)
 
-    one_only : {b : ℕ} {o : Ending Tree} {n : ℕ} → ((r : Ending Trees) (n : ℕ) → DerivesOne R M V s (parts t) e r n → b < n) → Derives R M V (one s) t e o n → 1 + b < n
+    one_only : {b : ℕ} {o : Ending Tree} {n : ℕ} →
+        ((r : Ending Trees) (n : ℕ) → DerivesOne R M V s (parts t) e r n → b < n) → Derives R M V (one s) t e o n →
+        1 + b < n
     one_only lacks (by_one x h k) = let less = lacks _ _ x in omega arith
 
     pub one_spent : {b c d : ℕ} → OneSettled R M V s (parts t) e b spent c → Settled R M V (one s) t e (1 + b) spent d
     one_spent (one_unsettled lacks) = unsettled (λ o n d. one_only lacks d)
 
   -- some parts
-  pub some_at_end : (V : Environment X B) (s : Strategy X B) (e : Bindings) (b : ℕ) → SomeSettled R M V s end e true b (ends (ok end e)) b
+  pub some_at_end : (V : Environment X B) (s : Strategy X B) (e : Bindings) (b : ℕ) →
+      SomeSettled R M V s end e true b (ends (ok end e)) b
   some_at_end V s e b = some_settled some_end (omega arith)
 
-  pub some_at_none : (V : Environment X B) (s : Strategy X B) (e : Bindings) (b : ℕ) → SomeSettled R M V s end e false b (ends failed) b
+  pub some_at_none : (V : Environment X B) (s : Strategy X B) (e : Bindings) (b : ℕ) →
+      SomeSettled R M V s end e false b (ends failed) b
   some_at_none V s e b = some_settled some_none (omega arith)
 
   module _ {V : Environment X B} {s : Strategy X B} {t : Tree} {ts : Trees} {e : Bindings} {found : Bool} where
     found_beyond : {u : Tree} {f : Bindings} {b d i : ℕ} {r : Ending Trees} {n : ℕ} →
-        Derives R M V s t e (ok u f) i → b ≡ i + d → ((r : Ending Trees) (n : ℕ) → DerivesSome R M V s ts f true r n → d < n) →
+        Derives R M V s t e (ok u f) i → b ≡ i + d →
+        ((r : Ending Trees) (n : ℕ) → DerivesSome R M V s ts f true r n → d < n) →
         DerivesSome R M V s (more t ts) e found r n → b < n
     found_beyond x h lacks (some_found x' y' k m) =
         let q = unique x x' in
@@ -337,12 +385,14 @@ module _ {X B : Type 0} {R : Reading X B} {M : Meaning} where
     found_beyond x h lacks (some_stop x') = let q = (unique x x').outcome in cc
 
     pub some_goes_on : {u : Tree} {f : Bindings} {b d c : ℕ} {r : Verdict Trees} →
-        Settled R M V s t e b (ends (ok u f)) d → SomeSettled R M V s ts f true d r c → SomeSettled R M V s (more t ts) e found b (verdict_in_front u r) c
+        Settled R M V s t e b (ends (ok u f)) d → SomeSettled R M V s ts f true d r c →
+        SomeSettled R M V s (more t ts) e found b (verdict_in_front u r) c
     some_goes_on (settled x h) (some_settled y k) = some_settled (some_found x y refl refl) (omega arith)
     some_goes_on (settled x h) (some_unsettled lacks) = some_unsettled (λ r n d. found_beyond x h lacks d)
 
     stays_beyond : {b d i : ℕ} {r : Ending Trees} {n : ℕ} →
-        Derives R M V s t e failed i → b ≡ i + d → ((r : Ending Trees) (n : ℕ) → DerivesSome R M V s ts e found r n → d < n) →
+        Derives R M V s t e failed i → b ≡ i + d →
+        ((r : Ending Trees) (n : ℕ) → DerivesSome R M V s ts e found r n → d < n) →
         DerivesSome R M V s (more t ts) e found r n → b < n
     stays_beyond x h lacks (some_found x' y' k m) = let q = (unique x x').outcome in cc
     stays_beyond x h lacks (some_stays x' y' k m) =
@@ -354,14 +404,17 @@ module _ {X B : Type 0} {R : Reading X B} {M : Meaning} where
 
     -- the first fails and stays
     pub some_leaves : {b d c : ℕ} {r : Verdict Trees} →
-        Settled R M V s t e b (ends failed) d → SomeSettled R M V s ts e found d r c → SomeSettled R M V s (more t ts) e found b (verdict_in_front t r) c
+        Settled R M V s t e b (ends failed) d → SomeSettled R M V s ts e found d r c →
+        SomeSettled R M V s (more t ts) e found b (verdict_in_front t r) c
     some_leaves (settled x h) (some_settled y k) = some_settled (some_stays x y refl refl) (omega arith)
     some_leaves (settled x h) (some_unsettled lacks) = some_unsettled (λ r n d. stays_beyond x h lacks d)
 
-    pub some_stops : {b c : ℕ} → Settled R M V s t e b (ends oversize) c → SomeSettled R M V s (more t ts) e found b (ends oversize) c
+    pub some_stops : {b c : ℕ} → Settled R M V s t e b (ends oversize) c →
+        SomeSettled R M V s (more t ts) e found b (ends oversize) c
     some_stops (settled x h) = some_settled (some_stop x) h
 
-    some_over : {b : ℕ} {r : Ending Trees} {n : ℕ} → ((o : Ending Tree) (n : ℕ) → Derives R M V s t e o n → b < n) → DerivesSome R M V s (more t ts) e found r n → b < n
+    some_over : {b : ℕ} {r : Ending Trees} {n : ℕ} → ((o : Ending Tree) (n : ℕ) → Derives R M V s t e o n → b < n) →
+        DerivesSome R M V s (more t ts) e found r n → b < n
     some_over lacks (some_found x y k m) = let less = lacks _ _ x in omega arith
     some_over lacks (some_stays x y k m) = let less = lacks _ _ x in omega arith
     some_over lacks (some_stop x) = lacks _ _ x
@@ -370,11 +423,15 @@ module _ {X B : Type 0} {R : Reading X B} {M : Meaning} where
     some_spends (unsettled lacks) = some_unsettled (λ r n d. some_over lacks d)
 
   module _ {V : Environment X B} {s : Strategy X B} {t : Tree} {e : Bindings} where
-    pub some_rebuilt : {r : Ending Trees} {b c : ℕ} → SomeSettled R M V s (parts t) e false b (ends r) c → Settled R M V (some s) t e (1 + b) (ends (rebuilt t r)) c
+    pub some_rebuilt : {r : Ending Trees} {b c : ℕ} → SomeSettled R M V s (parts t) e false b (ends r) c →
+        Settled R M V (some s) t e (1 + b) (ends (rebuilt t r)) c
     some_rebuilt (some_settled x h) = settled (by_some x refl refl) (omega arith)
 
-    some_only : {b : ℕ} {o : Ending Tree} {n : ℕ} → ((r : Ending Trees) (n : ℕ) → DerivesSome R M V s (parts t) e false r n → b < n) → Derives R M V (some s) t e o n → 1 + b < n
+    some_only : {b : ℕ} {o : Ending Tree} {n : ℕ} →
+        ((r : Ending Trees) (n : ℕ) → DerivesSome R M V s (parts t) e false r n → b < n) →
+        Derives R M V (some s) t e o n → 1 + b < n
     some_only lacks (by_some x h k) = let less = lacks _ _ x in omega arith
 
-    pub some_spent : {b c d : ℕ} → SomeSettled R M V s (parts t) e false b spent c → Settled R M V (some s) t e (1 + b) spent d
+    pub some_spent : {b c d : ℕ} → SomeSettled R M V s (parts t) e false b spent c →
+        Settled R M V (some s) t e (1 + b) spent d
     some_spent (some_unsettled lacks) = unsettled (λ o n d. some_only lacks d)

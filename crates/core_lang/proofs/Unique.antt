@@ -39,19 +39,22 @@ module _ {X B : Type 0} {R : Reading X B} {M : Meaning} where
       let q : e' ≡ e = cc in
       subst (λ u. Derives R M V s u e o n) p (subst (λ f. Derives R M V s t' f o n) q d)
 
-  pub moved_all : {V : Environment X B} {s : Strategy X B} {t t' : Tree} {ts : Trees} {e e' : Bindings} {r : Ending Trees} {n : ℕ} →
+  pub moved_all : {V : Environment X B} {s : Strategy X B} {t t' : Tree} {ts : Trees} {e e' : Bindings}
+      {r : Ending Trees} {n : ℕ} →
       ok t e ≡ ok t' e' → DerivesAll R M V s ts e' r n → DerivesAll R M V s ts e r n
   moved_all {V} {s} {t} {t'} {ts} {e} {e'} {r} {n} h d =
       let q : e' ≡ e = cc in
       subst (λ f. DerivesAll R M V s ts f r n) q d
 
-  pub moved_some : {V : Environment X B} {s : Strategy X B} {t t' : Tree} {ts : Trees} {e e' : Bindings} {found : Bool} {r : Ending Trees} {n : ℕ} →
+  pub moved_some : {V : Environment X B} {s : Strategy X B} {t t' : Tree} {ts : Trees} {e e' : Bindings} {found : Bool}
+      {r : Ending Trees} {n : ℕ} →
       ok t e ≡ ok t' e' → DerivesSome R M V s ts e' found r n → DerivesSome R M V s ts e found r n
   moved_some {V} {s} {t} {t'} {ts} {e} {e'} {found} {r} {n} h d =
       let q : e' ≡ e = cc in
       subst (λ f. DerivesSome R M V s ts f found r n) q d
 
-  pub moved_call : {W W' : Environment X B} {s s' : Strategy X B} {fs fs' xs xs' : B} {us us' : Trees} {o : Ending Tree} {n : ℕ}
+  pub moved_call : {W W' : Environment X B} {s s' : Strategy X B} {fs fs' xs xs' : B} {us us' : Trees} {o : Ending Tree}
+      {n : ℕ}
       (V : Environment X B) (ss : Strategies X B) (t : Tree) (e : Bindings) →
       Some (definition fs xs s W) ≡ Some (definition fs' xs' s' W') → ok us e ≡ ok us' e →
       Derives R M (layer (length e) fs' xs' (closures_of R V ss) W') s' t (e ++ filled_places us') o n →
@@ -66,9 +69,11 @@ module _ {X B : Type 0} {R : Reading X B} {M : Meaning} where
       (subst (λ z. Derives R M (layer (length e) fs xs (closures_of R V ss) W') z t (e ++ filled_places us) o n) ps
       (subst (λ z. Derives R M (layer (length e) z xs (closures_of R V ss) W') s' t (e ++ filled_places us) o n) pf
       (subst (λ z. Derives R M (layer (length e) fs' z (closures_of R V ss) W') s' t (e ++ filled_places us) o n) px
-      (subst (λ z. Derives R M (layer (length e) fs' xs' (closures_of R V ss) W') s' t (e ++ filled_places z) o n) pu d))))
+      (subst (λ z. Derives R M (layer (length e) fs' xs' (closures_of R V ss) W') s' t (e ++ filled_places z) o n)
+      pu d))))
 
-  pub moved_closure : {W W' : Environment X B} {s s' : Strategy X B} {o : Ending Tree} {n : ℕ} (t : Tree) (e : Bindings) →
+  pub moved_closure : {W W' : Environment X B} {s s' : Strategy X B} {o : Ending Tree} {n : ℕ} (t : Tree)
+      (e : Bindings) →
       Some (closure s W) ≡ Some (closure s' W') → Derives R M W' s' t e o n → Derives R M W s t e o n
   moved_closure {W} {W'} {s} {s'} {o} {n} t e h d =
       let p : s' ≡ s = cc in
@@ -104,7 +109,8 @@ module _ {X B : Type 0} {R : Reading X B} {M : Meaning} where
     unique (by_choice_oversize x h) (by_choice_else x' y' h') = let q = (unique x x').outcome in cc
     unique (by_choice_oversize x h) (by_choice_oversize x' h') =
         let q = unique x x' in record { outcome = refl; nodes = omega arith }
-    unique {V = V} {t = t} (by_match m) (by_match m') = record { outcome = ap (λ f. ok t f) (matches_once (R.place_of V) m m'); nodes = refl }
+    unique {V = V} {t = t} (by_match m) (by_match m') =
+        record { outcome = ap (λ f. ok t f) (matches_once (R.place_of V) m m'); nodes = refl }
     unique (by_match m) (by_no_match m') = absurd (m' _ m)
     unique (by_no_match m) (by_match m') = absurd (m _ m')
     unique (by_no_match m) (by_no_match m') = record { outcome = refl; nodes = refl }
@@ -141,14 +147,19 @@ module _ {X B : Type 0} {R : Reading X B} {M : Meaning} where
         record { outcome = q.outcome; nodes = omega arith }
     unique (by_primitive h) (by_primitive h') = record { outcome = h ∙ sym h'; nodes = refl }
 
-    pub unique_all : {V : Environment X B} {s : Strategy X B} {ts : Trees} {e : Bindings} {r r' : Ending Trees} {n n' : ℕ} →
+    pub unique_all : {V : Environment X B} {s : Strategy X B} {ts : Trees} {e : Bindings} {r r' : Ending Trees}
+        {n n' : ℕ} →
         DerivesAll R M V s ts e r n → DerivesAll R M V s ts e r' n' → SameResults r r' n n'
     unique_all all_end all_end = record { results = refl; nodes = refl }
     unique_all (all_next {t1 = u} x y h k) (all_next {t1 = u'} {r1 = p'} x' y' h' k') =
         let q = unique x x' in
         let w = unique_all y (moved_all q.outcome y') in
         let same : u ≡ u' = ok_tree q.outcome in
-        record { results = h ∙ (ap (λ r. in_front u r) w.results ∙ (ap (λ v. in_front v p') same ∙ sym h')); nodes = omega arith }
+        record {
+          results = h ∙ (ap (λ r. in_front u r) w.results ∙ (ap (λ v. in_front v p') same ∙ sym h'));
+          nodes =
+              omega arith;
+        }
     unique_all (all_next x y h k) (all_stop x') = absurd (no_stop (unique x x').outcome)
     unique_all (all_stop x) (all_next x' y' h' k') = absurd (no_stop (sym (unique x x').outcome))
     unique_all (all_stop {q = q} x) (all_stop {q = p} x') =
@@ -157,7 +168,8 @@ module _ {X B : Type 0} {R : Reading X B} {M : Meaning} where
         let cause : q ≡ p = cc in
         record { results = ap (λ z. stop z) cause; nodes = same.nodes }
 
-    pub unique_one : {V : Environment X B} {s : Strategy X B} {ts : Trees} {e : Bindings} {r r' : Ending Trees} {n n' : ℕ} →
+    pub unique_one : {V : Environment X B} {s : Strategy X B} {ts : Trees} {e : Bindings} {r r' : Ending Trees}
+        {n n' : ℕ} →
         DerivesOne R M V s ts e r n → DerivesOne R M V s ts e r' n' → SameResults r r' n n'
     unique_one one_end one_end = record { results = refl; nodes = refl }
     unique_one (one_found {ts = ts} x) (one_found x') =
@@ -174,7 +186,8 @@ module _ {X B : Type 0} {R : Reading X B} {M : Meaning} where
         let w = unique_one y y' in
         record { results = h ∙ (ap (λ r. in_front t r) w.results ∙ sym h'); nodes = omega arith }
 
-    pub unique_some : {V : Environment X B} {s : Strategy X B} {ts : Trees} {e : Bindings} {found : Bool} {r r' : Ending Trees} {n n' : ℕ} →
+    pub unique_some : {V : Environment X B} {s : Strategy X B} {ts : Trees} {e : Bindings} {found : Bool}
+        {r r' : Ending Trees} {n n' : ℕ} →
         DerivesSome R M V s ts e found r n → DerivesSome R M V s ts e found r' n' → SameResults r r' n n'
     unique_some some_end some_end = record { results = refl; nodes = refl }
     unique_some some_none some_none = record { results = refl; nodes = refl }
@@ -182,7 +195,11 @@ module _ {X B : Type 0} {R : Reading X B} {M : Meaning} where
         let q = unique x x' in
         let w = unique_some y (moved_some q.outcome y') in
         let same : u ≡ u' = ok_tree q.outcome in
-        record { results = h ∙ (ap (λ r. in_front u r) w.results ∙ (ap (λ v. in_front v p') same ∙ sym h')); nodes = omega arith }
+        record {
+          results = h ∙ (ap (λ r. in_front u r) w.results ∙ (ap (λ v. in_front v p') same ∙ sym h'));
+          nodes =
+              omega arith;
+        }
     unique_some (some_found x y h k) (some_stays x' y' h' k') = let q = (unique x x').outcome in cc
     unique_some (some_found x y h k) (some_stop x') = let q = (unique x x').outcome in cc
     unique_some (some_stays x y h k) (some_found x' y' h' k') = let q = (unique x x').outcome in cc

@@ -21,7 +21,8 @@ use Rattle.core_lang.specs.Resolution.{ResolvesProgram, to_variable, to_integer,
 pub first : (M : Meaning) (t : Tree) → Rewrites M takes_first main (term_on_two Tuple seven t) (ok seven []) 5
 first M t =
     by_call refl refl (by_scope
-    (by_seq (by_match (binds_one _ _ [] [] seven _ (inl refl) (refl, ((0, refl, refl), (tt, refl))))) (by_build refl) refl)
+    (by_seq (by_match (binds_one _ _ [] [] seven _ (inl refl) (refl, ((0, refl, refl), (tt, refl))))) (by_build refl)
+    refl)
     refl refl) refl refl
 
 pub other_symbol : (M : Meaning) → Rewrites M takes_inner main (term_on_one G seven) failed 4
@@ -36,7 +37,8 @@ closure M =
     by_call refl refl (by_scope (by_seq
     (by_scope
     (by_seq (by_match (binds_one _ _ (None ∷ []) [] (term_on_one F two) _ refl (1, refl, refl)))
-    (by_seq (by_seq (by_build refl) (by_match (binds_one _ _ [] (Some (term_on_one F two) ∷ []) five _ refl (0, refl, refl))) refl)
+    (by_seq (by_seq (by_build refl)
+    (by_match (binds_one _ _ [] (Some (term_on_one F two) ∷ []) five _ refl (0, refl, refl))) refl)
     (by_build refl) refl) refl) refl refl)
     (by_call refl refl (by_scope
     (by_seq (by_match (binds_one _ _ (Some five ∷ []) [] two _ (inl refl) (refl, ((1, refl, refl), refl))))
@@ -44,17 +46,21 @@ closure M =
     (by_parameter refl (by_scope
     (by_seq (by_match (binds_one _ _ (Some five ∷ Some two ∷ []) (None ∷ []) two _ refl (2, refl, refl)))
     (by_seq (by_build refl) (by_seq by_id
-    (by_seq (by_match (binds_one _ _ (Some five ∷ Some two ∷ Some two ∷ []) [] two _ refl (3, refl, refl))) (by_build refl) refl) refl) refl) refl)
+    (by_seq (by_match (binds_one _ _ (Some five ∷ Some two ∷ Some two ∷ []) [] two _ refl (3, refl, refl)))
+    (by_build refl) refl) refl) refl) refl)
     refl refl) refl) refl) refl) refl refl) refl refl) refl) refl refl) refl refl
 
 pub some_parts : (M : Meaning) →
-    Rewrites M changes_ones main (node (heads.App F) (more one (more two (more one end))) (more (node (heads.App G) end end) end))
+    Rewrites M changes_ones main
+    (node (heads.App F) (more one (more two (more one end))) (more (node (heads.App G) end end) end))
     (ok (node (heads.App F) (more nine (more two (more nine end))) (more (node (heads.App G) end end) end)) []) 10
 some_parts M =
     by_call refl refl (by_some
     (some_found (by_seq (by_match (binds_nothing _ _ _ _ refl)) (by_build refl) refl)
-    (some_stays (by_seq_stop (by_no_match (λ f m. let h = ap (λ k. same_head k (heads.Int (pos 1))) m.conforms in cc)) refl)
-    (some_found (by_seq (by_match (binds_nothing _ _ _ _ refl)) (by_build refl) refl) some_end refl refl) refl refl) refl refl)
+    (some_stays (by_seq_stop (by_no_match (λ f m. let h = ap (λ k. same_head k (heads.Int (pos 1))) m.conforms in cc))
+    refl)
+    (some_found (by_seq (by_match (binds_nothing _ _ _ _ refl)) (by_build refl) refl) some_end refl refl) refl refl)
+    refl refl)
     refl refl) refl refl
 
 pub undone : (M : Meaning) → Rewrites M tries_and_builds main (term_on_one Foo one) failed 13
@@ -62,38 +68,53 @@ undone M =
     by_call refl refl (by_scope (by_seq
     (by_call refl refl (by_choice_else
     (by_parameter refl (by_call refl refl
-    (by_parameter refl (by_seq (by_match (binds_one _ _ [] [] one _ (inl refl) (refl, ((0, refl, refl), refl)))) by_fail refl) refl) refl refl) refl)
+    (by_parameter refl (by_seq (by_match (binds_one _ _ [] [] one _ (inl refl) (refl, ((0, refl, refl), refl))))
+    by_fail refl) refl) refl refl) refl)
     by_id refl) refl refl)
     (by_build refl) refl) refl refl) refl refl
 
 -- a strategy parameter that is handed on is not called for itself
 pub hands_on_ : (M : Meaning) (t : Tree) → Rewrites M hands_on main t (ok t []) 7
-hands_on_ M t = by_call refl refl (by_call refl refl (by_call refl refl (by_choice_else (by_parameter refl by_fail refl) by_id refl) refl refl) refl refl) refl refl
+hands_on_ M t = by_call refl refl
+    (by_call refl refl (by_call refl refl (by_choice_else (by_parameter refl by_fail refl) by_id refl) refl refl)
+    refl refl) refl refl
 
-pub congruence_ : (M : Meaning) → Rewrites M congruence main (node (heads.App F) (more one end) marked) (ok (node (heads.App F) (more nine end) marked) []) 11
+pub congruence_ : (M : Meaning) →
+    Rewrites M congruence main (node (heads.App F) (more one end) marked)
+    (ok (node (heads.App F) (more nine end) marked) []) 11
 congruence_ M =
     let t : Tree = node (heads.App F) (more one end) marked in
     by_call refl refl (by_scope
-    (by_seq (by_match (binds _ _ _ (Some t ∷ Some one ∷ None ∷ []) _ (steps.adds (inl refl) (steps.adds (inr (inl refl)) (steps.keeps steps.no_more))) ((0, refl, refl), (refl, ((1, refl, refl), refl)))))
+    (by_seq (by_match (binds _ _ _ (Some t ∷ Some one ∷ None ∷ [])
+    _ (steps.adds (inl refl) (steps.adds (inr (inl refl)) (steps.keeps steps.no_more)))
+    ((0, refl, refl), (refl, ((1, refl, refl), refl)))))
     (by_seq (by_build refl) (by_seq (by_build refl)
-    (by_seq (by_match (binds _ _ _ (Some t ∷ Some one ∷ Some nine ∷ []) _ (steps.keeps (steps.keeps (steps.adds refl steps.no_more))) (2, refl, refl))) (by_build refl) refl) refl) refl) refl)
+    (by_seq (by_match (binds _ _ _ (Some t ∷ Some one ∷ Some nine ∷ [])
+    _ (steps.keeps (steps.keeps (steps.adds refl steps.no_more))) (2, refl, refl))) (by_build refl) refl) refl)
+    refl) refl)
     refl refl) refl refl
 
-pub rest : (M : Meaning) → Rewrites M takes_rest main (node heads.List (more one (more two (more nine end))) marked) (ok (node heads.List (more two (more nine end)) end) []) 5
+pub rest : (M : Meaning) → Rewrites M takes_rest main (node heads.List (more one (more two (more nine end))) marked)
+    (ok (node heads.List (more two (more nine end)) end) []) 5
 rest M =
     by_call refl refl (by_scope
-    (by_seq (by_match (binds _ _ _ (Some one ∷ Some (node heads.List (more two (more nine end)) end) ∷ []) _ (steps.adds (inl refl) (steps.adds (inr refl) steps.no_more)) (refl, ((0, refl, refl), (1, refl, refl)))))
+    (by_seq (by_match (binds _ _ _ (Some one ∷ Some (node heads.List (more two (more nine end)) end) ∷ [])
+    _ (steps.adds (inl refl) (steps.adds (inr refl) steps.no_more)) (refl, ((0, refl, refl), (1, refl, refl)))))
     (by_build refl) refl)
     refl refl) refl refl
 
-pub in_front : (M : Meaning) → Rewrites M puts_in_front main (node heads.List (more two end) marked) (ok (node heads.List (more one (more two end)) end) []) 5
+pub in_front : (M : Meaning) → Rewrites M puts_in_front main (node heads.List (more two end) marked)
+    (ok (node heads.List (more one (more two end)) end) []) 5
 in_front M =
-    by_call refl refl (by_scope (by_seq (by_match (binds_one _ _ [] [] (node heads.List (more two end) marked) _ refl (0, refl, refl))) (by_build refl) refl) refl refl) refl refl
+    by_call refl refl (by_scope
+    (by_seq (by_match (binds_one _ _ [] [] (node heads.List (more two end) marked) _ refl (0, refl, refl)))
+    (by_build refl) refl) refl refl) refl refl
 
 pub same_twice : (M : Meaning) → Rewrites M takes_same main (term_on_two Tuple one one) (ok one []) 5
 same_twice M =
     by_call refl refl (by_scope
-    (by_seq (by_match (binds_one _ _ [] [] one _ (inl refl) (refl, ((0, refl, refl), ((0, refl, refl), refl))))) (by_build refl) refl)
+    (by_seq (by_match (binds_one _ _ [] [] one _ (inl refl) (refl, ((0, refl, refl), ((0, refl, refl), refl)))))
+    (by_build refl) refl)
     refl refl) refl refl
 
 pub not_same : (M : Meaning) → Rewrites M takes_same main (term_on_two Tuple one two) failed 4
@@ -121,42 +142,52 @@ no_argument M t = by_call refl refl (by_scope (by_call_stop {q = failure} refl r
 pub bound_outside : (M : Meaning) → Rewrites M binds_outside main seven (ok seven []) 7
 bound_outside M =
     by_call refl refl (by_scope (by_definitions (by_seq
-    (by_call refl refl (by_match (binds_one _ _ [] [] seven _ refl (0, refl, refl))) refl refl) (by_build refl) refl) refl)
+    (by_call refl refl (by_match (binds_one _ _ [] [] seven _ refl (0, refl, refl))) refl refl) (by_build refl) refl)
+    refl)
     refl refl) refl refl
 
 pub one_part : (M : Meaning) →
-    Rewrites M changes_one main (node (heads.App F) (more one (more two (more two end))) end) (ok (node (heads.App F) (more one (more five (more two end))) end) []) 7
+    Rewrites M changes_one main (node (heads.App F) (more one (more two (more two end))) end)
+    (ok (node (heads.App F) (more one (more five (more two end))) end) []) 7
 one_part M =
     by_call refl refl (by_one
-    (one_next (by_seq_stop (by_no_match (λ f m. let h = ap (λ k. same_head k (heads.Int (pos 2))) m.conforms in cc)) refl)
+    (one_next (by_seq_stop (by_no_match (λ f m. let h = ap (λ k. same_head k (heads.Int (pos 2))) m.conforms in cc))
+    refl)
     (one_found (by_seq (by_match (binds_nothing _ _ _ _ refl)) (by_build refl) refl)) refl refl)
     refl refl) refl refl
 
-pub primitive_ : (M : Meaning) (t : Tree) → M add (number (pos 3) ∷ number (pos 4) ∷ []) ≡ Some (number (pos 7)) → Rewrites M adds main t (ok seven []) 2
+pub primitive_ : (M : Meaning) (t : Tree) → M add (number (pos 3) ∷ number (pos 4) ∷ []) ≡ Some (number (pos 7)) →
+    Rewrites M adds main t (ok seven []) 2
 primitive_ M t h = by_call refl refl (by_primitive (sym (ap (λ v. built (option_map term_of v) []) h))) refl refl
 
 pub too_large : (M : Meaning) (t : Tree) → fits (term_on_two Tuple t t) ≡ false → Rewrites M doubles main t oversize 6
 too_large M t h =
     by_call refl refl (by_scope (by_seq (by_match (binds_one _ _ [] [] t _ refl (0, refl, refl)))
-    (by_choice_oversize (by_build (sym (ap (λ b. if_fits b (term_on_two Tuple t t) (Some t ∷ [])) h))) refl) refl) refl refl) refl refl
+    (by_choice_oversize (by_build (sym (ap (λ b. if_fits b (term_on_two Tuple t t) (Some t ∷ [])) h))) refl) refl)
+    refl refl) refl refl
 
 pub resolves_pair : ResolvesProgram passes_pair main passes_pair_resolved 1
 resolves_pair = record {
   called = refl;
   each =
       to_more_definitions refl refl
-      (to_scope refl (to_seq (to_match (to_applied (to_more_patterns (to_variable refl) to_no_patterns))) (to_seq (to_build (to_variable refl)) (to_call refl to_no_strategies to_no_patterns))))
+      (to_scope refl (to_seq (to_match (to_applied (to_more_patterns (to_variable refl) to_no_patterns)))
+      (to_seq (to_build (to_variable refl)) (to_call refl to_no_strategies to_no_patterns))))
       (to_more_definitions refl refl
       (to_scope refl (to_seq
-      (to_scope refl (to_seq (to_match (to_variable refl)) (to_seq (to_seq (to_build to_integer) (to_match (to_variable refl))) (to_build (to_variable refl)))))
+      (to_scope refl (to_seq (to_match (to_variable refl))
+      (to_seq (to_seq (to_build to_integer) (to_match (to_variable refl))) (to_build (to_variable refl)))))
       (to_call refl (to_more_strategies
-      (to_scope refl (to_seq (to_match (to_variable refl)) (to_seq (to_build (to_variable refl)) (to_seq to_id (to_seq (to_match (to_variable refl))
-      (to_build (to_applied (to_more_patterns (to_variable refl) (to_more_patterns (to_variable refl) to_no_patterns)))))))))
+      (to_scope refl (to_seq (to_match (to_variable refl))
+      (to_seq (to_build (to_variable refl)) (to_seq to_id (to_seq (to_match (to_variable refl))
+      (to_build (to_applied (to_more_patterns (to_variable refl)
+      (to_more_patterns (to_variable refl) to_no_patterns)))))))))
       to_no_strategies) to_no_patterns)))
       to_no_definitions);
 }
 
-pub closure_resolved : (M : Meaning) → RewritesByCoordinates M passes_pair_resolved 1 (term_on_one F two) (ok (term_on_two Pair two five) []) 28
+pub closure_resolved : (M : Meaning) →
+    RewritesByCoordinates M passes_pair_resolved 1 (term_on_one F two) (ok (term_on_two Pair two five) []) 28
 closure_resolved M = rewrites_to resolves_pair (closure M)
 
 pub pair_in_range : InRange passes_pair_resolved 1
@@ -165,6 +196,9 @@ pair_in_range =
     let b : 0 < 2 = omega arith in
     let c : 1 < 2 = omega arith in
     record {
-      each = (((a, tt), (a, ((a, refl, refl), tt, tt))), (((a, ((tt, a), a)), ((refl, refl), ((b, (b, (tt, (c, (c, (a, tt)))))), tt), tt)), tt));
+      each = (
+        ((a, tt), (a, ((a, refl, refl), tt, tt))),
+        (((a, ((tt, a), a)), ((refl, refl), ((b, (b, (tt, (c, (c, (a, tt)))))), tt), tt)), tt),
+      );
       main = (refl, refl);
     }

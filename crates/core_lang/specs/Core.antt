@@ -1,3 +1,4 @@
+-- The headline does not rest on this file.
 -- What a core is seen as.
 use Rattle.std.specs.Prelude.{ℕ, List}
 use Rattle.term_model.specs.PrimNames.{NameKey}

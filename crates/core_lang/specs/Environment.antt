@@ -12,7 +12,8 @@ mutual
   pub data Environment (X B : Type 0) : Type 0 where
     -- no layer
     outermost : Environment X B
-    -- of a scope or a call: the closures are those of the strategy parameters, the places from base on those of the variables
+    -- of a scope or a call: the closures are those of the strategy parameters, the places from base on those of the
+    -- variables
     layer : (base : ℕ) (parameters variables : B) → Closures X B → Environment X B → Environment X B
     -- of a program, or of a let
     definitions : Definitions X B → Environment X B → Environment X B

@@ -1,3 +1,4 @@
+-- The headline does not rest on this file.
 -- Bindings that hold what other bindings hold, at the same places.
 use Rattle.std.specs.Prelude.{◌≡◌, ℕ, length}
 use Rattle.term_model.specs.Term.{Tree}

@@ -1,3 +1,4 @@
+-- The headline does not rest on this file.
 -- What it is for a program over coordinates to be in range: each coordinate leads to what is wanted of it.
 use Rattle.std.specs.Prelude.{◌≡◌, ℕ, zero, suc, ◌<◌}
 use Rattle.core_lang.specs.Resolved.{ResolvedStrategy, ResolvedStrategies, ResolvedDefinitions}
@@ -73,9 +74,11 @@ abbrev mutual
   StrategyInRange L (all s) = StrategyInRange L s
   StrategyInRange L (one s) = StrategyInRange L s
   StrategyInRange L (some s) = StrategyInRange L s
-  StrategyInRange L (with_definitions ds s) = DefinitionsInRange (layer_of_definitions ds L) ds × StrategyInRange (layer_of_definitions ds L) s
+  StrategyInRange L (with_definitions ds s) = DefinitionsInRange (layer_of_definitions ds L) ds ×
+      StrategyInRange (layer_of_definitions ds L) s
   StrategyInRange L (call y ss ps) =
-      IsCallee (outside L y.layers_up) y.slot (strategies_count ss) (patterns_count ps) × StrategiesInRange L ss × PatternsInRange L ps
+      IsCallee (outside L y.layers_up) y.slot (strategies_count ss) (patterns_count ps) × StrategiesInRange L ss ×
+      PatternsInRange L ps
   StrategyInRange L (primitive f ps) = PatternsInRange L ps
 
   pub StrategiesInRange : Layers → ResolvedStrategies → Type 0

@@ -53,7 +53,8 @@ parameter_position fs f m k = if (m == 0) && (k == 0) then position_of f fs else
 abbrev pub definition_position : NamedDefinitions → Name → ℕ → ℕ → Option ℕ
 definition_position no_definitions f m k = None
 definition_position (more_definitions g fs xs s ds) f m k =
-    if same_name f g && ((m == length fs) && (k == length xs)) then Some 0 else option_map (λ i. suc i) (definition_position ds f m k)
+    if same_name f g && ((m == length fs) && (k == length xs)) then Some 0
+    else option_map (λ i. suc i) (definition_position ds f m k)
 
 -- the place of a variable, by the innermost layer that has it
 abbrev pub place_named : NamedEnvironment → Name → Option ℕ
@@ -64,9 +65,11 @@ place_named (definitions ds V) x = place_named V x
 -- what a call is of, by the innermost layer that has it; a definition with the environment from its own layer on
 abbrev pub callee_named : NamedEnvironment → Name → ℕ → ℕ → Option NamedCallee
 callee_named outermost f m k = None
-callee_named (layer base fs xs cs V) f m k = option_or (option_and_then (closure_at cs) (parameter_position fs f m k)) (callee_named V f m k)
+callee_named (layer base fs xs cs V) f m k =
+    option_or (option_and_then (closure_at cs) (parameter_position fs f m k)) (callee_named V f m k)
 callee_named (definitions ds V) f m k =
-    option_or (option_and_then (definition_at ds (definitions ds V)) (definition_position ds f m k)) (callee_named V f m k)
+    option_or (option_and_then (definition_at ds (definitions ds V)) (definition_position ds f m k))
+    (callee_named V f m k)
 
 -- the reading by names
 abbrev pub by_names : Reading Name (List Name)

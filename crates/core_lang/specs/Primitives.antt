@@ -1,3 +1,4 @@
+-- The headline does not rest on this file.
 -- The primitives that occur in a program.
 use Rattle.std.specs.Prelude.{◌≡◌, ◌↔◌, ℕ, ◌⊎◌, List, Contains, length}
 use Rattle.term_model.specs.Flat.{FlatValue, Meaning}

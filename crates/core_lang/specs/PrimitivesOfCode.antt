@@ -1,3 +1,4 @@
+-- The headline does not rest on this file.
 -- What a walk over a core that notes primitives adds to a set of names.
 use Rattle.std.specs.Prelude.{◌↔◌, ◌⊎◌, ℕ, List, [], ◌∷◌, Contains}
 use Rattle.term_model.specs.PrimNames.{NameKey}

@@ -1,3 +1,4 @@
+-- The headline does not rest on this file.
 -- Layers and lists of arms, as the walk over a core sees them.
 use Rattle.std.specs.Prelude.{List, [], ◌∷◌}
 use Rattle.core_lang.specs.declared.range.Layers.{Layers}

@@ -1,3 +1,4 @@
+-- The headline does not rest on this file.
 -- The reading by coordinates: every identifier says how many layers up it is, and its position there.
 use Rattle.std.specs.Prelude.{ℕ, zero, suc, ◌+◌, nat_lt, Option, Some, None, [], if◌then◌else◌}
 use Rattle.term_model.specs.Term.{Tree}
@@ -62,4 +63,5 @@ by_coordinates = record {
 -- the program C rewrites the term so, by n nodes: by the call of its ith definition without arguments, in the layer of
 -- its definitions alone, without bindings
 abbrev pub RewritesByCoordinates : Meaning → ResolvedDefinitions → ℕ → Tree → Ending Tree → ℕ → Type 0
-RewritesByCoordinates M C i t o n = Derives by_coordinates M (definitions C outermost) (call (here i) no_strategies no_patterns) t [] o n
+RewritesByCoordinates M C i t o n =
+    Derives by_coordinates M (definitions C outermost) (call (here i) no_strategies no_patterns) t [] o n

@@ -1,3 +1,4 @@
+-- The headline does not rest on this file.
 -- The roots of patterns: what a pattern asks of a term's root, and which strategies begin with such a pattern.
 use Rattle.std.specs.Prelude.{ℕ, zero, suc, ℤ, Bool, true, false, ◌&&◌}
 use Rattle.term_model.specs.declared.term.Head.TheVariants as heads
@@ -56,8 +57,8 @@ module _ {X : Type 0} where
   root_of (like p x) = any_root
   root_of (annotated p qs) = root_of p
 
--- the strategy begins with a match whose pattern asks for this root, alone, in scopes, and in sequences however they are
--- nested; where a term has another root, its derivation has n nodes
+-- the strategy begins with a match whose pattern asks for this root, alone, in scopes, and in sequences however they
+-- are nested; where a term has another root, its derivation has n nodes
 pub data Begins {X B : Type 0} : Strategy X B → Root → (nodes : ℕ) → Type 0 where
   begins_match : {p : Pattern X} → Begins (match p) (root_of p) 1
   begins_seq : {s1 s2 : Strategy X B} {r : Root} {n : ℕ} → Begins s1 r n → Begins (seq s1 s2) r (suc n)

@@ -1,3 +1,4 @@
+-- The headline does not rest on this file.
 -- What a run of a program within a budget returns.
 use Rattle.std.specs.Prelude.{◌≡◌, ℕ, ◌≤◌, ◌<◌, List}
 use Rattle.term_model.specs.Flat.{Meaning}

@@ -1,3 +1,4 @@
+-- The headline does not rest on this file.
 -- What the values of the code stand for: core programs over coordinates.
 use Rattle.std.specs.Prelude.{ℕ, List, [], ◌∷◌, map, Option, Some, None, Box}
 use Rattle.std.specs.declared.alloc.Global.{Global}

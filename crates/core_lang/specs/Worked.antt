@@ -1,3 +1,4 @@
+-- The headline does not rest on this file.
 -- Small programs, as the equations bring them into the core, and terms that they rewrite.
 use Rattle.std.specs.Prelude.{ℕ, pos, List, [], ◌∷◌}
 use Rattle.term_model.specs.declared.term.Head.TheVariants as heads
@@ -93,7 +94,8 @@ defined_over_s g r ds = more_definitions g (s ∷ []) [] r ds
 
 -- main = ?(x,_); !x
 abbrev pub takes_first : Definitions Name Names
-takes_first = defined_as main (scope (x ∷ []) (seq (match (on_two Tuple (variable x) anything)) (build (variable x)))) no_definitions
+takes_first = defined_as main (scope (x ∷ []) (seq (match (on_two Tuple (variable x) anything)) (build (variable x))))
+    no_definitions
 
 -- main = ?F(x); !x
 abbrev pub takes_inner : Definitions Name Names
@@ -101,11 +103,14 @@ takes_inner = defined_as main (scope (x ∷ []) (seq (match (on_one F (variable 
 
 -- where(!5; ?x), as {y: ?y; (!5; ?x); !y}
 abbrev pub where_five : Strategy Name Names
-where_five = scope (y ∷ []) (seq (match (variable y)) (seq (seq (build (integer (pos 5))) (match (variable x))) (build (variable y))))
+where_five = scope (y ∷ []) (seq (match (variable y))
+    (seq (seq (build (integer (pos 5))) (match (variable x))) (build (variable y))))
 
 -- !Pair(<id>,x), as {c,z: ?c; !c; id; ?z; !Pair(z,x)}
 abbrev pub builds_pair : Strategy Name Names
-builds_pair = scope (c ∷ z ∷ []) (seq (match (variable c)) (seq (build (variable c)) (seq id (seq (match (variable z)) (build (on_two Pair (variable z) (variable x)))))))
+builds_pair = scope (c ∷ z ∷ [])
+    (seq (match (variable c)) (seq (build (variable c))
+    (seq id (seq (match (variable z)) (build (on_two Pair (variable z) (variable x)))))))
 
 -- f(s) = {x: ?F(x); !x; s}
 -- main = {x: where(!5; ?x); f(!Pair(<id>,x))}
@@ -125,7 +130,9 @@ abbrev pub tries_and_builds : Definitions Name Names
 tries_and_builds =
     defined_over_s f (parameter s)
     (defined_over_s try (choice (parameter s) id id)
-    (defined_as main (scope (x ∷ []) (seq (call_with try (call_with f (seq (match (on_one Foo (variable x))) fail))) (build (variable x)))) no_definitions))
+    (defined_as main (scope (x ∷ [])
+    (seq (call_with try (call_with f (seq (match (on_one Foo (variable x))) fail))) (build (variable x))))
+    no_definitions))
 
 abbrev pub xs : Name
 xs = written (120 ∷ 115 ∷ [])
@@ -153,39 +160,51 @@ marked = more (node (heads.App G) end end) end
 -- f(s) = try(s)
 -- main = f(fail)
 abbrev pub hands_on : Definitions Name Names
-hands_on = defined_over_s try (choice (parameter s) id id) (defined_over_s f (call_with try (parameter s)) (defined_as main (call_with f fail) no_definitions))
+hands_on = defined_over_s try (choice (parameter s) id id)
+    (defined_over_s f (call_with try (parameter s)) (defined_as main (call_with f fail) no_definitions))
 
 -- main = F(!9), as {y,x1,z1: ?y@F(x1); !x1; !9; ?z1; !F(z1)^y}
 abbrev pub congruence : Definitions Name Names
 congruence = defined_as main (scope (y ∷ x1 ∷ z1 ∷ [])
-    (seq (match (alias y (on_one F (variable x1)))) (seq (build (variable x1)) (seq (build (integer (pos 9))) (seq (match (variable z1)) (build (like (on_one F (variable z1)) y))))))) no_definitions
+    (seq (match (alias y (on_one F (variable x1))))
+    (seq (build (variable x1))
+    (seq (build (integer (pos 9))) (seq (match (variable z1)) (build (like (on_one F (variable z1)) y)))))))
+    no_definitions
 
 -- main = ?[x|xs]; !xs
 abbrev pub takes_rest : Definitions Name Names
-takes_rest = defined_as main (scope (x ∷ xs ∷ []) (seq (match (list (more_elements (variable x) (the_rest (variable xs))))) (build (variable xs)))) no_definitions
+takes_rest = defined_as main (scope (x ∷ xs ∷ [])
+    (seq (match (list (more_elements (variable x) (the_rest (variable xs))))) (build (variable xs)))) no_definitions
 
 -- main = ?xs; ![1|xs]
 abbrev pub puts_in_front : Definitions Name Names
-puts_in_front = defined_as main (scope (xs ∷ []) (seq (match (variable xs)) (build (list (more_elements (integer (pos 1)) (the_rest (variable xs))))))) no_definitions
+puts_in_front = defined_as main
+    (scope (xs ∷ []) (seq (match (variable xs))
+    (build (list (more_elements (integer (pos 1)) (the_rest (variable xs))))))) no_definitions
 
 -- main = ?(x,x); !x
 abbrev pub takes_same : Definitions Name Names
-takes_same = defined_as main (scope (x ∷ []) (seq (match (on_two Tuple (variable x) (variable x))) (build (variable x)))) no_definitions
+takes_same = defined_as main (scope (x ∷ [])
+    (seq (match (on_two Tuple (variable x) (variable x))) (build (variable x)))) no_definitions
 
 -- f(|xs) = {x: ?x; !(x,xs)}
 -- main = f(|7)
 abbrev pub pairs_with : Definitions Name Names
-pairs_with = more_definitions f [] (xs ∷ []) (scope (x ∷ []) (seq (match (variable x)) (build (on_two Tuple (variable x) (variable xs)))))
+pairs_with = more_definitions f [] (xs ∷ [])
+    (scope (x ∷ []) (seq (match (variable x)) (build (on_two Tuple (variable x) (variable xs)))))
     (defined_as main (call f no_strategies (more_patterns (integer (pos 7)) no_patterns)) no_definitions)
 
 -- f(|xs) = id
 -- main = f(|x)
 abbrev pub lacks_argument : Definitions Name Names
-lacks_argument = more_definitions f [] (xs ∷ []) id (defined_as main (scope (x ∷ []) (call f no_strategies (more_patterns (variable x) no_patterns))) no_definitions)
+lacks_argument = more_definitions f [] (xs ∷ [])
+    id (defined_as main (scope (x ∷ []) (call f no_strategies (more_patterns (variable x) no_patterns))) no_definitions)
 
 -- main = let f = ?x in f; !x end
 abbrev pub binds_outside : Definitions Name Names
-binds_outside = defined_as main (scope (x ∷ []) (with_definitions (defined_as f (match (variable x)) no_definitions) (seq (parameter f) (build (variable x))))) no_definitions
+binds_outside = defined_as main
+    (scope (x ∷ []) (with_definitions (defined_as f (match (variable x)) no_definitions)
+    (seq (parameter f) (build (variable x))))) no_definitions
 
 -- main = one(\ 2 -> 5 \)
 abbrev pub changes_one : Definitions Name Names
@@ -193,11 +212,13 @@ changes_one = defined_as main (forms.one (seq (match (integer (pos 2))) (build (
 
 -- main = prim("add", 3, 4)
 abbrev pub adds : Definitions Name Names
-adds = defined_as main (primitive add (more_patterns (integer (pos 3)) (more_patterns (integer (pos 4)) no_patterns))) no_definitions
+adds = defined_as main (primitive add (more_patterns (integer (pos 3)) (more_patterns (integer (pos 4)) no_patterns)))
+    no_definitions
 
 -- main = ?x; (!(x,x) <+ id)
 abbrev pub doubles : Definitions Name Names
-doubles = defined_as main (scope (x ∷ []) (seq (match (variable x)) (choice (build (on_two Tuple (variable x) (variable x))) id id))) no_definitions
+doubles = defined_as main (scope (x ∷ [])
+    (seq (match (variable x)) (choice (build (on_two Tuple (variable x) (variable x))) id id))) no_definitions
 
 -- this number of layers up, and the position there
 abbrev pub at : ℕ → ℕ → Coordinate
@@ -205,17 +226,24 @@ at h i = record { layers_up = h; slot = i }
 
 -- where(!5; ?x), over coordinates
 abbrev pub where_five_resolved : Strategy Coordinate ℕ
-where_five_resolved = scope 1 (seq (match (variable (at 0 0))) (seq (seq (build (integer (pos 5))) (match (variable (at 1 0)))) (build (variable (at 0 0)))))
+where_five_resolved = scope 1 (seq (match (variable (at 0 0)))
+    (seq (seq (build (integer (pos 5))) (match (variable (at 1 0)))) (build (variable (at 0 0)))))
 
 -- !Pair(<id>,x), over coordinates
 abbrev pub builds_pair_resolved : Strategy Coordinate ℕ
-builds_pair_resolved = scope 2 (seq (match (variable (at 0 0))) (seq (build (variable (at 0 0))) (seq id (seq (match (variable (at 0 1))) (build (on_two Pair (variable (at 0 1)) (variable (at 1 0))))))))
+builds_pair_resolved = scope 2 (seq (match (variable (at 0 0)))
+    (seq (build (variable (at 0 0)))
+    (seq id (seq (match (variable (at 0 1))) (build (on_two Pair (variable (at 0 1)) (variable (at 1 0))))))))
 
 -- passes_pair, over coordinates
 abbrev pub passes_pair_resolved : Definitions Coordinate ℕ
 passes_pair_resolved =
-    more_definitions (at 0 0) 1 0 (scope 1 (seq (match (on_one F (variable (at 0 0)))) (seq (build (variable (at 0 0))) (call (at 1 0) no_strategies no_patterns))))
-    (more_definitions (at 0 1) 0 0 (scope 1 (seq where_five_resolved (call (at 2 0) (more_strategies builds_pair_resolved no_strategies) no_patterns))) no_definitions)
+    more_definitions (at 0 0) 1 0
+    (scope 1 (seq (match (on_one F (variable (at 0 0))))
+    (seq (build (variable (at 0 0))) (call (at 1 0) no_strategies no_patterns))))
+    (more_definitions (at 0 1) 0 0
+    (scope 1 (seq where_five_resolved
+    (call (at 2 0) (more_strategies builds_pair_resolved no_strategies) no_patterns))) no_definitions)
 
 -- main = s, over coordinates
 abbrev pub alone : Strategy Coordinate ℕ → Definitions Coordinate ℕ

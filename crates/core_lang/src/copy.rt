@@ -1,4 +1,4 @@
-// Copies of patterns.
+//! Copies of patterns.
 ghost use Rattle.std.specs.Prelude.{◌≡◌, IfOk, map};
 ghost use Rattle.core_lang.specs.Views.{pattern_of, rest_of};
 
@@ -14,7 +14,7 @@ impl CorePattern {
         match self {
             CorePattern::Anything => Ok(CorePattern::Anything),
             CorePattern::Variable(x) => Ok(CorePattern::Variable(*x)),
-            CorePattern::Alias(x, part) => Ok(CorePattern::Alias(*x, boxed(alloc, part)?)),
+            CorePattern::Alias(x, part) => Ok(CorePattern::Alias(*x, boxed_copy(alloc, part)?)),
             CorePattern::Integer(value) => Ok(CorePattern::Integer(*value)),
             CorePattern::Applied(symbol, parts) => {
                 let parts = patterns(alloc, parts)?;
@@ -24,21 +24,20 @@ impl CorePattern {
                 let elements = patterns(alloc, elements)?;
                 Ok(CorePattern::List(elements, optional(alloc, rest)?))
             }
-            CorePattern::Like(part, x) => Ok(CorePattern::Like(boxed(alloc, part)?, *x)),
+            CorePattern::Like(part, x) => Ok(CorePattern::Like(boxed_copy(alloc, part)?, *x)),
             CorePattern::Annotated(part, annotations) => {
                 let annotations = patterns(alloc, annotations)?;
-                Ok(CorePattern::Annotated(boxed(alloc, part)?, annotations))
+                Ok(CorePattern::Annotated(boxed_copy(alloc, part)?, annotations))
             }
         }
     }
 }
 
 #[cycle(copy)]
-fn boxed(alloc: Global, source: &CorePattern) -> Result<Box<CorePattern>, AllocError>
+fn boxed_copy(alloc: Global, source: &CorePattern) -> Result<Box<CorePattern>, AllocError>
     ensures { IfOk result (λ made. pattern_of made.value ≡ pattern_of source.now) }
 {
-    let made = Box::new(alloc, source.copy(alloc)?)?;
-    Ok(made)
+    Ok(Box::new(alloc, source.copy(alloc)?)?)
 }
 
 #[cycle(copy)]
@@ -50,7 +49,7 @@ fn optional(
 {
     match source {
         None => Ok(None),
-        Some(p) => Ok(Some(boxed(alloc, p)?)),
+        Some(p) => Ok(Some(boxed_copy(alloc, p)?)),
     }
 }
 

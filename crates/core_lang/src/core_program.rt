@@ -1,4 +1,4 @@
-// Cores: programs over coordinates that are in range.
+//! Cores: programs over coordinates that are in range.
 ghost use Rattle.std.specs.Prelude.{◌≡◌, ◌↔◌, IfOk, IsTrue};
 ghost use Rattle.core_lang.specs.Views.{definitions_of};
 ghost use Rattle.core_lang.specs.Core.{program_of};
@@ -18,7 +18,7 @@ pub struct Core {
     defs: Vec<CoreDef>,
     main: usize,
     prims: PrimNames,
-    // Where the names of the definitions stand in the definition file, as far as that is known. The view leaves them out.
+    /// Where the names of the definitions stand in the definition file, as far as that is known. The view leaves them out.
     heads: Vec<u64>,
 }
 

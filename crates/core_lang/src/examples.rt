@@ -15,8 +15,11 @@ ghost use Rattle.core_lang.specs.Worked as worked;
 /// What small programs do, and with how many nodes.
 pub fn small_programs()
     ensures first { (M : Meaning) (t : Tree) →
-        Rewrites M worked.takes_first worked.main (worked.term_on_two Tuple worked.seven t) (ok worked.seven []) 5 }
-    ensures other_symbol { (M : Meaning) → Rewrites M worked.takes_inner worked.main (worked.term_on_one worked.G worked.seven) failed 4 }
+        Rewrites M worked.takes_first worked.main (worked.term_on_two Tuple worked.seven t)
+        (ok worked.seven []) 5 }
+    ensures other_symbol { (M : Meaning) →
+        Rewrites M worked.takes_inner worked.main (worked.term_on_one worked.G worked.seven)
+        failed 4 }
     ensures closure { (M : Meaning) →
         Rewrites
         M
@@ -42,12 +45,14 @@ pub fn small_programs()
         [])
         10 }
     ensures undone { (M : Meaning) →
-        Rewrites M worked.tries_and_builds worked.main (worked.term_on_one worked.Foo worked.one) failed 13 }
+        Rewrites M worked.tries_and_builds worked.main (worked.term_on_one worked.Foo worked.one)
+        failed 13 }
 {}
 
 /// What the other forms of programs do, each in a small one.
 pub fn more_programs()
-    ensures hands_on { (M : Meaning) (t : Tree) → Rewrites M worked.hands_on worked.main t (ok t []) 7 }
+    ensures hands_on { (M : Meaning) (t : Tree) →
+        Rewrites M worked.hands_on worked.main t (ok t []) 7 }
     ensures congruence { (M : Meaning) →
         Rewrites
         M
@@ -73,9 +78,11 @@ pub fn more_programs()
         (ok (node heads.List (more worked.one (more worked.two end)) end) [])
         5 }
     ensures same_twice { (M : Meaning) →
-        Rewrites M worked.takes_same worked.main (worked.term_on_two Tuple worked.one worked.one) (ok worked.one []) 5 }
+        Rewrites M worked.takes_same worked.main (worked.term_on_two Tuple worked.one worked.one)
+        (ok worked.one []) 5 }
     ensures not_same { (M : Meaning) →
-        Rewrites M worked.takes_same worked.main (worked.term_on_two Tuple worked.one worked.two) failed 4 }
+        Rewrites M worked.takes_same worked.main (worked.term_on_two Tuple worked.one worked.two)
+        failed 4 }
     ensures argument { (M : Meaning) →
         Rewrites
         M
@@ -84,21 +91,25 @@ pub fn more_programs()
         worked.one
         (ok (worked.term_on_two Tuple worked.one worked.seven) [])
         6 }
-    ensures no_argument { (M : Meaning) (t : Tree) → Rewrites M worked.lacks_argument worked.main t failed 3 }
-    ensures bound_outside { (M : Meaning) → Rewrites M worked.binds_outside worked.main worked.seven (ok worked.seven []) 7 }
+    ensures no_argument { (M : Meaning) (t : Tree) →
+        Rewrites M worked.lacks_argument worked.main t failed 3 }
+    ensures bound_outside { (M : Meaning) →
+        Rewrites M worked.binds_outside worked.main worked.seven (ok worked.seven []) 7 }
     ensures one_part { (M : Meaning) →
         Rewrites
         M
         worked.changes_one
         worked.main
         (node (heads.App worked.F) (more worked.one (more worked.two (more worked.two end))) end)
-        (ok (node (heads.App worked.F) (more worked.one (more worked.five (more worked.two end))) end) [])
+        (ok (node (heads.App worked.F) (more worked.one (more worked.five (more worked.two end)))
+        end) [])
         7 }
     ensures primitive { (M : Meaning) (t : Tree) →
         M worked.add (number (pos 3) ∷ number (pos 4) ∷ []) ≡ Some (number (pos 7)) →
         Rewrites M worked.adds worked.main t (ok worked.seven []) 2 }
     ensures too_large { (M : Meaning) (t : Tree) →
-        fits (worked.term_on_two Tuple t t) ≡ false → Rewrites M worked.doubles worked.main t oversize 6 }
+        fits (worked.term_on_two Tuple t t) ≡ false →
+        Rewrites M worked.doubles worked.main t oversize 6 }
 {}
 
 /// A program over coordinates that a program over names is resolved to, which does the same with as many nodes.
@@ -122,8 +133,11 @@ pub fn small_programs_out_of_range()
     ensures no_definition { InRange (worked.alone (worked.call_of (worked.at 1 1))) 0 → ⊥ }
     ensures no_layer { InRange (worked.alone (worked.call_of (worked.at 2 0))) 0 → ⊥ }
     ensures no_parameter { InRange (worked.alone (worked.call_of (worked.at 0 0))) 0 → ⊥ }
-    ensures too_many_arguments { InRange (worked.alone (call (worked.at 1 0) (more_strategies id no_strategies) no_patterns)) 0 → ⊥ }
+    ensures too_many_arguments { InRange
+        (worked.alone (call (worked.at 1 0) (more_strategies id no_strategies) no_patterns)) 0 → ⊥ }
     ensures parameter_with_argument { InRange worked.fills_parameter 1 → ⊥ }
-    ensures no_variable { InRange (worked.alone (scope 1 (build (variable (worked.at 0 1))))) 0 → ⊥ }
-    ensures no_layer_of_variables { InRange (worked.alone (build (variable (worked.at 1 0)))) 0 → ⊥ }
+    ensures no_variable { InRange (worked.alone (scope 1 (build (variable (worked.at 0 1))))) 0 →
+        ⊥ }
+    ensures no_layer_of_variables { InRange (worked.alone (build (variable (worked.at 1 0)))) 0 →
+        ⊥ }
 {}

@@ -22,7 +22,8 @@ ghost use Rattle.core_lang.specs.Agreement.{scopes_of, Agree};
 /// `id` keeps a term and has one node.
 pub fn identity_keeps()
     ensures named { (M : Meaning) (t : Tree) → Derives by_names M outermost id t [] (ok t []) 1 }
-    ensures placed { (M : Meaning) (t : Tree) → Derives by_coordinates M outermost id t [] (ok t []) 1 }
+    ensures placed { (M : Meaning) (t : Tree) →
+        Derives by_coordinates M outermost id t [] (ok t []) 1 }
 {}
 
 /// A pattern matches a term under given bindings in at most one way, however variables are looked up.
@@ -45,17 +46,21 @@ pub fn matching_goes_left_to_right<X>()
 /// A strategy ends in at most one way, by derivations of as many nodes: however identifiers are looked up, so by names
 /// too, and whatever primitives answer.
 pub fn outcomes_are_unique<X, B>()
-    ensures each_reading { (R : Reading X B) (M : Meaning) (V : Environment X B) (s : Strategy X B) (t : Tree) (e : Bindings) (o o1 : Ending Tree) (n n1 : ℕ) →
+    ensures each_reading { (R : Reading X B) (M : Meaning) (V : Environment X B) (s : Strategy X B)
+        (t : Tree) (e : Bindings) (o o1 : Ending Tree) (n n1 : ℕ) →
         Derives R M V s t e o n → Derives R M V s t e o1 n1 → (o ≡ o1) × (n ≡ n1) }
-    ensures named { (M : Meaning) (V : NamedEnvironment) (s : NamedStrategy) (t : Tree) (e : Bindings) (o o1 : Ending Tree) (n n1 : ℕ) →
+    ensures named { (M : Meaning) (V : NamedEnvironment) (s : NamedStrategy) (t : Tree)
+        (e : Bindings) (o o1 : Ending Tree) (n n1 : ℕ) →
         Derives by_names M V s t e o n → Derives by_names M V s t e o1 n1 → (o ≡ o1) × (n ≡ n1) }
 {}
 
 /// Each budget of nodes settles each strategy: it ends within the budget, or no derivation has so few nodes.
 pub fn budgets_settle<X, B>()
-    ensures each_reading { (R : Reading X B) (M : Meaning) (V : Environment X B) (s : Strategy X B) (t : Tree) (e : Bindings) (budget : ℕ) →
+    ensures each_reading { (R : Reading X B) (M : Meaning) (V : Environment X B) (s : Strategy X B)
+        (t : Tree) (e : Bindings) (budget : ℕ) →
         (v : Verdict Tree) × (left : ℕ) × Settled R M V s t e budget v left }
-    ensures named { (M : Meaning) (V : NamedEnvironment) (s : NamedStrategy) (t : Tree) (e : Bindings) (budget : ℕ) →
+    ensures named { (M : Meaning) (V : NamedEnvironment) (s : NamedStrategy) (t : Tree)
+        (e : Bindings) (budget : ℕ) →
         (v : Verdict Tree) × (left : ℕ) × Settled by_names M V s t e budget v left }
 {}
 
@@ -64,17 +69,21 @@ pub fn budgets_settle<X, B>()
 pub fn other_roots_fail<X, B>()
     ensures each_place { (place : X → Option ℕ) (p : Pattern X) (e e1 : Bindings) (t : Tree) →
         has_root (root_of p) t ≡ false → Matches place p e t e1 → ⊥ }
-    ensures each_reading { (R : Reading X B) (M : Meaning) (V : Environment X B) (s : Strategy X B) (r : Root) (n : ℕ) (t : Tree) (e : Bindings) →
+    ensures each_reading { (R : Reading X B) (M : Meaning) (V : Environment X B) (s : Strategy X B)
+        (r : Root) (n : ℕ) (t : Tree) (e : Bindings) →
         Begins s r n → has_root r t ≡ false → Derives R M V s t e failed n }
-    ensures named { (M : Meaning) (V : NamedEnvironment) (s : NamedStrategy) (r : Root) (n : ℕ) (t : Tree) (e : Bindings) →
+    ensures named { (M : Meaning) (V : NamedEnvironment) (s : NamedStrategy) (r : Root) (n : ℕ)
+        (t : Tree) (e : Bindings) →
         Begins s r n → has_root r t ≡ false → Derives by_names M V s t e failed n }
 {}
 
 /// A derivation that is ok has the places that it began with, and each term that these held.
 pub fn derivations_keep_bindings<X, B>()
-    ensures each_reading { (R : Reading X B) (M : Meaning) (V : Environment X B) (s : Strategy X B) (t t1 : Tree) (e e1 : Bindings) (n : ℕ) →
+    ensures each_reading { (R : Reading X B) (M : Meaning) (V : Environment X B) (s : Strategy X B)
+        (t t1 : Tree) (e e1 : Bindings) (n : ℕ) →
         Derives R M V s t e (ok t1 e1) n → Extends e e1 }
-    ensures named { (M : Meaning) (V : NamedEnvironment) (s : NamedStrategy) (t t1 : Tree) (e e1 : Bindings) (n : ℕ) →
+    ensures named { (M : Meaning) (V : NamedEnvironment) (s : NamedStrategy) (t t1 : Tree)
+        (e e1 : Bindings) (n : ℕ) →
         Derives by_names M V s t e (ok t1 e1) n → Extends e e1 }
 {}
 
@@ -83,8 +92,10 @@ pub fn derivations_keep_bindings<X, B>()
 pub fn coordinates_stand_for_names()
     ensures programs { (P : NamedDefinitions) (main : Name) (C : ResolvedDefinitions) (i : ℕ) →
         ResolvesProgram P main C i →
-        (M : Meaning) (t : Tree) (o : Ending Tree) (n : ℕ) → Rewrites M P main t o n ↔ RewritesByCoordinates M C i t o n }
-    ensures strategies { (M : Meaning) (V : NamedEnvironment) (W : ResolvedEnvironment) (s : NamedStrategy) (z : ResolvedStrategy) →
+        (M : Meaning) (t : Tree) (o : Ending Tree) (n : ℕ) →
+        Rewrites M P main t o n ↔ RewritesByCoordinates M C i t o n }
+    ensures strategies { (M : Meaning) (V : NamedEnvironment) (W : ResolvedEnvironment)
+        (s : NamedStrategy) (z : ResolvedStrategy) →
         Resolves (scopes_of V) s z → Agree V W →
         (t : Tree) (e : Bindings) (o : Ending Tree) (n : ℕ) →
         Derives by_names M V s t e o n ↔ Derives by_coordinates M W z t e o n }
@@ -114,5 +125,6 @@ pub fn primitives_that_occur_decide()
         (t : Tree) (o : Ending Tree) (n : ℕ) → Rewrites M P main t o n ↔ Rewrites N P main t o n }
     ensures placed { (M N : Meaning) (C : ResolvedDefinitions) (i : ℕ) →
         ((f : List ℕ) (k : ℕ) → OccursInDefinitions f k C → AnswerSame M N f k) →
-        (t : Tree) (o : Ending Tree) (n : ℕ) → RewritesByCoordinates M C i t o n ↔ RewritesByCoordinates N C i t o n }
+        (t : Tree) (o : Ending Tree) (n : ℕ) →
+        RewritesByCoordinates M C i t o n ↔ RewritesByCoordinates N C i t o n }
 {}

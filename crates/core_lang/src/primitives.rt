@@ -1,4 +1,4 @@
-// The primitives that occur in a core.
+//! The primitives that occur in a core.
 ghost use Rattle.std.specs.Prelude.{◌≡◌, IfOk, OnOk, map};
 ghost use Rattle.core_lang.specs.Primitives.{OccursIn, OccursInAny, OccursInDefinitions, AreOccurring};
 ghost use Rattle.core_lang.specs.PrimitivesOfCode.{Adds, OccursInArm, OccursInArms};
@@ -9,7 +9,7 @@ use std::alloc::{AllocError, Global};
 use term_model::PrimNames;
 
 /// Returns the names of the primitives that occur in the definitions, with their numbers of arguments.
-pub fn primitives_of(alloc: Global, defs: &[CoreDef]) -> Result<PrimNames, AllocError>
+pub(crate) fn primitives_of(alloc: Global, defs: &[CoreDef]) -> Result<PrimNames, AllocError>
     ensures { IfOk result (λ names. AreOccurring names (definitions_of defs.now)) }
 {
     let mut names = PrimNames::new(alloc);
@@ -19,7 +19,8 @@ pub fn primitives_of(alloc: Global, defs: &[CoreDef]) -> Result<PrimNames, Alloc
 
 #[cycle(primitives)]
 fn add_definitions(defs: &[CoreDef], names: &mut PrimNames) -> Result<(), AllocError>
-    ensures { OnOk result (Adds names.old (λ f k. OccursInDefinitions f k (definitions_of defs.now)) names.new) }
+    ensures { OnOk result (Adds names.old (λ f k. OccursInDefinitions f k (definitions_of defs.now))
+        names.new) }
 {
     for def in defs {
         add_strategy(&def.body, names)?;
@@ -82,7 +83,8 @@ fn add_strategy(s: &CoreStrategy, names: &mut PrimNames) -> Result<(), AllocErro
 
 #[cycle(primitives)]
 fn add_strategies(strategies: &[CoreStrategy], names: &mut PrimNames) -> Result<(), AllocError>
-    ensures { OnOk result (Adds names.old (λ f k. OccursInAny f k (strategies_of strategies.now)) names.new) }
+    ensures { OnOk result (Adds names.old (λ f k. OccursInAny f k (strategies_of strategies.now))
+        names.new) }
 {
     for s in strategies {
         add_strategy(s, names)?;
@@ -101,7 +103,8 @@ fn add_arm(arm: &CoreArm, names: &mut PrimNames) -> Result<(), AllocError>
 
 #[cycle(primitives)]
 fn add_arms(arms: &[CoreArm], names: &mut PrimNames) -> Result<(), AllocError>
-    ensures { OnOk result (Adds names.old (λ f k. OccursInArms f k (map arm_of arms.now)) names.new) }
+    ensures { OnOk result (Adds names.old (λ f k.
+        OccursInArms f k (map arm_of arms.now)) names.new) }
 {
     for arm in arms {
         add_arm(arm, names)?;

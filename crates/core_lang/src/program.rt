@@ -1,4 +1,4 @@
-// Core programs over coordinates.
+//! Core programs over coordinates.
 use crate::coordinate::Coordinate;
 use crate::source::{CallTarget, SourcePattern};
 use term_model::Sym;

@@ -1,4 +1,4 @@
-// Whether each coordinate of a core leads to what is wanted of it.
+//! Whether each coordinate of a core leads to what is wanted of it.
 ghost use Rattle.std.specs.Prelude.{◌≡◌, ◌↔◌, IsTrue, map};
 ghost use Rattle.core_lang.specs.Views.{definitions_of, def_of, strategy_of, strategies_of, pattern_of, patterns_of, arm_of};
 ghost use Rattle.core_lang.specs.Program.{call};
@@ -9,7 +9,7 @@ ghost use Rattle.core_lang.specs.RangeOfCode.{layers_of, ArmInRange, ArmsInRange
 use crate::coordinate::Coordinate;
 use crate::program::{CoreArm, CoreDef, CorePattern, CoreStrategy};
 
-// The layers that a strategy stands in, innermost first.
+/// The layers that a strategy stands in, innermost first.
 #[derive(Clone, Copy)]
 pub enum Layers<'a> {
     /// No layer.
@@ -28,7 +28,7 @@ pub enum Layers<'a> {
 }
 
 /// Returns whether there is a definition at this position, with these numbers of strategy and term parameters.
-pub fn has_definition(defs: &[CoreDef], at: usize, strats: usize, terms: usize) -> bool
+pub(crate) fn has_definition(defs: &[CoreDef], at: usize, strats: usize, terms: usize) -> bool
     ensures { IsTrue result ↔ IsDefinition (definitions_of defs.now) at strats terms }
 {
     match defs.get(at) {
@@ -38,14 +38,16 @@ pub fn has_definition(defs: &[CoreDef], at: usize, strats: usize, terms: usize) 
 }
 
 fn has_parameters(def: &CoreDef, strats: usize, terms: usize) -> bool
-    ensures { IsTrue result ↔ ((strats ≡ (def_of def.now).strats) × (terms ≡ (def_of def.now).terms)) }
+    ensures { IsTrue result ↔ ((strats ≡ (def_of def.now).strats) ×
+        (terms ≡ (def_of def.now).terms)) }
 {
     strats == def.strats && terms == def.terms
 }
 
 /// Returns whether each coordinate of each body of the program leads to what is wanted of it.
-pub fn program_in_range(defs: &[CoreDef]) -> bool
-    ensures { IsTrue result ↔ DefinitionsInRange (layer_of_definitions (definitions_of defs.now) no_layers) (definitions_of defs.now) }
+pub(crate) fn program_in_range(defs: &[CoreDef]) -> bool
+    ensures { IsTrue result ↔ DefinitionsInRange
+        (layer_of_definitions (definitions_of defs.now) no_layers) (definitions_of defs.now) }
 {
     let outermost = Layers::Outermost;
     let program = Layers::Definitions {
@@ -67,10 +69,12 @@ fn definitions_in_range(defs: &[CoreDef], layers: &Layers) -> bool
     true
 }
 
-// The body of a definition stands in a layer of its parameters.
+/// The body of a definition stands in a layer of its parameters.
 #[cycle(range)]
 fn body_in_range(def: &CoreDef, layers: &Layers) -> bool
-    ensures { IsTrue result ↔ StrategyInRange (layer_of (def_of def.now).strats (def_of def.now).terms (layers_of layers.now)) (def_of def.now).body }
+    ensures { IsTrue result ↔ StrategyInRange
+        (layer_of (def_of def.now).strats (def_of def.now).terms (layers_of layers.now))
+        (def_of def.now).body }
 {
     let inner = Layers::Layer {
         parameters: def.strats,
@@ -126,10 +130,11 @@ fn strategy_in_range(s: &CoreStrategy, layers: &Layers) -> bool
     }
 }
 
-// Returns whether the body of a scope with this number of variables is in range.
+/// Returns whether the body of a scope with this number of variables is in range.
 #[cycle(range)]
 fn scope_in_range(count: usize, body: &CoreStrategy, layers: &Layers) -> bool
-    ensures { IsTrue result ↔ StrategyInRange (layer_of 0 count (layers_of layers.now)) (strategy_of body.now) }
+    ensures { IsTrue result ↔ StrategyInRange (layer_of 0 count (layers_of layers.now))
+        (strategy_of body.now) }
 {
     let inner = Layers::Layer {
         parameters: 0,
@@ -139,10 +144,12 @@ fn scope_in_range(count: usize, body: &CoreStrategy, layers: &Layers) -> bool
     strategy_in_range(body, &inner)
 }
 
-// The definitions of a let stand in their own layer.
+/// The definitions of a let stand in their own layer.
 #[cycle(range)]
 fn let_definitions_in_range(defs: &[CoreDef], layers: &Layers) -> bool
-    ensures { IsTrue result ↔ DefinitionsInRange (layer_of_definitions (definitions_of defs.now) (layers_of layers.now)) (definitions_of defs.now) }
+    ensures { IsTrue result ↔ DefinitionsInRange
+        (layer_of_definitions (definitions_of defs.now) (layers_of layers.now))
+        (definitions_of defs.now) }
 {
     let inner = Layers::Definitions {
         defs: &*defs,
@@ -151,10 +158,12 @@ fn let_definitions_in_range(defs: &[CoreDef], layers: &Layers) -> bool
     definitions_in_range(defs, &inner)
 }
 
-// The body of a let stands in the layer of its definitions.
+/// The body of a let stands in the layer of its definitions.
 #[cycle(range)]
 fn let_body_in_range(body: &CoreStrategy, defs: &[CoreDef], layers: &Layers) -> bool
-    ensures { IsTrue result ↔ StrategyInRange (layer_of_definitions (definitions_of defs.now) (layers_of layers.now)) (strategy_of body.now) }
+    ensures { IsTrue result ↔ StrategyInRange
+        (layer_of_definitions (definitions_of defs.now) (layers_of layers.now))
+        (strategy_of body.now) }
 {
     let inner = Layers::Definitions {
         defs: &*defs,
@@ -170,7 +179,8 @@ fn call_in_range(
     terms: &[CorePattern],
     layers: &Layers,
 ) -> bool
-    ensures { IsTrue result ↔ StrategyInRange (layers_of layers.now) (call x (strategies_of strategies.now) (patterns_of terms.now)) }
+    ensures { IsTrue result ↔ StrategyInRange (layers_of layers.now)
+        (call x (strategies_of strategies.now) (patterns_of terms.now)) }
 {
     if !has_callee(layers, x, strategies.len(), terms.len()) {
         return false;
@@ -183,7 +193,8 @@ fn call_in_range(
 
 #[cycle(range)]
 fn strategies_in_range(strategies: &[CoreStrategy], layers: &Layers) -> bool
-    ensures { IsTrue result ↔ StrategiesInRange (layers_of layers.now) (strategies_of strategies.now) }
+    ensures { IsTrue result ↔ StrategiesInRange (layers_of layers.now)
+        (strategies_of strategies.now) }
 {
     for s in strategies {
         if !strategy_in_range(s, layers) {
@@ -249,7 +260,7 @@ fn patterns_in_range(patterns: &[CorePattern], layers: &Layers) -> bool
     true
 }
 
-// Returns the layers without this number of the innermost ones.
+/// Returns the layers without this number of the innermost ones.
 fn outside<'a>(layers: &'a Layers<'a>, layers_up: usize) -> &'a Layers<'a>
     ensures { layers_of result.now ≡ spec.outside (layers_of layers.now) layers_up }
 {
@@ -263,7 +274,7 @@ fn outside<'a>(layers: &'a Layers<'a>, layers_up: usize) -> &'a Layers<'a>
     }
 }
 
-// Returns whether the coordinate leads to a variable.
+/// Returns whether the coordinate leads to a variable.
 fn has_variable(layers: &Layers, x: Coordinate) -> bool
     ensures { IsTrue result ↔ IsVariable (spec.outside (layers_of layers.now) x.layers_up) x.slot }
 {
@@ -274,9 +285,10 @@ fn has_variable(layers: &Layers, x: Coordinate) -> bool
     }
 }
 
-// Returns whether the coordinate leads to what can be called with these numbers of strategies and terms.
+/// Returns whether the coordinate leads to what can be called with these numbers of strategies and terms.
 fn has_callee(layers: &Layers, x: Coordinate, strats: usize, terms: usize) -> bool
-    ensures { IsTrue result ↔ IsCallee (spec.outside (layers_of layers.now) x.layers_up) x.slot strats terms }
+    ensures { IsTrue result ↔ IsCallee (spec.outside (layers_of layers.now) x.layers_up)
+        x.slot strats terms }
 {
     match outside(&*layers, x.layers_up) {
         Layers::Outermost => false,

@@ -1,4 +1,5 @@
-// Results of runs.
+//! Results of runs.
+
 /// How a run ends: with a term, by failing, with a term that would be too large, or with its budget used up.
 #[derive(Clone, Debug, Drop, PartialEq, Eq)]
 pub enum Outcome<R> {

@@ -1,11 +1,12 @@
 -- A set of names that takes those of primitives one after another.
-use Rattle.std.proofs.Common.{◌≡◌, ◌+◌, ◌<◌, ◌≤◌, zero, suc, refl, arith, ◌⊎◌, ◌++◌, ◌∷◌, inl, inr, ℕ, List, [], length, map, take, get_or, sym, ◌∙◌, ap, subst, Contains}
-use Rattle.std.proofs.lemmas.List.{map-append, take_more}
+use Rattle.std.proofs.Common.{◌≡◌, ◌+◌, ◌<◌, ◌≤◌, ◌⊎◌, ◌++◌, ◌∷◌, inl, inr, ℕ, List, [], length, map, take, get_or, sym, ◌∙◌, ap, subst, Contains}
+use Rattle.std.proofs.lemmas.List.{map-append, take_more, take_all}
 use Rattle.std.proofs.lemmas.List.Elements.{Contains-append_left, Contains-push, Contains-push_cases}
 use Rattle.term_model.specs.PrimNames.{NameKey, IsInserted}
 use Rattle.prim_registry.specs.Entries.{HaveSame}
 
-grown : (old new : List NameKey) (ys : List NameKey) (key : NameKey) → HaveSame old ys → IsInserted old key new → HaveSame new (ys ++ key ∷ [])
+grown : (old new : List NameKey) (ys : List NameKey) (key : NameKey) → HaveSame old ys → IsInserted old key new →
+    HaveSame new (ys ++ key ∷ [])
 grown old new ys key same (inl there) k = (
   λ h. Contains-append_left ys (key ∷ []) k ((same k).0 (subst (λ xs. Contains xs k) there.1 h)),
   λ h. subst (λ xs. Contains xs k) (sym there.1) (by (Contains-push_cases ys key k h)),
@@ -28,16 +29,14 @@ grown old new ys key same (inr added) k = (
     from (inr e) = subst (λ x. Contains (old ++ key ∷ []) x) e (Contains-push old key)
 
 pub one_more_name : {X : Type 0} (f : X → NameKey) (xs : List X) (i : ℕ) (x : X) (old new : List NameKey)
-    → i < length xs → x ≡ get_or xs i x → HaveSame old (map f (take i xs)) → IsInserted old (f x) new → HaveSame new (map f (take (i + 1) xs))
+    → i < length xs → x ≡ get_or xs i x → HaveSame old (map f (take i xs)) → IsInserted old (f x) new →
+    HaveSame new (map f (take (i + 1) xs))
 one_more_name f xs i x old new h is same inserted =
-    let longer : take (i + 1) xs ≡ take i xs ++ (x ∷ []) = take_more xs i x h ∙ ap (λ y. take i xs ++ (y ∷ [])) (sym is) in
-    subst (HaveSame new) (sym (ap (map f) longer ∙ map-append f (take i xs) (x ∷ []))) (grown old new (map f (take i xs)) (f x) same inserted)
+    let longer : take (i + 1) xs ≡ take i xs ++ (x ∷ []) =
+    take_more xs i x h ∙ ap (λ y. take i xs ++ (y ∷ [])) (sym is) in
+    subst (HaveSame new) (sym (ap (map f) longer ∙ map-append f (take i xs) (x ∷ [])))
+    (grown old new (map f (take i xs)) (f x) same inserted)
 
-take_whole : {X : Type 0} (n : ℕ) (xs : List X) → length xs ≤ n → take n xs ≡ xs
-take_whole zero [] h = refl
-take_whole zero (x ∷ xs) h = absurd (omega arith)
-take_whole (suc n) [] h = refl
-take_whole (suc n) (x ∷ xs) h = ap (λ ys. x ∷ ys) (take_whole n xs (omega arith))
-
-pub all_names : {X : Type 0} (f : X → NameKey) (xs ys : List X) (i : ℕ) (names : List NameKey) → length xs ≤ i → xs ≡ ys → HaveSame names (map f (take i xs)) → HaveSame names (map f ys)
-all_names f xs ys i names h e same = subst (λ zs. HaveSame names (map f zs)) (take_whole i xs h ∙ e) same
+pub all_names : {X : Type 0} (f : X → NameKey) (xs ys : List X) (i : ℕ) (names : List NameKey) → length xs ≤ i →
+    xs ≡ ys → HaveSame names (map f (take i xs)) → HaveSame names (map f ys)
+all_names f xs ys i names h e same = subst (λ zs. HaveSame names (map f zs)) (take_all i xs h ∙ e) same

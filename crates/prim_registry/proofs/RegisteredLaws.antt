@@ -6,17 +6,15 @@ use Rattle.std.specs.List.{list_any}
 use Rattle.std.specs.Str.{bytes_eq}
 use Rattle.std.proofs.lemmas.Map.Views.{Contains-from_any}
 use Rattle.std.proofs.lemmas.Slice.Eq.{bytes_eq-Decides}
+use Rattle.std.proofs.lemmas.Bool.{and_parts}
+use Rattle.std.proofs.lemmas.List.{get_or_default}
 use Rattle.term_model.specs.Flat.{FlatValue, Meaning}
 use Rattle.term_model.specs.PrimNames.{NameKey, key_at}
 use Rattle.prim_registry.specs.Registered.{same_key, registered}
 
-both : (a b : Bool) → (a && b) ≡ true → (a ≡ true) × (b ≡ true)
-both true true e = (refl, refl)
-both true false e = cc
-both false b e = cc
-
 equal_keys : (f g : List ℕ) (k j : ℕ) → bytes_eq f g && (k == j) ≡ true → (f ≡ g) × (k ≡ j)
-equal_keys f g k j e = let q = both (bytes_eq f g) (k == j) e in ((bytes_eq-Decides f g).0 q.0, (unsigned_Decides k j).0 q.1)
+equal_keys f g k j e = let q = and_parts (bytes_eq f g) (k == j) e in
+    ((bytes_eq-Decides f g).0 q.0, (unsigned_Decides k j).0 q.1)
 
 key_same : (a b : NameKey) → same_key a b ≡ true → a ≡ b
 key_same a b e = let q = equal_keys a.0 b.0 a.1 b.1 e in λ i. (q.0 i, q.1 i)
@@ -24,9 +22,11 @@ key_same a b e = let q = equal_keys a.0 b.0 a.1 b.1 e in λ i. (q.0 i, q.1 i)
 own_key : (a : NameKey) → same_key a a ≡ true
 own_key a = ap (λ x. x && (a.1 == a.1)) ((bytes_eq-Decides a.0 a.0).1 refl) ∙ (unsigned_Decides a.1 a.1).1 refl
 
-any_key : (keys : List NameKey) (key : NameKey) (i : ℕ) → i < length keys → get_or keys i key ≡ key → list_any (same_key key) keys ≡ true
+any_key : (keys : List NameKey) (key : NameKey) (i : ℕ) → i < length keys → get_or keys i key ≡ key →
+    list_any (same_key key) keys ≡ true
 any_key [] key i h is = absurd (omega arith)
-any_key (k ∷ ks) key zero h is = ap (λ b. b || list_any (same_key key) ks) (subst (λ x. same_key key x ≡ true) (sym is) (own_key key))
+any_key (k ∷ ks) key zero h is =
+    ap (λ b. b || list_any (same_key key) ks) (subst (λ x. same_key key x ≡ true) (sym is) (own_key key))
 any_key (k ∷ ks) key (suc i) h is = by (same_key key k) (any_key ks key i (omega arith) is)
   where
     by : (b : Bool) {c : Bool} → c ≡ true → (b || c) ≡ true
@@ -45,21 +45,22 @@ module _ (keys : List NameKey) (M : Meaning) (f : List ℕ) where
       by true e = absurd (none (Contains-from_any key_same (f, length vs) keys e))
       by false e = refl
 
-  pub registered_call : (vs : List FlatValue) (key : NameKey) (n : ℕ) (o : Option FlatValue) → key ≡ (f, n) → n ≡ length vs → Contains keys (f, n) → o ≡ M key.0 vs → o ≡ registered keys M f vs
+  pub registered_call : (vs : List FlatValue) (key : NameKey) (n : ℕ) (o : Option FlatValue) → key ≡ (f, n) →
+      n ≡ length vs → Contains keys (f, n) → o ≡ M key.0 vs → o ≡ registered keys M f vs
   registered_call vs key n o is many there answer =
       answer ∙ (ap (λ x. M x.0 vs) is ∙ sym (registered_there vs (subst (λ k. Contains keys (f, k)) many there)))
 
-  pub registered_none : (vs : List FlatValue) (n : ℕ) → n ≡ length vs → (Contains keys (f, n) → ⊥) → None ≡ registered keys M f vs
-  registered_none vs n many none = sym (registered_nowhere vs (λ c. none (subst (λ k. Contains keys (f, k)) (sym many) c)))
+  pub registered_none : (vs : List FlatValue) (n : ℕ) → n ≡ length vs → (Contains keys (f, n) → ⊥) →
+      None ≡ registered keys M f vs
+  registered_none vs n many none =
+      sym (registered_nowhere vs (λ c. none (subst (λ k. Contains keys (f, k)) (sym many) c)))
 
-  pub registered_same : (k : ℕ) → Contains keys (f, k) → (vs : List FlatValue) → length vs ≡ k → registered keys M f vs ≡ M f vs
+  pub registered_same : (k : ℕ) → Contains keys (f, k) → (vs : List FlatValue) → length vs ≡ k →
+      registered keys M f vs ≡ M f vs
   registered_same k there vs many = registered_there vs (subst (λ n. Contains keys (f, n)) (sym many) there)
 
-pub at_default : (keys : List NameKey) (i : ℕ) (a b : NameKey) → i < length keys → get_or keys i a ≡ get_or keys i b
-at_default [] i a b h = absurd (omega arith)
-at_default (k ∷ ks) zero a b h = refl
-at_default (k ∷ ks) (suc i) a b h = at_default ks i a b (omega arith)
-
 -- what is registered of each name is registered of one
-pub covered : (keys names : List NameKey) (key : NameKey) → ((i : ℕ) → i < length names → Contains keys (key_at names i)) → Contains names key → Contains keys key
-covered keys names key each c = subst (λ x. Contains keys x) (at_default names c.0 ([], 0) key c.1 ∙ c.2) (each c.0 c.1)
+pub covered : (keys names : List NameKey) (key : NameKey) →
+    ((i : ℕ) → i < length names → Contains keys (key_at names i)) → Contains names key → Contains keys key
+covered keys names key each c =
+    subst (λ x. Contains keys x) (get_or_default names c.0 ([], 0) key c.1 ∙ c.2) (each c.0 c.1)

@@ -10,7 +10,8 @@ use Rattle.term_model.specs.Flat.{FlatValue, number}
 use Rattle.term_model.specs.Limits.{max_magnitude}
 use Rattle.prim_registry.specs.Standard.{two_integers, on_integers, quotient, remainder, ranged}
 
-pub on_pair : (f : ℤ → ℤ → Option FlatValue) (args : List FlatValue) (p : ℤ × ℤ) → two_integers args ≡ Some p → on_integers f args ≡ f p.0 p.1
+pub on_pair : (f : ℤ → ℤ → Option FlatValue) (args : List FlatValue) (p : ℤ × ℤ) → two_integers args ≡ Some p →
+    on_integers f args ≡ f p.0 p.1
 on_pair f args p is = ap (option_and_then (λ q. f q.0 q.1)) is
 
 pub quotient_is : (a b : ℤ) → int_eq b (pos 0) ≡ false → quotient a b ≡ ranged (int_div a b)
@@ -36,12 +37,16 @@ one_fails true false o h = refl
 one_fails false b o h = refl
 
 ranged_fits : (z : ℤ) → FitsSigned w64 z → ranged z ≡ Some (number z)
-ranged_fits (pos n) f = both_tests true (nat_le n (max_magnitude false)) (Some (number (pos n))) refl (le-leb _ _ (omega (arith, f.sfits)))
-ranged_fits (negsuc n) f = both_tests (nat_le n (max_magnitude false)) true (Some (number (negsuc n))) (le-leb _ _ (omega (arith, f.sfits))) refl
+ranged_fits (pos n) f = both_tests true (nat_le n (max_magnitude false)) (Some (number (pos n)))
+    refl (le-leb _ _ (omega (arith, f.sfits)))
+ranged_fits (negsuc n) f = both_tests (nat_le n (max_magnitude false)) true (Some (number (negsuc n)))
+    (le-leb _ _ (omega (arith, f.sfits))) refl
 
 ranged_none : (z : ℤ) → (FitsSigned w64 z → ⊥) → ranged z ≡ None
-ranged_none (pos n) f = one_fails true (nat_le n (max_magnitude false)) (Some (number (pos n))) (λ h. f (record { sfits = omega (arith, leb-true _ _ h.1) }))
-ranged_none (negsuc n) f = one_fails (nat_le n (max_magnitude false)) true (Some (number (negsuc n))) (λ h. f (record { sfits = omega (arith, leb-true _ _ h.0) }))
+ranged_none (pos n) f = one_fails true (nat_le n (max_magnitude false)) (Some (number (pos n)))
+    (λ h. f (record { sfits = omega (arith, leb-true _ _ h.1) }))
+ranged_none (negsuc n) f = one_fails (nat_le n (max_magnitude false)) true (Some (number (negsuc n)))
+    (λ h. f (record { sfits = omega (arith, leb-true _ _ h.0) }))
 
 -- what a checked operation returns is the number where it is in range
 pub checked_is : (z : ℤ) (r : Option ℤ) → SomeIff r (FitsSigned w64 z) z → option_map number r ≡ ranged z
@@ -54,6 +59,8 @@ not_zero (pos zero) e f = absurd (cc)
 not_zero (pos (suc n)) e f = omega arith
 not_zero (negsuc n) e f = omega (arith, f.sfits)
 
-pub divided_is : (a b : ℤ) (r : Option ℤ) → int_eq b (pos 0) ≡ false → FitsSigned w64 b → SomeIff r (CanDivide w64 a b) (int_div a b) → option_map number r ≡ quotient a b
+pub divided_is : (a b : ℤ) (r : Option ℤ) → int_eq b (pos 0) ≡ false → FitsSigned w64 b →
+    SomeIff r (CanDivide w64 a b) (int_div a b) → option_map number r ≡ quotient a b
 divided_is a b None e f h = sym (quotient_is a b e ∙ ranged_none (int_div a b) (λ k. h (not_zero b e f, k)))
-divided_is a b (Some x) e f h = ap (λ y. Some (number y)) h.1 ∙ sym (quotient_is a b e ∙ ranged_fits (int_div a b) h.0.1)
+divided_is a b (Some x) e f h =
+    ap (λ y. Some (number y)) h.1 ∙ sym (quotient_is a b e ∙ ranged_fits (int_div a b) h.0.1)

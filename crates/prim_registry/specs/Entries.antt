@@ -6,7 +6,8 @@ use Rattle.prim_registry.specs.declared.primitive.Primitive.{Primitive}
 use Rattle.prim_registry.specs.declared.registry.Registry.{Registry}
 use Rattle.prim_registry.specs.Answers.{AnswersBy, CalculatesBy}
 
-abbrev pub name_of : {M X Y : Type 0} {F : X → Type 0} {G : Y → Type 0} {g : _} {h : _} → Primitive M X Y F G g h → List ℕ
+abbrev pub name_of : {M X Y : Type 0} {F : X → Type 0} {G : Y → Type 0} {g : _} {h : _} → Primitive M X Y F G g h →
+    List ℕ
 name_of p = p.name
 
 -- how many arguments it takes
@@ -14,33 +15,44 @@ abbrev pub arity_of : {M X Y : Type 0} {F : X → Type 0} {G : Y → Type 0} {g 
 arity_of p = p.arity
 
 -- where the primitive has a function on two integers, that returns what the meaning has for the name and them
-abbrev pub CalculatesAs : {M X Y : Type 0} {F : X → Type 0} {G : Y → Type 0} {g : _} {h : _} → Meaning → Primitive M X Y F G g h → Type 0
-CalculatesAs {h = h} answer p = IfSome p.calculator (λ c. CalculatesBy (λ left right r. h.post (c.calculation.vtable, c.calculation.value) (left, (right, tt)) r) (answer p.name))
+abbrev pub CalculatesAs : {M X Y : Type 0} {F : X → Type 0} {G : Y → Type 0} {g : _} {h : _} → Meaning →
+    Primitive M X Y F G g h → Type 0
+CalculatesAs {h = h} answer p =
+    IfSome p.calculator (λ c. CalculatesBy
+    (λ left right r. h.post (c.calculation.vtable, c.calculation.value) (left, (right, tt)) r) (answer p.name))
 
 -- whenever a function of the primitive returns a value or none, that is what the meaning has for the name
-abbrev pub AnswersAs : {M X Y : Type 0} {F : X → Type 0} {G : Y → Type 0} {g : _} {h : _} → Meaning → Primitive M X Y F G g h → Type 0
-AnswersAs {g = g} answer p = AnswersBy (λ args r. g.post (p.action.vtable, p.action.value) (args, tt) r) p.arity (answer p.name) × CalculatesAs answer p
+abbrev pub AnswersAs : {M X Y : Type 0} {F : X → Type 0} {G : Y → Type 0} {g : _} {h : _} → Meaning →
+    Primitive M X Y F G g h → Type 0
+AnswersAs {g = g} answer p = AnswersBy (λ args r. g.post (p.action.vtable, p.action.value) (args, tt) r)
+    p.arity (answer p.name) × CalculatesAs answer p
 
-abbrev pub entry_of : {M X Y : Type 0} {F : X → Type 0} {G : Y → Type 0} {g : _} {h : _} → Primitive M X Y F G g h → NameKey
+abbrev pub entry_of : {M X Y : Type 0} {F : X → Type 0} {G : Y → Type 0} {g : _} {h : _} → Primitive M X Y F G g h →
+    NameKey
 entry_of p = (p.name, p.arity)
 
 -- the primitives, in the order in which they were registered
-abbrev pub primitives_of : {M X Y : Type 0} {F : X → Type 0} {G : Y → Type 0} {g : _} {h : _} → Registry M X Y F G g h → List (Primitive M X Y F G g h)
+abbrev pub primitives_of : {M X Y : Type 0} {F : X → Type 0} {G : Y → Type 0} {g : _} {h : _} → Registry M X Y F G g h →
+    List (Primitive M X Y F G g h)
 primitives_of r = r.primitives.items
 
 -- their names and numbers of arguments
-abbrev pub entries_of : {M X Y : Type 0} {F : X → Type 0} {G : Y → Type 0} {g : _} {h : _} → Registry M X Y F G g h → List NameKey
+abbrev pub entries_of : {M X Y : Type 0} {F : X → Type 0} {G : Y → Type 0} {g : _} {h : _} → Registry M X Y F G g h →
+    List NameKey
 entries_of r = map entry_of (primitives_of r)
 
-abbrev pub entry_at : {M X Y : Type 0} {F : X → Type 0} {G : Y → Type 0} {g : _} {h : _} → Registry M X Y F G g h → ℕ → NameKey
+abbrev pub entry_at : {M X Y : Type 0} {F : X → Type 0} {G : Y → Type 0} {g : _} {h : _} → Registry M X Y F G g h → ℕ →
+    NameKey
 entry_at r index = key_at (entries_of r) index
 
 -- a primitive has this name, whatever its number of arguments
-abbrev pub HasName : {M X Y : Type 0} {F : X → Type 0} {G : Y → Type 0} {g : _} {h : _} → Registry M X Y F G g h → List ℕ → Type 0
+abbrev pub HasName : {M X Y : Type 0} {F : X → Type 0} {G : Y → Type 0} {g : _} {h : _} → Registry M X Y F G g h →
+    List ℕ → Type 0
 HasName r name = Contains (map name_of (primitives_of r)) name
 
 -- each of the names is that of a primitive with this number of arguments
-abbrev pub Covers : {M X Y : Type 0} {F : X → Type 0} {G : Y → Type 0} {g : _} {h : _} → Registry M X Y F G g h → List NameKey → Type 0
+abbrev pub Covers : {M X Y : Type 0} {F : X → Type 0} {G : Y → Type 0} {g : _} {h : _} → Registry M X Y F G g h →
+    List NameKey → Type 0
 Covers r names = (i : ℕ) → i < length names → Contains (entries_of r) (key_at names i)
 
 -- the lists have the same elements
@@ -48,9 +60,11 @@ abbrev pub HaveSame : List NameKey → List NameKey → Type 0
 HaveSame xs ys = (key : NameKey) → Contains xs key ↔ Contains ys key
 
 -- the names are those of the primitives, with their numbers of arguments
-abbrev pub AreNamesOf : {M X Y : Type 0} {F : X → Type 0} {G : Y → Type 0} {g : _} {h : _} → Registry M X Y F G g h → List NameKey → Type 0
+abbrev pub AreNamesOf : {M X Y : Type 0} {F : X → Type 0} {G : Y → Type 0} {g : _} {h : _} → Registry M X Y F G g h →
+    List NameKey → Type 0
 AreNamesOf r names = HaveSame names (entries_of r)
 
 -- each primitive returns what the meaning has for its name
-abbrev pub IsHonest : {M X Y : Type 0} {F : X → Type 0} {G : Y → Type 0} {g : _} {h : _} → Meaning → Registry M X Y F G g h → Type 0
+abbrev pub IsHonest : {M X Y : Type 0} {F : X → Type 0} {G : Y → Type 0} {g : _} {h : _} → Meaning →
+    Registry M X Y F G g h → Type 0
 IsHonest answer r = All (AnswersAs answer) (primitives_of r)

@@ -1,3 +1,4 @@
+-- The headline does not rest on this file.
 -- What primitives mean where only those of a registry return anything.
 use Rattle.std.specs.Prelude.{Bool, List, None, ◌&&◌, ◌==◌, length, if◌then◌else◌}
 use Rattle.std.specs.List.{list_any}
@@ -16,5 +17,6 @@ abbrev pub registered : List NameKey → Meaning → Meaning
 registered keys M f vs = if list_any (same_key (f, length vs)) keys then M f vs else None
 
 -- what the primitives of a registry mean
-abbrev pub meaning_of : {M X Y : Type 0} {F : X → Type 0} {G : Y → Type 0} {g : _} {h : _} → Meaning → Registry M X Y F G g h → Meaning
+abbrev pub meaning_of : {M X Y : Type 0} {F : X → Type 0} {G : Y → Type 0} {g : _} {h : _} → Meaning →
+    Registry M X Y F G g h → Meaning
 meaning_of answer r = registered (entries_of r) answer

@@ -1,3 +1,4 @@
+-- The headline does not rest on this file.
 -- What the standard primitives return of their arguments: a flat value, or none.
 use Rattle.std.specs.Prelude.{ℕ, ℤ, pos, ◌+ℤ◌, ◌-ℤ◌, ◌*ℤ◌, int_le, int_lt, int_div, unsigned_abs, List, [], ◌∷◌, ◌++◌, length, map, Option, Some, None, Bool, true, false, codes, nat_le, ◌==◌, ◌&&◌, if◌then◌else◌}
 use Rattle.std.specs.Cmp.Lexicographic.{pointwise}
@@ -35,7 +36,8 @@ one_list args = None
 
 -- an integer of the language
 abbrev pub ranged : ℤ → Option FlatValue
-ranged z = if int_le (signed true (max_magnitude true)) z && int_le z (signed false (max_magnitude false)) then Some (number z) else None
+ranged z = if int_le (signed true (max_magnitude true)) z &&
+    int_le z (signed false (max_magnitude false)) then Some (number z) else None
 
 -- the quotient cut towards 0
 abbrev pub quotient : ℤ → ℤ → Option FlatValue
@@ -60,7 +62,8 @@ bytes_of zs = if list_all is_byte zs then Some (map unsigned_abs zs) else None
 abbrev pub spelled : Bool → List ℕ → Option FlatValue
 spelled negative [] = None
 spelled negative (d ∷ ds) =
-    if list_all is_digit (d ∷ ds) && nat_le (value_from 0 (d ∷ ds)) (max_magnitude negative) then Some (number (signed negative (value_from 0 (d ∷ ds)))) else None
+    if list_all is_digit (d ∷ ds) && nat_le (value_from 0 (d ∷ ds)) (max_magnitude negative) then
+    Some (number (signed negative (value_from 0 (d ∷ ds)))) else None
 
 -- a minus may stand before the digits; it is the byte 45
 abbrev pub integer_in : List ℕ → Option FlatValue
@@ -85,8 +88,10 @@ standard name args =
     if is_named name (codes "less") then on_integers lesser args else
     if is_named name (codes "concat") then option_and_then (λ p. Some (text (p.0 ++ p.1))) (two_texts args) else
     if is_named name (codes "length") then option_and_then (λ bytes. ranged (pos (length bytes))) (one_text args) else
-    if is_named name (codes "explode") then option_and_then (λ bytes. Some (numbers (map pos bytes))) (one_text args) else
+    if is_named name (codes "explode") then option_and_then (λ bytes. Some (numbers (map pos bytes))) (one_text args)
+    else
     if is_named name (codes "implode") then option_map text (option_and_then bytes_of (one_list args)) else
-    if is_named name (codes "int_text") then option_and_then (λ z. Some (text (signed_decimal z))) (one_integer args) else
+    if is_named name (codes "int_text") then option_and_then (λ z. Some (text (signed_decimal z))) (one_integer args)
+    else
     if is_named name (codes "text_int") then option_and_then integer_in (one_text args) else
     None

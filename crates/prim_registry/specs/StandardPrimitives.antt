@@ -1,3 +1,4 @@
+-- The headline does not rest on this file.
 -- The standard primitives by their names and numbers of arguments.
 use Rattle.std.specs.Prelude.{Bool, true, false, List, [], ◌∷◌, codes, map}
 use Rattle.term_model.specs.PrimNames.{NameKey}

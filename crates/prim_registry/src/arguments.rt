@@ -6,7 +6,7 @@ ghost use Rattle.prim_registry.specs.Values.{values_of};
 
 use crate::flat::Flat;
 
-// Two integers, where the arguments are these and no others.
+/// Two integers, where the arguments are these and no others.
 pub(crate) fn two_integers(args: &[Flat]) -> Option<(i64, i64)>
     ensures { result ≡ integers_of (values_of args.now) }
 {
@@ -16,7 +16,7 @@ pub(crate) fn two_integers(args: &[Flat]) -> Option<(i64, i64)>
     }
 }
 
-// The bytes of two strings.
+/// The bytes of two strings.
 pub(crate) fn two_texts(args: &[Flat]) -> Option<(&[u8], &[u8])>
     ensures { option_map (λ p. (p.0.now, p.1.now)) result ≡ texts_of (values_of args.now) }
 {
@@ -26,7 +26,7 @@ pub(crate) fn two_texts(args: &[Flat]) -> Option<(&[u8], &[u8])>
     }
 }
 
-// One integer.
+/// One integer.
 pub(crate) fn one_integer(args: &[Flat]) -> Option<i64>
     ensures { result ≡ integer_of (values_of args.now) }
 {
@@ -36,7 +36,7 @@ pub(crate) fn one_integer(args: &[Flat]) -> Option<i64>
     }
 }
 
-// The bytes of one string.
+/// The bytes of one string.
 pub(crate) fn one_text(args: &[Flat]) -> Option<&[u8]>
     ensures { option_map (λ bytes. bytes.now) result ≡ text_of (values_of args.now) }
 {
@@ -46,7 +46,7 @@ pub(crate) fn one_text(args: &[Flat]) -> Option<&[u8]>
     }
 }
 
-// One list of integers.
+/// One list of integers.
 pub(crate) fn one_list(args: &[Flat]) -> Option<&[i64]>
     ensures { option_map (λ numbers. numbers.now) result ≡ list_of (values_of args.now) }
 {

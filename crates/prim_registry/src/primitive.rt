@@ -22,7 +22,7 @@ pub type Action = Box<dyn Fn(&[Flat]) -> Result<Option<Flat>, AllocError>>;
 /// A function on two integers: it returns an integer or none.
 pub type Calculation = Box<dyn Fn(i64, i64) -> Option<i64>>;
 
-// A function on two integers that may be called on any.
+/// A function on two integers that may be called on any.
 #[derive(Drop)]
 struct Calculator {
     calculation: Calculation,
@@ -67,7 +67,8 @@ impl<M: PrimMeaning> Primitive<M> {
     pub fn with_calculation(self, calculation: Calculation) -> Primitive<M>
         requires may_run { (left right : ℤ) → Calculation.pre calculation left right }
         requires answers { AnswersAs M.answer self }
-        requires calculates { CalculatesBy (Calculation.post calculation) (M.answer (name_of self)) }
+        requires calculates { CalculatesBy (Calculation.post calculation) (M.answer
+            (name_of self)) }
         ensures name { name_of result ≡ name_of self }
         ensures arity { arity_of result ≡ arity_of self }
         ensures answers { AnswersAs M.answer result }
@@ -100,7 +101,8 @@ impl<M: PrimMeaning> Primitive<M> {
     pub fn run(&self, args: &[Flat]) -> Result<Option<Flat>, AllocError>
         requires arity { length args.now ≡ arity_of self.now }
         requires answers { AnswersAs M.answer self.now }
-        ensures { IfOk result (λ answer. answer_of answer ≡ M.answer (name_of self.now) (values_of args.now)) }
+        ensures { IfOk result (λ answer. answer_of answer ≡
+            M.answer (name_of self.now) (values_of args.now)) }
     {
         (self.action)(args)
     }

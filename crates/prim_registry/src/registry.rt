@@ -11,7 +11,7 @@ use crate::primitive::{PrimMeaning, Primitive};
 use std::alloc::{AllocError, Global};
 use term_model::{Fault, PrimNames};
 
-// Whether two names are the same.
+/// Whether two names are the same.
 fn same_name(left: &[u8], right: &[u8]) -> bool
     ensures { IsTrue result ↔ (left.now ≡ right.now) }
 {
@@ -35,7 +35,7 @@ impl<M: PrimMeaning> Registry<M> {
         }
     }
 
-    // Whether a primitive has this name, whatever its number of arguments.
+    /// Whether a primitive has this name, whatever its number of arguments.
     fn has_name(&self, name: &[u8]) -> bool
         ensures { IsTrue result ↔ HasName self.now name.now }
     {
@@ -53,8 +53,10 @@ impl<M: PrimMeaning> Registry<M> {
         requires honest { IsHonest M.answer self.old }
         requires answers { AnswersAs M.answer primitive }
         ensures honest { IsHonest M.answer self.new }
-        ensures registered { OnOk result (entries_of self.new ≡ entries_of self.old ++ (name_of primitive, arity_of primitive) ∷ []) }
-        ensures duplicate { (result ≡ Err DuplicateDeclaration) ↔ HasName self.old (name_of primitive) }
+        ensures registered { OnOk result (entries_of self.new ≡ entries_of self.old ++
+            (name_of primitive, arity_of primitive) ∷ []) }
+        ensures duplicate { (result ≡ Err DuplicateDeclaration)
+            ↔ HasName self.old (name_of primitive) }
         ensures fault { IfErr result (λ fault. (fault ≡ DuplicateDeclaration) ⊎ (fault ≡ Memory)) }
         ensures unchanged { OnErr result (primitives_of self.new ≡ primitives_of self.old) }
     {
@@ -126,7 +128,8 @@ impl<M: PrimMeaning> Registry<M> {
         requires honest { IsHonest M.answer self.now }
         requires within { index < length (entries_of self.now) }
         requires arity { (entry_at self.now index).1 ≡ length args.now }
-        ensures answer { IfOk result (λ answer. answer_of answer ≡ M.answer (entry_at self.now index).0 (values_of args.now)) }
+        ensures answer { IfOk result (λ answer. answer_of answer ≡
+            M.answer (entry_at self.now index).0 (values_of args.now)) }
         ensures fault { IfErr result (λ fault. fault ≡ Memory) }
     {
         match self.primitives[index].run(args) {
@@ -151,7 +154,8 @@ impl<M: PrimMeaning> Registry<M> {
     pub fn call(&self, name: &[u8], args: &[Flat]) -> Result<Option<Flat>, Fault>
         requires honest { IsHonest M.answer self.now }
         requires has { Contains (entries_of self.now) (name.now, length args.now) }
-        ensures answer { IfOk result (λ answer. answer_of answer ≡ M.answer name.now (values_of args.now)) }
+        ensures answer { IfOk result (λ answer. answer_of answer ≡
+            M.answer name.now (values_of args.now)) }
         ensures fault { IfErr result (λ fault. fault ≡ Memory) }
     {
         match self.position(name, args.len()) {

@@ -19,7 +19,7 @@ impl PrimMeaning for Standard {
     ghost answer = { standard };
 }
 
-// The integer as an answer, where there is one.
+/// The integer as an answer, where there is one.
 fn answer(value: Option<i64>) -> Option<Flat>
     ensures { answer_of result ≡ option_map number value }
 {

@@ -89,7 +89,8 @@ impl StandardPrimitive {
 
     /// Returns what the primitive has for these arguments, and `AllocError` where memory for it is refused.
     pub fn answer(self, alloc: Global, args: &[Flat]) -> Result<Option<Flat>, AllocError>
-        ensures { IfOk result (λ answer. answer_of answer ≡ standard (key_of self).0 (values_of args.now)) }
+        ensures { IfOk result (λ answer. answer_of answer ≡
+            standard (key_of self).0 (values_of args.now)) }
     {
         match self {
             StandardPrimitive::Add => Ok(add(args)),

@@ -15,7 +15,8 @@ use term_model::bytes::{is_digit_byte, signed, with_digit};
 
 /// Returns the bytes of the first of two strings, followed by those of the second; `None` at other arguments.
 pub fn concat(alloc: Global, args: &[Flat]) -> Result<Option<Flat>, AllocError>
-    ensures { IfOk result (λ answer. answer_of answer ≡ standard (codes "concat") (values_of args.now)) }
+    ensures { IfOk result (λ answer. answer_of answer ≡
+        standard (codes "concat") (values_of args.now)) }
 {
     let Some((first, second)) = two_texts(args) else {
         return Ok(None);
@@ -25,7 +26,7 @@ pub fn concat(alloc: Global, args: &[Flat]) -> Result<Option<Flat>, AllocError>
     Ok(Some(Flat::Str(Bytes::new(bytes))))
 }
 
-// The bytes as integers.
+/// The bytes as integers.
 fn integers(alloc: Global, bytes: &[u8]) -> Result<Vec<i64>, AllocError>
     ensures { IfOk result (λ integers. integers.items ≡ map pos bytes.now) }
 {
@@ -38,7 +39,8 @@ fn integers(alloc: Global, bytes: &[u8]) -> Result<Vec<i64>, AllocError>
 
 /// Returns the bytes of a string as a list of integers from 0 to 255; `None` at other arguments.
 pub fn explode(alloc: Global, args: &[Flat]) -> Result<Option<Flat>, AllocError>
-    ensures { IfOk result (λ answer. answer_of answer ≡ standard (codes "explode") (values_of args.now)) }
+    ensures { IfOk result (λ answer. answer_of answer ≡
+        standard (codes "explode") (values_of args.now)) }
 {
     let Some(text) = one_text(args) else {
         return Ok(None);
@@ -47,9 +49,10 @@ pub fn explode(alloc: Global, args: &[Flat]) -> Result<Option<Flat>, AllocError>
     Ok(Some(Flat::Ints(Numbers::new(integers))))
 }
 
-// The integers as bytes, where each is one.
+/// The integers as bytes, where each is one.
 fn bytes(alloc: Global, integers: &[i64]) -> Result<Option<Vec<u8>>, AllocError>
-    ensures { IfOk result (λ bytes. option_map (λ v. v.items) bytes ≡ bytes_of_integers integers.now) }
+    ensures { IfOk result (λ bytes. option_map (λ v. v.items) bytes ≡
+        bytes_of_integers integers.now) }
 {
     let mut bytes = Vec::with_capacity(alloc, integers.len())?;
     for integer in integers {
@@ -64,7 +67,8 @@ fn bytes(alloc: Global, integers: &[i64]) -> Result<Option<Vec<u8>>, AllocError>
 /// Returns the string of the bytes that a list of integers has. `None` where one of them is not from 0 to 255, and at other
 /// arguments.
 pub fn implode(alloc: Global, args: &[Flat]) -> Result<Option<Flat>, AllocError>
-    ensures { IfOk result (λ answer. answer_of answer ≡ standard (codes "implode") (values_of args.now)) }
+    ensures { IfOk result (λ answer. answer_of answer ≡
+        standard (codes "implode") (values_of args.now)) }
 {
     let Some(integers) = one_list(args) else {
         return Ok(None);
@@ -77,7 +81,8 @@ pub fn implode(alloc: Global, args: &[Flat]) -> Result<Option<Flat>, AllocError>
 
 /// Returns the decimal digits of an integer as a string, after a minus where it is negative; `None` at other arguments.
 pub fn int_text(alloc: Global, args: &[Flat]) -> Result<Option<Flat>, AllocError>
-    ensures { IfOk result (λ answer. answer_of answer ≡ standard (codes "int_text") (values_of args.now)) }
+    ensures { IfOk result (λ answer. answer_of answer ≡
+        standard (codes "int_text") (values_of args.now)) }
 {
     let Some(value) = one_integer(args) else {
         return Ok(None);
@@ -87,17 +92,18 @@ pub fn int_text(alloc: Global, args: &[Flat]) -> Result<Option<Flat>, AllocError
     Ok(Some(Flat::Str(Bytes::new(text))))
 }
 
-// Whether each of the bytes is a digit.
+/// Whether each of the bytes is a digit.
 fn are_digits(bytes: &[u8]) -> bool
     ensures { result ≡ list_all is_digit bytes.now }
 {
     bytes.iter().all(|byte| is_digit_byte(*byte))
 }
 
-// The magnitude that the digits spell, unless no integer of this sign has it.
+/// The magnitude that the digits spell, unless no integer of this sign has it.
 fn magnitude(negative: bool, digits: &[u8]) -> Option<u64>
     requires { list_all is_digit digits.now ≡ true }
-    ensures { MatchOption result (max_magnitude negative < value_from 0 digits.now) (λ n. (n ≡ value_from 0 digits.now) × (n ≤ max_magnitude negative)) }
+    ensures { MatchOption result (max_magnitude negative < value_from 0 digits.now)
+        (λ n. (n ≡ value_from 0 digits.now) × (n ≤ max_magnitude negative)) }
 {
     let mut value = 0;
     for digit in digits {
@@ -109,8 +115,8 @@ fn magnitude(negative: bool, digits: &[u8]) -> Option<u64>
     Some(value)
 }
 
-// The integer of this sign that the bytes spell.
-fn spelled(negative: bool, bytes: &[u8]) -> Option<Flat>
+/// The integer of this sign that the bytes spell.
+fn parse_integer(negative: bool, bytes: &[u8]) -> Option<Flat>
     ensures { answer_of result ≡ spelled_value negative bytes.now }
 {
     if bytes.is_empty() || !are_digits(bytes) {
@@ -120,15 +126,15 @@ fn spelled(negative: bool, bytes: &[u8]) -> Option<Flat>
     Some(Flat::Int(signed(negative, magnitude)))
 }
 
-// The integer that the bytes spell, with a minus before the digits where it is negative.
+/// The integer that the bytes spell, with a minus before the digits where it is negative.
 fn integer_in(bytes: &[u8]) -> Option<Flat>
     ensures { answer_of result ≡ integer_in_text bytes.now }
 {
     let (first, others) = bytes.split_first()?;
     if *first == b'-' {
-        return spelled(true, others);
+        return parse_integer(true, others);
     }
-    spelled(false, bytes)
+    parse_integer(false, bytes)
 }
 
 /// Returns the integer that a string spells by one or more digits, with a minus before them where it is negative. `None` where the

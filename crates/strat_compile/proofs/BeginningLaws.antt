@@ -22,45 +22,61 @@ patterns_counted : (ps : List CorePattern) → count_of_patterns (patterns_in (m
 patterns_counted [] = refl
 patterns_counted (p ∷ ps) = ap suc (patterns_counted ps)
 
-elements_counted : (ps : List CorePattern) (rest : Option (Pattern Coordinate)) → count_of_elements (elements_in (map pattern_of ps) rest) ≡ length ps
+elements_counted : (ps : List CorePattern) (rest : Option (Pattern Coordinate)) →
+    count_of_elements (elements_in (map pattern_of ps) rest) ≡ length ps
 elements_counted [] None = refl
 elements_counted [] (Some p) = refl
 elements_counted (p ∷ ps) rest = ap suc (elements_counted ps rest)
 
-opened : (ps : List CorePattern) (rest : Option (Box CorePattern Global)) → is_open (elements_in (map pattern_of ps) (rest_of rest)) ≡ is_some rest
+opened : (ps : List CorePattern) (rest : Option (Box CorePattern Global)) →
+    is_open (elements_in (map pattern_of ps) (rest_of rest)) ≡ is_some rest
 opened [] None = refl
 opened [] (Some p) = refl
 opened (p ∷ ps) rest = opened ps rest
 
-pub asked_alias : (p q : CorePattern) (x : Coordinate) (part : Box CorePattern Global) (r : Root) → p ≡ patterns.Alias x part → q ≡ part.value → r ≡ root_of (pattern_of q) → r ≡ root_of (pattern_of p)
-asked_alias p q x part r is inner h = h ∙ ap (λ d. root_of (pattern_of d)) inner ∙ sym (ap root_of (ap pattern_of is ∙ reads_alias x part))
+pub asked_alias : (p q : CorePattern) (x : Coordinate) (part : Box CorePattern Global) (r : Root) →
+    p ≡ patterns.Alias x part → q ≡ part.value → r ≡ root_of (pattern_of q) → r ≡ root_of (pattern_of p)
+asked_alias p q x part r is inner h =
+    h ∙ ap (λ d. root_of (pattern_of d)) inner ∙ sym (ap root_of (ap pattern_of is ∙ reads_alias x part))
 
-pub asked_annotated : (p q : CorePattern) (part : Box CorePattern Global) (qs : Vec CorePattern Global) (r : Root) → p ≡ patterns.Annotated part qs → q ≡ part.value → r ≡ root_of (pattern_of q) → r ≡ root_of (pattern_of p)
-asked_annotated p q part qs r is inner h = h ∙ ap (λ d. root_of (pattern_of d)) inner ∙ sym (ap root_of (ap pattern_of is ∙ reads_annotated part qs))
+pub asked_annotated : (p q : CorePattern) (part : Box CorePattern Global) (qs : Vec CorePattern Global) (r : Root) →
+    p ≡ patterns.Annotated part qs → q ≡ part.value → r ≡ root_of (pattern_of q) → r ≡ root_of (pattern_of p)
+asked_annotated p q part qs r is inner h =
+    h ∙ ap (λ d. root_of (pattern_of d)) inner ∙ sym (ap root_of (ap pattern_of is ∙ reads_annotated part qs))
 
-pub asked_symbol : (p : CorePattern) (f g : Symbol) (ps : Vec CorePattern Global) (n : ℕ) → p ≡ patterns.Applied f ps → g ≡ f → n ≡ length ps.items → symbol_root g n ≡ root_of (pattern_of p)
-asked_symbol p f g ps n is same parts = ap₂ (λ h k. symbol_root h k) same (parts ∙ sym (patterns_counted ps.items)) ∙ sym (ap root_of (ap pattern_of is ∙ reads_applied f ps))
+pub asked_symbol : (p : CorePattern) (f g : Symbol) (ps : Vec CorePattern Global) (n : ℕ) → p ≡ patterns.Applied f ps →
+    g ≡ f → n ≡ length ps.items → symbol_root g n ≡ root_of (pattern_of p)
+asked_symbol p f g ps n is same parts = ap₂ (λ h k. symbol_root h k) same (parts ∙ sym (patterns_counted ps.items)) ∙
+    sym (ap root_of (ap pattern_of is ∙ reads_applied f ps))
 
-pub asked_list : (p : CorePattern) (ps : Vec CorePattern Global) (rest : Option (Box CorePattern Global)) (n : ℕ) (o : Bool) → p ≡ patterns.List ps rest → n ≡ length ps.items → o ≡ is_some rest → list_root n o ≡ root_of (pattern_of p)
+pub asked_list : (p : CorePattern) (ps : Vec CorePattern Global) (rest : Option (Box CorePattern Global)) (n : ℕ)
+    (o : Bool) → p ≡ patterns.List ps rest → n ≡ length ps.items → o ≡ is_some rest →
+    list_root n o ≡ root_of (pattern_of p)
 asked_list p ps rest n o is parts more =
-    ap₂ (λ k b. list_root k b) (parts ∙ sym (elements_counted ps.items (rest_of rest))) (more ∙ sym (opened ps.items rest)) ∙ sym (ap root_of (ap pattern_of is ∙ reads_list ps rest))
+    ap₂ (λ k b. list_root k b) (parts ∙ sym (elements_counted ps.items (rest_of rest))) (more ∙
+    sym (opened ps.items rest)) ∙ sym (ap root_of (ap pattern_of is ∙ reads_list ps rest))
 
 begins_as : {s t : ResolvedStrategy} {q r : Root} {m n : ℕ} → t ≡ s → q ≡ r → m ≡ n → Begins s r n → Begins t q m
 begins_as {s} {t} {q} {r} {m} {n} is same nodes h =
     subst (λ u. Begins u q m) (sym is) (subst (λ a. Begins s a m) (sym same) (subst (λ k. Begins s r k) (sym nodes) h))
 
-pub match_begins : (s : CoreStrategy) (p : CorePattern) (r : Root) → s ≡ strategies.Match p → r ≡ root_of (pattern_of p) → Begins (strategy_of s) r 1
+pub match_begins : (s : CoreStrategy) (p : CorePattern) (r : Root) → s ≡ strategies.Match p →
+    r ≡ root_of (pattern_of p) → Begins (strategy_of s) r 1
 match_begins s p r is asked = begins_as (ap strategy_of is ∙ reads_match p) asked refl begins_match
 
-pub sequence_begins : (s a' : CoreStrategy) (a b : Box CoreStrategy Global) (more : Vec CoreStrategy Global) (r : Root) (n m : ℕ) → s ≡ strategies.Sequence a b more → a' ≡ a.value →
+pub sequence_begins : (s a' : CoreStrategy) (a b : Box CoreStrategy Global) (more : Vec CoreStrategy Global) (r : Root)
+    (n m : ℕ) → s ≡ strategies.Sequence a b more → a' ≡ a.value →
     Begins (strategy_of a') r n → m ≡ suc n → Begins (strategy_of s) r m
 sequence_begins s a' a b more r n m is first h nodes =
-    begins_as (ap strategy_of is ∙ reads_sequence a b more) refl nodes (begins_seq (begins_as (ap strategy_of (sym first)) refl refl h))
+    begins_as (ap strategy_of is ∙
+    reads_sequence a b more) refl nodes (begins_seq (begins_as (ap strategy_of (sym first)) refl refl h))
 
-pub scope_begins : (s a' : CoreStrategy) (k : ℕ) (a : Box CoreStrategy Global) (r : Root) (n m : ℕ) → s ≡ strategies.Scope k a → a' ≡ a.value →
+pub scope_begins : (s a' : CoreStrategy) (k : ℕ) (a : Box CoreStrategy Global) (r : Root) (n m : ℕ) →
+    s ≡ strategies.Scope k a → a' ≡ a.value →
     Begins (strategy_of a') r n → m ≡ suc n → Begins (strategy_of s) r m
 scope_begins s a' k a r n m is body h nodes =
-    begins_as (ap strategy_of is ∙ reads_scope k a) refl nodes (begins_scope (begins_as (ap strategy_of (sym body)) refl refl h))
+    begins_as (ap strategy_of is ∙
+    reads_scope k a) refl nodes (begins_scope (begins_as (ap strategy_of (sym body)) refl refl h))
 
 abbrev MayBegin : ResolvedStrategy → Type 0
 MayBegin id = ⊥
@@ -91,17 +107,25 @@ in_scope none (begins_scope h) = none.never _ _ h
 not_as : {s t : ResolvedStrategy} → t ≡ s → BeginsNot s → BeginsNot t
 not_as is h = subst BeginsNot (sym is) h
 
-pub sequence_not : (s a' : CoreStrategy) (a b : Box CoreStrategy Global) (more : Vec CoreStrategy Global) → s ≡ strategies.Sequence a b more → a' ≡ a.value → BeginsNot (strategy_of a') → BeginsNot (strategy_of s)
+pub sequence_not : (s a' : CoreStrategy) (a b : Box CoreStrategy Global) (more : Vec CoreStrategy Global) →
+    s ≡ strategies.Sequence a b more → a' ≡ a.value → BeginsNot (strategy_of a') → BeginsNot (strategy_of s)
 sequence_not s a' a b more is first h =
-    not_as (ap strategy_of is ∙ reads_sequence a b more) (record { never = λ r n begins. in_sequence (not_as (ap strategy_of (sym first)) h) begins })
+    not_as (ap strategy_of is ∙
+    reads_sequence a b more)
+    (record { never = λ r n begins. in_sequence (not_as (ap strategy_of (sym first)) h) begins })
 
-pub scope_not : (s a' : CoreStrategy) (k : ℕ) (a : Box CoreStrategy Global) → s ≡ strategies.Scope k a → a' ≡ a.value → BeginsNot (strategy_of a') → BeginsNot (strategy_of s)
+pub scope_not : (s a' : CoreStrategy) (k : ℕ) (a : Box CoreStrategy Global) → s ≡ strategies.Scope k a → a' ≡ a.value →
+    BeginsNot (strategy_of a') → BeginsNot (strategy_of s)
 scope_not s a' k a is body h =
-    not_as (ap strategy_of is ∙ reads_scope k a) (record { never = λ r n begins. in_scope (not_as (ap strategy_of (sym body)) h) begins })
+    not_as (ap strategy_of is ∙
+    reads_scope k a) (record { never = λ r n begins. in_scope (not_as (ap strategy_of (sym body)) h) begins })
 
-opened_not : (d : CoreStrategy) → ((p : CorePattern) → d ≡ strategies.Match p → ⊥) → ((a b : Box CoreStrategy Global) (more : Vec CoreStrategy Global) → d ≡ strategies.Sequence a b more → ⊥) →
-    ((k : ℕ) (a : Box CoreStrategy Global) → d ≡ strategies.Scope k a → ⊥) → (f : forms.CoreStrategy-F CoreStrategy CoreArm CoreDef) → roll-CoreStrategy f ≡ d →
-    MayBegin (strategy_step (map-CoreStrategy CoreStrategy CoreArm CoreDef (Strategy Coordinate ℕ) Arm Def strategy_of arm_of def_of f)) → ⊥
+opened_not : (d : CoreStrategy) → ((p : CorePattern) → d ≡ strategies.Match p → ⊥) →
+    ((a b : Box CoreStrategy Global) (more : Vec CoreStrategy Global) → d ≡ strategies.Sequence a b more → ⊥) →
+    ((k : ℕ) (a : Box CoreStrategy Global) → d ≡ strategies.Scope k a → ⊥) →
+    (f : forms.CoreStrategy-F CoreStrategy CoreArm CoreDef) → roll-CoreStrategy f ≡ d →
+    MayBegin (strategy_step (map-CoreStrategy CoreStrategy CoreArm CoreDef (Strategy Coordinate ℕ)
+    Arm Def strategy_of arm_of def_of f)) → ⊥
 opened_not d m q s forms.Id is h = h
 opened_not d m q s forms.Fail is h = h
 opened_not d m q s (forms.Sequence a b more) is h = q a b more (sym is ∙ strategies.rolls-Sequence a b more)
@@ -116,8 +140,11 @@ opened_not d m q s (forms.LetIn ds a) is h = h
 opened_not d m q s (forms.Call x ss ps) is h = h
 opened_not d m q s (forms.Primitive f ps) is h = h
 
-pub other_not : (d : CoreStrategy) → ((p : CorePattern) → d ≡ strategies.Match p → ⊥) → ((a b : Box CoreStrategy Global) (more : Vec CoreStrategy Global) → d ≡ strategies.Sequence a b more → ⊥) →
+pub other_not : (d : CoreStrategy) → ((p : CorePattern) → d ≡ strategies.Match p → ⊥) →
+    ((a b : Box CoreStrategy Global) (more : Vec CoreStrategy Global) → d ≡ strategies.Sequence a b more → ⊥) →
     ((k : ℕ) (a : Box CoreStrategy Global) → d ≡ strategies.Scope k a → ⊥) → BeginsNot (strategy_of d)
 other_not d m q s =
     not_as (fold_out-CoreStrategy (Strategy Coordinate ℕ) Arm Def strategy_step arm_step def_step d)
-    (record { never = λ r n begins. opened_not d m q s (out-CoreStrategy d) (roll-out-CoreStrategy d) (may_begin begins) })
+    (record {
+      never = λ r n begins. opened_not d m q s (out-CoreStrategy d) (roll-out-CoreStrategy d) (may_begin begins);
+    })

@@ -25,7 +25,11 @@ nothing_new : {A : List ℕ} → Keeps A A
 nothing_new = record { long = omega arith; same = λ l h. refl }
 
 pub then_keeps : {A B D : List ℕ} → Keeps A B → Keeps B D → Keeps A D
-then_keeps one two = record { long = omega (arith, one.long, two.long); same = λ l h. two.same l (omega (arith, h, one.long)) ∙ one.same l h }
+then_keeps one two = record {
+  long = omega (arith, one.long, two.long);
+  same =
+      λ l h. two.same l (omega (arith, h, one.long)) ∙ one.same l h;
+}
 
 got_front : (xs ys : List ℕ) (l : ℕ) → l < length xs → slice_get (xs ++ ys) l ≡ slice_get xs l
 got_front [] ys l h = absurd (omega (arith, h))
@@ -52,12 +56,20 @@ set_here (x ∷ xs) zero v h = refl
 set_here (x ∷ xs) (suc i) v h = set_here xs i v (omega (arith, h))
 
 -- labels more, of which these are set
-all_but_new : {A B : List ℕ} {label : ℕ} (k : ℕ) → label ≡ length A → KeepsBut label k (A ++ replicate k 1) B → Keeps A B
+all_but_new : {A B : List ℕ} {label : ℕ} (k : ℕ) → label ≡ length A → KeepsBut label k (A ++ replicate k 1) B →
+    Keeps A B
 all_but_new {A} {B} {label} k is h =
-    let more : length (A ++ replicate k 1) ≡ length A + k = length-append A (replicate k 1) ∙ ap (λ n. length A + n) (length-replicate k 1) in
-    record { long = omega (arith, more, h.long); same = λ l below. h.same l (omega (arith, more, below)) (inl (omega (arith, is, below))) ∙ got_front A (replicate k 1) l below }
+    let more : length (A ++ replicate k 1) ≡ length A + k =
+    length-append A (replicate k 1) ∙ ap (λ n. length A + n) (length-replicate k 1) in
+    record {
+      long = omega (arith, more, h.long);
+      same =
+          λ l below. h.same l (omega (arith, more, below)) (inl (omega (arith, is, below))) ∙
+          got_front A (replicate k 1) l below;
+    }
 
-one_more : {A B D : List ℕ} (label count v : ℕ) → Keeps A B → KeepsBut (suc label) count (set B label v) D → KeepsBut label (suc count) A D
+one_more : {A B D : List ℕ} (label count v : ℕ) → Keeps A B → KeepsBut (suc label) count (set B label v) D →
+    KeepsBut label (suc count) A D
 one_more {A} {B} {D} label count v one others =
     let kept = set_long B label v in
     record { long = omega (arith, one.long, kept, others.long); same = λ l below apart. go l below apart }
@@ -65,10 +77,12 @@ one_more {A} {B} {D} label count v one others =
     go : (l : ℕ) → l < length A → (l < label) ⊎ (label + suc count ≤ l) → slice_get D l ≡ slice_get A l
     go l below (inl h) =
         let kept = set_long B label v in
-        others.same l (omega (arith, below, one.long, kept)) (inl (omega (arith, h))) ∙ set_other B label v l (inl h) ∙ one.same l below
+        others.same l (omega (arith, below, one.long, kept)) (inl (omega (arith, h))) ∙ set_other B label v l (inl h) ∙
+        one.same l below
     go l below (inr h) =
         let kept = set_long B label v in
-        others.same l (omega (arith, below, one.long, kept)) (inr (omega (arith, h))) ∙ set_other B label v l (inr (omega (arith, h))) ∙ one.same l below
+        others.same l (omega (arith, below, one.long, kept)) (inr (omega (arith, h))) ∙
+        set_other B label v l (inr (omega (arith, h))) ∙ one.same l below
 
 -- one label more, which is set
 one_new : (A B : List ℕ) (v : ℕ) → Keeps (A ++ replicate 1 1) B → Keeps A (set B (length A) v)
@@ -77,11 +91,13 @@ one_new A B v h =
     let size = set_long B (length A) v in
     record {
       long = omega (arith, more, size, h.long);
-      same = λ l below. set_other B (length A) v l (inl below) ∙ h.same l (omega (arith, more, below)) ∙ got_front A (replicate 1 1) l below;
+      same = λ l below. set_other B (length A) v l (inl below) ∙ h.same l (omega (arith, more, below)) ∙
+          got_front A (replicate 1 1) l below;
     }
 
 mutual
-  pub kept : {w : Option ℕ} {S : Site} {x : ℕ} {s : ResolvedStrategy} {o o1 : Emitted} → Emits w S x s o o1 → Keeps o.starts o1.starts
+  pub kept : {w : Option ℕ} {S : Site} {x : ℕ} {s : ResolvedStrategy} {o o1 : Emitted} → Emits w S x s o o1 →
+      Keeps o.starts o1.starts
   kept emits_id = nothing_new
   kept emits_fail = nothing_new
   kept (emits_seq a b) = then_keeps (kept a) (kept b)
@@ -100,37 +116,47 @@ mutual
   kept (emits_known given a) = kept a
   kept (emits_open at body given a) = kept a
   kept (emits_argument none given a) = kept a
-  kept (emits_specialization {o = o} {o1 = o1} at body given a) = one_new o.starts o1.starts (length o1.code) (kept_body a)
+  kept (emits_specialization {o = o} {o1 = o1} at body given a) =
+      one_new o.starts o1.starts (length o1.code) (kept_body a)
   kept (emits_same n label at given is) = nothing_new
   kept (emits_parameter none) = nothing_new
   kept emits_primitive = nothing_new
 
-  pub kept_call : {S : Site} {x : ℕ} {y : Coordinate} {ss : ResolvedStrategies} {ps : Patterns Coordinate} {o o1 : Emitted} → EmitsCall S x y ss ps o o1 → Keeps o.starts o1.starts
+  pub kept_call : {S : Site} {x : ℕ} {y : Coordinate} {ss : ResolvedStrategies} {ps : Patterns Coordinate}
+      {o o1 : Emitted} → EmitsCall S x y ss ps o o1 → Keeps o.starts o1.starts
   kept_call (calls has entry a) = kept_arguments a
 
-  pub kept_chain : {w : Option ℕ} {S : Site} {last : ℕ} {bs : List Body} {s : ResolvedStrategy} {o o1 : Emitted} → EmitsChain w S s bs last o o1 → Keeps o.starts o1.starts
+  pub kept_chain : {w : Option ℕ} {S : Site} {last : ℕ} {bs : List Body} {s : ResolvedStrategy} {o o1 : Emitted} →
+      EmitsChain w S s bs last o o1 → Keeps o.starts o1.starts
   kept_chain (chain_end a) = kept a
   kept_chain (chain_more asks rooted a b) = then_keeps (kept_chain a) (kept b)
 
-  pub kept_arm : {w : Option ℕ} {S : Site} {x to : ℕ} {s1 s2 : ResolvedStrategy} {o o1 : Emitted} → EmitsArm w S x s1 s2 to o o1 → Keeps o.starts o1.starts
+  pub kept_arm : {w : Option ℕ} {S : Site} {x to : ℕ} {s1 s2 : ResolvedStrategy} {o o1 : Emitted} →
+      EmitsArm w S x s1 s2 to o o1 → Keeps o.starts o1.starts
   kept_arm (emits_arm a b) = then_keeps (kept_then a) (kept b)
 
-  pub kept_then : {w : Option ℕ} {S : Site} {to : ℕ} {s : ResolvedStrategy} {o o1 : Emitted} → EmitsThen w S s to o o1 → Keeps o.starts o1.starts
+  pub kept_then : {w : Option ℕ} {S : Site} {to : ℕ} {s : ResolvedStrategy} {o o1 : Emitted} → EmitsThen w S s to o o1 →
+      Keeps o.starts o1.starts
   kept_then then_id = nothing_new
   kept_then (then_code a) = kept a
 
-  pub kept_definitions : {S : Site} {label to : ℕ} {ds : ResolvedDefinitions} {o o1 : Emitted} → label ≡ length o.starts → EmitsDefinitions S label ds to o o1 → Keeps o.starts o1.starts
+  pub kept_definitions : {S : Site} {label to : ℕ} {ds : ResolvedDefinitions} {o o1 : Emitted} →
+      label ≡ length o.starts → EmitsDefinitions S label ds to o o1 → Keeps o.starts o1.starts
   kept_definitions is (emits_definitions {ds = ds} a) = all_but_new (count_of ds) is (kept_bodies a)
 
-  pub kept_bodies : {S : Site} {label : ℕ} {ds : ResolvedDefinitions} {o o1 : Emitted} → EmitsBodies S label ds o o1 → KeepsBut label (count_of ds) o.starts o1.starts
+  pub kept_bodies : {S : Site} {label : ℕ} {ds : ResolvedDefinitions} {o o1 : Emitted} → EmitsBodies S label ds o o1 →
+      KeepsBut label (count_of ds) o.starts o1.starts
   kept_bodies emits_no_bodies = record { long = omega arith; same = λ l h apart. refl }
-  kept_bodies (emits_more_bodies {label = label} {ds = ds} a b) = one_more label (count_of ds) _ (kept_body a) (kept_bodies b)
+  kept_bodies (emits_more_bodies {label = label} {ds = ds} a b) =
+      one_more label (count_of ds) _ (kept_body a) (kept_bodies b)
 
-  pub kept_body : {S : Site} {k : ℕ} {s : ResolvedStrategy} {o o1 : Emitted} → EmitsBody S k s o o1 → Keeps o.starts o1.starts
+  pub kept_body : {S : Site} {k : ℕ} {s : ResolvedStrategy} {o o1 : Emitted} → EmitsBody S k s o o1 →
+      Keeps o.starts o1.starts
   kept_body (emits_body none a) = kept a
   kept_body (emits_scope_body a) = kept a
 
-  pub kept_arguments : {S : Site} {ss : ResolvedStrategies} {us : List Argument} {o o1 : Emitted} → EmitsArguments S ss o o1 us → Keeps o.starts o1.starts
+  pub kept_arguments : {S : Site} {ss : ResolvedStrategies} {us : List Argument} {o o1 : Emitted} →
+      EmitsArguments S ss o o1 us → Keeps o.starts o1.starts
   kept_arguments emits_no_arguments = nothing_new
   kept_arguments (emits_code_argument own a b) = then_keeps (kept a) (kept_arguments b)
   kept_arguments (emits_parameter_argument none b) = kept_arguments b

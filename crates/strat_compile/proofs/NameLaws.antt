@@ -14,9 +14,11 @@ first_time all i once h (k, below, is) =
     let place : k ≡ i = once k i within h (sym same ∙ sym there ∙ is) in
     absurd (omega arith)
 
-pub inserted_next : (all : List NameKey) (i : ℕ) (key : NameKey) (old new : List NameKey) → EachOnce all → i < length all → key ≡ key_at all i → old ≡ take i all →
+pub inserted_next : (all : List NameKey) (i : ℕ) (key : NameKey) (old new : List NameKey) → EachOnce all →
+    i < length all → key ≡ key_at all i → old ≡ take i all →
     IsInserted old key new → new ≡ take (i + 1) all
 inserted_next all i key old new once h is so_far (inl there) =
-    absurd (first_time all i once h (subst (λ x. Contains (take i all) x) is (subst (λ xs. Contains xs key) so_far there.0)))
+    absurd (first_time all i once h
+    (subst (λ x. Contains (take i all) x) is (subst (λ xs. Contains xs key) so_far there.0)))
 inserted_next all i key old new once h is so_far (inr added) =
     added.1 ∙ ap₂ (λ xs x. xs ++ x ∷ []) so_far is ∙ sym (take_more all i ([], 0) h)

@@ -21,7 +21,8 @@ abbrev mutual
   IsLabelled top = Unit {0}
   IsLabelled (framed m k C) = IsLabelled C
   IsLabelled (within k offset C) = IsLabelled C
-  IsLabelled (defining ds es C) = ((label : ℕ) × (es ≡ labelled label ds)) × DefinitionsInRange (layer_of_definitions ds (program_layers C)) ds × IsLabelled C
+  IsLabelled (defining ds es C) = ((label : ℕ) × (es ≡ labelled label ds)) ×
+      DefinitionsInRange (layer_of_definitions ds (program_layers C)) ds × IsLabelled C
   IsLabelled (known k ks C) = AreLabelled ks × IsLabelled C
   IsLabelled (hidden ks C) = AreLabelled ks × IsLabelled C
   IsLabelled (open_call ks C) = AreLabelled ks × IsLabelled C
@@ -56,13 +57,18 @@ labelled_unframed (hidden ks C) h = (h.0, labelled_unframed C h.1)
 labelled_unframed (open_call ks C) h = (tt, labelled_unframed C h.1)
 
 -- what a parameter is known to be is in range
-labelled_is_known : (ks : Knowns) (i : ℕ) (s : ResolvedStrategy) (D : Context) → IsKnown ks i s D → AreLabelled ks → StrategyInRange (program_layers D) s × IsLabelled D
+labelled_is_known : (ks : Knowns) (i : ℕ) (s : ResolvedStrategy) (D : Context) → IsKnown ks i s D → AreLabelled ks →
+    StrategyInRange (program_layers D) s × IsLabelled D
 labelled_is_known no_knowns i s D h whole = elim h [ ]
-labelled_is_known (more_knowns other E ks) zero s D h whole =
-    (subst (λ F. StrategyInRange (program_layers F) s) h.1 (subst (λ r. StrategyInRange (program_layers E) r) h.0 whole.0), subst IsLabelled h.1 whole.1)
+labelled_is_known (more_knowns other E ks) zero s D h whole = (
+  subst (λ F. StrategyInRange (program_layers F) s)
+      h.1 (subst (λ r. StrategyInRange (program_layers E) r) h.0 whole.0),
+  subst IsLabelled h.1 whole.1,
+)
 labelled_is_known (more_knowns other E ks) (suc i) s D h whole = labelled_is_known ks i s D h whole.2
 
-pub labelled_knows : (C : Context) (i : ℕ) (s : ResolvedStrategy) (D : Context) → KnowsParameter C i s D → IsLabelled C → StrategyInRange (program_layers D) s × IsLabelled D
+pub labelled_knows : (C : Context) (i : ℕ) (s : ResolvedStrategy) (D : Context) → KnowsParameter C i s D →
+    IsLabelled C → StrategyInRange (program_layers D) s × IsLabelled D
 labelled_knows top i s D h whole = elim h [ ]
 labelled_knows (framed m k C) i s D h whole = elim h [ ]
 labelled_knows (within k offset C) i s D h whole = elim h [ ]
@@ -71,7 +77,8 @@ labelled_knows (known k ks C) i s D h whole = labelled_is_known ks i s D h whole
 labelled_knows (hidden ks C) i s D h whole = labelled_is_known ks i s D h whole.0
 labelled_knows (open_call ks C) i s D h whole = elim h [ ]
 
-pub labelled_knows_open : (C : Context) (i : ℕ) (s : ResolvedStrategy) (D : Context) → KnowsOpen C i s D → IsLabelled C → StrategyInRange (program_layers D) s × IsLabelled D
+pub labelled_knows_open : (C : Context) (i : ℕ) (s : ResolvedStrategy) (D : Context) → KnowsOpen C i s D →
+    IsLabelled C → StrategyInRange (program_layers D) s × IsLabelled D
 labelled_knows_open top i s D h whole = elim h [ ]
 labelled_knows_open (framed m k C) i s D h whole = elim h [ ]
 labelled_knows_open (within k offset C) i s D h whole = elim h [ ]
@@ -81,24 +88,29 @@ labelled_knows_open (hidden ks C) i s D h whole = elim h [ ]
 labelled_knows_open (open_call ks C) i s D h whole = labelled_is_known ks i s D h whole.0
 
 -- the arguments of a call that are given are in range, and as many as the call has
-pub labelled_given : {S T : Site} {ss : ResolvedStrategies} {ks : KnownArguments} → AreGivenAt S T ss ks → IsLabelled (context S) → IsLabelled (context T) → AreLabelled (knowns ks)
+pub labelled_given : {S T : Site} {ss : ResolvedStrategies} {ks : KnownArguments} → AreGivenAt S T ss ks →
+    IsLabelled (context S) → IsLabelled (context T) → AreLabelled (knowns ks)
 labelled_given none_given h inside = tt
 labelled_given (own_given own range rest) h inside = (range, inside, labelled_given rest h inside)
 labelled_given {S} (parameter_given {R = R} {y = y} {s = s} given rest) h inside =
-    let found = labelled_knows (outer (context S) y.layers_up) y.slot s (context R) (given_outside S y.layers_up y.slot s R given) (labelled_outer (context S) y.layers_up h) in
+    let found = labelled_knows (outer (context S) y.layers_up) y.slot s (context R)
+    (given_outside S y.layers_up y.slot s R given) (labelled_outer (context S) y.layers_up h) in
     (found.0, found.1, labelled_given rest h inside)
 
-pub as_many_given : {S T : Site} {ss : ResolvedStrategies} {ks : KnownArguments} → AreGivenAt S T ss ks → strategies_count ss ≡ number_of_knowns (knowns ks)
+pub as_many_given : {S T : Site} {ss : ResolvedStrategies} {ks : KnownArguments} → AreGivenAt S T ss ks →
+    strategies_count ss ≡ number_of_knowns (knowns ks)
 as_many_given none_given = refl
 as_many_given (own_given own range rest) = let others = as_many_given rest in omega (arith, others)
 as_many_given (parameter_given given rest) = let others = as_many_given rest in omega (arith, others)
 
 -- the body of a definition that is called
-pub body_as_called : {ds : ResolvedDefinitions} {i m k : ℕ} {s : ResolvedStrategy} (a b : ℕ) → IsBody ds i m k s → IsDefinition ds i a b → (a ≡ m) × (b ≡ k)
+pub body_as_called : {ds : ResolvedDefinitions} {i m k : ℕ} {s : ResolvedStrategy} (a b : ℕ) → IsBody ds i m k s →
+    IsDefinition ds i a b → (a ≡ m) × (b ≡ k)
 body_as_called a b first_body called = called
 body_as_called a b (later_body body) called = body_as_called a b body called
 
-pub body_in_range : {ds : ResolvedDefinitions} {i m k : ℕ} {s : ResolvedStrategy} (L : Layers) → IsBody ds i m k s → DefinitionsInRange L ds → StrategyInRange (layer_of m k L) s
+pub body_in_range : {ds : ResolvedDefinitions} {i m k : ℕ} {s : ResolvedStrategy} (L : Layers) → IsBody ds i m k s →
+    DefinitionsInRange L ds → StrategyInRange (layer_of m k L) s
 body_in_range L first_body range = range.0
 body_in_range L (later_body body) range = body_in_range L body range.1
 
@@ -113,7 +125,8 @@ outer_layers (hidden ks C) (suc i) = outer_layers C i
 outer_layers (open_call ks C) (suc i) = outer_layers C i
 
 -- what is called where there are no definitions and nothing is known is a strategy parameter
-known_below : (ks : Knowns) (i : ℕ) → i < number_of_knowns ks → (s : ResolvedStrategy) × (D : Context) × IsKnown ks i s D
+known_below : (ks : Knowns) (i : ℕ) → i < number_of_knowns ks → (s : ResolvedStrategy) × (D : Context) ×
+    IsKnown ks i s D
 known_below no_knowns i h = absurd (omega (arith, h))
 known_below (more_knowns s D ks) zero h = (s, D, (refl, refl))
 known_below (more_knowns s D ks) (suc i) h = known_below ks i (omega (arith, h))
@@ -128,7 +141,8 @@ is_parameter (hidden ks D) i m k none h = let found = known_below ks i h.0 in ab
 is_parameter (open_call ks D) i m k none h = let found = known_below ks i h.0 in absurd (none.2 found.0 found.1 found.2)
 
 -- patterns look at variables alone, and these are the same whether strategy parameters are known or not
-variable_kept : (C : Context) (h i : ℕ) → IsVariable (outside (program_layers C) h) i → IsVariable (outside (layers_of C) h) i
+variable_kept : (C : Context) (h i : ℕ) → IsVariable (outside (program_layers C) h) i →
+    IsVariable (outside (layers_of C) h) i
 variable_kept top zero i r = r
 variable_kept top (suc h) i r = r
 variable_kept (framed m k C) zero i r = r
@@ -145,7 +159,8 @@ variable_kept (open_call ks C) zero i r = r
 variable_kept (open_call ks C) (suc h) i r = variable_kept C h i r
 
 mutual
-  pub pattern_kept : (C : Context) (p : Pattern Coordinate) → PatternInRange (program_layers C) p → PatternInRange (layers_of C) p
+  pub pattern_kept : (C : Context) (p : Pattern Coordinate) → PatternInRange (program_layers C) p →
+      PatternInRange (layers_of C) p
   pattern_kept C anything r = r
   pattern_kept C (variable y) r = variable_kept C y.layers_up y.slot r
   pattern_kept C (alias y p) r = (variable_kept C y.layers_up y.slot r.0, pattern_kept C p r.1)
@@ -155,11 +170,13 @@ mutual
   pattern_kept C (like p y) r = (pattern_kept C p r.0, variable_kept C y.layers_up y.slot r.1)
   pattern_kept C (annotated p qs) r = (pattern_kept C p r.0, patterns_kept C qs r.1)
 
-  pub patterns_kept : (C : Context) (ps : Patterns Coordinate) → PatternsInRange (program_layers C) ps → PatternsInRange (layers_of C) ps
+  pub patterns_kept : (C : Context) (ps : Patterns Coordinate) → PatternsInRange (program_layers C) ps →
+      PatternsInRange (layers_of C) ps
   patterns_kept C no_patterns r = r
   patterns_kept C (more_patterns p ps) r = (pattern_kept C p r.0, patterns_kept C ps r.1)
 
-  elements_kept : (C : Context) (ps : Elements Coordinate) → ElementsInRange (program_layers C) ps → ElementsInRange (layers_of C) ps
+  elements_kept : (C : Context) (ps : Elements Coordinate) → ElementsInRange (program_layers C) ps →
+      ElementsInRange (layers_of C) ps
   elements_kept C no_elements r = r
   elements_kept C (the_rest p) r = pattern_kept C p r
   elements_kept C (more_elements p ps) r = (pattern_kept C p r.0, elements_kept C ps r.1)
@@ -183,7 +200,8 @@ module _ (n : ℕ) (A : List ℕ) where
     placed_knowns (more_knowns s D ks) = more_knowns s (placed D) (placed_knowns ks)
 
   abbrev pub placed_specialization : Specialization → Specialization
-  placed_specialization (specialization_at C slot ks label room) = specialization_at (placed C) slot (placed_knowns ks) (address_if n (slice_get A label)) room
+  placed_specialization (specialization_at C slot ks label room) =
+      specialization_at (placed C) slot (placed_knowns ks) (address_if n (slice_get A label)) room
 
   pub placed_layers : (C : Context) → layers_of (placed C) ≡ layers_of C
   placed_layers top = refl
@@ -225,7 +243,8 @@ module _ (n : ℕ) (A : List ℕ) where
 
   placed_coordinate : (C : Context) (y : Coordinate) → by_frames (placed C) y ≡ by_frames C y
   placed_coordinate C y =
-      ap₂ (λ h i. record { layers_up = h; slot = i }) (placed_frames C y.layers_up) (ap (λ D. slot_in D y.slot) (placed_outer C y.layers_up) ∙ placed_slot (outer C y.layers_up) y.slot)
+      ap₂ (λ h i. record { layers_up = h; slot = i }) (placed_frames C y.layers_up)
+      (ap (λ D. slot_in D y.slot) (placed_outer C y.layers_up) ∙ placed_slot (outer C y.layers_up) y.slot)
 
   pub placed_by_frames : (C : Context) → by_frames (placed C) ≡ by_frames C
   placed_by_frames C = λ i y. placed_coordinate C y i
@@ -239,11 +258,14 @@ module _ (n : ℕ) (A : List ℕ) where
   placed_parameter_here (hidden ks D) i h = h
   placed_parameter_here (open_call ks D) i h = h
 
-  pub placed_parameter : (C : Context) (y : Coordinate) (m k : ℕ) → IsUnknown (outer C y.layers_up) y.slot → IsCallee (outside (program_layers C) y.layers_up) y.slot m k →
+  pub placed_parameter : (C : Context) (y : Coordinate) (m k : ℕ) → IsUnknown (outer C y.layers_up) y.slot →
+      IsCallee (outside (program_layers C) y.layers_up) y.slot m k →
       HasParameter (outer (placed C) y.layers_up) y.slot
   placed_parameter C y m k none h =
       subst (λ D. HasParameter D y.slot) (sym (placed_outer C y.layers_up))
-      (placed_parameter_here (outer C y.layers_up) y.slot (is_parameter (outer C y.layers_up) y.slot m k none (subst (λ L. IsCallee L y.slot m k) (outer_layers C y.layers_up) h)))
+      (placed_parameter_here (outer C y.layers_up)
+      y.slot (is_parameter (outer C y.layers_up)
+      y.slot m k none (subst (λ L. IsCallee L y.slot m k) (outer_layers C y.layers_up) h)))
 
   placed_definitions : (D : Context) → HasDefinitions D → HasDefinitions (placed D)
   placed_definitions top h = h
@@ -266,7 +288,8 @@ module _ (n : ℕ) (A : List ℕ) where
   placed_own_code C (one s) h = tt
   placed_own_code C (some s) h = tt
   placed_own_code C (with_definitions ds s) h = tt
-  placed_own_code C (call y ss ps) h = subst HasDefinitions (sym (placed_outer C y.layers_up)) (placed_definitions (outer C y.layers_up) h)
+  placed_own_code C (call y ss ps) h =
+      subst HasDefinitions (sym (placed_outer C y.layers_up)) (placed_definitions (outer C y.layers_up) h)
   placed_own_code C (primitive f ps) h = tt
 
   -- what a strategy asks for, it asks for with addresses, too
@@ -282,12 +305,14 @@ module _ (n : ℕ) (A : List ℕ) where
   placed_hides (hides_hidden h) = hides_hidden (placed_hides h)
   placed_hides (keeps_hidden h) = keeps_hidden (placed_hides h)
 
-  placed_is_known : (ks : Knowns) (i : ℕ) (s : ResolvedStrategy) (D : Context) → IsKnown ks i s D → IsKnown (placed_knowns ks) i s (placed D)
+  placed_is_known : (ks : Knowns) (i : ℕ) (s : ResolvedStrategy) (D : Context) → IsKnown ks i s D →
+      IsKnown (placed_knowns ks) i s (placed D)
   placed_is_known no_knowns i s D h = h
   placed_is_known (more_knowns other E ks) zero s D h = (h.0, ap placed h.1)
   placed_is_known (more_knowns other E ks) (suc i) s D h = placed_is_known ks i s D h
 
-  placed_knows_here : (C : Context) (i : ℕ) (s : ResolvedStrategy) (D : Context) → KnowsParameter C i s D → KnowsParameter (placed C) i s (placed D)
+  placed_knows_here : (C : Context) (i : ℕ) (s : ResolvedStrategy) (D : Context) → KnowsParameter C i s D →
+      KnowsParameter (placed C) i s (placed D)
   placed_knows_here top i s D h = h
   placed_knows_here (framed m k C) i s D h = h
   placed_knows_here (within k offset C) i s D h = h
@@ -296,7 +321,8 @@ module _ (n : ℕ) (A : List ℕ) where
   placed_knows_here (hidden ks C) i s D h = placed_is_known ks i s D h
   placed_knows_here (open_call ks C) i s D h = h
 
-  placed_open_here : (C : Context) (i : ℕ) (s : ResolvedStrategy) (D : Context) → KnowsOpen C i s D → KnowsOpen (placed C) i s (placed D)
+  placed_open_here : (C : Context) (i : ℕ) (s : ResolvedStrategy) (D : Context) → KnowsOpen C i s D →
+      KnowsOpen (placed C) i s (placed D)
   placed_open_here top i s D h = h
   placed_open_here (framed m k C) i s D h = h
   placed_open_here (within k offset C) i s D h = h
@@ -305,23 +331,36 @@ module _ (n : ℕ) (A : List ℕ) where
   placed_open_here (hidden ks C) i s D h = h
   placed_open_here (open_call ks C) i s D h = placed_is_known ks i s D h
 
-  pub placed_knows : (C : Context) (y : Coordinate) (s : ResolvedStrategy) (D : Context) → KnowsParameter (outer C y.layers_up) y.slot s D → KnowsParameter (outer (placed C) y.layers_up) y.slot s (placed D)
-  placed_knows C y s D h = subst (λ E. KnowsParameter E y.slot s (placed D)) (sym (placed_outer C y.layers_up)) (placed_knows_here (outer C y.layers_up) y.slot s D h)
+  pub placed_knows : (C : Context) (y : Coordinate) (s : ResolvedStrategy) (D : Context) →
+      KnowsParameter (outer C y.layers_up) y.slot s D →
+      KnowsParameter (outer (placed C) y.layers_up) y.slot s (placed D)
+  placed_knows C y s D h = subst (λ E. KnowsParameter E y.slot s (placed D)) (sym (placed_outer C y.layers_up))
+      (placed_knows_here (outer C y.layers_up) y.slot s D h)
 
-  pub placed_knows_open : (C : Context) (y : Coordinate) (s : ResolvedStrategy) (D : Context) → KnowsOpen (outer C y.layers_up) y.slot s D → KnowsOpen (outer (placed C) y.layers_up) y.slot s (placed D)
-  placed_knows_open C y s D h = subst (λ E. KnowsOpen E y.slot s (placed D)) (sym (placed_outer C y.layers_up)) (placed_open_here (outer C y.layers_up) y.slot s D h)
+  pub placed_knows_open : (C : Context) (y : Coordinate) (s : ResolvedStrategy) (D : Context) →
+      KnowsOpen (outer C y.layers_up) y.slot s D → KnowsOpen (outer (placed C) y.layers_up) y.slot s (placed D)
+  placed_knows_open C y s D h =
+      subst (λ E. KnowsOpen E y.slot s (placed D)) (sym (placed_outer C y.layers_up))
+      (placed_open_here (outer C y.layers_up) y.slot s D h)
 
-  pub placed_are_known : {C : Context} {ss : ResolvedStrategies} {ks : Knowns} → AreKnown C ss ks → AreKnown (placed C) ss (placed_knowns ks)
+  pub placed_are_known : {C : Context} {ss : ResolvedStrategies} {ks : Knowns} → AreKnown C ss ks →
+      AreKnown (placed C) ss (placed_knowns ks)
   placed_are_known none_known = none_known
-  placed_are_known (own_known {C = C} {s = s} own h rest) = own_known (placed_own_code C s own) (placed_hides h) (placed_are_known rest)
-  placed_are_known (parameter_known {C = C} {D = D} {y = y} {s = s} h rest) = parameter_known (placed_knows C y s D h) (placed_are_known rest)
+  placed_are_known (own_known {C = C} {s = s} own h rest) =
+      own_known (placed_own_code C s own) (placed_hides h) (placed_are_known rest)
+  placed_are_known (parameter_known {C = C} {D = D} {y = y} {s = s} h rest) =
+      parameter_known (placed_knows C y s D h) (placed_are_known rest)
 
-  pub placed_are_known_open : {C : Context} {ss : ResolvedStrategies} {ks : Knowns} → AreKnownOpen C ss ks → AreKnownOpen (placed C) ss (placed_knowns ks)
+  pub placed_are_known_open : {C : Context} {ss : ResolvedStrategies} {ks : Knowns} → AreKnownOpen C ss ks →
+      AreKnownOpen (placed C) ss (placed_knowns ks)
   placed_are_known_open none_open = none_open
-  placed_are_known_open (own_open {C = C} {s = s} own rest) = own_open (placed_own_code C s own) (placed_are_known_open rest)
-  placed_are_known_open (parameter_open {C = C} {D = D} {y = y} {s = s} h rest) = parameter_open (placed_knows C y s D h) (placed_are_known_open rest)
+  placed_are_known_open (own_open {C = C} {s = s} own rest) =
+      own_open (placed_own_code C s own) (placed_are_known_open rest)
+  placed_are_known_open (parameter_open {C = C} {D = D} {y = y} {s = s} h rest) =
+      parameter_open (placed_knows C y s D h) (placed_are_known_open rest)
 
-  pub placed_asks : {C : Context} {s : ResolvedStrategy} {rs : List Root} {n : ℕ} → AsksFor C s rs n → AsksFor (placed C) s rs n
+  pub placed_asks : {C : Context} {s : ResolvedStrategy} {rs : List Root} {n : ℕ} → AsksFor C s rs n →
+      AsksFor (placed C) s rs n
   placed_asks asks_fail = asks_fail
   placed_asks asks_match = asks_match
   placed_asks (asks_seq a) = asks_seq (placed_asks a)
@@ -330,9 +369,11 @@ module _ (n : ℕ) (A : List ℕ) where
   placed_asks (asks_let a) = asks_let (placed_asks a)
   placed_asks (asks_known {C = C} {D = D} {y = y} {s = s} h a) = asks_known (placed_knows C y s D h) (placed_asks a)
   placed_asks (asks_inline {C = C} {D = D} {y = y} {ds = ds} {es = es} h body knowns a) =
-      asks_inline (subst (λ E. Hides E (placed (defining ds es D))) (sym (placed_outer C y.layers_up)) (placed_hides h)) body (placed_are_known knowns) (placed_asks a)
+      asks_inline (subst (λ E. Hides E (placed (defining ds es D))) (sym (placed_outer C y.layers_up)) (placed_hides h))
+      body (placed_are_known knowns) (placed_asks a)
 
-  got_entry : (ds : ResolvedDefinitions) (label i m k : ℕ) → IsDefinition ds i m k → slice_get (map placed_entry (labelled label ds)) i ≡ Some (placed_entry (entry_in (labelled label ds) i))
+  got_entry : (ds : ResolvedDefinitions) (label i m k : ℕ) → IsDefinition ds i m k →
+      slice_get (map placed_entry (labelled label ds)) i ≡ Some (placed_entry (entry_in (labelled label ds) i))
   got_entry no_definitions label i m k h = elim h [ ]
   got_entry (more_definitions y m' k' s ds) label zero m k h = refl
   got_entry (more_definitions y m' k' s ds) label (suc i) m k h = got_entry ds (suc label) i m k h
@@ -346,7 +387,8 @@ module _ (n : ℕ) (A : List ℕ) where
     pub definition : IsDefinition ds i m k
     pub entry : slice_get es i ≡ Some (placed_entry (entry_in (entries_of D) i))
 
-  callee_here : (D : Context) (i m k : ℕ) → HasDefinitions D → IsLabelled D → IsCallee (program_layers D) i m k → Callee D i m k
+  callee_here : (D : Context) (i m k : ℕ) → HasDefinitions D → IsLabelled D → IsCallee (program_layers D) i m k →
+      Callee D i m k
   callee_here top i m k has h callee = elim has [ ]
   callee_here (framed m' k' D) i m k has h callee = elim has [ ]
   callee_here (within k' offset D) i m k has h callee = elim has [ ]
@@ -360,10 +402,13 @@ module _ (n : ℕ) (A : List ℕ) where
         around = placed D;
         is = refl;
         definition = callee;
-        entry = subst (λ xs. slice_get (map placed_entry xs) i ≡ Some (placed_entry (entry_in xs i))) (sym h.0.1) (got_entry ds h.0.0 i m k callee);
+        entry = subst (λ xs. slice_get (map placed_entry xs) i ≡ Some (placed_entry (entry_in xs i))) (sym h.0.1)
+            (got_entry ds h.0.0 i m k callee);
       }
 
-  pub callee : (C : Context) (y : Coordinate) (m k : ℕ) → HasDefinitions (outer C y.layers_up) → IsLabelled C → IsCallee (outside (program_layers C) y.layers_up) y.slot m k →
+  pub callee : (C : Context) (y : Coordinate) (m k : ℕ) → HasDefinitions (outer C y.layers_up) → IsLabelled C →
+      IsCallee (outside (program_layers C) y.layers_up) y.slot m k →
       Callee (outer C y.layers_up) y.slot m k
   callee C y m k has h called =
-      callee_here (outer C y.layers_up) y.slot m k has (labelled_outer C y.layers_up h) (subst (λ L. IsCallee L y.slot m k) (outer_layers C y.layers_up) called)
+      callee_here (outer C y.layers_up) y.slot m k has (labelled_outer C y.layers_up h)
+      (subst (λ L. IsCallee L y.slot m k) (outer_layers C y.layers_up) called)

@@ -27,10 +27,12 @@ use Rattle.strat_compile.proofs.RangeLaws.{Agrees, Stands, Listed, ranged_called
 use Rattle.strat_compile.proofs.SpecializationLaws.{made_bodies, made_call, all_in, all_first, all_second, both_placed}
 
 -- a call without strategy arguments is one instruction
-one_call : {S : Site} {x : ℕ} {y : Coordinate} {ps : Patterns Coordinate} {o o1 : Emitted} → EmitsCall S x y no_strategies ps o o1 → length o1.code ≡ suc (length o.code)
+one_call : {S : Site} {x : ℕ} {y : Coordinate} {ps : Patterns Coordinate} {o o1 : Emitted} →
+    EmitsCall S x y no_strategies ps o o1 → length o1.code ≡ suc (length o.code)
 one_call (calls has entry emits_no_arguments) = refl
 
-pub program_stands : (P : ResolvedDefinitions) (i : ℕ) (o : Emitted) → EmitsProgram P i o → InRange P i → StandsFor (code_in o) P i
+pub program_stands : (P : ResolvedDefinitions) (i : ℕ) (o : Emitted) → EmitsProgram P i o → InRange P i →
+    StandsFor (code_in o) P i
 program_stands P i o p range =
     let S : Site = in_definitions P 0 outermost in
     let n = length o.code in
@@ -43,20 +45,27 @@ program_stands P i o p range =
     let second : n - length (finish ∷ p.bodies_only.code) ≡ 1 = omega (arith, call_first) in
     let first : n - n ≡ 0 = omega arith in
     let empty : Agrees o.starts p.bodies_only.starts o.starts = record { same = λ l from below. refl } in
-    let bodies = ranged_bodies o I p.bodies (omega (arith, length-replicate {A = ℕ} (count_of P) 1)) (later_end end) (λ l from below. (kept_call p.begins).same l below) stands range.each
+    let bodies = ranged_bodies o I p.bodies (omega (arith, length-replicate {A = ℕ} (count_of P) 1)) (later_end end)
+    (λ l from below. (kept_call p.begins).same l below) stands range.each
     (all_first n o.starts I (made_bodies p.bodies) (made_call p.begins) listed) in
-    let begins = ranged_called o I {w = None} p.begins whole_end empty stands (range.main, tt, tt) (all_second n o.starts I (made_bodies p.bodies) (made_call p.begins) listed) in
+    let begins = ranged_called o I {w =
+    None} p.begins whole_end empty stands (range.main, tt, tt)
+    (all_second n o.starts I (made_bodies p.bodies) (made_call p.begins) listed) in
     record {
       entries = map (placed_entry n o.starts) (labelled 0 P);
       specializations = I;
-      specialization_bodies = both_placed (code_in o) I n o.starts (made_bodies p.bodies) (made_call p.begins) bodies.1 begins.1;
+      specialization_bodies = both_placed (code_in o) I n o.starts (made_bodies p.bodies) (made_call p.begins)
+          bodies.1 begins.1;
       bodies = bodies.0;
-      begins = subst (λ a. Ranges (code_in o) I None (placed n o.starts (context S)) a 0 (call (here i) no_strategies no_patterns) 1) first
-          (subst (λ a. Ranges (code_in o) I None (placed n o.starts (context S)) (n - n) 0 (call (here i) no_strategies no_patterns) a) second begins.0);
+      begins = subst (λ a. Ranges (code_in o) I None (placed n o.starts (context S))
+          a 0 (call (here i) no_strategies no_patterns) 1) first
+          (subst (λ a. Ranges (code_in o) I None (placed n o.starts (context S)) (n - n)
+          0 (call (here i) no_strategies no_patterns) a) second begins.0);
       ends = subst (λ a. At (code_in o) a finish) second (located_at o.code n o.starts end);
     }
 
-program_addresses : (P : ResolvedDefinitions) (i : ℕ) (o : Emitted) → EmitsProgram P i o → AllInRange (length o.code) (code_in o)
+program_addresses : (P : ResolvedDefinitions) (i : ℕ) (o : Emitted) → EmitsProgram P i o →
+    AllInRange (length o.code) (code_in o)
 program_addresses P i o p =
     let call_first : length o.code ≡ suc (suc (length p.bodies_only.code)) = one_call p.begins in
     let bodies = sound_bodies p.bodies (record { code = tt; starts = ones (count_of P) }) in
@@ -67,7 +76,8 @@ program_addresses P i o p =
     ones zero = tt
     ones (suc k) = (omega arith, ones k)
 
-pub program_code : (P : ResolvedDefinitions) (i : ℕ) (o : Emitted) (prims : List NameKey) → EmitsProgram P i o → IsCore P i prims → IsCode (code_in o) prims
+pub program_code : (P : ResolvedDefinitions) (i : ℕ) (o : Emitted) (prims : List NameKey) → EmitsProgram P i o →
+    IsCore P i prims → IsCode (code_in o) prims
 program_code P i o prims p core =
     record {
       program = P;
@@ -78,19 +88,26 @@ program_code P i o prims p core =
     }
 
 -- the same, by equations of what is emitted in turn
-pub program_row : (ds : List CoreDef) (i m : ℕ) (S T : Site) (o o1 o2 o3 o4 : Emitted) → S ≡ in_definitions (definitions_of ds) 0 T → T ≡ outermost → m ≡ length ds →
-    o ≡ nothing → o1 ≡ with_labels m o → EmitsBodies S 0 (definitions_of ds) o1 o2 → o3 ≡ onto finish o2 → EmitsCall S 0 (here i) no_strategies no_patterns o3 o4 →
+pub program_row : (ds : List CoreDef) (i m : ℕ) (S T : Site) (o o1 o2 o3 o4 : Emitted) →
+    S ≡ in_definitions (definitions_of ds) 0 T → T ≡ outermost → m ≡ length ds →
+    o ≡ nothing → o1 ≡ with_labels m o → EmitsBodies S 0 (definitions_of ds) o1 o2 → o3 ≡ onto finish o2 →
+    EmitsCall S 0 (here i) no_strategies no_patterns o3 o4 →
     EmitsProgram (definitions_of ds) i o4
 program_row ds i m S T o o1 o2 o3 o4 layer around many none labels bodies last begins =
-    let same : S ≡ in_definitions (definitions_of ds) 0 outermost = layer ∙ ap (λ U. in_definitions (definitions_of ds) 0 U) around in
-    let first : o1 ≡ with_labels (count_of (definitions_of ds)) nothing = labels ∙ ap₂ (λ k p. with_labels k p) (many ∙ sym (counted ds)) none in
+    let same : S ≡ in_definitions (definitions_of ds) 0 outermost =
+    layer ∙ ap (λ U. in_definitions (definitions_of ds) 0 U) around in
+    let first : o1 ≡ with_labels (count_of (definitions_of ds)) nothing =
+    labels ∙ ap₂ (λ k p. with_labels k p) (many ∙ sym (counted ds)) none in
     record {
       bodies_only = o2;
-      bodies = subst (λ a. EmitsBodies (in_definitions (definitions_of ds) 0 outermost) 0 (definitions_of ds) a o2) first (subst (λ U. EmitsBodies U 0 (definitions_of ds) o1 o2) same bodies);
-      begins = subst (λ a. EmitsCall (in_definitions (definitions_of ds) 0 outermost) 0 (here i) no_strategies no_patterns a o4) last
+      bodies = subst (λ a. EmitsBodies (in_definitions (definitions_of ds) 0 outermost) 0 (definitions_of ds) a o2)
+          first (subst (λ U. EmitsBodies U 0 (definitions_of ds) o1 o2) same bodies);
+      begins = subst (λ a. EmitsCall (in_definitions (definitions_of ds) 0 outermost) 0 (here i)
+          no_strategies no_patterns a o4) last
           (subst (λ U. EmitsCall U 0 (here i) no_strategies no_patterns o3 o4) same begins);
     }
 
-pub of_core : (core : CoreParts) (ds : List CoreDef) (i : ℕ) (o : Emitted) → ds ≡ core.defs → i ≡ core.main → EmitsProgram (definitions_of ds) i o → EmitsProgram (program_of core) core.main o
+pub of_core : (core : CoreParts) (ds : List CoreDef) (i : ℕ) (o : Emitted) → ds ≡ core.defs → i ≡ core.main →
+    EmitsProgram (definitions_of ds) i o → EmitsProgram (program_of core) core.main o
 of_core core ds i o defs main p =
     subst (λ k. EmitsProgram (program_of core) k o) main (subst (λ xs. EmitsProgram (definitions_of xs) i o) defs p)

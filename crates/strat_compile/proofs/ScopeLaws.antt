@@ -12,8 +12,10 @@ use Rattle.core_lang.specs.Program.{Strategy}
 use Rattle.core_lang.specs.Views.{Arm, Def, strategy_of, arm_of, def_of, strategy_step, arm_step, def_step}
 use Rattle.strat_compile.specs.Emission.{IsNoScope}
 
-opened : (d : CoreStrategy) → ((k : ℕ) (b : Box CoreStrategy Global) → d ≡ strategies.Scope k b → ⊥) → (f : forms.CoreStrategy-F CoreStrategy CoreArm CoreDef) → roll-CoreStrategy f ≡ d →
-    IsNoScope (strategy_step (map-CoreStrategy CoreStrategy CoreArm CoreDef (Strategy Coordinate ℕ) Arm Def strategy_of arm_of def_of f))
+opened : (d : CoreStrategy) → ((k : ℕ) (b : Box CoreStrategy Global) → d ≡ strategies.Scope k b → ⊥) →
+    (f : forms.CoreStrategy-F CoreStrategy CoreArm CoreDef) → roll-CoreStrategy f ≡ d →
+    IsNoScope (strategy_step (map-CoreStrategy CoreStrategy CoreArm CoreDef (Strategy Coordinate ℕ)
+    Arm Def strategy_of arm_of def_of f))
 opened d h forms.Id is = tt
 opened d h forms.Fail is = tt
 opened d h (forms.Sequence a b more) is = tt
@@ -28,6 +30,8 @@ opened d h (forms.LetIn ds s) is = tt
 opened d h (forms.Call x ss ps) is = tt
 opened d h (forms.Primitive f ps) is = tt
 
-pub no_scope : (d : CoreStrategy) → ((k : ℕ) (b : Box CoreStrategy Global) → d ≡ strategies.Scope k b → ⊥) → IsNoScope (strategy_of d)
+pub no_scope : (d : CoreStrategy) → ((k : ℕ) (b : Box CoreStrategy Global) → d ≡ strategies.Scope k b → ⊥) →
+    IsNoScope (strategy_of d)
 no_scope d h =
-    subst IsNoScope (sym (fold_out-CoreStrategy (Strategy Coordinate ℕ) Arm Def strategy_step arm_step def_step d)) (opened d h (out-CoreStrategy d) (roll-out-CoreStrategy d))
+    subst IsNoScope (sym (fold_out-CoreStrategy (Strategy Coordinate ℕ) Arm Def strategy_step arm_step def_step d))
+    (opened d h (out-CoreStrategy d) (roll-out-CoreStrategy d))

@@ -16,7 +16,8 @@ use Rattle.strat_compile.proofs.PlacedLaws.{placed_specialization}
 
 -- the specializations that are made, with labels in place of addresses
 abbrev mutual
-  pub made : {w : Option ℕ} {S : Site} {x : ℕ} {s : ResolvedStrategy} {o o1 : Emitted} → Emits w S x s o o1 → List Specialization
+  pub made : {w : Option ℕ} {S : Site} {x : ℕ} {s : ResolvedStrategy} {o o1 : Emitted} → Emits w S x s o o1 →
+      List Specialization
   made emits_id = []
   made emits_fail = []
   made (emits_seq a b) = made a ++ made b
@@ -36,37 +37,46 @@ abbrev mutual
   made (emits_open at body given a) = made a
   made (emits_argument none given a) = made a
   made (emits_specialization {label = label} {y = y} {s = s} {ds = ds} {ks = ks} {o = o} at body given a) =
-      specialization_at (context (in_definitions ds label outermost)) y.slot (knowns ks) (length o.starts) (room_for s) ∷ made_body a
+      specialization_at (context (in_definitions ds label outermost)) y.slot (knowns ks) (length o.starts)
+      (room_for s) ∷ made_body a
   made (emits_same n label at given is) = []
   made (emits_parameter none) = []
   made emits_primitive = []
 
-  pub made_call : {S : Site} {x : ℕ} {y : Coordinate} {ss : ResolvedStrategies} {ps : Patterns Coordinate} {o o1 : Emitted} → EmitsCall S x y ss ps o o1 → List Specialization
+  pub made_call : {S : Site} {x : ℕ} {y : Coordinate} {ss : ResolvedStrategies} {ps : Patterns Coordinate}
+      {o o1 : Emitted} → EmitsCall S x y ss ps o o1 → List Specialization
   made_call (calls has entry a) = made_arguments a
 
-  pub made_chain : {w : Option ℕ} {S : Site} {last : ℕ} {bs : List Body} {s : ResolvedStrategy} {o o1 : Emitted} → EmitsChain w S s bs last o o1 → List Specialization
+  pub made_chain : {w : Option ℕ} {S : Site} {last : ℕ} {bs : List Body} {s : ResolvedStrategy} {o o1 : Emitted} →
+      EmitsChain w S s bs last o o1 → List Specialization
   made_chain (chain_end a) = made a
   made_chain (chain_more asks rooted a b) = made_chain a ++ made b
 
-  pub made_arm : {w : Option ℕ} {S : Site} {x to : ℕ} {s1 s2 : ResolvedStrategy} {o o1 : Emitted} → EmitsArm w S x s1 s2 to o o1 → List Specialization
+  pub made_arm : {w : Option ℕ} {S : Site} {x to : ℕ} {s1 s2 : ResolvedStrategy} {o o1 : Emitted} →
+      EmitsArm w S x s1 s2 to o o1 → List Specialization
   made_arm (emits_arm a b) = made_then a ++ made b
 
-  pub made_then : {w : Option ℕ} {S : Site} {to : ℕ} {s : ResolvedStrategy} {o o1 : Emitted} → EmitsThen w S s to o o1 → List Specialization
+  pub made_then : {w : Option ℕ} {S : Site} {to : ℕ} {s : ResolvedStrategy} {o o1 : Emitted} → EmitsThen w S s to o o1 →
+      List Specialization
   made_then then_id = []
   made_then (then_code a) = made a
 
-  pub made_definitions : {S : Site} {label to : ℕ} {ds : ResolvedDefinitions} {o o1 : Emitted} → EmitsDefinitions S label ds to o o1 → List Specialization
+  pub made_definitions : {S : Site} {label to : ℕ} {ds : ResolvedDefinitions} {o o1 : Emitted} →
+      EmitsDefinitions S label ds to o o1 → List Specialization
   made_definitions (emits_definitions a) = made_bodies a
 
-  pub made_bodies : {S : Site} {label : ℕ} {ds : ResolvedDefinitions} {o o1 : Emitted} → EmitsBodies S label ds o o1 → List Specialization
+  pub made_bodies : {S : Site} {label : ℕ} {ds : ResolvedDefinitions} {o o1 : Emitted} → EmitsBodies S label ds o o1 →
+      List Specialization
   made_bodies emits_no_bodies = []
   made_bodies (emits_more_bodies a b) = made_body a ++ made_bodies b
 
-  pub made_body : {S : Site} {k : ℕ} {s : ResolvedStrategy} {o o1 : Emitted} → EmitsBody S k s o o1 → List Specialization
+  pub made_body : {S : Site} {k : ℕ} {s : ResolvedStrategy} {o o1 : Emitted} → EmitsBody S k s o o1 →
+      List Specialization
   made_body (emits_body none a) = made a
   made_body (emits_scope_body a) = made a
 
-  pub made_arguments : {S : Site} {ss : ResolvedStrategies} {us : List Argument} {o o1 : Emitted} → EmitsArguments S ss o o1 us → List Specialization
+  pub made_arguments : {S : Site} {ss : ResolvedStrategies} {us : List Argument} {o o1 : Emitted} →
+      EmitsArguments S ss o o1 us → List Specialization
   made_arguments emits_no_arguments = []
   made_arguments (emits_code_argument own a b) = made a ++ made_arguments b
   made_arguments (emits_parameter_argument none b) = made_arguments b
@@ -97,7 +107,8 @@ module _ (n : ℕ) (A : List ℕ) (I : List Specialization) where
     Registered (in_frame m k S) = Registered S
     Registered (in_places k offset S) = Registered S
     Registered (in_definitions ds label S) = Registered S
-    Registered (in_specialization slot label room k ks S) = IsIn (specialization_at (context S) slot (knowns ks) label room) × AllRegistered ks × Registered S
+    Registered (in_specialization slot label room k ks S) =
+        IsIn (specialization_at (context S) slot (knowns ks) label room) × AllRegistered ks × Registered S
     Registered (in_call ks S) = AllRegistered ks × Registered S
     Registered (in_open_call ks S) = AllRegistered ks × Registered S
     Registered (without_frames S) = Registered S
@@ -122,7 +133,8 @@ module _ (n : ℕ) (A : List ℕ) (I : List Specialization) where
   registered_outside (in_open_call ks S) (suc i) h = registered_outside S i h.1
   registered_outside (without_frames S) i h = registered_outside S i h
 
-  registered_argument : (ks : KnownArguments) (i : ℕ) (s : ResolvedStrategy) (T : Site) → IsArgument ks i s T → AllRegistered ks → Registered T
+  registered_argument : (ks : KnownArguments) (i : ℕ) (s : ResolvedStrategy) (T : Site) → IsArgument ks i s T →
+      AllRegistered ks → Registered T
   registered_argument no_known i s T is h = elim is [ ]
   registered_argument (more_known other R ks) zero s T is h = subst Registered is.1 h.0
   registered_argument (more_known other R ks) (suc i) s T is h = registered_argument ks i s T is h.1
@@ -137,10 +149,12 @@ module _ (n : ℕ) (A : List ℕ) (I : List Specialization) where
   registered_here (in_open_call ks S) i s T is h = elim is [ ]
   registered_here (without_frames S) i s T is h = registered_here S i s T is h
 
-  pub registered_given : (S : Site) (h i : ℕ) (s : ResolvedStrategy) (T : Site) → IsGiven (outside_of S h) i s T → Registered S → Registered T
+  pub registered_given : (S : Site) (h i : ℕ) (s : ResolvedStrategy) (T : Site) → IsGiven (outside_of S h) i s T →
+      Registered S → Registered T
   registered_given S h i s T is all = registered_here (outside_of S h) i s T is (registered_outside S h all)
 
-  registered_open : (S : Site) (i : ℕ) (s : ResolvedStrategy) (T : Site) → IsGivenOpen S i s T → Registered S → Registered T
+  registered_open : (S : Site) (i : ℕ) (s : ResolvedStrategy) (T : Site) → IsGivenOpen S i s T → Registered S →
+      Registered T
   registered_open outermost i s T is h = elim is [ ]
   registered_open (in_frame m k S) i s T is h = elim is [ ]
   registered_open (in_places k offset S) i s T is h = elim is [ ]
@@ -150,15 +164,20 @@ module _ (n : ℕ) (A : List ℕ) (I : List Specialization) where
   registered_open (in_open_call ks S) i s T is h = registered_argument ks i s T is h.0
   registered_open (without_frames S) i s T is h = elim is [ ]
 
-  pub registered_given_open : (S : Site) (h i : ℕ) (s : ResolvedStrategy) (T : Site) → IsGivenOpen (outside_of S h) i s T → Registered S → Registered T
+  pub registered_given_open : (S : Site) (h i : ℕ) (s : ResolvedStrategy) (T : Site) →
+      IsGivenOpen (outside_of S h) i s T → Registered S → Registered T
   registered_given_open S h i s T is all = registered_open (outside_of S h) i s T is (registered_outside S h all)
 
-  pub all_registered : {S T : Site} {ss : ResolvedStrategies} {ks : KnownArguments} → AreGivenAt S T ss ks → Registered S → Registered T → AllRegistered ks
+  pub all_registered : {S T : Site} {ss : ResolvedStrategies} {ks : KnownArguments} → AreGivenAt S T ss ks →
+      Registered S → Registered T → AllRegistered ks
   all_registered none_given h inside = tt
   all_registered (own_given own range rest) h inside = (inside, all_registered rest h inside)
-  all_registered {S} (parameter_given {R = R} {y = y} {s = s} given rest) h inside = (registered_given S y.layers_up y.slot s R given h, all_registered rest h inside)
+  all_registered {S} (parameter_given {R = R} {y = y} {s = s} given rest) h inside =
+      (registered_given S y.layers_up y.slot s R given h, all_registered rest h inside)
 
-  same_here : (S : Site) (slot label room : ℕ) (ks : KnownArguments) (T : Site) → IsSpecialization S slot label room ks T → Registered S → IsIn (specialization_at (context T) slot (knowns ks) label room)
+  same_here : (S : Site) (slot label room : ℕ) (ks : KnownArguments) (T : Site) →
+      IsSpecialization S slot label room ks T → Registered S →
+      IsIn (specialization_at (context T) slot (knowns ks) label room)
   same_here outermost i l r ks T is h = elim is [ ]
   same_here (in_frame m k S) i l r ks T is h = elim is [ ]
   same_here (in_places k offset S) i l r ks T is h = elim is [ ]
@@ -173,43 +192,62 @@ module _ (n : ℕ) (A : List ℕ) (I : List Specialization) where
   same_here (in_open_call bs S) i l r ks T is h = elim is [ ]
   same_here (without_frames S) i l r ks T is h = same_here S i l r ks T is h
 
-  pub same_registered : (S : Site) (h slot label room : ℕ) (ks : KnownArguments) (T : Site) → IsSpecialization (outside_of S h) slot label room ks T → Registered S →
+  pub same_registered : (S : Site) (h slot label room : ℕ) (ks : KnownArguments) (T : Site) →
+      IsSpecialization (outside_of S h) slot label room ks T → Registered S →
       IsIn (specialization_at (context T) slot (knowns ks) label room)
-  same_registered S h slot label room ks T is all = same_here (outside_of S h) slot label room ks T is (registered_outside S h all)
+  same_registered S h slot label room ks T is all =
+      same_here (outside_of S h) slot label room ks T is (registered_outside S h all)
 
 -- specializations are in the table of them all
 got_at : (xs ys : List Specialization) (z : Specialization) → slice_get (xs ++ z ∷ ys) (length xs) ≡ Some z
 got_at [] ys z = refl
 got_at (x ∷ xs) ys z = got_at xs ys z
 
-pub all_in : (n : ℕ) (A : List ℕ) (I xs zs : List Specialization) → I ≡ xs ++ map (placed_specialization n A) zs → AllIn n A I zs
+pub all_in : (n : ℕ) (A : List ℕ) (I xs zs : List Specialization) → I ≡ xs ++ map (placed_specialization n A) zs →
+    AllIn n A I zs
 all_in n A I xs [] is = tt
 all_in n A I xs (z ∷ zs) is = (
-  (length xs, ap (λ J. slice_get J (length xs)) is ∙ got_at xs (map (placed_specialization n A) zs) (placed_specialization n A z)),
-  all_in n A I (xs ++ placed_specialization n A z ∷ []) zs (is ∙ sym (append_assoc xs (placed_specialization n A z ∷ []) (map (placed_specialization n A) zs))),
+  (
+    length xs,
+    ap (λ J. slice_get J (length xs)) is ∙
+        got_at xs (map (placed_specialization n A) zs) (placed_specialization n A z),
+  ),
+  all_in n A I (xs ++ placed_specialization n A z ∷ []) zs (is ∙
+      sym (append_assoc xs (placed_specialization n A z ∷ []) (map (placed_specialization n A) zs))),
 )
 
 module _ (code : Code) (I : List Specialization) where
-  both : {us vs : List Specialization} → Specializations code I us → Specializations code I vs → Specializations code I (us ++ vs)
+  both : {us vs : List Specialization} → Specializations code I us → Specializations code I vs →
+      Specializations code I (us ++ vs)
   both no_specializations q = q
   both (more_specializations body range at p) q = more_specializations body range at (both p q)
   both (roomy_specializations body range at p) q = roomy_specializations body range at (both p q)
 
-  pub both_placed : (n : ℕ) (A : List ℕ) (xs ys : List Specialization) → Specializations code I (map (placed_specialization n A) xs) → Specializations code I (map (placed_specialization n A) ys) →
+  pub both_placed : (n : ℕ) (A : List ℕ) (xs ys : List Specialization) →
+      Specializations code I (map (placed_specialization n A) xs) →
+      Specializations code I (map (placed_specialization n A) ys) →
       Specializations code I (map (placed_specialization n A) (xs ++ ys))
-  both_placed n A xs ys p q = subst (λ zs. Specializations code I zs) (sym (map-append (placed_specialization n A) xs ys)) (both p q)
+  both_placed n A xs ys p q = subst (λ zs. Specializations code I zs)
+      (sym (map-append (placed_specialization n A) xs ys)) (both p q)
 
-  -- the body of a definition in the frame of a call: where its code begins, and for how many places more the frame has room
+  -- the body of a definition in the frame of a call: where its code begins, and for how many places more the frame has
+  -- room
   pub data BodyRange (C : Context) (k : ℕ) : ResolvedStrategy → (entry room : ℕ) → Type 0 where
-    plain_body : {s : ResolvedStrategy} {entry j : ℕ} → Ranges code I (Some k) C entry 0 s j → At code j end_definition → BodyRange C k s entry 0
-    roomy_body : {s : ResolvedStrategy} {n entry j : ℕ} → Ranges code I (Some (k + n)) (within n k C) entry 1 s j → At code j end_definition → BodyRange C k (scope n s) entry n
+    plain_body : {s : ResolvedStrategy} {entry j : ℕ} → Ranges code I (Some k) C entry 0 s j →
+        At code j end_definition → BodyRange C k s entry 0
+    roomy_body : {s : ResolvedStrategy} {n entry j : ℕ} → Ranges code I (Some (k + n)) (within n k C) entry 1 s j →
+        At code j end_definition → BodyRange C k (scope n s) entry n
 
-  pub body_more : {C : Context} {y : Coordinate} {m k entry room : ℕ} {s : ResolvedStrategy} {ds : ResolvedDefinitions} {es : List Entry} →
-      BodyRange (framed m k C) k s entry room → Bodies code I C ds es → Bodies code I C (more_definitions y m k s ds) (entry_at entry room ∷ es)
+  pub body_more : {C : Context} {y : Coordinate} {m k entry room : ℕ} {s : ResolvedStrategy} {ds : ResolvedDefinitions}
+      {es : List Entry} →
+      BodyRange (framed m k C) k s entry room → Bodies code I C ds es →
+      Bodies code I C (more_definitions y m k s ds) (entry_at entry room ∷ es)
   body_more (plain_body range at) rest = more_bodies range at rest
   body_more (roomy_body range at) rest = roomy_bodies range at rest
 
-  pub specialization_more : {C : Context} {ds : ResolvedDefinitions} {es : List Entry} {ks : Knowns} {slot m k entry room : ℕ} {s : ResolvedStrategy} {vs : List Specialization} →
-      IsBody ds slot m k s → BodyRange (known k ks (defining ds es C)) k s entry room → Specializations code I vs → Specializations code I (specialization_at (defining ds es C) slot ks entry room ∷ vs)
+  pub specialization_more : {C : Context} {ds : ResolvedDefinitions} {es : List Entry} {ks : Knowns}
+      {slot m k entry room : ℕ} {s : ResolvedStrategy} {vs : List Specialization} →
+      IsBody ds slot m k s → BodyRange (known k ks (defining ds es C)) k s entry room → Specializations code I vs →
+      Specializations code I (specialization_at (defining ds es C) slot ks entry room ∷ vs)
   specialization_more body (plain_body range at) rest = more_specializations body range at rest
   specialization_more body (roomy_body range at) rest = roomy_specializations body range at rest

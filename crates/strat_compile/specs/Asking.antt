@@ -1,3 +1,4 @@
+-- The headline does not rest on this file.
 -- What strategies ask of a term's root, where the roots are gathered in front of others.
 use Rattle.std.specs.Prelude.{◌≡◌, ℕ, suc, List, ◌++◌}
 use Rattle.core_lang.specs.Resolved.{ResolvedStrategy}

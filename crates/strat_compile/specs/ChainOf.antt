@@ -1,3 +1,4 @@
+-- The headline does not rest on this file.
 -- What the chains of the Rust code are seen as.
 use Rattle.std.specs.Prelude.{ℕ, List, map, reverse, Option, IfSome, Vec}
 use Rattle.std.specs.declared.alloc.Global.{Global}
@@ -21,8 +22,8 @@ body_of b = record { roots = roots_of b.roots.items; nodes = b.nodes; start = b.
 abbrev pub bodies_of : Chain → List model.Body
 bodies_of c = reverse (map body_of c.bodies.items)
 
--- where nodes are found, the strategy asks for the roots that the second roots have more than the first, and has that number of nodes
--- where the term has none of them
+-- where nodes are found, the strategy asks for the roots that the second roots have more than the first, and has that
+-- number of nodes where the term has none of them
 abbrev pub Finds : Context → ResolvedStrategy → (old new : Vec Root Global) → Option ℕ → Type 0
 Finds C s old new found = IfSome found (λ nodes. AsksOnto C s (roots_of old.items) (roots_of new.items) nodes)
 

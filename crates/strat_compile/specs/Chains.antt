@@ -1,3 +1,4 @@
+-- The headline does not rest on this file.
 -- Chains of alternatives: the cases of their tables, and the selects in front of their code.
 use Rattle.std.specs.Prelude.{ℕ, zero, suc, ◌+◌, Bool, true, false, List, [], ◌∷◌, length, drop}
 use Rattle.core_lang.specs.Roots.{Root, any_root, integer_root, symbol_root, list_root}
@@ -11,8 +12,8 @@ asks (integer_root z) = true
 asks (symbol_root f n) = true
 asks (list_root n o) = true
 
--- an alternative whose code has been emitted: the roots that it asks for, the nodes of its derivation where the term has none
--- of them, and the place of its code
+-- an alternative whose code has been emitted: the roots that it asks for, the nodes of its derivation where the term
+-- has none of them, and the place of its code
 pub record Body : Type 0 where
   pub roots : List Root
   pub nodes : ℕ
@@ -29,14 +30,15 @@ cases_onto [] nodes start otherwise cs = cs
 cases_onto (r ∷ rs) nodes start otherwise cs =
     case r (nodes_of_case (length rs) nodes) start otherwise ∷ cases_onto rs nodes start otherwise cs
 
--- the nodes of an alternative after which `left` others come, where the term has another root: with that of the next choice
+-- the nodes of an alternative after which `left` others come, where the term has another root: with that of the next
+-- choice
 abbrev pub nodes_passed : (left nodes : ℕ) → ℕ
 nodes_passed zero nodes = nodes
 nodes_passed (suc left) nodes = suc nodes
 
--- Where a failure in an alternative goes on after which `left` others come. After the last one it is the place `last`, and the
--- end of the choice; after another it is the select for those that are left. The code without the selects begins at the
--- place `base`
+-- Where a failure in an alternative goes on after which `left` others come. After the last one it is the place `last`,
+-- and the end of the choice; after another it is the select for those that are left. The code without the selects
+-- begins at the place `base`
 abbrev pub place_passed : (left base last : ℕ) → ℕ
 place_passed zero base last = last
 place_passed (suc left) base last = base + suc left
@@ -68,4 +70,5 @@ selects (b ∷ bs) base last c = select 1 (cases_between (b ∷ bs) base last) l
 -- the same, but for the first select, which is charged n nodes
 abbrev pub selects_onto : (n : ℕ) → List Body → (base last : ℕ) → Emitted → Emitted
 selects_onto n bs base last o =
-    onto (select n (cases_between bs base last) last) (record { code = selects (drop 1 bs) base last o.code; starts = o.starts })
+    onto (select n (cases_between bs base last) last)
+    (record { code = selects (drop 1 bs) base last o.code; starts = o.starts })

@@ -1,3 +1,4 @@
+-- The headline does not rest on this file.
 -- Calls in place of definitions whose body is a conditional of their strategy parameters.
 use Rattle.std.specs.Prelude.{◌≡◌, List, length}
 use Rattle.core_lang.specs.declared.program.CorePattern.{CorePattern}
@@ -30,9 +31,10 @@ IsPart ks (Argument slot k) = IsArgument ks slot (known_of k).strategy (known_of
 abbrev pub ArePartsOf : KnownArguments → Conditional → Type 0
 ArePartsOf ks c = IsPart ks c.guard × IsPart ks c.then × IsPart ks c.otherwise
 
--- A call with these strategy arguments and without term arguments, of a definition without term parameters, is that of a
--- conditional, whose parts are known where they may look at the innermost frame
-pub record IsConditionalCall (S : Site) (ss : ResolvedStrategies) (ts : List CorePattern) (p : ProgramDefinition) (c : Conditional) : Type 0 where
+-- A call with these strategy arguments and without term arguments, of a definition without term parameters, is that of
+-- a conditional, whose parts are known where they may look at the innermost frame
+pub record IsConditionalCall (S : Site) (ss : ResolvedStrategies) (ts : List CorePattern) (p : ProgramDefinition)
+    (c : Conditional) : Type 0 where
   pub arguments : KnownArguments
   pub given : AreGivenOpen S ss arguments
   pub no_terms : length ts ≡ 0

@@ -1,3 +1,4 @@
+-- The headline does not rest on this file.
 -- Which arguments of a call are known, and which calls are those of the specialization that the code is in.
 use Rattle.std.specs.Prelude.{◌≡◌, ℕ, suc, List, ◌++◌, map}
 use Rattle.core_lang.specs.declared.coordinate.Coordinate.{Coordinate}
@@ -13,12 +14,14 @@ use Rattle.strat_compile.specs.Sites.{AreGiven, AreGivenAt, IsSpecialization, Kn
 
 -- The argument is known to be this strategy, which stands at the site R: in front of arguments that are known, all are
 pub record IsKnownAs (S T : Site) (s r : ResolvedStrategy) (R : Site) : Type 0 where
-  pub given : (ss : ResolvedStrategies) (ks : KnownArguments) → AreGivenAt S T ss ks → AreGivenAt S T (more_strategies s ss) (more_known r R ks)
+  pub given : (ss : ResolvedStrategies) (ks : KnownArguments) → AreGivenAt S T ss ks →
+      AreGivenAt S T (more_strategies s ss) (more_known r R ks)
 
 -- with whatever is known of the arguments that are left, this is what is known of all
 abbrev pub KnownSoFar : (S T : Site) → (whole left : List CoreStrategy) → (made : List Known) → Type 0
 KnownSoFar S T whole left made =
-    (ks : List KnownArgument) → AreGivenAt S T (strategies_of left) (arguments_in ks) → AreGivenAt S T (strategies_of whole) (arguments_in (map known_of made ++ ks))
+    (ks : List KnownArgument) → AreGivenAt S T (strategies_of left) (arguments_in ks) →
+    AreGivenAt S T (strategies_of whole) (arguments_in (map known_of made ++ ks))
 
 -- the strategy is a call of the strategy parameter at this position of the layer that is n layers up
 abbrev pub IsParameter : ℕ → ℕ → ResolvedStrategy → Type 0
@@ -47,8 +50,8 @@ pub record IsOfProgram (S : Site) : Type 0 where
   pub first_label : ℕ
   pub is : S ≡ in_definitions definitions first_label outermost
 
--- A call at this coordinate with these arguments is of the definition of the program that a specialization is of, with the
--- parameters of the layer of that specialization, `layers_up` layers up
+-- A call at this coordinate with these arguments is of the definition of the program that a specialization is of, with
+-- the parameters of the layer of that specialization, `layers_up` layers up
 pub record IsOwn (S : Site) (at : Coordinate) (ss : ResolvedStrategies) (own : Own) : Type 0 where
   pub layers_up : ℕ
   pub arguments : KnownArguments
@@ -56,4 +59,5 @@ pub record IsOwn (S : Site) (at : Coordinate) (ss : ResolvedStrategies) (own : O
   pub first_label : ℕ
   pub called : outer (context S) at.layers_up ≡ context (in_definitions definitions first_label outermost)
   pub given : AreGiven S ss arguments
-  pub is : IsSpecialization (outside_of S layers_up) at.slot own.label own.room arguments (in_definitions definitions first_label outermost)
+  pub is : IsSpecialization (outside_of S layers_up)
+      at.slot own.label own.room arguments (in_definitions definitions first_label outermost)

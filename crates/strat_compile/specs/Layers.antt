@@ -1,3 +1,4 @@
+-- The headline does not rest on this file.
 -- What the layers of the code stand for.
 use Rattle.std.specs.Prelude.{◌≡◌, ℕ, zero, suc, Bool, true, false, List, [], ◌∷◌, map, Option, Some, None}
 use Rattle.core_lang.specs.declared.coordinate.Coordinate.{Coordinate}
@@ -149,4 +150,5 @@ HandsOver S s (Parameter z) = HandsOn (context S) s z
 pub record IsDefined (C : Context) (i : ℕ) (p : ProgramDefinition) : Type 0 where
   pub is : C ≡ context (in_definitions (definitions_of p.defs.now) p.first_label outermost)
   pub layer : site_of p.layer.now ≡ in_definitions (definitions_of p.defs.now) p.first_label outermost
-  pub body : IsBody (definitions_of p.defs.now) i (def_of p.def.now).strats (def_of p.def.now).terms (def_of p.def.now).body
+  pub body : IsBody (definitions_of p.defs.now)
+      i (def_of p.def.now).strats (def_of p.def.now).terms (def_of p.def.now).body

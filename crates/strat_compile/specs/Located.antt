@@ -1,3 +1,4 @@
+-- The headline does not rest on this file.
 -- From places and labels to addresses, when all is emitted.
 use Rattle.std.specs.Prelude.{◌≡◌, ℕ, ◌-◌, Option, Some, None, List, map, length, slice_get, Vec}
 use Rattle.std.specs.declared.alloc.Global.{Global}
@@ -43,7 +44,8 @@ module _ (n : ℕ) where
   located A (jump a) = jump (address a)
   located A (traverse k m a) = traverse k m (address a)
   located A part_done = part_done
-  located A (call_definition k h label room a us ps) = call_definition k h (address_if (slice_get A label)) room (address a) (map argument_located us) ps
+  located A (call_definition k h label room a us ps) =
+      call_definition k h (address_if (slice_get A label)) room (address a) (map argument_located us) ps
   located A (call_closure k y) = call_closure k y
   located A end_definition = end_definition
   located A end_argument = end_argument

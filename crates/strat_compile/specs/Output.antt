@@ -1,5 +1,6 @@
--- Code as it is emitted: from its end to its beginning, so that each address that an instruction leads to is known when the
--- instruction is emitted, but for those of definitions.
+-- The headline does not rest on this file.
+-- Code as it is emitted: from its end to its beginning, so that each address that an instruction leads to is known when
+-- the instruction is emitted, but for those of definitions.
 use Rattle.std.specs.Prelude.{ℕ, suc, ◌++◌, List, [], ◌∷◌, length, reverse, set, replicate}
 use Rattle.core_lang.specs.Program.{no_definitions, more_definitions}
 use Rattle.core_lang.specs.Resolved.{ResolvedDefinitions}

@@ -1,3 +1,4 @@
+-- The headline does not rest on this file.
 -- Where code is made: the layers that a strategy stands in, with labels in place of addresses.
 use Rattle.std.specs.Prelude.{◌≡◌, ℕ, zero, suc, List, [], ◌∷◌}
 use Rattle.core_lang.specs.declared.coordinate.Coordinate.{Coordinate}
@@ -9,7 +10,8 @@ use Rattle.core_lang.specs.Program.{Patterns}
 use Rattle.strat_code.specs.Code.{Entry, entry_at}
 use Rattle.strat_code.specs.Context.{Context, top, framed, within, defining, known, hidden, open_call, Knowns, no_knowns, more_knowns, KnowsParameter, KnowsOpen, HasDefinitions, HasOwnCode}
 
--- for how many places more than the parameters the frame of a definition with this body has room: those of the scope that it is
+-- for how many places more than the parameters the frame of a definition with this body has room: those of the scope
+-- that it is
 abbrev pub room_for : ResolvedStrategy → ℕ
 room_for core.id = 0
 room_for core.fail = 0
@@ -40,8 +42,8 @@ mutual
     in_places : (variables offset : ℕ) → Site → Site
     -- of definitions, which have labels from this one on
     in_definitions : ResolvedDefinitions → (first_label : ℕ) → Site → Site
-    -- of a specialization: the definition's position, the label of its code, the room of its frame, its term parameters, and
-    -- the strategies that its parameters are
+    -- of a specialization: the definition's position, the label of its code, the room of its frame, its term
+    -- parameters, and the strategies that its parameters are
     in_specialization : (slot label room variables : ℕ) → KnownArguments → Site → Site
     -- of a call in place, whose strategy parameters are known, or of anything of which nothing is looked at
     in_call : KnownArguments → Site → Site
@@ -148,7 +150,8 @@ IsSpecialization outermost i l r ks T = ⊥
 IsSpecialization (in_frame m k S) i l r ks T = ⊥
 IsSpecialization (in_places k offset S) i l r ks T = ⊥
 IsSpecialization (in_definitions ds label S) i l r ks T = ⊥
-IsSpecialization (in_specialization slot label room k bs S) i l r ks T = (slot ≡ i) × (label ≡ l) × (room ≡ r) × (bs ≡ ks) × (S ≡ T)
+IsSpecialization (in_specialization slot label room k bs S) i l r ks T = (slot ≡ i) × (label ≡ l) × (room ≡ r) ×
+    (bs ≡ ks) × (S ≡ T)
 IsSpecialization (in_call bs S) i l r ks T = ⊥
 IsSpecialization (in_open_call bs S) i l r ks T = ⊥
 IsSpecialization (without_frames S) i l r ks T = IsSpecialization S i l r ks T
@@ -167,15 +170,17 @@ program_layers (known k ks C) = layer_of (number_of_knowns ks) k (program_layers
 program_layers (hidden ks C) = layer_of (number_of_knowns ks) 0 (program_layers C)
 program_layers (open_call ks C) = layer_of (number_of_knowns ks) 0 (program_layers C)
 
--- The strategy arguments of a call at the site S are known: each is a strategy that is in range at the site T, where it stands
--- then, or a strategy parameter that is known
+-- The strategy arguments of a call at the site S are known: each is a strategy that is in range at the site T, where it
+-- stands then, or a strategy parameter that is known
 pub data AreGivenAt (S T : Site) : ResolvedStrategies → KnownArguments → Type 0 where
   none_given : AreGivenAt S T no_strategies no_known
   own_given : {s : ResolvedStrategy} {ss : ResolvedStrategies} {ks : KnownArguments} →
       HasOwnCode (context S) s → StrategyInRange (program_layers (context T)) s → AreGivenAt S T ss ks →
       AreGivenAt S T (more_strategies s ss) (more_known s T ks)
-  parameter_given : {R : Site} {y : Coordinate} {s : ResolvedStrategy} {vs ss : ResolvedStrategies} {ps : Patterns Coordinate} {ks : KnownArguments} →
-      IsGiven (outside_of S y.layers_up) y.slot s R → AreGivenAt S T ss ks → AreGivenAt S T (more_strategies (call y vs ps) ss) (more_known s R ks)
+  parameter_given : {R : Site} {y : Coordinate} {s : ResolvedStrategy} {vs ss : ResolvedStrategies}
+      {ps : Patterns Coordinate} {ks : KnownArguments} →
+      IsGiven (outside_of S y.layers_up) y.slot s R → AreGivenAt S T ss ks →
+      AreGivenAt S T (more_strategies (call y vs ps) ss) (more_known s R ks)
 
 -- they are known and look at no frame
 abbrev pub AreGiven : Site → ResolvedStrategies → KnownArguments → Type 0

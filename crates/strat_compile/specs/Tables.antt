@@ -1,3 +1,4 @@
+-- The headline does not rest on this file.
 -- Which tables instructions select from.
 use Rattle.std.specs.Prelude.{◌≡◌, ◌<◌, ℕ, Bool, true, nat_lt, IsTrue, List, length, map, Vec}
 use Rattle.std.specs.List.{list_all}

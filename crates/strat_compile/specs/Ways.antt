@@ -1,3 +1,4 @@
+-- The headline does not rest on this file.
 -- Which way a call may be made.
 use Rattle.std.specs.Prelude.{◌≡◌, List, length}
 use Rattle.core_lang.specs.declared.program.CorePattern.{CorePattern}

@@ -1,4 +1,4 @@
-// What is called at a coordinate.
+//! What is called at a coordinate.
 ghost use Rattle.std.specs.Prelude.{◌≡◌, IfOk, IfSome, IsTrue};
 ghost use Rattle.core_lang.specs.Views.{definitions_of, strategy_of};
 ghost use Rattle.strat_code.specs.Context.{outer, top};
@@ -40,7 +40,7 @@ pub(crate) fn entry_at(
     }
 }
 
-// What is called at a position of a layer.
+/// What is called at a position of a layer.
 fn callee_in<'a>(
     layers: &'a Layers<'a>,
     is_frameless: bool,
@@ -86,7 +86,7 @@ pub(crate) fn sees_none(layers: &Layers) -> bool
     }
 }
 
-// The known argument at a position.
+/// The known argument at a position.
 fn argument_at<'a>(arguments: &'a [Known<'a>], slot: usize) -> Callee<'a>
     ensures { (C : _) → CallsIn (context (in_call (arguments_of arguments.now) C))
         (in_call (arguments_of arguments.now) C) slot result }

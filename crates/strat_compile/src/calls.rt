@@ -1,7 +1,7 @@
-// What is emitted for a call. A call of a definition of the program whose strategy arguments are known is made in place, where the
-// definition has no term parameters and does not call itself, or is a call of a specialization, where it has strategy parameters.
-// A call whose arguments look at frames is made in place where the body is a conditional of its parameters. Any other is an
-// ordinary call, which hands its arguments over as closures.
+//! What is emitted for a call. A call of a definition of the program whose strategy arguments are known is made in place, where the
+//! definition has no term parameters and does not call itself, or is a call of a specialization, where it has strategy parameters.
+//! A call whose arguments look at frames is made in place where the body is a conditional of its parameters. Any other is an
+//! ordinary call, which hands its arguments over as closures.
 ghost use Rattle.std.specs.Prelude.{◌≡◌, [], suc, IfOk, OnOk, map};
 ghost use Rattle.core_lang.specs.Program.{call};
 ghost use Rattle.core_lang.specs.Views.{def_of, patterns_of, strategies_of, strategy_of};
@@ -64,7 +64,7 @@ pub(crate) fn emit_call(
     }
 }
 
-// A call of a definition, which has this entry.
+/// A call of a definition, which has this entry.
 #[cycle(emission)]
 fn emit_definition_call<'a>(
     alloc: Global,
@@ -183,7 +183,7 @@ pub(crate) fn emit_ordinary_call(
     })
 }
 
-// A call of code without strategy arguments, after which the code goes on at the place `end`.
+/// A call of code without strategy arguments, after which the code goes on at the place `end`.
 #[tactic(auto, using(crate::proofs::RowLaws::called_at))]
 fn emit_code_call(
     alloc: Global,
@@ -214,7 +214,7 @@ fn emit_code_call(
     })
 }
 
-// The body of a definition in place of its call.
+/// The body of a definition in place of its call.
 #[cycle(emission)]
 fn emit_in_place<'a>(
     alloc: Global,
@@ -241,7 +241,7 @@ fn emit_in_place<'a>(
     Ok(())
 }
 
-// A call of a specialization, in front of its body.
+/// A call of a specialization, in front of its body.
 #[cycle(emission)]
 fn emit_specialization<'a>(
     alloc: Global,
@@ -280,7 +280,7 @@ fn emit_specialization<'a>(
     emit_code_call(alloc, out, layers, charged, at, terms, label, room, end)
 }
 
-// The code of strategy arguments, and the arguments.
+/// The code of strategy arguments, and the arguments.
 #[cycle(emission)]
 #[tactic(auto, using(crate::proofs::EmissionLaws::argument_next, crate::proofs::RowLaws::arguments_done))]
 fn emit_arguments(

@@ -1,9 +1,10 @@
-// Chains of alternatives whose code has been emitted, but for the selects in front of it.
+//! Chains of alternatives whose code has been emitted, but for the selects in front of it.
 ghost use Rattle.std.specs.Prelude.{◌≡◌, ◌∷◌, ◌++◌, [], ◌↔◌, IfOk, IsTrue, OnOk, length, map};
 ghost use Rattle.strat_code.specs.CodeOf.{case_of};
 ghost use Rattle.strat_compile.specs.ChainOf.{bodies_of, body_of, roots_of};
 ghost use Rattle.strat_compile.specs.Chains as spec;
 ghost use Rattle.strat_compile.specs.Chains.{cases_between, cases_onto, skipped_from};
+ghost use Rattle.term_model.specs.Results.{Returns};
 
 use crate::layers::{successor, sum};
 use std::alloc::{AllocError, Global};
@@ -82,7 +83,7 @@ impl Chain {
     }
 }
 
-// Adds the cases of an alternative after which `left` others come, one for each of its roots.
+/// Adds the cases of an alternative after which `left` others come, one for each of its roots.
 fn push_cases(
     cases: &mut Vec<Case>,
     body: Body,
@@ -92,7 +93,8 @@ fn push_cases(
 ) -> Result<(), AllocError>
     ensures { OnOk result (map case_of cases.new.items ≡ map case_of cases.old.items ++
         (let b = body_of body in
-        cases_onto b.roots (spec.nodes_passed left b.nodes) b.start (spec.place_passed left base last) [])) }
+        cases_onto b.roots (spec.nodes_passed left b.nodes)
+        b.start (spec.place_passed left base last) [])) }
 {
     let Body {
         mut roots,
@@ -112,29 +114,27 @@ fn push_cases(
     Ok(())
 }
 
-// The nodes of an alternative after which `left` others come, where the term has another root.
+/// The nodes of an alternative after which `left` others come, where the term has another root.
 fn nodes_passed(nodes: usize, left: usize) -> Result<usize, AllocError>
-    ensures { IfOk result (λ made. made ≡ spec.nodes_passed left nodes) }
+    ensures { Returns result (spec.nodes_passed left nodes) }
 {
     if left == 0 {
         return Ok(nodes);
     }
-    let nodes = successor(nodes)?;
-    Ok(nodes)
+    successor(nodes)
 }
 
-// Where a failure in an alternative goes on after which `left` others come.
+/// Where a failure in an alternative goes on after which `left` others come.
 fn place_passed(left: usize, base: usize, last: usize) -> Result<usize, AllocError>
-    ensures { IfOk result (λ made. made ≡ spec.place_passed left base last) }
+    ensures { Returns result (spec.place_passed left base last) }
 {
     if left == 0 {
         return Ok(last);
     }
-    let otherwise = sum(base, left)?;
-    Ok(otherwise)
+    sum(base, left)
 }
 
-// The nodes of a case after which so many others of its alternative come.
+/// The nodes of a case after which so many others of its alternative come.
 fn nodes_of_case(others: usize, nodes: usize) -> usize
     ensures { result ≡ spec.nodes_of_case others nodes }
 {

@@ -1,5 +1,5 @@
-// What is emitted for a choice. An alternative that asks for roots joins a chain, whose selects find the first alternative that
-// asks for the term's root; any other arm stands alone, after a try.
+//! What is emitted for a choice. An alternative that asks for roots joins a chain, whose selects find the first alternative that
+//! asks for the term's root; any other arm stands alone, after a try.
 ghost use Rattle.std.specs.Prelude.{OnOk, map};
 ghost use Rattle.core_lang.specs.Views.{arm_of, strategy_of};
 ghost use Rattle.strat_compile.specs.ChainOf.{bodies_of, roots_of};
@@ -42,7 +42,7 @@ pub(crate) fn emit_arms(
     Ok(())
 }
 
-// An arm in front of a chain, which it joins or whose end it is.
+/// An arm in front of a chain, which it joins or whose end it is.
 #[cycle(emission)]
 #[tactic(auto, using(crate::proofs::ChoiceLaws::plain_row, crate::proofs::ChoiceLaws::joined_puts))]
 fn emit_next(
@@ -94,7 +94,7 @@ pub(crate) fn emit_first(
     emit_chain(alloc, out, nodes, chain)
 }
 
-// An arm that joins a chain, as its first alternative.
+/// An arm that joins a chain, as its first alternative.
 #[cycle(emission)]
 #[tactic(auto, using(crate::proofs::ChoiceLaws::joined_row))]
 fn emit_joined(
@@ -125,7 +125,7 @@ fn emit_joined(
     })
 }
 
-// An arm alone, in front of what is done where its guard fails.
+/// An arm alone, in front of what is done where its guard fails.
 #[cycle(emission)]
 #[tactic(auto, using(crate::proofs::RowLaws::arm_row))]
 fn emit_arm(
@@ -148,7 +148,7 @@ fn emit_arm(
     out.emit(Instr::Try { nodes, otherwise })
 }
 
-// What follows a guard, after the instruction that takes the choice record off.
+/// What follows a guard, after the instruction that takes the choice record off.
 #[cycle(emission)]
 #[tactic(auto, using(crate::proofs::RowLaws::id_then, crate::proofs::RowLaws::code_then))]
 fn emit_then(

@@ -1,4 +1,4 @@
-// Whether a strategy looks at nothing but what is known: the walk of a range over the layers, one way.
+//! Whether a strategy looks at nothing but what is known: the walk of a range over the layers, one way.
 ghost use Rattle.std.specs.Prelude.{◌≡◌, ◌<◌, ◌≤◌, ◌↔◌, IsTrue, map};
 ghost use Rattle.core_lang.specs.InRange.{DefinitionsInRange, IsCallee, IsDefinition, IsVariable, PatternInRange, PatternsInRange, StrategiesInRange, StrategyInRange, layer_of, layer_of_definitions, outside};
 ghost use Rattle.core_lang.specs.Program.{call};
@@ -11,7 +11,7 @@ use crate::callee::sees_none;
 use crate::layers::{Layers, Reached, reach};
 use core_lang::{Coordinate, CoreArm, CoreDef, CorePattern, CoreStrategy};
 
-// Whether a layer has a variable at a position.
+/// Whether a layer has a variable at a position.
 fn is_variable(reached: Reached, slot: usize) -> bool
     ensures { IsTrue result → IsVariable (program_layers (seen_context reached.entry)) slot }
 {
@@ -29,7 +29,7 @@ fn is_variable(reached: Reached, slot: usize) -> bool
     }
 }
 
-// Whether a coordinate leads to a variable.
+/// Whether a coordinate leads to a variable.
 fn has_variable(layers: &Layers, at: Coordinate) -> bool
     ensures { IsTrue result →
         IsVariable (outside (program_layers (context_of layers.now)) at.layers_up) at.slot }
@@ -37,7 +37,7 @@ fn has_variable(layers: &Layers, at: Coordinate) -> bool
     is_variable(reach(&*layers, at.layers_up), at.slot)
 }
 
-// Whether there is a definition at a position, with these numbers of strategy and term parameters.
+/// Whether there is a definition at a position, with these numbers of strategy and term parameters.
 fn has_definition(defs: &[CoreDef], at: usize, strats: usize, terms: usize) -> bool
     ensures { IsTrue result → IsDefinition (definitions_of defs.now) at strats terms }
 {
@@ -54,7 +54,7 @@ fn has_parameters(def: &CoreDef, strats: usize, terms: usize) -> bool
     strats == def.strats && terms == def.terms
 }
 
-// Whether a layer has at a position what can be called with these numbers of strategies and terms.
+/// Whether a layer has at a position what can be called with these numbers of strategies and terms.
 fn is_callee(reached: Reached, slot: usize, strats: usize, terms: usize) -> bool
     ensures { IsTrue result →
         IsCallee (program_layers (seen_context reached.entry)) slot strats terms }
@@ -82,14 +82,14 @@ fn is_callee(reached: Reached, slot: usize, strats: usize, terms: usize) -> bool
     }
 }
 
-// Whether one of this number of strategy parameters is called as it can be, without arguments.
+/// Whether one of this number of strategy parameters is called as it can be, without arguments.
 fn is_parameter(parameters: usize, slot: usize, strats: usize, terms: usize) -> bool
     ensures { IsTrue result → (slot < parameters) × (strats ≡ 0) × (terms ≡ 0) }
 {
     slot < parameters && strats == 0 && terms == 0
 }
 
-// Whether a coordinate leads to what can be called with these numbers of strategies and terms.
+/// Whether a coordinate leads to what can be called with these numbers of strategies and terms.
 fn has_callee(layers: &Layers, at: Coordinate, strats: usize, terms: usize) -> bool
     ensures { IsTrue result →
         IsCallee (outside (program_layers (context_of layers.now)) at.layers_up) at.slot
@@ -228,7 +228,7 @@ fn are_arms_closed(arms: &[CoreArm], layers: &Layers, limit: &mut usize) -> bool
     true
 }
 
-// Whether the body of a definition or of a scope is closed, which has a layer of so many parameters and variables.
+/// Whether the body of a definition or of a scope is closed, which has a layer of so many parameters and variables.
 #[cycle(closed)]
 fn is_body_closed(
     parameters: usize,
@@ -250,7 +250,7 @@ fn is_body_closed(
     is_closed(body, &inner, limit)
 }
 
-// The definitions of a let stand in their own layer.
+/// The definitions of a let stand in their own layer.
 #[cycle(closed)]
 fn are_let_definitions_closed(defs: &[CoreDef], layers: &Layers, limit: &mut usize) -> bool
     ensures closed { IsTrue result →
@@ -267,7 +267,7 @@ fn are_let_definitions_closed(defs: &[CoreDef], layers: &Layers, limit: &mut usi
     are_definitions_closed(defs, &inner, limit)
 }
 
-// The body of a let stands in the layer of its definitions.
+/// The body of a let stands in the layer of its definitions.
 #[cycle(closed)]
 fn is_let_body_closed(
     body: &CoreStrategy,

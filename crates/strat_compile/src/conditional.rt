@@ -1,4 +1,4 @@
-// Definitions whose body is a conditional of their strategy parameters, such as that of `try`.
+//! Definitions whose body is a conditional of their strategy parameters, such as that of `try`.
 ghost use Rattle.std.specs.Prelude.{◌≡◌, IfOk, IfSome};
 ghost use Rattle.core_lang.specs.Views.{arm_of, strategies_of, strategy_of};
 ghost use Rattle.strat_compile.specs.Conditionals.{ArePartsOf, IsConditionalCall, IsPart, part_strategy};
@@ -30,7 +30,7 @@ pub(crate) struct Conditional<'a> {
 }
 
 impl Part<'_> {
-    // Whether both are the same strategy parameter.
+    /// Whether both are the same strategy parameter.
     fn repeats(&self, other: &Part) -> bool {
         match (self, other) {
             (Part::Argument { slot, .. }, Part::Argument { slot: position, .. }) => {
@@ -67,7 +67,7 @@ pub(crate) fn conditional_call<'a>(
     Ok(conditional_of(arm, otherwise, arguments.as_slice()))
 }
 
-// The conditional of these parts, if they are parts of one.
+/// The conditional of these parts, if they are parts of one.
 fn conditional_of<'a>(
     arm: &CoreArm,
     otherwise: &CoreStrategy,
@@ -91,7 +91,7 @@ fn conditional_of<'a>(
     })
 }
 
-// The part that a strategy is, if it is one.
+/// The part that a strategy is, if it is one.
 fn part_of<'a>(s: &CoreStrategy, arguments: &[Known<'a>]) -> Option<Part<'a>>
     ensures { IfSome result (λ part. (strategy_of s.now ≡ part_strategy part)
         × IsPart (arguments_of arguments.now) part) }

@@ -1,5 +1,5 @@
-// What is emitted for a strategy: each row of `specs/Emission`, from the end of the code to its beginning. What is emitted in
-// place stands elsewhere in the core, so each function is given a depth, which falls from strategy to strategy.
+//! What is emitted for a strategy: each row of `specs/Emission`, from the end of the code to its beginning. What is emitted in
+//! place stands elsewhere in the core, so each function is given a depth, which falls from strategy to strategy.
 ghost use Rattle.std.specs.Prelude.{◌≡◌, suc, IfOk, OnOk, Some, map};
 ghost use Rattle.core_lang.specs.Program.{scope};
 ghost use Rattle.core_lang.specs.Views.{def_of, definitions_of, strategy_of};
@@ -23,7 +23,7 @@ use strat_code::{Instr, Traversal};
 /// How deep strategies may be nested: deeper than any that memory holds.
 pub(crate) const DEEPEST: usize = usize::MAX;
 
-// The depth of a part. `Err` where there is none, since no memory holds strategies that are nested so deep.
+/// The depth of a part. `Err` where there is none, since no memory holds strategies that are nested so deep.
 fn inner_depth(depth: usize) -> Result<usize, AllocError>
     ensures { IfOk result (λ inner. suc inner ≡ depth) }
 {
@@ -142,7 +142,7 @@ pub(crate) fn emit(
     }
 }
 
-// The rest of a chain, which is emitted first, and the further nodes of what stands in front of it.
+/// The rest of a chain, which is emitted first, and the further nodes of what stands in front of it.
 #[cycle(emission)]
 #[tactic(auto, using(crate::proofs::EmissionLaws::rest_next))]
 fn emit_rest(
@@ -192,7 +192,7 @@ fn emit_scope(
     })
 }
 
-// A scope whose places are in the innermost frame, which has `size` places without them.
+/// A scope whose places are in the innermost frame, which has `size` places without them.
 #[cycle(emission)]
 #[tactic(auto, using(crate::proofs::RowLaws::inner_row))]
 fn emit_inner_scope(
@@ -251,7 +251,7 @@ fn emit_traversal(
     })
 }
 
-// The bodies of the definitions of a let, after a jump past them.
+/// The bodies of the definitions of a let, after a jump past them.
 #[cycle(emission)]
 #[tactic(auto, using(crate::proofs::RowLaws::definitions_row))]
 fn emit_definitions(
@@ -343,7 +343,7 @@ pub(crate) fn emit_body(
     }
 }
 
-// Code with the end of a definition after it.
+/// Code with the end of a definition after it.
 #[cycle(emission)]
 #[tactic(auto, using(crate::proofs::RowLaws::ended_row))]
 fn emit_ended(

@@ -1,11 +1,11 @@
-// What is emitted, one instruction or label after another.
+//! What is emitted, one instruction or label after another.
 ghost use Rattle.std.specs.Prelude.{◌≡◌, IfOk, OnOk, [], length};
 ghost use Rattle.strat_code.specs.CodeOf.{code_of, instr_of};
 ghost use Rattle.strat_compile.specs.Located.{code_in};
 ghost use Rattle.strat_compile.specs.Output.{emitted_of, nothing, onto, place, starting, with_labels};
 ghost use Rattle.strat_compile.specs.Tables.{SelectsNot};
 
-use crate::located::{located, located_tables};
+use crate::located::{locate, located_tables};
 use crate::output::{Finished, Output};
 use crate::sources::{Sources, marks_of};
 use std::alloc::{AllocError, Global};
@@ -59,7 +59,8 @@ impl Output {
     #[tactic(auto, using(crate::proofs::TableLaws::same_tables), unfolding(crate::specs::Output::emitted_of))]
     pub(crate) fn emit(&mut self, instr: Instr) -> Result<(), AllocError>
         requires { SelectsNot instr }
-        ensures { OnOk result (emitted_of self.new ≡ onto (instr_of [] instr) (emitted_of self.old)) }
+        ensures { OnOk result (emitted_of self.new ≡
+            onto (instr_of [] instr) (emitted_of self.old)) }
     {
         self.instrs.push(instr)?;
         Ok(())
@@ -139,7 +140,7 @@ impl Output {
         let tables = located_tables(alloc, tables, count)?;
         let mut made = Vec::with_capacity(alloc, count)?;
         while let Some(instr) = instrs.pop() {
-            let instr = located(alloc, instr, count, starts.as_slice())?;
+            let instr = locate(alloc, instr, count, starts.as_slice())?;
             made.push(instr)?;
         }
         let marks = marks_of(alloc, count, sources)?;

@@ -1,4 +1,4 @@
-// How large what is emitted for a strategy would be, with calls in place and specializations.
+//! How large what is emitted for a strategy would be, with calls in place and specializations.
 ghost use Rattle.std.specs.Prelude.{◌≤◌};
 
 use crate::callee::{callee, handing, program_definition};
@@ -126,7 +126,7 @@ fn arms_fit(
     Ok(true)
 }
 
-// The same of the body of a definition or of a scope.
+/// The same of the body of a definition or of a scope.
 #[cycle(fitting)]
 fn framed_fits(
     alloc: Global,
@@ -148,7 +148,7 @@ fn framed_fits(
     fits(alloc, &inner, body, inlining, depth, limit)
 }
 
-// The same of the definitions and the body of a let.
+/// The same of the definitions and the body of a let.
 #[cycle(fitting)]
 fn let_fits(
     alloc: Global,
@@ -176,7 +176,7 @@ fn let_fits(
     fits(alloc, &inner, body, inlining, depth, limit)
 }
 
-// The same of a call.
+/// The same of a call.
 #[cycle(fitting)]
 fn call_fits(
     alloc: Global,
@@ -253,7 +253,7 @@ pub(crate) fn body_fits(
     fits(alloc, &inner, body, inlining, depth, limit)
 }
 
-// The same of the strategy arguments of a call, as they are handed over.
+/// The same of the strategy arguments of a call, as they are handed over.
 #[cycle(fitting)]
 fn arguments_fit(
     alloc: Global,

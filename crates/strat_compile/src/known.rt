@@ -1,4 +1,4 @@
-// Which arguments of a call are known.
+//! Which arguments of a call are known.
 ghost use Rattle.std.specs.Prelude.{◌≡◌, ◌≤◌, IfOk, IfSome, IsTrue};
 ghost use Rattle.core_lang.specs.Views.{strategies_of, strategy_of};
 ghost use Rattle.strat_compile.specs.Known.{AreParameters, IsKnownAs, IsOfProgram, IsOwn, IsParameter};
@@ -45,7 +45,7 @@ pub(crate) fn known_arguments<'a>(
     Ok(Some(made))
 }
 
-// What a strategy argument is known to be.
+/// What a strategy argument is known to be.
 fn known_argument<'a>(
     layers: &'a Layers<'a>,
     inside: &'a Layers<'a>,
@@ -112,7 +112,7 @@ pub(crate) fn own_specialization(
     })
 }
 
-// Whether the layers are those of the definitions of the program.
+/// Whether the layers are those of the definitions of the program.
 fn is_of_program(layers: &Layers) -> bool
     ensures { IsTrue result → IsOfProgram (site_of layers.now) }
 {
@@ -125,7 +125,7 @@ fn is_of_program(layers: &Layers) -> bool
     }
 }
 
-// Whether the strategies are calls of the strategy parameters of a layer, in order, from the first one on.
+/// Whether the strategies are calls of the strategy parameters of a layer, in order, from the first one on.
 fn are_parameters(strategies: &[CoreStrategy], layers_up: usize) -> bool
     ensures { IsTrue result → AreParameters layers_up 0 (strategies_of strategies.now) }
 {
@@ -137,7 +137,7 @@ fn are_parameters(strategies: &[CoreStrategy], layers_up: usize) -> bool
     true
 }
 
-// Whether the strategy is a call of the strategy parameter at this position of a layer.
+/// Whether the strategy is a call of the strategy parameter at this position of a layer.
 fn is_parameter(strategy: &CoreStrategy, layers_up: usize, slot: usize) -> bool
     ensures { IsTrue result → IsParameter layers_up slot (strategy_of strategy.now) }
 {

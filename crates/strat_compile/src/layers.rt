@@ -1,8 +1,9 @@
-// The layers that a strategy stands in, as far as they are known when its code is made.
-ghost use Rattle.std.specs.Prelude.{◌≡◌, ◌+◌, ◌≤◌, suc, IfOk};
+//! The layers that a strategy stands in, as far as they are known when its code is made.
+ghost use Rattle.std.specs.Prelude.{◌≡◌, ◌+◌, ◌≤◌, suc};
 ghost use Rattle.strat_code.specs.Context.{by_frames, frames_in, outer, slot_in};
 ghost use Rattle.strat_compile.specs.Layers.{context_of, seen_context, site_of};
 ghost use Rattle.strat_compile.specs.Sites.{outside_of, stripped};
+ghost use Rattle.term_model.specs.Results.{Returns};
 
 use core_lang::{Coordinate, CoreDef, CoreStrategy};
 use std::alloc::AllocError;
@@ -107,14 +108,14 @@ pub(crate) struct ProgramDefinition<'a> {
 
 /// The number after this one. `Err` where that leaves 64 bits, since no memory holds as many instructions or places.
 pub(crate) fn successor(number: usize) -> Result<usize, AllocError>
-    ensures { IfOk result (λ made. made ≡ suc number) }
+    ensures { Returns result (suc number) }
 {
     number.checked_add(1).ok_or(AllocError)
 }
 
 /// The sum of the numbers. `Err` where that leaves 64 bits, since no memory holds as many instructions or places.
 pub(crate) fn sum(first: usize, second: usize) -> Result<usize, AllocError>
-    ensures { IfOk result (λ made. made ≡ first + second) }
+    ensures { Returns result (first + second) }
 {
     first.checked_add(second).ok_or(AllocError)
 }
@@ -169,9 +170,9 @@ pub(crate) fn frames_among(layers: &Layers, layers_up: usize) -> usize
     }
 }
 
-// The position of a variable of a layer in its frame.
+/// The position of a variable of a layer in its frame.
 fn position_in(reached: Reached, slot: usize) -> Result<usize, AllocError>
-    ensures { IfOk result (λ position. position ≡ slot_in (seen_context reached.entry) slot) }
+    ensures { Returns result (slot_in (seen_context reached.entry) slot) }
 {
     if reached.is_frameless {
         return Ok(slot);
@@ -189,7 +190,7 @@ fn position_in(reached: Reached, slot: usize) -> Result<usize, AllocError>
 
 /// The coordinate by frames: how many frames up a variable or a closure is, and its position in that frame.
 pub(crate) fn frame_coordinate(layers: &Layers, at: Coordinate) -> Result<Coordinate, AllocError>
-    ensures { IfOk result (λ made. made ≡ by_frames (context_of layers.now) at) }
+    ensures { Returns result (by_frames (context_of layers.now) at) }
 {
     let layers_up = frames_among(layers, at.layers_up);
     let slot = position_in(reach(&*layers, at.layers_up), at.slot)?;

@@ -1,4 +1,4 @@
-// What is emitted for a strategy of one instruction. These functions are not inlined, so that a level of `emit` needs little of the stack.
+//! What is emitted for a strategy of one instruction. These functions are not inlined, so that a level of `emit` needs little of the stack.
 ghost use Rattle.std.specs.Prelude.{◌≡◌, OnOk};
 ghost use Rattle.core_lang.specs.Program.{build, call, fail, id, match, primitive};
 ghost use Rattle.core_lang.specs.Views.{pattern_of, patterns_of};

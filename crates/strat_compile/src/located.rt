@@ -1,4 +1,4 @@
-// From places and labels to addresses, when all is emitted.
+//! From places and labels to addresses, when all is emitted.
 ghost use Rattle.std.specs.Prelude.{◌≡◌, IfOk, map, slice_get};
 ghost use Rattle.strat_code.specs.CodeOf.{argument_of, case_of, instr_of};
 ghost use Rattle.strat_compile.specs.Located.{AreLocated, address, address_if, argument_located, case_located};
@@ -7,14 +7,14 @@ ghost use Rattle.strat_compile.specs.Located as spec;
 use std::alloc::{AllocError, Global};
 use strat_code::{Argument, Case, Instr};
 
-// The address of a place, in code of `count` instructions.
+/// The address of a place, in code of `count` instructions.
 fn address_of(place: usize, count: usize) -> usize
     ensures { result ≡ address count place }
 {
     count.saturating_sub(place)
 }
 
-// The address where the code of a definition starts.
+/// The address where the code of a definition starts.
 fn address_of_label(label: usize, count: usize, starts: &[usize]) -> usize
     ensures { result ≡ address_if count (slice_get starts.now label) }
 {
@@ -94,7 +94,7 @@ pub(crate) fn located_tables(
 
 /// The instruction with addresses in place of places and labels, in code of `count` instructions; those in tables
 /// are put in there.
-pub(crate) fn located(
+pub(crate) fn locate(
     alloc: Global,
     instr: Instr,
     count: usize,

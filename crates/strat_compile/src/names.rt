@@ -1,12 +1,13 @@
-// Copies of names of primitives.
+//! Copies of names of primitives.
 ghost use Rattle.std.specs.Prelude.{◌≡◌, IfOk};
+ghost use Rattle.term_model.specs.Results.{Returns};
 
 use std::alloc::{AllocError, Global};
 use term_model::PrimNames;
 
 /// A copy of the set.
-pub(crate) fn copied(alloc: Global, source: &PrimNames) -> Result<PrimNames, AllocError>
-    ensures { IfOk result (λ made. made ≡ source.now) }
+pub(crate) fn copy_names(alloc: Global, source: &PrimNames) -> Result<PrimNames, AllocError>
+    ensures { Returns result source.now }
 {
     let mut made = PrimNames::new(alloc);
     for index in 0..source.len() {

@@ -1,5 +1,5 @@
-// What is emitted for a call whose arguments may look at frames. A conditional of strategy parameters is made in place, with the
-// code of each argument where it is called; that takes no more code than closures of the arguments, since each is called once.
+//! What is emitted for a call whose arguments may look at frames. A conditional of strategy parameters is made in place, with the
+//! code of each argument where it is called; that takes no more code than closures of the arguments, since each is called once.
 ghost use Rattle.std.specs.Prelude.{OnOk};
 ghost use Rattle.core_lang.specs.Program.{call};
 ghost use Rattle.core_lang.specs.Views.{patterns_of, strategies_of};
@@ -58,7 +58,7 @@ pub(crate) fn emit_open_call<'a>(
     emit_conditional(alloc, out, places, nodes, conditional, depth)
 }
 
-// A conditional, in place of a call.
+/// A conditional, in place of a call.
 #[cycle(emission)]
 fn emit_conditional<'a>(
     alloc: Global,
@@ -81,7 +81,7 @@ fn emit_conditional<'a>(
     out.emit(Instr::Try { nodes, otherwise })
 }
 
-// What follows the guard of a conditional, after the instruction that takes the choice record off.
+/// What follows the guard of a conditional, after the instruction that takes the choice record off.
 #[cycle(emission)]
 fn emit_then_part<'a>(
     alloc: Global,
@@ -109,7 +109,7 @@ fn emit_then_part<'a>(
     }
 }
 
-// A part of a conditional.
+/// A part of a conditional.
 #[cycle(emission)]
 fn emit_part<'a>(
     alloc: Global,

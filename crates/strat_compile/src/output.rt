@@ -1,4 +1,4 @@
-// Code as it is emitted, from its end to its beginning.
+//! Code as it is emitted, from its end to its beginning.
 ghost use Rattle.strat_compile.specs.Tables.{HaveTables};
 
 use crate::sources::Sources;

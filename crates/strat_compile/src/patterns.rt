@@ -1,4 +1,4 @@
-// Patterns with coordinates by frames.
+//! Patterns with coordinates by frames.
 ghost use Rattle.std.specs.Prelude.{◌≡◌, IfOk, map};
 ghost use Rattle.core_lang.specs.Views.{pattern_of, patterns_of, rest_of};
 ghost use Rattle.strat_code.specs.Context.{by_frames};
@@ -24,7 +24,7 @@ pub(crate) fn by_frames_pattern(
         CorePattern::Variable(x) => Ok(CorePattern::Variable(frame_coordinate(layers, *x)?)),
         CorePattern::Alias(x, part) => {
             let x = frame_coordinate(layers, *x)?;
-            Ok(CorePattern::Alias(x, boxed(alloc, part, layers)?))
+            Ok(CorePattern::Alias(x, boxed_pattern(alloc, part, layers)?))
         }
         CorePattern::Integer(value) => Ok(CorePattern::Integer(*value)),
         CorePattern::Applied(symbol, parts) => {
@@ -37,17 +37,17 @@ pub(crate) fn by_frames_pattern(
         }
         CorePattern::Like(part, x) => {
             let x = frame_coordinate(layers, *x)?;
-            Ok(CorePattern::Like(boxed(alloc, part, layers)?, x))
+            Ok(CorePattern::Like(boxed_pattern(alloc, part, layers)?, x))
         }
         CorePattern::Annotated(part, annotations) => {
             let annotations = by_frames_patterns(alloc, annotations, layers)?;
-            Ok(CorePattern::Annotated(boxed(alloc, part, layers)?, annotations))
+            Ok(CorePattern::Annotated(boxed_pattern(alloc, part, layers)?, annotations))
         }
     }
 }
 
 #[cycle(patterns)]
-fn boxed(
+fn boxed_pattern(
     alloc: Global,
     source: &CorePattern,
     layers: &Layers,
@@ -55,8 +55,7 @@ fn boxed(
     ensures { IfOk result (λ made. pattern_of made.value ≡
         renamed (by_frames (context_of layers.now)) (pattern_of source.now)) }
 {
-    let made = Box::new(alloc, by_frames_pattern(alloc, source, layers)?)?;
-    Ok(made)
+    Ok(Box::new(alloc, by_frames_pattern(alloc, source, layers)?)?)
 }
 
 #[cycle(patterns)]
@@ -70,7 +69,7 @@ fn optional(
 {
     match source {
         None => Ok(None),
-        Some(p) => Ok(Some(boxed(alloc, p, layers)?)),
+        Some(p) => Ok(Some(boxed_pattern(alloc, p, layers)?)),
     }
 }
 

@@ -1,4 +1,4 @@
-// From cores to code.
+//! From cores to code.
 ghost use Rattle.std.specs.Prelude.{◌≡◌, IfOk};
 ghost use Rattle.core_lang.specs.Core.{program_of};
 ghost use Rattle.core_lang.specs.Views.{definitions_of};
@@ -11,7 +11,7 @@ use crate::callee::entry_at;
 use crate::calls::emit_ordinary_call;
 use crate::emit::{DEEPEST, emit_bodies};
 use crate::layers::Layers;
-use crate::names::copied;
+use crate::names::copy_names;
 use crate::output::Output;
 use crate::recursion::recursive_definitions;
 use crate::sources::Sources;
@@ -56,7 +56,7 @@ fn compile_with_sources(
         StandsFor (code_of code.tables code.instrs) (program_of core.now) core.now.main) }
     ensures prims { IfOk result (λ code. code.prims ≡ core.now.prims) }
 {
-    let prims = copied(alloc, core.prims())?;
+    let prims = copy_names(alloc, core.prims())?;
     let output = emit_program(alloc, core.defs(), core.main(), sources)?;
     let finished = output.finish(alloc)?;
     Ok(Code::new(finished.instrs, finished.tables, prims, finished.marks))

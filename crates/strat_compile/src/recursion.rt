@@ -1,10 +1,10 @@
-// Which definitions of the program may reach themselves by calls.
+//! Which definitions of the program may reach themselves by calls.
 ghost use Rattle.std.specs.Prelude.{◌≡◌, IfOk, length};
 
 use core_lang::{Coordinate, CoreArm, CoreDef, CoreStrategy};
 use std::alloc::{AllocError, Global};
 
-// How often the definitions are gone through.
+/// How often the definitions are gone through.
 const MOST_PASSES: usize = 16;
 
 /// Returns of each definition of the program whether it may reach itself by calls. It may where it both calls one that may and is
@@ -27,8 +27,8 @@ pub(crate) fn recursive_definitions(
     Ok(recursive)
 }
 
-// Goes through all definitions once, from the first one or from the last one. Returns whether one more is not recursive, since it
-// calls none that may be; those that the others call are marked.
+/// Goes through all definitions once, from the first one or from the last one. Returns whether one more is not recursive, since it
+/// calls none that may be; those that the others call are marked.
 fn settle_callers(
     defs: &[CoreDef],
     from_last: bool,
@@ -52,7 +52,7 @@ fn settle_callers(
     has_changed
 }
 
-// Returns whether this definition is found out not to be recursive: its body calls none that may be.
+/// Returns whether this definition is found out not to be recursive: its body calls none that may be.
 fn settle(def: &CoreDef, position: usize, recursive: &mut Vec<bool>, called: &mut Vec<bool>) -> bool
     ensures recursive { length recursive.new.items ≡ length recursive.old.items }
     ensures called { length called.new.items ≡ length called.old.items }
@@ -67,7 +67,7 @@ fn settle(def: &CoreDef, position: usize, recursive: &mut Vec<bool>, called: &mu
     true
 }
 
-// Returns whether one more is not recursive, since none that may be calls it. The marks are taken away.
+/// Returns whether one more is not recursive, since none that may be calls it. The marks are taken away.
 fn settle_called(recursive: &mut Vec<bool>, called: &mut Vec<bool>) -> bool
     ensures recursive { length recursive.new.items ≡ length recursive.old.items }
     ensures called { length called.new.items ≡ length called.old.items }
@@ -94,8 +94,8 @@ fn take_mark(called: &mut Vec<bool>, position: usize) -> bool
     was_called
 }
 
-// Whether a strategy calls a definition of the program that may be recursive: `up` layers up are the definitions of the program. All
-// such definitions that it calls are marked.
+/// Whether a strategy calls a definition of the program that may be recursive: `up` layers up are the definitions of the program. All
+/// such definitions that it calls are marked.
 #[cycle(reaching)]
 fn reaches(s: &CoreStrategy, up: usize, recursive: &[bool], called: &mut Vec<bool>) -> bool
     ensures { length called.new.items ≡ length called.old.items }
@@ -193,7 +193,7 @@ fn any_body_reaches(defs: &[CoreDef], up: usize, recursive: &[bool], called: &mu
     any
 }
 
-// Returns whether the definition at a position may be recursive, and marks it then as called.
+/// Returns whether the definition at a position may be recursive, and marks it then as called.
 fn mark(position: usize, recursive: &[bool], called: &mut Vec<bool>) -> bool
     ensures { length called.new.items ≡ length called.old.items }
 {
@@ -206,7 +206,7 @@ fn mark(position: usize, recursive: &[bool], called: &mut Vec<bool>) -> bool
     true
 }
 
-// Whether the definition at a position may reach itself by calls, by what was found of each.
+/// Whether the definition at a position may reach itself by calls, by what was found of each.
 fn may_recurse(recursive: &[bool], position: usize) -> bool {
     match recursive.get(position) {
         Some(found) => *found,

@@ -1,4 +1,4 @@
-// What strategies ask of a term's root, by the matches with which they and their alternatives begin.
+//! What strategies ask of a term's root, by the matches with which they and their alternatives begin.
 ghost use Rattle.std.specs.Prelude.{◌≡◌, ◌+◌, ◌∷◌, ◌≤◌, IfOk, IfSome, IsTrue, MatchOption, OnOk, map, suc};
 ghost use Rattle.core_lang.specs.Program.{call, id, no_patterns};
 ghost use Rattle.core_lang.specs.Roots as spec;
@@ -10,6 +10,7 @@ ghost use Rattle.strat_compile.specs.Chains as chains;
 ghost use Rattle.strat_compile.specs.Emission.{BeginsNot, Joins};
 ghost use Rattle.strat_compile.specs.Layers.{context_of};
 ghost use Rattle.strat_compile.specs.Output.{emitted_of};
+ghost use Rattle.term_model.specs.Results.{Returns};
 
 use crate::callee::{callee, program_definition};
 use crate::known::known_arguments;
@@ -19,8 +20,8 @@ use core_lang::{Coordinate, CoreArm, CorePattern, CoreStrategy};
 use std::alloc::{AllocError, Global};
 use strat_code::Root;
 
-// A match at the beginning of a strategy: what it asks of a term's root, and the nodes of the strategy's derivation where
-// the term has another root.
+/// A match at the beginning of a strategy: what it asks of a term's root, and the nodes of the strategy's derivation where
+/// the term has another root.
 #[derive(Drop)]
 struct Beginning {
     root: Root,
@@ -35,7 +36,7 @@ pub(crate) struct Asked {
     pub(crate) nodes: usize,
 }
 
-// What a pattern asks of a term's root.
+/// What a pattern asks of a term's root.
 #[tactic(auto, using(crate::proofs::BeginningLaws::asked_alias, crate::proofs::BeginningLaws::asked_annotated, crate::proofs::BeginningLaws::asked_symbol, crate::proofs::BeginningLaws::asked_list))]
 fn root_asked(pattern: &CorePattern) -> Result<Root, AllocError>
     ensures { IfOk result (λ root. root_of root ≡ spec.root_of (pattern_of pattern.now)) }
@@ -43,10 +44,7 @@ fn root_asked(pattern: &CorePattern) -> Result<Root, AllocError>
     match pattern {
         CorePattern::Anything => Ok(Root::Any),
         CorePattern::Variable(_) => Ok(Root::Any),
-        CorePattern::Alias(_, part) => {
-            let root = root_asked(part)?;
-            Ok(root)
-        }
+        CorePattern::Alias(_, part) => { root_asked(part) }
         CorePattern::Integer(value) => Ok(Root::Integer(*value)),
         CorePattern::Applied(symbol, parts) => {
             let symbol = symbol.clone()?;
@@ -54,14 +52,11 @@ fn root_asked(pattern: &CorePattern) -> Result<Root, AllocError>
         }
         CorePattern::List(elements, rest) => Ok(Root::List(elements.len(), rest.is_some())),
         CorePattern::Like(_, _) => Ok(Root::Any),
-        CorePattern::Annotated(part, _) => {
-            let root = root_asked(part)?;
-            Ok(root)
-        }
+        CorePattern::Annotated(part, _) => { root_asked(part) }
     }
 }
 
-// The match at the beginning of a strategy, alone, in scopes and in sequences, if there is one.
+/// The match at the beginning of a strategy, alone, in scopes and in sequences, if there is one.
 #[tactic(auto, using(crate::proofs::BeginningLaws::match_begins, crate::proofs::BeginningLaws::sequence_begins, crate::proofs::BeginningLaws::scope_begins, crate::proofs::BeginningLaws::sequence_not, crate::proofs::BeginningLaws::scope_not, crate::proofs::BeginningLaws::other_not))]
 fn begins_with(strategy: &CoreStrategy) -> Result<Option<Beginning>, AllocError>
     ensures { IfOk result (λ found. MatchOption found (BeginsNot (strategy_of strategy.now))
@@ -90,8 +85,8 @@ fn begins_with(strategy: &CoreStrategy) -> Result<Option<Beginning>, AllocError>
     }
 }
 
-// The roots that a strategy asks for come in front of the others, each that of a match with which one of its alternatives begins.
-// The nodes are those of its derivation where the term has none of them; `None` where no such roots are found.
+/// The roots that a strategy asks for come in front of the others, each that of a match with which one of its alternatives begins.
+/// The nodes are those of its derivation where the term has none of them; `None` where no such roots are found.
 #[cycle(asking)]
 #[tactic(auto, using(crate::proofs::AskLaws::fail_asks, crate::proofs::AskLaws::match_asks, crate::proofs::AskLaws::sequence_asks))]
 fn roots_asked(
@@ -143,7 +138,7 @@ fn roots_asked(
     }
 }
 
-// The same of a choice: of its guards, and of what is done where none of them succeeds.
+/// The same of a choice: of its guards, and of what is done where none of them succeeds.
 #[cycle(asking)]
 fn choice_asked(
     alloc: Global,
@@ -155,7 +150,8 @@ fn choice_asked(
     roots: &mut Vec<Root>,
 ) -> Result<Option<usize>, AllocError>
     ensures asks { IfOk result (Finds (context_of layers.now)
-        (first_of (arm_of first.now ∷ map arm_of more.now) (strategy_of otherwise.now)) roots.old roots.new) }
+        (first_of (arm_of first.now ∷ map arm_of more.now) (strategy_of otherwise.now))
+        roots.old roots.new) }
     ensures limit { limit.new ≤ limit.old }
 {
     let Some(others) = arms_asked(alloc, layers, more, otherwise, limit, roots)? else {
@@ -168,7 +164,7 @@ fn choice_asked(
     Ok(Some(nodes))
 }
 
-// The same of the further arms of a choice and what is done where none of their guards succeeds.
+/// The same of the further arms of a choice and what is done where none of their guards succeeds.
 #[cycle(asking)]
 #[tactic(auto, using(crate::proofs::AskLaws::no_arm_asks, crate::proofs::AskLaws::arm_asks))]
 fn arms_asked(
@@ -195,7 +191,7 @@ fn arms_asked(
     Ok(Some(nodes))
 }
 
-// The same of what is around a strategy, by one node and one layer of which nothing is looked at.
+/// The same of what is around a strategy, by one node and one layer of which nothing is looked at.
 #[cycle(asking)]
 #[tactic(auto, using(crate::proofs::LayerLaws::context_hidden, crate::proofs::AskLaws::inside_asks))]
 fn inside_asked(
@@ -220,7 +216,7 @@ fn inside_asked(
     Ok(Some(nodes))
 }
 
-// The same of a call without term arguments.
+/// The same of a call without term arguments.
 #[cycle(asking)]
 #[tactic(auto, using(crate::proofs::AskLaws::known_asks))]
 fn call_asked(
@@ -249,7 +245,7 @@ fn call_asked(
     }
 }
 
-// The same of a call of a definition of the program whose strategy arguments are known.
+/// The same of a call of a definition of the program whose strategy arguments are known.
 #[cycle(asking)]
 #[tactic(auto, using(crate::proofs::AskLaws::defined_asks))]
 fn defined_asked(
@@ -285,9 +281,9 @@ fn defined_asked(
     Ok(Some(nodes))
 }
 
-// The nodes of a choice of which both sides fail.
+/// The nodes of a choice of which both sides fail.
 fn choice_nodes(first: usize, others: usize) -> Result<usize, AllocError>
-    ensures { IfOk result (λ made. made ≡ suc (first + others)) }
+    ensures { Returns result (suc (first + others)) }
 {
     let both = sum(first, others)?;
     successor(both)
@@ -330,7 +326,7 @@ pub(crate) fn joining(
     Ok(Some(Asked { roots, nodes }))
 }
 
-// Whether the strategy is the one that does nothing.
+/// Whether the strategy is the one that does nothing.
 fn does_nothing(strategy: &CoreStrategy) -> bool
     ensures { IsTrue result → strategy_of strategy.now ≡ id }
 {
@@ -340,7 +336,7 @@ fn does_nothing(strategy: &CoreStrategy) -> bool
     }
 }
 
-// Whether anything is asked of a root.
+/// Whether anything is asked of a root.
 fn asks(root: &Root) -> bool
     ensures { result ≡ chains.asks (root_of root.now) }
 {

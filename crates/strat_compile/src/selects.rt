@@ -1,4 +1,4 @@
-// The selects of a chain of alternatives, which share a table.
+//! The selects of a chain of alternatives, which share a table.
 ghost use Rattle.std.specs.Prelude.{◌≡◌, ◌<◌, [], IfOk, OnOk, drop, length, map};
 ghost use Rattle.strat_code.specs.Code.{select};
 ghost use Rattle.strat_code.specs.CodeOf.{case_of, cases_of};
@@ -14,7 +14,7 @@ use std::alloc::{AllocError, Global};
 use strat_code::{Case, Instr};
 
 impl Output {
-    // Adds a table.
+    /// Adds a table.
     #[tactic(auto, using(crate::proofs::TableLaws::is_table))]
     fn add_table(&mut self, cases: Vec<Case>) -> Result<usize, AllocError>
         ensures view { OnOk result (emitted_of self.new ≡ emitted_of self.old) }
@@ -26,7 +26,7 @@ impl Output {
         Ok(table)
     }
 
-    // Puts a select in front.
+    /// Puts a select in front.
     #[tactic(auto, using(crate::proofs::TableLaws::one_more), unfolding(crate::specs::Output::emitted_of))]
     fn emit_select(
         &mut self,
@@ -60,7 +60,8 @@ impl Output {
         last: usize,
     ) -> Result<(), AllocError>
         ensures { OnOk result (emitted_of self.new ≡ (let cs = map case_of cases.items in
-            onto (select nodes cs last) (selects_from (drop 1 skipped.now) cs last (emitted_of self.old)))) }
+            onto (select nodes cs last)
+            (selects_from (drop 1 skipped.now) cs last (emitted_of self.old)))) }
     {
         let others = skipped.len().saturating_sub(1);
         let table = self.add_table(cases)?;

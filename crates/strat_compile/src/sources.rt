@@ -1,4 +1,4 @@
-// Where strategies stand in the definition file: marks beside the code, for explanations of runs. No contract speaks of them.
+//! Where strategies stand in the definition file: marks beside the code, for explanations of runs. No contract speaks of them.
 ghost use Rattle.std.specs.Prelude.{◌≡◌, OnOk};
 ghost use Rattle.strat_compile.specs.Output.{emitted_of};
 
@@ -10,9 +10,9 @@ use strat_code::SourceMark;
 /// What is marked while code is emitted, from its end to its beginning.
 #[derive(Drop)]
 pub(crate) struct Sources {
-    // Where the names of the program's definitions stand, by their labels.
+    /// Where the names of the program's definitions stand, by their labels.
     heads: Vec<u64>,
-    // In place of an address each has the place of its instruction.
+    /// In place of an address each has the place of its instruction.
     marks: Vec<SourceMark>,
 }
 
@@ -30,7 +30,7 @@ impl Sources {
         })
     }
 
-    // Marks an instruction, unless it is marked already.
+    /// Marks an instruction, unless it is marked already.
     fn mark(&mut self, place: usize, offset: u64) -> Result<(), AllocError> {
         if let Some(last) = self.marks.last() {
             if last.address == place {
@@ -44,7 +44,7 @@ impl Sources {
         Ok(())
     }
 
-    // Marks an instruction with which the code of a label begins, if that is the label of a definition of the program.
+    /// Marks an instruction with which the code of a label begins, if that is the label of a definition of the program.
     fn mark_start(&mut self, place: usize, label: usize) -> Result<(), AllocError> {
         let Some(offset) = self.heads.get(label).copied() else {
             return Ok(());

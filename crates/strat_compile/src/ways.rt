@@ -1,4 +1,4 @@
-// How a call of a definition of the program is made whose strategy arguments are known.
+//! How a call of a definition of the program is made whose strategy arguments are known.
 ghost use Rattle.std.specs.Prelude.{◌≡◌, IfOk, OnOk};
 ghost use Rattle.strat_compile.specs.Output.{emitted_of};
 ghost use Rattle.strat_compile.specs.Ways.{AllowsWay};
@@ -25,11 +25,11 @@ pub(crate) enum Way {
 /// there.
 pub(crate) const EXPANSION_LIMIT: usize = 500;
 
-// How deep strategies are nested at most in an expansion, so that emitting it takes little of the call stack.
+/// How deep strategies are nested at most in an expansion, so that emitting it takes little of the call stack.
 const EXPANSION_DEPTH: usize = 64;
 
-// How many strategies all expansions have at most, beside one for each other instruction: so code is linear in the program, with a
-// small factor.
+/// How many strategies all expansions have at most, beside one for each other instruction: so code is linear in the program, with a
+/// small factor.
 const FREE_EXPANSIONS: usize = 10_000;
 
 /// How a call is made: in place, where the definition has no term parameters and does not call itself, by a specialization, where
@@ -64,7 +64,7 @@ pub(crate) fn way_of<'a>(
 }
 
 impl Output {
-    // Which definitions are made in place.
+    /// Which definitions are made in place.
     fn inlining(&self) -> Inlining<'_> {
         Inlining {
             recursive: self.recursive.as_slice(),
@@ -72,8 +72,8 @@ impl Output {
         }
     }
 
-    // Whether an expansion is small enough, if need be with definitions in place that have strategy parameters alone. It is
-    // counted then.
+    /// Whether an expansion is small enough, if need be with definitions in place that have strategy parameters alone. It is
+    /// counted then.
     fn may_expand<'a>(
         &mut self,
         alloc: Global,
@@ -99,7 +99,7 @@ impl Output {
         self.is_sparing = is_sparing;
     }
 
-    // Whether an expansion is small enough, which is counted then.
+    /// Whether an expansion is small enough, which is counted then.
     fn fits_within<'a>(
         &mut self,
         alloc: Global,
@@ -121,7 +121,7 @@ impl Output {
         Ok(self.count_expansion(EXPANSION_LIMIT.saturating_sub(left)))
     }
 
-    // Counts the strategies of an expansion. False where all expansions have enough.
+    /// Counts the strategies of an expansion. False where all expansions have enough.
     #[tactic(auto, unfolding(crate::specs::Output::emitted_of))]
     fn count_expansion(&mut self, strategies: usize) -> bool
         ensures { emitted_of self.new ≡ emitted_of self.old }

@@ -9,8 +9,11 @@ use Rattle.term_model.specs.Same.{same_symbol, same-true, same-Decides, same_hea
 use Rattle.term_model.proofs.TermLemmas.{trees_of-list_of, weight_positive}
 
 -- two terms are the same where their heads, parts and annotations are
-pub same_by_parts : (s t : Tree) → same s t ≡ ((same_head (head_of s) (head_of t) && same_all (trees_of (parts_of s)) (trees_of (parts_of t))) && same_all (trees_of (annos_of s)) (trees_of (annos_of t)))
-same_by_parts (node h ps xs) (node k qs ys) = rw (trees_of-list_of ps, trees_of-list_of qs, trees_of-list_of xs, trees_of-list_of ys) refl
+pub same_by_parts : (s t : Tree) →
+    same s t ≡ ((same_head (head_of s) (head_of t) && same_all (trees_of (parts_of s)) (trees_of (parts_of t))) &&
+    same_all (trees_of (annos_of s)) (trees_of (annos_of t)))
+same_by_parts (node h ps xs) (node k qs ys) =
+    rw (trees_of-list_of ps, trees_of-list_of qs, trees_of-list_of xs, trees_of-list_of ys) refl
 
 -- a test that is not true is false
 false_unless : (b : Bool) → ¬ (b ≡ true) → b ≡ false
@@ -56,4 +59,12 @@ weight-get_or [] i d h = absurd (omega arith)
 weight-get_or (t ∷ ts) zero d h = omega arith
 weight-get_or (t ∷ ts) (suc i) d h = omega (arith, weight-get_or ts i d (omega arith))
 
-pub ruleset equality = (same_by_parts, same-weight, same_all-length, weights-parts_of, weights-annos_of, weight-get_or, weight_positive)
+pub ruleset equality = (
+  same_by_parts,
+  same-weight,
+  same_all-length,
+  weights-parts_of,
+  weights-annos_of,
+  weight-get_or,
+  weight_positive,
+)

@@ -1,27 +1,17 @@
 -- Laws of terms that fit, and of making them.
 use Rattle.std.proofs.Common.{◌≡◌, ◌≤◌, List, [], ◌∷◌, ◌++◌, refl, sym, ◌∙◌, ap, arith}
 use Rattle.std.specs.Prelude.{Bool, true, false, ◌&&◌, nat_le, if◌then◌else◌}
-use Rattle.std.proofs.lemmas.Bool.{le-leb, leb-true}
+use Rattle.std.proofs.lemmas.Bool.{le-leb, leb-true, and_parts, false_from_ne_true}
 use Rattle.term_model.specs.declared.term.Head.{Head}
 use Rattle.term_model.specs.declared.made.Made.TheVariants as made
 use Rattle.term_model.specs.Limits.{max_weight, max_depth}
 use Rattle.term_model.specs.Term.{Tree, node, Trees, end, more, trees_of, parts_of, annos_of, weight, weights, depth, depths, fits, Fits, all_fit, made_of}
 use Rattle.term_model.proofs.TermLemmas.{trees_of-list_of}
 
--- both sides of a conjunction hold
-pub both : (a b : Bool) → (a && b) ≡ true → (a ≡ true) × (b ≡ true)
-both true true e = (refl, refl)
-both true false e = absurd (cc)
-both false b e = absurd (cc)
-
-pub not_true : (b : Bool) → (b ≡ true → ⊥) → b ≡ false
-not_true true e = absurd (e refl)
-not_true false e = refl
-
 -- the test decides whether a term fits
 pub fits-sound : (t : Tree) → fits t ≡ true → Fits t
 fits-sound t e =
-    let two : (nat_le (weight t) max_weight ≡ true) × (nat_le (depth t) max_depth ≡ true) = both _ _ e in
+    let two : (nat_le (weight t) max_weight ≡ true) × (nat_le (depth t) max_depth ≡ true) = and_parts _ _ e in
     record { weight = leb-true _ _ two.0; depth = leb-true _ _ two.1 }
 
 pub fits-complete : (t : Tree) → Fits t → fits t ≡ true
@@ -54,11 +44,13 @@ annos_fit (node h ts annos) f =
 module _ (h : Head) (ts annos : Trees) where
   -- a part that does not fit makes the whole not fit
   pub large_part : all_fit ts ≡ false → fits (node h ts annos) ≡ false
-  large_part e = not_true (fits (node h ts annos)) (λ k. let all = sym (ap all_fit (trees_of-list_of ts)) ∙ parts_fit (node h ts annos) (fits-sound (node h ts annos) k) in cc)
+  large_part e = false_from_ne_true (fits (node h ts annos)) (λ k. let all =
+      sym (ap all_fit (trees_of-list_of ts)) ∙ parts_fit (node h ts annos) (fits-sound (node h ts annos) k) in cc)
 
   -- an annotation that does not fit does so, too
   pub large_annotation : all_fit annos ≡ false → fits (node h ts annos) ≡ false
-  large_annotation e = not_true (fits (node h ts annos)) (λ k. let all = sym (ap all_fit (trees_of-list_of annos)) ∙ annos_fit (node h ts annos) (fits-sound (node h ts annos) k) in cc)
+  large_annotation e = false_from_ne_true (fits (node h ts annos)) (λ k. let all =
+      sym (ap all_fit (trees_of-list_of annos)) ∙ annos_fit (node h ts annos) (fits-sound (node h ts annos) k) in cc)
 
   -- annotations make no term smaller
   pub bare_fits : fits (node h ts annos) ≡ true → fits (node h ts end) ≡ true
@@ -69,7 +61,7 @@ module _ (h : Head) (ts annos : Trees) where
       fits-complete (node h ts end) (record { weight = omega arith; depth = omega arith })
 
   pub bare_large : fits (node h ts end) ≡ false → fits (node h ts annos) ≡ false
-  bare_large e = not_true (fits (node h ts annos)) (λ k. let small = bare_fits k in cc)
+  bare_large e = false_from_ne_true (fits (node h ts annos)) (λ k. let small = bare_fits k in cc)
 
 -- terms and one more fit each where the terms do and this one does
 pub all_fit-last : (ts : List Tree) (t : Tree) → all_fit (trees_of (ts ++ t ∷ [])) ≡ (all_fit (trees_of ts) && fits t)
@@ -80,7 +72,8 @@ all_fit-last [] t = go (fits t)
     go false = refl
 all_fit-last (u ∷ us) t = go (fits u) (all_fit-last us t)
   where
-    go : (b : Bool) → all_fit (trees_of (us ++ t ∷ [])) ≡ (all_fit (trees_of us) && fits t) → (b && all_fit (trees_of (us ++ t ∷ []))) ≡ ((b && all_fit (trees_of us)) && fits t)
+    go : (b : Bool) → all_fit (trees_of (us ++ t ∷ [])) ≡ (all_fit (trees_of us) && fits t) →
+        (b && all_fit (trees_of (us ++ t ∷ []))) ≡ ((b && all_fit (trees_of us)) && fits t)
     go true e = e
     go false e = refl
 

@@ -10,8 +10,16 @@ pub joined : {P Q : List ℕ → Type 0} (xs ys : List ℕ) → P xs → Q ys �
 joined xs ys p q = record { front = xs; back = ys; bytes = refl; first = p; second = q }
 
 -- more bytes after the second
-pub longer : {P Q R : List ℕ → Type 0} (bs cs : List ℕ) → Joined P Q bs → ((ys : List ℕ) → Q ys → R (ys ++ cs)) → Joined P R (bs ++ cs)
-longer bs cs j f = record { front = j.front; back = j.back ++ cs; bytes = ap (λ xs. xs ++ cs) j.bytes ∙ append_assoc j.front j.back cs; first = j.first; second = f j.back j.second }
+pub longer : {P Q R : List ℕ → Type 0} (bs cs : List ℕ) → Joined P Q bs → ((ys : List ℕ) → Q ys → R (ys ++ cs)) →
+    Joined P R (bs ++ cs)
+longer bs cs j f = record {
+  front = j.front;
+  back = j.back ++ cs;
+  bytes =
+      ap (λ xs. xs ++ cs) j.bytes ∙ append_assoc j.front j.back cs;
+  first = j.first;
+  second = f j.back j.second;
+}
 
 -- what comes after moves into the second
 pub nested : {P Q R : List ℕ → Type 0} (bs : List ℕ) → Joined (Joined P Q) R bs → Joined P (Joined Q R) bs
@@ -32,8 +40,16 @@ unnested bs j = record {
   second = j.second.second;
 }
 
-pub over : {P Q R S : List ℕ → Type 0} (bs : List ℕ) → Joined P Q bs → ((xs : List ℕ) → P xs → R xs) → ((ys : List ℕ) → Q ys → S ys) → Joined R S bs
-over bs j f g = record { front = j.front; back = j.back; bytes = j.bytes; first = f j.front j.first; second = g j.back j.second }
+pub over : {P Q R S : List ℕ → Type 0} (bs : List ℕ) → Joined P Q bs → ((xs : List ℕ) → P xs → R xs) →
+    ((ys : List ℕ) → Q ys → S ys) → Joined R S bs
+over bs j f g = record {
+  front = j.front;
+  back = j.back;
+  bytes = j.bytes;
+  first = f j.front j.first;
+  second =
+      g j.back j.second;
+}
 
 pub ended : {P : List ℕ → Type 0} (bs : List ℕ) → P bs → Joined P (Are []) bs
 ended bs p = record { front = bs; back = []; bytes = sym (append_nil bs); first = p; second = refl }

@@ -1,21 +1,18 @@
 -- Sets of names with numbers of arguments: what a walk over them finds, and one more pair.
 use Rattle.std.proofs.Common.{◌≡◌, ◌<◌, ◌⊎◌, ◌++◌, ◌∷◌, inl, inr, ℕ, zero, suc, List, [], length, map, get_or, sym, refl, ◌∙◌, ap, arith, Contains}
-use Rattle.std.proofs.lemmas.List.{get_or-map, length-map}
+use Rattle.std.proofs.lemmas.List.{get_or-map, length-map, get_or_default}
 use Rattle.term_model.specs.PrimNames.{NameKey, key_at, EachOnce}
 
 module _ {X Y : Type 0} (f : X → Y) where
   -- an element whose image is another one
-  pub not_at : (xs : List X) (k : ℕ) (x : X) (y : Y) → k < length xs → x ≡ get_or xs k x → (f x ≡ y → ⊥) → get_or (map f xs) k y ≡ y → ⊥
+  pub not_at : (xs : List X) (k : ℕ) (x : X) (y : Y) → k < length xs → x ≡ get_or xs k x → (f x ≡ y → ⊥) →
+      get_or (map f xs) k y ≡ y → ⊥
   not_at xs k x y h is other here = other (ap f is ∙ sym (get_or-map f xs k x y h) ∙ here)
 
   -- what is nowhere in the image
-  pub not_in_image : (xs : List X) (y : Y) → ((k : ℕ) → k < length xs → get_or (map f xs) k y ≡ y → ⊥) → Contains (map f xs) y → ⊥
+  pub not_in_image : (xs : List X) (y : Y) → ((k : ℕ) → k < length xs → get_or (map f xs) k y ≡ y → ⊥) →
+      Contains (map f xs) y → ⊥
   not_in_image xs y none c = none c.0 (rw length-map at c.1) c.2
-
-at_default : {X : Type 0} (xs : List X) (k : ℕ) (x y : X) → k < length xs → get_or xs k x ≡ get_or xs k y
-at_default [] k x y h = absurd (omega arith)
-at_default (z ∷ zs) zero x y h = refl
-at_default (z ∷ zs) (suc k) x y h = at_default zs k x y (omega arith)
 
 at_first : (keys : List NameKey) (key : NameKey) (i : ℕ) → i < length keys → key_at (keys ++ key ∷ []) i ≡ key_at keys i
 at_first [] key i h = absurd (omega arith)
@@ -44,12 +41,14 @@ pub none_once : EachOnce []
 none_once i j h k e = absurd (omega arith)
 
 -- a pair that is not there may be added
-pub one_more_once : (keys : List NameKey) (key : NameKey) → EachOnce keys → (Contains keys key → ⊥) → EachOnce (keys ++ key ∷ [])
+pub one_more_once : (keys : List NameKey) (key : NameKey) → EachOnce keys → (Contains keys key → ⊥) →
+    EachOnce (keys ++ key ∷ [])
 one_more_once keys key once absent i j h k e =
     by (split i (length keys) (rw (grown keys key) at h)) (split j (length keys) (rw (grown keys key) at k))
   where
     there : (n : ℕ) → n < length keys → key_at (keys ++ key ∷ []) n ≡ key → ⊥
-    there n below same = absent (n, below, at_default keys n key ([], 0) below ∙ sym (at_first keys key n below) ∙ same)
+    there n below same =
+        absent (n, below, get_or_default keys n key ([], 0) below ∙ sym (at_first keys key n below) ∙ same)
 
     by : (i < length keys) ⊎ (i ≡ length keys) → (j < length keys) ⊎ (j ≡ length keys) → i ≡ j
     by (inl a) (inl b) = once i j a b (sym (at_first keys key i a) ∙ e ∙ at_first keys key j b)

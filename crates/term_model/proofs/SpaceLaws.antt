@@ -4,7 +4,14 @@ use Rattle.term_model.specs.Space.{Space, Keeps, KeepsNames, MakesNone}
 
 module _ {W R M N : Type 0} (S : Space W R M N) where
   pub keeps_same : (w : W) → Keeps S w w
-  keeps_same w = record { standing = λ r h. h; terms = λ r h. refl; valid = λ m h. h; known = λ n h. h; symbols = λ n h. refl }
+  keeps_same w = record {
+    standing = λ r h. h;
+    terms = λ r h. refl;
+    valid = λ m h. h;
+    known = λ n h. h;
+    symbols =
+        λ n h. refl;
+  }
 
   pub none_same : (w : W) → MakesNone S w w
   none_same w = record { standing = λ r. refl; valid = λ m. refl }
@@ -30,4 +37,8 @@ module _ {W R M N : Type 0} {S : Space W R M N} {w w1 w2 : W} where
   none_then k l = record { standing = λ r. l.standing r ∙ k.standing r; valid = λ m. l.valid m ∙ k.valid m }
 
   pub names_then : KeepsNames S w w1 → KeepsNames S w1 w2 → KeepsNames S w w2
-  names_then k l = record { known = λ n h. l.known n (k.known n h); symbols = λ n h. l.symbols n (k.known n h) ∙ k.symbols n h }
+  names_then k l = record {
+    known = λ n h. l.known n (k.known n h);
+    symbols =
+        λ n h. l.symbols n (k.known n h) ∙ k.symbols n h;
+  }

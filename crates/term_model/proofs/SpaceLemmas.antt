@@ -8,20 +8,23 @@ use Rattle.term_model.specs.declared.made.Made.{Made}
 use Rattle.std.specs.List.{AppendsClones, each_same}
 use Rattle.std.proofs.lemmas.List.{map-id, length-drop}
 use Rattle.std.proofs.Math.Seq.{take-length}
+use Rattle.std.proofs.lemmas.Bool.{and_parts}
 use Rattle.term_model.specs.Space.{Makes, Pushes}
 use Rattle.term_model.specs.SharedTerms.{shared_terms}
 use Rattle.term_model.specs.Term.{Tree, node, term, head_of, parts_of, annos_of, weights, depths, trees_of, fits, Fits, all_fit, made_of}
 use Rattle.term_model.proofs.TermLemmas.{trees_of-list_of}
-use Rattle.term_model.proofs.FitsLaws.{both, fits-sound, fits-complete, parts_fit, annos_fit, made_fits}
+use Rattle.term_model.proofs.FitsLaws.{fits-sound, fits-complete, parts_fit, annos_fit, made_fits}
 
 -- a term is that of its head, its parts and its annotations
 pub whole : (t : Tree) → term (head_of t) (parts_of t) (annos_of t) ≡ t
 whole (node h parts annos) = rw (trees_of-list_of parts, trees_of-list_of annos) refl
 
 -- a term that is made of its own parts again
-pub made_again : (t : Tree) (parts : List Tree) (m : Made Tree) → IsTrue (fits t) → m ≡ made_of (term (head_of t) parts (annos_of t)) → map (λ u. u) parts ≡ parts_of t → m ≡ made.Fits t
+pub made_again : (t : Tree) (parts : List Tree) (m : Made Tree) → IsTrue (fits t) →
+    m ≡ made_of (term (head_of t) parts (annos_of t)) → map (λ u. u) parts ≡ parts_of t → m ≡ made.Fits t
 made_again t parts m h e same =
-    let own : term (head_of t) parts (annos_of t) ≡ t = ap (λ us. term (head_of t) us (annos_of t)) (sym (map-id parts) ∙ same) ∙ whole t in
+    let own : term (head_of t) parts (annos_of t) ≡ t =
+    ap (λ us. term (head_of t) us (annos_of t)) (sym (map-id parts) ∙ same) ∙ whole t in
     e ∙ ap made_of own ∙ made_fits t h
 
 pub weights-drop : (n : ℕ) (ts : List Tree) → weights (trees_of (drop n ts)) ≤ weights (trees_of ts)
@@ -53,7 +56,8 @@ appended old new more a = a.1 ∙ ap (λ ts. old ++ ts) (each_same more a.0 a.2)
 -- the parts and the annotations of a term that fits stand each
 all_stand : (ts : List Tree) → all_fit (trees_of ts) ≡ true → All (λ u. IsTrue (fits u)) ts
 all_stand [] h = All-nil (λ u. IsTrue (fits u))
-all_stand (t ∷ ts) h = let two = both (fits t) (all_fit (trees_of ts)) h in All-cons (λ u. IsTrue (fits u)) t ts two.0 (all_stand ts two.1)
+all_stand (t ∷ ts) h = let two = and_parts (fits t) (all_fit (trees_of ts)) h in
+    All-cons (λ u. IsTrue (fits u)) t ts two.0 (all_stand ts two.1)
 
 pub parts_stand : (t : Tree) → IsTrue (fits t) → All (λ u. IsTrue (fits u)) (parts_of t)
 parts_stand t h = all_stand (parts_of t) (parts_fit t (fits-sound t h))
@@ -70,21 +74,39 @@ lent_annos t ts h is = subst (λ us. All (λ u. IsTrue (fits u)) us) (sym is) (a
 
 module _ {W : Type 0} (space : W) where
   -- terms that were put on a stack
-  pub parts_pushed : (t : Tree) (old new : List Tree) → IsTrue (fits t) → new ≡ old ++ parts_of t → Pushes (shared_terms {W = W} {M = Unit {0}}) space (parts_of t) old new
-  parts_pushed t old new h e = record { pushed = parts_of t; after = e; standing = parts_stand t h; are = map-id (parts_of t) }
+  pub parts_pushed : (t : Tree) (old new : List Tree) → IsTrue (fits t) → new ≡ old ++ parts_of t →
+      Pushes (shared_terms {W = W} {M = Unit {0}}) space (parts_of t) old new
+  parts_pushed t old new h e = record {
+    pushed = parts_of t;
+    after = e;
+    standing = parts_stand t h;
+    are =
+        map-id (parts_of t);
+  }
 
-  pub annos_pushed : (t : Tree) (old new : List Tree) → IsTrue (fits t) → new ≡ old ++ annos_of t → Pushes (shared_terms {W = W} {M = Unit {0}}) space (annos_of t) old new
-  annos_pushed t old new h e = record { pushed = annos_of t; after = e; standing = annos_stand t h; are = map-id (annos_of t) }
+  pub annos_pushed : (t : Tree) (old new : List Tree) → IsTrue (fits t) → new ≡ old ++ annos_of t →
+      Pushes (shared_terms {W = W} {M = Unit {0}}) space (annos_of t) old new
+  annos_pushed t old new h e = record {
+    pushed = annos_of t;
+    after = e;
+    standing = annos_stand t h;
+    are =
+        map-id (annos_of t);
+  }
 
 -- each reference is its term
-pub own_terms : {W : Type 0} (space : W) (ts us : List Tree) → ts ≡ us → map ((shared_terms {W = W} {M = Unit {0}}).term_of space) ts ≡ us
+pub own_terms : {W : Type 0} (space : W) (ts us : List Tree) → ts ≡ us →
+    map ((shared_terms {W = W} {M = Unit {0}}).term_of space) ts ≡ us
 own_terms space ts us e = map-id ts ∙ e
 
 -- what was made stands
-pub makes_term : {W : Type 0} (space : W) (t : Tree) (m : Made Tree) → m ≡ made_of t → Makes (shared_terms {W = W} {M = Unit {0}}) space t m
-makes_term {W} space t m e = subst (λ n. Makes (shared_terms {W = W} {M = Unit {0}}) space t n) (sym e) (by_test (fits t) refl)
+pub makes_term : {W : Type 0} (space : W) (t : Tree) (m : Made Tree) → m ≡ made_of t →
+    Makes (shared_terms {W = W} {M = Unit {0}}) space t m
+makes_term {W} space t m e = subst (λ n. Makes (shared_terms {W = W} {M = Unit {0}}) space t n) (sym e)
+    (by_test (fits t) refl)
   where
-    by_test : (b : Bool) → fits t ≡ b → Makes (shared_terms {W = W} {M = Unit {0}}) space t (if b then made.Fits t else made.Oversize)
+    by_test : (b : Bool) → fits t ≡ b →
+        Makes (shared_terms {W = W} {M = Unit {0}}) space t (if b then made.Fits t else made.Oversize)
     by_test true h = (h, refl, fits-sound t h)
     by_test false h = λ f. let k = fits-complete t f in absurd (cc)
 
@@ -95,11 +117,25 @@ integer_stands z = refl
 pub rest_stands : (t : Tree) (n : ℕ) → IsTrue (fits t) → IsTrue (fits (term heads.List (drop n (parts_of t)) []))
 rest_stands t n h = fits-complete _ (rest_fits t n (fits-sound t h))
 
-pub rest_is_made : (t : Tree) (n : ℕ) → IsTrue (fits t) → made_of (term heads.List (drop n (parts_of t)) []) ≡ made.Fits (term heads.List (drop n (parts_of t)) [])
+pub rest_is_made : (t : Tree) (n : ℕ) → IsTrue (fits t) →
+    made_of (term heads.List (drop n (parts_of t)) []) ≡ made.Fits (term heads.List (drop n (parts_of t)) [])
 rest_is_made t n h = made_fits _ (rest_stands t n h)
 
 -- all that comes after the first elements
 pub to_the_end : (n : ℕ) (ts : List Tree) → take (length ts - n) (drop n ts) ≡ drop n ts
 to_the_end n ts = ap (λ k. take k (drop n ts)) (sym (length-drop n ts)) ∙ take-length (drop n ts)
 
-pub ruleset standing = (fits-sound, fits-complete, parts_stand, annos_stand, lent_parts, lent_annos, parts_pushed, annos_pushed, makes_term, own_terms, integer_stands, rest_stands)
+pub ruleset standing = (
+  fits-sound,
+  fits-complete,
+  parts_stand,
+  annos_stand,
+  lent_parts,
+  lent_annos,
+  parts_pushed,
+  annos_pushed,
+  makes_term,
+  own_terms,
+  integer_stands,
+  rest_stands,
+)

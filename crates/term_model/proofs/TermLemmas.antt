@@ -23,7 +23,8 @@ pub weight_positive : (t : Tree) → 0 < weight t
 weight_positive (node h ps xs) = omega arith
 
 -- as many other parts do for a head
-pub IsHead-length : (h : Head) (xs ys : List Tree) → IsHead h (trees_of xs) → length ys ≡ length xs → IsHead h (trees_of ys)
+pub IsHead-length : (h : Head) (xs ys : List Tree) → IsHead h (trees_of xs) → length ys ≡ length xs →
+    IsHead h (trees_of ys)
 IsHead-length (heads.Int n) [] [] is e = is
 IsHead-length (heads.Int n) [] (y ∷ ys) is e = cc
 IsHead-length (heads.Int n) (x ∷ xs) ys is e = absurd (cc is.1)

@@ -1,3 +1,4 @@
+-- The headline does not rest on this file.
 -- What a block of numbers feeds to a hasher: pairs of numbers, and a rest that is in no pair where it is not 0.
 use Rattle.std.specs.Prelude.{ℕ, [], ◌==◌, if◌then◌else◌, ◌++◌, ◌+◌, ◌*◌}
 use Rattle.std.specs.Hash as fed

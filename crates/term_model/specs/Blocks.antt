@@ -1,3 +1,4 @@
+-- The headline does not rest on this file.
 -- What blocks are seen as: a block is at most three values before a list that is kept under a number.
 use Rattle.std.specs.Prelude.{◌≡◌, ◌<◌, ◌≤◌, ℕ, List, [], ◌∷◌, ◌++◌, drop, length, slice_get, slice_index_or, Option, Some, None}
 use Rattle.std.specs.Borrow.{Bor}
@@ -46,9 +47,11 @@ IsAt (Some r) xs i = slice_get xs i ≡ Some r.now
 -- the block whose list has a number, or that the list is empty
 abbrev pub IsNumbered : {R : Type 0} → Option (Bor (Block R)) → List (Block R) → ℕ → Type 0
 IsNumbered None blocks n = slice_index_or (lists_of blocks) n [] ≡ []
-IsNumbered (Some b) blocks n = (slice_index_or (lists_of blocks) n [] ≡ list_in (lists_of blocks) b.now) × (b.now.rest < n)
+IsNumbered (Some b) blocks n = (slice_index_or (lists_of blocks) n [] ≡ list_in (lists_of blocks) b.now) ×
+    (b.now.rest < n)
 
 -- the block with some first values that the list of a number begins with, or that the list is empty
 abbrev pub BeginsWith : {R : Type 0} → Option (Bor (Block R)) → List (Block R) → ℕ → Type 0
 BeginsWith None blocks n = slice_index_or (lists_of blocks) n [] ≡ []
-BeginsWith (Some b) blocks n = (slice_index_or (lists_of blocks) n [] ≡ list_in (lists_of blocks) b.now) × (0 < length (front_list b.now.front))
+BeginsWith (Some b) blocks n = (slice_index_or (lists_of blocks) n [] ≡ list_in (lists_of blocks) b.now) ×
+    (0 < length (front_list b.now.front))

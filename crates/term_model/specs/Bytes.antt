@@ -39,4 +39,5 @@ is_raw b = not ((b == 34 || b == 92) || b == 10)
 
 -- what a byte after `\` stands for: `"` and `\` for themselves, n for LF, t for TAB, r for CR
 abbrev pub unescaped : ℕ → Option ℕ
-unescaped c = if c == 34 || c == 92 then Some c else if c == 110 then Some 10 else if c == 116 then Some 9 else if c == 114 then Some 13 else None
+unescaped c = if c == 34 || c == 92 then Some c else if c == 110 then Some 10 else if c == 116 then Some 9
+    else if c == 114 then Some 13 else None

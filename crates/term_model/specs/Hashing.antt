@@ -1,3 +1,4 @@
+-- The headline does not rest on this file.
 -- What symbols and heads feed to a hasher.
 use Rattle.std.specs.Prelude.{◌≡◌, true, [], ◌∷◌, ◌++◌}
 use Rattle.std.specs.Hash as fed

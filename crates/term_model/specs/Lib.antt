@@ -18,3 +18,4 @@ pub mod Space
 pub mod SharedTerms
 pub mod Blocks
 pub mod BlockHashing
+pub mod Results

@@ -1,3 +1,4 @@
+-- The headline does not rest on this file.
 -- Which names with numbers of arguments the entries of a set are.
 use Rattle.std.specs.Prelude.{List, map}
 use Rattle.term_model.specs.PrimNames.{NameKey}

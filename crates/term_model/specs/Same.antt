@@ -1,3 +1,4 @@
+-- The headline does not rest on this file.
 -- Whether two terms are the same, as a test.
 use Rattle.std.specs.Prelude.{◌≡◌, Bool, true, false, ◌&&◌, nat_eq}
 use Rattle.std.specs.Ordering.{int_eq}
@@ -120,7 +121,11 @@ pub same_partial_equiv : IsPartialEquivalence same
 same_partial_equiv = partial_equiv_from_equiv same_equiv
 
 pub same_symbol-Decides : (s t : Symbol) → Decides (same_symbol s t) (s ≡ t)
-same_symbol-Decides s t = (same_symbol-true s t, λ e. let P : Symbol → Type 0 = λ u. same_symbol s u ≡ true in subst P e (same_symbol-refl s))
+same_symbol-Decides s t = (
+  same_symbol-true s t,
+  λ e. let P : Symbol → Type 0 = λ u. same_symbol s u ≡ true in
+      subst P e (same_symbol-refl s),
+)
 
 pub same_symbol_equiv : IsEquivalence same_symbol
 same_symbol_equiv = decided same_symbol same_symbol-Decides
@@ -129,7 +134,11 @@ pub same_symbol_partial_equiv : IsPartialEquivalence same_symbol
 same_symbol_partial_equiv = partial_equiv_from_equiv same_symbol_equiv
 
 pub same_head-Decides : (h k : Head) → Decides (same_head h k) (h ≡ k)
-same_head-Decides h k = (same_head-true h k, λ e. let P : Head → Type 0 = λ u. same_head h u ≡ true in subst P e (same_head-refl h))
+same_head-Decides h k = (
+  same_head-true h k,
+  λ e. let P : Head → Type 0 = λ u. same_head h u ≡ true in
+      subst P e (same_head-refl h),
+)
 
 pub same_head_equiv : IsEquivalence same_head
 same_head_equiv = decided same_head same_head-Decides

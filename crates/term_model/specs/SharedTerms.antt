@@ -1,3 +1,4 @@
+-- The headline does not rest on this file.
 -- The space in which a reference is a term.
 use Rattle.std.specs.Cmp.{first_so, second_so}
 use Rattle.std.specs.Prelude.{IsTrue, true, length, nat_le}

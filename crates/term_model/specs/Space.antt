@@ -1,3 +1,4 @@
+-- The headline does not rest on this file.
 -- A space of terms, and what its calls say.
 use Rattle.std.specs.Prelude.{◌≡◌, ◌↔◌, Bool, IsTrue, ℕ, List, [], length, ◌++◌, All, map}
 use Rattle.term_model.specs.Symbol.{Symbol}
@@ -60,7 +61,8 @@ module _ {W R M N : Type 0} (S : Space W R M N) where
     pub standing : (r : R) → S.stands new r ≡ S.stands old r
     pub valid : (m : M) → S.is_valid new m ≡ S.is_valid old m
 
-  -- back to a valid mark: exactly the references that it covers stand, each with its term; each mark that it covers is valid; names stay
+  -- back to a valid mark: exactly the references that it covers stand, each with its term; each mark that it covers is
+  -- valid; names stay
   pub record GoesBack (old : W) (mark : M) (new : W) : Type 0 where
     pub was_valid : IsTrue (S.is_valid old mark)
     pub exactly : (r : R) → IsTrue (S.stands new r) ↔ IsTrue (S.covers mark r)

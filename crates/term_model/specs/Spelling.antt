@@ -1,3 +1,4 @@
+-- The headline does not rest on this file.
 -- What a symbol's bytes in memory are seen as.
 use Rattle.std.specs.Rc.{rc_slice_items}
 use Rattle.term_model.specs.Symbol.{Symbol, Plain, Quoted, Tuple}

@@ -1,3 +1,4 @@
+-- The headline does not rest on this file.
 -- Each part and each annotation is less deep than its node.
 use Rattle.std.specs.Prelude.{◌+◌, ◌≤◌, List, [], ◌∷◌}
 use Rattle.std.proofs.Common.{arith}

@@ -1,3 +1,4 @@
+-- The headline does not rest on this file.
 -- What a node in memory is seen as.
 use Rattle.std.specs.Prelude.{◌≡◌, List, [], Option, Some, None, Vec}
 use Rattle.std.specs.Global.{Global}

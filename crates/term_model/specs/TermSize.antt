@@ -1,3 +1,4 @@
+-- The headline does not rest on this file.
 -- What the size of several terms says.
 use Rattle.std.specs.Prelude.{◌≡◌, ◌≤◌, List}
 use Rattle.term_model.specs.declared.size.Size.{Size}

@@ -51,7 +51,8 @@ pub fn greatest_magnitude(negative: bool) -> u64
 /// The magnitude with one more digit; `None` where no integer of this sign has it.
 pub fn with_digit(negative: bool, magnitude: u64, byte: u8) -> Option<u64>
     requires { IsTrue (is_digit byte) }
-    ensures { MatchOption result (max_magnitude negative < 10 * magnitude + (byte - 48)) (λ longer. (longer ≡ 10 * magnitude + (byte - 48)) × (longer ≤ max_magnitude negative)) }
+    ensures { MatchOption result (max_magnitude negative < 10 * magnitude + (byte - 48))
+        (λ longer. (longer ≡ 10 * magnitude + (byte - 48)) × (longer ≤ max_magnitude negative)) }
 {
     let longer = 10 * u128::from(magnitude) + u128::from(byte - b'0');
     if longer > u128::from(greatest_magnitude(negative)) {

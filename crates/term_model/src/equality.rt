@@ -1,11 +1,11 @@
-// Equality of terms: it goes down along their depth, and along each list by a loop.
+//! Equality of terms: it goes down along their depth, and along each list by a loop.
 ghost use Rattle.std.specs.Prelude.{◌≡◌};
 ghost use Rattle.term_model.specs.Same.{same, same_all};
 ghost use Rattle.term_model.specs.Term.{trees_of};
 
 use crate::term::Term;
 
-// Whether two terms are the same.
+/// Whether two terms are the same.
 #[cycle(same)]
 #[tactic(auto, using(crate::proofs::EqualityLemmas::equality))]
 pub(crate) fn are_same(left: &Term, right: &Term) -> bool
@@ -17,7 +17,7 @@ pub(crate) fn are_same(left: &Term, right: &Term) -> bool
         && all_same(left.annos(), right.annos())
 }
 
-// Whether two slices have the same terms in the same order.
+/// Whether two slices have the same terms in the same order.
 #[cycle(same)]
 #[tactic(auto, using(crate::proofs::EqualityLemmas::equality))]
 fn all_same(left: &[Term], right: &[Term]) -> bool

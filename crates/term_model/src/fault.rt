@@ -1,4 +1,4 @@
-// The refusals: why a call gave no result.
+//! The refusals: why a call gave no result.
 ghost use Rattle.std.specs.Prelude.{◌≡◌, codes};
 ghost use Rattle.term_model.specs.Fault.{number_of, word_of};
 
@@ -128,7 +128,7 @@ impl Fault {
     }
 }
 
-// A refused growth is the fault `Memory`.
+/// A refused growth is the fault `Memory`.
 impl From<AllocError> for Fault {
     ghost use Rattle.std.specs.Prelude.{◌≡◌};
     ghost use Rattle.term_model.specs.declared.fault.Fault.TheVariants.{Memory};
@@ -140,7 +140,7 @@ impl From<AllocError> for Fault {
     }
 }
 
-// So is a refused growth that gives a value back, which is dropped.
+/// So is a refused growth that gives a value back, which is dropped.
 impl<T: Drop> From<AllocFailed<T>> for Fault {
     ghost use Rattle.std.specs.Prelude.{◌≡◌};
     ghost use Rattle.term_model.specs.declared.fault.Fault.TheVariants.{Memory};

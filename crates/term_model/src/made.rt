@@ -1,4 +1,4 @@
-// What making a term returns.
+//! What making a term returns.
 
 /// A value that was made, or that it would not fit: that it would weigh more than 16,777,216 or be
 /// deeper than 1,000.

@@ -9,7 +9,7 @@ use crate::symbol::Sym;
 use std::hash::{Hash, Hasher};
 use std::marker::Model;
 
-// What the first number of a pair is multiplied by.
+/// What the first number of a pair is multiplied by.
 const HIGH: u64 = 4_294_967_296;
 
 /// A head, lent: an integer, a symbol, or the head of lists.
@@ -46,7 +46,7 @@ pub struct Block<R> {
     pub rest: u32,
 }
 
-// Hashes the numbers in pairs, each as one number of 64 bits: all of them, but for a rest of 0 that is in no pair.
+/// Hashes the numbers in pairs, each as one number of 64 bits: all of them, but for a rest of 0 that is in no pair.
 impl Hash for Block<u32> {
     ghost use Rattle.term_model.specs.BlockHashing.{block_writes};
 
@@ -195,7 +195,7 @@ impl<'a, R> Parts<'a, R> {
 pub struct Walk<'a, R> {
     slice: &'a [R],
     block: Option<&'a Block<R>>,
-    // How many of the block's first values have come.
+    /// How many of the block's first values have come.
     index: usize,
     blocks: &'a [Block<R>],
 }
@@ -239,13 +239,13 @@ impl<'a, R> Iterator for Walk<'a, R> {
     }
 }
 
-// The block that the list of this number begins with.
+/// The block that the list of this number begins with.
 fn first_of<R>(blocks: &[Block<R>], number: u32) -> Option<&Block<R>>
     requires { AreLinked blocks.now }
     ensures { BeginsWith result blocks.now number }
 {
     let mut rest = number;
-    while let Some(next) = numbered(blocks, rest) {
+    while let Some(next) = block_numbered(blocks, rest) {
         if next.front.len() > 0 {
             return Some(next);
         }
@@ -254,9 +254,9 @@ fn first_of<R>(blocks: &[Block<R>], number: u32) -> Option<&Block<R>>
     None
 }
 
-// The block whose list has this number.
+/// The block whose list has this number.
 #[tactic(auto, using(crate::proofs::BlockLaws::numbering))]
-fn numbered<R>(blocks: &[Block<R>], number: u32) -> Option<&Block<R>>
+fn block_numbered<R>(blocks: &[Block<R>], number: u32) -> Option<&Block<R>>
     requires { AreLinked blocks.now }
     ensures { IsNumbered result blocks.now number }
 {
@@ -267,21 +267,21 @@ fn numbered<R>(blocks: &[Block<R>], number: u32) -> Option<&Block<R>>
     Some(&blocks[number - 1])
 }
 
-// How many values a block has.
+/// How many values a block has.
 fn len_in<R>(block: &Block<R>, blocks: &[Block<R>]) -> usize
     requires { AreLinked blocks.now }
     ensures { result ≡ length (list_in (lists_of blocks.now) block.now) }
 {
     let mut count = block.front.len();
     let mut rest = block.rest;
-    while let Some(next) = numbered(blocks, rest) {
+    while let Some(next) = block_numbered(blocks, rest) {
         count += next.front.len();
         rest = next.rest;
     }
     count
 }
 
-// The value of a block at an index.
+/// The value of a block at an index.
 fn get_in<'a, R>(block: &'a Block<R>, blocks: &'a [Block<R>], index: usize) -> Option<&'a R>
     requires { AreLinked blocks.now }
     ensures { IsAt result (list_in (lists_of blocks.now) block.now) index }
@@ -291,7 +291,7 @@ fn get_in<'a, R>(block: &'a Block<R>, blocks: &'a [Block<R>], index: usize) -> O
     }
     let mut left = index - block.front.len();
     let mut rest = block.rest;
-    while let Some(next) = numbered(blocks, rest) {
+    while let Some(next) = block_numbered(blocks, rest) {
         if left < next.front.len() {
             return next.front.get(left);
         }

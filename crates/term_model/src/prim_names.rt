@@ -5,7 +5,7 @@ ghost use Rattle.term_model.specs.PrimNames.{key_at, EachOnce, IsInserted};
 use std::alloc::{AllocError, Global};
 use std::marker::Model;
 
-// A name with a number of arguments.
+/// A name with a number of arguments.
 #[derive(Debug, Drop)]
 struct Entry {
     name: Vec<u8>,
@@ -30,7 +30,7 @@ impl Model for PrimNames {
     ghost invariant = { λ names. EachOnce (keys_of names.entries.items) };
 }
 
-// Whether two names are the same.
+/// Whether two names are the same.
 fn same_name(left: &[u8], right: &[u8]) -> bool
     ensures { IsTrue result ↔ (left.now ≡ right.now) }
 {

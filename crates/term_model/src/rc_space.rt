@@ -133,15 +133,13 @@ impl TermSpace for RcSpace {
     fn app(&mut self, alloc: Global, name: &Sym, parts: &[Term]) -> Result<Made<Term>, AllocError> {
         let symbol = name.clone()?;
         let parts = Vec::from_clones(alloc, parts)?;
-        let made = Term::app(alloc, symbol, parts)?;
-        Ok(made)
+        Term::app(alloc, symbol, parts)
     }
 
     #[tactic(auto, using(crate::proofs::SpaceLemmas::standing))]
     fn list(&mut self, alloc: Global, elements: &[Term]) -> Result<Made<Term>, AllocError> {
         let elements = Vec::from_clones(alloc, elements)?;
-        let made = Term::list(alloc, elements)?;
-        Ok(made)
+        Term::list(alloc, elements)
     }
 
     #[tactic(auto, using(crate::proofs::SpaceLemmas::standing))]
@@ -155,8 +153,7 @@ impl TermSpace for RcSpace {
         let mut all = Vec::with_capacity(alloc, elements.len() + others.len())?;
         push_all(&mut all, elements)?;
         push_all(&mut all, others)?;
-        let made = Term::list(alloc, all)?;
-        Ok(made)
+        Term::list(alloc, all)
     }
 
     #[tactic(auto, using(crate::proofs::SpaceLemmas::standing))]
@@ -177,8 +174,7 @@ impl TermSpace for RcSpace {
         parts: &[Term],
     ) -> Result<Made<Term>, AllocError> {
         let parts = Vec::from_clones(alloc, parts)?;
-        let made = at.rebuild(alloc, parts)?;
-        Ok(made)
+        at.rebuild(alloc, parts)
     }
 
     #[tactic(auto, using(crate::proofs::SpaceLemmas::standing))]
@@ -189,8 +185,7 @@ impl TermSpace for RcSpace {
         annos: &[Term],
     ) -> Result<Made<Term>, AllocError> {
         let annos = Vec::from_clones(alloc, annos)?;
-        let made = at.with_annos(alloc, annos)?;
-        Ok(made)
+        at.with_annos(alloc, annos)
     }
 
     #[tactic(auto, using(crate::proofs::SpaceLemmas::standing))]
@@ -203,10 +198,10 @@ impl TermSpace for RcSpace {
     ) -> Result<Made<Term>, AllocError>
         requires head { MayHave head parts.items }
         ensures keeps { Keeps ⟦<RcSpace as TermSpace>⟧.space self.old self.new }
-        ensures made { IfOk result (Makes ⟦<RcSpace as TermSpace>⟧.space self.new (term head parts.items annos.items)) }
+        ensures made { IfOk result
+            (Makes ⟦<RcSpace as TermSpace>⟧.space self.new (term head parts.items annos.items)) }
     {
-        let made = Term::new(alloc, head, parts, annos)?;
-        Ok(made)
+        Term::new(alloc, head, parts, annos)
     }
 
     fn mark(&self) -> () {}
@@ -228,7 +223,7 @@ impl TermSpace for RcSpace {
     }
 }
 
-// Puts the terms on the stack, which is as it was where that fails.
+/// Puts the terms on the stack, which is as it was where that fails.
 #[tactic(auto, using(crate::proofs::SpaceLemmas::appended))]
 fn push_all(stack: &mut Vec<Term>, terms: &[Term]) -> Result<(), AllocError>
     ensures pushed { OnOk result (stack.new.items ≡ stack.old.items ++ terms.now) }

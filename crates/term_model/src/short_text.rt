@@ -3,7 +3,7 @@ ghost use Rattle.std.specs.Prelude.{◌≡◌, ◌<◌, length, MatchOption};
 
 use std::marker::Model;
 
-// The most bytes that stand in place: with them, a symbol takes as many bytes as with a share.
+/// The most bytes that stand in place: with them, a symbol takes as many bytes as with a share.
 const MOST: usize = 14;
 
 /// At most 14 bytes.

@@ -5,6 +5,7 @@ ghost use Rattle.term_model.specs.Term.{term, head_of, parts_of, annos_of, Fits}
 ghost use Rattle.term_model.specs.declared.term.Head.TheVariants as heads;
 ghost use Rattle.term_model.specs.declared.made.Made.TheVariants as made;
 ghost use Rattle.term_model.specs.Space.{Space, Keeps, MakesNone, GoesBack, IsMark, Makes, Pushes, IsApplied, IsList, MayHave, IsTop};
+ghost use Rattle.term_model.specs.Results.{Returns};
 
 use crate::made::Made;
 use crate::parts::{Parts, Shape, Top};
@@ -32,7 +33,8 @@ pub trait TermSpace {
     ghost space: { Space Self Self.Ref Self.Mark Self.Name };
 
     // The term of a reference that stands fits.
-    ghost fits: { (s : Self) (r : Self.Ref) → IsTrue (space.stands s r) → Fits (space.term_of s r) };
+    ghost fits: { (s : Self) (r : Self.Ref) → IsTrue (space.stands s r) →
+        Fits (space.term_of s r) };
 
     /// The term's head, parts and annotations, lent.
     fn shape<'a>(&'a self, at: &'a Self::Ref) -> Shape<'a, Self::Ref>
@@ -40,8 +42,10 @@ pub trait TermSpace {
         ensures head { IsTop result.head (head_of (space.term_of self.now at.now)) }
         ensures parts_stand { All (λ r. IsTrue (space.stands self.now r)) result.parts }
         ensures annos_stand { All (λ r. IsTrue (space.stands self.now r)) result.annos }
-        ensures parts { map (space.term_of self.now) result.parts ≡ parts_of (space.term_of self.now at.now) }
-        ensures annos { map (space.term_of self.now) result.annos ≡ annos_of (space.term_of self.now at.now) };
+        ensures parts { map (space.term_of self.now) result.parts ≡
+            parts_of (space.term_of self.now at.now) }
+        ensures annos { map (space.term_of self.now) result.annos ≡
+            annos_of (space.term_of self.now at.now) };
 
     /// What the term is, but for its parts and annotations.
     fn head<'a>(&'a self, at: &'a Self::Ref) -> Top<'a>
@@ -52,42 +56,50 @@ pub trait TermSpace {
     fn parts<'a>(&'a self, at: &'a Self::Ref) -> Parts<'a, Self::Ref>
         requires { IsTrue (space.stands self.now at.now) }
         ensures stand { All (λ r. IsTrue (space.stands self.now r)) result }
-        ensures parts { map (space.term_of self.now) result ≡ parts_of (space.term_of self.now at.now) };
+        ensures parts { map (space.term_of self.now) result ≡
+            parts_of (space.term_of self.now at.now) };
 
     /// The term's annotations, lent.
     fn annos<'a>(&'a self, at: &'a Self::Ref) -> Parts<'a, Self::Ref>
         requires { IsTrue (space.stands self.now at.now) }
         ensures stand { All (λ r. IsTrue (space.stands self.now r)) result }
-        ensures annos { map (space.term_of self.now) result ≡ annos_of (space.term_of self.now at.now) };
+        ensures annos { map (space.term_of self.now) result ≡
+            annos_of (space.term_of self.now at.now) };
 
     /// Whether two references have the same term.
     fn same(&self, one: &Self::Ref, other: &Self::Ref) -> bool
         requires one { IsTrue (space.stands self.now one.now) }
         requires other { IsTrue (space.stands self.now other.now) }
-        ensures { IsTrue result ↔ (space.term_of self.now one.now ≡ space.term_of self.now other.now) };
+        ensures { IsTrue result ↔ (space.term_of self.now one.now ≡
+            space.term_of self.now other.now) };
 
     /// The reference once more.
     fn dup(&self, at: &Self::Ref) -> Result<Self::Ref, AllocError>
         requires { IsTrue (space.stands self.now at.now) }
-        ensures same { IfOk result (λ r. r ≡ at.now) }
+        ensures same { Returns result at.now }
         ensures stands { IfOk result (λ r. IsTrue (space.stands self.now r)) }
-        ensures term { IfOk result (λ r. space.term_of self.now r ≡ space.term_of self.now at.now) };
+        ensures term { IfOk result (λ r. space.term_of self.now r ≡
+            space.term_of self.now at.now) };
 
     /// The integer that the term is, whatever its annotations.
     fn int_of(&self, at: &Self::Ref) -> Option<i64>
         requires { IsTrue (space.stands self.now at.now) }
-        ensures { MatchOption result ((z : _) → head_of (space.term_of self.now at.now) ≡ heads.Int z → ⊥) (λ z. head_of (space.term_of self.now at.now) ≡ heads.Int z) };
+        ensures { MatchOption result ((z : _) →
+            head_of (space.term_of self.now at.now) ≡ heads.Int z →
+            ⊥) (λ z. head_of (space.term_of self.now at.now) ≡ heads.Int z) };
 
     /// How many elements the list has that the term is, whatever its annotations.
     fn list_len(&self, at: &Self::Ref) -> Option<usize>
         requires { IsTrue (space.stands self.now at.now) }
-        ensures { MatchOption result (head_of (space.term_of self.now at.now) ≡ heads.List → ⊥) (λ n. IsList (space.term_of self.now at.now) n) };
+        ensures { MatchOption result (head_of (space.term_of self.now at.now) ≡ heads.List →
+            ⊥) (λ n. IsList (space.term_of self.now at.now) n) };
 
     /// Whether the term is the symbol of the name applied to `count` parts, whatever its annotations.
     fn is_app(&self, at: &Self::Ref, name: &Self::Name, count: usize) -> bool
         requires stands { IsTrue (space.stands self.now at.now) }
         requires known { IsTrue (space.knows self.now name.now) }
-        ensures { IsTrue result ↔ IsApplied (space.term_of self.now at.now) (space.symbol_of self.now name.now) count };
+        ensures { IsTrue result ↔ IsApplied (space.term_of self.now at.now)
+            (space.symbol_of self.now name.now) count };
 
     /// The number of the name, by which a table finds what it has for the name. Several names may have one number.
     fn number(&self, name: &Self::Name) -> usize
@@ -97,7 +109,9 @@ pub trait TermSpace {
     /// The number of the term's symbol: that of each name of the symbol. `None` where the term is an integer or a list.
     fn root_number(&self, at: &Self::Ref) -> Option<usize>
         requires { IsTrue (space.stands self.now at.now) }
-        ensures { (n : Self.Name) → IsTrue (space.knows self.now n) → head_of (space.term_of self.now at.now) ≡ heads.App (space.symbol_of self.now n) → result ≡ Some (space.number_of n) };
+        ensures { (n : Self.Name) → IsTrue (space.knows self.now n) →
+            head_of (space.term_of self.now at.now) ≡ heads.App (space.symbol_of self.now n) →
+            result ≡ Some (space.number_of n) };
 
     /// How many parts the term has.
     fn count(&self, at: &Self::Ref) -> usize
@@ -109,18 +123,24 @@ pub trait TermSpace {
         requires stands { IsTrue (space.stands self.now at.now) }
         requires within { index < length (parts_of (space.term_of self.now at.now)) }
         ensures stands { IfOk result (λ r. IsTrue (space.stands self.now r)) }
-        ensures term { IfOk result (λ r. slice_get (parts_of (space.term_of self.now at.now)) index ≡ Some (space.term_of self.now r)) };
+        ensures term { IfOk result
+            (λ r. slice_get (parts_of (space.term_of self.now at.now)) index ≡
+            Some (space.term_of self.now r)) };
 
     /// Puts the parts on a stack, the first one first. The stack is as it was where there is no memory.
     fn push_parts(&self, at: &Self::Ref, stack: &mut Vec<Self::Ref>) -> Result<(), AllocError>
         requires { IsTrue (space.stands self.now at.now) }
-        ensures pushed { OnOk result (Pushes space self.now (parts_of (space.term_of self.now at.now)) stack.old.items stack.new.items) }
+        ensures pushed { OnOk result
+            (Pushes space self.now (parts_of (space.term_of self.now at.now))
+            stack.old.items stack.new.items) }
         ensures err { OnErr result (stack.new.items ≡ stack.old.items) };
 
     /// Puts the annotations on a stack, the first one first. The stack is as it was where there is no memory.
     fn push_annos(&self, at: &Self::Ref, stack: &mut Vec<Self::Ref>) -> Result<(), AllocError>
         requires { IsTrue (space.stands self.now at.now) }
-        ensures pushed { OnOk result (Pushes space self.now (annos_of (space.term_of self.now at.now)) stack.old.items stack.new.items) }
+        ensures pushed { OnOk result
+            (Pushes space self.now (annos_of (space.term_of self.now at.now))
+            stack.old.items stack.new.items) }
         ensures err { OnErr result (stack.new.items ≡ stack.old.items) };
 
     /// The name of a symbol. It is known for as long as the space is there, whatever the space goes back to. No term is
@@ -142,7 +162,8 @@ pub trait TermSpace {
         requires { IsSpelling kind bytes.now }
         ensures keeps { Keeps space self.old self.new }
         ensures known { IfOk result (λ n. IsTrue (space.knows self.new n)) }
-        ensures symbol { IfOk result (λ n. space.symbol_of self.new n ≡ symbol_spelled kind bytes.now) }
+        ensures symbol { IfOk result (λ n. space.symbol_of self.new n ≡
+            symbol_spelled kind bytes.now) }
         ensures none { MakesNone space self.old self.new };
 
     /// The integer, with no annotations.
@@ -161,13 +182,18 @@ pub trait TermSpace {
         requires known { IsTrue (space.knows self.old name.now) }
         requires stand { All (λ r. IsTrue (space.stands self.old r)) parts.now }
         ensures keeps { Keeps space self.old self.new }
-        ensures made { IfOk result (Makes space self.new (term (heads.App (space.symbol_of self.old name.now)) (map (space.term_of self.old) parts.now) [])) };
+        ensures made { IfOk result
+            (Makes space self.new
+            (term (heads.App (space.symbol_of self.old name.now))
+            (map (space.term_of self.old) parts.now) [])) };
 
     /// The list of the elements, with no annotations; `Oversize` exactly where that term does not fit.
     fn list(&mut self, alloc: Global, elements: &[Self::Ref]) -> Result<Made<Self::Ref>, AllocError>
         requires stand { All (λ r. IsTrue (space.stands self.old r)) elements.now }
         ensures keeps { Keeps space self.old self.new }
-        ensures made { IfOk result (Makes space self.new (term heads.List (map (space.term_of self.old) elements.now) [])) };
+        ensures made { IfOk result
+            (Makes space self.new (term heads.List (map
+            (space.term_of self.old) elements.now) [])) };
 
     /// The list of these elements and then those of the tail, with no annotations; `Oversize` exactly where that term
     /// does not fit.
@@ -181,7 +207,10 @@ pub trait TermSpace {
         requires stands { IsTrue (space.stands self.old tail.now) }
         requires list { head_of (space.term_of self.old tail.now) ≡ heads.List }
         ensures keeps { Keeps space self.old self.new }
-        ensures made { IfOk result (Makes space self.new (term heads.List (map (space.term_of self.old) elements.now ++ parts_of (space.term_of self.old tail.now)) [])) };
+        ensures made { IfOk result
+            (Makes space self.new
+            (term heads.List (map (space.term_of self.old) elements.now ++
+            parts_of (space.term_of self.old tail.now)) [])) };
 
     /// The list without its first `count` elements, with no annotations. It fits, as the list does.
     fn rest(&mut self, alloc: Global, at: &Self::Ref, count: usize) -> Result<Self::Ref, AllocError>
@@ -190,7 +219,8 @@ pub trait TermSpace {
         requires count { count ≤ length (parts_of (space.term_of self.old at.now)) }
         ensures keeps { Keeps space self.old self.new }
         ensures stands { IfOk result (λ r. IsTrue (space.stands self.new r)) }
-        ensures term { IfOk result (λ r. space.term_of self.new r ≡ term heads.List (drop count (parts_of (space.term_of self.old at.now))) []) };
+        ensures term { IfOk result (λ r. space.term_of self.new r ≡
+            term heads.List (drop count (parts_of (space.term_of self.old at.now))) []) };
 
     /// The term with these parts in place of its own, of which there are as many; `Oversize` exactly where that term does
     /// not fit. The same reference where the parts are the term's own.
@@ -204,8 +234,12 @@ pub trait TermSpace {
         requires stand { All (λ r. IsTrue (space.stands self.old r)) parts.now }
         requires count { length parts.now ≡ length (parts_of (space.term_of self.old at.now)) }
         ensures keeps { Keeps space self.old self.new }
-        ensures made { IfOk result (Makes space self.new (term (head_of (space.term_of self.old at.now)) (map (space.term_of self.old) parts.now) (annos_of (space.term_of self.old at.now)))) }
-        ensures unchanged { map (space.term_of self.old) parts.now ≡ parts_of (space.term_of self.old at.now) → IfOk result (λ m. m ≡ made.Fits at.now) };
+        ensures made { IfOk result
+            (Makes space self.new
+            (term (head_of (space.term_of self.old at.now)) (map (space.term_of self.old) parts.now)
+            (annos_of (space.term_of self.old at.now)))) }
+        ensures unchanged { map (space.term_of self.old) parts.now ≡
+            parts_of (space.term_of self.old at.now) → IfOk result (λ m. m ≡ made.Fits at.now) };
 
     /// The term with exactly these annotations in place of its own; `Oversize` exactly where that term does not fit.
     fn with_annos(
@@ -217,7 +251,10 @@ pub trait TermSpace {
         requires stands { IsTrue (space.stands self.old at.now) }
         requires stand { All (λ r. IsTrue (space.stands self.old r)) annos.now }
         ensures keeps { Keeps space self.old self.new }
-        ensures made { IfOk result (Makes space self.new (term (head_of (space.term_of self.old at.now)) (parts_of (space.term_of self.old at.now)) (map (space.term_of self.old) annos.now))) };
+        ensures made { IfOk result
+            (Makes space self.new
+            (term (head_of (space.term_of self.old at.now))
+            (parts_of (space.term_of self.old at.now)) (map (space.term_of self.old) annos.now))) };
 
     /// The term of this head with these parts and annotations; `Oversize` exactly where it does not fit. An integer is
     /// given no parts.
@@ -232,7 +269,10 @@ pub trait TermSpace {
         requires parts { All (λ r. IsTrue (space.stands self.old r)) parts.items }
         requires annos { All (λ r. IsTrue (space.stands self.old r)) annos.items }
         ensures keeps { Keeps space self.old self.new }
-        ensures made { IfOk result (Makes space self.new (term head (map (space.term_of self.old) parts.items) (map (space.term_of self.old) annos.items))) };
+        ensures made { IfOk result
+            (Makes space self.new
+            (term head (map (space.term_of self.old) parts.items)
+            (map (space.term_of self.old) annos.items))) };
 
     /// A mark of what stands now.
     fn mark(&self) -> Self::Mark

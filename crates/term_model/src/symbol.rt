@@ -1,7 +1,8 @@
-// Symbols: plain names, quoted bytes, and the empty symbol of tuples.
+//! Symbols: plain names, quoted bytes, and the empty symbol of tuples.
 ghost use Rattle.std.specs.Prelude.{true, false, ◌≡◌, ◌↔◌, IsTrue, IfOk, MatchOption};
 ghost use Rattle.std.specs.List.{list_all};
 ghost use Rattle.term_model.specs.Symbol.{Plain, Quoted, Tuple, kind_of, bytes_of, is_name, begins_name, continues_name, symbol_spelled, IsSymbol, IsSpelling};
+ghost use Rattle.term_model.specs.Results.{Returns};
 
 use crate::short_text::ShortText;
 use std::alloc::{AllocError, Global};
@@ -21,7 +22,7 @@ pub enum Kind {
     Tuple,
 }
 
-// Where the bytes of a symbol are: short ones stand in place, others are shared.
+/// Where the bytes of a symbol are: short ones stand in place, others are shared.
 #[derive(Drop)]
 enum Spelling {
     ShortPlain(ShortText),
@@ -65,7 +66,7 @@ pub fn continues(byte: u8) -> bool
     byte.is_ascii_alphanumeric() || matches!(byte, b'_' | b'-' | b'+' | b'*' | b'$')
 }
 
-// Whether the bytes are a plain name.
+/// Whether the bytes are a plain name.
 fn is_plain(bytes: &[u8]) -> bool
     ensures { result ≡ is_name bytes.now }
 {
@@ -75,7 +76,7 @@ fn is_plain(bytes: &[u8]) -> bool
     }
 }
 
-// Whether a name may go on with these bytes.
+/// Whether a name may go on with these bytes.
 fn all_continue(bytes: &[u8]) -> bool
     ensures { result ≡ list_all continues_name bytes.now }
 {
@@ -87,7 +88,8 @@ impl Sym {
     /// `_`, then letters, digits and `_`, `-`, `+`, `*`, `$`. Copies the bytes; `AllocError` where
     /// there is no memory for them.
     pub fn plain(alloc: Global, bytes: &[u8]) -> Result<Option<Sym>, AllocError>
-        ensures { IfOk result (λ found. MatchOption found (is_name bytes.now ≡ false) (λ s. (is_name bytes.now ≡ true) × (s ≡ Plain bytes.now))) }
+        ensures { IfOk result (λ found. MatchOption found (is_name bytes.now ≡ false)
+            (λ s. (is_name bytes.now ≡ true) × (s ≡ Plain bytes.now))) }
     {
         if !is_plain(bytes) {
             return Ok(None);
@@ -100,7 +102,7 @@ impl Sym {
     /// the bytes; `AllocError` where there is no memory for them.
     pub fn named(alloc: Global, bytes: &[u8]) -> Result<Sym, AllocError>
         requires { is_name bytes.now ≡ true }
-        ensures { IfOk result (λ s. s ≡ Plain bytes.now) }
+        ensures { Returns result (Plain bytes.now) }
     {
         let spelling = match ShortText::new(bytes) {
             Some(text) => Spelling::ShortPlain(text),
@@ -112,7 +114,7 @@ impl Sym {
     /// The quoted symbol of these bytes, which stand for themselves, with no escapes. Copies the
     /// bytes; `AllocError` where there is no memory for them.
     pub fn quoted(alloc: Global, bytes: &[u8]) -> Result<Sym, AllocError>
-        ensures { IfOk result (λ s. s ≡ Quoted bytes.now) }
+        ensures { Returns result (Quoted bytes.now) }
     {
         if let Some(text) = ShortText::new(bytes) {
             return Ok(Sym {
@@ -139,7 +141,7 @@ impl Sym {
     /// for them.
     pub fn of_spelling(alloc: Global, kind: Kind, bytes: &[u8]) -> Result<Sym, AllocError>
         requires { IsSpelling kind bytes.now }
-        ensures { IfOk result (λ s. s ≡ symbol_spelled kind bytes.now) }
+        ensures { Returns result (symbol_spelled kind bytes.now) }
     {
         match kind {
             Kind::Plain => Sym::named(alloc, bytes),
@@ -209,7 +211,7 @@ impl Eq for Sym {
     ghost laws = { same_symbol_equiv };
 }
 
-// Hashes the bytes alone, in one write: symbols of two kinds seldom have the same bytes.
+/// Hashes the bytes alone, in one write: symbols of two kinds seldom have the same bytes.
 impl Hash for Sym {
     ghost use Rattle.term_model.specs.Hashing.{symbol_writes, symbol_writes-same};
 
@@ -222,7 +224,7 @@ impl Hash for Sym {
     }
 }
 
-// Shows the kind and the bytes.
+/// Shows the kind and the bytes.
 impl fmt::Debug for Sym {
     fn fmt<W: fmt::Write>(&self, f: &mut fmt::Formatter<W>) -> fmt::Result {
         f.debug_tuple("Sym")

@@ -1,7 +1,8 @@
-// Terms: nodes that are shared, and that know their weight and their depth.
+//! Terms: nodes that are shared, and that know their weight and their depth.
 ghost use Rattle.std.specs.Prelude.{vec_len, length, ◌≡◌, ◌↔◌, IsTrue, IfOk, []};
 ghost use Rattle.term_model.specs.Term.{term, head_of, parts_of, annos_of, weight, depth, trees_of, Fits, IsTerm, IsHead, made_of};
 ghost use Rattle.term_model.specs.TermNode.{shared_items};
+ghost use Rattle.term_model.specs.Results.{Returns};
 
 use crate::equality;
 use crate::made::Made;
@@ -68,7 +69,7 @@ impl Clone for Head {
     }
 }
 
-// Hashes the variant and what it holds.
+/// Hashes the variant and what it holds.
 impl Hash for Head {
     ghost use Rattle.term_model.specs.Hashing.{head_writes, head_writes-same};
 
@@ -132,7 +133,7 @@ impl Model for Term {
     ghost size_decreases = { λ t h. depth_falls t };
 }
 
-// The term of these three, which are a term's.
+/// The term of these three, which are a term's.
 #[tactic(auto, using(crate::proofs::TermLemmas::made))]
 #[inline(always)]
 fn make(
@@ -142,7 +143,7 @@ fn make(
     annos: Option<Rc<Vec<Term>>>,
 ) -> Result<Made<Term>, AllocError>
     requires { IsHead head (trees_of parts.items) }
-    ensures { IfOk result (λ made. made ≡ made_of (term head parts.items (shared_items annos))) }
+    ensures { Returns result (made_of (term head parts.items (shared_items annos))) }
 {
     let Some(of_parts) = size_of_all(&parts) else {
         return Ok(Made::Oversize);
@@ -171,7 +172,7 @@ fn make(
 impl Term {
     /// The integer, with no annotations. `AllocError` where there is no memory for a node.
     pub fn int(alloc: Global, value: i64) -> Result<Term, AllocError>
-        ensures { IfOk result (λ t. t ≡ term (Head.Int value) [] []) }
+        ensures { Returns result (term (Head.Int value) [] []) }
     {
         let node = Node {
             head: Head::Int(value),
@@ -194,7 +195,7 @@ impl Term {
         annos: Vec<Term>,
     ) -> Result<Made<Term>, AllocError>
         requires { IsHead head (trees_of parts.items) }
-        ensures { IfOk result (λ made. made ≡ made_of (term head parts.items annos.items)) }
+        ensures { Returns result (made_of (term head parts.items annos.items)) }
     {
         let annos = share(alloc, annos)?;
         make(alloc, head, parts, annos)
@@ -211,7 +212,7 @@ impl Term {
         like: &Term,
     ) -> Result<Made<Term>, AllocError>
         requires { IsHead head (trees_of parts.items) }
-        ensures { IfOk result (λ made. made ≡ made_of (term head parts.items (annos_of like.now))) }
+        ensures { Returns result (made_of (term head parts.items (annos_of like.now))) }
     {
         let annos = like.node.annos.clone()?;
         make(alloc, head, parts, annos)
@@ -221,7 +222,7 @@ impl Term {
     /// not fit. `AllocError` where there is no memory for a node. The parts are dropped where no
     /// term is made.
     pub fn app(alloc: Global, symbol: Sym, parts: Vec<Term>) -> Result<Made<Term>, AllocError>
-        ensures { IfOk result (λ made. made ≡ made_of (term (Head.App symbol) parts.items [])) }
+        ensures { Returns result (made_of (term (Head.App symbol) parts.items [])) }
     {
         make(alloc, Head::App(symbol), parts, None)
     }
@@ -230,7 +231,7 @@ impl Term {
     /// fit. `AllocError` where there is no memory for a node. The elements are dropped where no term
     /// is made.
     pub fn list(alloc: Global, elements: Vec<Term>) -> Result<Made<Term>, AllocError>
-        ensures { IfOk result (λ made. made ≡ made_of (term Head.List elements.items [])) }
+        ensures { Returns result (made_of (term Head.List elements.items [])) }
     {
         make(alloc, Head::List, elements, None)
     }
@@ -240,7 +241,8 @@ impl Term {
     /// parts, which are themselves shared. The annotations are dropped where no term is made.
     #[tactic(auto, using(crate::proofs::TermLemmas::kept))]
     pub fn with_annos(&self, alloc: Global, annos: Vec<Term>) -> Result<Made<Term>, AllocError>
-        ensures { IfOk result (λ made. made ≡ made_of (term (head_of self.now) (parts_of self.now) annos.items)) }
+        ensures { IfOk result (λ made. made ≡
+            made_of (term (head_of self.now) (parts_of self.now) annos.items)) }
     {
         let head = self.node.head.clone()?;
         let parts = Vec::from_clones(alloc, &self.node.parts)?;
@@ -253,7 +255,8 @@ impl Term {
     /// owners, for a list of the parts. The annotations are dropped where no term is made.
     #[tactic(auto, using(crate::proofs::TermLemmas::kept))]
     pub fn annotated(self, alloc: Global, annos: Vec<Term>) -> Result<Made<Term>, AllocError>
-        ensures { IfOk result (λ made. made ≡ made_of (term (head_of self) (parts_of self) annos.items)) }
+        ensures { IfOk result (λ made. made ≡
+            made_of (term (head_of self) (parts_of self) annos.items)) }
     {
         let Term { node } = self;
         match Rc::try_unwrap(node) {
@@ -268,7 +271,8 @@ impl Term {
     #[tactic(auto, using(crate::proofs::TermLemmas::rebuilt))]
     pub fn rebuild(&self, alloc: Global, parts: Vec<Term>) -> Result<Made<Term>, AllocError>
         requires { vec_len parts ≡ length (parts_of self.now) }
-        ensures { IfOk result (λ made. made ≡ made_of (term (head_of self.now) parts.items (annos_of self.now))) }
+        ensures { IfOk result (λ made. made ≡
+            made_of (term (head_of self.now) parts.items (annos_of self.now))) }
     {
         let head = self.node.head.clone()?;
         Term::new_like(alloc, head, parts, self)
@@ -349,7 +353,7 @@ impl PartialEq for Term {
     ghost laws = { same_partial_equiv };
 }
 
-// The terms that are shared, if there are any.
+/// The terms that are shared, if there are any.
 fn terms_in(shared: &Option<Rc<Vec<Term>>>) -> &[Term]
     ensures { result.now ≡ shared_items shared.now }
 {
@@ -359,7 +363,7 @@ fn terms_in(shared: &Option<Rc<Vec<Term>>>) -> &[Term]
     }
 }
 
-// The terms for nodes to share; none take no memory.
+/// The terms for nodes to share; none take no memory.
 fn share(alloc: Global, terms: Vec<Term>) -> Result<Option<Rc<Vec<Term>>>, AllocError>
     ensures { IfOk result (λ shared. shared_items shared ≡ terms.items) }
 {

@@ -32,20 +32,25 @@ use Rattle.term_store.proofs.MakingLemmas.{length-places}
 use Rattle.term_store.proofs.PlainLemmas.{map_same}
 
 -- the head, the parts and the annotations of a term, by its shape
-pub head_at : (s : StoreSpace) (at : ℕ) (x : StoredShape) → IsShapeAt s at x → head_of (term_of s at) ≡ head_in s.symbols.keys (shape_head x)
+pub head_at : (s : StoreSpace) (at : ℕ) (x : StoredShape) → IsShapeAt s at x →
+    head_of (term_of s at) ≡ head_in s.symbols.keys (shape_head x)
 head_at s at x is = ap head_of is.term
 
-pub parts_at : (s : StoreSpace) (at : ℕ) (x : StoredShape) → IsShapeAt s at x → parts_of (term_of s at) ≡ map (term_of s) (list_in s.chains (shape_parts x))
+pub parts_at : (s : StoreSpace) (at : ℕ) (x : StoredShape) → IsShapeAt s at x →
+    parts_of (term_of s at) ≡ map (term_of s) (list_in s.chains (shape_parts x))
 parts_at s at x is = ap parts_of is.term ∙ list_of-trees_of _
 
-pub annos_at : (s : StoreSpace) (at : ℕ) (x : StoredShape) → IsShapeAt s at x → annos_of (term_of s at) ≡ map (term_of s) (chain_at s (shape_annos x))
+pub annos_at : (s : StoreSpace) (at : ℕ) (x : StoredShape) → IsShapeAt s at x →
+    annos_of (term_of s at) ≡ map (term_of s) (chain_at s (shape_annos x))
 annos_at s at x is = ap annos_of is.term ∙ list_of-trees_of _
 
 -- how many parts a term has
-pub count_at : (s : StoreSpace) (at : ℕ) (x : StoredShape) → IsShapeAt s at x → length (list_in s.chains (shape_parts x)) ≡ length (parts_of (term_of s at))
+pub count_at : (s : StoreSpace) (at : ℕ) (x : StoredShape) → IsShapeAt s at x →
+    length (list_in s.chains (shape_parts x)) ≡ length (parts_of (term_of s at))
 count_at s at x is = sym (ap length (parts_at s at x is) ∙ length-places (term_of s) (list_in s.chains (shape_parts x)))
 
-pub counted : (s : StoreSpace) (at n : ℕ) (x : StoredShape) → IsShapeAt s at x → n ≡ length (list_in s.chains (shape_parts x)) → n ≡ length (parts_of (term_of s at))
+pub counted : (s : StoreSpace) (at n : ℕ) (x : StoredShape) → IsShapeAt s at x →
+    n ≡ length (list_in s.chains (shape_parts x)) → n ≡ length (parts_of (term_of s at))
 counted s at n x is e = e ∙ count_at s at x is
 
 -- the shape of a list
@@ -54,17 +59,27 @@ list_head symbols (stored.Int z) e = absurd (cc)
 list_head symbols (stored.Symbol n) e = absurd (cc)
 list_head symbols stored.List e = refl
 
-pub list_shape : (s : StoreSpace) (at : ℕ) (x : StoredShape) → IsShapeAt s at x → head_of (term_of s at) ≡ heads.List → shape_head x ≡ stored.List
+pub list_shape : (s : StoreSpace) (at : ℕ) (x : StoredShape) → IsShapeAt s at x → head_of (term_of s at) ≡ heads.List →
+    shape_head x ≡ stored.List
 list_shape s at x is e = list_head s.symbols.keys (shape_head x) (sym (head_at s at x is) ∙ e)
 
 -- a list, and the symbol over its parts
-pub list_at : (s : StoreSpace) (at n : ℕ) (x : StoredShape) → IsShapeAt s at x → shape_head x ≡ stored.List → n ≡ length (list_in s.chains (shape_parts x)) → IsList (term_of s at) n
-list_at s at n x is h e = record { head = head_at s at x is ∙ ap (head_in s.symbols.keys) h; long = sym (counted s at n x is e) }
+pub list_at : (s : StoreSpace) (at n : ℕ) (x : StoredShape) → IsShapeAt s at x → shape_head x ≡ stored.List →
+    n ≡ length (list_in s.chains (shape_parts x)) → IsList (term_of s at) n
+list_at s at n x is h e = record {
+  head = head_at s at x is ∙ ap (head_in s.symbols.keys) h;
+  long =
+      sym (counted s at n x is e);
+}
 
-pub applied_at : (s : StoreSpace) (at n c : ℕ) (x : StoredShape) (name : Symbol) → IsShapeAt s at x → head_in s.symbols.keys (shape_head x) ≡ heads.App name → n ≡ length (list_in s.chains (shape_parts x)) → n ≡ c → IsApplied (term_of s at) name c
-applied_at s at n c x name is h e same = record { head = head_at s at x is ∙ h; long = sym (counted s at n x is e) ∙ same }
+pub applied_at : (s : StoreSpace) (at n c : ℕ) (x : StoredShape) (name : Symbol) → IsShapeAt s at x →
+    head_in s.symbols.keys (shape_head x) ≡ heads.App name → n ≡ length (list_in s.chains (shape_parts x)) → n ≡ c →
+    IsApplied (term_of s at) name c
+applied_at s at n c x name is h e same =
+    record { head = head_at s at x is ∙ h; long = sym (counted s at n x is e) ∙ same }
 
-pub length_applied : (s : StoreSpace) (at n c : ℕ) (x : StoredShape) (name : Symbol) → IsShapeAt s at x → n ≡ length (list_in s.chains (shape_parts x)) → IsApplied (term_of s at) name c → n ≡ c
+pub length_applied : (s : StoreSpace) (at n c : ℕ) (x : StoredShape) (name : Symbol) → IsShapeAt s at x →
+    n ≡ length (list_in s.chains (shape_parts x)) → IsApplied (term_of s at) name c → n ≡ c
 length_applied s at n c x name is e applied = counted s at n x is e ∙ applied.long
 
 -- the part at an index
@@ -72,7 +87,8 @@ pub there : (o : Option (Bor ℕ)) (xs : List ℕ) (i : ℕ) → IsAt o xs i →
 there None xs i at h = absurd (omega (arith, at, h))
 there (Some r) xs i at h = refl
 
-pub item_at : (o : Option (Bor ℕ)) (r : Bor ℕ) (xs : List ℕ) (i : ℕ) → IsAt o xs i → o ≡ Some r → slice_get xs i ≡ Some r.now
+pub item_at : (o : Option (Bor ℕ)) (r : Bor ℕ) (xs : List ℕ) (i : ℕ) → IsAt o xs i → o ≡ Some r →
+    slice_get xs i ≡ Some r.now
 item_at o r xs i at e = subst (λ p. IsAt p xs i) e at
 
 slice_get-map : (f : ℕ → Tree) (xs : List ℕ) (i x : ℕ) → slice_get xs i ≡ Some x → slice_get (map f xs) i ≡ Some (f x)
@@ -85,17 +101,21 @@ slice_get-within [] i x e = absurd (cc)
 slice_get-within (y ∷ ys) zero x e = omega arith
 slice_get-within (y ∷ ys) (suc i) x e = let h = slice_get-within ys i x e in omega (arith, h)
 
-pub part_stands : (s : StoreSpace) (at i p : ℕ) (x : StoredShape) → IsShapeAt s at x → slice_get (list_in s.chains (shape_parts x)) i ≡ Some p → IsTrue (nat_lt p (count s))
+pub part_stands : (s : StoreSpace) (at i p : ℕ) (x : StoredShape) → IsShapeAt s at x →
+    slice_get (list_in s.chains (shape_parts x)) i ≡ Some p → IsTrue (nat_lt p (count s))
 part_stands s at i p x is e =
     let xs : List ℕ = list_in s.chains (shape_parts x) in
     let below : get_or xs i p < count s = is.may.parts i p (slice_get-within xs i p e) in
     lt-ltb p (count s) (subst (λ k. k < count s) (get_or_from_slice_get xs i p p e) below)
 
-pub part_is : (s : StoreSpace) (at i p : ℕ) (x : StoredShape) → IsShapeAt s at x → slice_get (list_in s.chains (shape_parts x)) i ≡ Some p → slice_get (parts_of (term_of s at)) i ≡ Some (term_of s p)
-part_is s at i p x is e = ap (λ ts. slice_get ts i) (parts_at s at x is) ∙ slice_get-map (term_of s) (list_in s.chains (shape_parts x)) i p e
+pub part_is : (s : StoreSpace) (at i p : ℕ) (x : StoredShape) → IsShapeAt s at x →
+    slice_get (list_in s.chains (shape_parts x)) i ≡ Some p → slice_get (parts_of (term_of s at)) i ≡ Some (term_of s p)
+part_is s at i p x is e = ap (λ ts. slice_get ts i) (parts_at s at x is) ∙
+    slice_get-map (term_of s) (list_in s.chains (shape_parts x)) i p e
 
 -- what was made, as a space says it
-pub makes : (s : StoreSpace) (t u : Tree) (r : Result (Made ℕ) AllocError) → IfOk r (IsMade s t) → t ≡ u → IfOk r (Makes stored_terms s u)
+pub makes : (s : StoreSpace) (t u : Tree) (r : Result (Made ℕ) AllocError) → IfOk r (IsMade s t) → t ≡ u →
+    IfOk r (Makes stored_terms s u)
 makes s t u (Err e) is same = tt
 makes s t u (Ok (made.Fits k)) is same = (lt-ltb k (count s) is.0, is.1 ∙ same, subst Fits same is.2)
 makes s t u (Ok made.Oversize) is same = λ fits. is (subst Fits (sym same) fits)
@@ -109,7 +129,8 @@ makes_none old new e =
     record { standing = λ r. ap (nat_lt r) e; valid = λ m. ap (nat_le m) held }
 
 -- a store goes back to where it is
-pub goes_nowhere : (s : StoreSpace) (mark held : ℕ) → held ≡ held_count s → s.shapes.small ≤ count s → held ≤ mark → IsTrue (nat_le mark (held_count s)) → GoesBack stored_terms s mark s
+pub goes_nowhere : (s : StoreSpace) (mark held : ℕ) → held ≡ held_count s → s.shapes.small ≤ count s → held ≤ mark →
+    IsTrue (nat_le mark (held_count s)) → GoesBack stored_terms s mark s
 goes_nowhere s mark held e some far valid =
     let small = s.small in
     let near = leb-true mark (held_count s) valid in
@@ -125,45 +146,67 @@ goes_nowhere s mark held e some far valid =
     }
 
 -- the term of a shape after chains came
-pub shape_then : (old mid : StoreSpace) (x : StoredShape) (h : Head) (ps qs : List ℕ) → KeepsChains old mid → head_in mid.symbols.keys (shape_head x) ≡ h → list_in mid.chains (shape_parts x) ≡ ps → chain_at mid (shape_annos x) ≡ qs
+pub shape_then : (old mid : StoreSpace) (x : StoredShape) (h : Head) (ps qs : List ℕ) → KeepsChains old mid →
+    head_in mid.symbols.keys (shape_head x) ≡ h → list_in mid.chains (shape_parts x) ≡ ps →
+    chain_at mid (shape_annos x) ≡ qs
     → shape_term mid x ≡ term h (map (term_of old) ps) (map (term_of old) qs)
 shape_then old mid x h ps qs keeps eh ep eq =
-    let parts : map (term_of mid) (list_in mid.chains (shape_parts x)) ≡ map (term_of old) ps = ap (map (term_of mid)) ep ∙ map_same (term_of mid) (term_of old) ps (λ k d within. keeps.terms _) in
-    let annos_ : map (term_of mid) (chain_at mid (shape_annos x)) ≡ map (term_of old) qs = ap (map (term_of mid)) eq ∙ map_same (term_of mid) (term_of old) qs (λ k d within. keeps.terms _) in
-    ap (λ g. term g (map (term_of mid) (list_in mid.chains (shape_parts x))) (map (term_of mid) (chain_at mid (shape_annos x)))) eh ∙ (ap (λ ts. term h ts (map (term_of mid) (chain_at mid (shape_annos x)))) parts ∙ ap (λ ts. term h (map (term_of old) ps) ts) annos_)
+    let parts : map (term_of mid) (list_in mid.chains (shape_parts x)) ≡ map (term_of old) ps =
+    ap (map (term_of mid)) ep ∙ map_same (term_of mid) (term_of old) ps (λ k d within. keeps.terms _) in
+    let annos_ : map (term_of mid) (chain_at mid (shape_annos x)) ≡ map (term_of old) qs =
+    ap (map (term_of mid)) eq ∙ map_same (term_of mid) (term_of old) qs (λ k d within. keeps.terms _) in
+    ap (λ g. term g (map (term_of mid) (list_in mid.chains (shape_parts x)))
+    (map (term_of mid) (chain_at mid (shape_annos x)))) eh ∙
+    (ap (λ ts. term h ts (map (term_of mid) (chain_at mid (shape_annos x)))) parts ∙
+    ap (λ ts. term h (map (term_of old) ps) ts) annos_)
 
-pub head_kept : (old mid : StoreSpace) (at : ℕ) (x : StoredShape) → KeepsChains old mid → IsShapeAt old at x → head_in mid.symbols.keys (shape_head x) ≡ head_of (term_of old at)
-head_kept old mid at x keeps is = ap (λ symbols. head_in symbols (shape_head x)) keeps.symbols ∙ sym (head_at old at x is)
+pub head_kept : (old mid : StoreSpace) (at : ℕ) (x : StoredShape) → KeepsChains old mid → IsShapeAt old at x →
+    head_in mid.symbols.keys (shape_head x) ≡ head_of (term_of old at)
+head_kept old mid at x keeps is = ap (λ symbols. head_in symbols (shape_head x)) keeps.symbols ∙
+    sym (head_at old at x is)
 
 -- the term of a head, parts and annotations after a symbol came
-pub made_then : (old mid : StoreSpace) (g h : Head) (ps qs : List ℕ) → Keeps old mid → g ≡ h → Stand old ps → Stand old qs → term g (map (term_of mid) ps) (map (term_of mid) qs) ≡ term h (map (term_of old) ps) (map (term_of old) qs)
+pub made_then : (old mid : StoreSpace) (g h : Head) (ps qs : List ℕ) → Keeps old mid → g ≡ h → Stand old ps →
+    Stand old qs → term g (map (term_of mid) ps) (map (term_of mid) qs) ≡
+    term h (map (term_of old) ps) (map (term_of old) qs)
 made_then old mid g h ps qs keeps e hp hq =
-    let parts : map (term_of mid) ps ≡ map (term_of old) ps = map_same (term_of mid) (term_of old) ps (λ k d within. keeps.terms _ (hp k d within)) in
-    let annos_ : map (term_of mid) qs ≡ map (term_of old) qs = map_same (term_of mid) (term_of old) qs (λ k d within. keeps.terms _ (hq k d within)) in
-    ap (λ f. term f (map (term_of mid) ps) (map (term_of mid) qs)) e ∙ (ap (λ ts. term h ts (map (term_of mid) qs)) parts ∙ ap (λ ts. term h (map (term_of old) ps) ts) annos_)
+    let parts : map (term_of mid) ps ≡ map (term_of old) ps =
+    map_same (term_of mid) (term_of old) ps (λ k d within. keeps.terms _ (hp k d within)) in
+    let annos_ : map (term_of mid) qs ≡ map (term_of old) qs =
+    map_same (term_of mid) (term_of old) qs (λ k d within. keeps.terms _ (hq k d within)) in
+    ap (λ f. term f (map (term_of mid) ps) (map (term_of mid) qs)) e ∙
+    (ap (λ ts. term h ts (map (term_of mid) qs)) parts ∙ ap (λ ts. term h (map (term_of old) ps) ts) annos_)
 
 -- a list in front of which elements were put
-pub list_stands : (old mid : StoreSpace) (b : Block ℕ) (ps : List ℕ) → KeepsChains old mid → IsBlockIn mid.chains b ps → Stand old ps → MayStand mid (forms.List 0 b)
+pub list_stands : (old mid : StoreSpace) (b : Block ℕ) (ps : List ℕ) → KeepsChains old mid → IsBlockIn mid.chains b ps →
+    Stand old ps → MayStand mid (forms.List 0 b)
 list_stands old mid b ps keeps block stand = record {
   head = refl;
   block = record { list = refl; rest = block.rest; whole = block.whole; none = block.none };
-  parts = subst (Stand mid) (sym block.list) (λ k d h. subst (λ n. get_or ps k d < n) (sym (ap length keeps.shapes)) (stand k d h));
+  parts = subst (Stand mid) (sym block.list)
+      (λ k d h. subst (λ n. get_or ps k d < n) (sym (ap length keeps.shapes)) (stand k d h));
   annos = let spanned = mid.store.spanned in omega (arith, spanned);
   bare = λ is. absurd (cc);
 }
 
-pub list_term : (old mid : StoreSpace) (b : Block ℕ) (ps : List ℕ) → KeepsChains old mid → IsBlockIn mid.chains b ps → shape_term mid (forms.List 0 b) ≡ term heads.List (map (term_of old) ps) []
-list_term old mid b ps keeps block = shape_then old mid (forms.List 0 b) heads.List ps [] keeps refl block.list mid.store.empty
+pub list_term : (old mid : StoreSpace) (b : Block ℕ) (ps : List ℕ) → KeepsChains old mid → IsBlockIn mid.chains b ps →
+    shape_term mid (forms.List 0 b) ≡ term heads.List (map (term_of old) ps) []
+list_term old mid b ps keeps block =
+    shape_then old mid (forms.List 0 b) heads.List ps [] keeps refl block.list mid.store.empty
 
-pub both_lists : (s : StoreSpace) (at : ℕ) (x : StoredShape) (xs : List ℕ) → IsShapeAt s at x → map (term_of s) (xs ++ list_in s.chains (shape_parts x)) ≡ map (term_of s) xs ++ parts_of (term_of s at)
-both_lists s at x xs is = map-append (term_of s) xs (list_in s.chains (shape_parts x)) ∙ ap (λ ts. map (term_of s) xs ++ ts) (sym (parts_at s at x is))
+pub both_lists : (s : StoreSpace) (at : ℕ) (x : StoredShape) (xs : List ℕ) → IsShapeAt s at x →
+    map (term_of s) (xs ++ list_in s.chains (shape_parts x)) ≡ map (term_of s) xs ++ parts_of (term_of s at)
+both_lists s at x xs is = map-append (term_of s) xs (list_in s.chains (shape_parts x)) ∙
+    ap (λ ts. map (term_of s) xs ++ ts) (sym (parts_at s at x is))
 
 stand-append : (s : StoreSpace) (xs ys : List ℕ) → Stand s xs → Stand s ys → Stand s (xs ++ ys)
 stand-append s [] ys hx hy k d h = hy k d h
 stand-append s (x ∷ xs) ys hx hy zero d h = hx 0 d (omega arith)
-stand-append s (x ∷ xs) ys hx hy (suc k) d h = stand-append s xs ys (λ j e within. hx (suc j) e (omega (arith, within))) hy k d (omega (arith, h))
+stand-append s (x ∷ xs) ys hx hy (suc k) d h =
+    stand-append s xs ys (λ j e within. hx (suc j) e (omega (arith, within))) hy k d (omega (arith, h))
 
-pub both_stand : (s : StoreSpace) (at : ℕ) (x : StoredShape) (xs : List ℕ) → IsShapeAt s at x → Stand s xs → Stand s (xs ++ list_in s.chains (shape_parts x))
+pub both_stand : (s : StoreSpace) (at : ℕ) (x : StoredShape) (xs : List ℕ) → IsShapeAt s at x → Stand s xs →
+    Stand s (xs ++ list_in s.chains (shape_parts x))
 both_stand s at x xs is stand = stand-append s xs (list_in s.chains (shape_parts x)) stand is.may.parts
 
 -- the elements after the first ones
@@ -177,11 +220,20 @@ map-drop f zero xs = refl
 map-drop f (suc n) [] = refl
 map-drop f (suc n) (x ∷ xs) = map-drop f n xs
 
-pub dropped : (s : StoreSpace) (at n : ℕ) (x : StoredShape) → IsShapeAt s at x → map (term_of s) (drop n (list_in s.chains (shape_parts x))) ≡ drop n (parts_of (term_of s at))
+pub dropped : (s : StoreSpace) (at n : ℕ) (x : StoredShape) → IsShapeAt s at x →
+    map (term_of s) (drop n (list_in s.chains (shape_parts x))) ≡ drop n (parts_of (term_of s at))
 dropped s at n x is = map-drop (term_of s) n (list_in s.chains (shape_parts x)) ∙ ap (drop n) (sym (parts_at s at x is))
 
 pub keeps_all : (s : StoreSpace) → KeepsChains s s
-keeps_all s = record { symbols = refl; named = refl; shapes = refl; more = omega arith; chains = λ j h. refl; terms = λ k. refl }
+keeps_all s = record {
+  symbols = refl;
+  named = refl;
+  shapes = refl;
+  more = omega arith;
+  chains = λ j h. refl;
+  terms =
+      λ k. refl;
+}
 
 -- elements that are too heavy together
 pub heavy_list : (ts us : List Tree) → max_weight < weights (trees_of ts) → ts ≡ us → Fits (term heads.List us []) → ⊥

@@ -27,13 +27,17 @@ no_places [] e = refl
 no_places (p ∷ ps) e = absurd (omega (arith, e))
 
 -- the parts are those of the block, since an integer has none
-parts_made : (chains : List (List ℕ)) (h : StoredHead) (b : Block ℕ) (a : ℕ) (ps : List ℕ) → get_or chains 0 [] ≡ [] → MayHave h ps → list_in chains b ≡ ps → list_in chains (shape_parts (shape_of h b a)) ≡ ps
+parts_made : (chains : List (List ℕ)) (h : StoredHead) (b : Block ℕ) (a : ℕ) (ps : List ℕ) → get_or chains 0 [] ≡ [] →
+    MayHave h ps → list_in chains b ≡ ps → list_in chains (shape_parts (shape_of h b a)) ≡ ps
 parts_made chains (stored.Int z) b a ps empty bare is = empty ∙ sym (no_places ps (bare refl))
 parts_made chains (stored.Symbol n) b a ps empty bare is = is
 parts_made chains stored.List b a ps empty bare is = is
 
 -- the term of a shape that is made after chains came
-pub term_made : (old mid : StoreSpace) (h : StoredHead) (b : Block ℕ) (a : ℕ) (g : Head) (ps qs : List ℕ) → KeepsChains old mid → head_in mid.symbols.keys h ≡ g → MayHave h ps → list_in mid.chains b ≡ ps → chain_at mid a ≡ qs
+pub term_made : (old mid : StoreSpace) (h : StoredHead) (b : Block ℕ) (a : ℕ) (g : Head) (ps qs : List ℕ) →
+    KeepsChains old mid → head_in mid.symbols.keys h ≡ g → MayHave h ps → list_in mid.chains b ≡ ps →
+    chain_at mid a ≡ qs
     → shape_term mid (shape_of h b a) ≡ term g (map (term_of old) ps) (map (term_of old) qs)
 term_made old mid h b a g ps qs keeps eh bare ep eq =
-    shape_then old mid (shape_of h b a) g ps qs keeps (ap (head_in mid.symbols.keys) (head_made h b a) ∙ eh) (parts_made mid.chains h b a ps mid.store.empty bare ep) (ap (chain_at mid) (annos_made h b a) ∙ eq)
+    shape_then old mid (shape_of h b a) g ps qs keeps (ap (head_in mid.symbols.keys) (head_made h b a) ∙
+    eh) (parts_made mid.chains h b a ps mid.store.empty bare ep) (ap (chain_at mid) (annos_made h b a) ∙ eq)

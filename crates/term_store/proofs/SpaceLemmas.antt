@@ -1,5 +1,5 @@
 -- Lemmas that the store's calls cite.
-use Rattle.std.proofs.Common.{◌≡◌, ℕ, zero, suc, ◌<◌, List, [], ◌∷◌, length, get_or, refl, All, arith}
+use Rattle.std.proofs.Common.{ℕ, zero, suc, ◌<◌, List, [], ◌∷◌, length, get_or, refl, All, arith}
 use Rattle.std.specs.Prelude.{ℤ}
 use Rattle.term_model.specs.Term.{term}
 use Rattle.term_model.specs.declared.term.Head.TheVariants as heads
@@ -28,19 +28,15 @@ nothing = record {
     empty zero h = λ k d within. absurd (omega arith)
     empty (suc j) h = absurd (omega arith)
 
--- what stands at a place, whatever is asked for beyond the list
-pub get_or_any : {X : Type 0} (xs : List X) (i : ℕ) (d e : X) → i < length xs → get_or xs i d ≡ get_or xs i e
-get_or_any [] i d e h = absurd (omega arith)
-get_or_any (x ∷ xs) zero d e h = refl
-get_or_any (x ∷ xs) (suc i) d e h = get_or_any xs i d e (omega arith)
-
 -- a store that holds nothing, in which the small integers have their places
 pub small_store : (negative small : ℕ) → IsStore [] ([] ∷ []) (integers negative small) (small_extents small) []
 small_store negative zero = nothing
 small_store negative (suc k) =
     let store = small_store negative k in
     let long = length-integers negative k in
-    store_push [] ([] ∷ []) (integers negative k) (small_extents k) [] (forms.Int 0 (integer_at negative k)) small_extent store (integer_shape (length (integers negative k)) (integer_at negative k)) refl refl (integer_size (integer_at negative k))
+    store_push [] ([] ∷ []) (integers negative k) (small_extents k) [] (forms.Int 0 (integer_at negative k))
+    small_extent store (integer_shape (length (integers negative k)) (integer_at negative k))
+    refl refl (integer_size (integer_at negative k))
   where
     integer_shape : (k : ℕ) (z : ℤ) → IsShape [] ([] ∷ []) k 0 (forms.Int 0 z)
     integer_shape k z = record {

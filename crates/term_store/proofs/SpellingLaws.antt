@@ -31,5 +31,6 @@ kind_spelled kinds.Tuple bs = refl
 pub ruleset spelled = (spelled_so, is_spelling, bytes_spelled, kind_spelled)
 
 -- the symbol that is found is the one that is looked for
-pub found_at : (keys : List Symbol) (s : Symbol) (i : ℕ) → position (same_symbol s) keys ≡ Some i → get_or keys i Tuple ≡ s
+pub found_at : (keys : List Symbol) (s : Symbol) (i : ℕ) → position (same_symbol s) keys ≡ Some i →
+    get_or keys i Tuple ≡ s
 found_at keys s i e = sym (same_symbol-true s (get_or keys i Tuple) (position-Some (same_symbol s) keys i Tuple e).1)

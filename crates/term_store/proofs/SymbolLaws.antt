@@ -26,7 +26,8 @@ pub record Agree (symbols others : List Symbol) (count : ℕ) : Type 0 where
   pub same : (n : ℕ) → n < count → get_or others n Tuple ≡ get_or symbols n Tuple
 
 -- a head is the same among symbols that agree as far as it names them
-head_other : (symbols others : List Symbol) (count : ℕ) (h : StoredHead) → Agree symbols others count → IsAmong count h → head_in others h ≡ head_in symbols h
+head_other : (symbols others : List Symbol) (count : ℕ) (h : StoredHead) → Agree symbols others count →
+    IsAmong count h → head_in others h ≡ head_in symbols h
 head_other symbols others count (stored.Int z) agree is = refl
 head_other symbols others count (stored.Symbol n) agree is = ap heads.App (agree.same n (ltb-true n count is))
 head_other symbols others count stored.List agree is = refl
@@ -37,13 +38,17 @@ among_more few many (stored.Int z) le is = is
 among_more few many (stored.Symbol n) le is = let below : n < few = ltb-true n few is in grind (arith, below)
 among_more few many stored.List le is = is
 
-plain_among : (symbols others : List Symbol) (chains : List (List ℕ)) (count : ℕ) (s : StoredShape) → Agree symbols others count → IsAmong count (shape_head s) → plain others chains s ≡ plain symbols chains s
+plain_among : (symbols others : List Symbol) (chains : List (List ℕ)) (count : ℕ) (s : StoredShape) →
+    Agree symbols others count → IsAmong count (shape_head s) → plain others chains s ≡ plain symbols chains s
 plain_among symbols others chains count s agree is =
-    let heads_ : head_in others (shape_head s) ≡ head_in symbols (shape_head s) = head_other symbols others count (shape_head s) agree is in
+    let heads_ : head_in others (shape_head s) ≡ head_in symbols (shape_head s) =
+    head_other symbols others count (shape_head s) agree is in
     λ w. record { head = heads_ w; parts = list_in chains (shape_parts s); annos = get_or chains (shape_annos s) [] }
 
 -- a shape among symbols that agree as far as it names them
-shape_among : (symbols others : List Symbol) (chains : List (List ℕ)) (count k last : ℕ) (s : StoredShape) → Agree symbols others count → IsAmong count (shape_head s) → IsShape symbols chains k last s → IsShape others chains k last s
+shape_among : (symbols others : List Symbol) (chains : List (List ℕ)) (count k last : ℕ) (s : StoredShape) →
+    Agree symbols others count → IsAmong count (shape_head s) → IsShape symbols chains k last s →
+    IsShape others chains k last s
 shape_among symbols others chains count k last s agree among is = record {
   head = among_more count (length others) (shape_head s) agree.long among;
   rest = is.rest;
@@ -55,13 +60,17 @@ shape_among symbols others chains count k last s agree among is = record {
 }
 
 -- a store among symbols that agree as far as its extents say that its shapes name them
-module _ (symbols others : List Symbol) (chains : List (List ℕ)) (shapes : List StoredShape) (extents : List Extent) (spans : List Span) (store : IsStore symbols chains shapes extents spans) (count : ℕ)
-    (bound : (k : ℕ) (e : Extent) → k < length shapes → (get_or extents k e).symbols ≤ count) (agree : Agree symbols others count) where
+module _ (symbols others : List Symbol) (chains : List (List ℕ)) (shapes : List StoredShape) (extents : List Extent)
+    (spans : List Span) (store : IsStore symbols chains shapes extents spans) (count : ℕ)
+    (bound : (k : ℕ) (e : Extent) → k < length shapes →
+    (get_or extents k e).symbols ≤ count) (agree : Agree symbols others count) where
   named_at : (k : ℕ) (d : StoredShape) → k < length shapes → IsAmong count (shape_head (get_or shapes k d))
-  named_at k d h = among_more (get_or extents k none_extent).symbols count (shape_head (get_or shapes k d)) (bound k none_extent h) (store.entries k d none_extent h).among
+  named_at k d h = among_more (get_or extents k none_extent).symbols count (shape_head (get_or shapes k d))
+      (bound k none_extent h) (store.entries k d none_extent h).among
 
   among_plains : plains others chains shapes ≡ plains symbols chains shapes
-  among_plains = map_same (plain others chains) (plain symbols chains) shapes (λ k d h. plain_among symbols others chains count (get_or shapes k d) agree (named_at k d h))
+  among_plains = map_same (plain others chains) (plain symbols chains)
+      shapes (λ k d h. plain_among symbols others chains count (get_or shapes k d) agree (named_at k d h))
 
   pub held_among : (i : ℕ) → held others chains shapes i ≡ held symbols chains shapes i
   held_among i = ap (λ ps. term_at ps i) among_plains
@@ -87,17 +96,20 @@ module _ (symbols others : List Symbol) (chains : List (List ℕ)) (shapes : Lis
     in_turn = store.in_turn;
     last = store.last;
     standing = store.standing;
-    sums = λ j d h. sum_kept (held symbols chains shapes) (held others chains shapes) (get_or chains (suc j) []) (get_or spans j d) (λ k x inside. held_among _) (store.sums j d h);
+    sums = λ j d h. sum_kept (held symbols chains shapes) (held others chains shapes) (get_or chains (suc j) [])
+        (get_or spans j d) (λ k x inside. held_among _) (store.sums j d h);
   }
 
 -- after an insertion the symbols before agree
-pub inserted : {T E : Type 0} (r : Result T E) (b : Bool) (old new : List Symbol) (x : Symbol) → IfOk r (λ _. new ≡ (if b then old else old ++ x ∷ [])) → OnErr r (new ≡ old) → Agree old new (length old)
+pub inserted : {T E : Type 0} (r : Result T E) (b : Bool) (old new : List Symbol) (x : Symbol) →
+    IfOk r (λ _. new ≡ (if b then old else old ++ x ∷ [])) → OnErr r (new ≡ old) → Agree old new (length old)
 inserted {T = T} {E = E} r b old new x done refused = by r b done refused
   where
     stays : new ≡ old → Agree old new (length old)
     stays e = subst (λ l. Agree old l (length old)) (sym e) (record { long = omega arith; same = λ n h. refl })
 
-    by : (r : Result T E) (b : Bool) → IfOk r (λ _. new ≡ (if b then old else old ++ x ∷ [])) → OnErr r (new ≡ old) → Agree old new (length old)
+    by : (r : Result T E) (b : Bool) → IfOk r (λ _. new ≡ (if b then old else old ++ x ∷ [])) → OnErr r (new ≡ old) →
+        Agree old new (length old)
     by (Ok v) true done refused = stays done
     by (Ok v) false done refused = subst (λ l. Agree old l (length old)) (sym done) (record {
       long = simp length-append (omega arith);
@@ -106,18 +118,24 @@ inserted {T = T} {E = E} r b old new x done refused = by r b done refused
     by (Err e) b done refused = stays refused
 
 -- each shape of a store names symbols of the store
-pub names_known : (s : StoreSpace) (k : ℕ) (e : Extent) → k < count s → (get_or s.extents.items k e).symbols ≤ length s.symbols.keys
+pub names_known : (s : StoreSpace) (k : ℕ) (e : Extent) → k < count s →
+    (get_or s.extents.items k e).symbols ≤ length s.symbols.keys
 names_known s k e h = (s.store.entries k none_shape e h).known
 
 -- a store with more symbols
-pub store_named : (s : StoreSpace) (others : List Symbol) → Agree s.symbols.keys others (length s.symbols.keys) → IsStore others s.chains s.shapes.keys s.extents.items s.spans.items
-store_named s others agree = store_among s.symbols.keys others s.chains s.shapes.keys s.extents.items s.spans.items s.store (length s.symbols.keys) (names_known s) agree
+pub store_named : (s : StoreSpace) (others : List Symbol) → Agree s.symbols.keys others (length s.symbols.keys) →
+    IsStore others s.chains s.shapes.keys s.extents.items s.spans.items
+store_named s others agree = store_among s.symbols.keys others s.chains s.shapes.keys s.extents.items s.spans.items
+    s.store (length s.symbols.keys) (names_known s) agree
 
-pub held_named : (s : StoreSpace) (others : List Symbol) (k : ℕ) → Agree s.symbols.keys others (length s.symbols.keys) → held others s.chains s.shapes.keys k ≡ term_of s k
-held_named s others k agree = held_among s.symbols.keys others s.chains s.shapes.keys s.extents.items s.spans.items s.store (length s.symbols.keys) (names_known s) agree k
+pub held_named : (s : StoreSpace) (others : List Symbol) (k : ℕ) → Agree s.symbols.keys others (length s.symbols.keys) →
+    held others s.chains s.shapes.keys k ≡ term_of s k
+held_named s others k agree = held_among s.symbols.keys others s.chains s.shapes.keys s.extents.items s.spans.items
+    s.store (length s.symbols.keys) (names_known s) agree k
 
 -- a store that goes back to its first shapes, with enough symbols for all that those shapes name
-module _ (s : StoreSpace) (mark last few kept : ℕ) (within : mark ≤ count s) (chains_ : IsLast s.chains s.extents.items mark last) (names : AreNamed s.symbols.keys s.extents.items mark few)
+module _ (s : StoreSpace) (mark last few kept : ℕ) (within : mark ≤ count s)
+    (chains_ : IsLast s.chains s.extents.items mark last) (names : AreNamed s.symbols.keys s.extents.items mark few)
     (enough : few ≤ kept) (there : kept ≤ length s.symbols.keys) where
   back_agrees : Agree s.symbols.keys (take kept s.symbols.keys) few
   back_agrees = record {
@@ -125,18 +143,27 @@ module _ (s : StoreSpace) (mark last few kept : ℕ) (within : mark ≤ count s)
     same = λ n h. get_or-take kept s.symbols.keys n Tuple (omega (arith, h, enough));
   }
 
-  back_bound : (k : ℕ) (e : Extent) → k < length (take mark s.shapes.keys) → (get_or (take mark s.extents.items) k e).symbols ≤ few
+  back_bound : (k : ℕ) (e : Extent) → k < length (take mark s.shapes.keys) →
+      (get_or (take mark s.extents.items) k e).symbols ≤ few
   back_bound k e h =
       let below : k < mark = subst (λ m. k < m) (length-take-le mark s.shapes.keys within) h in
       subst (λ (x : Extent). x.symbols ≤ few) (sym (get_or-take mark s.extents.items k e below)) (names.bound k e below)
 
-  back_store : IsStore s.symbols.keys (take (last + 1) s.chains) (take mark s.shapes.keys) (take mark s.extents.items) (take last s.spans.items)
-  back_store = store_take s.symbols.keys s.chains s.shapes.keys s.extents.items s.spans.items s.store mark last within chains_.there chains_.bound chains_.early
+  back_store : IsStore s.symbols.keys (take (last + 1) s.chains) (take mark s.shapes.keys) (take mark s.extents.items)
+      (take last s.spans.items)
+  back_store = store_take s.symbols.keys s.chains s.shapes.keys s.extents.items s.spans.items s.store mark last within
+      chains_.there chains_.bound chains_.early
 
-  pub store_back : IsStore (take kept s.symbols.keys) (take (last + 1) s.chains) (take mark s.shapes.keys) (take mark s.extents.items) (take last s.spans.items)
-  store_back = store_among s.symbols.keys (take kept s.symbols.keys) (take (last + 1) s.chains) (take mark s.shapes.keys) (take mark s.extents.items) (take last s.spans.items) back_store few back_bound back_agrees
+  pub store_back : IsStore (take kept s.symbols.keys) (take (last + 1) s.chains) (take mark s.shapes.keys)
+      (take mark s.extents.items) (take last s.spans.items)
+  store_back = store_among s.symbols.keys (take kept s.symbols.keys) (take (last + 1) s.chains)
+      (take mark s.shapes.keys) (take mark s.extents.items) (take last s.spans.items)
+      back_store few back_bound back_agrees
 
-  pub held_back : (k : ℕ) → k < mark → held (take kept s.symbols.keys) (take (last + 1) s.chains) (take mark s.shapes.keys) k ≡ term_of s k
+  pub held_back : (k : ℕ) → k < mark →
+      held (take kept s.symbols.keys) (take (last + 1) s.chains) (take mark s.shapes.keys) k ≡ term_of s k
   held_back k h =
-      held_among s.symbols.keys (take kept s.symbols.keys) (take (last + 1) s.chains) (take mark s.shapes.keys) (take mark s.extents.items) (take last s.spans.items) back_store few back_bound back_agrees k
-      ∙ held_cut s.symbols.keys s.chains s.shapes.keys s.extents.items s.spans.items s.store mark last within chains_.there chains_.bound chains_.early k h
+      held_among s.symbols.keys (take kept s.symbols.keys) (take (last + 1) s.chains) (take mark s.shapes.keys)
+      (take mark s.extents.items) (take last s.spans.items) back_store few back_bound back_agrees k
+      ∙ held_cut s.symbols.keys s.chains s.shapes.keys s.extents.items s.spans.items s.store mark last within
+      chains_.there chains_.bound chains_.early k h

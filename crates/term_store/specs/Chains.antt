@@ -1,3 +1,4 @@
+-- The headline does not rest on this file.
 -- Chains under their numbers: the empty chain has the number 0, and the chain of the block at index k the number k + 1.
 use Rattle.std.specs.Prelude.{◌≡◌, ◌<◌, ◌≤◌, ◌*◌, ◌/◌, ℕ, List, [], length, slice_index_or}
 use Rattle.term_model.specs.Blocks.{front_list, list_in, lists_of}
@@ -6,7 +7,8 @@ use Rattle.term_model.specs.declared.parts.Block.{Block}
 
 -- no two of these are the same list
 abbrev pub AreApart : List (List ℕ) → Type 0
-AreApart chains = (i j : ℕ) → i < length chains → j < length chains → slice_index_or chains i [] ≡ slice_index_or chains j [] → i ≡ j
+AreApart chains = (i j : ℕ) → i < length chains → j < length chains →
+    slice_index_or chains i [] ≡ slice_index_or chains j [] → i ≡ j
 
 -- as long as some blocks of three
 pub record IsWhole (xs : List ℕ) : Type 0 where

@@ -1,3 +1,4 @@
+-- The headline does not rest on this file.
 -- The places of terms that were brought in.
 use Rattle.std.specs.Prelude.{◌≡◌, ◌++◌, List, ℕ, map}
 use Rattle.term_model.specs.Term.{Tree, term}

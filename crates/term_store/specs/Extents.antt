@@ -1,4 +1,6 @@
--- The extents of all places, as they are kept: a size for each shape, and the numbers of chains and symbols where these change.
+-- The headline does not rest on this file.
+-- The extents of all places, as they are kept: a size for each shape, and the numbers of chains and symbols where these
+-- change.
 use Rattle.std.specs.Prelude.{◌≡◌, ◌<◌, ℕ, zero, suc, List, [], ◌∷◌, ◌++◌, nat_le, if◌then◌else◌}
 use Rattle.term_store.specs.declared.extents.Epoch.{Epoch}
 use Rattle.term_store.specs.declared.sizes.Size.{Size}

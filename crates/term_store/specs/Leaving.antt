@@ -1,3 +1,4 @@
+-- The headline does not rest on this file.
 -- Terms that have left a store.
 use Rattle.std.specs.Prelude.{◌≡◌, ◌+◌, ℕ, List, length, slice_get, Option, Some, IsTrue}
 use Rattle.term_model.specs.declared.term.Head.{Head}

@@ -1,3 +1,4 @@
+-- The headline does not rest on this file.
 -- Shapes under their places, of which the first are those of the small integers.
 use Rattle.std.specs.Prelude.{◌≡◌, ◌<◌, ◌-ℤ◌, ◌++◌, ◌∷◌, ℕ, zero, suc, ℤ, pos, List, [], length, slice_index_or}
 use Rattle.term_store.specs.declared.stored.StoredShape.{StoredShape}
@@ -31,7 +32,8 @@ IsLargeShape negative small s = (z : ℤ) → s ≡ forms.Int 0 z → IsLarge ne
 
 -- none of these shapes is that of a small integer
 abbrev pub AreLarge : ℕ → ℕ → List StoredShape → Type 0
-AreLarge negative small shapes = (k : ℕ) (d : StoredShape) → k < length shapes → IsLargeShape negative small (slice_index_or shapes k d)
+AreLarge negative small shapes = (k : ℕ) (d : StoredShape) → k < length shapes →
+    IsLargeShape negative small (slice_index_or shapes k d)
 
 -- the shape at a place
 abbrev pub IsPlaced : PlacedShapes → ℕ → StoredShape → Type 0

@@ -1,3 +1,4 @@
+-- The headline does not rest on this file.
 -- The terms of plain shapes, of which each has its parts and annotations before it.
 use Rattle.std.specs.Prelude.{◌<◌, ℕ, List, [], ◌∷◌, ◌++◌, length, map, slice_index_or, All}
 use Rattle.term_model.specs.declared.term.Head.{Head}
@@ -16,7 +17,8 @@ absent = node heads.List end end
 
 -- the term of a plain shape, where these are the terms before it
 abbrev pub term_in : List Tree → Plain → Tree
-term_in before p = term p.head (map (λ i. slice_index_or before i absent) p.parts) (map (λ i. slice_index_or before i absent) p.annos)
+term_in before p = term p.head (map (λ i. slice_index_or before i absent) p.parts)
+    (map (λ i. slice_index_or before i absent) p.annos)
 
 -- these terms, and then those of the shapes
 abbrev pub terms_from : List Tree → List Plain → List Tree

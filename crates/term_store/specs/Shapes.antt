@@ -1,3 +1,4 @@
+-- The headline does not rest on this file.
 -- The head, the block of the parts and the chain of the annotations of a shape.
 use Rattle.std.specs.Prelude.{ℕ}
 use Rattle.term_model.specs.declared.parts.Front.TheVariants as fronts

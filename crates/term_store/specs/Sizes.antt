@@ -1,3 +1,4 @@
+-- The headline does not rest on this file.
 -- How heavy and deep a shape is without its annotations.
 use Rattle.std.specs.Prelude.{map}
 use Rattle.term_model.specs.Blocks.{list_in}
@@ -10,4 +11,5 @@ use Rattle.term_store.specs.declared.stored.StoredShape.{StoredShape}
 
 -- the size of the head and the parts of a shape together
 abbrev pub IsBareOf : StoreSpace → StoredShape → Size → Type 0
-IsBareOf s x z = IsBare (head_in s.symbols.keys (shape_head x)) (map (term_of s) (list_in s.chains (shape_parts x))) z.weight z.depth
+IsBareOf s x z = IsBare (head_in s.symbols.keys (shape_head x)) (map (term_of s) (list_in s.chains (shape_parts x)))
+    z.weight z.depth

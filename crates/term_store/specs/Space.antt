@@ -1,3 +1,4 @@
+-- The headline does not rest on this file.
 -- What the calls of a store say.
 use Rattle.std.specs.Prelude.{◌≡◌, ◌<◌, ◌≤◌, ◌-◌, ℕ, List, [], length, map, slice_index_or, All}
 use Rattle.term_model.specs.Symbol.{Symbol, Tuple}
@@ -39,7 +40,8 @@ Stand s places = All (λ i. i < count s) places
 
 -- the term of a shape
 abbrev pub shape_term : StoreSpace → StoredShape → Tree
-shape_term s x = term (head_in s.symbols.keys (shape_head x)) (map (term_of s) (list_in s.chains (shape_parts x))) (map (term_of s) (chain_at s (shape_annos x)))
+shape_term s x = term (head_in s.symbols.keys (shape_head x)) (map (term_of s) (list_in s.chains (shape_parts x)))
+    (map (term_of s) (chain_at s (shape_annos x)))
 
 -- a block of standing places
 pub record IsBlockOver (s : StoreSpace) (b : Block ℕ) : Type 0 where

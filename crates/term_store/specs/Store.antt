@@ -1,3 +1,4 @@
+-- The headline does not rest on this file.
 -- What a store holds: symbols, chains of places, and shapes with their sizes.
 use Rattle.std.specs.Prelude.{◌≡◌, ◌<◌, ◌≤◌, ◌+◌, ◌*◌, ℕ, min, Bool, true, false, nat_lt, IsTrue, List, [], suc, length, map, slice_index_or, All}
 use Rattle.term_model.specs.declared.term.Head.{Head}
@@ -17,7 +18,8 @@ use Rattle.term_store.specs.declared.stored.Span.{Span}
 
 -- no two places of these have the same value
 abbrev pub AreDistinct : {X : Type 0} → List X → Type 0
-AreDistinct {X = X} xs = (d : X) (a b : ℕ) → a < length xs → b < length xs → slice_index_or xs a d ≡ slice_index_or xs b d → a ≡ b
+AreDistinct {X = X} xs = (d : X) (a b : ℕ) → a < length xs → b < length xs →
+    slice_index_or xs a d ≡ slice_index_or xs b d → a ≡ b
 
 abbrev pub head_in : List Symbol → StoredHead → Head
 head_in symbols (stored.Int z) = heads.Int z
@@ -26,7 +28,12 @@ head_in symbols stored.List = heads.List
 
 -- a shape with its lists in place of their numbers
 abbrev pub plain : List Symbol → List (List ℕ) → StoredShape → Plain
-plain symbols chains s = record { head = head_in symbols (shape_head s); parts = list_in chains (shape_parts s); annos = slice_index_or chains (shape_annos s) [] }
+plain symbols chains s = record {
+  head = head_in symbols (shape_head s);
+  parts = list_in chains (shape_parts s);
+  annos =
+      slice_index_or chains (shape_annos s) [];
+}
 
 abbrev pub plains : List Symbol → List (List ℕ) → List StoredShape → List Plain
 plains symbols chains shapes = map (plain symbols chains) shapes
@@ -82,8 +89,10 @@ pub record IsSum (ts : List Tree) (s : Span) : Type 0 where
   pub light : s.weight ≤ max_weight
   pub flat : s.depth ≤ max_depth
 
--- what holds of the shape at place k with its extent: the shape names the chains and symbols that were there when it came
-pub record IsEntry (symbols : List Symbol) (chains : List (List ℕ)) (shapes : List StoredShape) (k : ℕ) (s : StoredShape) (e : Extent) : Type 0 where
+-- what holds of the shape at place k with its extent: the shape names the chains and symbols that were there when it
+-- came
+pub record IsEntry (symbols : List Symbol) (chains : List (List ℕ)) (shapes : List StoredShape) (k : ℕ)
+    (s : StoredShape) (e : Extent) : Type 0 where
   pub shape : IsShape symbols chains k e.chains s
   pub last : e.chains < length chains
   pub early : (j : ℕ) → j ≤ e.chains → All (λ i. i < k) (slice_index_or chains j [])
@@ -91,16 +100,21 @@ pub record IsEntry (symbols : List Symbol) (chains : List (List ℕ)) (shapes : 
   pub known : e.symbols ≤ length symbols
   pub size : IsSize (held symbols chains shapes k) e
 
-pub record IsStore (symbols : List Symbol) (chains : List (List ℕ)) (shapes : List StoredShape) (extents : List Extent) (spans : List Span) : Type 0 where
+pub record IsStore (symbols : List Symbol) (chains : List (List ℕ)) (shapes : List StoredShape) (extents : List Extent)
+    (spans : List Span) : Type 0 where
   pub as_many : length extents ≡ length shapes
   pub spanned : length spans + 1 ≡ length chains
   pub empty : slice_index_or chains 0 [] ≡ []
-  pub entries : (k : ℕ) (d : StoredShape) (e : Extent) → k < length shapes → IsEntry symbols chains shapes k (slice_index_or shapes k d) (slice_index_or extents k e)
-  pub ordered : (i j : ℕ) (e : Extent) → i ≤ j → j < length shapes → (slice_index_or extents i e).chains ≤ (slice_index_or extents j e).chains
-  pub in_turn : (i j : ℕ) (e : Extent) → i ≤ j → j < length shapes → (slice_index_or extents i e).symbols ≤ (slice_index_or extents j e).symbols
+  pub entries : (k : ℕ) (d : StoredShape) (e : Extent) → k < length shapes →
+      IsEntry symbols chains shapes k (slice_index_or shapes k d) (slice_index_or extents k e)
+  pub ordered : (i j : ℕ) (e : Extent) → i ≤ j → j < length shapes →
+      (slice_index_or extents i e).chains ≤ (slice_index_or extents j e).chains
+  pub in_turn : (i j : ℕ) (e : Extent) → i ≤ j → j < length shapes →
+      (slice_index_or extents i e).symbols ≤ (slice_index_or extents j e).symbols
   pub last : (k : ℕ) (e : Extent) → k < length shapes → (slice_index_or extents k e).chains < length chains
   pub standing : (j : ℕ) → j < length chains → All (λ i. i < length shapes) (slice_index_or chains j [])
-  pub sums : (j : ℕ) (d : Span) → j < length spans → IsSum (map (held symbols chains shapes) (slice_index_or chains (suc j) [])) (slice_index_or spans j d)
+  pub sums : (j : ℕ) (d : Span) → j < length spans →
+      IsSum (map (held symbols chains shapes) (slice_index_or chains (suc j) [])) (slice_index_or spans j d)
 
 -- a chain up to which the first n shapes name chains, and whose chains name the first n places
 pub record IsLast (chains : List (List ℕ)) (extents : List Extent) (n last : ℕ) : Type 0 where

@@ -1,3 +1,4 @@
+-- The headline does not rest on this file.
 -- The store as a space of terms.
 use Rattle.std.specs.Prelude.{ℕ, pos, IsTrue, nat_lt, nat_le, ◌+◌}
 use Rattle.std.proofs.lemmas.Bool.{ltb-true}
@@ -23,4 +24,5 @@ stored_terms = record {
 
 -- what stands fits
 pub stored_fit : (s : StoreSpace) (r : ℕ) → IsTrue (nat_lt r (count s)) → Fits (term_of s r)
-stored_fit s r stands = (s.store.entries r (forms.Int 0 (pos 0)) (record { weight = 0; depth = 0; chains = 0; symbols = 0 }) (ltb-true _ _ stands)).size.fits
+stored_fit s r stands = (s.store.entries r (forms.Int 0 (pos 0))
+    (record { weight = 0; depth = 0; chains = 0; symbols = 0 }) (ltb-true _ _ stands)).size.fits

@@ -1,3 +1,4 @@
+-- The headline does not rest on this file.
 -- What the loops along blocks keep.
 use Rattle.std.specs.Prelude.{◌≡◌, ◌<◌, ◌≤◌, ◌+◌, ◌↔◌, ℕ, List, [], ◌++◌, length, drop, slice_index_or}
 use Rattle.term_model.specs.Blocks.{list_in}
@@ -34,7 +35,8 @@ pub record IsBuilding (old new : StoreSpace) (places others : List ℕ) (b : Blo
   pub block : IsBlockIn new.chains b (drop end_ places ++ others)
   pub stand : Stand new (drop end_ places ++ others)
 
--- a chain that is built from its end has the places from an index on, which are as long as some blocks of three, and others are before it
+-- a chain that is built from its end has the places from an index on, which are as long as some blocks of three, and
+-- others are before it
 pub record IsLinking (old new : StoreSpace) (places : List ℕ) (rest_ end_ : ℕ) : Type 0 where
   pub keeps : KeepsChains old new
   pub within : end_ ≤ length places

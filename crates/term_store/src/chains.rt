@@ -1,7 +1,7 @@
-// Lists of places, shared from their ends.
-//
-// A chain is a list under a number: the empty list has the number 0, and each other one is a block, which is at most three places before
-// a chain of a lesser number.
+//! Lists of places, shared from their ends.
+//!
+//! A chain is a list under a number: the empty list has the number 0, and each other one is a block, which is at most three places before
+//! a chain of a lesser number.
 ghost use Rattle.std.specs.Prelude.{◌≡◌, ◌<◌, ◌≤◌, ◌+◌, ◌*◌, ◌^◌, ◌++◌, ◌∷◌, [], length, take, slice_index_or, if◌then◌else◌, IfOk, OnErr};
 ghost use Rattle.term_model.specs.Blocks.{front_list, list_in, lists_of, AreLinked};
 ghost use Rattle.term_store.specs.Chains.{AreApart, IsWhole, IsBlockOf};
@@ -12,10 +12,10 @@ use std::hash::{BuildHasherDefault, FoldHasher};
 use std::marker::Model;
 use term_model::{Block, Front};
 
-// The most chains that there are, besides the empty one.
+/// The most chains that there are, besides the empty one.
 const MAX_CHAINS: usize = 4_294_967_295;
 
-// Chains under their numbers. Contracts see the lists in order.
+/// Chains under their numbers. Contracts see the lists in order.
 #[derive(Drop)]
 pub(crate) struct Chains {
     blocks: IndexSet<Block<u32>>,
@@ -34,7 +34,7 @@ impl Model for Chains {
 }
 
 impl Chains {
-    // No chain but the empty one.
+    /// No chain but the empty one.
     pub(crate) fn new(alloc: Global, hasher: BuildHasherDefault<FoldHasher>) -> Chains
         ensures { result ≡ [] ∷ [] }
     {
@@ -43,7 +43,7 @@ impl Chains {
         }
     }
 
-    // How many chains there are besides the empty one.
+    /// How many chains there are besides the empty one.
     #[tactic(auto, using(crate::proofs::ChainLemmas::chains))]
     pub(crate) fn len(&self) -> usize
         ensures len { result + 1 ≡ length self.now }
@@ -53,7 +53,7 @@ impl Chains {
         self.blocks.len()
     }
 
-    // The blocks of the chains, of which the first has the number 1.
+    /// The blocks of the chains, of which the first has the number 1.
     #[tactic(auto, using(crate::proofs::ChainLemmas::chains))]
     pub(crate) fn blocks(&self) -> &[Block<u32>]
         ensures lists { lists_of result.now ≡ self.now }
@@ -62,7 +62,7 @@ impl Chains {
         self.blocks.as_slice()
     }
 
-    // The block of a chain.
+    /// The block of a chain.
     #[tactic(auto, using(crate::proofs::ChainLemmas::chains))]
     pub(crate) fn block(&self, chain: u32) -> Block<u32>
         requires { chain < length self.now }
@@ -78,7 +78,7 @@ impl Chains {
         *blocks.get_index(chain as usize - 1).unwrap()
     }
 
-    // The number of the chain of a block, and whether it is new.
+    /// The number of the chain of a block, and whether it is new.
     #[tactic(auto, using(crate::proofs::ChainLemmas::chains))]
     pub(crate) fn link(&mut self, block: Block<u32>) -> Result<(u32, bool), AllocError>
         requires rest { block.rest < length self.old }
@@ -86,7 +86,8 @@ impl Chains {
         requires whole { IsWhole (slice_index_or self.old block.rest []) }
         ensures made { IfOk result (λ r. slice_index_or self.new r.0 [] ≡ list_in self.old block) }
         ensures within { IfOk result (λ r. r.0 < length self.new) }
-        ensures chains { IfOk result (λ r. self.new ≡ (if r.1 then self.old ++ list_in self.old block ∷ [] else self.old)) }
+        ensures chains { IfOk result (λ r. self.new ≡
+            (if r.1 then self.old ++ list_in self.old block ∷ [] else self.old)) }
         ensures err { OnErr result (self.new ≡ self.old) }
     {
         if self.blocks.len() >= MAX_CHAINS {
@@ -96,14 +97,14 @@ impl Chains {
         Ok(((at + 1) as u32, added))
     }
 
-    // Makes room for this many further chains.
+    /// Makes room for this many further chains.
     pub(crate) fn reserve(&mut self, count: usize) -> Result<(), AllocError>
         ensures { self.new ≡ self.old }
     {
         self.blocks.reserve(count)
     }
 
-    // Keeps the first chains, besides the empty one.
+    /// Keeps the first chains, besides the empty one.
     #[tactic(auto, using(crate::proofs::ChainLemmas::chains))]
     pub(crate) fn truncate(&mut self, count: u32)
         requires { count < length self.old }

@@ -1,4 +1,4 @@
-// Bringing terms in.
+//! Bringing terms in.
 ghost use Rattle.std.specs.Prelude.{◌≡◌, ◌<◌, IfOk, OnOk};
 ghost use Rattle.term_store.specs.Space.{count, term_of, Keeps};
 ghost use Rattle.term_store.specs.Entering.{PutsOn};
@@ -8,18 +8,17 @@ use std::alloc::{AllocError, Global};
 use term_model::{Made, Term};
 
 impl StoreSpace {
-    // The place of a term that is brought in.
-    pub(crate) fn entered(&mut self, alloc: Global, from: &Term) -> Result<u32, AllocError>
+    /// The place of a term that is brought in.
+    pub(crate) fn bring_in(&mut self, alloc: Global, from: &Term) -> Result<u32, AllocError>
         ensures keeps { Keeps self.old self.new }
         ensures stands { IfOk result (λ k. k < count self.new) }
         ensures term { IfOk result (λ k. term_of self.new k ≡ from.now) }
     {
         let mut stack = Vec::new(alloc);
-        let place = self.enter_term(from, &mut stack)?;
-        Ok(place)
+        self.enter_term(from, &mut stack)
     }
 
-    // The place of a term that is brought in. The stack, for the places of its parts and annotations, is as it was in the end.
+    /// The place of a term that is brought in. The stack, for the places of its parts and annotations, is as it was in the end.
     #[cycle(enter)]
     #[tactic(auto, using(crate::proofs::EnteringLemmas::entering))]
     fn enter_term(&mut self, from: &Term, stack: &mut Vec<u32>) -> Result<u32, AllocError>
@@ -42,7 +41,7 @@ impl StoreSpace {
         }
     }
 
-    // Brings the terms in, and puts their places on the stack.
+    /// Brings the terms in, and puts their places on the stack.
     #[cycle(enter)]
     #[tactic(auto, using(crate::proofs::EnteringLemmas::entering))]
     fn enter_all(&mut self, terms: &[Term], stack: &mut Vec<u32>) -> Result<(), AllocError>

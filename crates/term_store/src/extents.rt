@@ -1,6 +1,6 @@
-// How heavy and deep the terms of all places are, and how many chains and symbols there were when their shapes came.
-//
-// The numbers of chains and symbols are the same for many shapes in a row, so that they are kept for the first of these alone.
+//! How heavy and deep the terms of all places are, and how many chains and symbols there were when their shapes came.
+//!
+//! The numbers of chains and symbols are the same for many shapes in a row, so that they are kept for the first of these alone.
 ghost use Rattle.std.specs.Prelude.{◌≡◌, ◌<◌, ◌≤◌, ◌++◌, ◌∷◌, [], length, take, slice_index_or, vec_len, vec_capacity, IfOk, IsTrue};
 ghost use Rattle.term_store.specs.Extents.{small_extents, epoch_at, no_epoch, AreSameBelow, HasCounts};
 
@@ -9,7 +9,7 @@ use crate::stored::Extent;
 use std::alloc::{AllocError, Global};
 use std::marker::Model;
 
-// From the shape with this number on, there were this many chains and symbols when a shape came.
+/// From the shape with this number on, there were this many chains and symbols when a shape came.
 #[derive(Clone, Copy)]
 pub(crate) struct Epoch {
     pub(crate) first: u32,
@@ -17,8 +17,8 @@ pub(crate) struct Epoch {
     pub(crate) symbols: u32,
 }
 
-// The extents of all places. The first places are those of small integers, which take no memory; the others are those of shapes, numbered
-// from 0 on.
+/// The extents of all places. The first places are those of small integers, which take no memory; the others are those of shapes, numbered
+/// from 0 on.
 #[derive(Drop)]
 pub(crate) struct Extents {
     small: u32,
@@ -41,7 +41,7 @@ impl Model for Extents {
 }
 
 impl Extents {
-    // The extents of the small integers alone.
+    /// The extents of the small integers alone.
     pub(crate) fn new(alloc: Global, small: u32) -> Extents
         ensures items { result.items ≡ small_extents small }
         ensures small { result.small ≡ small }
@@ -53,7 +53,7 @@ impl Extents {
         }
     }
 
-    // How heavy and deep the term at a place is.
+    /// How heavy and deep the term at a place is.
     #[tactic(auto, using(crate::proofs::ExtentLaws::extents))]
     #[inline]
     pub(crate) fn size(&self, at: u32) -> Size
@@ -70,7 +70,7 @@ impl Extents {
         self.sizes[(at - self.small) as usize]
     }
 
-    // The extent of a place.
+    /// The extent of a place.
     #[tactic(auto, using(crate::proofs::ExtentLaws::extents))]
     pub(crate) fn get(&self, at: usize) -> Extent
         requires { at < length self.now.items }
@@ -95,7 +95,7 @@ impl Extents {
         }
     }
 
-    // Makes room for one extent more.
+    /// Makes room for one extent more.
     #[inline]
     pub(crate) fn reserve(&mut self) -> Result<(), AllocError>
         ensures items { self.new.items ≡ self.old.items }
@@ -106,7 +106,7 @@ impl Extents {
         self.epochs.reserve(1)
     }
 
-    // Adds the extent of one shape more.
+    /// Adds the extent of one shape more.
     #[tactic(auto, using(crate::proofs::ExtentLaws::extents))]
     #[inline]
     pub(crate) fn push_reserved(&mut self, extent: Extent)
@@ -123,7 +123,7 @@ impl Extents {
         });
     }
 
-    // Keeps the extents of the first places, those of the small integers among them.
+    /// Keeps the extents of the first places, those of the small integers among them.
     #[tactic(auto, using(crate::proofs::ExtentLaws::extents))]
     pub(crate) fn truncate(&mut self, count: usize)
         requires { self.old.small ≤ count }
@@ -136,7 +136,7 @@ impl Extents {
     }
 }
 
-// The epoch of the shape with a number: the last that begins at it or before it.
+/// The epoch of the shape with a number: the last that begins at it or before it.
 #[tactic(auto, using(crate::proofs::ExtentLaws::extents))]
 fn epoch_of(epochs: &[Epoch], number: usize) -> Epoch
     ensures { result ≡ epoch_at no_epoch epochs.now number }
@@ -156,7 +156,7 @@ fn epoch_of(epochs: &[Epoch], number: usize) -> Epoch
     }
 }
 
-// Adds an epoch from a number on, unless the last one goes on: that which has the counts of an extent and begins before.
+/// Adds an epoch from a number on, unless the last one goes on: that which has the counts of an extent and begins before.
 #[tactic(auto, using(crate::proofs::ExtentLaws::extents))]
 #[inline]
 fn put_counts(epochs: &mut Vec<Epoch>, number: u32, extent: Extent)
@@ -174,7 +174,7 @@ fn put_counts(epochs: &mut Vec<Epoch>, number: u32, extent: Extent)
     });
 }
 
-// Whether the last epoch, or the absence of one, has the counts of an extent and begins at a number or before it.
+/// Whether the last epoch, or the absence of one, has the counts of an extent and begins at a number or before it.
 #[tactic(auto, using(crate::proofs::ExtentLaws::extents))]
 #[inline]
 fn has_counts(epochs: &[Epoch], number: u32, extent: Extent) -> bool
@@ -189,7 +189,7 @@ fn has_counts(epochs: &[Epoch], number: u32, extent: Extent) -> bool
     last.chains == extent.chains && last.symbols == extent.symbols
 }
 
-// Drops the last epochs that do not begin before a number.
+/// Drops the last epochs that do not begin before a number.
 #[tactic(auto, using(crate::proofs::ExtentLaws::extents))]
 fn cut(epochs: &mut Vec<Epoch>, number: usize)
     ensures { AreSameBelow number epochs.old.items epochs.new.items }

@@ -1,10 +1,11 @@
-// Terms that leave the store, and share what they shared in it.
+//! Terms that leave the store, and share what they shared in it.
 ghost use Rattle.std.specs.Prelude.{◌≡◌, ◌<◌, ◌≤◌, ◌+◌, length, map, drop, All, replicate, None, vec_len, IfOk, OnOk};
 ghost use Rattle.term_model.specs.Blocks.{list_in};
 ghost use Rattle.term_store.specs.Chains.{IsBlockIn};
 ghost use Rattle.term_store.specs.Leaving.{AreLeft, MayHead};
 ghost use Rattle.term_store.specs.Space.{count, term_of};
 ghost use Rattle.term_store.specs.Store.{head_in, IsAmong};
+ghost use Rattle.term_model.specs.Results.{Returns};
 
 use crate::store::StoreSpace;
 use crate::stored::StoredHead;
@@ -12,19 +13,18 @@ use std::alloc::{AllocError, Global};
 use term_model::{Block, Head, Made, Term};
 
 impl StoreSpace {
-    // The term at a place. Terms that are one in the store are one outside it.
+    /// The term at a place. Terms that are one in the store are one outside it.
     #[tactic(auto, using(crate::proofs::LeavingLemmas::leaving))]
-    pub(crate) fn left(&self, alloc: Global, at: u32) -> Result<Term, AllocError>
+    pub(crate) fn take_out(&self, alloc: Global, at: u32) -> Result<Term, AllocError>
         requires { at < count self.now }
-        ensures { IfOk result (λ t. t ≡ term_of self.now at) }
+        ensures { Returns result (term_of self.now at) }
     {
         let mut terms = none_left(alloc, self.shapes.held())?;
         let mut stack = Vec::new(alloc);
-        let term = self.leave_term(alloc, at, &mut terms, &mut stack)?;
-        Ok(term)
+        self.leave_term(alloc, at, &mut terms, &mut stack)
     }
 
-    // The term at a place, which is made where it is not there yet. The stack is for places, and is as it was in the end.
+    /// The term at a place, which is made where it is not there yet. The stack is for places, and is as it was in the end.
     #[cycle(leave)]
     #[tactic(auto, using(crate::proofs::LeavingLemmas::leaving))]
     fn leave_term(
@@ -37,7 +37,7 @@ impl StoreSpace {
         requires at { at < count self.now }
         requires within { at < self.now.shapes.small + vec_len terms.old }
         requires left { AreLeft self.now terms.old.items }
-        ensures term { IfOk result (λ t. t ≡ term_of self.now at) }
+        ensures term { Returns result (term_of self.now at) }
         ensures long { OnOk result (vec_len terms.new ≡ vec_len terms.old) }
         ensures left { OnOk result (AreLeft self.now terms.new.items) }
         ensures stack { OnOk result (stack.new.items ≡ stack.old.items) }
@@ -63,7 +63,7 @@ impl StoreSpace {
         Ok(term)
     }
 
-    // The terms of the places of a block, which are before a place.
+    /// The terms of the places of a block, which are before a place.
     #[cycle(leave)]
     #[tactic(auto, using(crate::proofs::LeavingLemmas::leaving))]
     fn leave_block(
@@ -79,7 +79,8 @@ impl StoreSpace {
         requires left { AreLeft self.now terms.old.items }
         requires block { IsBlockIn self.now.chains block (list_in self.now.chains block) }
         requires below { All (λ i. i < at) (list_in self.now.chains block) }
-        ensures terms { IfOk result (λ ts. ts.items ≡ map (term_of self.now) (list_in self.now.chains block)) }
+        ensures terms { IfOk result (λ ts. ts.items ≡
+            map (term_of self.now) (list_in self.now.chains block)) }
         ensures long { OnOk result (vec_len terms.new ≡ vec_len terms.old) }
         ensures left { OnOk result (AreLeft self.now terms.new.items) }
         ensures stack { OnOk result (stack.new.items ≡ stack.old.items) }
@@ -91,7 +92,7 @@ impl StoreSpace {
         Ok(made)
     }
 
-    // The terms of the places on the stack from an index on, which are before a place.
+    /// The terms of the places on the stack from an index on, which are before a place.
     #[cycle(leave)]
     #[tactic(auto, using(crate::proofs::LeavingLemmas::leaving))]
     fn leave_all(
@@ -107,7 +108,8 @@ impl StoreSpace {
         requires left { AreLeft self.now terms.old.items }
         requires bottom { bottom ≤ vec_len stack.old }
         requires below { All (λ i. i < at) (drop bottom stack.old.items) }
-        ensures terms { IfOk result (λ ts. ts.items ≡ map (term_of self.now) (drop bottom stack.old.items)) }
+        ensures terms { IfOk result (λ ts. ts.items ≡
+            map (term_of self.now) (drop bottom stack.old.items)) }
         ensures long { OnOk result (vec_len terms.new ≡ vec_len terms.old) }
         ensures left { OnOk result (AreLeft self.now terms.new.items) }
         ensures stack { OnOk result (stack.new.items ≡ stack.old.items) }
@@ -122,11 +124,11 @@ impl StoreSpace {
         Ok(made)
     }
 
-    // The head of a shape.
+    /// The head of a shape.
     #[tactic(auto, using(crate::proofs::LeavingLemmas::leaving))]
     fn head_out(&self, head: StoredHead) -> Result<Head, AllocError>
         requires { IsAmong (length self.now.symbols.keys) head }
-        ensures head { IfOk result (λ h. h ≡ head_in self.now.symbols.keys head) }
+        ensures head { Returns result (head_in self.now.symbols.keys head) }
         ensures may { IfOk result (λ h. MayHead head h) }
     {
         match head {
@@ -142,7 +144,7 @@ impl StoreSpace {
     }
 }
 
-// No term for each of these shapes.
+/// No term for each of these shapes.
 fn none_left(alloc: Global, count: usize) -> Result<Vec<Option<Term>>, AllocError>
     ensures { IfOk result (λ terms. terms.items ≡ replicate count None) }
 {

@@ -1,4 +1,4 @@
-// What the store lends: heads, and the places of blocks and chains.
+//! What the store lends: heads, and the places of blocks and chains.
 ghost use Rattle.std.specs.Prelude.{◌≡◌, ◌↔◌, ◌<◌, ℕ, length, map, IsTrue, Some};
 ghost use Rattle.term_model.specs.Blocks.{list_in, IsAt};
 ghost use Rattle.term_model.specs.Space.{IsTop};
@@ -13,7 +13,7 @@ use crate::stored::{StoredHead, StoredShape};
 use term_model::{Block, Parts, Top};
 
 impl StoreSpace {
-    // A head, lent.
+    /// A head, lent.
     pub(crate) fn top(&self, head: StoredHead) -> Top<'_>
         requires { IsAmong (length self.now.symbols.keys) head }
         ensures { IsTop result (head_in self.now.symbols.keys head) }
@@ -27,7 +27,7 @@ impl StoreSpace {
         }
     }
 
-    // The places of the parts of a shape, lent.
+    /// The places of the parts of a shape, lent.
     pub(crate) fn places<'a>(&'a self, shape: &'a StoredShape) -> Parts<'a, u32>
         ensures { result ≡ list_in self.now.chains (shape_parts shape.now) }
     {
@@ -39,7 +39,7 @@ impl StoreSpace {
         }
     }
 
-    // The place of a part of a shape, lent. Most parts are among the first three of a block.
+    /// The place of a part of a shape, lent. Most parts are among the first three of a block.
     pub(crate) fn place_in<'a>(&'a self, shape: &'a StoredShape, index: usize) -> Option<&'a u32>
         ensures { IsAt result (list_in self.now.chains (shape_parts shape.now)) index }
     {
@@ -53,7 +53,7 @@ impl StoreSpace {
         Parts::of_block(block, self.chains.blocks()).get(index)
     }
 
-    // The places of a chain, lent.
+    /// The places of a chain, lent.
     #[tactic(auto, using(crate::proofs::LendingLaws::chains))]
     pub(crate) fn chain_places(&self, chain: u32) -> Parts<'_, u32>
         requires { chain < length self.now.chains }
@@ -66,7 +66,7 @@ impl StoreSpace {
         Parts::of_block(&blocks[chain as usize - 1], blocks)
     }
 
-    // Nothing is held twice: a fact for proofs, at no cost.
+    /// Nothing is held twice: a fact for proofs, at no cost.
     #[inline]
     fn distinct(&self)
         ensures symbols { AreDistinct self.now.symbols.keys }
@@ -78,20 +78,23 @@ impl StoreSpace {
         let _ = self.shapes.len();
     }
 
-    // Whether a head is the symbol of a number.
+    /// Whether a head is the symbol of a number.
     pub(crate) fn is_symbol(&self, head: StoredHead, number: u32) -> bool
         requires head { IsAmong (length self.now.symbols.keys) head }
         requires number { number < length self.now.symbols.keys }
-        ensures { IsTrue result ↔ (head_in self.now.symbols.keys head ≡ heads.App (symbol_at self.now number)) }
+        ensures { IsTrue result ↔ (head_in self.now.symbols.keys head ≡
+            heads.App (symbol_at self.now number)) }
     {
         self.distinct();
         head == StoredHead::Symbol(number)
     }
 
-    // The number of the symbol of a head, if it has one.
+    /// The number of the symbol of a head, if it has one.
     pub(crate) fn symbol_number(&self, head: StoredHead) -> Option<usize>
         requires { IsAmong (length self.now.symbols.keys) head }
-        ensures { (n : ℕ) → n < length self.now.symbols.keys → head_in self.now.symbols.keys head ≡ heads.App (symbol_at self.now n) → result ≡ Some n }
+        ensures { (n : ℕ) → n < length self.now.symbols.keys →
+            head_in self.now.symbols.keys head ≡ heads.App (symbol_at self.now n) →
+            result ≡ Some n }
     {
         self.distinct();
         match head {
@@ -111,11 +114,12 @@ impl StoreSpace {
         one == other
     }
 
-    // Whether the terms of a block are those of these places.
+    /// Whether the terms of a block are those of these places.
     pub(crate) fn are_same(&self, block: Block<u32>, places: &[u32]) -> bool
         requires block { IsBlockOver self.now block }
         requires stand { Stand self.now places.now }
-        ensures { IsTrue result ↔ (map (term_of self.now) (list_in self.now.chains block) ≡ map (term_of self.now) places.now) }
+        ensures { IsTrue result ↔ (map (term_of self.now) (list_in self.now.chains block) ≡
+            map (term_of self.now) places.now) }
     {
         self.distinct();
         self.is_of(block, places)

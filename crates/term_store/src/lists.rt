@@ -1,4 +1,4 @@
-// Walks along blocks.
+//! Walks along blocks.
 ghost use Rattle.std.specs.Prelude.{◌≡◌, ◌<◌, ◌≤◌, ◌++◌, ◌+◌, ◌↔◌, drop, length, vec_len, vec_capacity, IsTrue, MatchOption, OnOk, OnErr};
 ghost use Rattle.term_model.specs.Blocks.{front_list, list_in};
 ghost use Rattle.term_store.specs.Chains.{IsBlockIn};
@@ -9,7 +9,7 @@ use std::alloc::AllocError;
 use term_model::{Block, Front};
 
 impl StoreSpace {
-    // How many places a block has, without a walk.
+    /// How many places a block has, without a walk.
     #[inline]
     pub(crate) fn len_in(&self, block: Block<u32>) -> usize
         requires { block.rest < length self.now.chains }
@@ -18,7 +18,7 @@ impl StoreSpace {
         block.front.len() + self.span(block.rest).length as usize
     }
 
-    // The block of the places after the first `count`.
+    /// The block of the places after the first `count`.
     pub(crate) fn after(&self, block: Block<u32>, count: usize) -> Block<u32>
         requires block { IsBlockIn self.now.chains block (list_in self.now.chains block) }
         requires count { count ≤ length (list_in self.now.chains block) }
@@ -36,14 +36,15 @@ impl StoreSpace {
         }
     }
 
-    // Puts the places of a block on a stack, which is as it was where there is no memory.
+    /// Puts the places of a block on a stack, which is as it was where there is no memory.
     pub(crate) fn push_block(
         &self,
         block: Block<u32>,
         stack: &mut Vec<u32>,
     ) -> Result<(), AllocError>
         requires { IsBlockIn self.now.chains block (list_in self.now.chains block) }
-        ensures pushed { OnOk result (stack.new.items ≡ stack.old.items ++ list_in self.now.chains block) }
+        ensures pushed { OnOk result (stack.new.items ≡ stack.old.items ++
+            list_in self.now.chains block) }
         ensures err { OnErr result (stack.new.items ≡ stack.old.items) }
     {
         stack.reserve(self.len_in(block))?;
@@ -57,7 +58,7 @@ impl StoreSpace {
         Ok(())
     }
 
-    // Whether a block is of these places.
+    /// Whether a block is of these places.
     pub(crate) fn is_of(&self, block: Block<u32>, places: &[u32]) -> bool
         requires { IsBlockIn self.now.chains block (list_in self.now.chains block) }
         ensures { IsTrue result ↔ (list_in self.now.chains block ≡ places.now) }
@@ -78,7 +79,7 @@ impl StoreSpace {
     }
 }
 
-// The values after the first `count`.
+/// The values after the first `count`.
 fn without(front: Front<u32>, count: usize) -> Front<u32>
     ensures { front_list result ≡ drop count (front_list front) }
 {
@@ -91,7 +92,7 @@ fn without(front: Front<u32>, count: usize) -> Front<u32>
     }
 }
 
-// Puts the values on a stack that has room for them.
+/// Puts the values on a stack that has room for them.
 fn push_front_of(front: Front<u32>, stack: &mut Vec<u32>)
     requires { vec_len stack.old + length (front_list front) ≤ vec_capacity stack.old }
     ensures pushed { stack.new.items ≡ stack.old.items ++ front_list front }
@@ -112,9 +113,10 @@ fn push_front_of(front: Front<u32>, stack: &mut Vec<u32>)
     }
 }
 
-// The places after these values; `None` where they do not begin with them.
+/// The places after these values; `None` where they do not begin with them.
 fn after_front(front: Front<u32>, places: &[u32]) -> Option<&[u32]>
-    ensures { MatchOption result (NotBegun (front_list front) places.now) (λ r. front_list front ++ r.now ≡ places.now) }
+    ensures { MatchOption result (NotBegun (front_list front) places.now) (λ r. front_list front ++
+        r.now ≡ places.now) }
 {
     match (front, places) {
         (Front::Zero, _) => Some(places),

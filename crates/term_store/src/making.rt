@@ -1,4 +1,4 @@
-// Making terms: each shape and each chain is put in where it is new.
+//! Making terms: each shape and each chain is put in where it is new.
 ghost use Rattle.std.specs.Prelude.{◌≡◌, ◌<◌, ◌≤◌, [], ◌∷◌, ◌++◌, length, map, slice_index_or, IfOk, MatchOption};
 ghost use Rattle.term_model.specs.Term.{term};
 ghost use Rattle.term_model.specs.Blocks.{front_list, list_in};
@@ -12,14 +12,14 @@ use std::alloc::AllocError;
 use term_model::term::{MAX_DEPTH, MAX_WEIGHT};
 use term_model::{Block, Front, Made};
 
-// The most places that there are.
+/// The most places that there are.
 const MAX_PLACES: usize = 4_294_967_295;
 
-// For more chains than these, room is made at once.
+/// For more chains than these, room is made at once.
 const FEW_LINKS: usize = 1_000;
 
 impl StoreSpace {
-    // The place of the term of this shape.
+    /// The place of the term of this shape.
     pub(crate) fn intern(&mut self, shape: StoredShape) -> Result<Made<u32>, AllocError>
         requires { MayStand self.old shape }
         ensures keeps { Keeps self.old self.new }
@@ -55,12 +55,14 @@ impl StoreSpace {
         Ok(Made::Fits(at as u32))
     }
 
-    // The chain of a block; `None` where its terms are too heavy together.
+    /// The chain of a block; `None` where its terms are too heavy together.
     pub(crate) fn link(&mut self, block: Block<u32>) -> Result<Option<u32>, AllocError>
         requires some { 0 < length (front_list block.front) }
         requires block { IsBlockOver self.old block }
         ensures keeps { KeepsChains self.old self.new }
-        ensures made { IfOk result (λ found. MatchOption found (AreHeavy self.old (list_in self.old.chains block)) (λ n. IsChainIn self.new.chains n (list_in self.old.chains block))) }
+        ensures made { IfOk result
+            (λ found. MatchOption found (AreHeavy self.old (list_in self.old.chains block))
+            (λ n. IsChainIn self.new.chains n (list_in self.old.chains block))) }
     {
         let size = self.size_in(block);
         if size.weight > MAX_WEIGHT {
@@ -81,7 +83,7 @@ impl StoreSpace {
         Ok(Some(at))
     }
 
-    // The block with one place more before the others; `None` where the terms of the others are too heavy together.
+    /// The block with one place more before the others; `None` where the terms of the others are too heavy together.
     fn push_front(
         &mut self,
         place: u32,
@@ -90,7 +92,9 @@ impl StoreSpace {
         requires place { place < count self.old }
         requires block { IsBlockOver self.old block }
         ensures keeps { KeepsChains self.old self.new }
-        ensures made { IfOk result (λ found. MatchOption found (AreHeavy self.old (list_in self.old.chains block)) (λ b. IsBlockIn self.new.chains b (place ∷ list_in self.old.chains block))) }
+        ensures made { IfOk result
+            (λ found. MatchOption found (AreHeavy self.old (list_in self.old.chains block))
+            (λ b. IsBlockIn self.new.chains b (place ∷ list_in self.old.chains block))) }
     {
         let front = match block.front {
             Front::Zero => Front::One(place),
@@ -112,7 +116,7 @@ impl StoreSpace {
         }))
     }
 
-    // The block of these places before those of a block; `None` where their terms are too heavy together.
+    /// The block of these places before those of a block; `None` where their terms are too heavy together.
     pub(crate) fn before(
         &mut self,
         places: &[u32],
@@ -121,7 +125,10 @@ impl StoreSpace {
         requires stand { Stand self.old places.now }
         requires block { IsBlockOver self.old block }
         ensures keeps { KeepsChains self.old self.new }
-        ensures made { IfOk result (λ found. MatchOption found (AreHeavy self.old (places.now ++ list_in self.old.chains block)) (λ b. IsBlockIn self.new.chains b (places.now ++ list_in self.old.chains block))) }
+        ensures made { IfOk result
+            (λ found. MatchOption found
+            (AreHeavy self.old (places.now ++ list_in self.old.chains block))
+            (λ b. IsBlockIn self.new.chains b (places.now ++ list_in self.old.chains block))) }
     {
         let mut block = block;
         let mut end = places.len();
@@ -135,12 +142,14 @@ impl StoreSpace {
         Ok(Some(block))
     }
 
-    // The block of these places; `None` where their terms are too heavy together.
+    /// The block of these places; `None` where their terms are too heavy together.
     #[inline]
     pub(crate) fn block_of(&mut self, places: &[u32]) -> Result<Option<Block<u32>>, AllocError>
         requires stand { Stand self.old places.now }
         ensures keeps { KeepsChains self.old self.new }
-        ensures made { IfOk result (λ found. MatchOption found (AreHeavy self.old places.now) (λ b. IsBlockIn self.new.chains b places.now)) }
+        ensures made { IfOk result
+            (λ found. MatchOption found (AreHeavy self.old places.now)
+            (λ b. IsBlockIn self.new.chains b places.now)) }
     {
         if places.len() > 3 {
             return self.long_block_of(places);
@@ -151,8 +160,8 @@ impl StoreSpace {
         }))
     }
 
-    // The block of more places than three; `None` where their terms are too heavy together. The places after the first
-    // ones are linked from the end, three at a time.
+    /// The block of more places than three; `None` where their terms are too heavy together. The places after the first
+    /// ones are linked from the end, three at a time.
     fn long_block_of(&mut self, places: &[u32]) -> Result<Option<Block<u32>>, AllocError>
         requires stand { Stand self.old places.now }
         requires long { 3 < length places.now }
@@ -181,7 +190,7 @@ impl StoreSpace {
         }))
     }
 
-    // Makes room for this many further chains at once, since to grow little by little costs more.
+    /// Makes room for this many further chains at once, since to grow little by little costs more.
     #[inline(never)]
     fn reserve_chains(&mut self, count: usize) -> Result<(), AllocError>
         ensures { KeepsChains self.old self.new }
@@ -190,11 +199,13 @@ impl StoreSpace {
         self.spans.reserve(count)
     }
 
-    // The number of the chain of these places; `None` where their terms are too heavy together.
+    /// The number of the chain of these places; `None` where their terms are too heavy together.
     pub(crate) fn chain_of(&mut self, places: &[u32]) -> Result<Option<u32>, AllocError>
         requires stand { Stand self.old places.now }
         ensures keeps { KeepsChains self.old self.new }
-        ensures made { IfOk result (λ found. MatchOption found (AreHeavy self.old places.now) (λ n. IsChainIn self.new.chains n places.now)) }
+        ensures made { IfOk result
+            (λ found. MatchOption found (AreHeavy self.old places.now)
+            (λ n. IsChainIn self.new.chains n places.now)) }
     {
         if places.is_empty() {
             return Ok(Some(0));
@@ -206,7 +217,7 @@ impl StoreSpace {
         Ok(found)
     }
 
-    // The place of the term of a head and parts, without annotations.
+    /// The place of the term of a head and parts, without annotations.
     pub(crate) fn make_plain(
         &mut self,
         head: StoredHead,
@@ -226,7 +237,7 @@ impl StoreSpace {
         Ok(made)
     }
 
-    // The place of the term of a head, parts and annotations.
+    /// The place of the term of a head, parts and annotations.
     pub(crate) fn make_over(
         &mut self,
         head: StoredHead,
@@ -238,7 +249,9 @@ impl StoreSpace {
         requires parts { Stand self.old parts.now }
         requires annos { Stand self.old annos.now }
         ensures keeps { Keeps self.old self.new }
-        ensures made { IfOk result (IsMade self.new (term (head_in self.old.symbols.keys head) (map (term_of self.old) parts.now) (map (term_of self.old) annos.now))) }
+        ensures made { IfOk result
+            (IsMade self.new (term (head_in self.old.symbols.keys head)
+            (map (term_of self.old) parts.now) (map (term_of self.old) annos.now))) }
     {
         let Some(block) = self.block_of(parts)? else {
             return Ok(Made::Oversize);
@@ -251,7 +264,7 @@ impl StoreSpace {
     }
 }
 
-// The front of at most three places.
+/// The front of at most three places.
 #[inline]
 fn front_of(places: &[u32]) -> Front<u32>
     requires { length places.now ≤ 3 }

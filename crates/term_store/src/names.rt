@@ -1,4 +1,4 @@
-// Symbols under their numbers.
+//! Symbols under their numbers.
 ghost use Rattle.std.specs.Prelude.{◌≡◌, ◌<◌, length, IfOk};
 ghost use Rattle.term_store.specs.Space.{count, symbol_at, Keeps};
 ghost use Rattle.term_model.specs.Symbol.{symbol_spelled, IsSpelling};
@@ -10,11 +10,11 @@ use crate::stored::StoredHead;
 use std::alloc::{AllocError, Global};
 use term_model::{Head, Kind, Sym};
 
-// The most symbols that there are.
+/// The most symbols that there are.
 const MAX_SYMBOLS: usize = 4_294_967_295;
 
 impl StoreSpace {
-    // The number of a symbol, which is put in where it is new.
+    /// The number of a symbol, which is put in where it is new.
     #[tactic(auto, using(crate::proofs::SpellingLaws::found_at))]
     pub(crate) fn number_of(&mut self, symbol: &Sym) -> Result<u32, AllocError>
         ensures keeps { Keeps self.old self.new }
@@ -32,7 +32,7 @@ impl StoreSpace {
         self.put_symbol(copy)
     }
 
-    // The number of a symbol, which is put in where it is new.
+    /// The number of a symbol, which is put in where it is new.
     fn put_symbol(&mut self, symbol: Sym) -> Result<u32, AllocError>
         ensures keeps { Keeps self.old self.new }
         ensures within { IfOk result (λ n. n < length self.new.symbols.keys) }
@@ -47,7 +47,7 @@ impl StoreSpace {
         Ok(at as u32)
     }
 
-    // The number of the symbol of a kind and bytes, which is made where it is new.
+    /// The number of the symbol of a kind and bytes, which is made where it is new.
     #[tactic(auto, using(crate::proofs::SpellingLaws::found_at))]
     fn number_of_spelling(
         &mut self,
@@ -71,7 +71,7 @@ impl StoreSpace {
         self.put_symbol(symbol)
     }
 
-    // The number of a symbol, which stays for good from now on.
+    /// The number of a symbol, which stays for good from now on.
     pub(crate) fn name_of(&mut self, symbol: &Sym) -> Result<u32, AllocError>
         ensures keeps { Keeps self.old self.new }
         ensures within { IfOk result (λ n. n < self.new.named) }
@@ -83,7 +83,7 @@ impl StoreSpace {
         Ok(number)
     }
 
-    // The number of the symbol of a kind and bytes, which stays for good from now on.
+    /// The number of the symbol of a kind and bytes, which stays for good from now on.
     pub(crate) fn name_of_spelling(
         &mut self,
         alloc: Global,
@@ -101,7 +101,7 @@ impl StoreSpace {
         Ok(number)
     }
 
-    // A head as it is stored.
+    /// A head as it is stored.
     pub(crate) fn stored_head(&mut self, head: &Head) -> Result<StoredHead, AllocError>
         ensures keeps { Keeps self.old self.new }
         ensures among { IfOk result (λ h. IsAmong (length self.new.symbols.keys) h) }

@@ -1,4 +1,4 @@
-// The size of the last term that did not fit.
+//! The size of the last term that did not fit.
 use std::marker::Model;
 
 /// The size of a term that did not fit, counted as `Term::weight` and `Term::depth` count. If the depth alone is too great,
@@ -11,7 +11,7 @@ pub struct OversizeTerm {
     pub depth: u32,
 }
 
-// The size of the last term that did not fit, if there was one. Contracts see nothing of it.
+/// The size of the last term that did not fit, if there was one. Contracts see nothing of it.
 #[derive(Drop)]
 pub(crate) struct LastOversize {
     size: Option<OversizeTerm>,
@@ -26,17 +26,17 @@ impl Model for LastOversize {
 }
 
 impl LastOversize {
-    // No size, as long as each term fitted.
+    /// No size, as long as each term fitted.
     pub(crate) fn new() -> LastOversize {
         LastOversize { size: None }
     }
 
-    // The size that was kept last, if there is one.
+    /// The size that was kept last, if there is one.
     pub(crate) fn get(&self) -> Option<OversizeTerm> {
         self.size
     }
 
-    // Keeps the size of a term that does not fit.
+    /// Keeps the size of a term that does not fit.
     #[cold]
     pub(crate) fn set(&mut self, weight: u32, depth: u32) {
         self.size = Some(OversizeTerm { weight, depth });

@@ -1,5 +1,5 @@
-// Shapes under their places. The first places are those of the small integers, which are not held: their place says which
-// integer it is. Each other shape is held once, and its place is after those, by its number.
+//! Shapes under their places. The first places are those of the small integers, which are not held: their place says which
+//! integer it is. Each other shape is held once, and its place is after those, by its number.
 ghost use Rattle.std.specs.Prelude.{◌≡◌, ◌<◌, ◌≤◌, ◌+◌, ◌-◌, ◌/◌, ◌^◌, ◌∷◌, ◌++◌, [], length, slice_index_or, take, if◌then◌else◌, IfOk, OnErr, MatchOption, ⊤};
 ghost use Rattle.term_store.specs.declared.stored.StoredShape.TheVariants as forms;
 ghost use Rattle.term_store.specs.Places.{integers, integer_at, HasInteger, IsLarge, IsLargeShape, IsPlaced, small_count};
@@ -11,17 +11,17 @@ use std::alloc::{AllocError, Global};
 use std::hash::{BuildHasherDefault, FoldHasher};
 use std::marker::Model;
 
-// How many small integers there are, of which half are negative.
+/// How many small integers there are, of which half are negative.
 pub(crate) fn small_integers() -> u32
     ensures { result ≡ small_count }
 {
     2_147_483_648
 }
 
-// Shapes under their places.
+/// Shapes under their places.
 #[derive(Drop)]
 pub(crate) struct Shapes {
-    // How many of the small integers are negative, and how many there are.
+    /// How many of the small integers are negative, and how many there are.
     negative: u32,
     small: u32,
     held: IndexSet<StoredShape>,
@@ -33,13 +33,17 @@ impl Model for Shapes {
 
     ghost Value = { PlacedShapes };
 
-    ghost view = { λ s. record { small = s.small; keys = integers s.negative s.small ++ s.held.keys } };
+    ghost view = { λ s. record {
+      small = s.small;
+      keys =
+          integers s.negative s.small ++ s.held.keys;
+    } };
 
     ghost invariant = { λ s. AreLarge s.negative s.small s.held.keys };
 }
 
 impl Shapes {
-    // The shapes of this many small integers, of which half are negative.
+    /// The shapes of this many small integers, of which half are negative.
     pub(crate) fn new(alloc: Global, hasher: BuildHasherDefault<FoldHasher>, small: u32) -> Shapes
         ensures small { result.small ≡ small }
         ensures keys { result.keys ≡ integers (small / 2) small }
@@ -51,7 +55,7 @@ impl Shapes {
         }
     }
 
-    // How many places there are.
+    /// How many places there are.
     #[inline]
     #[tactic(auto, using(crate::proofs::PlaceLaws::places))]
     pub(crate) fn len(&self) -> usize
@@ -62,7 +66,7 @@ impl Shapes {
         self.small as usize + self.held.len()
     }
 
-    // How many shapes are held.
+    /// How many shapes are held.
     #[inline]
     #[tactic(auto, using(crate::proofs::PlaceLaws::places))]
     pub(crate) fn held(&self) -> usize
@@ -73,7 +77,7 @@ impl Shapes {
         self.held.len()
     }
 
-    // The shape at a place.
+    /// The shape at a place.
     #[inline]
     #[tactic(auto, using(crate::proofs::PlaceLaws::places))]
     pub(crate) fn get(&self, at: u32) -> StoredShape
@@ -89,7 +93,7 @@ impl Shapes {
         *self.held.get_index((at - self.small) as usize).unwrap()
     }
 
-    // The shape at a place, lent; `None` at the place of a small integer.
+    /// The shape at a place, lent; `None` at the place of a small integer.
     #[inline]
     #[tactic(auto, using(crate::proofs::PlaceLaws::places))]
     pub(crate) fn held_at(&self, at: u32) -> Option<&StoredShape>
@@ -102,7 +106,7 @@ impl Shapes {
         Some(self.held.get_index((at - self.small) as usize).unwrap())
     }
 
-    // The integer of a place, if it is that of a small integer.
+    /// The integer of a place, if it is that of a small integer.
     #[inline]
     #[tactic(auto, using(crate::proofs::PlaceLaws::places))]
     pub(crate) fn integer(&self, at: u32) -> Option<i64>
@@ -115,7 +119,7 @@ impl Shapes {
         None
     }
 
-    // The number of the shape that is held at a place.
+    /// The number of the shape that is held at a place.
     pub(crate) fn number_of(&self, at: u32) -> usize
         requires { self.now.small ≤ at }
         ensures { at ≡ self.now.small + result }
@@ -123,7 +127,7 @@ impl Shapes {
         (at - self.small) as usize
     }
 
-    // The place of a small integer; `None` for others.
+    /// The place of a small integer; `None` for others.
     #[inline]
     #[tactic(auto, using(crate::proofs::PlaceLaws::places))]
     pub(crate) fn place_of(&self, value: i64) -> Option<u32>
@@ -133,7 +137,7 @@ impl Shapes {
         small_place(value, self.negative, self.small)
     }
 
-    // The place of a shape, and whether it is new.
+    /// The place of a shape, and whether it is new.
     #[inline]
     #[tactic(auto, using(crate::proofs::PlaceLaws::places))]
     pub(crate) fn insert(&mut self, shape: StoredShape) -> Result<(usize, bool), AllocError>
@@ -153,7 +157,7 @@ impl Shapes {
         Ok((small + number, added))
     }
 
-    // Keeps the first places, of which all small integers are.
+    /// Keeps the first places, of which all small integers are.
     #[tactic(auto, using(crate::proofs::PlaceLaws::places))]
     pub(crate) fn truncate(&mut self, count: usize)
         requires { self.old.small ≤ count }
@@ -164,7 +168,7 @@ impl Shapes {
     }
 }
 
-// The small integer of a place.
+/// The small integer of a place.
 #[inline]
 fn integer_of(at: u32, negative: u32) -> i64
     ensures { result ≡ integer_at negative at }
@@ -172,7 +176,7 @@ fn integer_of(at: u32, negative: u32) -> i64
     at as i64 - negative as i64
 }
 
-// The place of a shape, if it is that of a small integer.
+/// The place of a shape, if it is that of a small integer.
 #[inline]
 fn small_place_of(shape: &StoredShape, negative: u32, small: u32) -> Option<u32>
     ensures within { MatchOption result ⊤ (λ p. p < small) }
@@ -185,7 +189,7 @@ fn small_place_of(shape: &StoredShape, negative: u32, small: u32) -> Option<u32>
     }
 }
 
-// The place of an integer, if it is one of the small ones.
+/// The place of an integer, if it is one of the small ones.
 #[inline]
 fn small_place(value: i64, negative: u32, small: u32) -> Option<u32>
     ensures within { MatchOption result ⊤ (λ p. p < small) }

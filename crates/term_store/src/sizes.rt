@@ -1,4 +1,4 @@
-// What is held at a place, and how heavy and deep it is.
+//! What is held at a place, and how heavy and deep it is.
 ghost use Rattle.std.specs.Prelude.{◌≡◌, ◌<◌, ◌+◌, [], length, map, min, MatchOption};
 ghost use Rattle.term_model.specs.Limits.{max_weight};
 ghost use Rattle.term_model.specs.Term.{head_weight};
@@ -13,7 +13,7 @@ use crate::stored::{Span, StoredHead, StoredShape};
 use term_model::term::MAX_WEIGHT;
 use term_model::{Block, Front};
 
-// How heavy and how deep several terms are together.
+/// How heavy and how deep several terms are together.
 #[derive(Clone, Copy)]
 pub(crate) struct Size {
     pub(crate) weight: u32,
@@ -21,7 +21,7 @@ pub(crate) struct Size {
 }
 
 impl StoreSpace {
-    // The shape at a place.
+    /// The shape at a place.
     #[inline]
     pub(crate) fn shape_at(&self, at: u32) -> StoredShape
         requires { at < count self.now }
@@ -30,7 +30,7 @@ impl StoreSpace {
         self.shapes.get(at)
     }
 
-    // The shape at a place, lent, if it is held there.
+    /// The shape at a place, lent, if it is held there.
     #[inline]
     pub(crate) fn held_shape(&self, at: u32) -> Option<&StoredShape>
         requires { at < count self.now }
@@ -43,7 +43,7 @@ impl StoreSpace {
         }
     }
 
-    // How heavy and deep the term at a place is.
+    /// How heavy and deep the term at a place is.
     #[inline]
     pub(crate) fn extent(&self, at: u32) -> Size
         requires { at < count self.now }
@@ -52,7 +52,7 @@ impl StoreSpace {
         self.extents.size(at)
     }
 
-    // How heavy, deep and many the terms of a chain are.
+    /// How heavy, deep and many the terms of a chain are.
     #[inline]
     pub(crate) fn span(&self, chain: u32) -> Span
         requires { chain < length self.now.chains }
@@ -69,11 +69,12 @@ impl StoreSpace {
         spans[chain as usize - 1]
     }
 
-    // How heavy and deep the terms of a block are together.
+    /// How heavy and deep the terms of a block are together.
     #[inline]
     pub(crate) fn size_in(&self, block: Block<u32>) -> Size
         requires { IsBlockOver self.now block }
-        ensures { IsTotal (map (term_of self.now) (list_in self.now.chains block)) result.weight result.depth }
+        ensures { IsTotal (map (term_of self.now) (list_in self.now.chains block))
+            result.weight result.depth }
     {
         let span = self.span(block.rest);
         match block.front {
@@ -108,7 +109,7 @@ impl StoreSpace {
         }
     }
 
-    // How heavy and deep the head and the parts of a shape are together.
+    /// How heavy and deep the head and the parts of a shape are together.
     #[inline]
     pub(crate) fn bare_size(&self, shape: &StoredShape) -> Size
         requires { MayStand self.now shape.now }
@@ -131,7 +132,7 @@ impl StoreSpace {
         }
     }
 
-    // How many bytes the symbol of a head has, or a number that is too heavy.
+    /// How many bytes the symbol of a head has, or a number that is too heavy.
     #[inline]
     pub(crate) fn symbol_weight(&self, head: StoredHead) -> u32
         requires { IsAmong (length self.now.symbols.keys) head }

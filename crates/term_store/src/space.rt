@@ -272,7 +272,10 @@ impl TermSpace for StoreSpace {
         requires parts { All (λ r. IsTrue (nat_lt r (stored.count self.old))) parts.items }
         requires annos { All (λ r. IsTrue (nat_lt r (stored.count self.old))) annos.items }
         ensures keeps { Keeps ⟦<StoreSpace as TermSpace>⟧.space self.old self.new }
-        ensures made { IfOk result (Makes ⟦<StoreSpace as TermSpace>⟧.space self.new (term head (map (stored.term_of self.old) parts.items) (map (stored.term_of self.old) annos.items))) }
+        ensures made { IfOk result
+            (Makes ⟦<StoreSpace as TermSpace>⟧.space self.new
+            (term head (map (stored.term_of self.old) parts.items)
+            (map (stored.term_of self.old) annos.items))) }
     {
         let _ = alloc;
         let head = self.stored_head(&head)?;
@@ -293,11 +296,11 @@ impl TermSpace for StoreSpace {
 
     #[tactic(auto, using(crate::proofs::LawsOfSpace::making))]
     fn enter(&mut self, alloc: Global, from: &Term) -> Result<u32, AllocError> {
-        self.entered(alloc, from)
+        self.bring_in(alloc, from)
     }
 
     #[tactic(auto, using(crate::proofs::LawsOfSpace::reading))]
     fn leave(&self, alloc: Global, at: &u32) -> Result<Term, AllocError> {
-        self.left(alloc, *at)
+        self.take_out(alloc, *at)
     }
 }

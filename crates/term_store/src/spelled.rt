@@ -1,4 +1,4 @@
-// Symbols whose bytes stand elsewhere: a symbol is looked up by them before it is made.
+//! Symbols whose bytes stand elsewhere: a symbol is looked up by them before it is made.
 ghost use Rattle.std.specs.Prelude.{◌≡◌};
 ghost use Rattle.term_model.specs.Same.{same_symbol};
 ghost use Rattle.term_model.specs.Symbol.{symbol_spelled, IsSpelling};
@@ -8,7 +8,7 @@ use std::hash::{Hash, Hasher};
 use std::marker::Model;
 use term_model::{Kind, Sym};
 
-// The kind and the bytes of a symbol.
+/// The kind and the bytes of a symbol.
 #[derive(Drop)]
 pub(crate) struct Spelled<'a> {
     kind: Kind,
@@ -60,7 +60,7 @@ impl<'a> Eq for Spelled<'a> {
     ghost laws = { same_symbol_equiv };
 }
 
-// Hashes as the symbol does.
+/// Hashes as the symbol does.
 impl<'a> Hash for Spelled<'a> {
     ghost use Rattle.term_model.specs.Hashing.{symbol_writes, symbol_writes-same};
 

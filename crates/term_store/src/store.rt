@@ -18,12 +18,12 @@ use term_model::Sym;
 #[derive(Drop)]
 pub struct StoreSpace {
     pub(crate) symbols: IndexSet<Sym>,
-    // How many of the symbols stay for good, since they or later ones were brought in as names.
+    /// How many of the symbols stay for good, since they or later ones were brought in as names.
     pub(crate) named: u32,
     pub(crate) chains: Chains,
     pub(crate) shapes: Shapes,
     pub(crate) extents: Extents,
-    // The span of each chain but the empty one.
+    /// The span of each chain but the empty one.
     pub(crate) spans: Vec<Span>,
     pub(crate) oversize: LastOversize,
     ghost store: { IsStore symbols.keys chains shapes.keys extents.items spans.items },

@@ -1,4 +1,4 @@
-// Shapes as they are stored, and the sizes beside them.
+//! Shapes as they are stored, and the sizes beside them.
 ghost use Rattle.std.specs.Prelude.{◌≡◌, ◌++◌, ◌+◌, ◌*◌};
 ghost use Rattle.std.specs.Hash as fed;
 ghost use Rattle.std.proofs.Common.{rules};
@@ -9,16 +9,16 @@ ghost use Rattle.term_store.specs.Shapes.{shape_of, shape_head, shape_parts, sha
 use std::hash::{Hash, Hasher};
 use term_model::{Block, Front};
 
-// Two numbers of 32 bits are hashed as one of 64.
+/// Two numbers of 32 bits are hashed as one of 64.
 const HIGH: u64 = 4_294_967_296;
 
-// The block of no places.
+/// The block of no places.
 const EMPTY: Block<u32> = Block {
     front: Front::Zero,
     rest: 0,
 };
 
-// What a term is, but for its parts and annotations: an integer, the number of a symbol, or the head of lists.
+/// What a term is, but for its parts and annotations: an integer, the number of a symbol, or the head of lists.
 #[derive(Clone, Copy, PartialEq, Eq)]
 pub(crate) enum StoredHead {
     Int(i64),
@@ -26,8 +26,8 @@ pub(crate) enum StoredHead {
     List,
 }
 
-// A term as it is held: an integer, the number of a symbol with the block of its parts, or a list with the block of its
-// elements, each with the chain of its annotations. It takes 32 bytes, since an integer stands where others have their parts.
+/// A term as it is held: an integer, the number of a symbol with the block of its parts, or a list with the block of its
+/// elements, each with the chain of its annotations. It takes 32 bytes, since an integer stands where others have their parts.
 #[derive(Clone, Copy, PartialEq, Eq)]
 pub(crate) enum StoredShape {
     Int {
@@ -48,7 +48,7 @@ pub(crate) enum StoredShape {
 const _: () = prove!(size_of::<StoredShape>() == 32);
 
 impl StoredShape {
-    // The shape of a head, which takes no parts if it is an integer.
+    /// The shape of a head, which takes no parts if it is an integer.
     #[inline]
     pub(crate) fn new(head: StoredHead, parts: Block<u32>, annos: u32) -> StoredShape
         ensures { result ≡ shape_of head parts annos }
@@ -64,7 +64,7 @@ impl StoredShape {
         }
     }
 
-    // The head.
+    /// The head.
     #[inline]
     pub(crate) fn head(&self) -> StoredHead
         ensures { result ≡ shape_head self.now }
@@ -76,7 +76,7 @@ impl StoredShape {
         }
     }
 
-    // The block of the parts.
+    /// The block of the parts.
     #[inline]
     pub(crate) fn parts(&self) -> Block<u32>
         ensures { result ≡ shape_parts self.now }
@@ -87,7 +87,7 @@ impl StoredShape {
         }
     }
 
-    // The block of the elements of a list.
+    /// The block of the elements of a list.
     #[inline]
     pub(crate) fn elements(&self) -> Block<u32>
         requires { shape_head self.now ≡ stored.List }
@@ -99,7 +99,7 @@ impl StoredShape {
         }
     }
 
-    // The chain of the annotations.
+    /// The chain of the annotations.
     #[inline]
     pub(crate) fn annos(&self) -> u32
         ensures { result ≡ shape_annos self.now }
@@ -143,7 +143,7 @@ impl Hash for StoredShape {
     }
 }
 
-// How heavy and deep a term is, and how many chains and symbols there were when its shape came.
+/// How heavy and deep a term is, and how many chains and symbols there were when its shape came.
 #[derive(Clone, Copy)]
 pub(crate) struct Extent {
     pub(crate) weight: u32,
@@ -152,7 +152,7 @@ pub(crate) struct Extent {
     pub(crate) symbols: u32,
 }
 
-// How heavy, deep and many the terms of a chain are.
+/// How heavy, deep and many the terms of a chain are.
 #[derive(Clone, Copy)]
 pub(crate) struct Span {
     pub(crate) weight: u32,

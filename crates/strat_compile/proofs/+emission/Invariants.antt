@@ -10,18 +10,23 @@ use Rattle.strat_compile.proofs.+emission.Given as goal
 
 abbrev pub invariant-choices::emit_arms-loop-index : goal.invariant-choices::emit_arms-loop-index
 invariant-choices::emit_arms-loop-index l =
-    PutsArms l.places (site_of l.layers) (map arm_of (drop l.index l.arms)) l.end (bodies_of l.fn.chain) l.fn.chain.last (emitted_of l.fn.out) (bodies_of l.chain) l.chain.last (emitted_of l.out)
+    PutsArms l.places (site_of l.layers) (map arm_of (drop l.index l.arms)) l.end (bodies_of l.fn.chain)
+    l.fn.chain.last (emitted_of l.fn.out) (bodies_of l.chain) l.chain.last (emitted_of l.out)
 
 abbrev pub invariant-calls::emit_arguments-loop-s : goal.invariant-calls::emit_arguments-loop-s
 invariant-calls::emit_arguments-loop-s l =
-    ArgumentsLeft (site_of l.layers) l.strategies (drop l.s-index l.strategies) (map argument_of l.made.items) (emitted_of l.fn.out) (emitted_of l.out)
+    ArgumentsLeft (site_of l.layers) l.strategies (drop l.s-index l.strategies) (map argument_of l.made.items)
+    (emitted_of l.fn.out) (emitted_of l.out)
 
 abbrev pub invariant-emit::emit_bodies-loop-def : goal.invariant-emit::emit_bodies-loop-def
 invariant-emit::emit_bodies-loop-def l =
-    BodiesLeft (site_of l.layers) l.first_label l.label l.defs (drop l.def-index l.defs) (emitted_of l.fn.out) (emitted_of l.out)
+    BodiesLeft (site_of l.layers) l.first_label l.label l.defs (drop l.def-index l.defs) (emitted_of l.fn.out)
+    (emitted_of l.out)
 
 abbrev pub invariant-emit::emit_rest-loop-index : goal.invariant-emit::emit_rest-loop-index
-invariant-emit::emit_rest-loop-index l = EmitsRest l.places (site_of l.layers) l.charged (map strategy_of (drop l.index l.rest)) (emitted_of l.fn.out) (emitted_of l.out)
+invariant-emit::emit_rest-loop-index l =
+    EmitsRest l.places (site_of l.layers) l.charged (map strategy_of (drop l.index l.rest)) (emitted_of l.fn.out)
+    (emitted_of l.out)
 
 abbrev pub decreases-emit::emit : goal.decreases-emit::emit
 decreases-emit::emit l = 8 * l.depth

@@ -12,5 +12,9 @@ returns-then-not-reader-clause-added g c s k =
 pub returns-clause-added : goal.returns-clause-added
 returns-clause-added g c s k =
     let w = g.S.TermSpace.space in
-    put_keeps w c.app.ensures.keeps c.args.reader.now c.put.new.reader s [] (node (heads.App (w.symbol_of c.args.space.now c.args.name.now)) end end) c.in_ok-made.made c.len-bottom.result k c.if-not-reader.false
-    (c.len-bottom.ensures ∙ c.args.reader.now.terms.ok.0 ∙ bottom_of w c.args.space.now c.args.reader.now s k c.if-not-reader.false) c.in_ok-made.ensures.made c.in_ok-put.ensures
+    put_keeps w c.app.ensures.keeps c.args.reader.now c.put.new.reader s []
+    (node (heads.App (w.symbol_of c.args.space.now c.args.name.now)) end end)
+    c.in_ok-made.made c.len-bottom.result k c.if-not-reader.false
+    (c.len-bottom.ensures ∙ c.args.reader.now.terms.ok.0 ∙
+    bottom_of w c.args.space.now c.args.reader.now s k c.if-not-reader.false)
+    c.in_ok-made.ensures.made c.in_ok-put.ensures

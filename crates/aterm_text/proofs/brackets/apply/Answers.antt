@@ -17,8 +17,11 @@ returns-then-has_byte-clause-reached g c =
     let here = c.has_byte.ensures.yes c.if-has_byte.true in
     record {
       state = Fresh (opened (Applied y)) at.brackets;
-      is = at_first refl (opens w c.args.space.now c.args.reader.now c.open.new.reader at.brackets [] _ (Applied y) at.keeping refl (c.requires.known, refl) c.in_ok-open.ensures);
-      outcome = at.outcome ∙ blanks_pass c.args.text.now {a = Named y at.brackets} c.args.index c.blanks_end-index.result rests_named e.low e.high e.within ∙ bracket_after c.args.text.now y at.brackets c.blanks_end-index.result here.0 here.1;
+      is = at_first refl (opens w c.args.space.now c.args.reader.now c.open.new.reader at.brackets [] _ (Applied y)
+          at.keeping refl (c.requires.known, refl) c.in_ok-open.ensures);
+      outcome = at.outcome ∙ blanks_pass c.args.text.now {a =
+          Named y at.brackets} c.args.index c.blanks_end-index.result rests_named e.low e.high e.within ∙
+          bracket_after c.args.text.now y at.brackets c.blanks_end-index.result here.0 here.1;
       within = omega (arith, here.0);
     }
 
@@ -31,6 +34,9 @@ returns-clause-reached g c =
     record {
       state = Whole (heads.App y) end at.brackets;
       is = at_whole (c.in_ok-add_symbol.ensures.added at.brackets at.keeping);
-      outcome = at.outcome ∙ blanks_pass c.args.text.now {a = Named y at.brackets} c.args.index c.blanks_end-index.result rests_named e.low e.high e.within ∙ named_alone c.args.text.now y at.brackets c.blanks_end-index.result e.stop (c.has_byte.ensures.no c.if-has_byte.false);
+      outcome = at.outcome ∙ blanks_pass c.args.text.now {a =
+          Named y at.brackets} c.args.index c.blanks_end-index.result rests_named e.low e.high e.within ∙
+          named_alone c.args.text.now y at.brackets c.blanks_end-index.result e.stop
+          (c.has_byte.ensures.no c.if-has_byte.false);
       within = e.high;
     }

@@ -19,4 +19,6 @@ abbrev pub decreases-with_all : goal.decreases-with_all
 decreases-with_all l = 5 * weights (trees_of l.terms.now) + 1
 
 abbrev pub invariant-with_all-loop-term : goal.invariant-with_all-loop-term
-invariant-with_all-loop-term l = l.counted + length (rest_texts (trees_of (drop l.term-index l.others))) ≡ l.fn.counted + length (texts (trees_of l.fn.terms))
+invariant-with_all-loop-term l =
+    l.counted + length (rest_texts (trees_of (drop l.term-index l.others))) ≡ l.fn.counted +
+    length (texts (trees_of l.fn.terms))

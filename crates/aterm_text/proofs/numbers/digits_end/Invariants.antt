@@ -9,7 +9,8 @@ invariant-loop-end l = record {
   low : l.fn.index ≤ l.end;
   high : l.end ≤ length l.text;
   value : l.magnitude ≤ max_magnitude l.negative;
-  read : (s : List Open) → outcome_from l.text (InDigits l.negative 0 s) l.fn.index ≡ outcome_from l.text (InDigits l.negative l.magnitude s) l.end;
+  read : (s : List Open) → outcome_from l.text (InDigits l.negative 0 s) l.fn.index ≡
+      outcome_from l.text (InDigits l.negative l.magnitude s) l.end;
 }
 
 abbrev pub decreases-loop-end : goal.decreases-loop-end

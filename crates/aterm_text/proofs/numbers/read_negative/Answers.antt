@@ -5,10 +5,13 @@ use Rattle.aterm_text.proofs.Outcomes.{lone_minus, minus_read}
 use Rattle.aterm_text.proofs.numbers.read_negative.Goals as goal
 
 pub returns-then-index-text-clause-err : goal.returns-then-index-text-clause-err
-returns-then-index-text-clause-err g c = c.requires.at.outcome ∙ lone_minus c.args.text.now c.requires.at.brackets c.args.index (λ h. absurd (omega (arith, h, c.if-index-text.true)))
+returns-then-index-text-clause-err g c =
+    c.requires.at.outcome ∙ lone_minus c.args.text.now c.requires.at.brackets c.args.index
+    (λ h. absurd (omega (arith, h, c.if-index-text.true)))
 
 pub returns-then-not-is_digit_byte-clause-err : goal.returns-then-not-is_digit_byte-clause-err
-returns-then-not-is_digit_byte-clause-err g c = c.requires.at.outcome ∙ lone_minus c.args.text.now c.requires.at.brackets c.args.index (λ h. search rules)
+returns-then-not-is_digit_byte-clause-err g c =
+    c.requires.at.outcome ∙ lone_minus c.args.text.now c.requires.at.brackets c.args.index (λ h. search rules)
 
 pub read_number-requires : goal.read_number-requires
 read_number-requires g c =
@@ -20,7 +23,8 @@ read_number-requires g c =
       at = record {
         brackets = at.brackets;
         keeping = at.keeping;
-        outcome = at.outcome ∙ minus_read c.args.text.now at.brackets c.args.index (omega (arith, at.within, c.if-index-text.false)) digit;
+        outcome = at.outcome ∙ minus_read c.args.text.now at.brackets c.args.index
+            (omega (arith, at.within, c.if-index-text.false)) digit;
         within = at.within;
       };
     }

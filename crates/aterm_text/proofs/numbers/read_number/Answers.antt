@@ -15,10 +15,14 @@ returns-clause-reached g c =
       state = Whole (heads.Int (to_z w64 (of_z w64 c.signed.result))) end at.brackets;
       is = at_whole (c.in_ok-add_int.ensures.added at.brackets at.keeping);
       outcome =
-          at.outcome ∙ c.in_ok-magnitude.ensures.read at.brackets ∙ digits_stop c.args.text.now c.args.negative c.in_ok-magnitude.magnitude at.brackets c.in_ok-magnitude.end c.in_ok-magnitude.ensures.stop
-          ∙ ap (λ v. outcome_from c.args.text.now (Whole (heads.Int v) end at.brackets) c.in_ok-magnitude.end) (sym (z ∙ c.signed.ensures));
+          at.outcome ∙ c.in_ok-magnitude.ensures.read at.brackets ∙
+          digits_stop c.args.text.now c.args.negative c.in_ok-magnitude.magnitude at.brackets c.in_ok-magnitude.end
+          c.in_ok-magnitude.ensures.stop
+          ∙ ap (λ v. outcome_from c.args.text.now (Whole (heads.Int v) end at.brackets) c.in_ok-magnitude.end)
+          (sym (z ∙ c.signed.ensures));
       within = c.in_ok-magnitude.ensures.high;
     }
 
 pub returns-clause-past : goal.returns-clause-past
-returns-clause-past g c = beyond_digit c.args.text.now c.args.index c.in_ok-magnitude.end c.in_ok-magnitude.ensures.low c.requires.within c.requires.digit c.in_ok-magnitude.ensures.stop
+returns-clause-past g c = beyond_digit c.args.text.now c.args.index c.in_ok-magnitude.end c.in_ok-magnitude.ensures.low
+    c.requires.within c.requires.digit c.in_ok-magnitude.ensures.stop

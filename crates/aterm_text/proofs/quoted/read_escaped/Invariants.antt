@@ -7,7 +7,8 @@ abbrev pub invariant-loop-bytes : goal.invariant-loop-bytes
 invariant-loop-bytes l = record {
   low : l.fn.index ≤ l.from;
   within : l.from ≤ length l.text;
-  read : (s : List Open) → outcome_from l.text (InText [] s) l.fn.index ≡ outcome_from l.text (InText l.bytes.items s) l.from;
+  read : (s : List Open) → outcome_from l.text (InText [] s) l.fn.index ≡
+      outcome_from l.text (InText l.bytes.items s) l.from;
 }
 
 abbrev pub decreases-loop-bytes : goal.decreases-loop-bytes

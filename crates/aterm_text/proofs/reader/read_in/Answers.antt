@@ -9,12 +9,19 @@ loop-index-init g c =
     let e = c.blanks_end-index.ensures in
     record {
       keeps = keeps_same _ _;
-      reached = starts w c.args.space.now c.args.text.now c.new-reader.result c.blanks_end-index.result c.new-reader.ensures.opened c.new-reader.ensures.terms c.new-reader.ensures.fits e.high e.within;
+      reached = starts w c.args.space.now c.args.text.now c.new-reader.result c.blanks_end-index.result
+          c.new-reader.ensures.opened c.new-reader.ensures.terms c.new-reader.ensures.fits e.high e.within;
       mark = e.stop;
     }
 
 pub loop-index-smaller : goal.loop-index-smaller
-loop-index-smaller g c = omega (arith, c.loop-index-test.true, c.in_ok-then.ensures.past, c.blanks_end-index-in-loop-index.ensures.low, c.blanks_end-index-in-loop-index.ensures.high)
+loop-index-smaller g c = omega (
+  arith,
+  c.loop-index-test.true,
+  c.in_ok-then.ensures.past,
+  c.blanks_end-index-in-loop-index.ensures.low,
+  c.blanks_end-index-in-loop-index.ensures.high,
+)
 
 pub loop-index-preserved : goal.loop-index-preserved
 loop-index-preserved g c =
@@ -22,6 +29,7 @@ loop-index-preserved g c =
     let e = c.blanks_end-index-in-loop-index.ensures in
     record {
       keeps = keeps_then c.loop-index.invariant.keeps c.step.ensures.keeps;
-      reached = blanks_after w c.step.new.space c.args.text.now c.step.new.reader c.in_ok-then.then c.in_ok-then.end c.blanks_end-index-in-loop-index.result c.in_ok-then.ensures.reached e.low e.high e.within;
+      reached = blanks_after w c.step.new.space c.args.text.now c.step.new.reader c.in_ok-then.then c.in_ok-then.end
+          c.blanks_end-index-in-loop-index.result c.in_ok-then.ensures.reached e.low e.high e.within;
       mark = e.stop;
     }

@@ -26,4 +26,5 @@ pub follow-requires-clause-at : goal.follow-requires-clause-at
 follow-requires-clause-at g c =
     let w = g.S.TermSpace.space in
     let P : Next → Type 0 = λ n. Reached w c.args.space.now c.args.text.now c.args.reader.now n c.args.index in
-    done_follows w c.args.space.now c.args.text.now c.args.reader.now c.args.index c.requires.within (subst P c.in-Done.is c.requires.at) c.requires.mark
+    done_follows w c.args.space.now c.args.text.now c.args.reader.now c.args.index c.requires.within
+    (subst P c.in-Done.is c.requires.at) c.requires.mark

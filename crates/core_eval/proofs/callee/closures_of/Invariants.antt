@@ -9,4 +9,6 @@ use Rattle.core_eval.proofs.callee.closures_of.Given as goal
 abbrev pub invariant-loop-s : goal.invariant-loop-s
 invariant-loop-s l =
     let W = environment_of l.frame in
-    environment.closures_of by_coordinates W (strategies_of l.strategies) ≡ before (map closure_of l.made.items) (environment.closures_of by_coordinates W (strategies_of (drop l.s-index l.strategies)))
+    environment.closures_of by_coordinates W (strategies_of l.strategies) ≡
+    before (map closure_of l.made.items)
+    (environment.closures_of by_coordinates W (strategies_of (drop l.s-index l.strategies)))

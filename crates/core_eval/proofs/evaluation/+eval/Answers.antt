@@ -39,22 +39,27 @@ evaluate-returns-in-Fail g t c =
 
 pub evaluate-returns-in_ok-ending-in-Match : goal.evaluate-returns-in_ok-ending-in-Match
 evaluate-returns-in_ok-ending-in-Match g t c =
-    taken (ap strategy_of c.in-Match.is ∙ (reads_match _ ∙ ap (λ p. core.match (pattern_of p)) (sym c.pattern.ensures))) c.if-state-eq0.false (c.in_ok-ending-in-Match.ensures _)
+    taken (ap strategy_of c.in-Match.is ∙
+    (reads_match _ ∙ ap (λ p. core.match (pattern_of p)) (sym c.pattern.ensures)))
+    c.if-state-eq0.false (c.in_ok-ending-in-Match.ensures _)
 
 pub evaluate-returns-in_ok-made-in-Build : goal.evaluate-returns-in_ok-made-in-Build
 evaluate-returns-in_ok-made-in-Build g t c =
     let place = by_coordinates.place_of (environment_of c.args.frame.now) in
     let e = c.args.state.now.places.items in
     let p = c.pattern-p.result.now in
-    at_build (ap strategy_of c.in-Build.is ∙ (reads_build _ ∙ ap (λ p. core.build (pattern_of p)) (sym c.pattern-p.ensures))) c.if-state-eq0.false
-    (c.built.ensures e ∙
-    (ap (λ m. ends (made_ending m e)) (c.in_ok-made-in-Build.ensures ∙ ap (λ x. option_map made_of (instance place (pattern_of p) x)) c.as_slice-in-Build.ensures.value) ∙
+    at_build (ap strategy_of c.in-Build.is ∙
+    (reads_build _ ∙ ap (λ p. core.build (pattern_of p)) (sym c.pattern-p.ensures))) c.if-state-eq0.false
+    (c.build_outcome.ensures e ∙
+    (ap (λ m. ends (made_ending m e)) (c.in_ok-made-in-Build.ensures ∙
+    ap (λ x. option_map made_of (instance place (pattern_of p) x)) c.as_slice-in-Build.ensures.value) ∙
     ap (λ o. ends o) (made_built (instance place (pattern_of p) e) e)))
 
 pub evaluate-returns-in_ok-ending-in-Primitive : goal.evaluate-returns-in_ok-ending-in-Primitive
 evaluate-returns-in_ok-ending-in-Primitive g t c =
     at_primitive (ap strategy_of c.in-Primitive.is ∙ reads_primitive _ _) c.if-state-eq0.false
-    (rw (c.as_slice-in-Primitive.ensures.value, c.as_slice-in-Primitive-2.ensures.value) at c.in_ok-ending-in-Primitive.ensures)
+    (rw (c.as_slice-in-Primitive.ensures.value, c.as_slice-in-Primitive-2.ensures.value)
+    at c.in_ok-ending-in-Primitive.ensures)
 
 pub evaluate_let-returns : goal.evaluate_let-returns
 evaluate_let-returns g t c =
@@ -70,18 +75,22 @@ evaluate_arms-returns-in_ok-ending-in-Rewritten g t c =
 pub evaluate_arms-returns-in_ok-ending-in-None : goal.evaluate_arms-returns-in_ok-ending-in-None
 evaluate_arms-returns-in_ok-ending-in-None g t c =
     let read = reads_arm c.args.arm.now in
-    let saved : c.in_ok-before.before.items ≡ c.args.state.now.places.items = c.in_ok-before.ensures ∙ c.as_slice.ensures.value in
+    let saved : c.in_ok-before.before.items ≡ c.args.state.now.places.items =
+    c.in_ok-before.ensures ∙ c.as_slice.ensures.value in
     choice_tries_other
     (failed_to _ c.in-Failed.is (moved_to refl (ap (λ z. z.guard) (sym read)) refl c.in_ok-other.ensures))
-    (moved_to refl (sym (no_arms _ (strategy_of c.args.otherwise.now) c.in-None.ensures.cases)) saved c.in_ok-ending-in-None.ensures)
+    (moved_to refl (sym (no_arms _ (strategy_of c.args.otherwise.now) c.in-None.ensures.cases))
+    saved c.in_ok-ending-in-None.ensures)
 
 pub evaluate_arms-returns-in_ok-ending-in-Some : goal.evaluate_arms-returns-in_ok-ending-in-Some
 evaluate_arms-returns-in_ok-ending-in-Some g t c =
     let read = reads_arm c.args.arm.now in
-    let saved : c.in_ok-before.before.items ≡ c.args.state.now.places.items = c.in_ok-before.ensures ∙ c.as_slice.ensures.value in
+    let saved : c.in_ok-before.before.items ≡ c.args.state.now.places.items =
+    c.in_ok-before.ensures ∙ c.as_slice.ensures.value in
     choice_tries_other
     (failed_to _ c.in-Failed.is (moved_to refl (ap (λ z. z.guard) (sym read)) refl c.in_ok-other.ensures))
-    (taken (arms_next _ _ _ (strategy_of c.args.otherwise.now) c.in-Some.ensures.cases) c.if-state-eq0.false (moved_to refl refl saved c.in_ok-ending-in-Some.ensures))
+    (taken (arms_next _ _ _ (strategy_of c.args.otherwise.now) c.in-Some.ensures.cases)
+    c.if-state-eq0.false (moved_to refl refl saved c.in_ok-ending-in-Some.ensures))
 
 pub evaluate_arms-returns-then-state-eq0 : goal.evaluate_arms-returns-then-state-eq0
 evaluate_arms-returns-then-state-eq0 g t c =
@@ -101,14 +110,17 @@ evaluate_scope-returns g t c =
     let e = c.args.state.now.places.items in
     let up = environment_of c.args.frame.now in
     let base : c.len-base.result ≡ length e = c.len-base.ensures ∙ c.args.state.now.places.ok.0 in
-    let cut : c.truncate.new.self.items ≡ take c.len-base.result c.evaluate.new.state.places.items = c.truncate.ensures.items in
+    let cut : c.truncate.new.self.items ≡ take c.len-base.result c.evaluate.new.state.places.items =
+    c.truncate.ensures.items in
     rw (cut, base) (scope_done _ c.in_ok-ending.ending
-    (moved_to (reads_layer _ _ _ _ _ ∙ ap (λ m. layer m 0 c.args.count no_closures up) base) refl c.in_ok-push_empty.ensures c.in_ok-ending.ensures))
+    (moved_to (reads_layer _ _ _ _ _ ∙
+    ap (λ m. layer m 0 c.args.count no_closures up) base) refl c.in_ok-push_empty.ensures c.in_ok-ending.ensures))
 
 pub evaluate_sequence-returns-in-None : goal.evaluate_sequence-returns-in-None
 evaluate_sequence-returns-in-None g t c =
     sequence_goes_on (rewritten_to _ c.in-Rewritten.is c.in_ok-other.ensures)
-    (moved_to refl (sym (chain_ends (strategy_of c.args.second.now) _ c.in-None.ensures.cases)) refl c.in_ok-ending-in-None.ensures)
+    (moved_to refl (sym (chain_ends (strategy_of c.args.second.now) _ c.in-None.ensures.cases))
+    refl c.in_ok-ending-in-None.ensures)
 
 pub evaluate_sequence-returns-then-state-eq0 : goal.evaluate_sequence-returns-then-state-eq0
 evaluate_sequence-returns-then-state-eq0 g t c =
@@ -117,7 +129,8 @@ evaluate_sequence-returns-then-state-eq0 g t c =
 pub evaluate_sequence-returns-in-Rewritten : goal.evaluate_sequence-returns-in-Rewritten
 evaluate_sequence-returns-in-Rewritten g t c =
     sequence_goes_on (rewritten_to _ c.in-Rewritten.is c.in_ok-other.ensures)
-    (taken (chain_next (strategy_of c.args.second.now) _ _ _ c.in-Some.ensures.cases) c.if-state-eq0.false c.in_ok-ending-in-Some.ensures)
+    (taken (chain_next (strategy_of c.args.second.now) _ _ _ c.in-Some.ensures.cases)
+    c.if-state-eq0.false c.in_ok-ending-in-Some.ensures)
 
 pub evaluate_sequence-returns : goal.evaluate_sequence-returns
 evaluate_sequence-returns g t c =
@@ -125,7 +138,8 @@ evaluate_sequence-returns g t c =
 
 pub evaluate_all-loop-part-preserved : goal.evaluate_all-loop-part-preserved
 evaluate_all-loop-part-preserved g t c =
-    let left = left_at c.children-parts.result.now c.loop-part.part-index c.part-item.result c.loop-part-test.true c.part-item.is in
+    let left = left_at c.children-parts.result.now c.loop-part.part-index c.part-item.result c.loop-part-test.true
+    c.part-item.is in
     let so_far = c.loop-part.invariant in
     let pushed = c.in_ok-push-in-Rewritten.ensures.items in
     record {
@@ -136,13 +150,16 @@ evaluate_all-loop-part-preserved g t c =
 
 pub evaluate_all-returns-in_default : goal.evaluate_all-returns-in_default
 evaluate_all-returns-in_default g t c =
-    let left = left_at c.children-parts.result.now c.loop-part.part-index c.part-item.result c.loop-part-test.true c.part-item.is in
+    let left = left_at c.children-parts.result.now c.loop-part.part-index c.part-item.result c.loop-part-test.true
+    c.part-item.is in
     let ran = c.in_ok-other.ensures in
     let so_far = c.loop-part.invariant.decides in
     let ended = no_term c.in_ok-other.other c.in_default.not-Rewritten in
     let less = ran.left in
     let before = so_far.less in
-    all_stopped c.args.t.now c.children-parts.ensures (omega arith) _ c.in_ok-other.other ended (decides_stop left so_far c.in_ok-other.other (all_ended _ c.in_ok-other.other ended ran))
+    all_stopped c.args.t.now c.children-parts.ensures (omega arith)
+    _ c.in_ok-other.other ended
+    (decides_stop left so_far c.in_ok-other.other (all_ended _ c.in_ok-other.other ended ran))
 
 pub evaluate_all-returns : goal.evaluate_all-returns
 evaluate_all-returns g t c =
@@ -152,7 +169,8 @@ evaluate_all-returns g t c =
     let us = c.loop-part.done.items in
     let none_left = drop_all c.loop-part.part-index c.children-parts.result.now c.loop-part-test.false in
     let so_far = c.loop-part.invariant.decides in
-    all_done c.args.t.now c.children-parts.ensures so_far.less (trees_of us) e _ (c.built.ensures e ∙ remade_ending c.args.t.now us c.in_ok-made.made e c.in_ok-made.ensures)
+    all_done c.args.t.now c.children-parts.ensures so_far.less (trees_of us) e _ (c.build_outcome.ensures e ∙
+    remade_ending c.args.t.now us c.in_ok-made.made e c.in_ok-made.ensures)
     (decides_end none_left so_far (all_at_end V s e c.loop-part.state.budget))
 
 pub evaluate_one-returns-in-Rewritten : goal.evaluate_one-returns-in-Rewritten
@@ -167,8 +185,10 @@ evaluate_one-returns-in-Rewritten g t c =
     let less = ran.left in
     let before = so_far.less in
     one_done c.args.t.now c.children-parts.ensures (omega arith) (joined (take i xs) changed) f _
-    (c.built.ensures f ∙ (remade_ending c.args.t.now c.in_ok-changed-in-Rewritten.changed.items c.in_ok-made-in-Rewritten.made f c.in_ok-made-in-Rewritten.ensures ∙
-    ap (λ ts. ends (rebuilt c.args.t.now (ok ts f))) (ap trees_of c.in_ok-changed-in-Rewritten.ensures ∙ sym (one_changed xs i c.in-Rewritten.u c.loop-i-test.true))))
+    (c.build_outcome.ensures f ∙ (remade_ending c.args.t.now c.in_ok-changed-in-Rewritten.changed.items
+    c.in_ok-made-in-Rewritten.made f c.in_ok-made-in-Rewritten.ensures ∙
+    ap (λ ts. ends (rebuilt c.args.t.now (ok ts f))) (ap trees_of c.in_ok-changed-in-Rewritten.ensures ∙
+    sym (one_changed xs i c.in-Rewritten.u c.loop-i-test.true))))
     (decides_found left so_far changed (one_finds ran.settled))
 
 pub evaluate_one-returns-in_default : goal.evaluate_one-returns-in_default
@@ -189,10 +209,13 @@ evaluate_one-loop-i-preserved g t c =
     let xs = c.children-parts.result.now in
     let i = c.loop-i.i in
     let left = left_at xs i c.index-parts-i.result c.loop-i-test.true c.index-parts-i.is in
-    let K = OfOne (g.P.Primitives.meaning c.args.primitives.now) (environment_of c.args.frame.now) (strategy_of c.args.s.now) in
-    let saved : c.in_ok-saved.saved.items ≡ c.loop-i.state.places.items = c.in_ok-saved.ensures ∙ c.as_slice.ensures.value in
+    let K = OfOne (g.P.Primitives.meaning c.args.primitives.now) (environment_of c.args.frame.now)
+    (strategy_of c.args.s.now) in
+    let saved : c.in_ok-saved.saved.items ≡ c.loop-i.state.places.items =
+    c.in_ok-saved.ensures ∙ c.as_slice.ensures.value in
     let next = taken_at xs i c.index-parts-i.result c.loop-i-test.true c.index-parts-i.is in
-    subst (λ z. Decides K xs c.args.state.now.places.items c.args.state.now.budget false (drop (i + 1) xs) z c.evaluate.new.state.budget (take (i + 1) xs)) (sym saved)
+    subst (λ z. Decides K xs c.args.state.now.places.items c.args.state.now.budget false (drop (i + 1) xs)
+    z c.evaluate.new.state.budget (take (i + 1) xs)) (sym saved)
     (let ran = failed_to _ c.in-Failed.is c.in_ok-other.ensures in
     decides_on left (c.loop-i.invariant) c.index-parts-i.result next ran.left (λ v d y. one_goes_on ran.settled y))
 
@@ -203,7 +226,8 @@ evaluate_one-returns g t c =
     let e = c.loop-i.state.places.items in
     let so_far = c.loop-i.invariant in
     one_stopped c.args.t.now c.children-parts.ensures so_far.less e Failed tt
-    (decides_none (drop_all c.loop-i.i c.children-parts.result.now c.loop-i-test.false) so_far (one_at_end V s e c.loop-i.state.budget))
+    (decides_none (drop_all c.loop-i.i c.children-parts.result.now c.loop-i-test.false)
+    so_far (one_at_end V s e c.loop-i.state.budget))
 
 pub evaluate_some-returns-in_default : goal.evaluate_some-returns-in_default
 evaluate_some-returns-in_default g t c =
@@ -216,7 +240,8 @@ evaluate_some-returns-in_default g t c =
     let less = ran.left in
     let before = so_far.decides.less in
     some_stopped c.args.t.now c.children-parts.ensures (omega arith) _ c.in_ok-other.other ended
-    (decides_stop left (so_far.decides) c.in_ok-other.other (some_ended _ c.loop-part.found c.in_ok-other.other ended c.in_default.not-Failed ran))
+    (decides_stop left (so_far.decides)
+    c.in_ok-other.other (some_ended _ c.loop-part.found c.in_ok-other.other ended c.in_default.not-Failed ran))
 
 pub evaluate_some-loop-part-preserved : goal.evaluate_some-loop-part-preserved
 evaluate_some-loop-part-preserved g t c =
@@ -224,22 +249,27 @@ evaluate_some-loop-part-preserved g t c =
     let i = c.loop-part.part-index in
     let left = left_at xs i c.part-item.result c.loop-part-test.true c.part-item.is in
     let so_far = c.loop-part.invariant in
-    let saved : c.in_ok-kept.kept.items ≡ c.loop-part.state.places.items = c.in_ok-kept.ensures ∙ c.as_slice.ensures.value in
+    let saved : c.in_ok-kept.kept.items ≡ c.loop-part.state.places.items =
+    c.in_ok-kept.ensures ∙ c.as_slice.ensures.value in
     elim c.match-branch-3.branch [
       | evaluate_some-in-Rewritten+in_ok-push-in-Rewritten w ↦
           let pushed = w.in_ok-push-in-Rewritten.ensures.items in
-          walk_moved w.found-is (ap (λ z. z.places.items) w.state-is) (ap (λ z. z.budget) w.state-is) (ap (λ v. v.items) w.results-is)
+          walk_moved w.found-is (ap (λ z. z.places.items) w.state-is) (ap (λ z. z.budget) w.state-is)
+          (ap (λ v. v.items) w.results-is)
           (record {
             decides = let ran = rewritten_to _ w.in-Rewritten.is c.in_ok-other.ensures in
                 decides_on left (so_far.decides) w.in-Rewritten.u pushed ran.left (λ v d y. some_goes_on ran.settled y);
             count = one_more _ _ _ _ pushed so_far.count;
           })
       | evaluate_some-in-Failed+in_ok-clone-in-Failed+in_ok-push-in-Failed w ↦
-          let pushed = w.in_ok-push-in-Failed.ensures.items ∙ ap (λ u. c.loop-part.results.items ++ u ∷ []) w.in_ok-clone-in-Failed.ensures.cases in
-          walk_moved w.found-is (ap (λ z. z.places.items) w.state-is ∙ saved) (ap (λ z. z.budget) w.state-is) (ap (λ v. v.items) w.results-is)
+          let pushed = w.in_ok-push-in-Failed.ensures.items ∙
+          ap (λ u. c.loop-part.results.items ++ u ∷ []) w.in_ok-clone-in-Failed.ensures.cases in
+          walk_moved w.found-is (ap (λ z. z.places.items) w.state-is ∙
+          saved) (ap (λ z. z.budget) w.state-is) (ap (λ v. v.items) w.results-is)
           (record {
             decides = let ran = failed_to _ w.in-Failed.is c.in_ok-other.ensures in
-                decides_on left (so_far.decides) c.part-item.result pushed ran.left (λ v d y. some_leaves ran.settled y);
+                decides_on left (so_far.decides)
+                c.part-item.result pushed ran.left (λ v d y. some_leaves ran.settled y);
             count = one_more _ _ _ _ pushed so_far.count;
           })
     ]
@@ -251,7 +281,9 @@ evaluate_some-returns-then-not-found g t c =
     let e = c.loop-part.state.places.items in
     let so_far = c.loop-part.invariant.decides in
     some_stopped c.args.t.now c.children-parts.ensures so_far.less e Failed tt
-    (decides_none (drop_all c.loop-part.part-index c.children-parts.result.now c.loop-part-test.false) so_far (none_found (g.P.Primitives.meaning c.args.primitives.now) V s e c.loop-part.state.budget c.loop-part.found c.if-not-found.true))
+    (decides_none (drop_all c.loop-part.part-index c.children-parts.result.now c.loop-part-test.false)
+    so_far (none_found (g.P.Primitives.meaning c.args.primitives.now)
+    V s e c.loop-part.state.budget c.loop-part.found c.if-not-found.true))
 
 pub evaluate_some-returns : goal.evaluate_some-returns
 evaluate_some-returns g t c =
@@ -261,8 +293,11 @@ evaluate_some-returns g t c =
     let us = c.loop-part.results.items in
     let none_left = drop_all c.loop-part.part-index c.children-parts.result.now c.loop-part-test.false in
     let so_far = c.loop-part.invariant.decides in
-    some_done c.args.t.now c.children-parts.ensures so_far.less (trees_of us) e _ (c.built.ensures e ∙ remade_ending c.args.t.now us c.in_ok-made.made e c.in_ok-made.ensures)
-    (decides_end none_left so_far (some_found (g.P.Primitives.meaning c.args.primitives.now) V s e c.loop-part.state.budget c.loop-part.found c.if-not-found.false))
+    some_done c.args.t.now c.children-parts.ensures so_far.less (trees_of us) e _ (c.build_outcome.ensures e ∙
+    remade_ending c.args.t.now us c.in_ok-made.made e c.in_ok-made.ensures)
+    (decides_end none_left so_far
+    (some_found (g.P.Primitives.meaning c.args.primitives.now)
+    V s e c.loop-part.state.budget c.loop-part.found c.if-not-found.false))
 
 pub evaluate_call-returns-in-None : goal.evaluate_call-returns-in-None
 evaluate_call-returns-in-None g t c =
@@ -271,8 +306,10 @@ evaluate_call-returns-in-None g t c =
 pub evaluate_call-returns-in_ok-ending-in-Some-Parameter : goal.evaluate_call-returns-in_ok-ending-in-Some-Parameter
 evaluate_call-returns-in_ok-ending-in-Some-Parameter g t c =
     let read = reads_closure c.in-Some-Parameter.closure in
-    parameter_done _ c.in_ok-ending-in-Some-Parameter.ending (c.in-Some-Parameter.ensures ∙ ap (λ z. Some (callee_of z)) c.in-Some-Parameter.field-0-is)
-    (moved_to (ap (λ z. z.environment) (sym read)) (ap (λ z. z.strategy) (sym read)) refl c.in_ok-ending-in-Some-Parameter.ensures)
+    parameter_done _ c.in_ok-ending-in-Some-Parameter.ending (c.in-Some-Parameter.ensures ∙
+    ap (λ z. Some (callee_of z)) c.in-Some-Parameter.field-0-is)
+    (moved_to (ap (λ z. z.environment) (sym read)) (ap (λ z. z.strategy) (sym read))
+    refl c.in_ok-ending-in-Some-Parameter.ensures)
 
 pub evaluate_definition-returns-in-None : goal.evaluate_definition-returns-in-None
 evaluate_definition-returns-in-None g t c =
@@ -301,10 +338,18 @@ evaluate_definition-returns g t c =
     let m = (out-CoreDef c.args.def.now).strats in
     let k = (out-CoreDef c.args.def.now).terms in
     let base : c.len-first.result ≡ length e = c.len-first.ensures ∙ c.args.state.now.places.ok.0 in
-    let cut : c.truncate.new.self.items ≡ take c.len-first.result c.evaluate.new.state.places.items = c.truncate.ensures.items in
-    let closures : closures_in (map closure_of c.as_slice-closures.result.now) ≡ closures_of by_coordinates (environment_of c.args.frame.now) (strategies_of c.args.strategies.now) =
+    let cut : c.truncate.new.self.items ≡ take c.len-first.result c.evaluate.new.state.places.items =
+    c.truncate.ensures.items in
+    let closures : closures_in (map closure_of c.as_slice-closures.result.now) ≡
+    closures_of by_coordinates (environment_of c.args.frame.now) (strategies_of c.args.strategies.now) =
     ap (λ cs. closures_in (map closure_of cs)) c.as_slice-closures.ensures.value ∙ sym c.in_ok-closures.ensures in
-    let inner = reads_layer _ _ _ _ _ ∙ (ap (λ n. layer n m k (closures_in (map closure_of c.as_slice-closures.result.now)) up) base ∙
-    (ap (λ cs. layer (length e) m k cs up) closures ∙ ap (λ d. layer (length e) d.strats d.terms (closures_of by_coordinates (environment_of c.args.frame.now) (strategies_of c.args.strategies.now)) up) (sym def))) in
-    let pushed = c.in_ok-push_terms-in-Some-Fits.ensures ∙ ap (λ us. e ++ filled_places (trees_of us)) c.as_slice-in-Some-Fits.ensures.value in
-    λ x is. rw (cut, base) (definition_done is _ c.in_ok-ending-in-Some-Fits.ending (same ∙ made.0) made.1 (moved_to inner (ap (λ d. d.body) (sym def)) pushed c.in_ok-ending-in-Some-Fits.ensures))
+    let inner = reads_layer _ _ _ _ _ ∙
+    (ap (λ n. layer n m k (closures_in (map closure_of c.as_slice-closures.result.now)) up) base ∙
+    (ap (λ cs. layer (length e) m k cs up) closures ∙
+    ap (λ d. layer (length e)
+    d.strats d.terms (closures_of by_coordinates (environment_of c.args.frame.now)
+    (strategies_of c.args.strategies.now)) up) (sym def))) in
+    let pushed = c.in_ok-push_terms-in-Some-Fits.ensures ∙
+    ap (λ us. e ++ filled_places (trees_of us)) c.as_slice-in-Some-Fits.ensures.value in
+    λ x is. rw (cut, base) (definition_done is _ c.in_ok-ending-in-Some-Fits.ending (same ∙
+    made.0) made.1 (moved_to inner (ap (λ d. d.body) (sym def)) pushed c.in_ok-ending-in-Some-Fits.ensures))

@@ -37,12 +37,18 @@ decreases-evaluate_definition g l = 3 * l.state.now.budget + 1
 
 abbrev pub invariant-evaluate_all-loop-part : goal.invariant-evaluate_all-loop-part
 invariant-evaluate_all-loop-part g l =
-    Walk (OfAll (g.P.Primitives.meaning l.primitives) (environment_of l.frame) (strategy_of l.s)) l.parts l.initial.state.places.items l.initial.state.budget false l.part-index l.state.places.items l.state.budget l.done.items
+    Walk (OfAll (g.P.Primitives.meaning l.primitives) (environment_of l.frame) (strategy_of l.s))
+    l.parts l.initial.state.places.items l.initial.state.budget false l.part-index l.state.places.items
+    l.state.budget l.done.items
 
 abbrev pub invariant-evaluate_one-loop-i : goal.invariant-evaluate_one-loop-i
 invariant-evaluate_one-loop-i g l =
-    Decides (OfOne (g.P.Primitives.meaning l.primitives) (environment_of l.frame) (strategy_of l.s)) l.parts l.initial.state.places.items l.initial.state.budget false (drop l.i l.parts) l.state.places.items l.state.budget (take l.i l.parts)
+    Decides (OfOne (g.P.Primitives.meaning l.primitives) (environment_of l.frame) (strategy_of l.s))
+    l.parts l.initial.state.places.items l.initial.state.budget false (drop l.i l.parts)
+    l.state.places.items l.state.budget (take l.i l.parts)
 
 abbrev pub invariant-evaluate_some-loop-part : goal.invariant-evaluate_some-loop-part
 invariant-evaluate_some-loop-part g l =
-    Walk (OfSome (g.P.Primitives.meaning l.primitives) (environment_of l.frame) (strategy_of l.s)) l.parts l.initial.state.places.items l.initial.state.budget l.found l.part-index l.state.places.items l.state.budget l.results.items
+    Walk (OfSome (g.P.Primitives.meaning l.primitives) (environment_of l.frame) (strategy_of l.s))
+    l.parts l.initial.state.places.items l.initial.state.budget l.found l.part-index l.state.places.items
+    l.state.budget l.results.items

@@ -9,4 +9,5 @@ use Rattle.core_eval.proofs.instance.+instance.Given as goal
 abbrev pub invariant-instances-loop-p : goal.invariant-instances-loop-p
 invariant-instances-loop-p l =
     let place = by_coordinates.place_of (environment_of l.frame) in
-    Making (instances place (patterns_of l.patterns) l.places) (instances place (patterns_of (drop l.p-index l.patterns)) l.places) l.terms.items l.fit
+    Making (instances place (patterns_of l.patterns) l.places)
+    (instances place (patterns_of (drop l.p-index l.patterns)) l.places) l.terms.items l.fit

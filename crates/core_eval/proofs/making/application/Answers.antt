@@ -11,7 +11,8 @@ pub returns-in-Some-Oversize : goal.returns-in-Some-Oversize
 returns-in-Some-Oversize c = λ ts fact.
     let symbol = c.args.symbol.now in
     let large = one_too_large fact c.in-Some-Oversize.is c.in-Some-Oversize.field-0-is in
-    part_too_large (heads.App symbol) (λ o. applied_to o symbol) refl (λ us. refl) c.args.other ts large.0 large.1 large.2
+    part_too_large (heads.App symbol) (λ o. applied_to o symbol) refl (λ us. refl)
+    c.args.other ts large.0 large.1 large.2
 
 pub returns-in_ok-made-in-Some-Fits : goal.returns-in_ok-made-in-Some-Fits
 returns-in_ok-made-in-Some-Fits c = λ ts fact.
@@ -19,4 +20,6 @@ returns-in_ok-made-in-Some-Fits c = λ ts fact.
     let parts = c.in-Some-Fits.parts.items in
     let made = all_made fact c.in-Some-Fits.is c.in-Some-Fits.field-0-is in
     whole_made (heads.App symbol) (λ o. applied_to o symbol) refl (λ us. refl) c.args.other ts parts _ made.0
-    (c.in_ok-made-in-Some-Fits.ensures ∙ ap (λ s. made_of (tree_like_other (term (heads.App s) parts []) c.args.other)) c.in_ok-clone-in-Some-Fits.ensures.cases)
+    (c.in_ok-made-in-Some-Fits.ensures ∙
+    ap (λ s. made_of (tree_like_other (term (heads.App s) parts []) c.args.other))
+    c.in_ok-clone-in-Some-Fits.ensures.cases)

@@ -6,4 +6,6 @@ use Rattle.core_eval.proofs.making.node.Goals as goal
 
 pub returns-in_ok-made-in-Some : goal.returns-in_ok-made-in-Some
 returns-in_ok-made-in-Some c =
-    c.in_ok-made-in-Some.ensures ∙ (ap made_of (node_like c.args.head c.args.parts.items c.in-Some.like.now) ∙ ap (λ l. made_of (tree_like_other (term c.args.head c.args.parts.items []) l)) (sym c.in-Some.is))
+    c.in_ok-made-in-Some.ensures ∙
+    (ap made_of (node_like c.args.head c.args.parts.items c.in-Some.like.now) ∙
+    ap (λ l. made_of (tree_like_other (term c.args.head c.args.parts.items []) l)) (sym c.in-Some.is))

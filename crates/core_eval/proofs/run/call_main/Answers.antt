@@ -16,12 +16,18 @@ returns-clause-outcome g c =
     let core = c.args.core.now in
     let program = program_of core in
     let x = here c.main.result in
-    run_covered (entries_of c.args.registry.now) core.prims g.M.PrimMeaning.answer program core.main c.in_ok-outcome.outcome c.defs.ensures.occurring c.requires.covers (
+    run_covered (entries_of c.args.registry.now)
+    core.prims g.M.PrimMeaning.answer program core.main c.in_ok-outcome.outcome c.defs.ensures.occurring
+    c.requires.covers (
       _,
       moved_to
-          (reads_definitions _ _ ∙ (ap (λ ds. definitions (definitions_of ds) _) c.defs.ensures.same ∙ ap (λ V. definitions program V) reads_outermost))
-          (reads_call _ _ _ ∙ (ap (λ y. call y (strategies_of c.new.result.items) (patterns_of c.new-2.result.items)) c.new-target.ensures ∙
+          (reads_definitions _ _ ∙
+          (ap (λ ds. definitions (definitions_of ds) _) c.defs.ensures.same ∙
+          ap (λ V. definitions program V) reads_outermost))
+          (reads_call _ _ _ ∙ (ap (λ y. call y (strategies_of c.new.result.items) (patterns_of c.new-2.result.items))
+          c.new-target.ensures ∙
           (ap (λ ss. call x (strategies_of ss) (patterns_of c.new-2.result.items)) c.new.ensures.items ∙
-          (ap (λ ps. call x no_strategies (patterns_of ps)) c.new-2.ensures.items ∙ ap (λ i. call (here i) no_strategies no_patterns) c.main.ensures))))
+          (ap (λ ps. call x no_strategies (patterns_of ps)) c.new-2.ensures.items ∙
+          ap (λ i. call (here i) no_strategies no_patterns) c.main.ensures))))
           c.requires.places c.in_ok-outcome.ensures,
     )

@@ -12,7 +12,8 @@ pub pattern_in_range-returns-in-None : goal.pattern_in_range-returns-in-None
 pattern_in_range-returns-in-None t c =
     let whole = list_range (layers_of c.args.layers.now) c.args.p.now c.in-List.elements c.in-List.rest c.in-List.is in
     let first = rw c.as_slice-in-List.ensures.value at c.patterns_in_range-in-List.ensures in
-    along _ (first_in _ whole first c.if-not-patterns_in_range.false) (no_rest_range (layers_of c.args.layers.now) c.in-List.rest c.in-None.is)
+    along _ (first_in _ whole first c.if-not-patterns_in_range.false)
+    (no_rest_range (layers_of c.args.layers.now) c.in-List.rest c.in-None.is)
 
 pub pattern_in_range-returns-in-Some : goal.pattern_in_range-returns-in-Some
 pattern_in_range-returns-in-Some t c =
@@ -20,4 +21,5 @@ pattern_in_range-returns-in-Some t c =
     let whole = list_range L c.args.p.now c.in-List.elements c.in-List.rest c.in-List.is in
     let first = rw c.as_slice-in-List.ensures.value at c.patterns_in_range-in-List.ensures in
     let last = rw c.deref-in-Some.ensures at c.pattern_in_range-in-Some.ensures in
-    along _ (first_in _ whole first c.if-not-patterns_in_range.false) (a_rest_range L c.in-List.rest c.in-Some.rest _ c.in-Some.is last)
+    along _ (first_in _ whole first c.if-not-patterns_in_range.false)
+    (a_rest_range L c.in-List.rest c.in-Some.rest _ c.in-Some.is last)

@@ -8,4 +8,5 @@ pub returns-in-Called : goal.returns-in-Called
 returns-in-Called t c = calls_called _ _ _ _ _ _ c.in-Called.is c.argument_at-in-Called.ensures
 
 pub returns-in-Frameless : goal.returns-in-Frameless
-returns-in-Frameless t c = if_ok c.callee_in.result (λ v h. calls_frameless _ _ _ c.args.is_frameless v c.in-Frameless.is h) c.callee_in.ensures
+returns-in-Frameless t c = if_ok c.callee_in.result
+    (λ v h. calls_frameless _ _ _ c.args.is_frameless v c.in-Frameless.is h) c.callee_in.ensures

@@ -7,7 +7,8 @@ use Rattle.strat_compile.proofs.callee.argument_at.Goals as goal
 pub returns-in-Some : goal.returns-in-Some
 returns-in-Some c C =
     let here = c.in-Some.ensures.lookup in
-    subst (λ k. IsArgument (arguments_of c.args.arguments.now) c.args.slot (known_of k).strategy (known_of k).site) (sym here.1)
+    subst (λ k. IsArgument (arguments_of c.args.arguments.now) c.args.slot (known_of k).strategy (known_of k).site)
+    (sym here.1)
     (argument_given c.args.arguments.now c.args.slot c.in-Some.known.now here.3.0)
 
 pub returns-in-None : goal.returns-in-None

@@ -7,4 +7,5 @@ use Rattle.strat_compile.proofs.closed.+patterns.Given as goal
 
 abbrev pub invariant-are_patterns_closed-loop-p : goal.invariant-are_patterns_closed-loop-p
 invariant-are_patterns_closed-loop-p l =
-    PatternsInRange (program_layers (context_of l.layers)) (patterns_of (drop l.p-index l.patterns)) → PatternsInRange (program_layers (context_of l.layers)) (patterns_of l.patterns)
+    PatternsInRange (program_layers (context_of l.layers)) (patterns_of (drop l.p-index l.patterns)) →
+    PatternsInRange (program_layers (context_of l.layers)) (patterns_of l.patterns)

@@ -9,5 +9,6 @@ returns-in-Inlined-clause-known c = handed_over _ _ _ _ _ c.in-Inlined.is c.in_o
 
 pub returns-else-not-is_closed-clause-known : goal.returns-else-not-is_closed-clause-known
 returns-else-not-is_closed-clause-known c =
-    own_known _ _ _ (subst (λ how. HandsOver (site_of c.args.layers.now) (strategy_of c.args.strategy.now) how) c.in-OwnCode.is c.in_ok-known.ensures)
+    own_known _ _ _ (subst (λ how. HandsOver (site_of c.args.layers.now) (strategy_of c.args.strategy.now) how)
+    c.in-OwnCode.is c.in_ok-known.ensures)
     (c.is_closed.ensures.closed c.if-not-is_closed.false)

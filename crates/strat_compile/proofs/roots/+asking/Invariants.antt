@@ -25,6 +25,7 @@ decreases-defined_asked l = 3 * l.limit.now + 1
 
 abbrev pub invariant-arms_asked-loop-index : goal.invariant-arms_asked-loop-index
 invariant-arms_asked-loop-index l = record {
-  asks : AsksOnto (context_of l.layers) (first_of (map arm_of (drop l.index l.arms)) (strategy_of l.otherwise)) (roots_of l.fn.roots.items) (roots_of l.roots.items) l.nodes;
+  asks : AsksOnto (context_of l.layers) (first_of (map arm_of (drop l.index l.arms)) (strategy_of l.otherwise))
+      (roots_of l.fn.roots.items) (roots_of l.roots.items) l.nodes;
   limit : l.limit ≤ l.fn.limit;
 }

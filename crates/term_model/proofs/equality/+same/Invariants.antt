@@ -11,4 +11,5 @@ decreases-all_same l = 2 * weights (trees_of l.left.now) + 1
 
 abbrev pub invariant-all_same-loop-one : goal.invariant-all_same-loop-one
 invariant-all_same-loop-one l =
-    same_all (trees_of (drop (length l.yielded) l.left)) (trees_of (drop (length l.yielded) l.right)) ≡ same_all (trees_of l.left) (trees_of l.right)
+    same_all (trees_of (drop (length l.yielded) l.left)) (trees_of (drop (length l.yielded) l.right)) ≡
+    same_all (trees_of l.left) (trees_of l.right)

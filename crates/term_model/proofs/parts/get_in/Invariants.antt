@@ -8,4 +8,5 @@ decreases-loop-next g l = l.rest
 
 -- what is looked for is in the list of the rest
 abbrev pub invariant-loop-next : goal.invariant-loop-next
-invariant-loop-next g l = slice_get (get_or (lists_of l.blocks) l.rest []) l.left ≡ slice_get (list_in (lists_of l.blocks) l.block) l.index
+invariant-loop-next g l = slice_get (get_or (lists_of l.blocks) l.rest []) l.left ≡
+    slice_get (list_in (lists_of l.blocks) l.block) l.index

@@ -10,4 +10,5 @@ returns-then-last-extent c equal =
     let last : Epoch = get_or es (length es - 1) no_epoch in
     let symbols : last.symbols ≡ c.args.extent.symbols = search rules in
     let has : HasCounts last c.args.extent = record { chains = c.if-last-extent.true; symbols = symbols } in
-    counts_of_last es c.args.number no_epoch c.args.extent (omega (arith, c.in-len1-up.len_at_least)) c.if-last-number.false has
+    counts_of_last es c.args.number no_epoch c.args.extent (omega (arith, c.in-len1-up.len_at_least))
+    c.if-last-number.false has

@@ -11,4 +11,5 @@ returns-clause-same c =
 pub returns-clause-counts : goal.returns-clause-counts
 returns-clause-counts c =
     let f : Epoch = record { first = c.args.number; chains = c.args.extent.chains; symbols = c.args.extent.symbols } in
-    counts_pushed c.args.epochs.now.items c.push_reserved.new.self.items f c.args.extent c.push_reserved.ensures.items (record { chains = refl; symbols = refl })
+    counts_pushed c.args.epochs.now.items c.push_reserved.new.self.items f c.args.extent c.push_reserved.ensures.items
+    (record { chains = refl; symbols = refl })

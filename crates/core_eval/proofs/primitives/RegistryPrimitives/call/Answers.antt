@@ -9,10 +9,12 @@ pub returns-in-Ok : goal.returns-in-Ok
 returns-in-Ok g c =
     let keys = entries_of c.args.self.now in
     let there : Contains keys (c.args.name.now, length c.args.args.now) = search rules in
-    registered_call keys g.M.PrimMeaning.answer c.args.name.now (values_of c.args.args.now) (entry_at c.args.self.now c.in-Some.index) (length c.args.args.now) _
+    registered_call keys g.M.PrimMeaning.answer c.args.name.now (values_of c.args.args.now)
+    (entry_at c.args.self.now c.in-Some.index) (length c.args.args.now) _
     c.in-Some.ensures.entry (sym (length-map c.args.args.now value_of)) there c.in-Ok.ensures.answer
 
 pub returns-in-None : goal.returns-in-None
 returns-in-None g c =
-    registered_none (entries_of c.args.self.now) g.M.PrimMeaning.answer c.args.name.now (values_of c.args.args.now) (length c.args.args.now)
+    registered_none (entries_of c.args.self.now) g.M.PrimMeaning.answer c.args.name.now (values_of c.args.args.now)
+    (length c.args.args.now)
     (sym (length-map c.args.args.now value_of)) (λ h. let some = c.in-None.ensures.present.1 h in absurd (cc))

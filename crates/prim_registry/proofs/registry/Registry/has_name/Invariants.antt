@@ -3,4 +3,5 @@ use Rattle.prim_registry.specs.Entries.{name_of}
 use Rattle.prim_registry.proofs.registry.Registry.has_name.Given as goal
 
 abbrev pub invariant-loop-primitive : goal.invariant-loop-primitive
-invariant-loop-primitive g l = (k : ℕ) → k < l.primitive-index → get_or (map name_of l.primitive-items) k l.name ≡ l.name → ⊥
+invariant-loop-primitive g l = (k : ℕ) → k < l.primitive-index →
+    get_or (map name_of l.primitive-items) k l.name ≡ l.name → ⊥

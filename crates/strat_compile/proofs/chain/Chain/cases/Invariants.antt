@@ -6,8 +6,10 @@ use Rattle.strat_compile.proofs.chain.Chain.cases.Given as goal
 
 abbrev pub invariant-loop-body : goal.invariant-loop-body
 invariant-loop-body l = record {
-  cases : cases_between (bodies_of l.initial.self) l.base l.initial.self.last ≡ map case_of l.cases.items ++ cases_between (bodies_of l.self) l.base l.self.last;
-  skipped : skipped_from 0 (bodies_of l.initial.self) ≡ l.skipped.items ++ skipped_from (length l.cases.items) (bodies_of l.self);
+  cases : cases_between (bodies_of l.initial.self) l.base l.initial.self.last ≡ map case_of l.cases.items ++
+      cases_between (bodies_of l.self) l.base l.self.last;
+  skipped : skipped_from 0 (bodies_of l.initial.self) ≡ l.skipped.items ++
+      skipped_from (length l.cases.items) (bodies_of l.self);
   last : l.self.last ≡ l.initial.self.last;
 }
 

@@ -6,6 +6,7 @@ use Rattle.strat_compile.proofs.output.Output.emit_selects.Given as goal
 
 abbrev pub invariant-loop-index : goal.invariant-loop-index
 invariant-loop-index l = record {
-  view : emitted_of l.self ≡ selects_from (drop (l.index + 1) l.skipped) (map case_of l.fn.cases.items) l.last (emitted_of l.fn.self);
+  view : emitted_of l.self ≡ selects_from (drop (l.index + 1) l.skipped) (map case_of l.fn.cases.items)
+      l.last (emitted_of l.fn.self);
   tables : l.self.tables ≡ l.initial.self.tables;
 }

@@ -12,7 +12,9 @@ pub returns-then-chain-eq0 : goal.returns-then-chain-eq0
 returns-then-chain-eq0 c =
     let none : Block ℕ = record { front = fronts.Zero; rest = 0 } in
     let seen : lists_of c.self.inside.blocks.keys ≡ c.args.self.now = c.self.view_is in
-    subst (λ v. IsBlockOf v c.args.chain none) seen (subst (λ n. IsBlockOf (lists_of c.self.inside.blocks.keys) n none) (sym c.if-chain-eq0.true) (no_block c.self.inside.blocks.keys))
+    subst (λ v. IsBlockOf v c.args.chain none)
+    seen (subst (λ n. IsBlockOf (lists_of c.self.inside.blocks.keys) n none) (sym c.if-chain-eq0.true)
+    (no_block c.self.inside.blocks.keys))
 
 pub returns : goal.returns
 returns c =
@@ -21,5 +23,8 @@ returns c =
     let seen : lists_of keys ≡ c.args.self.now = c.self.view_is in
     let long = length-lists_of keys in
     let size = ap length seen in
-    let is : get_or keys (c.args.chain - 1) b ≡ b = get_or_from_slice_get keys (c.args.chain - 1) b b (grind (arith, common_steps)) in
-    subst (λ v. IsBlockOf v c.args.chain b) seen (block_at keys c.args.chain b c.self.invariant (omega (arith, c.if-chain-eq0.false)) (omega (arith, long, size, c.requires)) is)
+    let is : get_or keys (c.args.chain - 1) b ≡ b =
+    get_or_from_slice_get keys (c.args.chain - 1) b b (grind (arith, common_steps)) in
+    subst (λ v. IsBlockOf v c.args.chain b)
+    seen (block_at keys c.args.chain b c.self.invariant (omega (arith, c.if-chain-eq0.false))
+    (omega (arith, long, size, c.requires)) is)

@@ -13,7 +13,9 @@ invariant_of-self-2 c =
     let seen : lists_of keys ≡ c.args.self.now = c.self.view_is in
     let long = length-lists_of keys in
     let size = ap length seen in
-    rw c.in_ok-at.ensures.keys (AreBlocks-insert _ keys c.args.block c.self.invariant (omega (arith, long, size, c.requires.rest)) c.requires.some (subst (λ v. IsWhole (get_or v c.args.block.rest [])) (sym seen) c.requires.whole))
+    rw c.in_ok-at.ensures.keys (AreBlocks-insert _ keys c.args.block c.self.invariant
+    (omega (arith, long, size, c.requires.rest))
+    c.requires.some (subst (λ v. IsWhole (get_or v c.args.block.rest [])) (sym seen) c.requires.whole))
 
 pub returns-clause-made : goal.returns-clause-made
 returns-clause-made c =
@@ -29,6 +31,10 @@ returns-clause-made c =
     let same : b ≡ stored.0 = search rules in
     let is : get_or new c.in_ok-at.at b ≡ b = get_or_from_slice_get new c.in_ok-at.at stored.0 b stored.1 ∙ sym same in
     let within : c.in_ok-at.at < length new = grind (arith, common_steps) in
-    let are = AreBlocks-insert _ keys b c.self.invariant below c.requires.some (subst (λ v. IsWhole (get_or v b.rest [])) (sym seen) c.requires.whole) in
-    let made : get_or (lists_of new) (c.in_ok-at.at + 1) [] ≡ list_in (lists_of keys) b = rw c.in_ok-at.ensures.keys (inserted _ keys b c.in_ok-at.at are below (rw c.in_ok-at.ensures.keys at within) (rw c.in_ok-at.ensures.keys at is)) in
+    let are = AreBlocks-insert _ keys b c.self.invariant below c.requires.some
+    (subst (λ v. IsWhole (get_or v b.rest [])) (sym seen) c.requires.whole) in
+    let made : get_or (lists_of new) (c.in_ok-at.at + 1) [] ≡ list_in (lists_of keys) b =
+    rw c.in_ok-at.ensures.keys
+    (inserted _ keys b c.in_ok-at.at are below (rw c.in_ok-at.ensures.keys at within)
+    (rw c.in_ok-at.ensures.keys at is)) in
     subst (λ v. get_or (lists_of new) (c.in_ok-at.at + 1) [] ≡ list_in v b) seen made

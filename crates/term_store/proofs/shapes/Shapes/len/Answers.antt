@@ -9,9 +9,11 @@ pub returns-clause-len : goal.returns-clause-len
 returns-clause-len c =
     let l = length-keys c.self.inside.negative c.self.inside.small c.self.inside.held.keys in
     let n = c.len.ensures.len in
-    subst (λ (p : PlacedShapes). c.self.inside.small + c.len.result ≡ length p.keys) c.self.view_is (omega (arith, l, n))
+    subst (λ (p : PlacedShapes). c.self.inside.small + c.len.result ≡ length p.keys)
+    c.self.view_is (omega (arith, l, n))
 
 pub returns-clause-distinct : goal.returns-clause-distinct
 returns-clause-distinct c =
     subst (λ (p : PlacedShapes). AreDistinct p.keys) c.self.view_is
-    (distinct_keys c.self.inside.negative c.self.inside.small c.self.inside.held.keys c.self.invariant (distinct_places _ (λ x. search rules) c.self.inside.held.keys c.len.ensures.unique))
+    (distinct_keys c.self.inside.negative c.self.inside.small c.self.inside.held.keys c.self.invariant
+    (distinct_places _ (λ x. search rules) c.self.inside.held.keys c.len.ensures.unique))

@@ -7,4 +7,5 @@ use Rattle.term_store.proofs.space.StoreSpaceTermSpace.annos.Goals as goal
 pub returns-in-None-clause-annos : goal.returns-in-None-clause-annos
 returns-in-None-clause-annos c =
     let s = c.args.self.now in
-    ap (map (term_of s)) c.of_slice.ensures ∙ sym (ap annos_of (integer_standing s c.args.at.now c.requires c.in-None.ensures))
+    ap (map (term_of s)) c.of_slice.ensures ∙
+    sym (ap annos_of (integer_standing s c.args.at.now c.requires c.in-None.ensures))

@@ -10,4 +10,5 @@ overflow_add-small_integers c =
     omega (arith, few, below, small)
 
 pub returns-else-mark-held : goal.returns-else-mark-held
-returns-else-mark-held c = goes_nowhere c.args.self.now c.args.mark c.held.result c.held.ensures.held c.held.ensures.small c.if-mark-held.false c.requires
+returns-else-mark-held c = goes_nowhere c.args.self.now c.args.mark c.held.result c.held.ensures.held
+    c.held.ensures.small c.if-mark-held.false c.requires

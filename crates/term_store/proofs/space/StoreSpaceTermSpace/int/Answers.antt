@@ -10,5 +10,6 @@ pub returns-in-Some-clause-term : goal.returns-in-Some-clause-term
 returns-in-Some-clause-term c =
     let s = c.args.self.now in
     let z : to_z w64 (of_z w64 c.args.value) ≡ c.args.value = search rules in
-    let placed : IsPlaced s.shapes c.in-Some.place (forms.Int 0 c.args.value) = subst (λ v. IsPlaced s.shapes c.in-Some.place (forms.Int 0 v)) z c.in-Some.ensures.placed in
+    let placed : IsPlaced s.shapes c.in-Some.place (forms.Int 0 c.args.value) =
+    subst (λ v. IsPlaced s.shapes c.in-Some.place (forms.Int 0 v)) z c.in-Some.ensures.placed in
     integer_term s c.in-Some.place c.args.value c.in-Some.ensures.within placed

@@ -13,4 +13,5 @@ returns-in-Some c =
     let s = c.args.self.now in
     let at = c.args.at.now in
     let z : to_z w64 (of_z w64 c.in-Some.value) ≡ c.in-Some.value = search rules in
-    ap head_of (integer_term s at c.in-Some.value (ltb-true at (count s) c.requires) c.in-Some.ensures) ∙ ap heads.Int (sym z)
+    ap head_of (integer_term s at c.in-Some.value (ltb-true at (count s) c.requires) c.in-Some.ensures) ∙
+    ap heads.Int (sym z)

@@ -11,5 +11,6 @@ returns-in-None c =
     let is = c.in-None.ensures in
     let integer = integer_standing s c.args.at.now c.requires.stands is in (
       λ yes. absurd (let clash : false ≡ true = yes in cc),
-      λ applied. let clash : heads.Int is.0 ≡ heads.App (symbol_at s c.args.name.now) = sym (ap head_of integer) ∙ applied.head in cc,
+      λ applied. let clash : heads.Int is.0 ≡ heads.App (symbol_at s c.args.name.now) =
+          sym (ap head_of integer) ∙ applied.head in cc,
     )

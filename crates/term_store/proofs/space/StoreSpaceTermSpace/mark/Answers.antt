@@ -13,7 +13,9 @@ returns c =
     let small = s.small in
     let all : c.held.result + small_count ≡ count s = omega (arith, held, some, small) in
     record {
-      valid = subst (λ n. IsTrue (nat_le n (held_count s))) (sym held) (le-leb (held_count s) (held_count s) (omega arith));
-      exactly = λ r. subst (λ n. IsTrue (nat_lt r (c.held.result + small_count)) ↔ IsTrue (nat_lt r n)) all (λ h. h, λ h. h);
+      valid = subst (λ n. IsTrue (nat_le n (held_count s))) (sym held)
+          (le-leb (held_count s) (held_count s) (omega arith));
+      exactly = λ r. subst (λ n. IsTrue (nat_lt r (c.held.result + small_count)) ↔ IsTrue (nat_lt r n))
+          all (λ h. h, λ h. h);
       marks = λ m h. subst (λ n. IsTrue (nat_le m n)) (sym held) h;
     }

@@ -17,8 +17,13 @@ returns-clause-made c =
     let keeps = c.in_ok-parts.ensures.keeps in
     let mid = c.block_of.new.self in
     let block : IsBlockIn mid.chains c.in-Some.parts c.args.parts.now = rw c.in-Some.is at c.in_ok-parts.ensures.made in
-    let head : head_in mid.symbols.keys c.head.result ≡ head_of (term_of s at) = ap (head_in mid.symbols.keys) c.head.ensures ∙ head_kept s mid at x keeps is in
-    let chain : chain_at mid c.annos.result ≡ chain_at s (shape_annos x) = ap (chain_at mid) c.annos.ensures ∙ keeps.chains (shape_annos x) is.may.annos in
+    let head : head_in mid.symbols.keys c.head.result ≡ head_of (term_of s at) =
+    ap (head_in mid.symbols.keys) c.head.ensures ∙ head_kept s mid at x keeps is in
+    let chain : chain_at mid c.annos.result ≡ chain_at s (shape_annos x) =
+    ap (chain_at mid) c.annos.ensures ∙ keeps.chains (shape_annos x) is.may.annos in
     let bare : MayHave c.head.result c.args.parts.now = search rules in
-    let same = ap (shape_term mid) c.new.ensures ∙ term_made s mid c.head.result c.in-Some.parts c.annos.result (head_of (term_of s at)) c.args.parts.now (chain_at s (shape_annos x)) keeps head bare block.list chain in
-    makes c.intern.new.self _ _ c.intern.result c.intern.ensures.made (same ∙ ap (λ ts. term (head_of (term_of s at)) (map (term_of s) c.args.parts.now) ts) (sym (annos_at s at x is)))
+    let same = ap (shape_term mid) c.new.ensures ∙
+    term_made s mid c.head.result c.in-Some.parts c.annos.result (head_of (term_of s at))
+    c.args.parts.now (chain_at s (shape_annos x)) keeps head bare block.list chain in
+    makes c.intern.new.self _ _ c.intern.result c.intern.ensures.made (same ∙
+    ap (λ ts. term (head_of (term_of s at)) (map (term_of s) c.args.parts.now) ts) (sym (annos_at s at x is)))

@@ -18,9 +18,16 @@ returns-clause-made c =
     let keeps = c.in_ok-annos.ensures.keeps in
     let mid = c.chain_of.new.self in
     let chain : IsChainIn mid.chains c.in-Some.annos c.args.annos.now = rw c.in-Some.is at c.in_ok-annos.ensures.made in
-    let head : head_in mid.symbols.keys c.head.result ≡ head_of (term_of s at) = ap (head_in mid.symbols.keys) c.head.ensures ∙ head_kept s mid at x keeps is in
-    let kept : list_in mid.chains (shape_parts x) ≡ list_in s.chains (shape_parts x) = ap (λ l. front_list (shape_parts x).front ++ l) (keeps.chains (shape_parts x).rest is.may.block.rest) in
-    let parts : list_in mid.chains c.parts.result ≡ list_in s.chains (shape_parts x) = ap (list_in mid.chains) c.parts.ensures ∙ kept in
-    let bare : MayHave c.head.result (list_in s.chains (shape_parts x)) = subst (λ h. MayHave h (list_in s.chains (shape_parts x))) (sym c.head.ensures) is.may.bare in
-    let same = ap (shape_term mid) c.new.ensures ∙ term_made s mid c.head.result c.parts.result c.in-Some.annos (head_of (term_of s at)) (list_in s.chains (shape_parts x)) c.args.annos.now keeps head bare parts chain.list in
-    makes c.intern.new.self _ _ c.intern.result c.intern.ensures.made (same ∙ ap (λ ts. term (head_of (term_of s at)) ts (map (term_of s) c.args.annos.now)) (sym (parts_at s at x is)))
+    let head : head_in mid.symbols.keys c.head.result ≡ head_of (term_of s at) =
+    ap (head_in mid.symbols.keys) c.head.ensures ∙ head_kept s mid at x keeps is in
+    let kept : list_in mid.chains (shape_parts x) ≡ list_in s.chains (shape_parts x) =
+    ap (λ l. front_list (shape_parts x).front ++ l) (keeps.chains (shape_parts x).rest is.may.block.rest) in
+    let parts : list_in mid.chains c.parts.result ≡ list_in s.chains (shape_parts x) =
+    ap (list_in mid.chains) c.parts.ensures ∙ kept in
+    let bare : MayHave c.head.result (list_in s.chains (shape_parts x)) =
+    subst (λ h. MayHave h (list_in s.chains (shape_parts x))) (sym c.head.ensures) is.may.bare in
+    let same = ap (shape_term mid) c.new.ensures ∙
+    term_made s mid c.head.result c.parts.result c.in-Some.annos (head_of (term_of s at))
+    (list_in s.chains (shape_parts x)) c.args.annos.now keeps head bare parts chain.list in
+    makes c.intern.new.self _ _ c.intern.result c.intern.ensures.made (same ∙
+    ap (λ ts. term (head_of (term_of s at)) ts (map (term_of s) c.args.annos.now)) (sym (parts_at s at x is)))

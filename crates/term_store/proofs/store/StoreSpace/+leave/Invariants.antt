@@ -14,7 +14,8 @@ decreases-leave_all l = 3 * l.at
 
 abbrev pub invariant-leave_all-loop-index : goal.invariant-leave_all-loop-index
 invariant-leave_all-loop-index l = record {
-  made : l.made.items ++ map (term_of l.self) (drop l.index l.fn.stack.items) ≡ map (term_of l.self) (drop l.fn.bottom l.fn.stack.items);
+  made : l.made.items ++ map (term_of l.self) (drop l.index l.fn.stack.items) ≡
+      map (term_of l.self) (drop l.fn.bottom l.fn.stack.items);
   long : vec_len l.terms ≡ vec_len l.fn.terms;
   left : AreLeft l.self l.terms.items;
   stack : l.stack.items ≡ l.fn.stack.items;

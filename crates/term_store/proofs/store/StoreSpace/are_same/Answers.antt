@@ -10,5 +10,7 @@ returns c =
     let xs : List ℕ = list_in s.chains c.args.block in
     let are = c.distinct.ensures in (
       λ same. ap (map (term_of s)) (c.is_of.ensures.0 same),
-      λ equal. c.is_of.ensures.1 (same_places s are.symbols are.chains are.shapes xs c.args.places.now c.requires.block.stand c.requires.stand equal),
+      λ equal. c.is_of.ensures.1
+          (same_places s are.symbols are.chains are.shapes xs c.args.places.now c.requires.block.stand c.requires.stand
+          equal),
     )

@@ -10,4 +10,6 @@ bounds-blocks-chain c =
     omega (arith, long, size, c.requires, c.if-chain-eq0.false)
 
 pub returns : goal.returns
-returns c = c.of_block.ensures ∙ chain_is c.args.self.now.chains c.blocks-blocks.result.now c.args.chain _ c.blocks-blocks.ensures.linked c.blocks-blocks.ensures.lists c.if-chain-eq0.false c.requires
+returns c = c.of_block.ensures ∙
+    chain_is c.args.self.now.chains c.blocks-blocks.result.now c.args.chain _ c.blocks-blocks.ensures.linked
+    c.blocks-blocks.ensures.lists c.if-chain-eq0.false c.requires

@@ -22,9 +22,18 @@ invariant_of-self c =
     let is = c.max-symbols.ensures in
     let known = names.there in
     let there : kept ≤ length s.symbols.keys = omega (arith, is, known) in
-    let long : length c.truncate-5.new.self.keys ≡ kept = ap length c.truncate-5.ensures.keys ∙ length-take-le kept s.symbols.keys there in
+    let long : length c.truncate-5.new.self.keys ≡ kept =
+    ap length c.truncate-5.ensures.keys ∙ length-take-le kept s.symbols.keys there in
     record {
-      store = rw (c.truncate.ensures.keys, c.truncate-2.ensures.items, c.truncate-3.ensures, c.truncate-4.ensures.items, c.truncate-5.ensures.keys) (store_back s c.args.mark c.chains_at-last.result few kept (omega (arith, c.requires.within)) c.chains_at-last.ensures names (omega (arith, is)) there);
+      store = rw (
+        c.truncate.ensures.keys,
+        c.truncate-2.ensures.items,
+        c.truncate-3.ensures,
+        c.truncate-4.ensures.items,
+        c.truncate-5.ensures.keys,
+      )
+          (store_back s c.args.mark c.chains_at-last.result few kept (omega (arith, c.requires.within))
+          c.chains_at-last.ensures names (omega (arith, is)) there);
       small = c.truncate.ensures.small ∙ s.small;
       sized = c.truncate-2.ensures.small ∙ s.sized;
       within = omega (arith, is, long);
@@ -40,8 +49,11 @@ returns c =
     let known = names.there in
     let there : kept ≤ length s.symbols.keys = omega (arith, is, known) in
     record {
-      count = ap length c.truncate.ensures.keys ∙ length-take-le c.args.mark s.shapes.keys (omega (arith, c.requires.within));
-      terms = λ k h. rw (c.truncate.ensures.keys, c.truncate-3.ensures, c.truncate-5.ensures.keys) (held_back s c.args.mark c.chains_at-last.result few kept (omega (arith, c.requires.within)) c.chains_at-last.ensures names (omega (arith, is)) there k h);
+      count = ap length c.truncate.ensures.keys ∙
+          length-take-le c.args.mark s.shapes.keys (omega (arith, c.requires.within));
+      terms = λ k h. rw (c.truncate.ensures.keys, c.truncate-3.ensures, c.truncate-5.ensures.keys)
+          (held_back s c.args.mark c.chains_at-last.result few kept (omega (arith, c.requires.within))
+          c.chains_at-last.ensures names (omega (arith, is)) there k h);
       named = refl;
       symbols = λ n h. rw c.truncate-5.ensures.keys (get_or-take kept s.symbols.keys n Tuple (omega (arith, is, h)));
     }

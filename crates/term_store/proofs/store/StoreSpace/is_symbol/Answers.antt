@@ -11,5 +11,6 @@ returns c =
     let h : StoredHead = c.args.head in
     let k : StoredHead = stored.Symbol c.args.number in (
       λ same. let at : h ≡ k = search rules in ap (head_in symbols) at,
-      λ equal. let at : h ≡ k = head_same symbols h k c.distinct.ensures.symbols c.requires.head (search rules) equal in search rules,
+      λ equal. let at : h ≡ k = head_same symbols h k c.distinct.ensures.symbols c.requires.head (search rules) equal in
+          search rules,
     )

@@ -6,7 +6,13 @@ use Rattle.term_store.proofs.store.StoreSpace.new.Goals as goal
 
 pub invariant_of-result : goal.invariant_of-result
 invariant_of-result c = record {
-  store = rw (c.with_hasher.ensures.empty, c.new.ensures, c.new-2.ensures.keys, c.new-3.ensures.items, c.new-4.ensures.items) (small_store (c.small_integers-small.result / 2) c.small_integers-small.result);
+  store = rw (
+    c.with_hasher.ensures.empty,
+    c.new.ensures,
+    c.new-2.ensures.keys,
+    c.new-3.ensures.items,
+    c.new-4.ensures.items,
+  ) (small_store (c.small_integers-small.result / 2) c.small_integers-small.result);
   small = c.new-2.ensures.small ∙ c.small_integers-small.ensures;
   sized = c.new-3.ensures.small ∙ c.small_integers-small.ensures;
   within = omega arith;
@@ -14,6 +20,7 @@ invariant_of-result c = record {
 
 pub returns : goal.returns
 returns c =
-    let long = ap length c.new-2.ensures.keys ∙ length-integers (c.small_integers-small.result / 2) c.small_integers-small.result in
+    let long = ap length c.new-2.ensures.keys ∙
+    length-integers (c.small_integers-small.result / 2) c.small_integers-small.result in
     let small = c.new-2.ensures.small in
     omega (arith, long, small)
