@@ -1,11 +1,12 @@
--- Heads that are put into groups one after another: one of them may not stand in its group exactly where parameters differ or a key
--- has too many heads.
+-- Heads that are put into groups one after another: one of them may not stand in its group exactly where parameters
+-- differ or a key has too many heads.
 use Rattle.std.proofs.Common.{◌≡◌, ◌∙◌, ℕ, ◌+◌, ◌<◌, ◌≤◌, Bool, true, false, cond, not, ◌||◌, ◌&&◌, List, [], ◌∷◌, ◌++◌, Option, None, Some, is_some, take, drop, length, get_or, sym, refl, ap, arith}
 use Rattle.std.proofs.lemmas.Bool.Decides.{nat_tests, Decides-and}
-use Rattle.std.proofs.lemmas.List.{append_assoc, append-nil, map_more}
+use Rattle.std.proofs.lemmas.List.{append_assoc, append-nil, drop_all, drop_more, map_more}
 use Rattle.std.proofs.lemmas.List.Folds.{list_any-append}
 use Rattle.std.proofs.lemmas.List.Sums.{sum_by-append, sum_by-cons}
 use Rattle.std.proofs.lemmas.Slice.Eq.{slice_eq-Decides}
+use Rattle.std.proofs.Math.Bool.{or-false, or_assoc}
 use Rattle.std.specs.Bool.{Decides}
 use Rattle.std.specs.Borrow.{Bor}
 use Rattle.std.specs.List.{list_any}
@@ -21,7 +22,7 @@ use Rattle.scope_check.specs.Groups.{Group, with_head}
 use Rattle.scope_check.specs.SameKey.{same_key-Decides, same_key-refl, same_key-true}
 use Rattle.scope_check.specs.Seen.{Key, key_of, same_key, strategy_names, term_names}
 use Rattle.scope_check.specs.Tables.{heads_of}
-use Rattle.scope_check.proofs.NameLaws.{test-sym, or-assoc, or-false, swapped, drop_more, drop_past}
+use Rattle.scope_check.proofs.NameLaws.{test-sym, swapped}
 
 abbrev pub is_bad_group : List HeadTree → Bool
 is_bad_group hs = some_differ hs || too_many hs
@@ -54,16 +55,21 @@ terms (head f ps) = term_names ps
 same_names-Decides : (xs ys : List Bytes) → Decides (same_names xs ys) (xs ≡ ys)
 same_names-Decides xs ys = slice_eq-Decides same_name-Decides xs ys _ refl
 
-same_parameters-is : (h g : HeadTree) → same_parameters h g ≡ (same_names (strategies h) (strategies g) && same_names (terms h) (terms g))
+same_parameters-is : (h g : HeadTree) →
+    same_parameters h g ≡ (same_names (strategies h) (strategies g) && same_names (terms h) (terms g))
 same_parameters-is (head f ps) (head g qs) = refl
 
-same_parameters-Decides : (h g : HeadTree) → Decides (same_parameters h g) ((strategies h ≡ strategies g) × (terms h ≡ terms g))
-same_parameters-Decides (head f ps) (head g qs) = Decides-and _ _ (same_names-Decides (strategy_names ps) (strategy_names qs)) (same_names-Decides (term_names ps) (term_names qs))
+same_parameters-Decides : (h g : HeadTree) →
+    Decides (same_parameters h g) ((strategies h ≡ strategies g) × (terms h ≡ terms g))
+same_parameters-Decides (head f ps) (head g qs) =
+    Decides-and _ _ (same_names-Decides (strategy_names ps) (strategy_names qs))
+    (same_names-Decides (term_names ps) (term_names qs))
 
 same_parameters-sym : (h g : HeadTree) → same_parameters h g ≡ same_parameters g h
 same_parameters-sym h g =
     same_parameters-is h g ∙
-    (λ i. test-sym same_names same_names-Decides (strategies h) (strategies g) i && test-sym same_names same_names-Decides (terms h) (terms g) i) ∙
+    (λ i. test-sym same_names same_names-Decides (strategies h) (strategies g) i &&
+    test-sym same_names same_names-Decides (terms h) (terms g) i) ∙
     sym (same_parameters-is g h)
 
 differs-sym : (h g : HeadTree) → differs h g ≡ differs g h
@@ -75,12 +81,14 @@ differs-self h =
     rw (same_key-refl (key_of h), same) refl
 
 -- heads of one key and the same parameters differ from the same heads
-alike : (g h x : HeadTree) → same_key (key_of g) (key_of h) ≡ true → same_parameters g h ≡ true → differs h x ≡ differs g x
+alike : (g h x : HeadTree) → same_key (key_of g) (key_of h) ≡ true → same_parameters g h ≡ true →
+    differs h x ≡ differs g x
 alike g h x keys parameters =
     let key : key_of g ≡ key_of h = same_key-true (key_of g) (key_of h) keys in
     let names = (same_parameters-Decides g h).0 parameters in
     (λ i. same_key (key_of h) (key_of x) && not (same_parameters-is h x i)) ∙
-    (λ i. same_key (sym key i) (key_of x) && not (same_names (sym names.0 i) (strategies x) && same_names (sym names.1 i) (terms x))) ∙
+    (λ i. same_key (sym key i) (key_of x) &&
+    not (same_names (sym names.0 i) (strategies x) && same_names (sym names.1 i) (terms x))) ∙
     (λ i. same_key (key_of g) (key_of x) && not (sym (same_parameters-is g x) i))
 
 -- what the first head of a key is, and where there is none
@@ -88,14 +96,16 @@ first-same : (hs : List HeadTree) (k : Key) (g : HeadTree) → first_head hs k �
 first-same [] k g is = absurd (cc)
 first-same (h ∷ hs) k g is = by (same_key k (key_of h)) refl (first-same hs k g)
   where
-    by : (b : Bool) → same_key k (key_of h) ≡ b → (first_head hs k ≡ Some g → same_key k (key_of g) ≡ true) → same_key k (key_of g) ≡ true
+    by : (b : Bool) → same_key k (key_of h) ≡ b → (first_head hs k ≡ Some g → same_key k (key_of g) ≡ true) →
+        same_key k (key_of g) ≡ true
     by true e rest =
         let there : Some h ≡ Some g = sym (ap (λ b. cond b (Some h) (first_head hs k)) e) ∙ is in
         let equal : h ≡ g = cc in
         ap (λ x. same_key k (key_of x)) (sym equal) ∙ e
     by false e rest = rest (sym (ap (λ b. cond b (Some h) (first_head hs k)) e) ∙ is)
 
-first-among : (p : HeadTree → Bool) (hs : List HeadTree) (k : Key) (g : HeadTree) → first_head hs k ≡ Some g → p g ≡ true → list_any p hs ≡ true
+first-among : (p : HeadTree → Bool) (hs : List HeadTree) (k : Key) (g : HeadTree) → first_head hs k ≡ Some g →
+    p g ≡ true → list_any p hs ≡ true
 first-among p [] k g is holds = absurd (cc)
 first-among p (h ∷ hs) k g is holds = by (same_key k (key_of h)) refl (λ there. first-among p hs k g there holds)
   where
@@ -103,14 +113,16 @@ first-among p (h ∷ hs) k g is holds = by (same_key k (key_of h)) refl (λ ther
     or-true true c e = refl
     or-true false c e = e
 
-    by : (b : Bool) → same_key k (key_of h) ≡ b → (first_head hs k ≡ Some g → list_any p hs ≡ true) → (p h || list_any p hs) ≡ true
+    by : (b : Bool) → same_key k (key_of h) ≡ b → (first_head hs k ≡ Some g → list_any p hs ≡ true) →
+        (p h || list_any p hs) ≡ true
     by true e rest =
         let there : Some h ≡ Some g = sym (ap (λ b. cond b (Some h) (first_head hs k)) e) ∙ is in
         let equal : h ≡ g = cc in
         ap (λ x. p x || list_any p hs) equal ∙ ap (λ b. b || list_any p hs) holds
     by false e rest = or-true (p h) (list_any p hs) (rest (sym (ap (λ b. cond b (Some h) (first_head hs k)) e) ∙ is))
 
-first-not : (p : HeadTree → Bool) (hs : List HeadTree) (k : Key) (g : HeadTree) → first_head hs k ≡ Some g → list_any p hs ≡ false → p g ≡ false
+first-not : (p : HeadTree → Bool) (hs : List HeadTree) (k : Key) (g : HeadTree) → first_head hs k ≡ Some g →
+    list_any p hs ≡ false → p g ≡ false
 first-not p hs k g is none = by (p g) refl
   where
     by : (b : Bool) → p g ≡ b → b ≡ false
@@ -121,11 +133,14 @@ none-differs : (h : HeadTree) (hs : List HeadTree) → first_head hs (key_of h) 
 none-differs h [] none = refl
 none-differs h (x ∷ hs) none = by (same_key (key_of h) (key_of x)) refl (none-differs h hs)
   where
-    by : (b : Bool) → same_key (key_of h) (key_of x) ≡ b → (first_head hs (key_of h) ≡ None → list_any (differs h) hs ≡ false) → (differs h x || list_any (differs h) hs) ≡ false
+    by : (b : Bool) → same_key (key_of h) (key_of x) ≡ b →
+        (first_head hs (key_of h) ≡ None → list_any (differs h) hs ≡ false) →
+        (differs h x || list_any (differs h) hs) ≡ false
     by true e rest =
         let there : Some x ≡ None = sym (ap (λ b. cond b (Some x) (first_head hs (key_of h))) e) ∙ none in
         absurd (cc)
-    by false e rest = ap (λ b. (b && not (same_parameters h x)) || list_any (differs h) hs) e ∙ rest (sym (ap (λ b. cond b (Some x) (first_head hs (key_of h))) e) ∙ none)
+    by false e rest = ap (λ b. (b && not (same_parameters h x)) || list_any (differs h) hs) e ∙
+        rest (sym (ap (λ b. cond b (Some x) (first_head hs (key_of h))) e) ∙ none)
 
 none-before : (n : ℕ) → 0 + n ≡ n
 none-before n = omega arith
@@ -134,13 +149,15 @@ none-counted : (k : Key) (hs : List HeadTree) → first_head hs k ≡ None → a
 none-counted k [] none = refl
 none-counted k (x ∷ hs) none = by (same_key k (key_of x)) refl (none-counted k hs)
   where
-    by : (b : Bool) → same_key k (key_of x) ≡ b → (first_head hs k ≡ None → alternatives hs k ≡ 0) → alternatives (x ∷ hs) k ≡ 0
+    by : (b : Bool) → same_key k (key_of x) ≡ b → (first_head hs k ≡ None → alternatives hs k ≡ 0) →
+        alternatives (x ∷ hs) k ≡ 0
     by true e rest =
         let there : Some x ≡ None = sym (ap (λ b. cond b (Some x) (first_head hs k)) e) ∙ none in
         absurd (cc)
     by false e rest =
         let more : alternatives hs k ≡ 0 = rest (sym (ap (λ b. cond b (Some x) (first_head hs k)) e) ∙ none) in
-        sum_by-cons (λ y. cond (same_key k (key_of y)) 1 0) x hs ∙ ap (λ b. cond b 1 0 + alternatives hs k) e ∙ none-before (alternatives hs k) ∙ more
+        sum_by-cons (λ y. cond (same_key k (key_of y)) 1 0) x hs ∙ ap (λ b. cond b 1 0 + alternatives hs k) e ∙
+        none-before (alternatives hs k) ∙ more
 
 -- the parameters are not those of the first head of the key
 abbrev differs_from : Option HeadTree → HeadTree → Bool
@@ -148,13 +165,17 @@ differs_from None h = false
 differs_from (Some g) h = not (same_parameters g h)
 
 -- among heads of which no two differ, a head differs from some where it differs from the first of its key
-differs-first : (hs : List HeadTree) (h : HeadTree) → some_differ hs ≡ false → list_any (differs h) hs ≡ differs_from (first_head hs (key_of h)) h
+differs-first : (hs : List HeadTree) (h : HeadTree) → some_differ hs ≡ false →
+    list_any (differs h) hs ≡ differs_from (first_head hs (key_of h)) h
 differs-first hs h none = by (first_head hs (key_of h)) refl
   where
-    within : (g : HeadTree) (b : Bool) → first_head hs (key_of h) ≡ Some g → same_parameters g h ≡ b → list_any (differs h) hs ≡ not b
+    within : (g : HeadTree) (b : Bool) → first_head hs (key_of h) ≡ Some g → same_parameters g h ≡ b →
+        list_any (differs h) hs ≡ not b
     within g true is same =
-        let keys : same_key (key_of g) (key_of h) ≡ true = test-sym same_key same_key-Decides (key_of g) (key_of h) ∙ first-same hs (key_of h) g is in
-        (λ i. list_any (λ x. alike g h x keys same i) hs) ∙ first-not (λ x. list_any (differs x) hs) hs (key_of h) g is none
+        let keys : same_key (key_of g) (key_of h) ≡ true =
+        test-sym same_key same_key-Decides (key_of g) (key_of h) ∙ first-same hs (key_of h) g is in
+        (λ i. list_any (λ x. alike g h x keys same i) hs) ∙
+        first-not (λ x. list_any (differs x) hs) hs (key_of h) g is none
     within g false is same =
         let keys : same_key (key_of h) (key_of g) ≡ true = first-same hs (key_of h) g is in
         let other : same_parameters h g ≡ false = same_parameters-sym h g ∙ same in
@@ -164,9 +185,11 @@ differs-first hs h none = by (first_head hs (key_of h)) refl
     by None is = none-differs h hs is
     by (Some g) is = within g (same_parameters g h) is refl
 
-any-or : (p q : HeadTree → Bool) (hs : List HeadTree) → list_any (λ x. p x || (q x || false)) hs ≡ (list_any p hs || list_any q hs)
+any-or : (p q : HeadTree → Bool) (hs : List HeadTree) →
+    list_any (λ x. p x || (q x || false)) hs ≡ (list_any p hs || list_any q hs)
 any-or p q [] = refl
-any-or p q (h ∷ hs) = ap (λ b. (p h || (q h || false)) || b) (any-or p q hs) ∙ crossed (p h) (q h) (list_any p hs) (list_any q hs)
+any-or p q (h ∷ hs) = ap (λ b. (p h || (q h || false)) || b) (any-or p q hs) ∙
+    crossed (p h) (q h) (list_any p hs) (list_any q hs)
   where
     crossed : (a b c d : Bool) → ((a || (b || false)) || (c || d)) ≡ ((a || c) || (b || d))
     crossed true b c d = refl
@@ -176,12 +199,15 @@ any-or p q (h ∷ hs) = ap (λ b. (p h || (q h || false)) || b) (any-or p q hs) 
     crossed false false false d = refl
 
 -- one head more
-differ-more : (hs : List HeadTree) (h : HeadTree) → some_differ (hs ++ h ∷ []) ≡ (some_differ hs || list_any (differs h) hs)
+differ-more : (hs : List HeadTree) (h : HeadTree) →
+    some_differ (hs ++ h ∷ []) ≡ (some_differ hs || list_any (differs h) hs)
 differ-more hs h =
     (λ i. list_any (λ x. list_any-append (differs x) hs (h ∷ []) i) (hs ++ h ∷ [])) ∙
     list_any-append (λ x. list_any (differs x) hs || (differs x h || false)) hs (h ∷ []) ∙
-    (λ i. any-or (λ x. list_any (differs x) hs) (λ x. differs x h) hs i || ((list_any (differs h) hs || (differs-self h i || false)) || false)) ∙
-    (λ i. (some_differ hs || list_any (λ x. differs-sym x h i) hs) || ((list_any (differs h) hs || (false || false)) || false)) ∙
+    (λ i. any-or (λ x. list_any (differs x) hs) (λ x. differs x h) hs i ||
+    ((list_any (differs h) hs || (differs-self h i || false)) || false)) ∙
+    (λ i. (some_differ hs || list_any (λ x. differs-sym x h i) hs) ||
+    ((list_any (differs h) hs || (false || false)) || false)) ∙
     twice (some_differ hs) (list_any (differs h) hs)
   where
     twice : (a b : Bool) → ((a || b) || ((b || (false || false)) || false)) ≡ (a || b)
@@ -189,8 +215,10 @@ differ-more hs h =
     twice false true = refl
     twice false false = refl
 
-counted-more : (hs : List HeadTree) (h : HeadTree) (k : Key) → alternatives (hs ++ h ∷ []) k ≡ alternatives hs k + cond (same_key k (key_of h)) 1 0
-counted-more hs h k = sum_by-append (λ x. cond (same_key k (key_of x)) 1 0) hs (h ∷ []) ∙ zero (alternatives hs k) (cond (same_key k (key_of h)) 1 0)
+counted-more : (hs : List HeadTree) (h : HeadTree) (k : Key) →
+    alternatives (hs ++ h ∷ []) k ≡ alternatives hs k + cond (same_key k (key_of h)) 1 0
+counted-more hs h k = sum_by-append (λ x. cond (same_key k (key_of x)) 1 0) hs (h ∷ []) ∙
+    zero (alternatives hs k) (cond (same_key k (key_of h)) 1 0)
   where
     zero : (a b : ℕ) → a + (0 + b) ≡ a + b
     zero a b = omega arith
@@ -201,20 +229,24 @@ no_more n = omega arith
 lesser : (n : ℕ) → nat_lt 1000 (n + 1) ≡ false → nat_lt 1000 n ≡ false
 lesser n e = grind (arith, nat_tests)
 
-many-more : (hs : List HeadTree) (h : HeadTree) → too_many (hs ++ h ∷ []) ≡ (too_many hs || nat_lt 1000 (alternatives hs (key_of h) + 1))
+many-more : (hs : List HeadTree) (h : HeadTree) →
+    too_many (hs ++ h ∷ []) ≡ (too_many hs || nat_lt 1000 (alternatives hs (key_of h) + 1))
 many-more hs h =
     (λ i. list_any (λ x. nat_lt 1000 (counted-more hs h (key_of x) i)) (hs ++ h ∷ [])) ∙
     list_any-append over hs (h ∷ []) ∙
-    (λ i. list_any over hs || (nat_lt 1000 (alternatives hs (key_of h) + cond (same_key-refl (key_of h) i) 1 0) || false)) ∙
+    (λ i. list_any over hs || (nat_lt 1000 (alternatives hs (key_of h) + cond (same_key-refl (key_of h) i) 1 0) ||
+    false)) ∙
     by (nat_lt 1000 (alternatives hs (key_of h) + 1)) refl
   where
     over : HeadTree → Bool
     over x = nat_lt 1000 (alternatives hs (key_of x) + cond (same_key (key_of x) (key_of h)) 1 0)
 
-    each : (x : HeadTree) (b : Bool) → same_key (key_of x) (key_of h) ≡ b → nat_lt 1000 (alternatives hs (key_of h) + 1) ≡ false
+    each : (x : HeadTree) (b : Bool) → same_key (key_of x) (key_of h) ≡ b →
+        nat_lt 1000 (alternatives hs (key_of h) + 1) ≡ false
         → nat_lt 1000 (alternatives hs (key_of x) + cond b 1 0) ≡ nat_lt 1000 (alternatives hs (key_of x))
     each x true same within =
-        let at : nat_lt 1000 (alternatives hs (key_of x) + 1) ≡ false = ap (λ k. nat_lt 1000 (alternatives hs k + 1)) (same_key-true (key_of x) (key_of h) same) ∙ within in
+        let at : nat_lt 1000 (alternatives hs (key_of x) + 1) ≡ false =
+        ap (λ k. nat_lt 1000 (alternatives hs k + 1)) (same_key-true (key_of x) (key_of h) same) ∙ within in
         at ∙ sym (lesser (alternatives hs (key_of x)) at)
     each x false same within = ap (λ n. nat_lt 1000 n) (no_more (alternatives hs (key_of x)))
 
@@ -228,7 +260,8 @@ many-more hs h =
     neither true = refl
     neither false = refl
 
-    by : (b : Bool) → nat_lt 1000 (alternatives hs (key_of h) + 1) ≡ b → (list_any over hs || (b || false)) ≡ (too_many hs || b)
+    by : (b : Bool) → nat_lt 1000 (alternatives hs (key_of h) + 1) ≡ b →
+        (list_any over hs || (b || false)) ≡ (too_many hs || b)
     by true e = both (list_any over hs) (too_many hs)
     by false e = neither (list_any over hs) ∙ (λ i. list_any (λ x. each' x i) hs || false)
       where
@@ -242,7 +275,8 @@ full n = by (nat_lt n 1000) refl
     by true e = grind (arith, nat_tests)
     by false e = grind (arith, nat_tests)
 
-refused-is : (hs : List HeadTree) (h : HeadTree) → is_refused hs h ≡ (differs_from (first_head hs (key_of h)) h || nat_lt 1000 (alternatives hs (key_of h) + 1))
+refused-is : (hs : List HeadTree) (h : HeadTree) →
+    is_refused hs h ≡ (differs_from (first_head hs (key_of h)) h || nat_lt 1000 (alternatives hs (key_of h) + 1))
 refused-is hs h = by (first_head hs (key_of h)) refl
   where
     some : (b c : Bool) (g : Group) → not (is_some (cond (b && c) (Some g) None)) ≡ (not c || not b)
@@ -252,19 +286,23 @@ refused-is hs h = by (first_head hs (key_of h)) refl
     some false false g = refl
 
     by : (r : Option HeadTree) → first_head hs (key_of h) ≡ r
-        → not (is_some (with_head h (option_map (λ x. record { first = x; number = alternatives hs (key_of h) }) r))) ≡ (differs_from r h || nat_lt 1000 (alternatives hs (key_of h) + 1))
+        → not (is_some (with_head h (option_map (λ x. record { first = x; number = alternatives hs (key_of h) }) r))) ≡
+        (differs_from r h || nat_lt 1000 (alternatives hs (key_of h) + 1))
     by None is = ap (λ n. nat_lt 1000 (n + 1)) (sym (none-counted (key_of h) hs is))
     by (Some g) is =
-        some (nat_lt (alternatives hs (key_of h)) 1000) (same_parameters g h) (record { first = g; number = alternatives hs (key_of h) + 1 }) ∙
+        some (nat_lt (alternatives hs (key_of h)) 1000) (same_parameters g h)
+        (record { first = g; number = alternatives hs (key_of h) + 1 }) ∙
         ap (λ b. not (same_parameters g h) || b) (sym (full (alternatives hs (key_of h))))
 
 bad-more : (hs : List HeadTree) (h : HeadTree) → is_bad_group (hs ++ h ∷ []) ≡ (is_bad_group hs || is_refused hs h)
 bad-more hs h =
     (λ i. (differ-more hs h ∙ first (some_differ hs) refl) i || many-more hs h i) ∙
-    swapped (some_differ hs) (differs_from (first_head hs (key_of h)) h) (too_many hs) (nat_lt 1000 (alternatives hs (key_of h) + 1)) ∙
+    swapped (some_differ hs) (differs_from (first_head hs (key_of h)) h) (too_many hs)
+    (nat_lt 1000 (alternatives hs (key_of h) + 1)) ∙
     ap (λ b. is_bad_group hs || b) (sym (refused-is hs h))
   where
-    first : (b : Bool) → some_differ hs ≡ b → (b || list_any (differs h) hs) ≡ (b || differs_from (first_head hs (key_of h)) h)
+    first : (b : Bool) → some_differ hs ≡ b →
+        (b || list_any (differs h) hs) ≡ (b || differs_from (first_head hs (key_of h)) h)
     first true e = refl
     first false e = differs-first hs h e
 
@@ -272,7 +310,8 @@ bad-after : (before hs : List HeadTree) → is_bad_group (before ++ hs) ≡ (is_
 bad-after before [] = ap is_bad_group (append-nil before) ∙ sym (or-false (is_bad_group before))
 bad-after before (h ∷ hs) =
     ap is_bad_group (sym (append_assoc before (h ∷ []) hs)) ∙ bad-after (before ++ h ∷ []) hs ∙
-    ap (λ b. b || some_refused (before ++ h ∷ []) hs) (bad-more before h) ∙ or-assoc (is_bad_group before) (is_refused before h) (some_refused (before ++ h ∷ []) hs)
+    ap (λ b. b || some_refused (before ++ h ∷ []) hs) (bad-more before h) ∙
+    or_assoc (is_bad_group before) (is_refused before h) (some_refused (before ++ h ∷ []) hs)
 
 -- the group with one head more, whether it may stand there or not
 abbrev grown : HeadTree → Option Group → Group
@@ -283,26 +322,32 @@ grown-is : (h : HeadTree) (r : Option Group) → is_some (with_head h r) ≡ tru
 grown-is h None fits = refl
 grown-is h (Some g) fits = by (nat_lt g.number 1000 && same_parameters g.first h) fits
   where
-    by : (b : Bool) → is_some (cond b (Some (grown h (Some g))) None) ≡ true → cond b (Some (grown h (Some g))) None ≡ Some (grown h (Some g))
+    by : (b : Bool) → is_some (cond b (Some (grown h (Some g))) None) ≡ true →
+        cond b (Some (grown h (Some g))) None ≡ Some (grown h (Some g))
     by true e = refl
     by false e = absurd (cc)
 
-first-more : (hs : List HeadTree) (h : HeadTree) (k : Key) → first_head (hs ++ h ∷ []) k ≡ first_or (first_head hs k) (cond (same_key k (key_of h)) (Some h) None)
+first-more : (hs : List HeadTree) (h : HeadTree) (k : Key) →
+    first_head (hs ++ h ∷ []) k ≡ first_or (first_head hs k) (cond (same_key k (key_of h)) (Some h) None)
 first-more [] h k = refl
 first-more (x ∷ hs) h k = ap (cond (same_key k (key_of x)) (Some x)) (first-more hs h k) ∙ by (same_key k (key_of x))
   where
-    by : (b : Bool) → cond b (Some x) (first_or (first_head hs k) (cond (same_key k (key_of h)) (Some h) None)) ≡ first_or (cond b (Some x) (first_head hs k)) (cond (same_key k (key_of h)) (Some h) None)
+    by : (b : Bool) → cond b (Some x) (first_or (first_head hs k) (cond (same_key k (key_of h)) (Some h) None)) ≡
+        first_or (cond b (Some x) (first_head hs k)) (cond (same_key k (key_of h)) (Some h) None)
     by true = refl
     by false = refl
 
-group-more : (hs : List HeadTree) (h : HeadTree) (k : Key) → group_in (hs ++ h ∷ []) k ≡ cond (same_key k (key_of h)) (Some (grown h (group_in hs k))) (group_in hs k)
+group-more : (hs : List HeadTree) (h : HeadTree) (k : Key) →
+    group_in (hs ++ h ∷ []) k ≡ cond (same_key k (key_of h)) (Some (grown h (group_in hs k))) (group_in hs k)
 group-more hs h k =
     (λ i. option_map (λ x. record { first = x; number = counted-more hs h k i }) (first-more hs h k i)) ∙
     by (same_key k (key_of h)) (first_head hs k) refl
   where
     by : (b : Bool) (r : Option HeadTree) → first_head hs k ≡ r
-        → option_map (λ x. record { first = x; number = alternatives hs k + cond b 1 0 }) (first_or r (cond b (Some h) None))
-        ≡ cond b (Some (grown h (option_map (λ x. record { first = x; number = alternatives hs k }) r))) (option_map (λ x. record { first = x; number = alternatives hs k }) r)
+        → option_map (λ x. record { first = x; number = alternatives hs k + cond b 1 0 })
+        (first_or r (cond b (Some h) None))
+        ≡ cond b (Some (grown h (option_map (λ x. record { first = x; number = alternatives hs k }) r)))
+        (option_map (λ x. record { first = x; number = alternatives hs k }) r)
     by true None is = ap (λ n. Some (record { first = h; number = n + 1 })) (none-counted k hs is)
     by true (Some g) is = refl
     by false None is = refl
@@ -313,10 +358,12 @@ pub record Grouping {S : Type 0} (hs : List (Bor DefinitionHead)) (i : ℕ) (tab
   pub groups : (k : Key) → get same_key table k ≡ group_in (heads_of (take i hs)) k
   pub rest : some_refused (heads_of (take i hs)) (heads_of (drop i hs)) ≡ is_bad_group (heads_of hs)
 
-pub grouping_begins : {S : Type 0} (hs : List (Bor DefinitionHead)) (table : IndexMap Key Group S) → table.entries ≡ [] → Grouping hs 0 table
+pub grouping_begins : {S : Type 0} (hs : List (Bor DefinitionHead)) (table : IndexMap Key Group S) →
+    table.entries ≡ [] → Grouping hs 0 table
 grouping_begins hs table empty = record { groups = λ k. rw empty refl; rest = sym (bad-after [] (heads_of hs)) }
 
-module _ {S : Type 0} (hs : List (Bor DefinitionHead)) (i : ℕ) (h : Bor DefinitionHead) (table : IndexMap Key Group S) (within : i < length hs) (is : h ≡ get_or hs i h) (before : Grouping hs i table) where
+module _ {S : Type 0} (hs : List (Bor DefinitionHead)) (i : ℕ) (h : Bor DefinitionHead) (table : IndexMap Key Group S)
+    (within : i < length hs) (is : h ≡ get_or hs i h) (before : Grouping hs i table) where
   abbrev key : Key
   key = key_of (head_of h.now)
 
@@ -332,9 +379,11 @@ module _ {S : Type 0} (hs : List (Bor DefinitionHead)) (i : ℕ) (h : Bor Defini
       ap (λ b. b || some_refused (heads_of (take i hs) ++ head_of h.now ∷ []) (heads_of (drop (i + 1) hs)))
       (ap (λ r. not (is_some (with_head (head_of h.now) r))) (sym (before.groups key)) ∙ ap not refused)
 
-  pub grouping_goes : (new : IndexMap Key Group S) → is_some joined ≡ true → ((k : Key) → get same_key new k ≡ cond (same_key key k) joined (get same_key table k)) → Grouping hs (i + 1) new
+  pub grouping_goes : (new : IndexMap Key Group S) → is_some joined ≡ true →
+      ((k : Key) → get same_key new k ≡ cond (same_key key k) joined (get same_key table k)) → Grouping hs (i + 1) new
   grouping_goes new fits put = record {
-    groups = λ k. put k ∙ at k (same_key key k) refl ∙ sym (group-more (heads_of (take i hs)) (head_of h.now) k) ∙ ap (λ gs. group_in gs k) (sym taken);
+    groups = λ k. put k ∙ at k (same_key key k) refl ∙ sym (group-more (heads_of (take i hs)) (head_of h.now) k) ∙
+        ap (λ gs. group_in gs k) (sym taken);
     rest = ap (λ gs. some_refused gs (heads_of (drop (i + 1) hs))) taken ∙
         ap (λ b. b || some_refused (heads_of (take i hs) ++ head_of h.now ∷ []) (heads_of (drop (i + 1) hs)))
         (sym (ap (λ r. not (is_some (with_head (head_of h.now) r))) (sym (before.groups key)) ∙ ap not fits)) ∙
@@ -342,14 +391,21 @@ module _ {S : Type 0} (hs : List (Bor DefinitionHead)) (i : ℕ) (h : Bor Defini
   }
     where
       taken : heads_of (take (i + 1) hs) ≡ heads_of (take i hs) ++ head_of h.now ∷ []
-      taken = map_more (λ (x : Bor DefinitionHead). head_of x.now) hs i h within ∙ ap (λ (y : Bor DefinitionHead). heads_of (take i hs) ++ head_of y.now ∷ []) (sym is)
+      taken = map_more (λ (x : Bor DefinitionHead). head_of x.now) hs i h within ∙
+          ap (λ (y : Bor DefinitionHead). heads_of (take i hs) ++ head_of y.now ∷ []) (sym is)
 
-      at : (k : Key) (b : Bool) → same_key key k ≡ b → cond b joined (get same_key table k) ≡ cond (same_key k key) (Some (grown (head_of h.now) (group_in (heads_of (take i hs)) k))) (group_in (heads_of (take i hs)) k)
+      at : (k : Key) (b : Bool) → same_key key k ≡ b →
+          cond b joined (get same_key table k) ≡
+          cond (same_key k key) (Some (grown (head_of h.now) (group_in (heads_of (take i hs)) k)))
+          (group_in (heads_of (take i hs)) k)
       at k true e =
           let equal : key ≡ k = same_key-true key k e in
           rw (test-sym same_key same_key-Decides k key ∙ e)
-          (grown-is (head_of h.now) (get same_key table key) fits ∙ ap (λ r. Some (grown (head_of h.now) r)) (before.groups key ∙ ap (group_in (heads_of (take i hs))) equal))
+          (grown-is (head_of h.now) (get same_key table key) fits ∙
+          ap (λ r. Some (grown (head_of h.now) r)) (before.groups key ∙ ap (group_in (heads_of (take i hs))) equal))
       at k false e = rw (test-sym same_key same_key-Decides k key ∙ e) (before.groups k)
 
-pub grouping_ends : {S : Type 0} (hs : List (Bor DefinitionHead)) (i : ℕ) (table : IndexMap Key Group S) → length hs ≤ i → Grouping hs i table → is_bad_group (heads_of hs) ≡ false
-grouping_ends hs i table past at = sym at.rest ∙ ap (λ xs. some_refused (heads_of (take i hs)) (heads_of xs)) (drop_past hs i past)
+pub grouping_ends : {S : Type 0} (hs : List (Bor DefinitionHead)) (i : ℕ) (table : IndexMap Key Group S) →
+    length hs ≤ i → Grouping hs i table → is_bad_group (heads_of hs) ≡ false
+grouping_ends hs i table past at =
+    sym at.rest ∙ ap (λ xs. some_refused (heads_of (take i hs)) (heads_of xs)) (drop_all i hs past)

@@ -2,10 +2,10 @@
 use Rattle.std.proofs.Common.{◌≡◌, ◌∙◌, ◌||◌, ◌++◌, ◌∷◌, [], List, Bool, true, false, ap, sym, refl, append_assoc}
 use Rattle.std.specs.Prelude.{if◌then◌else◌}
 use Rattle.std.proofs.lemmas.List.Folds.{list_any-append}
+use Rattle.std.proofs.Math.Bool.{or-false}
 use Rattle.indexmap.specs.IndexSet.{insert_key}
 use Rattle.scope_check.specs.Seen.{Key, among, same_key}
 use Rattle.scope_check.specs.SameKey.{same_key-true}
-use Rattle.scope_check.proofs.NameLaws.{or-false}
 
 absorbed : (a b : Bool) → (b ≡ true → a ≡ true) → a ≡ (a || b)
 absorbed true b holds = refl
@@ -17,11 +17,13 @@ there : (ks : List Key) (x k : Key) → among ks x ≡ true → among ks k ≡ (
 there ks x k is = absorbed (among ks k) (same_key k x) (λ same. ap (among ks) (same_key-true k x same) ∙ is)
 
 -- nor does one that is among the first
-pub there_first : (ks ls : List Key) (x k : Key) → among ks x ≡ true → among (ks ++ ls) k ≡ (among (ks ++ ls) k || same_key k x)
+pub there_first : (ks ls : List Key) (x k : Key) → among ks x ≡ true →
+    among (ks ++ ls) k ≡ (among (ks ++ ls) k || same_key k x)
 there_first ks ls x k is = there (ks ++ ls) x k (list_any-append (same_key x) ks ls ∙ ap (λ b. b || among ls x) is)
 
 -- a key that is inserted into the last ones
-pub inserted_last : (ks ls ms : List Key) (x k : Key) → ms ≡ insert_key same_key ls x → among (ks ++ ms) k ≡ (among (ks ++ ls) k || same_key k x)
+pub inserted_last : (ks ls ms : List Key) (x k : Key) → ms ≡ insert_key same_key ls x →
+    among (ks ++ ms) k ≡ (among (ks ++ ls) k || same_key k x)
 inserted_last ks ls ms x k is = by (among ls x) refl
   where
     or_true : (b : Bool) → (b || true) ≡ true

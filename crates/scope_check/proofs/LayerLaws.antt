@@ -12,5 +12,7 @@ use Rattle.scope_check.specs.Tables.{layers_of, layers_step}
 pub reads_outermost : layers_of code.Outermost ≡ nothing
 reads_outermost = ap layers_of (sym code.rolls-Outermost) ∙ fold-roll-Layers Seen layers_step forms.Outermost
 
-pub reads_inner : (keys : Bor Keys) (up : Bor declared.Layers) → layers_of (code.Inner keys up) ≡ inner (among keys.now) (layers_of up.now)
-reads_inner keys up = ap layers_of (sym (code.rolls-Inner keys up)) ∙ fold-roll-Layers Seen layers_step (forms.Inner keys up)
+pub reads_inner : (keys : Bor Keys) (up : Bor declared.Layers) →
+    layers_of (code.Inner keys up) ≡ inner (among keys.now) (layers_of up.now)
+reads_inner keys up = ap layers_of (sym (code.rolls-Inner keys up)) ∙
+    fold-roll-Layers Seen layers_step (forms.Inner keys up)

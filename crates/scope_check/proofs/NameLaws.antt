@@ -1,10 +1,9 @@
 -- Names that stand again after themselves, found by noting one after another.
-use Rattle.std.proofs.Common.{◌≡◌, ◌∙◌, ℕ, ◌+◌, ◌<◌, ◌≤◌, Bool, true, false, ◌||◌, ◌&&◌, not, List, [], ◌∷◌, ◌++◌, map, take, drop, length, get_or, sym, refl, ap, arith}
+use Rattle.std.proofs.Common.{◌≡◌, ◌∙◌, ℕ, ◌+◌, ◌<◌, ◌≤◌, Bool, true, false, ◌||◌, not, List, [], ◌∷◌, ◌++◌, map, take, drop, length, get_or, sym, refl, ap}
 use Rattle.std.proofs.lemmas.Bool.Decides.{same_from_decides, Decides-like}
-use Rattle.std.proofs.lemmas.Grind.{common_steps}
-use Rattle.std.proofs.lemmas.List.{map_more}
+use Rattle.std.proofs.lemmas.List.{drop_all, drop_more, map_more, take_all}
 use Rattle.std.proofs.lemmas.List.Folds.{list_any-append}
-use Rattle.std.proofs.Common.{add-one, drop-cons}
+use Rattle.std.proofs.Math.Bool.{and-true, not-not, or-false, or_assoc}
 use Rattle.std.specs.Bool.{Decides}
 use Rattle.std.specs.List.{list_any}
 use Rattle.str_syntax.specs.SameName.{same_name, same_name-Decides}
@@ -13,25 +12,14 @@ use Rattle.scope_check.specs.Complaint.{repeats}
 use Rattle.scope_check.specs.Seen.{Key, same_key, Seen, among, plain_key}
 use Rattle.scope_check.specs.Tables.{repeats_after, AreWith}
 
-pub or-false : (b : Bool) → (b || false) ≡ b
-or-false true = refl
-or-false false = refl
-
-pub and-true : (b : Bool) → (b && true) ≡ b
-and-true true = refl
-and-true false = refl
-
-pub or-assoc : (a b c : Bool) → ((a || b) || c) ≡ (a || (b || c))
-or-assoc true b c = refl
-or-assoc false b c = refl
-
 -- predicates that agree everywhere are one
 pub extensional : (A B : Seen) → ((k : Key) → A k ≡ B k) → A ≡ B
 extensional A B e = λ i k. e k i
 
 -- a test that decides equality goes both ways
 pub test-sym : {X : Type 0} (t : X → X → Bool) → ((x y : X) → Decides (t x y) (x ≡ y)) → (x y : X) → t x y ≡ t y x
-test-sym t decides x y = same_from_decides (t x y) (t y x) (decides x y) (Decides-like (t y x) (λ e. sym e) (λ e. sym e) (decides y x))
+test-sym t decides x y = same_from_decides (t x y) (t y x) (decides x y)
+    (Decides-like (t y x) (λ e. sym e) (λ e. sym e) (decides y x))
 
 same_name-sym : (x y : Bytes) → same_name x y ≡ same_name y x
 same_name-sym x y = test-sym same_name same_name-Decides x y
@@ -58,32 +46,26 @@ swapped false false false d = refl
 
 -- a name more is seen
 one_more : (L : Seen) (x : Bytes) (xs : List Bytes) →
-    list_any (λ y. L (plain_key y) || same_key (plain_key y) (plain_key x)) xs ≡ (list_any (λ y. L (plain_key y)) xs || list_any (same_name x) xs)
+    list_any (λ y. L (plain_key y) || same_key (plain_key y) (plain_key x)) xs ≡
+    (list_any (λ y. L (plain_key y)) xs || list_any (same_name x) xs)
 one_more L x [] = refl
 one_more L x (y ∷ ys) =
     let test : same_key (plain_key y) (plain_key x) ≡ same_name x y = plain_key-same y x ∙ same_name-sym y x in
-    rw (test, one_more L x ys) (swapped (L (plain_key y)) (same_name x y) (list_any (λ z. L (plain_key z)) ys) (list_any (same_name x) ys))
+    rw (test, one_more L x ys) (swapped (L (plain_key y)) (same_name x y) (list_any (λ z. L (plain_key z)) ys)
+    (list_any (same_name x) ys))
 
-pub repeats_after-is : (L : Seen) (xs : List Bytes) → repeats_after L xs ≡ (list_any (λ x. L (plain_key x)) xs || repeats xs)
+pub repeats_after-is : (L : Seen) (xs : List Bytes) →
+    repeats_after L xs ≡ (list_any (λ x. L (plain_key x)) xs || repeats xs)
 repeats_after-is L [] = refl
 repeats_after-is L (x ∷ xs) =
-    ap (λ b. L (plain_key x) || b) (repeats_after-is (λ k. L k || same_key k (plain_key x)) xs ∙ ap (λ b. b || repeats xs) (one_more L x xs)) ∙
+    ap (λ b. L (plain_key x) || b) (repeats_after-is (λ k. L k || same_key k (plain_key x)) xs ∙
+    ap (λ b. b || repeats xs) (one_more L x xs)) ∙
     last (L (plain_key x)) (list_any (λ y. L (plain_key y)) xs) (list_any (same_name x) xs) (repeats xs)
   where
     last : (a b c d : Bool) → (a || ((b || c) || d)) ≡ ((a || b) || (c || d))
     last true b c d = refl
     last false true c d = refl
     last false false c d = refl
-
--- what is left from a place on, and past the end
-pub drop_more : {X : Type 0} (xs : List X) (i : ℕ) (d : X) → i < length xs → drop i xs ≡ get_or xs i d ∷ drop (i + 1) xs
-drop_more xs i d within = rw (add-one, drop-cons xs i d) refl
-
-pub take_past : {X : Type 0} (xs : List X) (i : ℕ) → length xs ≤ i → take i xs ≡ xs
-take_past xs i past = grind (arith, common_steps)
-
-pub drop_past : {X : Type 0} (xs : List X) (i : ℕ) → length xs ≤ i → drop i xs ≡ []
-drop_past xs i past = grind (arith, common_steps)
 
 -- the names up to a place are noted in keys after others, and whether one of them was there or stands again
 pub record Noting (old : List Key) (names : List Bytes) (i : ℕ) (keys : List Key) (repeated : Bool) : Type 0 where
@@ -97,15 +79,21 @@ noting_begins old names = record { added = λ k. sym (or-false (among old k)); r
 among-push : (ks : List Key) (x k : Key) → among (ks ++ x ∷ []) k ≡ (among ks k || same_key k x)
 among-push ks x k = list_any-append (same_key k) ks (x ∷ []) ∙ ap (λ b. among ks k || b) (or-false (same_key k x))
 
-pub noting_goes : (old : List Key) (names : List Bytes) (i : ℕ) (keys : List Key) (repeated : Bool) (x : Bytes) (keys' : List Key) (new : Bool)
+pub noting_goes : (old : List Key) (names : List Bytes) (i : ℕ) (keys : List Key) (repeated : Bool) (x : Bytes)
+    (keys' : List Key) (new : Bool)
     → i < length names → x ≡ get_or names i x → Noting old names i keys repeated → new ≡ not (among keys (plain_key x))
-    → ((k : Key) → among keys' k ≡ (among keys k || same_key k (plain_key x))) → Noting old names (i + 1) keys' (repeated || not new)
+    → ((k : Key) → among keys' k ≡ (among keys k || same_key k (plain_key x))) →
+    Noting old names (i + 1) keys' (repeated || not new)
 noting_goes old names i keys repeated x keys' new within is before fresh put = record {
-  added = λ k. put k ∙ ap (λ b. b || same_key k (plain_key x)) (before.added k) ∙ or-assoc (among old k) (among (map plain_key (take i names)) k) (same_key k (plain_key x)) ∙
-      ap (λ b. among old k || b) (sym (among-push (map plain_key (take i names)) (plain_key x) k) ∙ ap (λ ks. among ks k) (sym taken));
-  rest = ap (λ b. b || repeats_after (among keys') (drop (i + 1) names)) (ap (λ b. repeated || not b) fresh ∙ ap (λ b. repeated || b) (not-not (among keys (plain_key x)))) ∙
-      or-assoc repeated (among keys (plain_key x)) (repeats_after (among keys') (drop (i + 1) names)) ∙
-      ap (λ L. repeated || (among keys (plain_key x) || repeats_after L (drop (i + 1) names))) (extensional (among keys') (λ k. among keys k || same_key k (plain_key x)) put) ∙
+  added = λ k. put k ∙ ap (λ b. b || same_key k (plain_key x)) (before.added k) ∙
+      or_assoc (among old k) (among (map plain_key (take i names)) k) (same_key k (plain_key x)) ∙
+      ap (λ b. among old k || b) (sym (among-push (map plain_key (take i names)) (plain_key x) k) ∙
+      ap (λ ks. among ks k) (sym taken));
+  rest = ap (λ b. b || repeats_after (among keys') (drop (i + 1) names)) (ap (λ b. repeated || not b) fresh ∙
+      ap (λ b. repeated || b) (not-not (among keys (plain_key x)))) ∙
+      or_assoc repeated (among keys (plain_key x)) (repeats_after (among keys') (drop (i + 1) names)) ∙
+      ap (λ L. repeated || (among keys (plain_key x) || repeats_after L (drop (i + 1) names)))
+      (extensional (among keys') (λ k. among keys k || same_key k (plain_key x)) put) ∙
       ap (λ xs. repeated || repeats_after (among keys) xs) (sym dropped) ∙ before.rest;
 }
   where
@@ -115,19 +103,18 @@ noting_goes old names i keys repeated x keys' new within is before fresh put = r
     dropped : drop i names ≡ x ∷ drop (i + 1) names
     dropped = drop_more names i x within ∙ ap (λ y. y ∷ drop (i + 1) names) (sym is)
 
-    not-not : (b : Bool) → not (not b) ≡ b
-    not-not true = refl
-    not-not false = refl
-
-pub noting_ends : (old : List Key) (names : List Bytes) (i : ℕ) (keys : List Key) (repeated : Bool) → length names ≤ i → Noting old names i keys repeated
+pub noting_ends : (old : List Key) (names : List Bytes) (i : ℕ) (keys : List Key) (repeated : Bool) → length names ≤ i →
+    Noting old names i keys repeated
     → AreWith old (map plain_key names) keys × (repeated ≡ repeats_after (among old) names)
 noting_ends old names i keys repeated past noting = (
-  λ k. noting.added k ∙ ap (λ xs. among old k || among (map plain_key xs) k) (take_past names i past),
-  sym (or-false repeated) ∙ ap (λ xs. repeated || repeats_after (among keys) xs) (sym (drop_past names i past)) ∙ noting.rest,
+  λ k. noting.added k ∙ ap (λ xs. among old k || among (map plain_key xs) k) (take_all i names past),
+  sym (or-false repeated) ∙ ap (λ xs. repeated || repeats_after (among keys) xs) (sym (drop_all i names past)) ∙
+      noting.rest,
 )
 
 -- names and others together
-together : (xs ys : List Bytes) → repeats (xs ++ ys) ≡ (repeats xs || (list_any (λ y. among (map plain_key xs) (plain_key y)) ys || repeats ys))
+together : (xs ys : List Bytes) →
+    repeats (xs ++ ys) ≡ (repeats xs || (list_any (λ y. among (map plain_key xs) (plain_key y)) ys || repeats ys))
 together [] ys = ap (λ b. b || repeats ys) (sym (nothing_among ys))
   where
     nothing_among : (ys : List Bytes) → list_any (λ y. false) ys ≡ false
@@ -136,7 +123,8 @@ together [] ys = ap (λ b. b || repeats ys) (sym (nothing_among ys))
 together (x ∷ xs) ys =
     ap (λ b. b || repeats (xs ++ ys)) (list_any-append (same_name x) xs ys) ∙
     ap (λ b. (list_any (same_name x) xs || list_any (same_name x) ys) || b) (together xs ys) ∙
-    exchanged (list_any (same_name x) xs) (list_any (same_name x) ys) (repeats xs) (list_any (λ y. among (map plain_key xs) (plain_key y)) ys) (repeats ys) ∙
+    exchanged (list_any (same_name x) xs) (list_any (same_name x) ys) (repeats xs)
+    (list_any (λ y. among (map plain_key xs) (plain_key y)) ys) (repeats ys) ∙
     ap (λ b. (list_any (same_name x) xs || repeats xs) || (b || repeats ys)) (sym (also ys))
   where
     exchanged : (a b c d e : Bool) → ((a || b) || (c || (d || e))) ≡ ((a || c) || ((b || d) || e))
@@ -146,18 +134,23 @@ together (x ∷ xs) ys =
     exchanged false false true d e = refl
     exchanged false false false d e = refl
 
-    also : (zs : List Bytes) → list_any (λ y. same_key (plain_key y) (plain_key x) || among (map plain_key xs) (plain_key y)) zs ≡
+    also : (zs : List Bytes) → list_any (λ y. same_key (plain_key y) (plain_key x) ||
+        among (map plain_key xs) (plain_key y)) zs ≡
         (list_any (same_name x) zs || list_any (λ y. among (map plain_key xs) (plain_key y)) zs)
     also [] = refl
     also (z ∷ zs) =
         let test : same_key (plain_key z) (plain_key x) ≡ same_name x z = plain_key-same z x ∙ same_name-sym z x in
-        rw (test, also zs) (swapped (same_name x z) (among (map plain_key xs) (plain_key z)) (list_any (same_name x) zs) (list_any (λ y. among (map plain_key xs) (plain_key y)) zs))
+        rw (test, also zs) (swapped (same_name x z) (among (map plain_key xs) (plain_key z)) (list_any (same_name x) zs)
+        (list_any (λ y. among (map plain_key xs) (plain_key y)) zs))
 
-pub repeats_together : (xs ys : List Bytes) (ks : List Key) (first second : Bool) → first ≡ repeats_after (among []) xs → AreWith [] (map plain_key xs) ks → second ≡ repeats_after (among ks) ys
+pub repeats_together : (xs ys : List Bytes) (ks : List Key) (first second : Bool) →
+    first ≡ repeats_after (among []) xs → AreWith [] (map plain_key xs) ks → second ≡ repeats_after (among ks) ys
     → (first || second) ≡ repeats (xs ++ ys)
 repeats_together xs ys ks first second is_first noted is_second =
     ap (λ b. b || second) (is_first ∙ repeats_after-is (among []) xs ∙ ap (λ b. b || repeats xs) (none_seen xs)) ∙
-    ap (λ b. repeats xs || b) (is_second ∙ ap (λ L. repeats_after L ys) (extensional (among ks) (among (map plain_key xs)) noted) ∙ repeats_after-is (among (map plain_key xs)) ys) ∙
+    ap (λ b. repeats xs || b) (is_second ∙
+    ap (λ L. repeats_after L ys) (extensional (among ks) (among (map plain_key xs)) noted) ∙
+    repeats_after-is (among (map plain_key xs)) ys) ∙
     sym (together xs ys)
   where
     none_seen : (zs : List Bytes) → list_any (λ y. false) zs ≡ false
@@ -165,5 +158,6 @@ repeats_together xs ys ks first second is_first noted is_second =
     none_seen (z ∷ zs) = none_seen zs
 
 -- the keys that were noted after none are these
-pub all_noted : (names : List Bytes) (ks : List Key) → AreWith [] (map plain_key names) ks → among ks ≡ among (map plain_key names)
+pub all_noted : (names : List Bytes) (ks : List Key) → AreWith [] (map plain_key names) ks →
+    among ks ≡ among (map plain_key names)
 all_noted names ks noted = extensional (among ks) (among (map plain_key names)) noted

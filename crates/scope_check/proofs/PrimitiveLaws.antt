@@ -21,12 +21,18 @@ same_primitive-true k l same =
     λ i. (names i, numbers i)
 
 same_primitive-Decides : (k l : NameKey) → Decides (same_primitive k l) (k ≡ l)
-same_primitive-Decides k l = (same_primitive-true k l, λ equal. let P : NameKey → Type 0 = λ m. same_primitive k m ≡ true in subst P equal (same_primitive-refl k))
+same_primitive-Decides k l = (
+  same_primitive-true k l,
+  λ equal. let P : NameKey → Type 0 =
+      λ m. same_primitive k m ≡ true in subst P equal (same_primitive-refl k),
+)
 
 -- the test finds a name where it is in the set
 pub holds-contains : (names : List NameKey) (f : Bytes) (n : ℕ) → (holds names f n ≡ true) ↔ Contains names (f, n)
-holds-contains names f n =
-    (λ held. Contains-from_any same_primitive-true (f, n) names held, λ there. list_any-from_Contains (decided same_primitive same_primitive-Decides) (f, n) names there)
+holds-contains names f n = (
+  λ held. Contains-from_any same_primitive-true (f, n) names held,
+  λ there. list_any-from_Contains (decided same_primitive same_primitive-Decides) (f, n) names there,
+)
 
 both_or_none : (a b : Bool) → (a ≡ true → b ≡ true) → (b ≡ true → a ≡ true) → a ≡ b
 both_or_none true b there back = sym (there refl)
@@ -34,7 +40,8 @@ both_or_none false true there back = back refl
 both_or_none false false there back = refl
 
 -- a test that says whether a name is in the set is that one
-pub is_holds : (b : Bool) (names : List NameKey) (f : Bytes) (n : ℕ) → IsTrue b ↔ Contains names (f, n) → b ≡ holds names f n
+pub is_holds : (b : Bool) (names : List NameKey) (f : Bytes) (n : ℕ) → IsTrue b ↔ Contains names (f, n) →
+    b ≡ holds names f n
 is_holds b names f n is =
     let held = holds-contains names f n in
     both_or_none b (holds names f n) (λ yes. held.1 (is.0 yes)) (λ yes. is.1 (held.0 yes))

@@ -1,3 +1,4 @@
+-- The headline does not rest on this file.
 -- A file that was judged and has no fault.
 use Rattle.std.specs.Prelude.{◌≡◌, ℕ, Bool, List, None}
 use Rattle.str_syntax.specs.declared.definition.File.{File}

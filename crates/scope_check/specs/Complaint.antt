@@ -48,7 +48,8 @@ same_names xs ys = pointwise same_name xs ys
 
 -- the parameters have the same names in the same order
 abbrev pub same_parameters : HeadTree → HeadTree → Bool
-same_parameters (head f ps) (head g qs) = same_names (strategy_names ps) (strategy_names qs) && same_names (term_names ps) (term_names qs)
+same_parameters (head f ps) (head g qs) =
+    same_names (strategy_names ps) (strategy_names qs) && same_names (term_names ps) (term_names qs)
 
 -- two heads are alternatives of one key, and their parameters differ
 abbrev pub differs : HeadTree → HeadTree → Bool
@@ -71,9 +72,11 @@ has_bad_parameters L (strategy (scope xs s)) = repeats xs
 has_bad_parameters L (group hs) = some_differ hs || too_many hs
 has_bad_parameters L _ = false
 
--- a definition, a strategy parameter or a rec has the name of a declared constructor; the names of the library's parameters do not matter
+-- a definition, a strategy parameter or a rec has the name of a declared constructor; the names of the library's
+-- parameters do not matter
 abbrev pub clashes : List Declared → Test
-clashes ds L (heading o (head f ps)) = is_declared_name ds f || (is_own o && list_any (is_declared_name ds) (strategy_names ps))
+clashes ds L (heading o (head f ps)) =
+    is_declared_name ds f || (is_own o && list_any (is_declared_name ds) (strategy_names ps))
 clashes ds L (strategy (recursive f s)) = is_declared_name ds f
 clashes ds L _ = false
 
@@ -145,13 +148,15 @@ fault_of no_main = NoMain
 
 -- all complaints, the least number first
 abbrev pub complaints : List Complaint
-complaints = duplicate_declaration ∷ undeclared ∷ bad_parameters ∷ clash ∷ unknown_strategy ∷ not_buildable ∷ unknown_primitive ∷ no_main ∷ []
+complaints = duplicate_declaration ∷ undeclared ∷ bad_parameters ∷ clash ∷ unknown_strategy ∷ not_buildable ∷
+    unknown_primitive ∷ no_main ∷ []
 
 -- the fault of the first of these that holds
 abbrev pub first_of : (Complaint → Bool) → List Complaint → Option Fault
 first_of holds [] = None
 first_of holds (k ∷ ks) = if holds k then Some (fault_of k) else first_of holds ks
 
--- the fault of a file where there are these primitives, if it has one: that of the least number among those that occur anywhere in it
+-- the fault of a file where there are these primitives, if it has one: that of the least number among those that occur
+-- anywhere in it
 abbrev pub first_fault : (Bytes → ℕ → Bool) → FileTree → Bytes → Option Fault
 first_fault has file main = first_of (occurs has file main) complaints

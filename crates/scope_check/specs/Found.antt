@@ -1,3 +1,4 @@
+-- The headline does not rest on this file.
 -- What the walk over a file notes: for each complaint about nodes whether it was found.
 use Rattle.std.specs.Prelude.{Bool, false, not, ◌||◌, List, []}
 use Rattle.scope_check.specs.declared.findings.Findings.{Findings}

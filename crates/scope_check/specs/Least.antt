@@ -1,3 +1,4 @@
+-- The headline does not rest on this file.
 -- The fault of the least number.
 use Rattle.std.specs.Prelude.{◌≡◌, ◌≤◌, Bool, true}
 use Rattle.term_model.specs.declared.fault.Fault.{Fault}

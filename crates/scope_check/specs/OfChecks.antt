@@ -1,3 +1,4 @@
+-- The headline does not rest on this file.
 -- The faults that the checks report.
 use Rattle.std.specs.Prelude.{◌≤◌}
 use Rattle.term_model.specs.declared.fault.Fault.{Fault}

@@ -1,3 +1,4 @@
+-- The headline does not rest on this file.
 -- Laws of the test whether two keys are the same, and what a key feeds a hasher.
 use Rattle.std.specs.Prelude.{◌≡◌, ◌++◌, ◌==◌, true, ◌&&◌}
 use Rattle.std.specs.Bool.{Decides}
@@ -16,15 +17,23 @@ same_key-refl k =
 
 pub same_key-true : (k l : Key) → same_key k l ≡ true → k ≡ l
 same_key-true k l same =
-    let numbers : (k.strategies == l.strategies && k.terms == l.terms) ≡ true = second_so (same_name k.name l.name) _ same in
-    let names : k.name ≡ l.name = (same_name-Decides k.name l.name).0 (first_so _ (k.strategies == l.strategies && k.terms == l.terms) same) in
-    let strategies : k.strategies ≡ l.strategies = (unsigned_Decides k.strategies l.strategies).0 (first_so _ (k.terms == l.terms) numbers) in
-    let terms : k.terms ≡ l.terms = (unsigned_Decides k.terms l.terms).0 (second_so (k.strategies == l.strategies) _ numbers) in
+    let numbers : (k.strategies == l.strategies && k.terms == l.terms) ≡ true =
+    second_so (same_name k.name l.name) _ same in
+    let names : k.name ≡ l.name =
+    (same_name-Decides k.name l.name).0 (first_so _ (k.strategies == l.strategies && k.terms == l.terms) same) in
+    let strategies : k.strategies ≡ l.strategies =
+    (unsigned_Decides k.strategies l.strategies).0 (first_so _ (k.terms == l.terms) numbers) in
+    let terms : k.terms ≡ l.terms =
+    (unsigned_Decides k.terms l.terms).0 (second_so (k.strategies == l.strategies) _ numbers) in
     λ i. record { name = names i; strategies = strategies i; terms = terms i }
 
 -- the test decides whether two keys are equal
 pub same_key-Decides : (k l : Key) → Decides (same_key k l) (k ≡ l)
-same_key-Decides k l = (same_key-true k l, λ equal. let P : Key → Type 0 = λ m. same_key k m ≡ true in subst P equal (same_key-refl k))
+same_key-Decides k l = (
+  same_key-true k l,
+  λ equal. let P : Key → Type 0 = λ m. same_key k m ≡ true in
+      subst P equal (same_key-refl k),
+)
 
 pub same_key_equiv : IsEquivalence same_key
 same_key_equiv = decided same_key same_key-Decides

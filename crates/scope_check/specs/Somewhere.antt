@@ -76,14 +76,18 @@ abbrev mutual
   in_primary P L (parenthesized s) = P L (strategy (parenthesized s)) || in_strategy P L s
   in_primary P L (scope xs s) = P L (strategy (scope xs s)) || in_strategy P L s
   in_primary P L (operator o s) = P L (strategy (operator o s)) || in_strategy P L s
-  in_primary P L (conditional s t u) = P L (strategy (conditional s t u)) || (in_strategy P L s || (in_strategy P L t || in_optional_strategy P L u))
+  in_primary P L (conditional s t u) =
+      P L (strategy (conditional s t u)) || (in_strategy P L s || (in_strategy P L t || in_optional_strategy P L u))
   in_primary P L (recursive f s) = P L (strategy (recursive f s)) || in_strategy P (in_rec f L) s
-  in_primary P L (let_in ds s) = P L (strategy (let_in ds s)) || (P L (group (heads_in ds)) || (in_definitions P (in_let ds L) ds || in_strategy P (in_let ds L) s))
+  in_primary P L (let_in ds s) =
+      P L (strategy (let_in ds s)) ||
+      (P L (group (heads_in ds)) || (in_definitions P (in_let ds L) ds || in_strategy P (in_let ds L) s))
   in_primary P L (primitive f ps) = P L (strategy (primitive f ps)) || in_patterns P Build L ps
   in_primary P L (lambda r) = P L (strategy (lambda r)) || in_rule P L r
   in_primary P L (call f arguments) = P L (strategy (call f arguments)) || in_arguments P L arguments
   in_primary P L (tuple_congruence ss) = P L (strategy (tuple_congruence ss)) || in_strategies P L ss
-  in_primary P L (list_congruence ss s) = P L (strategy (list_congruence ss s)) || (in_strategies P L ss || in_optional_strategy P L s)
+  in_primary P L (list_congruence ss s) =
+      P L (strategy (list_congruence ss s)) || (in_strategies P L ss || in_optional_strategy P L s)
 
   pub in_arguments : Test → Seen → ArgumentTree → Bool
   in_arguments P L no_arguments = false

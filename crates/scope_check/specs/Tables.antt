@@ -1,5 +1,6 @@
+-- The headline does not rest on this file.
 -- What the tables and the layers of the walk over a file hold.
-use Rattle.std.specs.Prelude.{◌≡◌, ◌⊎◌, ◌||◌, ◌++◌, Bool, true, false, List, [], ◌∷◌, map}
+use Rattle.std.specs.Prelude.{◌≡◌, ◌⊎◌, ◌||◌, ◌++◌, Bool, true, false, List, [], ◌∷◌, map, Result}
 use Rattle.std.specs.Borrow.{Bor}
 use Rattle.str_syntax.specs.declared.strategy.DefinitionHead.{DefinitionHead}
 use Rattle.str_syntax.specs.Views.{head_of}
@@ -7,6 +8,8 @@ use Rattle.str_syntax.specs.Trees.{Bytes, HeadTree, SectionTree, signature, rule
 use Rattle.signature_core.specs.Signature.{Declared, is_declared, declarations_of_signature, declarations_of_parts}
 use Rattle.term_model.specs.declared.fault.Fault.{Fault}
 use Rattle.term_model.specs.declared.fault.Fault.TheVariants.{Memory, DuplicateDeclaration}
+use Rattle.term_model.specs.Results.{Returns}
+use Rattle.scope_check.specs.declared.findings.Findings.{Findings}
 use Rattle.scope_check.specs.declared.layers.Layers.{Layers}
 use Rattle.scope_check.specs.declared.layers.Layers.TheOpen.{Layers-F, Outermost, Inner, Recursive}
 use Rattle.scope_check.specs.declared.layers.Layers.TheFolds.{fold-Layers}
@@ -36,6 +39,11 @@ layers_step (Recursive f up) = in_rec f.now up.now
 
 abbrev pub layers_of : Layers → Seen
 layers_of = fold-Layers Seen layers_step
+
+-- the call returns what is found in a part, where this is known and seen, unless it fails
+abbrev pub Finds : {A E : Type 0} → Result Findings E → (Known → Seen → A → Findings) → declared.Known → Layers → A →
+    Type 0
+Finds result find known layers part = Returns result (find (known_of known) (layers_of layers) part)
 
 -- the heads that are pointed at
 abbrev pub heads_of : List (Bor DefinitionHead) → List HeadTree

@@ -1,4 +1,4 @@
-// Alternatives: heads of one key.
+//! Alternatives: heads of one key.
 ghost use Rattle.std.specs.Prelude.{◌≡◌, ◌||◌, Bool, [], cond, is_some, not, true, IfOk, OnOk};
 ghost use Rattle.indexmap.specs.IndexMap.{get};
 ghost use Rattle.scope_check.specs.Complaint.{same_parameters, some_differ, too_many};
@@ -16,10 +16,10 @@ use std::alloc::{AllocError, Global};
 use std::marker::Model;
 use str_syntax::DefinitionHead;
 
-// The most heads of one key.
+/// The most heads of one key.
 const MOST: usize = 1000;
 
-// The first head of a key, and how many heads it has.
+/// The first head of a key, and how many heads it has.
 #[derive(Drop)]
 pub(crate) struct Group<'a> {
     first: &'a DefinitionHead,
@@ -35,14 +35,14 @@ impl<'a> Model for Group<'a> {
     ghost view = { λ g. record { first = head_of g.first.now; number = g.number } };
 }
 
-// The groups of heads, by their keys.
+/// The groups of heads, by their keys.
 #[derive(Drop)]
 pub(crate) struct Groups<'a> {
     by_key: IndexMap<Key<'a>, Group<'a>>,
 }
 
 impl<'a> Groups<'a> {
-    // No groups.
+    /// No groups.
     fn new(alloc: Global) -> Groups<'a>
         ensures { result.by_key.entries ≡ [] }
     {
@@ -51,9 +51,10 @@ impl<'a> Groups<'a> {
         }
     }
 
-    // The group of the head with the head in it, if it may stand there.
+    /// The group of the head with the head in it, if it may stand there.
     fn with(&self, head: &'a DefinitionHead) -> Option<Group<'a>>
-        ensures { result ≡ with_head (head_of head.now) (get same_key self.now.by_key (key_of (head_of head.now))) }
+        ensures { result ≡ with_head (head_of head.now)
+            (get same_key self.now.by_key (key_of (head_of head.now))) }
     {
         let Some(group) = self.by_key.get(&key_of(head)) else {
             let number = 1;
@@ -70,8 +71,8 @@ impl<'a> Groups<'a> {
         Some(Group { first, number })
     }
 
-    // Notes why the head may not stand in its group. A head of the library has no place in the file, but the first of its group may
-    // have one.
+    /// Notes why the head may not stand in its group. A head of the library has no place in the file, but the first of its group may
+    /// have one.
     fn note_refusal(&self, head: &DefinitionHead, notes: &mut Notes) {
         let Some(group) = self.by_key.get(&key_of(head)) else {
             return;
@@ -88,7 +89,7 @@ impl<'a> Groups<'a> {
         }
     }
 
-    // Whether the group of the key may have more heads.
+    /// Whether the group of the key may have more heads.
     fn has_room(&self, key: &Key<'a>) -> bool {
         match self.by_key.get(key) {
             Some(group) => group.number < MOST,
@@ -96,11 +97,17 @@ impl<'a> Groups<'a> {
         }
     }
 
-    // Adds the head to its group, and returns whether it may stand there.
+    /// Adds the head to its group, and returns whether it may stand there.
     fn add(&mut self, head: &'a DefinitionHead) -> Result<bool, AllocError>
-        ensures fits { IfOk result (λ fits. fits ≡ is_some (with_head (head_of head.now) (get same_key self.old.by_key (key_of (head_of head.now))))) }
-        ensures added { IfOk result (λ fits. fits ≡ true → (k : spec.Key) → get same_key self.new.by_key k
-            ≡ cond (same_key (key_of (head_of head.now)) k) (with_head (head_of head.now) (get same_key self.old.by_key (key_of (head_of head.now)))) (get same_key self.old.by_key k)) }
+        ensures fits { IfOk result (λ fits. fits ≡
+            is_some (with_head (head_of head.now)
+            (get same_key self.old.by_key (key_of (head_of head.now))))) }
+        ensures added { IfOk result (λ fits. fits ≡ true → (k : spec.Key) →
+            get same_key self.new.by_key k
+            ≡ cond (same_key (key_of (head_of head.now)) k)
+            (with_head (head_of head.now)
+            (get same_key self.old.by_key (key_of (head_of head.now))))
+            (get same_key self.old.by_key k)) }
     {
         let Some(group) = self.with(head) else {
             return Ok(false);
@@ -116,7 +123,8 @@ pub(crate) fn is_bad_group(
     heads: &[&DefinitionHead],
     notes: &mut Notes,
 ) -> Result<bool, AllocError>
-    ensures { IfOk result (λ bad. bad ≡ (some_differ (heads_of heads.now) || too_many (heads_of heads.now))) }
+    ensures { IfOk result (λ bad. bad ≡
+        (some_differ (heads_of heads.now) || too_many (heads_of heads.now))) }
 {
     let mut groups = Groups::new(alloc);
     for head in heads {
@@ -129,7 +137,7 @@ pub(crate) fn is_bad_group(
     Ok(false)
 }
 
-// Notes the heads that may not stand in their groups: each that has other parameters, and the first of those that are too many.
+/// Notes the heads that may not stand in their groups: each that has other parameters, and the first of those that are too many.
 fn note_refusals(
     alloc: Global,
     heads: &[&DefinitionHead],

@@ -1,4 +1,4 @@
-// What a call is.
+//! What a call is.
 ghost use Rattle.std.specs.Prelude.{◌≡◌, ◌||◌};
 ghost use Rattle.scope_check.specs.Complaint.{called, is_congruence};
 ghost use Rattle.scope_check.specs.Tables.{layers_of};
@@ -19,7 +19,8 @@ pub(crate) fn is_known<'t>(
     given: &Arguments,
     notes: &mut Notes,
 ) -> bool
-    ensures { result ≡ (is_congruence signature.now name.now (arguments_of given.now) || layers_of layers.now (called name.now (arguments_of given.now))) }
+    ensures { result ≡ (is_congruence signature.now name.now (arguments_of given.now) ||
+        layers_of layers.now (called name.now (arguments_of given.now))) }
 {
     if is_congruence(signature, name, given) {
         return true;
@@ -39,7 +40,7 @@ pub(crate) fn is_known<'t>(
     false
 }
 
-// The numbers with which the name is seen, if a note of an unknown strategy there would be kept.
+/// The numbers with which the name is seen, if a note of an unknown strategy there would be kept.
 fn numbers_to_note(layers: &Layers<'_, '_>, name: &Name, notes: &Notes) -> Option<(usize, usize)> {
     if notes.wants(&Fault::UnknownStrategy, name) {
         return numbers_seen(layers, name.bytes());
@@ -47,7 +48,7 @@ fn numbers_to_note(layers: &Layers<'_, '_>, name: &Name, notes: &Notes) -> Optio
     None
 }
 
-// Whether the call is a congruence.
+/// Whether the call is a congruence.
 #[tactic(auto, using(str_syntax::proofs::ArityLaws::counted))]
 fn is_congruence(signature: &Signature, name: &Name, given: &Arguments) -> bool
     ensures { result ≡ is_congruence signature.now name.now (arguments_of given.now) }

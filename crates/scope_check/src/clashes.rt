@@ -1,4 +1,4 @@
-// Where constructors are declared whose names are those of definitions of the library. Nothing here has a contract: it only notes.
+//! Where constructors are declared whose names are those of definitions of the library. Nothing here has a contract: it only notes.
 
 use crate::findings::Findings;
 use crate::notes::{Detail, Notes, place_of};
@@ -22,7 +22,7 @@ pub(crate) fn note_clashes(
     }
 }
 
-// Notes those in the parts of a signature.
+/// Notes those in the parts of a signature.
 fn note_in_parts(parts: &[SignaturePart], heads: &[&DefinitionHead], notes: &mut Notes) {
     for part in parts {
         if let SignaturePart::Constructors(all) = part {
@@ -31,7 +31,7 @@ fn note_in_parts(parts: &[SignaturePart], heads: &[&DefinitionHead], notes: &mut
     }
 }
 
-// Notes those among the declarations.
+/// Notes those among the declarations.
 fn note_declarations(all: &[Declaration], heads: &[&DefinitionHead], notes: &mut Notes) {
     for one in all {
         match one {
@@ -42,7 +42,7 @@ fn note_declarations(all: &[Declaration], heads: &[&DefinitionHead], notes: &mut
     }
 }
 
-// Notes the declaration of the constructor, if a definition of the library has its name.
+/// Notes the declaration of the constructor, if a definition of the library has its name.
 fn note_declaration(name: &Name, heads: &[&DefinitionHead], notes: &mut Notes) {
     for head in heads {
         if place_of(&head.name).is_none() && head.name.bytes() == name.bytes() {

@@ -1,4 +1,4 @@
-// The signature of a file.
+//! The signature of a file.
 ghost use Rattle.std.specs.Prelude.{◌≡◌, ◌∷◌, [], map, IfErr, IfOk, OnOk};
 ghost use Rattle.scope_check.specs.Tables.{AreDeclared, IsRefusal, declared_by, declared_in};
 ghost use Rattle.signature_core.specs.Signature.{declarations_of, declarations_of_part, declarations_of_parts, declarations_of_sections, declarations_of_signature};
@@ -18,7 +18,8 @@ pub(crate) fn signature_of(
     file: &File,
     notes: &mut Notes,
 ) -> Result<Signature, Fault>
-    ensures declared { IfOk result (λ made. AreDeclared [] (declarations_of (file_of file.now)) made) }
+    ensures declared { IfOk result
+        (λ made. AreDeclared [] (declarations_of (file_of file.now)) made) }
     ensures refused { IfErr result (IsRefusal [] (declarations_of (file_of file.now))) }
 {
     let mut signature = Signature::new(alloc);
@@ -43,7 +44,7 @@ pub(crate) fn distinct_signature(
     Ok(signature)
 }
 
-// Declares what the parts of a signature declare, but for what is declared.
+/// Declares what the parts of a signature declare, but for what is declared.
 fn declare_distinct(
     alloc: Global,
     signature: &mut Signature,
@@ -62,7 +63,7 @@ fn declare_distinct(
     Ok(())
 }
 
-// Declares the constructor, if the declaration is of one that is not declared.
+/// Declares the constructor, if the declaration is of one that is not declared.
 fn declare_new(
     alloc: Global,
     signature: &mut Signature,
@@ -77,15 +78,18 @@ fn declare_new(
     }
 }
 
-// Declares what the sections declare, one after another.
+/// Declares what the sections declare, one after another.
 fn declare_sections(
     alloc: Global,
     signature: &mut Signature,
     sections: &[Section],
     notes: &mut Notes,
 ) -> Result<(), Fault>
-    ensures declared { OnOk result (AreDeclared signature.old (declarations_of_sections (map section_of sections.now)) signature.new) }
-    ensures refused { IfErr result (IsRefusal signature.old (declarations_of_sections (map section_of sections.now))) }
+    ensures declared { OnOk result
+        (AreDeclared signature.old (declarations_of_sections (map section_of sections.now))
+        signature.new) }
+    ensures refused { IfErr result
+        (IsRefusal signature.old (declarations_of_sections (map section_of sections.now))) }
 {
     for section in sections {
         declare_section(alloc, signature, section, notes)?;
@@ -93,15 +97,17 @@ fn declare_sections(
     Ok(())
 }
 
-// Declares what the section declares.
+/// Declares what the section declares.
 fn declare_section(
     alloc: Global,
     signature: &mut Signature,
     section: &Section,
     notes: &mut Notes,
 ) -> Result<(), Fault>
-    ensures declared { OnOk result (AreDeclared signature.old (declared_in (section_of section.now)) signature.new) }
-    ensures refused { IfErr result (IsRefusal signature.old (declared_in (section_of section.now))) }
+    ensures declared { OnOk result
+        (AreDeclared signature.old (declared_in (section_of section.now)) signature.new) }
+    ensures refused { IfErr result (IsRefusal signature.old (declared_in
+        (section_of section.now))) }
 {
     match section {
         Section::Signature(parts) => declare_parts(alloc, signature, parts, notes),
@@ -110,15 +116,18 @@ fn declare_section(
     }
 }
 
-// Declares what the parts of a signature declare.
+/// Declares what the parts of a signature declare.
 fn declare_parts(
     alloc: Global,
     signature: &mut Signature,
     parts: &[SignaturePart],
     notes: &mut Notes,
 ) -> Result<(), Fault>
-    ensures declared { OnOk result (AreDeclared signature.old (declarations_of_signature (map signature_of parts.now)) signature.new) }
-    ensures refused { IfErr result (IsRefusal signature.old (declarations_of_signature (map signature_of parts.now))) }
+    ensures declared { OnOk result
+        (AreDeclared signature.old (declarations_of_signature (map signature_of parts.now))
+        signature.new) }
+    ensures refused { IfErr result
+        (IsRefusal signature.old (declarations_of_signature (map signature_of parts.now))) }
 {
     for part in parts {
         declare_part(alloc, signature, part, notes)?;
@@ -126,14 +135,15 @@ fn declare_parts(
     Ok(())
 }
 
-// Declares what the part of a signature declares.
+/// Declares what the part of a signature declares.
 fn declare_part(
     alloc: Global,
     signature: &mut Signature,
     part: &SignaturePart,
     notes: &mut Notes,
 ) -> Result<(), Fault>
-    ensures declared { OnOk result (AreDeclared signature.old (declared_by (signature_of part.now)) signature.new) }
+    ensures declared { OnOk result
+        (AreDeclared signature.old (declared_by (signature_of part.now)) signature.new) }
     ensures refused { IfErr result (IsRefusal signature.old (declared_by (signature_of part.now))) }
 {
     match part {
@@ -142,15 +152,18 @@ fn declare_part(
     }
 }
 
-// Declares the constructors.
+/// Declares the constructors.
 fn declare_all(
     alloc: Global,
     signature: &mut Signature,
     all: &[Declaration],
     notes: &mut Notes,
 ) -> Result<(), Fault>
-    ensures declared { OnOk result (AreDeclared signature.old (declarations_of_parts (map declaration_of all.now)) signature.new) }
-    ensures refused { IfErr result (IsRefusal signature.old (declarations_of_parts (map declaration_of all.now))) }
+    ensures declared { OnOk result
+        (AreDeclared signature.old (declarations_of_parts (map declaration_of all.now))
+        signature.new) }
+    ensures refused { IfErr result
+        (IsRefusal signature.old (declarations_of_parts (map declaration_of all.now))) }
 {
     for one in all {
         declare(alloc, signature, one, notes)?;
@@ -158,15 +171,17 @@ fn declare_all(
     Ok(())
 }
 
-// Declares the constructor, if the declaration is of one.
+/// Declares the constructor, if the declaration is of one.
 fn declare(
     alloc: Global,
     signature: &mut Signature,
     one: &Declaration,
     notes: &mut Notes,
 ) -> Result<(), Fault>
-    ensures declared { OnOk result (AreDeclared signature.old (declarations_of_part (declaration_of one.now)) signature.new) }
-    ensures refused { IfErr result (IsRefusal signature.old (declarations_of_part (declaration_of one.now))) }
+    ensures declared { OnOk result
+        (AreDeclared signature.old (declarations_of_part (declaration_of one.now)) signature.new) }
+    ensures refused { IfErr result
+        (IsRefusal signature.old (declarations_of_part (declaration_of one.now))) }
 {
     match one {
         Declaration::Constant(c, a) => declare_constructor(alloc, signature, c, &[], a, notes),
@@ -177,7 +192,7 @@ fn declare(
     }
 }
 
-// Declares the constructor of copies of the name and the sorts.
+/// Declares the constructor of copies of the name and the sorts.
 fn declare_constructor(
     alloc: Global,
     signature: &mut Signature,
@@ -186,8 +201,10 @@ fn declare_constructor(
     to: &Sort,
     notes: &mut Notes,
 ) -> Result<(), Fault>
-    ensures declared { OnOk result (AreDeclared signature.old (declaration name.now arguments.now to.now ∷ []) signature.new) }
-    ensures refused { IfErr result (IsRefusal signature.old (declaration name.now arguments.now to.now ∷ [])) }
+    ensures declared { OnOk result
+        (AreDeclared signature.old (declaration name.now arguments.now to.now ∷ []) signature.new) }
+    ensures refused { IfErr result
+        (IsRefusal signature.old (declaration name.now arguments.now to.now ∷ [])) }
 {
     let copied = name.copy(alloc)?;
     let arguments = copy_sorts(alloc, arguments)?;

@@ -1,4 +1,4 @@
-// A whole file: its heads together, and its sections.
+//! A whole file: its heads together, and its sections.
 ghost use Rattle.std.specs.Prelude.{◌≡◌, map, IfOk};
 ghost use Rattle.scope_check.specs.Found.{found_group, found_in_tops, joined};
 ghost use Rattle.scope_check.specs.Seen.{among, inner, key_of, nothing, tops_in};
@@ -23,7 +23,11 @@ pub(crate) fn with_heads<'t>(
     all: &'t [Section],
     notes: &mut Notes,
 ) -> Result<Findings, AllocError>
-    ensures { IfOk result (λ found. found ≡ joined (found_group (heads_of heads.now)) (found_in_tops (known_of known.now) (inner (among (map key_of (heads_of heads.now))) nothing) (tops_in (map section_of all.now)))) }
+    ensures { IfOk result (λ found. found ≡
+        joined (found_group (heads_of heads.now))
+        (found_in_tops (known_of known.now)
+        (inner (among (map key_of (heads_of heads.now))) nothing)
+        (tops_in (map section_of all.now)))) }
 {
     let here = found_in_group(alloc, heads, notes)?;
     let keys = keys_of(alloc, heads)?;
@@ -31,7 +35,7 @@ pub(crate) fn with_heads<'t>(
     Ok(here.or(inside))
 }
 
-// What is found in sections that see these keys.
+/// What is found in sections that see these keys.
 fn in_keys<'t>(
     alloc: Global,
     known: &Known<'_>,
@@ -39,7 +43,9 @@ fn in_keys<'t>(
     all: &'t [Section],
     notes: &mut Notes,
 ) -> Result<Findings, AllocError>
-    ensures { IfOk result (λ found. found ≡ found_in_tops (known_of known.now) (inner (among keys.now) nothing) (tops_in (map section_of all.now))) }
+    ensures { IfOk result (λ found. found ≡
+        found_in_tops (known_of known.now) (inner (among keys.now) nothing)
+        (tops_in (map section_of all.now))) }
 {
     let outermost = Layers::Outermost;
     let inner = Layers::Inner {

@@ -1,4 +1,4 @@
-// Which complaints were found.
+//! Which complaints were found.
 ghost use Rattle.std.specs.Prelude.{◌≡◌};
 ghost use Rattle.scope_check.specs.Found.{joined, none};
 

@@ -1,9 +1,10 @@
-// Definitions that stand together.
+//! Definitions that stand together.
 ghost use Rattle.std.specs.Prelude.{◌≡◌, map, IfOk};
 ghost use Rattle.scope_check.specs.Found.{found_group};
 ghost use Rattle.scope_check.specs.Seen.{among, heads_in, key_of, plain_key};
 ghost use Rattle.scope_check.specs.Tables.{heads_of};
 ghost use Rattle.str_syntax.specs.Views.{definitions_of};
+ghost use Rattle.term_model.specs.Results.{Returns};
 
 use crate::alternatives::is_bad_group;
 use crate::findings::Findings;
@@ -18,7 +19,8 @@ pub(crate) fn heads_of(
     alloc: Global,
     definitions: &[StrategyDefinition],
 ) -> Result<Vec<&DefinitionHead>, AllocError>
-    ensures { IfOk result (λ heads. heads_of heads.items ≡ heads_in (definitions_of definitions.now)) }
+    ensures { IfOk result (λ heads. heads_of heads.items ≡
+        heads_in (definitions_of definitions.now)) }
 {
     let mut heads = Vec::with_capacity(alloc, definitions.len())?;
     for definition in definitions {
@@ -46,7 +48,8 @@ pub(crate) fn definition_keys(
     alloc: Global,
     definitions: &[StrategyDefinition],
 ) -> Result<Keys<'_>, AllocError>
-    ensures { IfOk result (λ keys. among keys ≡ among (map key_of (heads_in (definitions_of definitions.now)))) }
+    ensures { IfOk result (λ keys. among keys ≡
+        among (map key_of (heads_in (definitions_of definitions.now)))) }
 {
     let heads = heads_of(alloc, definitions)?;
     keys_of(alloc, &heads)
@@ -71,7 +74,7 @@ pub(crate) fn check_group(
     definitions: &[StrategyDefinition],
     notes: &mut Notes,
 ) -> Result<Findings, AllocError>
-    ensures { IfOk result (λ found. found ≡ found_group (heads_in (definitions_of definitions.now))) }
+    ensures { Returns result (found_group (heads_in (definitions_of definitions.now))) }
 {
     let heads = heads_of(alloc, definitions)?;
     found_in_group(alloc, &heads, notes)
@@ -83,7 +86,7 @@ pub(crate) fn found_in_group(
     heads: &[&DefinitionHead],
     notes: &mut Notes,
 ) -> Result<Findings, AllocError>
-    ensures { IfOk result (λ found. found ≡ found_group (heads_of heads.now)) }
+    ensures { Returns result (found_group (heads_of heads.now)) }
 {
     let bad_parameters = is_bad_group(alloc, heads, notes)?;
     Ok(Findings {

@@ -1,4 +1,4 @@
-// The heads of rules and definitions.
+//! The heads of rules and definitions.
 ghost use Rattle.std.specs.Prelude.{◌≡◌, IfOk};
 ghost use Rattle.std.specs.List.{list_any};
 ghost use Rattle.scope_check.specs.Complaint.{clashes};
@@ -74,7 +74,8 @@ pub(crate) fn check_head(
     head: &DefinitionHead,
     notes: &mut Notes,
 ) -> Result<Findings, AllocError>
-    ensures { IfOk result (λ found. found ≡ found_at (known_of known.now) (heading origin (head_of head.now))) }
+    ensures { IfOk result (λ found. found ≡
+        found_at (known_of known.now) (heading origin (head_of head.now))) }
 {
     let strategies = strategy_names(&head.parameters);
     let terms = term_names(&head.parameters);
@@ -87,7 +88,7 @@ pub(crate) fn check_head(
     })
 }
 
-// Whether the name or, unless it is the library's, a strategy parameter is the name of a declared constructor.
+/// Whether the name or, unless it is the library's, a strategy parameter is the name of a declared constructor.
 fn clashes(signature: &Signature, origin: Origin, head: &DefinitionHead, notes: &mut Notes) -> bool
     ensures { result ≡ clashes signature.now nothing (heading origin (head_of head.now)) }
 {
@@ -95,7 +96,7 @@ fn clashes(signature: &Signature, origin: Origin, head: &DefinitionHead, notes: 
         || (is_own(origin) && any_declared(signature, strategy_names(&head.parameters), notes))
 }
 
-// Whether one of the names is the name of a declared constructor.
+/// Whether one of the names is the name of a declared constructor.
 fn any_declared(signature: &Signature, names: &[Name], notes: &mut Notes) -> bool
     ensures { result ≡ list_any (is_declared_name signature.now) names.now }
 {

@@ -98,9 +98,12 @@ pub fn check(
 ) -> Result<Checked, Fault>
     ensures file { IfOk result (λ checked. checked.file ≡ file) }
     ensures main { IfOk result (λ checked. checked.main ≡ main.now) }
-    ensures checked { IfOk result (λ checked. IsChecked (file_of file) checked.declarations main.now) }
-    ensures faultless { IfOk result (λ checked. first_fault (holds primitives.now) (file_of file) main.now ≡ None) }
-    ensures fault { IfErr result (λ fault. (fault ≡ Memory) ⊎ (first_fault (holds primitives.now) (file_of file) main.now ≡ Some fault)) }
+    ensures checked { IfOk result
+        (λ checked. IsChecked (file_of file) checked.declarations main.now) }
+    ensures faultless { IfOk result
+        (λ checked. first_fault (holds primitives.now) (file_of file) main.now ≡ None) }
+    ensures fault { IfErr result (λ fault. (fault ≡ Memory) ⊎
+        (first_fault (holds primitives.now) (file_of file) main.now ≡ Some fault)) }
 {
     let mut notes = Notes::none();
     check_with_notes(alloc, file, primitives, main, &mut notes)
@@ -116,9 +119,12 @@ pub fn check_with_notes(
 ) -> Result<Checked, Fault>
     ensures file { IfOk result (λ checked. checked.file ≡ file) }
     ensures main { IfOk result (λ checked. checked.main ≡ main.now) }
-    ensures checked { IfOk result (λ checked. IsChecked (file_of file) checked.declarations main.now) }
-    ensures faultless { IfOk result (λ checked. first_fault (holds primitives.now) (file_of file) main.now ≡ None) }
-    ensures fault { IfErr result (λ fault. (fault ≡ Memory) ⊎ (first_fault (holds primitives.now) (file_of file) main.now ≡ Some fault)) }
+    ensures checked { IfOk result
+        (λ checked. IsChecked (file_of file) checked.declarations main.now) }
+    ensures faultless { IfOk result
+        (λ checked. first_fault (holds primitives.now) (file_of file) main.now ≡ None) }
+    ensures fault { IfErr result (λ fault. (fault ≡ Memory) ⊎
+        (first_fault (holds primitives.now) (file_of file) main.now ≡ Some fault)) }
 {
     notes.begin();
     let signature = signature_of(alloc, &file, notes)?;
@@ -158,7 +164,7 @@ pub fn note_faults(
     Ok(signature)
 }
 
-// The fault of the least number in a file that is judged by this, where no declaration stands twice.
+/// The fault of the least number in a file that is judged by this, where no declaration stands twice.
 fn fault_found(
     alloc: Global,
     known: &Known<'_>,
@@ -166,7 +172,9 @@ fn fault_found(
     main: &[u8],
     notes: &mut Notes,
 ) -> Result<Option<Fault>, AllocError>
-    ensures { IfOk result (λ fault. fault ≡ first_of (occurring (found_in_file (known_of known.now) (file_of file.now)) (at_top (file_of file.now) (plain_key main.now))) complaints) }
+    ensures { IfOk result (λ fault. fault ≡
+        first_of (occurring (found_in_file (known_of known.now) (file_of file.now))
+        (at_top (file_of file.now) (plain_key main.now))) complaints) }
 {
     let heads = heads_in_sections(alloc, &file.sections)?;
     let has_main = has_main(&heads, main, notes);
@@ -177,7 +185,7 @@ fn fault_found(
     Ok(least_fault(found, has_main))
 }
 
-// Whether one of the heads has the name of main and no parameters.
+/// Whether one of the heads has the name of main and no parameters.
 fn has_main(heads: &[&DefinitionHead], main: &[u8], notes: &mut Notes) -> bool
     ensures { result ≡ among (map key_of (heads_of heads.now)) (plain_key main.now) }
 {
@@ -188,7 +196,7 @@ fn has_main(heads: &[&DefinitionHead], main: &[u8], notes: &mut Notes) -> bool
     false
 }
 
-// The fault of the least number among those that were found.
+/// The fault of the least number among those that were found.
 fn least_fault(found: Findings, has_main: bool) -> Option<Fault>
     ensures { result ≡ first_of (occurring found has_main) complaints }
 {

@@ -1,7 +1,8 @@
-// Keys of definitions, and tables of them.
-ghost use Rattle.std.specs.Prelude.{◌≡◌, ◌||◌, [], not, IfOk, OnOk};
+//! Keys of definitions, and tables of them.
+ghost use Rattle.std.specs.Prelude.{◌≡◌, ◌||◌, [], not, OnOk};
 ghost use Rattle.scope_check.specs.Seen as spec;
 ghost use Rattle.scope_check.specs.Seen.{among, plain_key, same_key};
+ghost use Rattle.term_model.specs.Results.{Returns};
 
 use indexmap::IndexSet;
 use std::alloc::{AllocError, Global};
@@ -84,10 +85,10 @@ impl<'a> Hash for Key<'a> {
     }
 }
 
-// The most keys that a look-up walks.
+/// The most keys that a look-up walks.
 const FEW: usize = 8;
 
-// Whether the key is one of these.
+/// Whether the key is one of these.
 fn stands_among<'a>(keys: &[Key<'a>], key: &Key<'a>) -> bool
     ensures { result ≡ among keys.now key.now }
 {
@@ -97,13 +98,13 @@ fn stands_among<'a>(keys: &[Key<'a>], key: &Key<'a>) -> bool
 /// Keys that were added. A look-up compares at most eight of them.
 #[derive(Drop)]
 pub(crate) struct Keys<'a> {
-    // The first keys.
+    /// The first keys.
     few: Vec<Key<'a>>,
-    // The keys after them.
+    /// The keys after them.
     table: IndexSet<Key<'a>>,
 }
 
-// The keys, each once, in the order in which they were added.
+/// The keys, each once, in the order in which they were added.
 impl<'a> Model for Keys<'a> {
     ghost use Rattle.std.specs.Prelude.{List, ◌++◌};
     ghost use Rattle.scope_check.specs.Seen.{Key};
@@ -126,8 +127,9 @@ impl<'a> Keys<'a> {
 
     /// Adds the key, and returns whether it was not there before. `AllocError` where a growth is refused.
     pub(crate) fn add(&mut self, key: Key<'a>) -> Result<bool, AllocError>
-        ensures added { OnOk result ((k : spec.Key) → among self.new k ≡ (among self.old k || same_key k key.entry)) }
-        ensures new { IfOk result (λ new. new ≡ not (among self.old key.entry)) }
+        ensures added { OnOk result ((k : spec.Key) →
+            among self.new k ≡ (among self.old k || same_key k key.entry)) }
+        ensures new { Returns result (not (among self.old key.entry)) }
     {
         if stands_among(&self.few, &key) {
             return Ok(false);

@@ -1,4 +1,4 @@
-// What a file is judged by.
+//! What a file is judged by.
 ghost use Rattle.std.specs.Prelude.{◌≡◌};
 ghost use Rattle.scope_check.specs.Primitives.{holds};
 

@@ -1,4 +1,4 @@
-// What is seen at a place, in layers.
+//! What is seen at a place, in layers.
 ghost use Rattle.std.specs.Prelude.{◌≡◌};
 ghost use Rattle.scope_check.specs.Tables.{layers_of};
 

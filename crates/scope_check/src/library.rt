@@ -1,10 +1,11 @@
-// Definitions of the file that have the key of one of the library's.
+//! Definitions of the file that have the key of one of the library's.
 ghost use Rattle.std.specs.Prelude.{◌≡◌, ◌++◌, ◌∷◌, [], map, IfOk, OnOk};
 ghost use Rattle.std.specs.List.{list_any};
 ghost use Rattle.scope_check.specs.Found.{found_redefinition, tops_of};
 ghost use Rattle.scope_check.specs.Seen.{among, heads_from, is_from, is_own, key_of, tops_in};
 ghost use Rattle.scope_check.specs.Tables.{heads_of};
 ghost use Rattle.str_syntax.specs.Views.{file_of, section_of, top_of};
+ghost use Rattle.term_model.specs.Results.{Returns};
 
 use crate::findings::Findings;
 use crate::groups::keys_of;
@@ -31,7 +32,7 @@ pub(crate) fn redefinition(
     file: &File,
     notes: &mut Notes,
 ) -> Result<Findings, AllocError>
-    ensures { IfOk result (λ found. found ≡ found_redefinition (file_of file.now)) }
+    ensures { Returns result (found_redefinition (file_of file.now)) }
 {
     let library = heads_from(alloc, Origin::Library, &file.sections)?;
     let keys = keys_of(alloc, &library)?;
@@ -42,7 +43,7 @@ pub(crate) fn redefinition(
     })
 }
 
-// Whether one of the heads has one of the keys.
+/// Whether one of the heads has one of the keys.
 fn any_among<'t>(keys: &Keys<'t>, heads: &[&'t DefinitionHead], notes: &mut Notes) -> bool
     ensures { result ≡ list_any (λ h. among keys.now (key_of h)) (heads_of heads.now) }
 {
@@ -55,7 +56,7 @@ fn any_among<'t>(keys: &Keys<'t>, heads: &[&'t DefinitionHead], notes: &mut Note
     false
 }
 
-// Notes each head that has one of the keys.
+/// Notes each head that has one of the keys.
 fn note_among<'t>(keys: &Keys<'t>, heads: &[&'t DefinitionHead], notes: &mut Notes) {
     for head in heads {
         if keys.has(&key_of(head)) {
@@ -64,13 +65,14 @@ fn note_among<'t>(keys: &Keys<'t>, heads: &[&'t DefinitionHead], notes: &mut Not
     }
 }
 
-// The heads of the rules and definitions in the sections that come from there, in order.
+/// The heads of the rules and definitions in the sections that come from there, in order.
 fn heads_from(
     alloc: Global,
     origin: Origin,
     sections: &[Section],
 ) -> Result<Vec<&DefinitionHead>, AllocError>
-    ensures { IfOk result (λ heads. heads_of heads.items ≡ heads_from origin (tops_in (map section_of sections.now))) }
+    ensures { IfOk result (λ heads. heads_of heads.items ≡
+        heads_from origin (tops_in (map section_of sections.now))) }
 {
     let mut heads = Vec::new(alloc);
     for section in sections {
@@ -79,13 +81,14 @@ fn heads_from(
     Ok(heads)
 }
 
-// Adds those of one section.
+/// Adds those of one section.
 fn add_section<'t>(
     heads: &mut Vec<&'t DefinitionHead>,
     origin: Origin,
     section: &'t Section,
 ) -> Result<(), AllocError>
-    ensures { OnOk result (heads_of heads.new.items ≡ heads_of heads.old.items ++ heads_from origin (tops_of (section_of section.now))) }
+    ensures { OnOk result (heads_of heads.new.items ≡ heads_of heads.old.items ++
+        heads_from origin (tops_of (section_of section.now))) }
 {
     match section {
         Section::Signature(_) => Ok(()),
@@ -94,13 +97,14 @@ fn add_section<'t>(
     }
 }
 
-// Adds those of rules and definitions.
+/// Adds those of rules and definitions.
 fn add_tops<'t>(
     heads: &mut Vec<&'t DefinitionHead>,
     origin: Origin,
     all: &'t [Definition],
 ) -> Result<(), AllocError>
-    ensures { OnOk result (heads_of heads.new.items ≡ heads_of heads.old.items ++ heads_from origin (map top_of all.now)) }
+    ensures { OnOk result (heads_of heads.new.items ≡ heads_of heads.old.items ++
+        heads_from origin (map top_of all.now)) }
 {
     for one in all {
         add_top(heads, origin, one)?;
@@ -108,13 +112,14 @@ fn add_tops<'t>(
     Ok(())
 }
 
-// Adds the head of a rule or a definition, if it comes from there.
+/// Adds the head of a rule or a definition, if it comes from there.
 fn add_top<'t>(
     heads: &mut Vec<&'t DefinitionHead>,
     origin: Origin,
     one: &'t Definition,
 ) -> Result<(), AllocError>
-    ensures { OnOk result (heads_of heads.new.items ≡ heads_of heads.old.items ++ heads_from origin (top_of one.now ∷ [])) }
+    ensures { OnOk result (heads_of heads.new.items ≡ heads_of heads.old.items ++
+        heads_from origin (top_of one.now ∷ [])) }
 {
     if !is_from(one.origin, origin) {
         return Ok(());
@@ -123,7 +128,7 @@ fn add_top<'t>(
     Ok(())
 }
 
-// Whether something comes from there.
+/// Whether something comes from there.
 fn is_from(one: Origin, origin: Origin) -> bool
     ensures { result ≡ is_from origin one }
 {

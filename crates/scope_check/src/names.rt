@@ -1,9 +1,10 @@
-// Names that must differ from one another.
-ghost use Rattle.std.specs.Prelude.{◌≡◌, ◌||◌, ◌++◌, map, not, IfOk, OnOk};
+//! Names that must differ from one another.
+ghost use Rattle.std.specs.Prelude.{◌≡◌, ◌||◌, ◌++◌, map, not, OnOk};
 ghost use Rattle.scope_check.specs.Complaint.{repeats};
 ghost use Rattle.scope_check.specs.Seen as spec;
 ghost use Rattle.scope_check.specs.Seen.{among, plain_key, same_key};
 ghost use Rattle.scope_check.specs.Tables.{repeats_after, AreWith};
+ghost use Rattle.term_model.specs.Results.{Returns};
 
 use crate::keys::{Key, Keys};
 use crate::notes::{Detail, Notes};
@@ -18,7 +19,7 @@ pub(crate) fn add_names<'a>(
     notes: &mut Notes,
 ) -> Result<bool, AllocError>
     ensures added { OnOk result (AreWith keys.old (map plain_key names.now) keys.new) }
-    ensures repeated { IfOk result (λ repeated. repeated ≡ repeats_after (among keys.old) names.now) }
+    ensures repeated { Returns result (repeats_after (among keys.old) names.now) }
 {
     let mut repeated = false;
     for name in names {
@@ -28,10 +29,11 @@ pub(crate) fn add_names<'a>(
     Ok(repeated)
 }
 
-// Adds the plain key of the name, and returns whether it was not there before.
+/// Adds the plain key of the name, and returns whether it was not there before.
 fn add_name<'a>(keys: &mut Keys<'a>, name: &'a Name, notes: &mut Notes) -> Result<bool, AllocError>
-    ensures added { OnOk result ((k : spec.Key) → among keys.new k ≡ (among keys.old k || same_key k (plain_key name.now))) }
-    ensures new { IfOk result (λ new. new ≡ not (among keys.old (plain_key name.now))) }
+    ensures added { OnOk result ((k : spec.Key) →
+        among keys.new k ≡ (among keys.old k || same_key k (plain_key name.now))) }
+    ensures new { Returns result (not (among keys.old (plain_key name.now))) }
 {
     let new = keys.add(Key::plain(name.bytes()))?;
     if !new {
@@ -48,7 +50,7 @@ pub(crate) fn have_repeats<'a>(
     others: &'a [Name],
     notes: &mut Notes,
 ) -> Result<bool, AllocError>
-    ensures { IfOk result (λ repeated. repeated ≡ repeats (names.now ++ others.now)) }
+    ensures { Returns result (repeats (names.now ++ others.now)) }
 {
     let mut keys = Keys::new(alloc);
     let first = add_names(&mut keys, names, notes)?;

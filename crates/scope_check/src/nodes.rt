@@ -1,4 +1,4 @@
-// What is wrong with one node, which is noted.
+//! What is wrong with one node, which is noted.
 ghost use Rattle.std.specs.Prelude.{◌≡◌, not};
 ghost use Rattle.scope_check.specs.Found.{found_not_buildable, found_primitive};
 ghost use Rattle.scope_check.specs.Primitives.{holds};
@@ -59,7 +59,7 @@ pub(crate) fn alias(side: Side, name: &Name, notes: &mut Notes) -> Findings
     in_build(side)
 }
 
-// What is found about a pattern that cannot be built.
+/// What is found about a pattern that cannot be built.
 fn in_build(side: Side) -> Findings
     ensures { result ≡ found_not_buildable side }
 {

@@ -7,10 +7,10 @@ use std::{fmt, str};
 use str_syntax::Name;
 use term_model::Fault;
 
-// The most bytes of a name that are kept.
+/// The most bytes of a name that are kept.
 const MOST: usize = 64;
 
-// The most notes that are collected.
+/// The most notes that are collected.
 const MOST_NOTES: usize = 100;
 
 /// What is wrong at a place of a file, with the numbers that matter there.
@@ -70,7 +70,7 @@ impl Detail {
         }
     }
 
-    // What the name is a name of.
+    /// What the name is a name of.
     fn subject(&self) -> &'static str {
         match self {
             Detail::DeclaredAgain | Detail::Undeclared { .. } => "constructor",
@@ -84,7 +84,7 @@ impl Detail {
     }
 }
 
-// What is said of the name.
+/// What is said of the name.
 impl fmt::Display for Detail {
     fn fmt<W: fmt::Write>(&self, f: &mut fmt::Formatter<W>) -> fmt::Result {
         match self {
@@ -119,7 +119,7 @@ impl fmt::Display for Detail {
     }
 }
 
-// Writes with which number the constructor is declared, if it is.
+/// Writes with which number the constructor is declared, if it is.
 fn write_declared<W: fmt::Write>(
     f: &mut fmt::Formatter<W>,
     declared: Option<usize>,
@@ -130,7 +130,7 @@ fn write_declared<W: fmt::Write>(
     }
 }
 
-// Writes with which numbers the strategy is defined, if it is.
+/// Writes with which numbers the strategy is defined, if it is.
 fn write_seen<W: fmt::Write>(
     f: &mut fmt::Formatter<W>,
     seen: Option<(usize, usize)>,
@@ -149,7 +149,7 @@ pub(crate) fn place_of(name: &Name) -> Option<u64> {
     }
 }
 
-// The ending of a word that is counted.
+/// The ending of a word that is counted.
 fn plural(number: usize) -> &'static str {
     if number == 1 { "" } else { "s" }
 }
@@ -165,7 +165,7 @@ pub struct Note {
     ghost within: { length ≤ 64 },
 }
 
-// Returns the byte where it is a printable character of ASCII, and `?` for any other.
+/// Returns the byte where it is a printable character of ASCII, and `?` for any other.
 fn printable(byte: u8) -> u8 {
     if byte.is_ascii_graphic() || byte == b' ' {
         return byte;
@@ -174,7 +174,7 @@ fn printable(byte: u8) -> u8 {
 }
 
 impl Note {
-    // Makes the note about this name.
+    /// Makes the note about this name.
     fn new(detail: Detail, offset: Option<u64>, name: &[u8]) -> Note {
         let length = name.len().min(MOST);
         let mut bytes = [0; MOST];
@@ -206,13 +206,13 @@ impl Note {
         &self.bytes[..self.length]
     }
 
-    // The offset, and where none is known one after all others.
+    /// The offset, and where none is known one after all others.
     fn order(&self) -> u64 {
         self.offset.unwrap_or(u64::MAX)
     }
 
-    // Whether this is of a fault of a lesser number than the other, or of the same and further to the front. What has no place comes
-    // after what has one.
+    /// Whether this is of a fault of a lesser number than the other, or of the same and further to the front. What has no place comes
+    /// after what has one.
     fn is_before(&self, other: &Note) -> bool {
         let number = self.detail.fault().number();
         let least = other.detail.fault().number();
@@ -281,7 +281,7 @@ impl Notes {
         self.count
     }
 
-    // Drops what was noted.
+    /// Drops what was noted.
     pub(crate) fn begin(&mut self) {
         self.first = None;
         self.count = 0;
@@ -290,7 +290,7 @@ impl Notes {
         }
     }
 
-    // Whether a note of this fault about the name would be kept.
+    /// Whether a note of this fault about the name would be kept.
     pub(crate) fn wants(&self, fault: &Fault, name: &Name) -> bool {
         let is_first = match &self.first {
             Some(first) => fault.number() < first.detail.fault().number(),
@@ -299,7 +299,7 @@ impl Notes {
         is_first || self.has_room_at(name.offset())
     }
 
-    // Whether a note at the offset would be collected.
+    /// Whether a note at the offset would be collected.
     fn has_room_at(&self, offset: u64) -> bool {
         let Some(notes) = &self.collected else {
             return false;
@@ -310,7 +310,7 @@ impl Notes {
         }
     }
 
-    // Notes what is wrong with a name that stands in the file or in the library. Of the library nothing is collected.
+    /// Notes what is wrong with a name that stands in the file or in the library. Of the library nothing is collected.
     pub(crate) fn at(&mut self, name: &Name, detail: Detail) {
         let offset = place_of(name);
         let note = Note::new(detail, offset, name.bytes());
@@ -320,21 +320,21 @@ impl Notes {
         }
     }
 
-    // Notes that a wildcard that stands at the offset is built.
+    /// Notes that a wildcard that stands at the offset is built.
     pub(crate) fn built_wildcard(&mut self, offset: u64) {
         let note = Note::new(Detail::BuiltWildcard, Some(offset), b"_");
         self.keep(note);
         self.collect(note);
     }
 
-    // Notes what is wrong with a name of which no place is known.
+    /// Notes what is wrong with a name of which no place is known.
     pub(crate) fn anywhere(&mut self, name: &[u8], detail: Detail) {
         let note = Note::new(detail, None, name);
         self.keep(note);
         self.collect(note);
     }
 
-    // Keeps the note, if it comes before what was noted.
+    /// Keeps the note, if it comes before what was noted.
     fn keep(&mut self, note: Note) {
         let is_first = match &self.first {
             Some(first) => note.is_before(first),
@@ -345,7 +345,7 @@ impl Notes {
         }
     }
 
-    // Puts the note among those that are collected, if they are.
+    /// Puts the note among those that are collected, if they are.
     fn collect(&mut self, note: Note) {
         let Some(notes) = &mut self.collected else {
             return;

@@ -1,4 +1,4 @@
-// Rules that stand after a head.
+//! Rules that stand after a head.
 ghost use Rattle.std.specs.Prelude.{◌≡◌, IfOk};
 ghost use Rattle.scope_check.specs.Found.{found_at, found_in_rule, joined};
 ghost use Rattle.scope_check.specs.Seen.{among, in_body, inner};
@@ -26,7 +26,10 @@ pub(crate) fn rule_definition<'t>(
     tree: &'t Rule,
     notes: &mut Notes,
 ) -> Result<Findings, AllocError>
-    ensures { IfOk result (λ found. found ≡ joined (found_at (known_of known.now) (heading origin (head_of head.now))) (found_in_rule (known_of known.now) (in_body (head_of head.now) (layers_of layers.now)) (rule_of tree.now))) }
+    ensures { IfOk result (λ found. found ≡
+        joined (found_at (known_of known.now) (heading origin (head_of head.now)))
+        (found_in_rule (known_of known.now) (in_body (head_of head.now) (layers_of layers.now))
+        (rule_of tree.now))) }
 {
     let here = check_head(alloc, known, origin, head, notes)?;
     let keys = parameter_keys(alloc, head)?;
@@ -34,7 +37,7 @@ pub(crate) fn rule_definition<'t>(
     Ok(here.or(inside))
 }
 
-// What is found in a rule that sees these keys.
+/// What is found in a rule that sees these keys.
 fn rule_in_keys<'t>(
     alloc: Global,
     known: &Known<'_>,
@@ -43,7 +46,9 @@ fn rule_in_keys<'t>(
     tree: &'t Rule,
     notes: &mut Notes,
 ) -> Result<Findings, AllocError>
-    ensures { IfOk result (λ found. found ≡ found_in_rule (known_of known.now) (inner (among keys.now) (layers_of layers.now)) (rule_of tree.now)) }
+    ensures { IfOk result (λ found. found ≡
+        found_in_rule (known_of known.now) (inner (among keys.now) (layers_of layers.now))
+        (rule_of tree.now)) }
 {
     let inner = Layers::Inner {
         keys: &*keys,

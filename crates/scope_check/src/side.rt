@@ -1,4 +1,4 @@
-// On which side of a rewriting a pattern stands.
+//! On which side of a rewriting a pattern stands.
 ghost use Rattle.std.specs.Prelude.{◌≡◌};
 
 /// Whether a pattern is matched or built.

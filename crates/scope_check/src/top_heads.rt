@@ -1,4 +1,4 @@
-// The heads of the rules and definitions of a file.
+//! The heads of the rules and definitions of a file.
 ghost use Rattle.std.specs.Prelude.{◌≡◌, ◌++◌, map, IfOk, OnOk};
 ghost use Rattle.scope_check.specs.Found.{tops_of};
 ghost use Rattle.scope_check.specs.Seen.{head_of_top, tops_in};
@@ -13,7 +13,8 @@ pub(crate) fn heads_in_sections(
     alloc: Global,
     sections: &[Section],
 ) -> Result<Vec<&DefinitionHead>, AllocError>
-    ensures { IfOk result (λ heads. heads_of heads.items ≡ map head_of_top (tops_in (map section_of sections.now))) }
+    ensures { IfOk result (λ heads. heads_of heads.items ≡
+        map head_of_top (tops_in (map section_of sections.now))) }
 {
     let mut heads = Vec::new(alloc);
     for section in sections {
@@ -22,12 +23,13 @@ pub(crate) fn heads_in_sections(
     Ok(heads)
 }
 
-// Adds the heads of one section.
+/// Adds the heads of one section.
 fn add_section<'t>(
     heads: &mut Vec<&'t DefinitionHead>,
     section: &'t Section,
 ) -> Result<(), AllocError>
-    ensures { OnOk result (heads_of heads.new.items ≡ heads_of heads.old.items ++ map head_of_top (tops_of (section_of section.now))) }
+    ensures { OnOk result (heads_of heads.new.items ≡ heads_of heads.old.items ++
+        map head_of_top (tops_of (section_of section.now))) }
 {
     match section {
         Section::Signature(_) => Ok(()),
@@ -36,12 +38,13 @@ fn add_section<'t>(
     }
 }
 
-// Adds the heads of rules and definitions.
+/// Adds the heads of rules and definitions.
 fn add_tops<'t>(
     heads: &mut Vec<&'t DefinitionHead>,
     all: &'t [Definition],
 ) -> Result<(), AllocError>
-    ensures { OnOk result (heads_of heads.new.items ≡ heads_of heads.old.items ++ map head_of_top (map top_of all.now)) }
+    ensures { OnOk result (heads_of heads.new.items ≡ heads_of heads.old.items ++
+        map head_of_top (map top_of all.now)) }
 {
     for one in all {
         heads.push(head_of(one))?;

@@ -1,4 +1,4 @@
-// The rules and definitions at top level.
+//! The rules and definitions at top level.
 ghost use Rattle.std.specs.Prelude.{◌≡◌, map, IfOk};
 ghost use Rattle.scope_check.specs.Found.{found_in_top, found_in_tops, tops_of};
 ghost use Rattle.scope_check.specs.Tables.{known_of, layers_of};
@@ -22,7 +22,8 @@ pub(crate) fn tops<'t>(
     all: &'t [Definition],
     notes: &mut Notes,
 ) -> Result<Findings, AllocError>
-    ensures { IfOk result (λ found. found ≡ found_in_tops (known_of known.now) (layers_of layers.now) (map top_of all.now)) }
+    ensures { IfOk result (λ found. found ≡
+        found_in_tops (known_of known.now) (layers_of layers.now) (map top_of all.now)) }
 {
     let mut found = Findings::none();
     for one in all {
@@ -32,7 +33,7 @@ pub(crate) fn tops<'t>(
     Ok(found)
 }
 
-// What is found in the rule or the definition.
+/// What is found in the rule or the definition.
 fn top<'t>(
     alloc: Global,
     known: &Known<'_>,
@@ -40,7 +41,8 @@ fn top<'t>(
     one: &'t Definition,
     notes: &mut Notes,
 ) -> Result<Findings, AllocError>
-    ensures { IfOk result (λ found. found ≡ found_in_top (known_of known.now) (layers_of layers.now) (top_of one.now)) }
+    ensures { IfOk result (λ found. found ≡
+        found_in_top (known_of known.now) (layers_of layers.now) (top_of one.now)) }
 {
     match &one.form {
         DefinitionForm::Rule(r) => rule_definition(
@@ -58,7 +60,9 @@ pub(crate) fn sections<'t>(
     all: &'t [Section],
     notes: &mut Notes,
 ) -> Result<Findings, AllocError>
-    ensures { IfOk result (λ found. found ≡ found_in_tops (known_of known.now) (layers_of layers.now) (tops_in (map section_of all.now))) }
+    ensures { IfOk result (λ found. found ≡
+        found_in_tops (known_of known.now) (layers_of layers.now)
+        (tops_in (map section_of all.now))) }
 {
     let mut found = Findings::none();
     for one in all {
@@ -68,7 +72,7 @@ pub(crate) fn sections<'t>(
     Ok(found)
 }
 
-// What is found in the section.
+/// What is found in the section.
 fn section<'t>(
     alloc: Global,
     known: &Known<'_>,
@@ -76,7 +80,8 @@ fn section<'t>(
     one: &'t Section,
     notes: &mut Notes,
 ) -> Result<Findings, AllocError>
-    ensures { IfOk result (λ found. found ≡ found_in_tops (known_of known.now) (layers_of layers.now) (tops_of (section_of one.now))) }
+    ensures { IfOk result (λ found. found ≡
+        found_in_tops (known_of known.now) (layers_of layers.now) (tops_of (section_of one.now))) }
 {
     match one {
         Section::Signature(_) => Ok(Findings::none()),

@@ -1,10 +1,10 @@
-// The walk over strategies and patterns: what is found about their nodes.
-ghost use Rattle.std.specs.Prelude.{◌≡◌, IfOk};
+//! The walk over strategies and patterns: what is found about their nodes.
 ghost use Rattle.scope_check.specs.Found.{found_in_arguments, found_in_definition, found_in_definitions, found_in_optional_pattern, found_in_optional_strategy, found_in_pattern, found_in_patterns, found_in_primary, found_in_rule, found_in_sequence, found_in_step, found_in_strategies, found_in_strategy, found_group, joined};
 ghost use Rattle.scope_check.specs.Seen.{among, heads_in, in_let, inner};
-ghost use Rattle.scope_check.specs.Tables.{known_of, layers_of};
+ghost use Rattle.scope_check.specs.Tables.{Finds, known_of, layers_of};
 ghost use Rattle.str_syntax.specs.Trees as trees;
 ghost use Rattle.str_syntax.specs.Views.{arguments_of, definition_of, definitions_of, optional_pattern_of, optional_strategy_of, pattern_of, patterns_of, primary_of, rule_of, sequence_of, step_of, strategies_of, strategy_of};
+ghost use Rattle.term_model.specs.Results.{Returns};
 
 use crate::calls::is_known;
 use crate::findings::Findings;
@@ -32,7 +32,7 @@ pub(crate) fn strategy<'t>(
     tree: &'t Strategy,
     notes: &mut Notes,
 ) -> Result<Findings, AllocError>
-    ensures { IfOk result (λ found. found ≡ found_in_strategy (known_of known.now) (layers_of layers.now) (strategy_of tree.now)) }
+    ensures { Finds result found_in_strategy known.now layers.now (strategy_of tree.now) }
 {
     match tree {
         Strategy::Sequence(q) => sequence(alloc, known, layers, q, notes),
@@ -58,7 +58,7 @@ fn sequence<'t>(
     tree: &'t Sequence,
     notes: &mut Notes,
 ) -> Result<Findings, AllocError>
-    ensures { IfOk result (λ found. found ≡ found_in_sequence (known_of known.now) (layers_of layers.now) (sequence_of tree.now)) }
+    ensures { Finds result found_in_sequence known.now layers.now (sequence_of tree.now) }
 {
     match tree {
         Sequence::Last(s) => step(alloc, known, layers, s, notes),
@@ -78,7 +78,7 @@ fn step<'t>(
     tree: &'t Step,
     notes: &mut Notes,
 ) -> Result<Findings, AllocError>
-    ensures { IfOk result (λ found. found ≡ found_in_step (known_of known.now) (layers_of layers.now) (step_of tree.now)) }
+    ensures { Finds result found_in_step known.now layers.now (step_of tree.now) }
 {
     match tree {
         Step::Plain(_, s) => primary(alloc, known, layers, s, notes),
@@ -98,7 +98,7 @@ fn primary<'t>(
     tree: &'t Primary,
     notes: &mut Notes,
 ) -> Result<Findings, AllocError>
-    ensures { IfOk result (λ found. found ≡ found_in_primary (known_of known.now) (layers_of layers.now) (primary_of tree.now)) }
+    ensures { Finds result found_in_primary known.now layers.now (primary_of tree.now) }
 {
     match tree {
         Primary::Id | Primary::Fail => Ok(Findings::none()),
@@ -146,7 +146,7 @@ fn scope<'t>(
     body: &'t Strategy,
     notes: &mut Notes,
 ) -> Result<Findings, AllocError>
-    ensures { IfOk result (λ found. found ≡ found_in_primary (known_of known.now) (layers_of layers.now) (trees.scope names.now (strategy_of body.now))) }
+    ensures { Finds result found_in_primary known.now layers.now (trees.scope names.now (strategy_of body.now)) }
 {
     let bad_parameters = have_repeats(alloc, names, &[], notes)?;
     let here = Findings {
@@ -166,7 +166,7 @@ fn recursive<'t>(
     body: &'t Strategy,
     notes: &mut Notes,
 ) -> Result<Findings, AllocError>
-    ensures { IfOk result (λ found. found ≡ found_in_primary (known_of known.now) (layers_of layers.now) (trees.recursive name.now (strategy_of body.now))) }
+    ensures { Finds result found_in_primary known.now layers.now (trees.recursive name.now (strategy_of body.now)) }
 {
     let here = Findings {
         clash: is_clash(known.signature, name, notes),
@@ -180,7 +180,7 @@ fn recursive<'t>(
     Ok(here.or(inside))
 }
 
-// What is found about the definitions of a let, as a group and in each.
+/// What is found about the definitions of a let, as a group and in each.
 #[cycle(walk)]
 fn let_definitions<'t>(
     alloc: Global,
@@ -189,7 +189,9 @@ fn let_definitions<'t>(
     all: &'t [StrategyDefinition],
     notes: &mut Notes,
 ) -> Result<Findings, AllocError>
-    ensures { IfOk result (λ found. found ≡ joined (found_group (heads_in (definitions_of all.now))) (found_in_definitions (known_of known.now) (in_let (definitions_of all.now) (layers_of layers.now)) (definitions_of all.now))) }
+    ensures { Returns result (joined (found_group (heads_in (definitions_of all.now)))
+        (found_in_definitions (known_of known.now) (in_let (definitions_of all.now)
+        (layers_of layers.now)) (definitions_of all.now))) }
 {
     let here = check_group(alloc, all, notes)?;
     let keys = definition_keys(alloc, all)?;
@@ -197,7 +199,7 @@ fn let_definitions<'t>(
     Ok(here.or(inside))
 }
 
-// What is found in the body of a let of these definitions.
+/// What is found in the body of a let of these definitions.
 #[cycle(walk)]
 fn let_body<'t>(
     alloc: Global,
@@ -207,14 +209,15 @@ fn let_body<'t>(
     all: &'t [StrategyDefinition],
     notes: &mut Notes,
 ) -> Result<Findings, AllocError>
-    ensures { IfOk result (λ found. found ≡ found_in_strategy (known_of known.now) (in_let (definitions_of all.now) (layers_of layers.now)) (strategy_of body.now)) }
+    ensures { Returns result (found_in_strategy (known_of known.now) (in_let
+        (definitions_of all.now) (layers_of layers.now)) (strategy_of body.now)) }
 {
     let keys = definition_keys(alloc, all)?;
     let inside = in_keys(alloc, known, layers, &keys, body, notes)?;
     Ok(inside)
 }
 
-// What is found in the definitions of a let, all of which see these keys.
+/// What is found in the definitions of a let, all of which see these keys.
 #[cycle(walk)]
 fn definitions_in_keys<'t>(
     alloc: Global,
@@ -224,7 +227,8 @@ fn definitions_in_keys<'t>(
     all: &'t [StrategyDefinition],
     notes: &mut Notes,
 ) -> Result<Findings, AllocError>
-    ensures { IfOk result (λ found. found ≡ found_in_definitions (known_of known.now) (inner (among keys.now) (layers_of layers.now)) (definitions_of all.now)) }
+    ensures { Returns result (found_in_definitions (known_of known.now) (inner (among keys.now)
+        (layers_of layers.now)) (definitions_of all.now)) }
 {
     let inner = Layers::Inner {
         keys: &*keys,
@@ -241,7 +245,7 @@ fn definitions<'t>(
     trees: &'t [StrategyDefinition],
     notes: &mut Notes,
 ) -> Result<Findings, AllocError>
-    ensures { IfOk result (λ found. found ≡ found_in_definitions (known_of known.now) (layers_of layers.now) (definitions_of trees.now)) }
+    ensures { Finds result found_in_definitions known.now layers.now (definitions_of trees.now) }
 {
     let mut found = Findings::none();
     for tree in trees {
@@ -261,7 +265,7 @@ pub(crate) fn definition<'t>(
     tree: &'t StrategyDefinition,
     notes: &mut Notes,
 ) -> Result<Findings, AllocError>
-    ensures { IfOk result (λ found. found ≡ found_in_definition (known_of known.now) origin (layers_of layers.now) (definition_of tree.now)) }
+    ensures { Finds result (λ K. found_in_definition K origin) known.now layers.now (definition_of tree.now) }
 {
     let here = check_head(alloc, known, origin, &tree.head, notes)?;
     let keys = parameter_keys(alloc, &tree.head)?;
@@ -269,7 +273,7 @@ pub(crate) fn definition<'t>(
     Ok(here.or(inside))
 }
 
-// What is found in a strategy that sees these keys.
+/// What is found in a strategy that sees these keys.
 #[cycle(walk)]
 fn in_keys<'t>(
     alloc: Global,
@@ -279,7 +283,8 @@ fn in_keys<'t>(
     body: &'t Strategy,
     notes: &mut Notes,
 ) -> Result<Findings, AllocError>
-    ensures { IfOk result (λ found. found ≡ found_in_strategy (known_of known.now) (inner (among keys.now) (layers_of layers.now)) (strategy_of body.now)) }
+    ensures { Returns result (found_in_strategy (known_of known.now) (inner (among keys.now)
+        (layers_of layers.now)) (strategy_of body.now)) }
 {
     let inner = Layers::Inner {
         keys: &*keys,
@@ -298,7 +303,7 @@ fn primitive<'t>(
     terms: &'t [Pattern],
     notes: &mut Notes,
 ) -> Result<Findings, AllocError>
-    ensures { IfOk result (λ found. found ≡ found_in_primary (known_of known.now) (layers_of layers.now) (trees.primitive name.now (patterns_of terms.now))) }
+    ensures { Finds result found_in_primary known.now layers.now (trees.primitive name.now (patterns_of terms.now)) }
 {
     let here = unknown_primitive(known, name, terms.len(), notes);
     let inside = patterns(alloc, known, layers, Side::Build, terms, notes)?;
@@ -314,7 +319,7 @@ fn call<'t>(
     given: &'t Arguments,
     notes: &mut Notes,
 ) -> Result<Findings, AllocError>
-    ensures { IfOk result (λ found. found ≡ found_in_primary (known_of known.now) (layers_of layers.now) (trees.call name.now (arguments_of given.now))) }
+    ensures { Finds result found_in_primary known.now layers.now (trees.call name.now (arguments_of given.now)) }
 {
     let here = Findings {
         unknown_strategy: !is_known(known.signature, layers, name, given, notes),
@@ -332,7 +337,7 @@ fn arguments<'t>(
     tree: &'t Arguments,
     notes: &mut Notes,
 ) -> Result<Findings, AllocError>
-    ensures { IfOk result (λ found. found ≡ found_in_arguments (known_of known.now) (layers_of layers.now) (arguments_of tree.now)) }
+    ensures { Finds result found_in_arguments known.now layers.now (arguments_of tree.now) }
 {
     match tree {
         Arguments::Absent => Ok(Findings::none()),
@@ -354,7 +359,7 @@ pub(crate) fn rule<'t>(
     tree: &'t Rule,
     notes: &mut Notes,
 ) -> Result<Findings, AllocError>
-    ensures { IfOk result (λ found. found ≡ found_in_rule (known_of known.now) (layers_of layers.now) (rule_of tree.now)) }
+    ensures { Finds result found_in_rule known.now layers.now (rule_of tree.now) }
 {
     let left = pattern(alloc, known, layers, Side::Match, &tree.left, notes)?;
     let right = pattern(alloc, known, layers, Side::Build, &tree.right, notes)?;
@@ -370,7 +375,7 @@ fn strategies<'t>(
     trees: &'t [Strategy],
     notes: &mut Notes,
 ) -> Result<Findings, AllocError>
-    ensures { IfOk result (λ found. found ≡ found_in_strategies (known_of known.now) (layers_of layers.now) (strategies_of trees.now)) }
+    ensures { Finds result found_in_strategies known.now layers.now (strategies_of trees.now) }
 {
     let mut found = Findings::none();
     for tree in trees {
@@ -388,7 +393,7 @@ fn optional_strategy<'t>(
     tree: &'t Option<Box<Strategy>>,
     notes: &mut Notes,
 ) -> Result<Findings, AllocError>
-    ensures { IfOk result (λ found. found ≡ found_in_optional_strategy (known_of known.now) (layers_of layers.now) (optional_strategy_of tree.now)) }
+    ensures { Finds result found_in_optional_strategy known.now layers.now (optional_strategy_of tree.now) }
 {
     match tree {
         None => Ok(Findings::none()),
@@ -405,7 +410,7 @@ fn pattern<'t>(
     tree: &'t Pattern,
     notes: &mut Notes,
 ) -> Result<Findings, AllocError>
-    ensures { IfOk result (λ found. found ≡ found_in_pattern (known_of known.now) side (layers_of layers.now) (pattern_of tree.now)) }
+    ensures { Finds result (λ K. found_in_pattern K side) known.now layers.now (pattern_of tree.now) }
 {
     match tree {
         Pattern::Variable(_) | Pattern::Integer(_) | Pattern::Quoted(_) => Ok(Findings::none()),
@@ -448,7 +453,7 @@ fn application<'t>(
     parts: &'t [Pattern],
     notes: &mut Notes,
 ) -> Result<Findings, AllocError>
-    ensures { IfOk result (λ found. found ≡ found_in_pattern (known_of known.now) side (layers_of layers.now) (trees.application name.now (patterns_of parts.now))) }
+    ensures { Finds result (λ K. found_in_pattern K side) known.now layers.now (trees.application name.now (patterns_of parts.now)) }
 {
     let here = Findings {
         undeclared: is_undeclared(known.signature, name, parts.len(), notes),
@@ -467,7 +472,7 @@ fn patterns<'t>(
     trees: &'t [Pattern],
     notes: &mut Notes,
 ) -> Result<Findings, AllocError>
-    ensures { IfOk result (λ found. found ≡ found_in_patterns (known_of known.now) side (layers_of layers.now) (patterns_of trees.now)) }
+    ensures { Finds result (λ K. found_in_patterns K side) known.now layers.now (patterns_of trees.now) }
 {
     let mut found = Findings::none();
     for tree in trees {
@@ -486,7 +491,7 @@ fn optional_pattern<'t>(
     tree: &'t Option<Box<Pattern>>,
     notes: &mut Notes,
 ) -> Result<Findings, AllocError>
-    ensures { IfOk result (λ found. found ≡ found_in_optional_pattern (known_of known.now) side (layers_of layers.now) (optional_pattern_of tree.now)) }
+    ensures { Finds result (λ K. found_in_optional_pattern K side) known.now layers.now (optional_pattern_of tree.now) }
 {
     match tree {
         None => Ok(Findings::none()),

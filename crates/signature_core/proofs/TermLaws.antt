@@ -7,7 +7,8 @@ use Rattle.signature_core.specs.DeclaredTerm.{root_is_declared, term_is_declared
 use Rattle.signature_core.specs.Signature.{Declared}
 
 pub declared_by_parts : (ds : List Declared) (t : Tree)
-    → term_is_declared ds t ≡ ((root_is_declared ds t && all_are_declared ds (trees_of (parts_of t))) && all_are_declared ds (trees_of (annos_of t)))
+    → term_is_declared ds t ≡ ((root_is_declared ds t && all_are_declared ds (trees_of (parts_of t))) &&
+    all_are_declared ds (trees_of (annos_of t)))
 declared_by_parts ds (node h ps xs) = rw (trees_of-list_of ps, trees_of-list_of xs) refl
 
 -- where the first of some references is declared, all are where the others are
@@ -15,7 +16,8 @@ module _ {R : Type 0} (tree : R → Tree) (rs rest : List R) (r : R) (e : rs ≡
   pub declared_others : (ds : List Declared) (first whole : Bool) → first ≡ term_is_declared ds (tree r) → first ≡ true
       → all_are_declared ds (trees_of (map tree rs)) ≡ whole → all_are_declared ds (trees_of (map tree rest)) ≡ whole
   declared_others ds first whole is so e_all =
-      let here : all_are_declared ds (trees_of (map tree rs)) ≡ all_are_declared ds (trees_of (map tree rest)) = rw e (ap (λ b. b && all_are_declared ds (trees_of (map tree rest))) (sym is ∙ so)) in
+      let here : all_are_declared ds (trees_of (map tree rs)) ≡ all_are_declared ds (trees_of (map tree rest)) =
+      rw e (ap (λ b. b && all_are_declared ds (trees_of (map tree rest))) (sym is ∙ so)) in
       sym here ∙ e_all
 
 pub ruleset parts = (declared_by_parts, depths-parts_of, depths-annos_of)

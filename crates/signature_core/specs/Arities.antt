@@ -1,3 +1,4 @@
+-- The headline does not rest on this file.
 -- The numbers of arguments of names, as the tables keep them.
 use Rattle.std.specs.Prelude.{◌≡◌, ℕ, Bool, nat_eq, List, [], ◌∷◌, ◌++◌, Option, None, Some, Vec, if◌then◌else◌}
 use Rattle.std.specs.declared.alloc.Global.{Global}
@@ -32,5 +33,7 @@ pub record AreNumbersOf {S : Type 0} (ds : List Declared) (table : IndexMap (Vec
   pub first : (f : Bytes) → first_number (numbers_of table f) ≡ first_arity ds f
 
 -- the number is added to those of the name, and other names keep theirs
-abbrev pub IsNoted : {S : Type 0} → IndexMap (Vec ℕ Global) (List ℕ) S → Bytes → ℕ → IndexMap (Vec ℕ Global) (List ℕ) S → Type 0
-IsNoted old name n new = (f : Bytes) → numbers_of new f ≡ (if same_name f name then with_number (numbers_of old f) n else numbers_of old f)
+abbrev pub IsNoted : {S : Type 0} → IndexMap (Vec ℕ Global) (List ℕ) S → Bytes → ℕ →
+    IndexMap (Vec ℕ Global) (List ℕ) S → Type 0
+IsNoted old name n new = (f : Bytes) →
+    numbers_of new f ≡ (if same_name f name then with_number (numbers_of old f) n else numbers_of old f)

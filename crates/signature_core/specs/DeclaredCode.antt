@@ -1,3 +1,4 @@
+-- The headline does not rest on this file.
 -- Declarations are data: the code by which a proof distinguishes them.
 use Rattle.std.specs.Prelude.{◌≡◌, ℕ, List}
 use Rattle.std.specs.Coded.{Coded, code_by, coded×, coded_ℕ, coded_list}
@@ -50,4 +51,6 @@ sorts_code = record { code = codes_of; inj = equal_sorts }
 -- a declaration is stored as its three fields
 abbrev pub declared_code : Coded Declared
 declared_code =
-    code_by (List ℕ × (SortTrees × SortTree)) (coded× name_code (coded× sorts_code sort_code)) (λ d. (d.name, (d.arguments, d.result))) (λ p. record { name = p.0; arguments = p.1.0; result = p.1.1 }) (λ _. refl)
+    code_by (List ℕ × (SortTrees × SortTree)) (coded× name_code (coded× sorts_code sort_code))
+    (λ d. (d.name, (d.arguments, d.result))) (λ p. record { name = p.0; arguments = p.1.0; result = p.1.1 })
+    (λ _. refl)

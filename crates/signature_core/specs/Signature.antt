@@ -60,7 +60,8 @@ declarations_of_signature (constructors all ∷ parts) = declarations_of_parts a
 -- what the sections of a file declare, in order
 abbrev pub declarations_of_sections : List SectionTree → List Declared
 declarations_of_sections [] = []
-declarations_of_sections (signature parts ∷ sections) = declarations_of_signature parts ++ declarations_of_sections sections
+declarations_of_sections (signature parts ∷ sections) =
+    declarations_of_signature parts ++ declarations_of_sections sections
 declarations_of_sections (rules _ ∷ sections) = declarations_of_sections sections
 declarations_of_sections (strategies _ ∷ sections) = declarations_of_sections sections
 

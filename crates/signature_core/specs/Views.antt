@@ -1,3 +1,4 @@
+-- The headline does not rest on this file.
 -- What a name and sorts in memory declare.
 use Rattle.std.specs.Prelude.{List}
 use Rattle.str_syntax.specs.declared.sort.Sort.{Sort}

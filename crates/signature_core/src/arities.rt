@@ -1,4 +1,4 @@
-// With how many arguments each name is declared. Look-ups take no memory.
+//! With how many arguments each name is declared. Look-ups take no memory.
 ghost use Rattle.std.specs.Prelude.{◌≡◌, [], ◌∷◌, OnOk, OnErr};
 ghost use Rattle.signature_core.specs.Arities.{first_number, has_number, numbers_of, with_number, IsNoted};
 
@@ -6,7 +6,7 @@ use indexmap::{IndexMap, IndexSet};
 use std::alloc::{AllocError, Global};
 use std::marker::Model;
 
-// Numbers of arguments of one name, each once. One alone takes no memory.
+/// Numbers of arguments of one name, each once. One alone takes no memory.
 #[derive(Drop)]
 pub(crate) struct Numbers {
     first: usize,
@@ -22,7 +22,7 @@ impl Model for Numbers {
 }
 
 impl Numbers {
-    // This number alone.
+    /// This number alone.
     fn new(alloc: Global, number: usize) -> Numbers
         ensures { result ≡ number ∷ [] }
     {
@@ -32,14 +32,14 @@ impl Numbers {
         }
     }
 
-    // Whether the number is among these.
+    /// Whether the number is among these.
     fn has(&self, number: usize) -> bool
         ensures { result ≡ has_number self.now number }
     {
         number == self.first || self.others.contains(&number)
     }
 
-    // Adds the number, if it is none of these.
+    /// Adds the number, if it is none of these.
     #[tactic(auto, using(crate::proofs::ArityLaws::numbers))]
     fn add(&mut self, number: usize) -> Result<(), AllocError>
         ensures added { OnOk result (self.new ≡ with_number self.old number) }
@@ -53,14 +53,14 @@ impl Numbers {
     }
 }
 
-// The numbers of arguments of each name.
+/// The numbers of arguments of each name.
 #[derive(Drop)]
 pub(crate) struct Arities {
     by_name: IndexMap<Vec<u8>, Numbers>,
 }
 
 impl Arities {
-    // No names.
+    /// No names.
     pub(crate) fn new(alloc: Global) -> Arities
         ensures { result.by_name.entries ≡ [] }
     {
@@ -69,7 +69,7 @@ impl Arities {
         }
     }
 
-    // Whether the name has this number.
+    /// Whether the name has this number.
     pub(crate) fn has(&self, name: &[u8], number: usize) -> bool
         ensures { result ≡ has_number (numbers_of self.now.by_name name.now) number }
     {
@@ -79,7 +79,7 @@ impl Arities {
         }
     }
 
-    // The first number of the name.
+    /// The first number of the name.
     pub(crate) fn first(&self, name: &[u8]) -> Option<usize>
         ensures { result ≡ first_number (numbers_of self.now.by_name name.now) }
     {
@@ -87,7 +87,7 @@ impl Arities {
         Some(numbers.first)
     }
 
-    // Adds the number to those of the name.
+    /// Adds the number to those of the name.
     pub(crate) fn note(&mut self, name: &[u8], number: usize) -> Result<(), AllocError>
         ensures noted { OnOk result (IsNoted self.old.by_name name.now number self.new.by_name) }
         ensures unchanged { OnErr result (self.new.by_name.entries ≡ self.old.by_name.entries) }

@@ -1,4 +1,4 @@
-// Declared constructors, as the set of declarations has them.
+//! Declared constructors, as the set of declarations has them.
 ghost use Rattle.std.specs.Prelude.{◌≡◌};
 ghost use Rattle.signature_core.specs.Signature.{arity_of};
 ghost use Rattle.signature_core.specs.Views.{declaration};
@@ -7,7 +7,7 @@ use std::hash::{Hash, Hasher};
 use std::marker::Model;
 use str_syntax::{Name, Sort};
 
-// The name, the sorts of the arguments and the sort of what the constructor makes.
+/// The name, the sorts of the arguments and the sort of what the constructor makes.
 #[derive(Drop)]
 pub(crate) struct Constructor {
     name: Name,
@@ -29,7 +29,7 @@ impl Model for Constructor {
 }
 
 impl Constructor {
-    // The constructor of this name and these sorts.
+    /// The constructor of this name and these sorts.
     pub(crate) fn new(name: Name, arguments: Vec<Sort>, to: Sort) -> Constructor
         ensures { result ≡ declaration name arguments.items to }
     {
@@ -40,14 +40,14 @@ impl Constructor {
         }
     }
 
-    // The bytes of the name.
+    /// The bytes of the name.
     pub(crate) fn name(&self) -> &[u8]
         ensures { result.now ≡ self.now.name }
     {
         self.name.bytes()
     }
 
-    // How many arguments there are.
+    /// How many arguments there are.
     #[tactic(auto, using(crate::proofs::SortLaws::sorts))]
     pub(crate) fn arity(&self) -> usize
         ensures { result ≡ arity_of self.now }

@@ -56,8 +56,10 @@ impl Signature {
     /// signature is as it was.
     #[tactic(auto, using(crate::proofs::ArityLaws::declares))]
     pub fn declare(&mut self, name: Name, arguments: Vec<Sort>, to: Sort) -> Result<(), Fault>
-        ensures declared { OnOk result (self.new ≡ self.old ++ declaration name arguments.items to ∷ []) }
-        ensures duplicate { (result ≡ Err DuplicateDeclaration) ↔ IsTrue (is_declared self.old (declaration name arguments.items to)) }
+        ensures declared { OnOk result (self.new ≡ self.old ++
+            declaration name arguments.items to ∷ []) }
+        ensures duplicate { (result ≡ Err DuplicateDeclaration)
+            ↔ IsTrue (is_declared self.old (declaration name arguments.items to)) }
         ensures fault { IfErr result (λ fault. (fault ≡ DuplicateDeclaration) ⊎ (fault ≡ Memory)) }
         ensures unchanged { OnErr result (self.new ≡ self.old) }
     {
@@ -120,7 +122,7 @@ impl Signature {
         Ok(())
     }
 
-    // Whether each application in the term is declared.
+    /// Whether each application in the term is declared.
     #[cycle(covers)]
     #[tactic(auto, using(crate::proofs::TermLaws::parts))]
     fn covers<S: TermSpace>(&self, space: &S, at: &S::Ref) -> bool
@@ -132,7 +134,7 @@ impl Signature {
             && self.covers_all(space, &space.annos(at))
     }
 
-    // Whether each application in the terms is declared.
+    /// Whether each application in the terms is declared.
     #[cycle(covers)]
     #[tactic(auto, using(crate::proofs::TermLaws::parts))]
     fn covers_all<S: TermSpace>(&self, space: &S, terms: &Parts<'_, S::Ref>) -> bool
@@ -148,7 +150,7 @@ impl Signature {
         true
     }
 
-    // Whether the root of the term may have as many parts as it has.
+    /// Whether the root of the term may have as many parts as it has.
     fn covers_root<S: TermSpace>(&self, space: &S, at: &S::Ref) -> bool
         requires { IsTrue (S.space.stands space.now at.now) }
         ensures { result ≡ root_is_declared self.now (S.space.term_of space.now at.now) }

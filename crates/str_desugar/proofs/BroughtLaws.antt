@@ -31,7 +31,8 @@ at_slot : (i j k : ℕ) → j < k → position_of (brought (i + j)) (names_from 
 at_slot i j zero h = absurd (omega arith)
 at_slot i zero (suc k) h =
     let same : i + 0 ≡ i = omega arith in
-    ap (λ b. if b then Some 0 else option_map (λ j. suc j) (position_of (brought (i + 0)) (names_from (suc i) k))) (ap (λ n. n == i) same ∙ equal_test i)
+    ap (λ b. if b then Some 0 else option_map (λ j. suc j) (position_of (brought (i + 0)) (names_from (suc i) k)))
+    (ap (λ n. n == i) same ∙ equal_test i)
 at_slot i (suc j) (suc k) h =
     let below : j < k = omega arith in
     let same : i + suc j ≡ suc i + j = omega arith in
@@ -41,14 +42,16 @@ at_slot i (suc j) (suc k) h =
     ap (λ o. option_map (λ j. suc j) o) (at_slot (suc i) j k below)
 
 pub brought_at : (j k : ℕ) → j < k → position_of (brought j) (first_names k) ≡ Some j
-brought_at j k h = let none : 0 + j ≡ j = omega arith in subst (λ n. position_of (brought n) (first_names k) ≡ Some j) none (at_slot 0 j k h)
+brought_at j k h = let none : 0 + j ≡ j = omega arith in
+    subst (λ n. position_of (brought n) (first_names k) ≡ Some j) none (at_slot 0 j k h)
 
 -- and no name that comes after them
 past : (i j k : ℕ) → (i + k) < suc j → position_of (brought j) (names_from i k) ≡ None
 past i j zero h = refl
 past i j (suc k) h =
     let below : (suc i + k) < suc j = omega arith in
-    ap (λ b. if b then Some 0 else option_map (λ j. suc j) (position_of (brought j) (names_from (suc i) k))) (not_equal j i (λ e. omega arith) _ refl) ∙
+    ap (λ b. if b then Some 0 else option_map (λ j. suc j) (position_of (brought j) (names_from (suc i) k)))
+    (not_equal j i (λ e. omega arith) _ refl) ∙
     ap (λ o. option_map (λ j. suc j) o) (past (suc i) j k below)
 
 pub brought_past : (j k : ℕ) → k < suc j → position_of (brought j) (first_names k) ≡ None

@@ -1,9 +1,9 @@
 -- The program of a file that has no fault is resolved.
 use Rattle.std.proofs.Common.{◌≡◌, ℕ, Option, Some, None, List, [], ◌∷◌, ◌++◌, map, refl, sym, ◌∙◌, ap, subst}
-use Rattle.std.specs.Prelude.{Bool, true, false, not, ◌||◌, if◌then◌else◌}
+use Rattle.std.specs.Prelude.{Bool, true, false, ◌||◌, if◌then◌else◌}
 use Rattle.std.specs.List.{list_any}
 use Rattle.std.specs.Option.{option_or, option_map}
-use Rattle.std.proofs.lemmas.Bool.{or_parts, true≢false}
+use Rattle.std.proofs.lemmas.Bool.{not-false, or_parts, true≢false}
 use Rattle.std.proofs.lemmas.List.{map-append}
 use Rattle.term_model.specs.declared.fault.Fault.{Fault}
 use Rattle.core_lang.specs.Named.{Name, written, definition_position}
@@ -41,7 +41,8 @@ pub record Passes (has : Bytes → ℕ → Bool) (f : FileTree) (main : Bytes) :
   pub primitives : occurs has f main unknown_primitive ≡ false
   pub has_main : occurs has f main no_main ≡ false
 
-pub none_holds : (has : Bytes → ℕ → Bool) (f : FileTree) (main : Bytes) → first_fault has f main ≡ None → Passes has f main
+pub none_holds : (has : Bytes → ℕ → Bool) (f : FileTree) (main : Bytes) → first_fault has f main ≡ None →
+    Passes has f main
 none_holds has f main e =
     let holds : Complaint → Bool = occurs has f main in
     let p1 = passed (holds duplicate_declaration) _ _ e in
@@ -62,8 +63,10 @@ forms_in tops = map (λ top. top.form) tops
 pub same_forms : (sections : List SectionTree) → forms_in (tops_in sections) ≡ forms_among sections
 same_forms [] = refl
 same_forms (signature parts ∷ sections) = same_forms sections
-same_forms (rules tops ∷ sections) = map-append (λ top. top.form) tops (tops_in sections) ∙ ap (λ forms. forms_in tops ++ forms) (same_forms sections)
-same_forms (strategies tops ∷ sections) = map-append (λ top. top.form) tops (tops_in sections) ∙ ap (λ forms. forms_in tops ++ forms) (same_forms sections)
+same_forms (rules tops ∷ sections) =
+    map-append (λ top. top.form) tops (tops_in sections) ∙ ap (λ forms. forms_in tops ++ forms) (same_forms sections)
+same_forms (strategies tops ∷ sections) =
+    map-append (λ top. top.form) tops (tops_in sections) ∙ ap (λ forms. forms_in tops ++ forms) (same_forms sections)
 
 same_heads : (tops : List TopTree) → map head_of_top tops ≡ map head_of_form (forms_in tops)
 same_heads [] = refl
@@ -72,11 +75,13 @@ same_heads (top ∷ tops) = ap (λ hs. head_of_form top.form ∷ hs) (same_heads
 -- ---- rules and definitions at top level
 
 -- the parameters and a scope of all other names bind all names
-bound_at_top : (S : Scopes) (fs : List Name) (terms free : List Bytes) → AreBound (within (names fs (map written terms) S) (each_once (without terms free))) free
+bound_at_top : (S : Scopes) (fs : List Name) (terms free : List Bytes) →
+    AreBound (within (names fs (map written terms) S) (each_once (without terms free))) free
 bound_at_top S fs terms free = λ y e.
     bound_in_scope (names fs (map written terms) S) (each_once (without terms free)) y
     (λ none. bound_in_names S fs (map written terms) (written y)
-    (λ no_term. absurd (true≢false (sym (in_without y terms free e (not_in y terms no_term)) ∙ (sym (in_once y (without terms free)) ∙ none)))))
+    (λ no_term. absurd (true≢false (sym (in_without y terms free e (not_in y terms no_term)) ∙
+    (sym (in_once y (without terms free)) ∙ none)))))
 
 module _ (ds : List Declared) where
   abbrev declared : Bytes → ℕ → Bool
@@ -88,16 +93,25 @@ module _ (ds : List Declared) where
   abbrev FineTops : Seen → List TopTree → Type 0
   FineTops L tops = Neither (list_any (in_top (is_unknown ds) L) tops) (list_any (in_top has_bad_parameters L) tops)
 
-  fine_rule : (o : Origin) (L : Seen) (f : Bytes) (ps : ParameterTree) (r : RuleTree) → FineForm o L (rule_form (head f ps) r) → FineRule ds (in_body (head f ps) L) r
-  fine_rule o L f ps r fine =
-      (fine.0, (or_parts (has_bad_parameters L (heading o (head f ps))) (in_rule has_bad_parameters (in_body (head f ps) L) r) fine.1).1)
+  fine_rule : (o : Origin) (L : Seen) (f : Bytes) (ps : ParameterTree) (r : RuleTree) →
+      FineForm o L (rule_form (head f ps) r) → FineRule ds (in_body (head f ps) L) r
+  fine_rule o L f ps r fine = (
+    fine.0,
+    (or_parts (has_bad_parameters L (heading o (head f ps)))
+        (in_rule has_bad_parameters (in_body (head f ps) L) r) fine.1).1,
+  )
 
-  fine_strategy : (o : Origin) (L : Seen) (f : Bytes) (ps : ParameterTree) (s : StrategyTree) → FineForm o L (strategy_form (definition (head f ps) s)) →
+  fine_strategy : (o : Origin) (L : Seen) (f : Bytes) (ps : ParameterTree) (s : StrategyTree) →
+      FineForm o L (strategy_form (definition (head f ps) s)) →
       FineStrategy ds (in_body (head f ps) L) s
-  fine_strategy o L f ps s fine =
-      (fine.0, (or_parts (has_bad_parameters L (heading o (head f ps))) (in_strategy has_bad_parameters (in_body (head f ps) L) s) fine.1).1)
+  fine_strategy o L f ps s fine = (
+    fine.0,
+    (or_parts (has_bad_parameters L (heading o (head f ps)))
+        (in_strategy has_bad_parameters (in_body (head f ps) L) s) fine.1).1,
+  )
 
-  form_resolved : (S : Scopes) (o : Origin) (L : Seen) (form : FormTree) → FineForm o L form → Sees S L → AlternativeResolved S (top_core declared form)
+  form_resolved : (S : Scopes) (o : Origin) (L : Seen) (form : FormTree) → FineForm o L form → Sees S L →
+      AlternativeResolved S (top_core declared form)
   form_resolved S o L (rule_form (head f ps) r) fine sees =
       let T : Scopes = names (map written (strategy_names ps)) (map written (term_names ps)) S in
       let own : List Bytes = each_once (without (term_names ps) (free_in_rule r)) in
@@ -113,14 +127,19 @@ module _ (ds : List Declared) where
       (bound_at_top S (map written (strategy_names ps)) (term_names ps) (free_in s))
       (sees_in_scope T own (in_body (head f ps) L) (sees_body S f ps (map written (term_names ps)) L sees)))
 
-  tops_resolved : (S : Scopes) (L : Seen) (tops : List TopTree) → FineTops L tops → Sees S L → AlternativesResolved S (map (top_core declared) (forms_in tops))
+  tops_resolved : (S : Scopes) (L : Seen) (tops : List TopTree) → FineTops L tops → Sees S L →
+      AlternativesResolved S (map (top_core declared) (forms_in tops))
   tops_resolved S L [] fine sees = tt
-  tops_resolved S L (top ∷ tops) fine sees =
-      (form_resolved S top.origin L top.form (neither_first _ _ _ _ fine) sees, tops_resolved S L tops (neither_rest _ _ _ _ fine) sees)
+  tops_resolved S L (top ∷ tops) fine sees = (
+    form_resolved S top.origin L top.form (neither_first _ _ _ _ fine) sees,
+    tops_resolved S L tops (neither_rest _ _ _ _ fine) sees,
+  )
 
   form_of_head : (form : FormTree) → IsOfHead (top_core declared form) (head_of_form form)
-  form_of_head (rule_form (head f ps) r) = record { name = refl; strategies = same_strategy_names ps; terms = same_term_names ps }
-  form_of_head (strategy_form (definition (head f ps) s)) = record { name = refl; strategies = same_strategy_names ps; terms = same_term_names ps }
+  form_of_head (rule_form (head f ps) r) =
+      record { name = refl; strategies = same_strategy_names ps; terms = same_term_names ps }
+  form_of_head (strategy_form (definition (head f ps) s)) =
+      record { name = refl; strategies = same_strategy_names ps; terms = same_term_names ps }
 
   forms_of_heads : (forms : List FormTree) → AreOf (map (top_core declared) forms) (map head_of_form forms)
   forms_of_heads [] = tt
@@ -128,7 +147,8 @@ module _ (ds : List Declared) where
 
 -- ---- files
 
-heads_of : (f : FileTree) → AreOf (map (top_core (arity_known (declarations_of f))) (forms_among f.sections)) (top_heads f)
+heads_of : (f : FileTree) → AreOf (map (top_core (arity_known (declarations_of f))) (forms_among f.sections))
+    (top_heads f)
 heads_of f =
     subst (λ hs. AreOf (map (top_core (arity_known (declarations_of f))) (forms_among f.sections)) hs)
     (ap (λ forms. map head_of_form forms) (sym (same_forms f.sections)) ∙ sym (same_heads (tops_in f.sections)))
@@ -136,34 +156,38 @@ heads_of f =
 
 covers_top : (f : FileTree) → Covers (program_of_file f) (at_top f)
 covers_top f = λ k none.
-    sym (same_keys (map (top_core (arity_known (declarations_of f))) (forms_among f.sections)) (top_heads f) (heads_of f) k)
+    sym (same_keys (map (top_core (arity_known (declarations_of f))) (forms_among f.sections)) (top_heads f)
+    (heads_of f) k)
     ∙ no_definition k (map (top_core (arity_known (declarations_of f))) (forms_among f.sections)) none
 
 -- what a complaint says of the rules and definitions, and of their heads
 parameters_fine : (has : Bytes → ℕ → Bool) (f : FileTree) (main : Bytes) → occurs has f main bad_parameters ≡ false →
     (some_differ (top_heads f) ≡ false) × (list_any (in_top has_bad_parameters (at_top f)) (tops_in f.sections) ≡ false)
 parameters_fine has f main e =
-    let parts = or_parts (some_differ (top_heads f) || too_many (top_heads f)) (list_any (in_top has_bad_parameters (at_top f)) (tops_in f.sections)) e in
+    let parts = or_parts (some_differ (top_heads f) ||
+    too_many (top_heads f)) (list_any (in_top has_bad_parameters (at_top f)) (tops_in f.sections)) e in
     ((or_parts (some_differ (top_heads f)) (too_many (top_heads f)) parts.0).0, parts.1)
 
-main_is_seen : (b : Bool) → not b ≡ false → b ≡ true
-main_is_seen true e = refl
-main_is_seen false e = absurd (cc)
-
 -- where no definition has main's name and takes nothing, main is not seen
-main_found : (has : Bytes → ℕ → Bool) (f : FileTree) (main : Bytes) → occurs has f main no_main ≡ false → (o : Option ℕ) → definition_position (program_of_file f) (written main) 0 0 ≡ o → (i : ℕ) × o ≡ Some i
+main_found : (has : Bytes → ℕ → Bool) (f : FileTree) (main : Bytes) → occurs has f main no_main ≡ false →
+    (o : Option ℕ) → definition_position (program_of_file f) (written main) 0 0 ≡ o → (i : ℕ) × o ≡ Some i
 main_found has f main e (Some i) is = (i, refl)
-main_found has f main e None is = absurd (true≢false (sym (main_is_seen (at_top f (plain_key main)) e) ∙ covers_top f (plain_key main) is))
+main_found has f main e None is =
+    absurd (true≢false (sym (not-false (at_top f (plain_key main)) e) ∙ covers_top f (plain_key main) is))
 
 -- a file that has no fault has a main
-pub checked_main : (has : Bytes → ℕ → Bool) (f : FileTree) (main : Bytes) → first_fault has f main ≡ None → (i : ℕ) × key_position (keys_of (program_of_file f)) (written main) 0 0 ≡ Some i
+pub checked_main : (has : Bytes → ℕ → Bool) (f : FileTree) (main : Bytes) → first_fault has f main ≡ None → (i : ℕ) ×
+    key_position (keys_of (program_of_file f)) (written main) 0 0 ≡ Some i
 checked_main has f main e =
-    let found = main_found has f main (none_holds has f main e).has_main (definition_position (program_of_file f) (written main) 0 0) refl in
+    let found = main_found has f main (none_holds has f main e).has_main
+    (definition_position (program_of_file f) (written main) 0 0) refl in
     (found.0, same_position (program_of_file f) (written main) 0 0 ∙ found.1)
 
 -- the program of a file that has no fault is resolved, each identifier by the layers around it
-pub checked_resolved : (has : Bytes → ℕ → Bool) (f : FileTree) (main : Bytes) (i : ℕ) → first_fault has f main ≡ None → key_position (keys_of (program_of_file f)) (written main) 0 0 ≡ Some i →
-    ResolvesProgram (program_of_file f) (written main) (definitions_at (of_definitions (keys_of (program_of_file f)) outermost) (program_of_file f)) i
+pub checked_resolved : (has : Bytes → ℕ → Bool) (f : FileTree) (main : Bytes) (i : ℕ) → first_fault has f main ≡ None →
+    key_position (keys_of (program_of_file f)) (written main) 0 0 ≡ Some i →
+    ResolvesProgram (program_of_file f) (written main)
+    (definitions_at (of_definitions (keys_of (program_of_file f)) outermost) (program_of_file f)) i
 checked_resolved has f main i e is =
     let ds : List Declared = declarations_of f in
     let all : List Alternative = map (top_core (arity_known ds)) (forms_among f.sections) in
@@ -176,11 +200,14 @@ checked_resolved has f main i e is =
           (tops_resolved ds S (at_top f) (tops_in f.sections) (passes.calls, fine.1)
           (sees_own nowhere (program_of_file f) (at_top f) (covers_top f))))
           (agree_from_heads all (top_heads f) (heads_of f) fine.0);
-      called = ap (λ o. option_or (option_map here o) (option_map one_layer_up None)) (sym (same_position (program_of_file f) (written main) 0 0) ∙ is);
+      called = ap (λ o. option_or (option_map here o) (option_map one_layer_up None))
+          (sym (same_position (program_of_file f) (written main) 0 0) ∙ is);
     }
 
 -- a file that has no fault has a main, and its program is resolved with it
 pub checked_program : (has : Bytes → ℕ → Bool) (f : FileTree) (main : Bytes) → first_fault has f main ≡ None →
     (i : ℕ) × (key_position (keys_of (program_of_file f)) (written main) 0 0 ≡ Some i)
-    × ResolvesProgram (program_of_file f) (written main) (definitions_at (of_definitions (keys_of (program_of_file f)) outermost) (program_of_file f)) i
-checked_program has f main e = let found = checked_main has f main e in (found.0, found.1, checked_resolved has f main found.0 e found.1)
+    × ResolvesProgram (program_of_file f) (written main)
+    (definitions_at (of_definitions (keys_of (program_of_file f)) outermost) (program_of_file f)) i
+checked_program has f main e = let found = checked_main has f main e in
+    (found.0, found.1, checked_resolved has f main found.0 e found.1)

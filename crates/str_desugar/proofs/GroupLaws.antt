@@ -1,5 +1,6 @@
--- Definitions that are made from alternatives are resolved where each alternative is, and have each key that an alternative has.
-use Rattle.std.proofs.Common.{◌≡◌, ℕ, suc, Option, Some, None, List, [], ◌∷◌, map, length, refl, sym, ◌∙◌, ap, ap₂, subst}
+-- Definitions that are made from alternatives are resolved where each alternative is, and have each key that an
+-- alternative has.
+use Rattle.std.proofs.Common.{◌≡◌, suc, Some, None, List, [], ◌∷◌, map, length, refl, sym, ◌∙◌, ap, ap₂, subst}
 use Rattle.std.specs.Prelude.{Bool, true, false, not, ◌||◌, ◌&&◌, ◌==◌, filter, if◌then◌else◌}
 use Rattle.std.specs.List.{list_any}
 use Rattle.std.specs.Option.{option_map}
@@ -15,6 +16,7 @@ use Rattle.scope_check.specs.Seen.{Key}
 use Rattle.str_desugar.specs.Alternatives.{Alternative, same_key, firsts, definitions_among, definitions_of_all}
 use Rattle.str_desugar.specs.Frames.{frames_of, definitions_at}
 use Rattle.str_desugar.proofs.FormLaws.{IsResolved, AllResolved, first_success_resolved}
+use Rattle.str_desugar.proofs.NameLists.{not_found}
 
 -- ---- keys
 
@@ -22,18 +24,16 @@ use Rattle.str_desugar.proofs.FormLaws.{IsResolved, AllResolved, first_success_r
 abbrev pub is_key : Key → Alternative → Bool
 is_key k a = bytes_eq k.name a.name && ((k.strategies == length a.strategies) && (k.terms == length a.terms))
 
-not_found : (b r : Bool) (o : Option ℕ) → (if b then Some 0 else option_map (λ i. suc i) o) ≡ None → (o ≡ None → r ≡ false) → (b || r) ≡ false
-not_found true r o e rest = absurd (cc)
-not_found false r None e rest = rest refl
-not_found false r (Some i) e rest = absurd (cc)
-
-no_first : (k : Key) (all others : List Alternative) → definition_position (definitions_among all others) (written k.name) k.strategies k.terms ≡ None →
+no_first : (k : Key) (all others : List Alternative) →
+    definition_position (definitions_among all others) (written k.name) k.strategies k.terms ≡ None →
     list_any (is_key k) others ≡ false
 no_first k all [] e = refl
 no_first k all (a ∷ others) e =
-    not_found (is_key k a) (list_any (is_key k) others) (definition_position (definitions_among all others) (written k.name) k.strategies k.terms)
+    not_found (is_key k a) (list_any (is_key k) others)
+    (definition_position (definitions_among all others) (written k.name) k.strategies k.terms)
     (ap₂ (λ m n. if bytes_eq k.name a.name && ((k.strategies == m) && (k.terms == n)) then Some 0
-    else option_map (λ i. suc i) (definition_position (definitions_among all others) (written k.name) k.strategies k.terms))
+    else option_map (λ i. suc i)
+    (definition_position (definitions_among all others) (written k.name) k.strategies k.terms))
     (sym (length-map a.strategies written)) (sym (length-map a.terms written)) ∙ e)
     (λ h. no_first k all others h)
 
@@ -44,13 +44,17 @@ key_of_same k a b is same =
     let is_numbers = and_parts (k.strategies == length b.strategies) _ is_parts.1 in
     let same_parts = and_parts (bytes_eq a.name b.name) _ same in
     let same_numbers = and_parts (length a.strategies == length b.strategies) _ same_parts.1 in
-    let name : k.name ≡ a.name = (bytes_eq-Decides k.name b.name).0 is_parts.0 ∙ sym ((bytes_eq-Decides a.name b.name).0 same_parts.0) in
+    let name : k.name ≡ a.name =
+    (bytes_eq-Decides k.name b.name).0 is_parts.0 ∙ sym ((bytes_eq-Decides a.name b.name).0 same_parts.0) in
     let strategies : k.strategies ≡ length a.strategies =
-    (unsigned_Decides k.strategies (length b.strategies)).0 is_numbers.0 ∙ sym ((unsigned_Decides (length a.strategies) (length b.strategies)).0 same_numbers.0) in
+    (unsigned_Decides k.strategies (length b.strategies)).0 is_numbers.0 ∙
+    sym ((unsigned_Decides (length a.strategies) (length b.strategies)).0 same_numbers.0) in
     let terms : k.terms ≡ length a.terms =
-    (unsigned_Decides k.terms (length b.terms)).0 is_numbers.1 ∙ sym ((unsigned_Decides (length a.terms) (length b.terms)).0 same_numbers.1) in
+    (unsigned_Decides k.terms (length b.terms)).0 is_numbers.1 ∙
+    sym ((unsigned_Decides (length a.terms) (length b.terms)).0 same_numbers.1) in
     and_from (bytes_eq k.name a.name) _ ((bytes_eq-Decides k.name a.name).1 name)
-    (and_from (k.strategies == length a.strategies) _ ((unsigned_Decides k.strategies (length a.strategies)).1 strategies)
+    (and_from (k.strategies == length a.strategies)
+    _ ((unsigned_Decides k.strategies (length a.strategies)).1 strategies)
     ((unsigned_Decides k.terms (length a.terms)).1 terms))
 
 not_both : (b c : Bool) → (b ≡ true → c ≡ true) → c ≡ false → b ≡ false
@@ -62,14 +66,17 @@ key_kept : (k : Key) (a : Alternative) (others : List Alternative) (b : Bool) �
 key_kept k a others true e = refl
 key_kept k a others false e =
     any-filter_same (is_key k) (λ c. not (same_key a c)) true
-    (λ c is. not_from_false (same_key a c) (not_both (same_key a c) (is_key k a) (λ same. key_of_same k a c is same) e)) others
+    (λ c is. not_from_false (same_key a c) (not_both (same_key a c) (is_key k a) (λ same. key_of_same k a c is same) e))
+    others
 
 keys_of_firsts : (k : Key) (all : List Alternative) → list_any (is_key k) (firsts all) ≡ list_any (is_key k) all
 keys_of_firsts k [] = refl
-keys_of_firsts k (a ∷ others) = key_kept k a (firsts others) (is_key k a) refl ∙ ap (λ b. is_key k a || b) (keys_of_firsts k others)
+keys_of_firsts k (a ∷ others) =
+    key_kept k a (firsts others) (is_key k a) refl ∙ ap (λ b. is_key k a || b) (keys_of_firsts k others)
 
 -- each alternative's key has a definition
-pub no_definition : (k : Key) (all : List Alternative) → definition_position (definitions_of_all all) (written k.name) k.strategies k.terms ≡ None →
+pub no_definition : (k : Key) (all : List Alternative) →
+    definition_position (definitions_of_all all) (written k.name) k.strategies k.terms ≡ None →
     list_any (is_key k) all ≡ false
 no_definition k all none = sym (keys_of_firsts k all) ∙ no_first k all (firsts all) none
 
@@ -95,20 +102,25 @@ abbrev pub AllAgree : List Alternative → List Alternative → Type 0
 AllAgree all [] = Unit {0}
 AllAgree all (a ∷ others) = AgreesWith a all × AllAgree all others
 
-agree_cons : (all others : List Alternative) (a : Alternative) (b : Bool) → AgreesWith a all → AllAgree all others → AllAgree all (if b then a ∷ others else others)
+agree_cons : (all others : List Alternative) (a : Alternative) (b : Bool) → AgreesWith a all → AllAgree all others →
+    AllAgree all (if b then a ∷ others else others)
 agree_cons all others a true agree rest = (agree, rest)
 agree_cons all others a false agree rest = rest
 
-agree_kept : (all others : List Alternative) (keep : Alternative → Bool) → AllAgree all others → AllAgree all (filter keep others)
+agree_kept : (all others : List Alternative) (keep : Alternative → Bool) → AllAgree all others →
+    AllAgree all (filter keep others)
 agree_kept all [] keep agree = agree
-agree_kept all (a ∷ others) keep agree = agree_cons all (filter keep others) a (keep a) agree.0 (agree_kept all others keep agree.1)
+agree_kept all (a ∷ others) keep agree =
+    agree_cons all (filter keep others) a (keep a) agree.0 (agree_kept all others keep agree.1)
 
 firsts_agree : (all others : List Alternative) → AllAgree all others → AllAgree all (firsts others)
 firsts_agree all [] agree = agree
-firsts_agree all (a ∷ others) agree = (agree.0, agree_kept all (firsts others) (λ b. not (same_key a b)) (firsts_agree all others agree.1))
+firsts_agree all (a ∷ others) agree =
+    (agree.0, agree_kept all (firsts others) (λ b. not (same_key a b)) (firsts_agree all others agree.1))
 
 -- a body in the layer of another alternative's parameters
-moved : (S : Scopes) (a b : Alternative) → (a.strategies ≡ b.strategies) × (a.terms ≡ b.terms) → AlternativeResolved S b →
+moved : (S : Scopes) (a b : Alternative) → (a.strategies ≡ b.strategies) × (a.terms ≡ b.terms) →
+    AlternativeResolved S b →
     IsResolved (names (map written a.strategies) (map written a.terms) S) b.body
 moved S a b same r =
     subst (λ fs. IsResolved (names (map written fs) (map written a.terms) S) b.body) (sym same.0)
@@ -119,11 +131,13 @@ bodies_cons : (T : Scopes) (b : Alternative) (others : List Alternative) (c : Bo
 bodies_cons T b others true r rest = (r refl, rest)
 bodies_cons T b others false r rest = rest
 
-bodies_resolved : (S : Scopes) (a : Alternative) (all : List Alternative) → AgreesWith a all → AlternativesResolved S all →
+bodies_resolved : (S : Scopes) (a : Alternative) (all : List Alternative) → AgreesWith a all →
+    AlternativesResolved S all →
     AllResolved (names (map written a.strategies) (map written a.terms) S) (map (λ b. b.body) (filter (same_key a) all))
 bodies_resolved S a [] agree r = tt
 bodies_resolved S a (b ∷ others) agree r =
-    bodies_cons (names (map written a.strategies) (map written a.terms) S) b (filter (same_key a) others) (same_key a b) (λ same. moved S a b (agree.0 same) r.0)
+    bodies_cons (names (map written a.strategies) (map written a.terms) S) b (filter (same_key a) others) (same_key a b)
+    (λ same. moved S a b (agree.0 same) r.0)
     (bodies_resolved S a others agree.1 r.1)
 
 among_resolved : (S : Scopes) (all others : List Alternative) → AlternativesResolved S all → AllAgree all others →
@@ -131,7 +145,8 @@ among_resolved : (S : Scopes) (all others : List Alternative) → AlternativesRe
 among_resolved S all [] r agree = to_no_definitions
 among_resolved S all (a ∷ others) r agree =
     to_more_definitions refl refl
-    (first_success_resolved (names (map written a.strategies) (map written a.terms) S) (map (λ b. b.body) (filter (same_key a) all)) (bodies_resolved S a all agree.0 r))
+    (first_success_resolved (names (map written a.strategies) (map written a.terms) S)
+    (map (λ b. b.body) (filter (same_key a) all)) (bodies_resolved S a all agree.0 r))
     (among_resolved S all others r agree.1)
 
 pub definitions_resolved : (S : Scopes) (all : List Alternative) → AlternativesResolved S all → AllAgree all all →

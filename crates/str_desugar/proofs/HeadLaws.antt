@@ -1,4 +1,5 @@
--- Alternatives and the heads that they are made from: the same keys, and the same parameters where the heads of one key agree.
+-- Alternatives and the heads that they are made from: the same keys, and the same parameters where the heads of one key
+-- agree.
 use Rattle.std.proofs.Common.{◌≡◌, List, [], ◌∷◌, map, length, refl, sym, ◌∙◌, ap, ap₂}
 use Rattle.std.specs.Prelude.{Bool, true, false, not, ◌||◌, ◌&&◌, ◌==◌}
 use Rattle.std.specs.List.{list_any}
@@ -54,12 +55,14 @@ AreOf (a ∷ others) (h ∷ hs) = IsOfHead a h × AreOf others hs
 
 same_test : (a : Alternative) (h : HeadTree) (k : Key) → IsOfHead a h → is_key k a ≡ seen.same_key k (key_of h)
 same_test a (head f ps) k is =
-    let strategies : length a.strategies ≡ strategy_parameters ps = ap length is.strategies ∙ number_of_strategy_names ps in
+    let strategies : length a.strategies ≡ strategy_parameters ps =
+    ap length is.strategies ∙ number_of_strategy_names ps in
     let terms : length a.terms ≡ term_parameters ps = ap length is.terms ∙ number_of_term_names ps in
     ap (λ x. bytes_eq k.name x && ((k.strategies == length a.strategies) && (k.terms == length a.terms))) is.name
     ∙ ap₂ (λ m n. bytes_eq k.name f && ((k.strategies == m) && (k.terms == n))) strategies terms
 
-pub same_keys : (all : List Alternative) (hs : List HeadTree) → AreOf all hs → (k : Key) → list_any (is_key k) all ≡ among (map key_of hs) k
+pub same_keys : (all : List Alternative) (hs : List HeadTree) → AreOf all hs → (k : Key) →
+    list_any (is_key k) all ≡ among (map key_of hs) k
 same_keys [] [] are k = refl
 same_keys [] (h ∷ hs) are k = absurd are
 same_keys (a ∷ others) [] are k = absurd are
@@ -81,23 +84,31 @@ both_hold true true e h = refl
 both_hold true false e h = absurd (cc)
 both_hold false c e h = absurd (cc)
 
-same_parameters_of : (a b : Alternative) (h g : HeadTree) → IsOfHead a h → IsOfHead b g → differs h g ≡ false → SameParameters a b
+same_parameters_of : (a b : Alternative) (h g : HeadTree) → IsOfHead a h → IsOfHead b g → differs h g ≡ false →
+    SameParameters a b
 same_parameters_of a b (head f ps) (head g qs) is of agree = λ same.
-    let test : (bytes_eq f g && ((strategy_parameters ps == strategy_parameters qs) && (term_parameters ps == term_parameters qs))) ≡ true =
-    sym (ap₂ (λ x y. bytes_eq x y && ((strategy_parameters ps == strategy_parameters qs) && (term_parameters ps == term_parameters qs))) is.name of.name)
+    let test : (bytes_eq f g &&
+    ((strategy_parameters ps == strategy_parameters qs) && (term_parameters ps == term_parameters qs))) ≡ true =
+    sym (ap₂ (λ x y. bytes_eq x y &&
+    ((strategy_parameters ps == strategy_parameters qs) && (term_parameters ps == term_parameters qs)))
+    is.name of.name)
     ∙ sym (ap₂ (λ m n. bytes_eq a.name b.name && ((m == n) && (term_parameters ps == term_parameters qs)))
     (ap length is.strategies ∙ number_of_strategy_names ps) (ap length of.strategies ∙ number_of_strategy_names qs))
     ∙ sym (ap₂ (λ m n. bytes_eq a.name b.name && ((length a.strategies == length b.strategies) && (m == n)))
     (ap length is.terms ∙ number_of_term_names ps) (ap length of.terms ∙ number_of_term_names qs))
     ∙ same in
-    let equal : (same_names (strategy_names ps) (strategy_names qs) && same_names (term_names ps) (term_names qs)) ≡ true =
-    both_hold (seen.same_key (key_of (head f ps)) (key_of (head g qs))) (same_parameters (head f ps) (head g qs)) agree test in
-    let parts = and_parts (same_names (strategy_names ps) (strategy_names qs)) (same_names (term_names ps) (term_names qs)) equal in (
+    let equal : (same_names (strategy_names ps) (strategy_names qs) && same_names (term_names ps) (term_names qs)) ≡
+    true =
+    both_hold (seen.same_key (key_of (head f ps)) (key_of (head g qs))) (same_parameters (head f ps) (head g qs))
+    agree test in
+    let parts = and_parts (same_names (strategy_names ps) (strategy_names qs))
+    (same_names (term_names ps) (term_names qs)) equal in (
       is.strategies ∙ lists_equal (strategy_names ps) (strategy_names qs) parts.0 ∙ sym of.strategies,
       is.terms ∙ lists_equal (term_names ps) (term_names qs) parts.1 ∙ sym of.terms,
     )
 
-agrees_with : (a : Alternative) (h : HeadTree) (all : List Alternative) (hs : List HeadTree) → IsOfHead a h → AreOf all hs → list_any (differs h) hs ≡ false →
+agrees_with : (a : Alternative) (h : HeadTree) (all : List Alternative) (hs : List HeadTree) → IsOfHead a h →
+    AreOf all hs → list_any (differs h) hs ≡ false →
     AgreesWith a all
 agrees_with a h [] [] is are agree = tt
 agrees_with a h [] (g ∷ hs) is are agree = absurd are
@@ -106,7 +117,8 @@ agrees_with a h (b ∷ others) (g ∷ hs) is are agree =
     let parts = or_parts (differs h g) (list_any (differs h) hs) agree in
     (same_parameters_of a b h g is are.0 parts.0, agrees_with a h others hs is are.1 parts.1)
 
-all_agree : (all : List Alternative) (hs : List HeadTree) (others : List Alternative) (gs : List HeadTree) → AreOf all hs → AreOf others gs →
+all_agree : (all : List Alternative) (hs : List HeadTree) (others : List Alternative) (gs : List HeadTree) →
+    AreOf all hs → AreOf others gs →
     list_any (λ h. list_any (differs h) hs) gs ≡ false → AllAgree all others
 all_agree all hs [] [] are of agree = tt
 all_agree all hs [] (g ∷ gs) are of agree = absurd of
@@ -115,5 +127,6 @@ all_agree all hs (a ∷ others) (g ∷ gs) are of agree =
     let parts = or_parts (list_any (differs g) hs) (list_any (λ h. list_any (differs h) hs) gs) agree in
     (agrees_with a g all hs of.0 are parts.0, all_agree all hs others gs are of.1 parts.1)
 
-pub agree_from_heads : (all : List Alternative) (hs : List HeadTree) → AreOf all hs → some_differ hs ≡ false → AllAgree all all
+pub agree_from_heads : (all : List Alternative) (hs : List HeadTree) → AreOf all hs → some_differ hs ≡ false →
+    AllAgree all all
 agree_from_heads all hs are agree = all_agree all hs all hs are are agree

@@ -26,43 +26,53 @@ pub marked_on : (old new : List ℕ) → AreKept old new → (xs : List Bytes) �
 marked_on old new kept [] m = tt
 marked_on old new kept (x ∷ xs) m = (kept (mark_of x) m.0, marked_on old new kept xs m.1)
 
-pub marked_more : (words : List ℕ) (xs : List Bytes) (x : Bytes) → AreMarked words xs → has_mark words (mark_of x) ≡ true → AreMarked words (xs ++ x ∷ [])
+pub marked_more : (words : List ℕ) (xs : List Bytes) (x : Bytes) → AreMarked words xs →
+    has_mark words (mark_of x) ≡ true → AreMarked words (xs ++ x ∷ [])
 marked_more words [] x m e = (e, tt)
 marked_more words (y ∷ xs) x m e = (m.0, marked_more words xs x m.1 e)
 
 -- names of which one has no mark are not the same
-apart : (words : List ℕ) (x y : Bytes) → has_mark words (mark_of y) ≡ true → has_mark words (mark_of x) ≡ false → bytes_eq x y ≡ true → ⊥
+apart : (words : List ℕ) (x y : Bytes) → has_mark words (mark_of y) ≡ true → has_mark words (mark_of x) ≡ false →
+    bytes_eq x y ≡ true → ⊥
 apart words x y marked unmarked same =
     let equal : x ≡ y = (same_name-Decides x y).0 same in
     let clash : true ≡ false = sym marked ∙ ap (λ z. has_mark words (mark_of z)) (sym equal) ∙ unmarked in
     absurd (cc)
 
 -- a name that has no mark has no position among names that are marked
-pub unmarked_name : (words : List ℕ) (x : Bytes) (xs : List Bytes) → AreMarked words xs → has_mark words (mark_of x) ≡ false → position_of (written x) (map written xs) ≡ None
+pub unmarked_name : (words : List ℕ) (x : Bytes) (xs : List Bytes) → AreMarked words xs →
+    has_mark words (mark_of x) ≡ false → position_of (written x) (map written xs) ≡ None
 unmarked_name words x [] m e = refl
 unmarked_name words x (y ∷ xs) m e = by (bytes_eq x y) refl (unmarked_name words x xs m.1 e)
   where
-    by : (b : Bool) → bytes_eq x y ≡ b → position_of (written x) (map written xs) ≡ None → position_of (written x) (map written (y ∷ xs)) ≡ None
+    by : (b : Bool) → bytes_eq x y ≡ b → position_of (written x) (map written xs) ≡ None →
+        position_of (written x) (map written (y ∷ xs)) ≡ None
     by true is rest = absurd (apart words x y m.0 e is)
     by false is rest =
-        ap (λ c. if c then Some 0 else option_map (λ i. suc i) (position_of (written x) (map written xs))) is ∙ ap (option_map (λ i. suc i)) rest
+        ap (λ c. if c then Some 0 else option_map (λ i. suc i) (position_of (written x) (map written xs))) is ∙
+        ap (option_map (λ i. suc i)) rest
 
 -- nor has a key with its name
-pub unmarked_key : (words : List ℕ) (x : Bytes) (n k : ℕ) (ks : List HeadKey) → AreKeysMarked words ks → has_mark words (mark_of x) ≡ false → key_position (map named_key ks) (written x) n k ≡ None
+pub unmarked_key : (words : List ℕ) (x : Bytes) (n k : ℕ) (ks : List HeadKey) → AreKeysMarked words ks →
+    has_mark words (mark_of x) ≡ false → key_position (map named_key ks) (written x) n k ≡ None
 unmarked_key words x n k [] m e = refl
 unmarked_key words x n k (d ∷ ks) m e = by (bytes_eq x d.name) refl (unmarked_key words x n k ks m.1 e)
   where
-    by : (b : Bool) → bytes_eq x d.name ≡ b → key_position (map named_key ks) (written x) n k ≡ None → key_position (map named_key (d ∷ ks)) (written x) n k ≡ None
+    by : (b : Bool) → bytes_eq x d.name ≡ b → key_position (map named_key ks) (written x) n k ≡ None →
+        key_position (map named_key (d ∷ ks)) (written x) n k ≡ None
     by true is rest = absurd (apart words x d.name m.0 e is)
     by false is rest =
-        ap (λ c. if c && ((n == d.strategies) && (k == d.terms)) then Some 0 else option_map (λ i. suc i) (key_position (map named_key ks) (written x) n k)) is ∙ ap (option_map (λ i. suc i)) rest
+        ap (λ c. if c && ((n == d.strategies) && (k == d.terms)) then Some 0
+        else option_map (λ i. suc i) (key_position (map named_key ks) (written x) n k)) is ∙
+        ap (option_map (λ i. suc i)) rest
 
 -- ---- a bit that is set
 
 bit_kept : (word other place : ℕ) → (bit_at word place == 1) ≡ true → (bit_at (bit_or word other) place == 1) ≡ true
 bit_kept word other place is =
     let one : bit_at word place ≡ 1 = (unsigned_Decides (bit_at word place) 1).0 is in
-    (unsigned_Decides (bit_at (bit_or word other) place) 1).1 (omega (arith, one, bit_at_or word other place, bit_at-lt other place))
+    (unsigned_Decides (bit_at (bit_or word other) place) 1).1
+    (omega (arith, one, bit_at_or word other place, bit_at-lt other place))
 
 module _ (words : List ℕ) (set_one : ℕ) (within : set_one / 64 < length words) where
   -- the words in which the bit of this mark is set
@@ -72,33 +82,41 @@ module _ (words : List ℕ) (set_one : ℕ) (within : set_one / 64 < length word
   pub set_added : has_mark with_bit set_one ≡ true
   set_added =
       let place : set_one % 64 < 64 = omega arith in
-      ap (λ n. bit_at n (set_one % 64) == 1) (get_or-set_same words (set_one / 64) _ 0 within) ∙ ap (λ n. n == 1) (bit_at_set_same w64 _ (set_one % 64) place)
+      ap (λ n. bit_at n (set_one % 64) == 1) (get_or-set_same words (set_one / 64) _ 0 within) ∙
+      ap (λ n. n == 1) (bit_at_set_same w64 _ (set_one % 64) place)
 
   pub set_kept : (mark : ℕ) → has_mark words mark ≡ true → has_mark with_bit mark ≡ true
   set_kept mark is =
       ⊎_elim
       (λ same.
-      let before : (bit_at (get_or words (set_one / 64) 0) (mark % 64) == 1) ≡ true = sym (ap (λ i. bit_at (get_or words i 0) (mark % 64) == 1) same) ∙ is in
-      ap (λ i. bit_at (get_or with_bit i 0) (mark % 64) == 1) same ∙ ap (λ n. bit_at n (mark % 64) == 1) (get_or-set_same words (set_one / 64) _ 0 within) ∙ bit_kept _ _ (mark % 64) before)
+      let before : (bit_at (get_or words (set_one / 64) 0) (mark % 64) == 1) ≡ true =
+      sym (ap (λ i. bit_at (get_or words i 0) (mark % 64) == 1) same) ∙ is in
+      ap (λ i. bit_at (get_or with_bit i 0) (mark % 64) == 1) same ∙
+      ap (λ n. bit_at n (mark % 64) == 1) (get_or-set_same words (set_one / 64) _ 0 within) ∙
+      bit_kept _ _ (mark % 64) before)
       (λ other. ap (λ n. bit_at n (mark % 64) == 1) (get_or-set_other words (set_one / 64) (mark / 64) _ 0 other) ∙ is)
       (cases_eq (mark / 64) (set_one / 64))
 
 -- ---- the same of keys
 
-pub keys_marked_on : (old new : List ℕ) → AreKept old new → (ks : List HeadKey) → AreKeysMarked old ks → AreKeysMarked new ks
+pub keys_marked_on : (old new : List ℕ) → AreKept old new → (ks : List HeadKey) → AreKeysMarked old ks →
+    AreKeysMarked new ks
 keys_marked_on old new kept ks m = marked_on old new kept (map (λ k. k.name) ks) m
 
 -- and with one more, after all of them and after the first ones
-pub keys_marked_more : (words : List ℕ) (ks ls : List HeadKey) (k : HeadKey) → AreKeysMarked words (ks ++ ls) → has_mark words (mark_of k.name) ≡ true → AreKeysMarked words (ks ++ (ls ++ k ∷ []))
+pub keys_marked_more : (words : List ℕ) (ks ls : List HeadKey) (k : HeadKey) → AreKeysMarked words (ks ++ ls) →
+    has_mark words (mark_of k.name) ≡ true → AreKeysMarked words (ks ++ (ls ++ k ∷ []))
 keys_marked_more words [] [] k m e = (e, tt)
 keys_marked_more words [] (l ∷ ls) k m e = (m.0, keys_marked_more words [] ls k m.1 e)
 keys_marked_more words (d ∷ ks) ls k m e = (m.0, keys_marked_more words ks ls k m.1 e)
 
-pub keys_marked_between : (words : List ℕ) (ks ls : List HeadKey) (k : HeadKey) → AreKeysMarked words (ks ++ ls) → has_mark words (mark_of k.name) ≡ true → AreKeysMarked words ((ks ++ k ∷ []) ++ ls)
+pub keys_marked_between : (words : List ℕ) (ks ls : List HeadKey) (k : HeadKey) → AreKeysMarked words (ks ++ ls) →
+    has_mark words (mark_of k.name) ≡ true → AreKeysMarked words ((ks ++ k ∷ []) ++ ls)
 keys_marked_between words [] ls k m e = (e, m)
 keys_marked_between words (d ∷ ks) ls k m e = (m.0, keys_marked_between words ks ls k m.1 e)
 
-pub keys_marked_inserted : (words : List ℕ) (ks ls : List HeadKey) (k : HeadKey) (there : Bool) → AreKeysMarked words (ks ++ ls) → has_mark words (mark_of k.name) ≡ true →
+pub keys_marked_inserted : (words : List ℕ) (ks ls : List HeadKey) (k : HeadKey) (there : Bool) →
+    AreKeysMarked words (ks ++ ls) → has_mark words (mark_of k.name) ≡ true →
     AreKeysMarked words ((if there then ks else ks ++ k ∷ []) ++ ls)
 keys_marked_inserted words ks ls k true m e = m
 keys_marked_inserted words ks ls k false m e = keys_marked_between words ks ls k m e

@@ -27,27 +27,34 @@ pub same_self : (x : Bytes) → bytes_eq x x ≡ true
 same_self x = (bytes_eq-Decides x x).1 refl
 
 -- what has no position in a list is not in it
-not_found : (b r : Bool) (o : Option ℕ) → (if b then Some 0 else option_map (λ i. suc i) o) ≡ None → (o ≡ None → r ≡ false) → (b || r) ≡ false
+pub not_found : (b r : Bool) (o : Option ℕ) → (if b then Some 0 else option_map (λ i. suc i) o) ≡ None →
+    (o ≡ None → r ≡ false) → (b || r) ≡ false
 not_found true r o e rest = absurd (cc)
 not_found false r None e rest = rest refl
 not_found false r (Some i) e rest = absurd (cc)
 
 pub not_in : (x : Bytes) (xs : List Bytes) → position_of (written x) (map written xs) ≡ None → is_in x xs ≡ false
 not_in x [] e = refl
-not_in x (y ∷ ys) e = not_found (bytes_eq x y) (is_in x ys) (position_of (written x) (map written ys)) e (λ h. not_in x ys h)
+not_in x (y ∷ ys) e = not_found (bytes_eq x y) (is_in x ys) (position_of (written x) (map written ys))
+    e (λ h. not_in x ys h)
 
 -- a name is left where it is not among those that are taken away
 kept_name : (x y : Bytes) (zs : List Bytes) → is_in x zs ≡ false → bytes_eq x y ≡ true → not (is_in y zs) ≡ true
-kept_name x y zs out e = subst (λ z. not (is_in z zs) ≡ true) ((bytes_eq-Decides x y).0 e) (not_from_false (is_in x zs) out)
+kept_name x y zs out e = subst (λ z. not (is_in z zs) ≡ true) ((bytes_eq-Decides x y).0 e)
+    (not_from_false (is_in x zs) out)
 
-pub in_without : (x : Bytes) (zs xs : List Bytes) → is_in x xs ≡ true → is_in x zs ≡ false → is_in x (without zs xs) ≡ true
-in_without x zs xs e out = any-filter_same (bytes_eq x) (λ y. not (list_any (bytes_eq y) zs)) true (λ y h. kept_name x y zs out h) xs ∙ e
+pub in_without : (x : Bytes) (zs xs : List Bytes) → is_in x xs ≡ true → is_in x zs ≡ false →
+    is_in x (without zs xs) ≡ true
+in_without x zs xs e out = any-filter_same (bytes_eq x) (λ y. not (list_any (bytes_eq y) zs))
+    true (λ y h. kept_name x y zs out h) xs ∙ e
 
 -- each of the names once is the same names
 other_name : (x y z : Bytes) → bytes_eq x y ≡ false → bytes_eq x z ≡ true → not (bytes_eq y z) ≡ true
 other_name x y z out e =
     let same : x ≡ z = (bytes_eq-Decides x z).0 e in
-    not_from_false (bytes_eq y z) (different (bytes_eq y z) (λ h. let back : y ≡ z = (bytes_eq-Decides y z).0 h in (bytes_eq-Decides x y).1 (same ∙ sym back)) out)
+    not_from_false (bytes_eq y z)
+    (different (bytes_eq y z) (λ h. let back : y ≡ z = (bytes_eq-Decides y z).0 h in
+    (bytes_eq-Decides x y).1 (same ∙ sym back)) out)
   where
     different : (b : Bool) {c : Bool} → (b ≡ true → c ≡ true) → c ≡ false → b ≡ false
     different true h e = sym (h refl) ∙ e
@@ -85,5 +92,7 @@ pub bound_further : (S : Scopes) (fs zs : List Name) (xs : List Bytes) → AreBo
 bound_further S fs zs xs bound = λ x e. bound_in_names S fs zs (written x) (λ none. bound x e)
 
 -- a layer binds its own names, and the others are bound outside
-pub bound_within : (S : Scopes) (fs : List Name) (zs xs : List Bytes) → AreBound S (without zs xs) → AreBound (names fs (map written zs) S) xs
-bound_within S fs zs xs bound = λ x e. bound_in_names S fs (map written zs) (written x) (λ none. bound x (in_without x zs xs e (not_in x zs none)))
+pub bound_within : (S : Scopes) (fs : List Name) (zs xs : List Bytes) → AreBound S (without zs xs) →
+    AreBound (names fs (map written zs) S) xs
+bound_within S fs zs xs bound =
+    λ x e. bound_in_names S fs (map written zs) (written x) (λ none. bound x (in_without x zs xs e (not_in x zs none)))

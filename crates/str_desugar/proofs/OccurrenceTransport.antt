@@ -13,7 +13,8 @@ either_part first rest (inr b) = inr (rest b)
 
 module _ (name : List ℕ) (k : ℕ) where
   mutual
-    strategy_named : {S : Scopes} {s : NamedStrategy} {z : ResolvedStrategy} → Resolves S s z → OccursIn name k z → OccursIn name k s
+    strategy_named : {S : Scopes} {s : NamedStrategy} {z : ResolvedStrategy} → Resolves S s z → OccursIn name k z →
+        OccursIn name k s
     strategy_named to_id there = there
     strategy_named to_fail there = there
     strategy_named (to_seq r1 r2) there = either_part (λ o. strategy_named r1 o) (λ o. strategy_named r2 o) there
@@ -25,14 +26,19 @@ module _ (name : List ℕ) (k : ℕ) where
     strategy_named (to_all r) there = strategy_named r there
     strategy_named (to_one r) there = strategy_named r there
     strategy_named (to_some r) there = strategy_named r there
-    strategy_named (to_definitions rs r) there = either_part (λ o. definitions_named rs o) (λ o. strategy_named r o) there
+    strategy_named (to_definitions rs r) there =
+        either_part (λ o. definitions_named rs o) (λ o. strategy_named r o) there
     strategy_named (to_call is rs vs) there = strategies_named rs there
     strategy_named (to_primitive rs) there = (there.0, as_many_patterns rs ∙ there.1)
 
-    strategies_named : {S : Scopes} {ss : NamedStrategies} {zs : ResolvedStrategies} → ResolvesStrategies S ss zs → OccursInAny name k zs → OccursInAny name k ss
+    strategies_named : {S : Scopes} {ss : NamedStrategies} {zs : ResolvedStrategies} → ResolvesStrategies S ss zs →
+        OccursInAny name k zs → OccursInAny name k ss
     strategies_named to_no_strategies there = there
-    strategies_named (to_more_strategies r rs) there = either_part (λ o. strategy_named r o) (λ o. strategies_named rs o) there
+    strategies_named (to_more_strategies r rs) there =
+        either_part (λ o. strategy_named r o) (λ o. strategies_named rs o) there
 
-    pub definitions_named : {S : Scopes} {ds : NamedDefinitions} {es : ResolvedDefinitions} → ResolvesDefinitions S ds es → OccursInDefinitions name k es → OccursInDefinitions name k ds
+    pub definitions_named : {S : Scopes} {ds : NamedDefinitions} {es : ResolvedDefinitions} →
+        ResolvesDefinitions S ds es → OccursInDefinitions name k es → OccursInDefinitions name k ds
     definitions_named to_no_definitions there = there
-    definitions_named (to_more_definitions hm hk r rs) there = either_part (λ o. strategy_named r o) (λ o. definitions_named rs o) there
+    definitions_named (to_more_definitions hm hk r rs) there =
+        either_part (λ o. strategy_named r o) (λ o. definitions_named rs o) there

@@ -39,7 +39,8 @@ is_known b true e h = refl
 is_known true false e h = absurd (cc)
 is_known false false e h = absurd (cc)
 
-pub either_resolved : (S : Scopes) (b : Bool) (s t : NamedStrategy) → (b ≡ true → IsResolved S s) → (b ≡ false → IsResolved S t) →
+pub either_resolved : (S : Scopes) (b : Bool) (s t : NamedStrategy) → (b ≡ true → IsResolved S s) →
+    (b ≡ false → IsResolved S t) →
     IsResolved S (cond b s t)
 either_resolved S true s t r q = r refl
 either_resolved S false s t r q = q refl
@@ -51,12 +52,14 @@ bound_past S ds xs bound = λ x e. bound_in_definitions S ds (written x) (bound 
 
 -- a scope of each of the names once binds them
 pub bound_once : (S : Scopes) (zs xs : List Bytes) → AreBound S (without zs xs) → AreBound (within S (each_once zs)) xs
-bound_once S zs xs bound = λ y e. bound_in_scope S (each_once zs) y (λ none. bound y (in_without y zs xs e (sym (in_once y zs) ∙ none)))
+bound_once S zs xs bound = λ y e. bound_in_scope S (each_once zs)
+    y (λ none. bound y (in_without y zs xs e (sym (in_once y zs) ∙ none)))
 
 pub sees_body : (S : Scopes) (f : Bytes) (ps : ParameterTree) (xs : List Name) (L : Seen) → Sees S L →
     Sees (names (map written (variables.strategy_names ps)) xs S) (in_body (head f ps) L)
 sees_body S f ps xs L sees =
-    subst (λ fs. Sees (names (map written fs) xs S) (inner (among (map plain_key (seen.strategy_names ps))) L)) (sym (same_strategy_names ps))
+    subst (λ fs. Sees (names (map written fs) xs S) (inner (among (map plain_key (seen.strategy_names ps))) L))
+    (sym (same_strategy_names ps))
     (sees_parameters S (seen.strategy_names ps) xs L sees)
 
 pub seen_first : (f : Bytes) (L : Seen) → inner (among (plain_key f ∷ [])) L (plain_key f) ≡ true
@@ -65,28 +68,35 @@ seen_first f L = rw (same_self f) refl
 -- ---- as many as there are
 
 module _ (declared : Bytes → ℕ → Bool) where
-  pub as_many_strategies : (ss : StrategyTrees) → strategies_count (strategies_core declared ss) ≡ number_of_strategies ss
+  pub as_many_strategies : (ss : StrategyTrees) →
+      strategies_count (strategies_core declared ss) ≡ number_of_strategies ss
   as_many_strategies no_strategies = refl
   as_many_strategies (more_strategies s ss) = ap (λ k. 1 + k) (as_many_strategies ss) ∙ omega arith
 
   -- ---- what has items in front of it
 
   pub built_by : (S : Scopes) (L : Seen) (p : PatternTree) → AreBound S (names_of p) → Sees S L →
-      ((T : Scopes) → IsBound T kept → BringsResults T (applications p) → AreBound T (names_of p) → Sees T L → AllResolved T (results declared 0 p)) →
+      ((T : Scopes) → IsBound T kept → BringsResults T (applications p) → AreBound T (names_of p) → Sees T L →
+      AllResolved T (results declared 0 p)) →
       IsResolved S (build_after (applications p) (results declared 0 p) (built 0 p))
   built_by S L p bound sees items =
       let n : ℕ = applications p in
       build_resolved S n (results declared 0 p) (built 0 p)
-      (λ kept_bound. items (keeps S n) kept_bound (results_brought S n) (bound_kept S n (names_of p) bound) (sees_kept S n L sees))
+      (λ kept_bound. items (keeps S n) kept_bound (results_brought S n) (bound_kept S n (names_of p) bound)
+      (sees_kept S n L sees))
       (built_resolved (keeps S n) n 0 p (bound_kept S n (names_of p) bound) (results_brought S n) (omega arith))
 
-  pub called_by : (S : Scopes) (L : Seen) (ps : PatternTrees) (s : NamedStrategy) → AreBound S (names_among ps) → Sees S L →
-      ((T : Scopes) → IsBound T kept → BringsResults T (applications_among ps) → AreBound T (names_among ps) → Sees T L → AllResolved T (results_among declared 0 ps)) →
-      IsResolved (keeps S (applications_among ps)) s → IsResolved S (call_after (applications_among ps) (results_among declared 0 ps) s)
+  pub called_by : (S : Scopes) (L : Seen) (ps : PatternTrees) (s : NamedStrategy) → AreBound S (names_among ps) →
+      Sees S L →
+      ((T : Scopes) → IsBound T kept → BringsResults T (applications_among ps) → AreBound T (names_among ps) →
+      Sees T L → AllResolved T (results_among declared 0 ps)) →
+      IsResolved (keeps S (applications_among ps)) s →
+      IsResolved S (call_after (applications_among ps) (results_among declared 0 ps) s)
   called_by S L ps s bound sees items r =
       let n : ℕ = applications_among ps in
       call_resolved S n (results_among declared 0 ps) s
-      (λ kept_bound. items (keeps S n) kept_bound (results_brought S n) (bound_kept S n (names_among ps) bound) (sees_kept S n L sees)) r
+      (λ kept_bound. items (keeps S n) kept_bound (results_brought S n) (bound_kept S n (names_among ps) bound)
+      (sees_kept S n L sees)) r
 
 pub as_many_patterns : (i : ℕ) (ps : PatternTrees) → patterns_count (built_parts i ps) ≡ number_of_patterns ps
 as_many_patterns i no_patterns = refl

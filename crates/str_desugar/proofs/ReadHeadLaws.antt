@@ -27,19 +27,24 @@ pub ruleset counted = (counted_strategies, counted_terms)
 pub read_more : (hs : List (Bor DefinitionHead)) (i : ℕ) (h : Bor DefinitionHead) → i < length hs → h ≡ get_or hs i h →
     read_heads (take (i + 1) hs) ≡ read_heads (take i hs) ++ read_head h.now ∷ []
 read_more hs i h in_range is =
-    let taken : take (i + 1) hs ≡ take i hs ++ h ∷ [] = rw add-one (take-suc hs i h in_range ∙ ap (λ k. take i hs ++ k ∷ []) (sym is)) in
+    let taken : take (i + 1) hs ≡ take i hs ++ h ∷ [] =
+    rw add-one (take-suc hs i h in_range ∙ ap (λ k. take i hs ++ k ∷ []) (sym is)) in
     ap read_heads taken ∙ map-append (λ k. read_head k.now) (take i hs) (h ∷ [])
 
-pub read_at : (hs : List (Bor DefinitionHead)) (all : List Head) (i : ℕ) (h : Bor DefinitionHead) → read_heads hs ≡ all → i < length all → h ≡ get_or hs i h →
+pub read_at : (hs : List (Bor DefinitionHead)) (all : List Head) (i : ℕ) (h : Bor DefinitionHead) →
+    read_heads hs ≡ all → i < length all → h ≡ get_or hs i h →
     read_head h.now ≡ get_or all i (read_head h.now)
 read_at hs all i h seen in_range is =
-    ap (λ k. read_head k.now) is ∙ sym (get_or-map (λ k. read_head k.now) hs i h) ∙ ap (λ l. get_or l i (read_head h.now)) seen
+    ap (λ k. read_head k.now) is ∙ sym (get_or-map (λ k. read_head k.now) hs i h) ∙
+    ap (λ l. get_or l i (read_head h.now)) seen
 
 -- the heads of the alternatives of a let, and of those at top level
-pub head_of_alternative : (declared : Bytes → ℕ → Bool) (h : HeadTree) (s : StrategyTree) → head_in (alternative_core declared (definition h s)) ≡ written_head h
+pub head_of_alternative : (declared : Bytes → ℕ → Bool) (h : HeadTree) (s : StrategyTree) →
+    head_in (alternative_core declared (definition h s)) ≡ written_head h
 head_of_alternative declared (head f parameters) s = refl
 
-pub head_of_rule : (declared : Bytes → ℕ → Bool) (h : HeadTree) (r : RuleTree) → head_in (top_core declared (rule_form h r)) ≡ written_head h
+pub head_of_rule : (declared : Bytes → ℕ → Bool) (h : HeadTree) (r : RuleTree) →
+    head_in (top_core declared (rule_form h r)) ≡ written_head h
 head_of_rule declared (head f parameters) r = refl
 
 pub head_of_strategy : (declared : Bytes → ℕ → Bool) (h : HeadTree) (s : StrategyTree) →

@@ -32,13 +32,17 @@ module _ {A : Type 0} (test : A → Bool) where
   pub searched_all : (all : List A) (n : ℕ) → Searched all n [] → first_at all ≡ None
   searched_all all n s = s.same
 
-  pub searched_here : (all : List A) (n : ℕ) (x : A) (xs : List A) → Searched all n (x ∷ xs) → test x ≡ true → first_at all ≡ Some n
+  pub searched_here : (all : List A) (n : ℕ) (x : A) (xs : List A) → Searched all n (x ∷ xs) → test x ≡ true →
+      first_at all ≡ Some n
   searched_here all n x xs s e =
-      s.same ∙ ap (λ b. after n (if b then Some 0 else option_map (λ i. suc i) (first_at xs))) e ∙ ap (λ i. Some i) (omega arith)
+      s.same ∙ ap (λ b. after n (if b then Some 0 else option_map (λ i. suc i) (first_at xs))) e ∙
+      ap (λ i. Some i) (omega arith)
 
-  pub searched_on : (all : List A) (n : ℕ) (x : A) (xs : List A) → Searched all n (x ∷ xs) → test x ≡ false → Searched all (n + 1) xs
+  pub searched_on : (all : List A) (n : ℕ) (x : A) (xs : List A) → Searched all n (x ∷ xs) → test x ≡ false →
+      Searched all (n + 1) xs
   searched_on all n x xs s e = record {
-    same = s.same ∙ ap (λ b. after n (if b then Some 0 else option_map (λ i. suc i) (first_at xs))) e ∙ by (first_at xs);
+    same = s.same ∙ ap (λ b. after n (if b then Some 0 else option_map (λ i. suc i) (first_at xs))) e ∙
+        by (first_at xs);
   }
     where
       by : (o : Option ℕ) → after n (option_map (λ i. suc i) o) ≡ after (n + 1) o
@@ -55,18 +59,25 @@ key_at f m k [] = refl
 key_at f m k (d ∷ ds) = ap (λ o. if is_called f m k d then Some 0 else option_map (λ i. suc i) o) (key_at f m k ds)
 
 -- what is seen of the next item of a loop, and that none is left
-pub next_of : {A B : Type 0} (f : A → B) (items : List A) (all : List B) (i : ℕ) (a : A) → all ≡ map f items → i < length items → a ≡ get_or items i a →
+pub next_of : {A B : Type 0} (f : A → B) (items : List A) (all : List B) (i : ℕ) (a : A) → all ≡ map f items →
+    i < length items → a ≡ get_or items i a →
     drop i all ≡ f a ∷ drop (i + 1) all
 next_of f items all i a seen h is =
-    let cut : drop i items ≡ a ∷ drop (i + 1) items = rw add-one (drop-cons items i a h ∙ ap (λ u. u ∷ drop (suc i) items) (sym is)) in
-    ap (λ l. drop i l) seen ∙ drop-map f i items ∙ ap (λ l. map f l) cut ∙ ap (λ l. f a ∷ l) (sym (drop-map f (i + 1) items)) ∙ ap (λ l. f a ∷ drop (i + 1) l) (sym seen)
+    let cut : drop i items ≡ a ∷ drop (i + 1) items =
+    rw add-one (drop-cons items i a h ∙ ap (λ u. u ∷ drop (suc i) items) (sym is)) in
+    ap (λ l. drop i l) seen ∙ drop-map f i items ∙ ap (λ l. map f l) cut ∙
+    ap (λ l. f a ∷ l) (sym (drop-map f (i + 1) items)) ∙ ap (λ l. f a ∷ drop (i + 1) l) (sym seen)
 
-pub none_of : {A B : Type 0} (f : A → B) (items : List A) (all : List B) (i : ℕ) → all ≡ map f items → length items ≤ i → drop i all ≡ []
-none_of f items all i seen h = ap (λ l. drop i l) seen ∙ drop-map f i items ∙ ap (λ l. map f l) (drop_of_length-le items h)
+pub none_of : {A B : Type 0} (f : A → B) (items : List A) (all : List B) (i : ℕ) → all ≡ map f items →
+    length items ≤ i → drop i all ≡ []
+none_of f items all i seen h = ap (λ l. drop i l) seen ∙ drop-map f i items ∙
+    ap (λ l. map f l) (drop_of_length-le items h)
 
-pub next_item : {A : Type 0} (items all : List A) (i : ℕ) (a : A) → all ≡ items → i < length items → a ≡ get_or items i a → drop i all ≡ a ∷ drop (i + 1) all
+pub next_item : {A : Type 0} (items all : List A) (i : ℕ) (a : A) → all ≡ items → i < length items →
+    a ≡ get_or items i a → drop i all ≡ a ∷ drop (i + 1) all
 next_item items all i a seen h is =
-    let cut : drop i items ≡ a ∷ drop (i + 1) items = rw add-one (drop-cons items i a h ∙ ap (λ u. u ∷ drop (suc i) items) (sym is)) in
+    let cut : drop i items ≡ a ∷ drop (i + 1) items =
+    rw add-one (drop-cons items i a h ∙ ap (λ u. u ∷ drop (suc i) items) (sym is)) in
     ap (λ l. drop i l) seen ∙ cut ∙ ap (λ l. a ∷ drop (i + 1) l) (sym seen)
 
 pub none_item : {A : Type 0} (items all : List A) (i : ℕ) → all ≡ items → length items ≤ i → drop i all ≡ []

@@ -39,37 +39,49 @@ module _ (declared : Bytes → ℕ → Bool) where
   same_head (rule_form (head f ps) r) = refl
   same_head (strategy_form (definition (head f ps) s)) = refl
 
-  same_heads : (forms : List FormTree) → map (λ f. written_head (head_of_form f)) forms ≡ map head_in (tops_at declared forms)
+  same_heads : (forms : List FormTree) →
+      map (λ f. written_head (head_of_form f)) forms ≡ map head_in (tops_at declared forms)
   same_heads [] = refl
   same_heads (f ∷ forms) = ap₂ (λ h hs. h ∷ hs) (same_head f) (same_heads forms)
 
   -- the heads of all of them, where the heads so far were put
-  pub heads_all : (forms : List (Bor DefinitionForm)) (i : ℕ) (made heads : List Head) → length forms ≤ i → made ≡ heads →
-      heads ≡ map (λ f. written_head (head_of_form f)) (read_forms (take i forms)) → made ≡ map head_in (tops_at declared (read_forms forms))
+  pub heads_all : (forms : List (Bor DefinitionForm)) (i : ℕ) (made heads : List Head) → length forms ≤ i →
+      made ≡ heads →
+      heads ≡ map (λ f. written_head (head_of_form f)) (read_forms (take i forms)) →
+      made ≡ map head_in (tops_at declared (read_forms forms))
   heads_all forms i made heads past is e =
-      is ∙ e ∙ ap (λ fs. map (λ f. written_head (head_of_form f)) (read_forms fs)) (take_all i forms past) ∙ same_heads (read_forms forms)
+      is ∙ e ∙ ap (λ fs. map (λ f. written_head (head_of_form f)) (read_forms fs)) (take_all i forms past) ∙
+      same_heads (read_forms forms)
 
-  same_bodies : (F : Frames) (hs : List Head) (forms : List FormTree) → map (λ f. body_among F hs (top_core declared f)) forms ≡ map (λ a. body_among F hs a) (tops_at declared forms)
+  same_bodies : (F : Frames) (hs : List Head) (forms : List FormTree) →
+      map (λ f. body_among F hs (top_core declared f)) forms ≡ map (λ a. body_among F hs a) (tops_at declared forms)
   same_bodies F hs [] = refl
   same_bodies F hs (f ∷ forms) = ap (λ ss. body_among F hs (top_core declared f) ∷ ss) (same_bodies F hs forms)
 
-  pub bodies_all : (F : Frames) (hs : List Head) (forms : List (Bor DefinitionForm)) (i : ℕ) (made : List ResolvedStrategy) → length forms ≤ i →
-      hs ≡ map head_in (tops_at declared (read_forms forms)) → made ≡ map (λ f. body_among F hs (top_core declared f)) (read_forms (take i forms)) →
+  pub bodies_all : (F : Frames) (hs : List Head) (forms : List (Bor DefinitionForm)) (i : ℕ)
+      (made : List ResolvedStrategy) → length forms ≤ i →
+      hs ≡ map head_in (tops_at declared (read_forms forms)) →
+      made ≡ map (λ f. body_among F hs (top_core declared f)) (read_forms (take i forms)) →
       made ≡ bodies_at F (tops_at declared (read_forms forms))
   bodies_all F hs forms i made past is e =
       e ∙ ap (λ fs. map (λ f. body_among F hs (top_core declared f)) (read_forms fs)) (take_all i forms past) ∙
-      same_bodies F hs (read_forms forms) ∙ ap (λ gs. map (λ a. body_among F gs a) (tops_at declared (read_forms forms))) is
+      same_bodies F hs (read_forms forms) ∙
+      ap (λ gs. map (λ a. body_among F gs a) (tops_at declared (read_forms forms))) is
 
 -- a body under parameters
-pub under_made : (fs xs : Bor (List Bytes)) (up : Bor Scopes) (strategies terms : List Bytes) (body : NamedStrategy) (made : ResolvedStrategy) →
+pub under_made : (fs xs : Bor (List Bytes)) (up : Bor Scopes) (strategies terms : List Bytes) (body : NamedStrategy)
+    (made : ResolvedStrategy) →
     fs.now ≡ strategies → xs.now ≡ terms → made ≡ strategy_at (layers_of (code.Parameters fs xs up)) body →
     made ≡ strategy_at (of_names (map written strategies) (map written terms) (layers_of up.now)) body
 under_made fs xs up strategies terms body made are also e =
-    e ∙ ap (λ G. strategy_at G body) (reads_parameters fs xs up ∙ ap₂ (λ l r. of_names (map written l) (map written r) (layers_of up.now)) are also)
+    e ∙ ap (λ G. strategy_at G body) (reads_parameters fs xs up ∙
+    ap₂ (λ l r. of_names (map written l) (map written r) (layers_of up.now)) are also)
 
 -- the body of an alternative under the parameters of the first of its group
-pub alternative_made : (fs xs : List Bytes) (F : Frames) (first : DefinitionHead) (hs : List Head) (a : Alternative) (made : ResolvedStrategy) →
-    read_head first ≡ first_for hs (head_in a) → fs ≡ strategy_names (parameters_of first.parameters) → xs ≡ term_names (parameters_of first.parameters) →
+pub alternative_made : (fs xs : List Bytes) (F : Frames) (first : DefinitionHead) (hs : List Head) (a : Alternative)
+    (made : ResolvedStrategy) →
+    read_head first ≡ first_for hs (head_in a) → fs ≡ strategy_names (parameters_of first.parameters) →
+    xs ≡ term_names (parameters_of first.parameters) →
     made ≡ strategy_at (of_names (map written fs) (map written xs) F) a.body → made ≡ body_among F hs a
 alternative_made fs xs F first hs a made is strategies terms e =
     e ∙ ap (λ G. strategy_at G a.body) (ap₂ (λ l r. of_names (map written l) (map written r) F) strategies terms) ∙
@@ -80,23 +92,29 @@ alternative_made fs xs F first hs a made is strategies terms e =
 reads_outermost : layers_of variants.Outermost ≡ outermost
 reads_outermost = ap layers_of (sym variants.rolls-Outermost) ∙ fold-roll-Scopes Frames scopes_step forms.Outermost
 
-pub definitions_made : (ks : Bor (List NamedKey)) (up : Bor Scopes) (all : List Alternative) (made : ResolvedDefinitions) → up.now ≡ variants.Outermost →
-    made ≡ definitions_at (layers_of (code.Defined ks up)) (definitions_of_all all) → made ≡ definitions_at (of_definitions ks.now outermost) (definitions_of_all all)
+pub definitions_made : (ks : Bor (List NamedKey)) (up : Bor Scopes) (all : List Alternative)
+    (made : ResolvedDefinitions) → up.now ≡ variants.Outermost →
+    made ≡ definitions_at (layers_of (code.Defined ks up)) (definitions_of_all all) →
+    made ≡ definitions_at (of_definitions ks.now outermost) (definitions_of_all all)
 definitions_made ks up all made is e =
-    e ∙ ap (λ F. definitions_at F (definitions_of_all all)) (reads_defined ks up ∙ ap (λ F. of_definitions ks.now F) (ap layers_of is ∙ reads_outermost))
+    e ∙ ap (λ F. definitions_at F (definitions_of_all all)) (reads_defined ks up ∙
+    ap (λ F. of_definitions ks.now F) (ap layers_of is ∙ reads_outermost))
 
 -- ---- the program of a file
 
 -- the alternatives and their keys are those of a file without a fault, and main is looked up among the keys
-pub record Reduces (f : FileTree) (main : Bytes) (all : List Alternative) (keys : List NamedKey) (found : Option ℕ) : Type 0 where
+pub record Reduces (f : FileTree) (main : Bytes) (all : List Alternative) (keys : List NamedKey)
+    (found : Option ℕ) : Type 0 where
   pub has_primitive : Bytes → ℕ → Bool
   pub faultless : first_fault has_primitive f main ≡ None
   pub program : definitions_of_all all ≡ program_of_file f
   pub keyed : keys ≡ keys_of (definitions_of_all all)
   pub looked_up : found ≡ key_position keys (written main) 0 0
 
-pub reduced : (f : FileTree) (main name : Bytes) (declarations ds : List Declared) (forms : List FormTree) (keys : List NamedKey) (found : Option ℕ) → IsChecked f declarations main →
-    ds ≡ declarations → forms ≡ forms_among f.sections → name ≡ main → keys ≡ keys_of (definitions_of_all (tops_at (arity_known ds) forms)) →
+pub reduced : (f : FileTree) (main name : Bytes) (declarations ds : List Declared) (forms : List FormTree)
+    (keys : List NamedKey) (found : Option ℕ) → IsChecked f declarations main →
+    ds ≡ declarations → forms ≡ forms_among f.sections → name ≡ main →
+    keys ≡ keys_of (definitions_of_all (tops_at (arity_known ds) forms)) →
     found ≡ key_position keys (written name) 0 0 → Reduces f main (tops_at (arity_known ds) forms) keys found
 reduced f main name declarations ds forms keys found checked declared all named keyed looked_up = record {
   has_primitive = checked.has_primitive;
@@ -106,7 +124,8 @@ reduced f main name declarations ds forms keys found checked declared all named 
   looked_up = looked_up ∙ ap (λ n. key_position keys (written n) 0 0) named;
 }
 
-module _ (f : FileTree) (main : Bytes) (all : List Alternative) (keys : List NamedKey) (found : Option ℕ) (reduces : Reduces f main all keys found) where
+module _ (f : FileTree) (main : Bytes) (all : List Alternative) (keys : List NamedKey) (found : Option ℕ)
+    (reduces : Reduces f main all keys found) where
   same_keys : keys ≡ keys_of (program_of_file f)
   same_keys = reduces.keyed ∙ ap keys_of reduces.program
 
@@ -116,7 +135,8 @@ module _ (f : FileTree) (main : Bytes) (all : List Alternative) (keys : List Nam
   pub main_found : IsSome found
   main_found = ap is_some (same_position ∙ (checked_main reduces.has_primitive f main reduces.faultless).1)
 
-  module _ (i : ℕ) (made : ResolvedDefinitions) (at : found ≡ Some i) (is : made ≡ definitions_at (of_definitions keys outermost) (definitions_of_all all)) where
+  module _ (i : ℕ) (made : ResolvedDefinitions) (at : found ≡ Some i)
+      (is : made ≡ definitions_at (of_definitions keys outermost) (definitions_of_all all)) where
     pub program_resolved : ResolvesProgram (program_of_file f) (written main) made i
     program_resolved =
         let P : ResolvedDefinitions → Type 0 = λ ds. ResolvesProgram (program_of_file f) (written main) ds i in

@@ -14,7 +14,8 @@ pub record Alternative : Type 0 where
 
 -- two alternatives are of one definition
 abbrev pub same_key : Alternative → Alternative → Bool
-same_key a b = bytes_eq a.name b.name && ((length a.strategies == length b.strategies) && (length a.terms == length b.terms))
+same_key a b = bytes_eq a.name b.name &&
+    ((length a.strategies == length b.strategies) && (length a.terms == length b.terms))
 
 -- the first alternative of each definition, in the order of the text
 abbrev pub firsts : List Alternative → List Alternative
@@ -27,8 +28,8 @@ first_success [] = fail
 first_success (s ∷ []) = s
 first_success (s ∷ t ∷ ss) = choice s id (first_success (t ∷ ss))
 
--- the definitions of which these are the first alternatives, where these are all of them; the parameters have the names that the
--- first alternative gives them
+-- the definitions of which these are the first alternatives, where these are all of them; the parameters have the names
+-- that the first alternative gives them
 abbrev pub definitions_among : List Alternative → List Alternative → NamedDefinitions
 definitions_among all [] = no_definitions
 definitions_among all (a ∷ others) =

@@ -1,3 +1,4 @@
+-- The headline does not rest on this file.
 -- How the code puts strategies over coordinates together, where what is brought stands in the innermost layer.
 use Rattle.std.specs.Prelude.{ℕ, suc, ◌+◌, List, [], ◌∷◌, ◌++◌}
 use Rattle.core_lang.specs.declared.coordinate.Coordinate.{Coordinate}
@@ -22,11 +23,14 @@ first_success_here s (t ∷ ss) = choice s id (first_success_here t ss)
 
 -- a congruence of n parts
 abbrev pub congruence_here : ℕ → Pattern Coordinate → List ResolvedStrategy → Pattern Coordinate → ResolvedStrategy
-congruence_here n p items q = scope (suc (n + n)) (chain (match (alias (here 0) p)) (items ++ build (like q (here 0)) ∷ []))
+congruence_here n p items q = scope (suc (n + n))
+    (chain (match (alias (here 0) p)) (items ++ build (like q (here 0)) ∷ []))
 
 -- the items that give the ith result of a build, and those of the ith part of n, in these layers
 abbrev pub result_here : Frames → ℕ → List ResolvedStrategy → List ResolvedStrategy
-result_here F i items = build (variable (variable_at F kept)) ∷ (items ++ match (variable (variable_at F (result_name i))) ∷ [])
+result_here F i items = build (variable (variable_at F kept)) ∷
+    (items ++ match (variable (variable_at F (result_name i))) ∷ [])
 
 abbrev pub part_here : Frames → ℕ → ℕ → ResolvedStrategy → List ResolvedStrategy
-part_here F n i s = build (variable (variable_at F (part_name i))) ∷ s ∷ match (variable (variable_at F (outcome_name n i))) ∷ []
+part_here F n i s = build (variable (variable_at F (part_name i))) ∷ s ∷
+    match (variable (variable_at F (outcome_name n i))) ∷ []

@@ -1,6 +1,7 @@
--- The names that the equations bring. No file spells them, and they are the same in each scope that the equations bring: what is
--- brought is named in the own sequence of its scope alone, and the parts of the file inside that sequence have written names and
--- scopes of their own. So a scope brings the first names there are, and within one scope they are distinct.
+-- The names that the equations bring. No file spells them, and they are the same in each scope that the equations
+-- bring: what is brought is named in the own sequence of its scope alone, and the parts of the file inside that
+-- sequence have written names and scopes of their own. So a scope brings the first names there are, and within one
+-- scope they are distinct.
 use Rattle.std.specs.Prelude.{ℕ, zero, suc, List, [], ◌∷◌}
 use Rattle.core_lang.specs.Named.{Name, brought}
 use Rattle.core_lang.specs.Program.{variable, Patterns, no_patterns, more_patterns, Elements, no_elements, the_rest, more_elements}

@@ -1,5 +1,5 @@
--- Equations into the core: which program over names a definition file is. A name that is called with strategies alone, in
--- parentheses, is a congruence where it is a constructor that is declared with as many sorts.
+-- Equations into the core: which program over names a definition file is. A name that is called with strategies alone,
+-- in parentheses, is a congruence where it is a constructor that is declared with as many sorts.
 use Rattle.std.specs.Prelude.{ℕ, zero, suc, ◌+◌, Bool, List, [], ◌∷◌, ◌++◌, map, cond}
 use Rattle.term_model.specs.Symbol.{Symbol, Plain, Quoted, Tuple, is_name}
 use Rattle.core_lang.specs.Named.{NamedStrategy, NamedStrategies, NamedDefinitions, Name, written, brought}
@@ -124,7 +124,8 @@ abbrev pub build_after : ℕ → List NamedStrategy → Pattern Name → NamedSt
 build_after zero items p = core.build p
 build_after (suc k) items p = keeping (suc k) (items ++ core.build p ∷ [])
 
--- a call or a primitive on the current term, after the items that give the results for its arguments, if there are results
+-- a call or a primitive on the current term, after the items that give the results for its arguments, if there are
+-- results
 abbrev pub call_after : ℕ → List NamedStrategy → NamedStrategy → NamedStrategy
 call_after zero items s = s
 call_after (suc k) items s = keeping (suc k) (items ++ core.build (core.variable kept) ∷ s ∷ [])
@@ -141,13 +142,15 @@ outcome_name n i = brought (suc (n + i))
 -- {y, x1, .., xn, z1, .., zn: ?y@p; !x1; s1; ?z1; ..; !xn; sn; ?zn; !q^y}
 abbrev pub congruence_of : ℕ → Pattern Name → List NamedStrategy → Pattern Name → NamedStrategy
 congruence_of n p items q =
-    core.scope (first_names (suc (n + n))) (in_turn (core.match (core.alias kept p)) (items ++ core.build (core.like q kept) ∷ []))
+    core.scope (first_names (suc (n + n)))
+    (in_turn (core.match (core.alias kept p)) (items ++ core.build (core.like q kept) ∷ []))
 
 -- of a symbol with n parts
 abbrev pub symbol_congruence : Symbol → ℕ → List NamedStrategy → NamedStrategy
 symbol_congruence f zero items = core.match (core.applied f core.no_patterns)
 symbol_congruence f (suc m) items =
-    congruence_of (suc m) (core.applied f (patterns_from 1 (suc m))) items (core.applied f (patterns_from (suc (suc m)) (suc m)))
+    congruence_of (suc m) (core.applied f (patterns_from 1 (suc m)))
+    items (core.applied f (patterns_from (suc (suc m)) (suc m)))
 
 -- of a list of n elements
 abbrev pub elements_congruence : ℕ → List NamedStrategy → NamedStrategy
@@ -158,7 +161,8 @@ elements_congruence (suc m) items =
 -- of a list of at least n elements, the rest being one part more
 abbrev pub rest_congruence : ℕ → List NamedStrategy → NamedStrategy
 rest_congruence n items =
-    congruence_of (suc n) (core.list (elements_and_rest_from 1 n)) items (core.list (elements_and_rest_from (suc (suc n)) n))
+    congruence_of (suc n) (core.list (elements_and_rest_from 1 n))
+    items (core.list (elements_and_rest_from (suc (suc n)) n))
 
 -- ---- strategies
 
@@ -175,7 +179,8 @@ abbrev mutual
   pub strategy_core : (Bytes → ℕ → Bool) → StrategyTree → NamedStrategy
   strategy_core declared (plain_sequence q) = sequence_core declared q
   strategy_core declared (left_choice q s) = core.choice (sequence_core declared q) core.id (strategy_core declared s)
-  strategy_core declared (guarded_choice q s t) = core.choice (sequence_core declared q) (strategy_core declared s) (strategy_core declared t)
+  strategy_core declared (guarded_choice q s t) =
+      core.choice (sequence_core declared q) (strategy_core declared s) (strategy_core declared t)
 
   pub sequence_core : (Bytes → ℕ → Bool) → SequenceTree → NamedStrategy
   sequence_core declared (last s) = step_core declared s
@@ -205,14 +210,16 @@ abbrev mutual
   primary_core declared (recursive f s) =
       core.with_definitions (core.more_definitions (written f) [] [] (strategy_core declared s) core.no_definitions)
       (core.call (written f) core.no_strategies core.no_patterns)
-  primary_core declared (let_in ds s) = core.with_definitions (definitions_of_all (alternatives declared ds)) (strategy_core declared s)
+  primary_core declared (let_in ds s) =
+      core.with_definitions (definitions_of_all (alternatives declared ds)) (strategy_core declared s)
   primary_core declared (primitive name ps) =
       call_after (applications_among ps) (results_among declared 0 ps) (core.primitive name (built_parts 0 ps))
   primary_core declared (lambda r) = scoped (each_once (left_names r)) (rule_core declared r)
   primary_core declared (call f no_arguments) = core.call (written f) core.no_strategies core.no_patterns
   primary_core declared (call f (strategy_arguments ss)) =
       cond (declared f (number_of_strategies ss))
-      (symbol_congruence (constructor_symbol f) (number_of_strategies ss) (parts declared (number_of_strategies ss) 0 ss))
+      (symbol_congruence (constructor_symbol f) (number_of_strategies ss)
+      (parts declared (number_of_strategies ss) 0 ss))
       (core.call (written f) (strategies_core declared ss) core.no_patterns)
   primary_core declared (call f (all_arguments ss ps)) =
       call_after (applications_among ps) (results_among declared 0 ps)
@@ -228,7 +235,8 @@ abbrev mutual
 
   pub strategies_core : (Bytes → ℕ → Bool) → StrategyTrees → NamedStrategies
   strategies_core declared no_strategies = core.no_strategies
-  strategies_core declared (more_strategies s ss) = core.more_strategies (strategy_core declared s) (strategies_core declared ss)
+  strategies_core declared (more_strategies s ss) =
+      core.more_strategies (strategy_core declared s) (strategies_core declared ss)
 
   -- what stands after else: id where nothing does
   pub otherwise_core : (Bytes → ℕ → Bool) → OptionalStrategy → NamedStrategy
@@ -279,7 +287,13 @@ abbrev mutual
 
   pub alternative_core : (Bytes → ℕ → Bool) → DefinitionTree → Alternative
   alternative_core declared (definition (head f parameters) s) =
-      record { name = f; strategies = strategy_names parameters; terms = term_names parameters; body = strategy_core declared s }
+      record {
+        name = f;
+        strategies = strategy_names parameters;
+        terms = term_names parameters;
+        body =
+            strategy_core declared s;
+      }
 
 -- ---- files
 

@@ -1,3 +1,4 @@
+-- The headline does not rest on this file.
 -- What the rules and definitions at top level in the code stand for.
 use Rattle.std.specs.Prelude.{ℕ, Bool, List, map}
 use Rattle.std.specs.Borrow.{Bor}

@@ -1,4 +1,6 @@
--- Layers as the code keeps them: of a layer of definitions only what a call asks for, and for each identifier one coordinate.
+-- The headline does not rest on this file.
+-- Layers as the code keeps them: of a layer of definitions only what a call asks for, and for each identifier one
+-- coordinate.
 use Rattle.std.specs.Prelude.{ℕ, Bool, suc, ◌&&◌, ◌==◌, Option, Some, None, List, [], ◌∷◌, length, if◌then◌else◌}
 use Rattle.std.specs.Option.{option_map}
 use Rattle.core_lang.specs.declared.coordinate.Coordinate.{Coordinate}
@@ -108,8 +110,10 @@ abbrev mutual
   strategy_at F (one s) = one (strategy_at F s)
   strategy_at F (some s) = some (strategy_at F s)
   strategy_at F (with_definitions ds s) =
-      with_definitions (definitions_at (of_definitions (keys_of ds) F) ds) (strategy_at (of_definitions (keys_of ds) F) s)
-  strategy_at F (call f ss ps) = call (callee_at F f (strategies_count ss) (patterns_count ps)) (strategies_at F ss) (patterns_at F ps)
+      with_definitions (definitions_at (of_definitions (keys_of ds) F) ds)
+      (strategy_at (of_definitions (keys_of ds) F) s)
+  strategy_at F (call f ss ps) =
+      call (callee_at F f (strategies_count ss) (patterns_count ps)) (strategies_at F ss) (patterns_at F ps)
   strategy_at F (primitive f ps) = primitive f (patterns_at F ps)
 
   pub strategies_at : Frames → NamedStrategies → ResolvedStrategies

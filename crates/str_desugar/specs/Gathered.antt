@@ -1,3 +1,4 @@
+-- The headline does not rest on this file.
 -- Names gathered one after another, where some are bound around them.
 use Rattle.std.specs.Prelude.{Bool, List, [], ◌∷◌, ◌++◌, if◌then◌else◌}
 use Rattle.std.specs.List.{list_any}

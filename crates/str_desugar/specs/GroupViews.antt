@@ -1,3 +1,4 @@
+-- The headline does not rest on this file.
 -- What groups of alternatives in the code stand for.
 use Rattle.std.specs.Prelude.{map}
 use Rattle.core_lang.specs.Views.{strategy_of}

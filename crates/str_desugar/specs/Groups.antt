@@ -1,3 +1,4 @@
+-- The headline does not rest on this file.
 -- Alternatives in groups, one for each definition, where their heads are known apart from their bodies.
 use Rattle.std.specs.Prelude.{ℕ, zero, suc, Bool, not, ◌&&◌, ◌==◌, List, [], ◌∷◌, ◌++◌, length, map, filter, if◌then◌else◌}
 use Rattle.std.specs.Str.{bytes_eq}
@@ -17,14 +18,16 @@ pub record Head : Type 0 where
   pub terms : List Bytes
 
 abbrev pub written_head : HeadTree → Head
-written_head (head f parameters) = record { name = f; strategies = strategy_names parameters; terms = term_names parameters }
+written_head (head f parameters) =
+    record { name = f; strategies = strategy_names parameters; terms = term_names parameters }
 
 abbrev pub head_in : Alternative → Head
 head_in a = record { name = a.name; strategies = a.strategies; terms = a.terms }
 
 -- alternatives with these heads are of one definition
 abbrev pub same_definition : Head → Head → Bool
-same_definition h k = bytes_eq h.name k.name && ((length h.strategies == length k.strategies) && (length h.terms == length k.terms))
+same_definition h k = bytes_eq h.name k.name &&
+    ((length h.strategies == length k.strategies) && (length h.terms == length k.terms))
 
 -- the first head of each definition, in the order of the text
 abbrev pub first_heads : List Head → List Head
@@ -43,7 +46,8 @@ head_key h = record { name = written h.name; strategies = length h.strategies; t
 abbrev pub under_head : Frames → Head → Frames
 under_head F h = of_names (map written h.strategies) (map written h.terms) F
 
--- the body of an alternative among those with these heads; its parameters have the names that the first of its definition gives them
+-- the body of an alternative among those with these heads; its parameters have the names that the first of its
+-- definition gives them
 abbrev pub body_among : Frames → List Head → Alternative → ResolvedStrategy
 body_among F heads a = strategy_at (under_head F (first_for heads (head_in a))) a.body
 

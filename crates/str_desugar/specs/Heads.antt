@@ -1,3 +1,4 @@
+-- The headline does not rest on this file.
 -- What heads of definitions in the code stand for.
 use Rattle.std.specs.Prelude.{List, map}
 use Rattle.std.specs.Borrow.{Bor}

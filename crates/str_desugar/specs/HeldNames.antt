@@ -1,3 +1,4 @@
+-- The headline does not rest on this file.
 -- The names that a table holds.
 use Rattle.std.specs.Prelude.{ℕ, List, [], Option, Some, None, Box}
 use Rattle.std.specs.declared.alloc.Global.{Global}

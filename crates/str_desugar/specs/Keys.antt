@@ -1,3 +1,4 @@
+-- The headline does not rest on this file.
 -- What keys in the code stand for.
 use Rattle.core_lang.specs.Named.{written}
 use Rattle.std.specs.Prelude.{ℕ, List, map}

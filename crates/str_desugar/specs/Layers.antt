@@ -1,3 +1,4 @@
+-- The headline does not rest on this file.
 -- What the layers of the code stand for.
 use Rattle.std.specs.Prelude.{ℕ, zero, suc, ◌+◌, List, [], ◌∷◌, map, Option, Some, None}
 use Rattle.core_lang.specs.declared.coordinate.Coordinate.{Coordinate}

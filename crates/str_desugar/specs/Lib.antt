@@ -15,3 +15,4 @@ pub mod Layers
 pub mod Marks
 pub mod SameDefinition
 pub mod Variables
+pub mod Results

@@ -1,3 +1,4 @@
+-- The headline does not rest on this file.
 -- Marks of names. Names that are the same have the same mark, so a table that does not have a mark has no name with it.
 use Rattle.std.specs.Prelude.{◌≡◌, ◌%◌, ◌/◌, ◌==◌, ℕ, Bool, true, List, [], ◌∷◌, slice_index}
 use Rattle.std.specs.Int.{bit_at}

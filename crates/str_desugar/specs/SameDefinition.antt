@@ -1,3 +1,4 @@
+-- The headline does not rest on this file.
 -- Laws of the test whether two heads are of one definition, and what a head feeds a hasher.
 use Rattle.std.specs.Prelude.{◌≡◌, ◌++◌, ◌==◌, ℕ, Bool, true, ◌&&◌, length}
 use Rattle.std.specs.Bool.{Decides}
@@ -30,15 +31,23 @@ same_numbers-refl k =
 
 pub same_numbers-true : (k l : HeadKey) → same_numbers k l ≡ true → k ≡ l
 same_numbers-true k l same =
-    let numbers : (k.strategies == l.strategies && k.terms == l.terms) ≡ true = second_so (bytes_eq k.name l.name) _ same in
-    let names : k.name ≡ l.name = (same_name-Decides k.name l.name).0 (first_so _ (k.strategies == l.strategies && k.terms == l.terms) same) in
-    let strategies : k.strategies ≡ l.strategies = (unsigned_Decides k.strategies l.strategies).0 (first_so _ (k.terms == l.terms) numbers) in
-    let terms : k.terms ≡ l.terms = (unsigned_Decides k.terms l.terms).0 (second_so (k.strategies == l.strategies) _ numbers) in
+    let numbers : (k.strategies == l.strategies && k.terms == l.terms) ≡ true =
+    second_so (bytes_eq k.name l.name) _ same in
+    let names : k.name ≡ l.name =
+    (same_name-Decides k.name l.name).0 (first_so _ (k.strategies == l.strategies && k.terms == l.terms) same) in
+    let strategies : k.strategies ≡ l.strategies =
+    (unsigned_Decides k.strategies l.strategies).0 (first_so _ (k.terms == l.terms) numbers) in
+    let terms : k.terms ≡ l.terms =
+    (unsigned_Decides k.terms l.terms).0 (second_so (k.strategies == l.strategies) _ numbers) in
     λ i. record { name = names i; strategies = strategies i; terms = terms i }
 
 -- the test decides whether the names and the numbers are equal
 pub same_numbers-Decides : (k l : HeadKey) → Decides (same_numbers k l) (k ≡ l)
-same_numbers-Decides k l = (same_numbers-true k l, λ equal. let P : HeadKey → Type 0 = λ m. same_numbers k m ≡ true in subst P equal (same_numbers-refl k))
+same_numbers-Decides k l = (
+  same_numbers-true k l,
+  λ equal. let P : HeadKey → Type 0 = λ m. same_numbers k m ≡ true in
+      subst P equal (same_numbers-refl k),
+)
 
 pub same_numbers_equiv : IsEquivalence same_numbers
 same_numbers_equiv = decided same_numbers same_numbers-Decides

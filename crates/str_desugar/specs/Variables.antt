@@ -1,4 +1,5 @@
--- Variables: which names a pattern has, and which of a strategy no scope, no rule in backslashes and no term parameter binds.
+-- Variables: which names a pattern has, and which of a strategy no scope, no rule in backslashes and no term parameter
+-- binds.
 use Rattle.std.specs.Prelude.{not, List, [], ◌∷◌, ◌++◌, filter}
 use Rattle.std.specs.List.{list_any}
 use Rattle.std.specs.Str.{bytes_eq}

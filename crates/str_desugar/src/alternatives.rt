@@ -1,4 +1,4 @@
-// Alternatives of definitions: those with one name and as many parameters are joined to one definition.
+//! Alternatives of definitions: those with one name and as many parameters are joined to one definition.
 ghost use Rattle.std.specs.Prelude.{◌≡◌, ◌<◌, List, [], ◌∷◌, length, map, IfOk, OnOk};
 ghost use Rattle.std.specs.List.{position_or_len};
 ghost use Rattle.core_lang.specs.Views as views;
@@ -8,6 +8,7 @@ ghost use Rattle.str_desugar.specs.GroupViews.{gathered_in};
 ghost use Rattle.str_desugar.specs.Groups.{bodies_at, first_for, first_heads, first_success_of, gathered_for, head_in, head_key, joined, plain_arm, same_definition, with_body};
 ghost use Rattle.str_desugar.specs.Heads.{read_head, read_heads};
 ghost use Rattle.str_desugar.specs.Keys.{named_key};
+ghost use Rattle.term_model.specs.Results.{Returns};
 
 use crate::keys::{Key, Keys};
 use crate::names::same;
@@ -18,7 +19,7 @@ use std::hash::{Hash, Hasher};
 use std::marker::Model;
 use str_syntax::DefinitionHead;
 
-// A head, as its definition is looked up: by the name and the numbers of parameters.
+/// A head, as its definition is looked up: by the name and the numbers of parameters.
 #[derive(Drop)]
 struct Keyed<'a> {
     head: &'a DefinitionHead,
@@ -40,7 +41,7 @@ impl<'a> Keyed<'a> {
         Keyed { head }
     }
 
-    // How many strategy parameters it has.
+    /// How many strategy parameters it has.
     #[tactic(auto, using(crate::proofs::ReadHeadLaws::counted))]
     fn strategies(&self) -> usize
         ensures { result ≡ length self.now.strategies }
@@ -48,7 +49,7 @@ impl<'a> Keyed<'a> {
         self.head.parameters.strategies()
     }
 
-    // How many term parameters it has.
+    /// How many term parameters it has.
     #[tactic(auto, using(crate::proofs::ReadHeadLaws::counted))]
     fn terms(&self) -> usize
         ensures { result ≡ length self.now.terms }
@@ -56,7 +57,7 @@ impl<'a> Keyed<'a> {
         self.head.parameters.terms()
     }
 
-    // The name and the numbers.
+    /// The name and the numbers.
     fn key(&self, alloc: Global) -> Result<Key, AllocError>
         ensures { IfOk result (λ made. named_key made ≡ head_key self.now) }
     {
@@ -99,7 +100,7 @@ impl<'a> Hash for Keyed<'a> {
     }
 }
 
-// The first head of a definition, and the bodies of its alternatives so far.
+/// The first head of a definition, and the bodies of its alternatives so far.
 #[derive(Drop)]
 struct Group<'a> {
     first: &'a DefinitionHead,
@@ -113,7 +114,7 @@ pub(crate) struct Groups<'a> {
     firsts: IndexSet<Keyed<'a>>,
 }
 
-// All heads, in the order of the text.
+/// All heads, in the order of the text.
 impl<'a> Model for Groups<'a> {
     ghost use Rattle.std.specs.Prelude.{◌≡◌, List};
     ghost use Rattle.str_desugar.specs.Groups.{Head, first_heads};
@@ -123,7 +124,8 @@ impl<'a> Model for Groups<'a> {
 
     ghost view = { λ groups. read_heads groups.heads.items };
 
-    ghost invariant = { λ groups. groups.firsts.keys ≡ first_heads (read_heads groups.heads.items) };
+    ghost invariant = { λ groups. groups.firsts.keys ≡
+        first_heads (read_heads groups.heads.items) };
 }
 
 impl<'a> Groups<'a> {
@@ -132,7 +134,7 @@ impl<'a> Groups<'a> {
         alloc: Global,
         heads: Vec<&'a DefinitionHead>,
     ) -> Result<Groups<'a>, AllocError>
-        ensures { IfOk result (λ made. made ≡ read_heads heads.entry.items) }
+        ensures { Returns result (read_heads heads.entry.items) }
     {
         let firsts = firsts_of(alloc, &heads)?;
         Ok(Groups { heads, firsts })
@@ -151,7 +153,8 @@ impl<'a> Groups<'a> {
     /// The keys of the definitions, in the order of their first alternatives. `AllocError` where a growth is refused.
     #[inline(never)]
     pub(crate) fn keys(&self, alloc: Global) -> Result<Box<Keys>, AllocError>
-        ensures { IfOk result (λ made. (all : List Alternative) → map head_in all ≡ self.now → made.value ≡ keys_of (definitions_of_all all)) }
+        ensures { IfOk result (λ made. (all : List Alternative) → map head_in all ≡ self.now →
+            made.value ≡ keys_of (definitions_of_all all)) }
     {
         let keys = self.keys_of_firsts(alloc)?;
         let made = Box::new(alloc, keys)?;
@@ -177,16 +180,18 @@ impl<'a> Groups<'a> {
         bodies: Vec<CoreStrategy>,
     ) -> Result<Vec<CoreDef>, AllocError>
         requires { length bodies.items ≡ length self.now }
-        ensures { IfOk result (λ made. (F : Frames) (all : List Alternative) → map head_in all ≡ self.now → map views.strategy_of bodies.items ≡ bodies_at F all → views.definitions_of made.items ≡ definitions_at F (definitions_of_all all)) }
+        ensures { IfOk result (λ made. (F : Frames) (all : List Alternative) →
+            map head_in all ≡ self.now → map views.strategy_of bodies.items ≡ bodies_at F all →
+            views.definitions_of made.items ≡ definitions_at F (definitions_of_all all)) }
     {
         let groups = self.gather(alloc, bodies)?;
         let made = definitions(alloc, groups)?;
         Ok(made)
     }
 
-    // The keys of the first heads.
+    /// The keys of the first heads.
     fn keys_of_firsts(&self, alloc: Global) -> Result<Keys, AllocError>
-        ensures { IfOk result (λ made. made ≡ map head_key (first_heads self.now)) }
+        ensures { Returns result (map head_key (first_heads self.now)) }
     {
         let mut keys = Keys::new(alloc);
         for first in &self.firsts {
@@ -195,9 +200,10 @@ impl<'a> Groups<'a> {
         Ok(keys)
     }
 
-    // The groups without bodies.
+    /// The groups without bodies.
     fn empty(&self, alloc: Global) -> Result<Vec<Group<'a>>, AllocError>
-        ensures { IfOk result (λ made. map gathered_in made.items ≡ gathered_for (first_heads self.now) [] []) }
+        ensures { IfOk result (λ made. map gathered_in made.items ≡
+            gathered_for (first_heads self.now) [] []) }
     {
         let mut groups = Vec::new(alloc);
         for first in &self.firsts {
@@ -209,9 +215,10 @@ impl<'a> Groups<'a> {
         Ok(groups)
     }
 
-    // The position of the group of an alternative with this head, or how many groups there are.
+    /// The position of the group of an alternative with this head, or how many groups there are.
     fn number_of(&self, head: &DefinitionHead) -> usize
-        ensures { result ≡ position_or_len (same_definition (read_head head.now)) (first_heads self.now) }
+        ensures { result ≡ position_or_len (same_definition (read_head head.now))
+            (first_heads self.now) }
     {
         match self.firsts.get_index_of(&Keyed::new(head)) {
             Some(number) => number,
@@ -219,10 +226,11 @@ impl<'a> Groups<'a> {
         }
     }
 
-    // The groups with these bodies.
+    /// The groups with these bodies.
     fn gather(&self, alloc: Global, bodies: Vec<CoreStrategy>) -> Result<Vec<Group<'a>>, AllocError>
         requires { length bodies.items ≡ length self.now }
-        ensures { IfOk result (λ made. map gathered_in made.items ≡ gathered_for (first_heads self.now) self.now (map views.strategy_of bodies.items)) }
+        ensures { IfOk result (λ made. map gathered_in made.items ≡
+            gathered_for (first_heads self.now) self.now (map views.strategy_of bodies.items)) }
     {
         let mut groups = self.empty(alloc)?;
         let mut index = 0usize;
@@ -235,7 +243,7 @@ impl<'a> Groups<'a> {
     }
 }
 
-// The first head of each definition.
+/// The first head of each definition.
 fn firsts_of<'a>(
     alloc: Global,
     heads: &[&'a DefinitionHead],
@@ -249,10 +257,11 @@ fn firsts_of<'a>(
     Ok(firsts)
 }
 
-// Puts the body after those of the group at this position.
+/// Puts the body after those of the group at this position.
 fn put_at(groups: &mut Vec<Group>, number: usize, body: CoreStrategy) -> Result<(), AllocError>
     requires { number < length groups.old.items }
-    ensures { OnOk result (map gathered_in groups.new.items ≡ with_body number (views.strategy_of body) (map gathered_in groups.old.items)) }
+    ensures { OnOk result (map gathered_in groups.new.items ≡
+        with_body number (views.strategy_of body) (map gathered_in groups.old.items)) }
 {
     let group = &mut groups[number];
     group.bodies.push(body)?;
@@ -260,7 +269,7 @@ fn put_at(groups: &mut Vec<Group>, number: usize, body: CoreStrategy) -> Result<
 }
 
 impl<'a> Group<'a> {
-    // The definition, whose alternatives are tried in turn.
+    /// The definition, whose alternatives are tried in turn.
     fn definition(self, alloc: Global) -> Result<CoreDef, AllocError>
         ensures { IfOk result (λ made. views.def_of made ≡ joined (gathered_in self.entry)) }
     {
@@ -274,9 +283,10 @@ impl<'a> Group<'a> {
     }
 }
 
-// The definition of each group.
+/// The definition of each group.
 fn definitions(alloc: Global, groups: Vec<Group>) -> Result<Vec<CoreDef>, AllocError>
-    ensures { IfOk result (λ made. map views.def_of made.items ≡ map joined (map gathered_in groups.entry.items)) }
+    ensures { IfOk result (λ made. map views.def_of made.items ≡
+        map joined (map gathered_in groups.entry.items)) }
 {
     let mut made = Vec::with_capacity(alloc, groups.len())?;
     for group in groups {
@@ -286,12 +296,13 @@ fn definitions(alloc: Global, groups: Vec<Group>) -> Result<Vec<CoreDef>, AllocE
     Ok(made)
 }
 
-// The strategies, each tried where those before it fail.
+/// The strategies, each tried where those before it fail.
 fn first_success(
     alloc: Global,
     mut strategies: Vec<CoreStrategy>,
 ) -> Result<CoreStrategy, AllocError>
-    ensures { IfOk result (λ made. views.strategy_of made ≡ first_success_of (map views.strategy_of strategies.items)) }
+    ensures { IfOk result (λ made. views.strategy_of made ≡
+        first_success_of (map views.strategy_of strategies.items)) }
 {
     let Some(last) = strategies.pop() else {
         return Ok(CoreStrategy::Fail);
@@ -305,7 +316,7 @@ fn first_success(
     Ok(CoreStrategy::Choice(first, others, Box::new(alloc, last)?))
 }
 
-// What follows where the guard succeeds is nothing more.
+/// What follows where the guard succeeds is nothing more.
 fn arm(guard: CoreStrategy) -> CoreArm
     ensures { views.arm_of result ≡ plain_arm (views.strategy_of guard) }
 {
@@ -315,9 +326,10 @@ fn arm(guard: CoreStrategy) -> CoreArm
     }
 }
 
-// Such arms of the guards.
+/// Such arms of the guards.
 fn arms(alloc: Global, guards: Vec<CoreStrategy>) -> Result<Vec<CoreArm>, AllocError>
-    ensures { IfOk result (λ made. map views.arm_of made.items ≡ map plain_arm (map views.strategy_of guards.items)) }
+    ensures { IfOk result (λ made. map views.arm_of made.items ≡
+        map plain_arm (map views.strategy_of guards.items)) }
 {
     let mut made = Vec::with_capacity(alloc, guards.len())?;
     for guard in guards {

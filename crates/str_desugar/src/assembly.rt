@@ -1,9 +1,11 @@
-// Strategies put together from strategies, where what an equation brings stands in the innermost layer.
-ghost use Rattle.std.specs.Prelude.{◌≡◌, suc, ◌+◌, IfOk, map};
+//! Strategies put together from strategies, where what an equation brings stands in the innermost layer.
+ghost use Rattle.std.specs.Prelude.{◌≡◌, suc, ◌+◌, map};
 ghost use Rattle.core_lang.specs.Views as views;
 ghost use Rattle.core_lang.specs.Program as core;
 ghost use Rattle.core_lang.specs.Resolved as resolved;
 ghost use Rattle.str_desugar.specs.Assembled.{keeping_here, where_here, congruence_here};
+ghost use Rattle.term_model.specs.Results.{Returns};
+ghost use Rattle.str_desugar.specs.Results.{ReturnsCore};
 
 use core_lang::{Coordinate, CoreArm, CorePattern, CoreStrategy, SourcePattern};
 use std::alloc::{AllocError, Global};
@@ -18,19 +20,17 @@ pub(crate) fn here(slot: usize) -> Coordinate
 /// The strategy that leaves each term as it is.
 #[inline(never)]
 pub(crate) fn identity(alloc: Global) -> Result<Box<CoreStrategy>, AllocError>
-    ensures { IfOk result (λ made. views.strategy_of made.value ≡ core.id) }
+    ensures { ReturnsCore result core.id }
 {
-    let made = Box::new(alloc, CoreStrategy::Id)?;
-    Ok(made)
+    Ok(Box::new(alloc, CoreStrategy::Id)?)
 }
 
 /// The strategy that fails on each term.
 #[inline(never)]
 pub(crate) fn failure(alloc: Global) -> Result<Box<CoreStrategy>, AllocError>
-    ensures { IfOk result (λ made. views.strategy_of made.value ≡ core.fail) }
+    ensures { ReturnsCore result core.fail }
 {
-    let made = Box::new(alloc, CoreStrategy::Fail)?;
-    Ok(made)
+    Ok(Box::new(alloc, CoreStrategy::Fail)?)
 }
 
 /// This number of new variables, and the strategy that sees them.
@@ -40,10 +40,9 @@ pub(crate) fn scope_of(
     count: usize,
     body: Box<CoreStrategy>,
 ) -> Result<Box<CoreStrategy>, AllocError>
-    ensures { IfOk result (λ made. views.strategy_of made.value ≡ core.scope count (views.strategy_of body.value)) }
+    ensures { ReturnsCore result (core.scope count (views.strategy_of body.value)) }
 {
-    let made = Box::new(alloc, CoreStrategy::Scope(count, body))?;
-    Ok(made)
+    Ok(Box::new(alloc, CoreStrategy::Scope(count, body))?)
 }
 
 /// The strategy on each part of the term.
@@ -52,10 +51,9 @@ pub(crate) fn on_all(
     alloc: Global,
     inner: Box<CoreStrategy>,
 ) -> Result<Box<CoreStrategy>, AllocError>
-    ensures { IfOk result (λ made. views.strategy_of made.value ≡ core.all (views.strategy_of inner.value)) }
+    ensures { ReturnsCore result (core.all (views.strategy_of inner.value)) }
 {
-    let made = Box::new(alloc, CoreStrategy::All(inner))?;
-    Ok(made)
+    Ok(Box::new(alloc, CoreStrategy::All(inner))?)
 }
 
 /// The strategy on the first part of the term where it does not fail.
@@ -64,10 +62,9 @@ pub(crate) fn on_one(
     alloc: Global,
     inner: Box<CoreStrategy>,
 ) -> Result<Box<CoreStrategy>, AllocError>
-    ensures { IfOk result (λ made. views.strategy_of made.value ≡ core.one (views.strategy_of inner.value)) }
+    ensures { ReturnsCore result (core.one (views.strategy_of inner.value)) }
 {
-    let made = Box::new(alloc, CoreStrategy::One(inner))?;
-    Ok(made)
+    Ok(Box::new(alloc, CoreStrategy::One(inner))?)
 }
 
 /// The strategy on each part of the term, one at least, where it does not fail.
@@ -76,26 +73,25 @@ pub(crate) fn on_some(
     alloc: Global,
     inner: Box<CoreStrategy>,
 ) -> Result<Box<CoreStrategy>, AllocError>
-    ensures { IfOk result (λ made. views.strategy_of made.value ≡ core.some (views.strategy_of inner.value)) }
+    ensures { ReturnsCore result (core.some (views.strategy_of inner.value)) }
 {
-    let made = Box::new(alloc, CoreStrategy::Some(inner))?;
-    Ok(made)
+    Ok(Box::new(alloc, CoreStrategy::Some(inner))?)
 }
 
-// The strategies one after another.
+/// The strategies one after another.
 fn in_turn(
     alloc: Global,
     first: Box<CoreStrategy>,
     mut items: Vec<CoreStrategy>,
 ) -> Result<Box<CoreStrategy>, AllocError>
-    ensures { IfOk result (λ made. views.strategy_of made.value ≡ views.chain (views.strategy_of first.value) (map views.strategy_of items.items)) }
+    ensures { ReturnsCore result (views.chain (views.strategy_of first.value)
+        (map views.strategy_of items.items)) }
 {
     if items.is_empty() {
         return Ok(first);
     }
     let second = Box::new(alloc, items.remove(0))?;
-    let made = Box::new(alloc, CoreStrategy::Sequence(first, second, items))?;
-    Ok(made)
+    Ok(Box::new(alloc, CoreStrategy::Sequence(first, second, items))?)
 }
 
 /// A scope that keeps the current term and has place for this number of results, and these items in it.
@@ -105,7 +101,7 @@ pub(crate) fn keeping(
     results: usize,
     items: Vec<CoreStrategy>,
 ) -> Result<Box<CoreStrategy>, AllocError>
-    ensures { IfOk result (λ made. views.strategy_of made.value ≡ keeping_here results (map views.strategy_of items.items)) }
+    ensures { ReturnsCore result (keeping_here results (map views.strategy_of items.items)) }
 {
     let count = results.checked_add(1).ok_or(AllocError)?;
     let kept = SourcePattern::new(CorePattern::Variable(here(0)), None);
@@ -120,7 +116,7 @@ pub(crate) fn where_of(
     alloc: Global,
     inner: Box<CoreStrategy>,
 ) -> Result<Box<CoreStrategy>, AllocError>
-    ensures { IfOk result (λ made. views.strategy_of made.value ≡ where_here (views.strategy_of inner.value)) }
+    ensures { ReturnsCore result (where_here (views.strategy_of inner.value)) }
 {
     let mut items = Vec::new(alloc);
     items.push(Box::into_inner(inner))?;
@@ -136,24 +132,25 @@ pub(crate) fn seq(
     first: Box<CoreStrategy>,
     second: Box<CoreStrategy>,
 ) -> Result<Box<CoreStrategy>, AllocError>
-    ensures { IfOk result (λ made. views.strategy_of made.value ≡ core.seq (views.strategy_of first.value) (views.strategy_of second.value)) }
+    ensures { ReturnsCore result (core.seq (views.strategy_of first.value)
+        (views.strategy_of second.value)) }
 {
     if let CoreStrategy::Sequence(_, _, _) = &*second {
         return before_chain(alloc, first, Box::into_inner(second));
     }
     let made = CoreStrategy::Sequence(first, second, Vec::new(alloc));
-    let made = Box::new(alloc, made)?;
-    Ok(made)
+    Ok(Box::new(alloc, made)?)
 }
 
-// The strategy before the others of a chain.
+/// The strategy before the others of a chain.
 #[inline(never)]
 fn before_chain(
     alloc: Global,
     first: Box<CoreStrategy>,
     others: CoreStrategy,
 ) -> Result<Box<CoreStrategy>, AllocError>
-    ensures { IfOk result (λ made. views.strategy_of made.value ≡ core.seq (views.strategy_of first.value) (views.strategy_of others)) }
+    ensures { ReturnsCore result (core.seq (views.strategy_of first.value)
+        (views.strategy_of others)) }
 {
     match others {
         CoreStrategy::Sequence(second, third, mut others) => {
@@ -170,34 +167,36 @@ fn before_chain(
     }
 }
 
-// The choice of one arm.
+/// The choice of one arm.
 #[inline(never)]
 fn one_choice(
     alloc: Global,
     arm: Box<CoreArm>,
     otherwise: Box<CoreStrategy>,
 ) -> Result<Box<CoreStrategy>, AllocError>
-    ensures { IfOk result (λ made. views.strategy_of made.value ≡ core.choice (views.arm_of arm.value).guard (views.arm_of arm.value).then (views.strategy_of otherwise.value)) }
+    ensures { ReturnsCore result (core.choice (views.arm_of arm.value).guard
+        (views.arm_of arm.value).then
+        (views.strategy_of otherwise.value)) }
 {
     let made = CoreStrategy::Choice(arm, Vec::new(alloc), otherwise);
-    let made = Box::new(alloc, made)?;
-    Ok(made)
+    Ok(Box::new(alloc, made)?)
 }
 
-// The arm before the others of a chain of choices.
+/// The arm before the others of a chain of choices.
 #[inline(never)]
 fn before_arms(
     alloc: Global,
     arm: Box<CoreArm>,
     others: CoreStrategy,
 ) -> Result<Box<CoreStrategy>, AllocError>
-    ensures { IfOk result (λ made. views.strategy_of made.value ≡ core.choice (views.arm_of arm.value).guard (views.arm_of arm.value).then (views.strategy_of others)) }
+    ensures { ReturnsCore result (core.choice (views.arm_of arm.value).guard
+        (views.arm_of arm.value).then
+        (views.strategy_of others)) }
 {
     match others {
         CoreStrategy::Choice(second, mut others, last) => {
             others.insert(0, Box::into_inner(second))?;
-            let made = Box::new(alloc, CoreStrategy::Choice(arm, others, last))?;
-            Ok(made)
+            Ok(Box::new(alloc, CoreStrategy::Choice(arm, others, last))?)
         }
         other => {
             let other = Box::new(alloc, other)?;
@@ -206,14 +205,16 @@ fn before_arms(
     }
 }
 
-// The arm, and what follows where its guard fails, in one chain where that is a chain.
+/// The arm, and what follows where its guard fails, in one chain where that is a chain.
 #[inline(never)]
-fn chosen(
+fn chain_of_arm(
     alloc: Global,
     arm: Box<CoreArm>,
     otherwise: Box<CoreStrategy>,
 ) -> Result<Box<CoreStrategy>, AllocError>
-    ensures { IfOk result (λ made. views.strategy_of made.value ≡ core.choice (views.arm_of arm.value).guard (views.arm_of arm.value).then (views.strategy_of otherwise.value)) }
+    ensures { ReturnsCore result (core.choice (views.arm_of arm.value).guard
+        (views.arm_of arm.value).then
+        (views.strategy_of otherwise.value)) }
 {
     if let CoreStrategy::Choice(_, _, _) = &*otherwise {
         return before_arms(alloc, arm, Box::into_inner(otherwise));
@@ -221,9 +222,10 @@ fn chosen(
     one_choice(alloc, arm, otherwise)
 }
 
-// The guard, and what follows where it succeeds.
+/// The guard, and what follows where it succeeds.
 fn arm(guard: Box<CoreStrategy>, then: CoreStrategy) -> CoreArm
-    ensures { views.arm_of result ≡ record { guard = views.strategy_of guard.value; then = views.strategy_of then } }
+    ensures { views.arm_of result ≡
+        record { guard = views.strategy_of guard.value; then = views.strategy_of then } }
 {
     CoreArm {
         guard: Box::into_inner(guard),
@@ -239,10 +241,12 @@ pub(crate) fn choice(
     then: Box<CoreStrategy>,
     otherwise: Box<CoreStrategy>,
 ) -> Result<Box<CoreStrategy>, AllocError>
-    ensures { IfOk result (λ made. views.strategy_of made.value ≡ core.choice (views.strategy_of guard.value) (views.strategy_of then.value) (views.strategy_of otherwise.value)) }
+    ensures { ReturnsCore result (core.choice (views.strategy_of guard.value)
+        (views.strategy_of then.value)
+        (views.strategy_of otherwise.value)) }
 {
     let arm = Box::new(alloc, arm(guard, Box::into_inner(then)))?;
-    chosen(alloc, arm, otherwise)
+    chain_of_arm(alloc, arm, otherwise)
 }
 
 /// The choice of the guard and of what follows where it fails.
@@ -252,10 +256,11 @@ pub(crate) fn left_choice(
     guard: Box<CoreStrategy>,
     otherwise: Box<CoreStrategy>,
 ) -> Result<Box<CoreStrategy>, AllocError>
-    ensures { IfOk result (λ made. views.strategy_of made.value ≡ core.choice (views.strategy_of guard.value) core.id (views.strategy_of otherwise.value)) }
+    ensures { ReturnsCore result (core.choice (views.strategy_of guard.value) core.id
+        (views.strategy_of otherwise.value)) }
 {
     let arm = Box::new(alloc, arm(guard, CoreStrategy::Id))?;
-    chosen(alloc, arm, otherwise)
+    chain_of_arm(alloc, arm, otherwise)
 }
 
 /// The strategy that fails where this one succeeds, and leaves the term as it is where this one fails.
@@ -264,7 +269,7 @@ pub(crate) fn negation(
     alloc: Global,
     inner: Box<CoreStrategy>,
 ) -> Result<Box<CoreStrategy>, AllocError>
-    ensures { IfOk result (λ made. views.strategy_of made.value ≡ core.choice (views.strategy_of inner.value) core.fail core.id) }
+    ensures { ReturnsCore result (core.choice (views.strategy_of inner.value) core.fail core.id) }
 {
     let arm = Box::new(alloc, arm(inner, CoreStrategy::Fail))?;
     let otherwise = identity(alloc)?;
@@ -281,7 +286,9 @@ pub(crate) fn congruence(
     mut items: Vec<CoreStrategy>,
     made: CorePattern,
 ) -> Result<Box<CoreStrategy>, AllocError>
-    ensures { IfOk result (λ made_all. views.strategy_of made_all.value ≡ congruence_here parts (views.pattern_of pattern) (map views.strategy_of items.items) (views.pattern_of made)) }
+    ensures { ReturnsCore result (congruence_here parts (views.pattern_of pattern)
+        (map views.strategy_of items.items)
+        (views.pattern_of made)) }
 {
     let count = names_of_congruence(parts)?;
     let pattern = Box::new(alloc, pattern)?;
@@ -296,7 +303,7 @@ pub(crate) fn congruence(
 
 /// How many names a congruence of this number of parts brings.
 pub(crate) fn names_of_congruence(parts: usize) -> Result<usize, AllocError>
-    ensures { IfOk result (λ made. made ≡ suc (parts + parts)) }
+    ensures { Returns result (suc (parts + parts)) }
 {
     let both = parts.checked_add(parts).ok_or(AllocError)?;
     both.checked_add(1).ok_or(AllocError)

@@ -1,4 +1,4 @@
-// Names that are bound around a part of a file.
+//! Names that are bound around a part of a file.
 ghost use Rattle.std.specs.Prelude.{◌≡◌, OnOk};
 ghost use Rattle.str_desugar.specs.Gathered.{bound_names, has_name, noted};
 

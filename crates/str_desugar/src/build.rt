@@ -1,5 +1,5 @@
-// What a build makes: the items that give the results of its outermost `<..>`, and then the build.
-ghost use Rattle.std.specs.Prelude.{◌≡◌, ◌+◌, ◌++◌, IfOk, OnOk, map};
+//! What a build makes: the items that give the results of its outermost `<..>`, and then the build.
+ghost use Rattle.std.specs.Prelude.{◌≡◌, ◌+◌, ◌++◌, OnOk, map};
 ghost use Rattle.core_lang.specs.Program as core;
 ghost use Rattle.core_lang.specs.Views as views;
 ghost use Rattle.str_syntax.specs.Trees as trees;
@@ -9,8 +9,9 @@ ghost use Rattle.str_desugar.specs.Equations.{applications, applications_among, 
 ghost use Rattle.str_desugar.specs.Frames.{strategy_at};
 ghost use Rattle.str_desugar.specs.Layers.{items_at, layers_of};
 ghost use Rattle.signature_core.specs.Signature.{arity_known};
+ghost use Rattle.str_desugar.specs.Results.{ReturnsCore};
 
-use crate::built::{applications, built};
+use crate::built::{applications, core_of_build};
 use crate::items::{build_after, put_result, put_result_of};
 use crate::offsets::{offset_of, place_before};
 use crate::parts::successor;
@@ -21,7 +22,7 @@ use core_lang::{CoreStrategy, SourcePattern};
 use std::alloc::AllocError;
 use str_syntax::Pattern;
 
-// The build of a pattern, whose results stand in the layers.
+/// The build of a pattern, whose results stand in the layers.
 #[inline(never)]
 fn build_of(
     context: &Context,
@@ -29,10 +30,11 @@ fn build_of(
     scopes: &Scopes,
     symbols: &mut Symbols,
 ) -> Result<Box<CoreStrategy>, AllocError>
-    ensures { IfOk result (λ made. views.strategy_of made.value ≡ strategy_at (layers_of scopes.now) (core.build (equations.built 0 (pattern_of source.now)))) }
+    ensures { ReturnsCore result (strategy_at (layers_of scopes.now) (core.build (equations.built 0
+        (pattern_of source.now)))) }
 {
     let mut next = 0;
-    let pattern = built(context.alloc, source, scopes, symbols, &mut next)?;
+    let pattern = core_of_build(context.alloc, source, scopes, symbols, &mut next)?;
     let pattern = SourcePattern::new(pattern, offset_of(context, source));
     let made = Box::new(context.alloc, CoreStrategy::Build(pattern))?;
     Ok(made)
@@ -47,7 +49,9 @@ pub(crate) fn build(
     scopes: &Scopes,
     symbols: &mut Symbols,
 ) -> Result<Box<CoreStrategy>, AllocError>
-    ensures { IfOk result (λ made. views.strategy_of made.value ≡ strategy_at (layers_of scopes.now) (primary_core (arity_known context.now.signature.now) (trees.build (pattern_of source.now)))) }
+    ensures { ReturnsCore result (strategy_at (layers_of scopes.now)
+        (primary_core (arity_known context.now.signature.now)
+        (trees.build (pattern_of source.now)))) }
 {
     let count = applications(source)?;
     if count == 0 {
@@ -67,7 +71,7 @@ pub(crate) fn build(
     Ok(made)
 }
 
-// Puts the items that give the results of the outermost `<..>` after the others.
+/// Puts the items that give the results of the outermost `<..>` after the others.
 #[cycle(walk)]
 #[inline(never)]
 fn results_of(
@@ -78,7 +82,10 @@ fn results_of(
     next: &mut usize,
     items: &mut Vec<CoreStrategy>,
 ) -> Result<(), AllocError>
-    ensures items { OnOk result (map views.strategy_of items.new.items ≡ map views.strategy_of items.old.items ++ items_at (layers_of scopes.now) (results (arity_known context.now.signature.now) next.old (pattern_of source.now))) }
+    ensures items { OnOk result (map views.strategy_of items.new.items ≡
+        map views.strategy_of items.old.items ++
+        items_at (layers_of scopes.now)
+        (results (arity_known context.now.signature.now) next.old (pattern_of source.now))) }
     ensures next { OnOk result (next.new ≡ next.old + applications (pattern_of source.now)) }
 {
     match source {
@@ -126,8 +133,13 @@ pub(crate) fn results_in(
     next: &mut usize,
     items: &mut Vec<CoreStrategy>,
 ) -> Result<(), AllocError>
-    ensures items { OnOk result (map views.strategy_of items.new.items ≡ map views.strategy_of items.old.items ++ items_at (layers_of scopes.now) (results_among (arity_known context.now.signature.now) next.old (patterns_of sources.now))) }
-    ensures next { OnOk result (next.new ≡ next.old + applications_among (patterns_of sources.now)) }
+    ensures items { OnOk result (map views.strategy_of items.new.items ≡
+        map views.strategy_of items.old.items ++
+        items_at (layers_of scopes.now)
+        (results_among (arity_known context.now.signature.now) next.old
+        (patterns_of sources.now))) }
+    ensures next { OnOk result (next.new ≡ next.old +
+        applications_among (patterns_of sources.now)) }
 {
     for source in sources {
         results_of(context, source, scopes, symbols, next, items)?;

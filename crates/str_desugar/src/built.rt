@@ -1,4 +1,4 @@
-// What is built: patterns over coordinates, each outermost `<..>` by the name of its result.
+//! What is built: patterns over coordinates, each outermost `<..>` by the name of its result.
 ghost use Rattle.std.specs.Prelude.{◌≡◌, ◌+◌, IfOk, OnOk, map};
 ghost use Rattle.core_lang.specs.Program as core;
 ghost use Rattle.core_lang.specs.Views as views;
@@ -6,6 +6,7 @@ ghost use Rattle.str_syntax.specs.Views.{optional_pattern_of, pattern_of, patter
 ghost use Rattle.str_desugar.specs.Equations as equations;
 ghost use Rattle.str_desugar.specs.Frames.{pattern_at, patterns_at};
 ghost use Rattle.str_desugar.specs.Layers.{built_rest_at, layers_of};
+ghost use Rattle.term_model.specs.Results.{Returns};
 
 use crate::parts::{successor, variable};
 use crate::scopes::Scopes;
@@ -18,7 +19,7 @@ use term_model::Sym;
 /// How many `<..>` stand outermost in what is built. `Err` where that leaves 64 bits.
 #[cycle(applications)]
 pub(crate) fn applications(source: &Pattern) -> Result<usize, AllocError>
-    ensures { IfOk result (λ count. count ≡ equations.applications (pattern_of source.now)) }
+    ensures { Returns result (equations.applications (pattern_of source.now)) }
 {
     match source {
         Pattern::Variable(_) | Pattern::Wildcard(_) | Pattern::Integer(_) | Pattern::Quoted(_) => {
@@ -43,7 +44,7 @@ pub(crate) fn applications(source: &Pattern) -> Result<usize, AllocError>
 /// How many `<..>` stand outermost in patterns.
 #[cycle(applications)]
 pub(crate) fn applications_among(sources: &[Pattern]) -> Result<usize, AllocError>
-    ensures { IfOk result (λ count. count ≡ equations.applications_among (patterns_of sources.now)) }
+    ensures { Returns result (equations.applications_among (patterns_of sources.now)) }
 {
     let mut count = 0usize;
     for source in sources {
@@ -55,7 +56,8 @@ pub(crate) fn applications_among(sources: &[Pattern]) -> Result<usize, AllocErro
 
 #[cycle(applications)]
 fn applications_of_rest(source: &Option<Box<Pattern>>) -> Result<usize, AllocError>
-    ensures { IfOk result (λ count. count ≡ equations.applications_of_rest (optional_pattern_of source.now)) }
+    ensures { IfOk result (λ count. count ≡
+        equations.applications_of_rest (optional_pattern_of source.now)) }
 {
     match source {
         None => Ok(0),
@@ -65,34 +67,36 @@ fn applications_of_rest(source: &Option<Box<Pattern>>) -> Result<usize, AllocErr
 
 /// The core of what is built, where this number of results comes before its own.
 #[cycle(built)]
-pub(crate) fn built(
+pub(crate) fn core_of_build(
     alloc: Global,
     source: &Pattern,
     scopes: &Scopes,
     symbols: &mut Symbols,
     next: &mut usize,
 ) -> Result<CorePattern, AllocError>
-    ensures made { IfOk result (λ made. views.pattern_of made ≡ pattern_at (layers_of scopes.now) (equations.built next.old (pattern_of source.now))) }
-    ensures next { OnOk result (next.new ≡ next.old + equations.applications (pattern_of source.now)) }
+    ensures made { IfOk result (λ made. views.pattern_of made ≡
+        pattern_at (layers_of scopes.now) (equations.built next.old (pattern_of source.now))) }
+    ensures next { OnOk result (next.new ≡ next.old +
+        equations.applications (pattern_of source.now)) }
 {
     match source {
         Pattern::Variable(name) => Ok(CorePattern::Variable(scopes.variable(name)?)),
         Pattern::Wildcard(_) => Ok(CorePattern::Anything),
         Pattern::Alias(name, part) => {
             let name = scopes.variable(name)?;
-            let part = built(alloc, part, scopes, symbols, next)?;
+            let part = core_of_build(alloc, part, scopes, symbols, next)?;
             Ok(CorePattern::Alias(name, Box::new(alloc, part)?))
         }
         Pattern::Integer(value) => Ok(CorePattern::Integer(*value)),
         Pattern::Quoted(text) => {
-            Ok(CorePattern::Applied(symbols.quoted(text)?, Vec::new(alloc)))
+            Ok(CorePattern::Applied(symbols.quoted_symbol(text)?, Vec::new(alloc)))
         }
         Pattern::Application(name, parts) => {
             let symbol = symbols.constructor(name)?;
             let parts = built_parts(alloc, parts, scopes, symbols, next)?;
             Ok(CorePattern::Applied(symbol, parts))
         }
-        Pattern::Parenthesized(inner) => built(alloc, inner, scopes, symbols, next),
+        Pattern::Parenthesized(inner) => core_of_build(alloc, inner, scopes, symbols, next),
         Pattern::Tuple(parts) => {
             let parts = built_parts(alloc, parts, scopes, symbols, next)?;
             Ok(CorePattern::Applied(Sym::tuple(), parts))
@@ -103,7 +107,7 @@ pub(crate) fn built(
             Ok(CorePattern::List(elements, rest))
         }
         Pattern::Annotated(part, annotations) => {
-            let part = built(alloc, part, scopes, symbols, next)?;
+            let part = core_of_build(alloc, part, scopes, symbols, next)?;
             let annotations = built_parts(alloc, annotations, scopes, symbols, next)?;
             Ok(CorePattern::Annotated(Box::new(alloc, part)?, annotations))
         }
@@ -111,9 +115,10 @@ pub(crate) fn built(
     }
 }
 
-// The variable of the next result.
+/// The variable of the next result.
 fn result(scopes: &Scopes, next: &mut usize) -> Result<CorePattern, AllocError>
-    ensures made { IfOk result (λ made. views.pattern_of made ≡ pattern_at (layers_of scopes.now) (core.variable (equations.result_name next.old))) }
+    ensures made { IfOk result (λ made. views.pattern_of made ≡
+        pattern_at (layers_of scopes.now) (core.variable (equations.result_name next.old))) }
     ensures next { OnOk result (next.new ≡ next.old + 1) }
 {
     *next = successor(*next)?;
@@ -129,12 +134,15 @@ pub(crate) fn built_parts(
     symbols: &mut Symbols,
     next: &mut usize,
 ) -> Result<Vec<CorePattern>, AllocError>
-    ensures made { IfOk result (λ made. views.patterns_of made.items ≡ patterns_at (layers_of scopes.now) (equations.built_parts next.old (patterns_of sources.now))) }
-    ensures next { OnOk result (next.new ≡ next.old + equations.applications_among (patterns_of sources.now)) }
+    ensures made { IfOk result (λ made. views.patterns_of made.items ≡
+        patterns_at (layers_of scopes.now)
+        (equations.built_parts next.old (patterns_of sources.now))) }
+    ensures next { OnOk result (next.new ≡ next.old +
+        equations.applications_among (patterns_of sources.now)) }
 {
     let mut made = Vec::with_capacity(alloc, sources.len())?;
     for source in sources {
-        let part = built(alloc, source, scopes, symbols, next)?;
+        let part = core_of_build(alloc, source, scopes, symbols, next)?;
         made.push(part)?;
     }
     Ok(made)
@@ -148,13 +156,15 @@ fn built_rest(
     symbols: &mut Symbols,
     next: &mut usize,
 ) -> Result<Option<Box<CorePattern>>, AllocError>
-    ensures made { IfOk result (λ made. views.rest_of made ≡ built_rest_at (layers_of scopes.now) next.old (optional_pattern_of source.now)) }
-    ensures next { OnOk result (next.new ≡ next.old + equations.applications_of_rest (optional_pattern_of source.now)) }
+    ensures made { IfOk result (λ made. views.rest_of made ≡
+        built_rest_at (layers_of scopes.now) next.old (optional_pattern_of source.now)) }
+    ensures next { OnOk result (next.new ≡ next.old +
+        equations.applications_of_rest (optional_pattern_of source.now)) }
 {
     match source {
         None => Ok(None),
         Some(rest) => {
-            let rest = built(alloc, rest, scopes, symbols, next)?;
+            let rest = core_of_build(alloc, rest, scopes, symbols, next)?;
             Ok(Some(Box::new(alloc, rest)?))
         }
     }

@@ -1,4 +1,4 @@
-// Calls.
+//! Calls.
 ghost use Rattle.std.specs.Prelude.{◌≡◌, IfOk};
 ghost use Rattle.core_lang.specs.Named as named;
 ghost use Rattle.core_lang.specs.Named.{NamedStrategies, written};
@@ -10,6 +10,7 @@ ghost use Rattle.str_desugar.specs.Equations.{built_parts, primary_core, strateg
 ghost use Rattle.str_desugar.specs.Frames.{patterns_at, strategies_at, strategy_at};
 ghost use Rattle.str_desugar.specs.Layers.{layers_of};
 ghost use Rattle.signature_core.specs.Signature.{arity_known};
+ghost use Rattle.str_desugar.specs.Results.{ReturnsCore};
 
 use crate::build::results_in;
 use crate::built::{applications_among, built_parts};
@@ -23,7 +24,7 @@ use core_lang::{CallTarget, CorePattern, CoreStrategy};
 use std::alloc::{AllocError, Global};
 use str_syntax::{Arguments, Name, Pattern, Strategy};
 
-// A call by this name, with these arguments.
+/// A call by this name, with these arguments.
 #[inline(never)]
 fn call_of(
     alloc: Global,
@@ -32,7 +33,11 @@ fn call_of(
     strategies: Vec<CoreStrategy>,
     terms: Vec<CorePattern>,
 ) -> Result<Box<CoreStrategy>, AllocError>
-    ensures { IfOk result (λ made. (ss : NamedStrategies) (ps : core.Patterns named.Name) → views.strategies_of strategies.items ≡ strategies_at (layers_of scopes.now) ss → views.patterns_of terms.items ≡ patterns_at (layers_of scopes.now) ps → views.strategy_of made.value ≡ strategy_at (layers_of scopes.now) (core.call (written name.now) ss ps)) }
+    ensures { IfOk result (λ made. (ss : NamedStrategies) (ps : core.Patterns named.Name) →
+        views.strategies_of strategies.items ≡ strategies_at (layers_of scopes.now) ss →
+        views.patterns_of terms.items ≡ patterns_at (layers_of scopes.now) ps →
+        views.strategy_of made.value ≡
+        strategy_at (layers_of scopes.now) (core.call (written name.now) ss ps)) }
 {
     let at = scopes.callee(name, strategies.len(), terms.len())?;
     let target = CallTarget::new(at, Some(name.offset()));
@@ -47,7 +52,8 @@ pub(crate) fn plain_call(
     scopes: &Scopes,
     name: &Name,
 ) -> Result<Box<CoreStrategy>, AllocError>
-    ensures { IfOk result (λ made. views.strategy_of made.value ≡ strategy_at (layers_of scopes.now) (core.call (written name.now) core.no_strategies core.no_patterns)) }
+    ensures { ReturnsCore result (strategy_at (layers_of scopes.now)
+        (core.call (written name.now) core.no_strategies core.no_patterns)) }
 {
     let at = scopes.callee(name, 0, 0)?;
     let target = CallTarget::new(at, Some(name.offset()));
@@ -56,16 +62,18 @@ pub(crate) fn plain_call(
     Ok(made)
 }
 
-// The strategies that a call hands on.
+/// The strategies that a call hands on.
 #[cycle(walk)]
 #[inline(never)]
-fn handed(
+fn strategy_arguments(
     context: &Context,
     sources: &[Strategy],
     scopes: &Scopes,
     symbols: &mut Symbols,
 ) -> Result<Vec<CoreStrategy>, AllocError>
-    ensures { IfOk result (λ made. views.strategies_of made.items ≡ strategies_at (layers_of scopes.now) (strategies_core (arity_known context.now.signature.now) (strategies_of sources.now))) }
+    ensures { IfOk result (λ made. views.strategies_of made.items ≡
+        strategies_at (layers_of scopes.now)
+        (strategies_core (arity_known context.now.signature.now) (strategies_of sources.now))) }
 {
     let mut made = Vec::with_capacity(context.alloc, sources.len())?;
     for source in sources {
@@ -75,10 +83,10 @@ fn handed(
     Ok(made)
 }
 
-// The call itself, in the layers that have the results for its arguments.
+/// The call itself, in the layers that have the results for its arguments.
 #[cycle(walk)]
 #[inline(never)]
-fn called(
+fn call_with_results(
     context: &Context,
     name: &Name,
     sources: &[Strategy],
@@ -86,9 +94,12 @@ fn called(
     scopes: &Scopes,
     symbols: &mut Symbols,
 ) -> Result<Box<CoreStrategy>, AllocError>
-    ensures { IfOk result (λ made. views.strategy_of made.value ≡ strategy_at (layers_of scopes.now) (core.call (written name.now) (strategies_core (arity_known context.now.signature.now) (strategies_of sources.now)) (built_parts 0 (patterns_of terms.now)))) }
+    ensures { ReturnsCore result (strategy_at (layers_of scopes.now)
+        (core.call (written name.now)
+        (strategies_core (arity_known context.now.signature.now) (strategies_of sources.now))
+        (built_parts 0 (patterns_of terms.now)))) }
 {
-    let strategies = handed(context, sources, scopes, symbols)?;
+    let strategies = strategy_arguments(context, sources, scopes, symbols)?;
     let mut next = 0;
     let terms = built_parts(context.alloc, terms, scopes, symbols, &mut next)?;
     let made = call_of(context.alloc, scopes, name, strategies, terms)?;
@@ -106,7 +117,9 @@ pub(crate) fn call(
     scopes: &Scopes,
     symbols: &mut Symbols,
 ) -> Result<Box<CoreStrategy>, AllocError>
-    ensures { IfOk result (λ made. views.strategy_of made.value ≡ strategy_at (layers_of scopes.now) (primary_core (arity_known context.now.signature.now) (trees.call name.now (arguments_of source.now)))) }
+    ensures { ReturnsCore result (strategy_at (layers_of scopes.now)
+        (primary_core (arity_known context.now.signature.now)
+        (trees.call name.now (arguments_of source.now)))) }
 {
     match source {
         Arguments::Absent => plain_call(context.alloc, scopes, name),
@@ -114,7 +127,7 @@ pub(crate) fn call(
         Arguments::WithTerms(sources, terms) => {
             let count = applications_among(terms)?;
             if count == 0 {
-                let plain = called(context, name, sources, terms, scopes, symbols)?;
+                let plain = call_with_results(context, name, sources, terms, scopes, symbols)?;
                 return Ok(plain);
             }
             let names = successor(count)?;
@@ -125,14 +138,14 @@ pub(crate) fn call(
             let mut items = Vec::new(context.alloc);
             let mut next = 0;
             results_in(context, terms, &inner, symbols, &mut next, &mut items)?;
-            let last = called(context, name, sources, terms, &inner, symbols)?;
+            let last = call_with_results(context, name, sources, terms, &inner, symbols)?;
             let made = call_after(context.alloc, &inner, count, items, last)?;
             Ok(made)
         }
     }
 }
 
-// A call that has no terms, or a congruence.
+/// A call that has no terms, or a congruence.
 #[cycle(walk)]
 #[inline(never)]
 fn called_with(
@@ -142,7 +155,9 @@ fn called_with(
     scopes: &Scopes,
     symbols: &mut Symbols,
 ) -> Result<Box<CoreStrategy>, AllocError>
-    ensures { IfOk result (λ made. views.strategy_of made.value ≡ strategy_at (layers_of scopes.now) (primary_core (arity_known context.now.signature.now) (trees.call name.now (trees.strategy_arguments (strategies_of sources.now))))) }
+    ensures { ReturnsCore result (strategy_at (layers_of scopes.now)
+        (primary_core (arity_known context.now.signature.now)
+        (trees.call name.now (trees.strategy_arguments (strategies_of sources.now))))) }
 {
     if context
         .signature
@@ -152,7 +167,7 @@ fn called_with(
         let each = symbol_congruence(context, name.offset(), symbol, sources, scopes, symbols)?;
         return Ok(each);
     }
-    let strategies = handed(context, sources, scopes, symbols)?;
+    let strategies = strategy_arguments(context, sources, scopes, symbols)?;
     let made = call_of(
         context.alloc,
         scopes,

@@ -1,4 +1,4 @@
-// Congruences: what is matched of a node, a strategy on each part, and what is built of the outcomes.
+//! Congruences: what is matched of a node, a strategy on each part, and what is built of the outcomes.
 ghost use Rattle.std.specs.Prelude.{◌≡◌, ◌++◌, suc, List, IfOk, map};
 ghost use Rattle.core_lang.specs.Named.{NamedStrategy};
 ghost use Rattle.core_lang.specs.Program as core;
@@ -12,10 +12,11 @@ ghost use Rattle.str_desugar.specs.Equations.{elements_congruence, part_of, part
 ghost use Rattle.str_desugar.specs.Frames.{pattern_at, strategy_at};
 ghost use Rattle.str_desugar.specs.Layers.{inside_congruence, items_at, layers_of};
 ghost use Rattle.signature_core.specs.Signature.{arity_known};
+ghost use Rattle.str_desugar.specs.Results.{ReturnsCore};
 
 use crate::assembly::{congruence, names_of_congruence};
 use crate::items::put_part;
-use crate::parts::{applied, list, list_with_rest, successor};
+use crate::parts::{apply_symbol, list, list_with_rest, successor};
 use crate::scopes::Scopes;
 use crate::strategy::{Context, strategy};
 use crate::symbols::Symbols;
@@ -32,10 +33,10 @@ pub(crate) fn number_of(sources: &[Strategy]) -> usize
     sources.len()
 }
 
-// The match of a symbol without parts.
+/// The match of a symbol without parts.
 #[inline(never)]
 fn match_symbol(alloc: Global, offset: u64, symbol: Sym) -> Result<Box<CoreStrategy>, AllocError>
-    ensures { IfOk result (λ made. views.strategy_of made.value ≡ core.match (core.applied symbol core.no_patterns)) }
+    ensures { ReturnsCore result (core.match (core.applied symbol core.no_patterns)) }
 {
     let pattern = CorePattern::Applied(symbol, Vec::new(alloc));
     let pattern = SourcePattern::new(pattern, Some(offset));
@@ -43,10 +44,10 @@ fn match_symbol(alloc: Global, offset: u64, symbol: Sym) -> Result<Box<CoreStrat
     Ok(made)
 }
 
-// The match of the list without elements.
+/// The match of the list without elements.
 #[inline(never)]
 fn match_no_elements(alloc: Global, offset: u64) -> Result<Box<CoreStrategy>, AllocError>
-    ensures { IfOk result (λ made. views.strategy_of made.value ≡ core.match (core.list core.no_elements)) }
+    ensures { ReturnsCore result (core.match (core.list core.no_elements)) }
 {
     let pattern = CorePattern::List(Vec::new(alloc), None);
     let pattern = SourcePattern::new(pattern, Some(offset));
@@ -54,7 +55,7 @@ fn match_no_elements(alloc: Global, offset: u64) -> Result<Box<CoreStrategy>, Al
     Ok(made)
 }
 
-// The congruence of a symbol with this number of parts, where these are their items.
+/// The congruence of a symbol with this number of parts, where these are their items.
 #[inline(never)]
 fn of_symbol(
     alloc: Global,
@@ -64,14 +65,17 @@ fn of_symbol(
     count: usize,
     items: Vec<CoreStrategy>,
 ) -> Result<Box<CoreStrategy>, AllocError>
-    ensures { IfOk result (λ made. views.strategy_of made.value ≡ congruence_here count (pattern_at (layers_of scopes.now) (core.applied symbol (patterns_from 1 count))) (map views.strategy_of items.items) (pattern_at (layers_of scopes.now) (core.applied symbol (patterns_from (suc count) count)))) }
+    ensures { ReturnsCore result (congruence_here count (pattern_at (layers_of scopes.now)
+        (core.applied symbol (patterns_from 1 count))) (map views.strategy_of items.items)
+        (pattern_at (layers_of scopes.now) (core.applied symbol (patterns_from
+        (suc count) count)))) }
 {
-    let pattern = applied(alloc, scopes, symbol.clone()?, 1, count)?;
-    let made = applied(alloc, scopes, symbol, successor(count)?, count)?;
+    let pattern = apply_symbol(alloc, scopes, symbol.clone()?, 1, count)?;
+    let made = apply_symbol(alloc, scopes, symbol, successor(count)?, count)?;
     congruence(alloc, offset, count, pattern, items, made)
 }
 
-// The congruence of a list of this number of elements, where these are their items.
+/// The congruence of a list of this number of elements, where these are their items.
 #[inline(never)]
 fn of_elements(
     alloc: Global,
@@ -80,14 +84,16 @@ fn of_elements(
     count: usize,
     items: Vec<CoreStrategy>,
 ) -> Result<Box<CoreStrategy>, AllocError>
-    ensures { IfOk result (λ made. views.strategy_of made.value ≡ congruence_here count (pattern_at (layers_of scopes.now) (core.list (elements_from 1 count))) (map views.strategy_of items.items) (pattern_at (layers_of scopes.now) (core.list (elements_from (suc count) count)))) }
+    ensures { ReturnsCore result (congruence_here count (pattern_at (layers_of scopes.now)
+        (core.list (elements_from 1 count))) (map views.strategy_of items.items)
+        (pattern_at (layers_of scopes.now) (core.list (elements_from (suc count) count)))) }
 {
     let pattern = list(alloc, scopes, 1, count)?;
     let made = list(alloc, scopes, successor(count)?, count)?;
     congruence(alloc, offset, count, pattern, items, made)
 }
 
-// The congruence of a list of n elements and a rest, where these are the items of all parts, of which there is one more.
+/// The congruence of a list of n elements and a rest, where these are the items of all parts, of which there is one more.
 #[inline(never)]
 fn of_rest(
     alloc: Global,
@@ -97,7 +103,10 @@ fn of_rest(
     count: usize,
     items: Vec<CoreStrategy>,
 ) -> Result<Box<CoreStrategy>, AllocError>
-    ensures { IfOk result (λ made. views.strategy_of made.value ≡ congruence_here count (pattern_at (layers_of scopes.now) (core.list (elements_and_rest_from 1 elements))) (map views.strategy_of items.items) (pattern_at (layers_of scopes.now) (core.list (elements_and_rest_from (suc count) elements)))) }
+    ensures { ReturnsCore result (congruence_here count (pattern_at (layers_of scopes.now)
+        (core.list (elements_and_rest_from 1 elements))) (map views.strategy_of items.items)
+        (pattern_at (layers_of scopes.now)
+        (core.list (elements_and_rest_from (suc count) elements)))) }
 {
     let pattern = list_with_rest(alloc, scopes, 1, elements)?;
     let made = list_with_rest(alloc, scopes, successor(count)?, elements)?;
@@ -115,7 +124,10 @@ pub(crate) fn symbol_congruence(
     scopes: &Scopes,
     symbols: &mut Symbols,
 ) -> Result<Box<CoreStrategy>, AllocError>
-    ensures { IfOk result (λ made. views.strategy_of made.value ≡ strategy_at (layers_of scopes.now) (symbol_congruence symbol (number_of_strategies (strategies_of sources.now)) (parts (arity_known context.now.signature.now) (number_of_strategies (strategies_of sources.now)) 0 (strategies_of sources.now)))) }
+    ensures { ReturnsCore result (strategy_at (layers_of scopes.now)
+        (symbol_congruence symbol (number_of_strategies (strategies_of sources.now))
+        (parts (arity_known context.now.signature.now)
+        (number_of_strategies (strategies_of sources.now)) 0 (strategies_of sources.now)))) }
 {
     let alloc = context.alloc;
     let count = number_of(sources);
@@ -142,7 +154,10 @@ pub(crate) fn elements_congruence(
     scopes: &Scopes,
     symbols: &mut Symbols,
 ) -> Result<Box<CoreStrategy>, AllocError>
-    ensures { IfOk result (λ made. views.strategy_of made.value ≡ strategy_at (layers_of scopes.now) (elements_congruence (number_of_strategies (strategies_of sources.now)) (parts (arity_known context.now.signature.now) (number_of_strategies (strategies_of sources.now)) 0 (strategies_of sources.now)))) }
+    ensures { ReturnsCore result (strategy_at (layers_of scopes.now)
+        (elements_congruence (number_of_strategies (strategies_of sources.now))
+        (parts (arity_known context.now.signature.now)
+        (number_of_strategies (strategies_of sources.now)) 0 (strategies_of sources.now)))) }
 {
     let alloc = context.alloc;
     let count = number_of(sources);
@@ -169,7 +184,11 @@ pub(crate) fn items_before_rest(
     scopes: &Scopes,
     symbols: &mut Symbols,
 ) -> Result<Vec<CoreStrategy>, AllocError>
-    ensures { IfOk result (λ made. map views.strategy_of made.items ≡ items_at (inside_congruence (suc (number_of_strategies (strategies_of sources.now))) (layers_of scopes.now)) (parts (arity_known context.now.signature.now) (suc (number_of_strategies (strategies_of sources.now))) 0 (strategies_of sources.now))) }
+    ensures { IfOk result (λ made. map views.strategy_of made.items ≡
+        items_at (inside_congruence (suc (number_of_strategies (strategies_of sources.now)))
+        (layers_of scopes.now))
+        (parts (arity_known context.now.signature.now)
+        (suc (number_of_strategies (strategies_of sources.now))) 0 (strategies_of sources.now))) }
 {
     let count = successor(number_of(sources))?;
     let names = names_of_congruence(count)?;
@@ -192,7 +211,14 @@ pub(crate) fn rest_congruence(
     scopes: &Scopes,
     symbols: &mut Symbols,
 ) -> Result<Box<CoreStrategy>, AllocError>
-    ensures { IfOk result (λ made. (each : List NamedStrategy) → map views.strategy_of items.items ≡ items_at (inside_congruence (suc elements) (layers_of scopes.now)) each → views.strategy_of made.value ≡ strategy_at (layers_of scopes.now) (equations.rest_congruence elements (each ++ part_of (suc elements) elements (strategy_core (arity_known context.now.signature.now) (strategy_of source.now))))) }
+    ensures { IfOk result (λ made. (each : List NamedStrategy) →
+        map views.strategy_of items.items ≡
+        items_at (inside_congruence (suc elements) (layers_of scopes.now)) each →
+        views.strategy_of made.value ≡
+        strategy_at (layers_of scopes.now)
+        (equations.rest_congruence elements (each ++
+        part_of (suc elements) elements
+        (strategy_core (arity_known context.now.signature.now) (strategy_of source.now))))) }
 {
     let count = successor(elements)?;
     let names = names_of_congruence(count)?;
@@ -216,7 +242,9 @@ fn items_of(
     scopes: &Scopes,
     symbols: &mut Symbols,
 ) -> Result<Vec<CoreStrategy>, AllocError>
-    ensures { IfOk result (λ made. map views.strategy_of made.items ≡ items_at (layers_of scopes.now) (parts (arity_known context.now.signature.now) count 0 (strategies_of sources.now))) }
+    ensures { IfOk result (λ made. map views.strategy_of made.items ≡
+        items_at (layers_of scopes.now)
+        (parts (arity_known context.now.signature.now) count 0 (strategies_of sources.now))) }
 {
     let mut items = Vec::new(context.alloc);
     for (index, source) in sources.iter().enumerate() {

@@ -1,4 +1,4 @@
-// The rules and definitions of a file, in the order of the text.
+//! The rules and definitions of a file, in the order of the text.
 ghost use Rattle.std.specs.Prelude.{◌≡◌, ℕ, Bool, ◌++◌, IfOk, OnOk, map};
 ghost use Rattle.scope_check.specs.Seen.{head_of_form};
 ghost use Rattle.str_syntax.specs.Trees.{Bytes};
@@ -13,7 +13,8 @@ use str_syntax::{Definition, DefinitionForm, DefinitionHead, File, Section};
 
 /// Lists the rules and definitions of all sections. `AllocError` where a growth is refused.
 pub(crate) fn forms_in(alloc: Global, file: &File) -> Result<Vec<&DefinitionForm>, AllocError>
-    ensures { IfOk result (λ forms. read_forms forms.items ≡ forms_among (file_of file.now).sections) }
+    ensures { IfOk result (λ forms. read_forms forms.items ≡
+        forms_among (file_of file.now).sections) }
 {
     let mut forms = Vec::new(alloc);
     for section in &file.sections {
@@ -22,12 +23,13 @@ pub(crate) fn forms_in(alloc: Global, file: &File) -> Result<Vec<&DefinitionForm
     Ok(forms)
 }
 
-// Adds the rules and definitions of one section.
+/// Adds the rules and definitions of one section.
 fn add_section<'a>(
     forms: &mut Vec<&'a DefinitionForm>,
     section: &'a Section,
 ) -> Result<(), AllocError>
-    ensures { OnOk result (read_forms forms.new.items ≡ read_forms forms.old.items ++ forms_of_section (section_of section.now)) }
+    ensures { OnOk result (read_forms forms.new.items ≡ read_forms forms.old.items ++
+        forms_of_section (section_of section.now)) }
 {
     match section {
         Section::Signature(_) => Ok(()),
@@ -36,12 +38,13 @@ fn add_section<'a>(
     }
 }
 
-// Adds what the definitions of a section are.
+/// Adds what the definitions of a section are.
 fn add_forms<'a>(
     forms: &mut Vec<&'a DefinitionForm>,
     all: &'a [Definition],
 ) -> Result<(), AllocError>
-    ensures { OnOk result (read_forms forms.new.items ≡ read_forms forms.old.items ++ map (λ top. top.form) (map top_of all.now)) }
+    ensures { OnOk result (read_forms forms.new.items ≡ read_forms forms.old.items ++
+        map (λ top. top.form) (map top_of all.now)) }
 {
     for one in all {
         forms.push(&one.form)?;
@@ -64,7 +67,8 @@ pub(crate) fn groups_of<'a>(
     alloc: Global,
     forms: &[&'a DefinitionForm],
 ) -> Result<Groups<'a>, AllocError>
-    ensures { IfOk result (λ groups. (declared : Bytes → ℕ → Bool) → groups ≡ map head_in (tops_at declared (read_forms forms.now))) }
+    ensures { IfOk result (λ groups. (declared : Bytes → ℕ → Bool) →
+        groups ≡ map head_in (tops_at declared (read_forms forms.now))) }
 {
     let mut heads = Vec::with_capacity(alloc, forms.len())?;
     for form in forms {

@@ -1,5 +1,5 @@
-// Items of sequences: those that give one result of a build, and those of one part of a congruence.
-ghost use Rattle.std.specs.Prelude.{◌≡◌, ◌+◌, ◌++◌, ◌∷◌, [], IfOk, OnOk, map};
+//! Items of sequences: those that give one result of a build, and those of one part of a congruence.
+ghost use Rattle.std.specs.Prelude.{◌≡◌, ◌+◌, ◌++◌, ◌∷◌, [], OnOk, map};
 ghost use Rattle.core_lang.specs.Named.{brought};
 ghost use Rattle.core_lang.specs.Program as core;
 ghost use Rattle.core_lang.specs.Views as views;
@@ -8,6 +8,7 @@ ghost use Rattle.str_desugar.specs.Brought.{kept};
 ghost use Rattle.str_desugar.specs.Equations.{outcome_name, result_name};
 ghost use Rattle.str_desugar.specs.Frames.{variable_at};
 ghost use Rattle.str_desugar.specs.Layers.{layers_of};
+ghost use Rattle.str_desugar.specs.Results.{ReturnsCore};
 
 use crate::assembly::keeping;
 use crate::parts::{successor, sum, variable};
@@ -15,18 +16,22 @@ use crate::scopes::Scopes;
 use core_lang::{CoreStrategy, SourcePattern};
 use std::alloc::{AllocError, Global};
 
-// Puts the build of the name that is brought at this index after the others.
+/// Puts the build of the name that is brought at this index after the others.
 fn put_build(scopes: &Scopes, index: usize, items: &mut Vec<CoreStrategy>) -> Result<(), AllocError>
-    ensures { OnOk result (map views.strategy_of items.new.items ≡ map views.strategy_of items.old.items ++ core.build (core.variable (variable_at (layers_of scopes.now) (brought index))) ∷ []) }
+    ensures { OnOk result (map views.strategy_of items.new.items ≡
+        map views.strategy_of items.old.items ++
+        core.build (core.variable (variable_at (layers_of scopes.now) (brought index))) ∷ []) }
 {
     let part = SourcePattern::new(variable(scopes, index)?, None);
     items.push(CoreStrategy::Build(part))?;
     Ok(())
 }
 
-// Puts the match of the name that is brought at this index after the others.
+/// Puts the match of the name that is brought at this index after the others.
 fn put_match(scopes: &Scopes, index: usize, items: &mut Vec<CoreStrategy>) -> Result<(), AllocError>
-    ensures { OnOk result (map views.strategy_of items.new.items ≡ map views.strategy_of items.old.items ++ core.match (core.variable (variable_at (layers_of scopes.now) (brought index))) ∷ []) }
+    ensures { OnOk result (map views.strategy_of items.new.items ≡
+        map views.strategy_of items.old.items ++
+        core.match (core.variable (variable_at (layers_of scopes.now) (brought index))) ∷ []) }
 {
     let part = SourcePattern::new(variable(scopes, index)?, None);
     items.push(CoreStrategy::Match(part))?;
@@ -42,40 +47,48 @@ pub(crate) fn put(only: Box<CoreStrategy>, items: &mut Vec<CoreStrategy>) -> Res
     Ok(())
 }
 
-// Puts the strategy after the others, on the build of the name that is brought at this index.
+/// Puts the strategy after the others, on the build of the name that is brought at this index.
 fn put_on(
     scopes: &Scopes,
     index: usize,
     only: Box<CoreStrategy>,
     items: &mut Vec<CoreStrategy>,
 ) -> Result<(), AllocError>
-    ensures { OnOk result (map views.strategy_of items.new.items ≡ map views.strategy_of items.old.items ++ core.build (core.variable (variable_at (layers_of scopes.now) (brought index))) ∷ views.strategy_of only.value ∷ []) }
+    ensures { OnOk result (map views.strategy_of items.new.items ≡
+        map views.strategy_of items.old.items ++
+        core.build (core.variable (variable_at (layers_of scopes.now) (brought index))) ∷
+        views.strategy_of only.value ∷ []) }
 {
     put_build(scopes, index, items)?;
     put(only, items)
 }
 
-// Puts the match of the next result after the others.
+/// Puts the match of the next result after the others.
 fn put_next(
     scopes: &Scopes,
     next: &mut usize,
     items: &mut Vec<CoreStrategy>,
 ) -> Result<(), AllocError>
-    ensures items { OnOk result (map views.strategy_of items.new.items ≡ map views.strategy_of items.old.items ++ core.match (core.variable (variable_at (layers_of scopes.now) (result_name next.old))) ∷ []) }
+    ensures items { OnOk result (map views.strategy_of items.new.items ≡
+        map views.strategy_of items.old.items ++
+        core.match (core.variable (variable_at (layers_of scopes.now) (result_name next.old))) ∷ []) }
     ensures next { OnOk result (next.new ≡ next.old + 1) }
 {
     *next = successor(*next)?;
     put_match(scopes, *next, items)
 }
 
-// Puts the match of what becomes of the part at this index, of this number of parts, after the others.
+/// Puts the match of what becomes of the part at this index, of this number of parts, after the others.
 fn put_outcome(
     scopes: &Scopes,
     count: usize,
     index: usize,
     items: &mut Vec<CoreStrategy>,
 ) -> Result<(), AllocError>
-    ensures { OnOk result (map views.strategy_of items.new.items ≡ map views.strategy_of items.old.items ++ core.match (core.variable (variable_at (layers_of scopes.now) (outcome_name count index))) ∷ []) }
+    ensures { OnOk result (map views.strategy_of items.new.items ≡
+        map views.strategy_of items.old.items ++
+        core.match (core.variable (variable_at (layers_of scopes.now) (outcome_name count index))) ∷
+        []) }
 {
     let outcome = successor(sum(count, index)?)?;
     put_match(scopes, outcome, items)
@@ -89,7 +102,9 @@ pub(crate) fn put_result(
     next: &mut usize,
     items: &mut Vec<CoreStrategy>,
 ) -> Result<(), AllocError>
-    ensures items { OnOk result (map views.strategy_of items.new.items ≡ map views.strategy_of items.old.items ++ result_here (layers_of scopes.now) next.old (views.strategy_of only.value ∷ [])) }
+    ensures items { OnOk result (map views.strategy_of items.new.items ≡
+        map views.strategy_of items.old.items ++
+        result_here (layers_of scopes.now) next.old (views.strategy_of only.value ∷ [])) }
     ensures next { OnOk result (next.new ≡ next.old + 1) }
 {
     put_on(scopes, 0, only, items)?;
@@ -105,7 +120,10 @@ pub(crate) fn put_result_of(
     next: &mut usize,
     items: &mut Vec<CoreStrategy>,
 ) -> Result<(), AllocError>
-    ensures items { OnOk result (map views.strategy_of items.new.items ≡ map views.strategy_of items.old.items ++ result_here (layers_of scopes.now) next.old (views.strategy_of first.value ∷ views.strategy_of second.value ∷ [])) }
+    ensures items { OnOk result (map views.strategy_of items.new.items ≡
+        map views.strategy_of items.old.items ++
+        result_here (layers_of scopes.now)
+        next.old (views.strategy_of first.value ∷ views.strategy_of second.value ∷ [])) }
     ensures next { OnOk result (next.new ≡ next.old + 1) }
 {
     put_on(scopes, 0, first, items)?;
@@ -122,7 +140,9 @@ pub(crate) fn put_part(
     only: Box<CoreStrategy>,
     items: &mut Vec<CoreStrategy>,
 ) -> Result<(), AllocError>
-    ensures { OnOk result (map views.strategy_of items.new.items ≡ map views.strategy_of items.old.items ++ part_here (layers_of scopes.now) count index (views.strategy_of only.value)) }
+    ensures { OnOk result (map views.strategy_of items.new.items ≡
+        map views.strategy_of items.old.items ++
+        part_here (layers_of scopes.now) count index (views.strategy_of only.value)) }
 {
     let part = successor(index)?;
     put_on(scopes, part, only, items)?;
@@ -137,7 +157,8 @@ pub(crate) fn build_after(
     mut items: Vec<CoreStrategy>,
     last: Box<CoreStrategy>,
 ) -> Result<Box<CoreStrategy>, AllocError>
-    ensures { IfOk result (λ made. views.strategy_of made.value ≡ keeping_here count (map views.strategy_of items.items ++ views.strategy_of last.value ∷ [])) }
+    ensures { ReturnsCore result (keeping_here count (map views.strategy_of items.items ++
+        views.strategy_of last.value ∷ [])) }
 {
     put(last, &mut items)?;
     keeping(alloc, count, items)
@@ -152,7 +173,9 @@ pub(crate) fn call_after(
     mut items: Vec<CoreStrategy>,
     last: Box<CoreStrategy>,
 ) -> Result<Box<CoreStrategy>, AllocError>
-    ensures { IfOk result (λ made. views.strategy_of made.value ≡ keeping_here count (map views.strategy_of items.items ++ core.build (core.variable (variable_at (layers_of scopes.now) kept)) ∷ views.strategy_of last.value ∷ [])) }
+    ensures { ReturnsCore result (keeping_here count (map views.strategy_of items.items ++
+        core.build (core.variable (variable_at (layers_of scopes.now) kept)) ∷
+        views.strategy_of last.value ∷ [])) }
 {
     put_on(scopes, 0, last, &mut items)?;
     keeping(alloc, count, items)

@@ -1,4 +1,4 @@
-// Keys of definitions: their names, and how many strategy and term parameters they have.
+//! Keys of definitions: their names, and how many strategy and term parameters they have.
 ghost use Rattle.std.specs.Prelude.{◌≡◌, [], ◌∷◌, ◌++◌, OnOk, map};
 ghost use Rattle.core_lang.specs.Named.{written};
 ghost use Rattle.str_desugar.specs.Frames.{key_position};
@@ -12,7 +12,7 @@ use std::hash::{Hash, Hasher};
 use std::marker::Model;
 use str_syntax::Name;
 
-// A key whose name stands elsewhere.
+/// A key whose name stands elsewhere.
 #[derive(Drop)]
 struct Called<'a> {
     name: &'a Name,
@@ -100,7 +100,7 @@ impl Key {
         }
     }
 
-    // The same key.
+    /// The same key.
     fn called(&self) -> Called<'_>
         ensures { result ≡ self.now }
     {
@@ -156,11 +156,11 @@ impl<'a> Equivalent<Key> for &Called<'a> {
 /// keys, as long as no key is a repeated one; those of definitions that stand together are distinct.
 #[derive(Drop)]
 pub(crate) struct Keys {
-    // The keys in front of the first one that repeats another.
+    /// The keys in front of the first one that repeats another.
     distinct: IndexSet<Key>,
-    // The keys from there on.
+    /// The keys from there on.
     others: Vec<Key>,
-    // The marks of their names.
+    /// The marks of their names.
     marks: Marks,
 }
 
@@ -175,7 +175,8 @@ impl Model for Keys {
 
     ghost use Rattle.str_desugar.specs.Keys.{AreKeysMarked};
 
-    ghost invariant = { λ keys. AreKeysMarked keys.marks.words (keys.distinct.keys ++ keys.others.items) };
+    ghost invariant = { λ keys. AreKeysMarked keys.marks.words (keys.distinct.keys ++
+        keys.others.items) };
 }
 
 impl Keys {
@@ -214,7 +215,7 @@ impl Keys {
         self.position_of(wanted.name(), strategies, terms)
     }
 
-    // The same, whatever the mark of the name.
+    /// The same, whatever the mark of the name.
     #[inline(never)]
     fn position_of(&self, name: &Name, strategies: usize, terms: usize) -> Option<usize>
         ensures { result ≡ key_position self.now (written name.now) strategies terms }
@@ -228,9 +229,10 @@ impl Keys {
     }
 }
 
-// The position of the first of these keys that is the same.
+/// The position of the first of these keys that is the same.
 fn position_among(keys: &[Key], called: &Called) -> Option<usize>
-    ensures { result ≡ key_position (map named_key keys.now) (written called.now.name) called.now.strategies called.now.terms }
+    ensures { result ≡ key_position (map named_key keys.now) (written called.now.name)
+        called.now.strategies called.now.terms }
 {
     for (slot, key) in keys.iter().enumerate() {
         if *called == key.called() {

@@ -13,15 +13,21 @@ ghost use Rattle.str_desugar.specs.Frames.{of_definitions, outermost, keys_of, k
 /// and each call in it has a coordinate, by the innermost layer that has its name.
 #[tactic(auto, using(crate::proofs::FileResolution::checked_program))]
 pub fn checked_files_resolve()
-    ensures { (has : List ℕ → ℕ → Bool) (f : FileTree) (main : List ℕ) → first_fault has f main ≡ None →
+    ensures { (has : List ℕ → ℕ → Bool) (f : FileTree) (main : List ℕ) →
+        first_fault has f main ≡ None →
         (i : ℕ) × (key_position (keys_of (program_of_file f)) (written main) 0 0 ≡ Some i)
-        × ResolvesProgram (program_of_file f) (written main) (definitions_at (of_definitions (keys_of (program_of_file f)) outermost) (program_of_file f)) i }
+        × ResolvesProgram (program_of_file f) (written main)
+        (definitions_at (of_definitions (keys_of (program_of_file f)) outermost)
+        (program_of_file f)) i }
 {}
 
 /// In a file in which no complaint occurs, where the check was given some primitives, the program uses no others: each primitive that
 /// occurs in it, with this name and number of arguments, is one of those.
 #[tactic(auto, using(crate::proofs::PrimitivesInFiles::known_primitives))]
 pub fn checked_primitives_are_known()
-    ensures { (has : List ℕ → ℕ → Bool) (f : FileTree) (main : List ℕ) (C : ResolvedDefinitions) (i : ℕ) → first_fault has f main ≡ None →
-        ResolvesProgram (program_of_file f) (written main) C i → (name : List ℕ) (k : ℕ) → OccursInDefinitions name k C → has name k ≡ true }
+    ensures { (has : List ℕ → ℕ →
+        Bool) (f : FileTree) (main : List ℕ) (C : ResolvedDefinitions) (i : ℕ) →
+        first_fault has f main ≡ None →
+        ResolvesProgram (program_of_file f) (written main) C i → (name : List ℕ) (k : ℕ) →
+        OccursInDefinitions name k C → has name k ≡ true }
 {}

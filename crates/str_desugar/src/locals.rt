@@ -1,4 +1,4 @@
-// Definitions inside strategies: `rec` and `let`.
+//! Definitions inside strategies: `rec` and `let`.
 ghost use Rattle.std.specs.Prelude.{◌≡◌, ℕ, Bool, List, IfOk, map};
 ghost use Rattle.core_lang.specs.Named.{written};
 ghost use Rattle.core_lang.specs.Program as core;
@@ -14,6 +14,8 @@ ghost use Rattle.str_desugar.specs.Layers.{layers_of};
 ghost use Rattle.signature_core.specs.Signature.{arity_known};
 ghost use Rattle.str_desugar.specs.Variables.{strategy_names, term_names};
 ghost use Rattle.str_syntax.specs.Trees.{Bytes};
+ghost use Rattle.term_model.specs.Results.{Returns};
+ghost use Rattle.str_desugar.specs.Results.{ReturnsCore};
 
 use crate::alternatives::Groups;
 use crate::call::plain_call;
@@ -26,7 +28,7 @@ use core_lang::{CoreDef, CoreStrategy};
 use std::alloc::{AllocError, Global};
 use str_syntax::{Name, Parameters, Strategy, StrategyDefinition};
 
-// The definition of this body without parameters, and a call of it.
+/// The definition of this body without parameters, and a call of it.
 #[inline(never)]
 fn called_at_once(
     alloc: Global,
@@ -34,7 +36,10 @@ fn called_at_once(
     name: &Name,
     body: Box<CoreStrategy>,
 ) -> Result<Box<CoreStrategy>, AllocError>
-    ensures { IfOk result (λ made. views.strategy_of made.value ≡ core.with_definitions (core.more_definitions (here 0) 0 0 (views.strategy_of body.value) core.no_definitions) (core.call (callee_at (layers_of scopes.now) (written name.now) 0 0) core.no_strategies core.no_patterns)) }
+    ensures { ReturnsCore result (core.with_definitions (core.more_definitions (here 0) 0 0
+        (views.strategy_of body.value)
+        core.no_definitions) (core.call (callee_at (layers_of scopes.now) (written name.now) 0 0)
+        core.no_strategies core.no_patterns)) }
 {
     let mut definitions = Vec::new(alloc);
     definitions.push(CoreDef {
@@ -56,7 +61,9 @@ pub(crate) fn recursive(
     scopes: &Scopes,
     symbols: &mut Symbols,
 ) -> Result<Box<CoreStrategy>, AllocError>
-    ensures { IfOk result (λ made. views.strategy_of made.value ≡ strategy_at (layers_of scopes.now) (primary_core (arity_known context.now.signature.now) (trees.recursive name.now (strategy_of source.now)))) }
+    ensures { ReturnsCore result (strategy_at (layers_of scopes.now)
+        (primary_core (arity_known context.now.signature.now)
+        (trees.recursive name.now (strategy_of source.now)))) }
 {
     let layer = Scopes::Recursive {
         name: &*name,
@@ -73,10 +80,10 @@ pub(crate) fn recursive(
     Ok(made)
 }
 
-// The names of the strategy parameters.
+/// The names of the strategy parameters.
 #[inline(never)]
 fn strategies_of(alloc: Global, parameters: &Parameters) -> Result<Names, AllocError>
-    ensures { IfOk result (λ made. made ≡ strategy_names (parameters_of parameters.now)) }
+    ensures { Returns result (strategy_names (parameters_of parameters.now)) }
 {
     match parameters {
         Parameters::Absent => Ok(Names::new()),
@@ -85,10 +92,10 @@ fn strategies_of(alloc: Global, parameters: &Parameters) -> Result<Names, AllocE
     }
 }
 
-// The names of the term parameters.
+/// The names of the term parameters.
 #[inline(never)]
 fn terms_of(alloc: Global, parameters: &Parameters) -> Result<Names, AllocError>
-    ensures { IfOk result (λ made. made ≡ term_names (parameters_of parameters.now)) }
+    ensures { Returns result (term_names (parameters_of parameters.now)) }
 {
     match parameters {
         Parameters::Absent => Ok(Names::new()),
@@ -103,7 +110,8 @@ pub(crate) fn groups_of<'a>(
     alloc: Global,
     sources: &'a [StrategyDefinition],
 ) -> Result<Groups<'a>, AllocError>
-    ensures { IfOk result (λ made. (declared : Bytes → ℕ → Bool) → made ≡ map head_in (alternatives declared (definitions_of sources.now))) }
+    ensures { IfOk result (λ made. (declared : Bytes → ℕ → Bool) →
+        made ≡ map head_in (alternatives declared (definitions_of sources.now))) }
 {
     let mut heads = Vec::with_capacity(alloc, sources.len())?;
     for source in sources {
@@ -123,8 +131,13 @@ pub(crate) fn let_definitions<'a>(
     scopes: &Scopes,
     symbols: &mut Symbols,
 ) -> Result<Vec<CoreDef>, AllocError>
-    requires { groups.now ≡ map head_in (alternatives (arity_known context.now.signature.now) (definitions_of sources.now)) }
-    ensures { IfOk result (λ made. views.definitions_of made.items ≡ definitions_at (within (alternatives (arity_known context.now.signature.now) (definitions_of sources.now)) (layers_of scopes.now)) (definitions_of_all (alternatives (arity_known context.now.signature.now) (definitions_of sources.now)))) }
+    requires { groups.now ≡ map head_in
+        (alternatives (arity_known context.now.signature.now) (definitions_of sources.now)) }
+    ensures { IfOk result (λ made. views.definitions_of made.items ≡
+        definitions_at (within (alternatives (arity_known context.now.signature.now)
+        (definitions_of sources.now)) (layers_of scopes.now))
+        (definitions_of_all (alternatives (arity_known context.now.signature.now)
+        (definitions_of sources.now)))) }
 {
     let keys = groups.keys(context.alloc)?;
     let inner = Scopes::Defined {
@@ -146,7 +159,10 @@ pub(crate) fn let_body<'a>(
     scopes: &Scopes,
     symbols: &mut Symbols,
 ) -> Result<Box<CoreStrategy>, AllocError>
-    ensures { IfOk result (λ made. (all : List Alternative) → map head_in all ≡ groups.now → views.strategy_of made.value ≡ strategy_at (within all (layers_of scopes.now)) (strategy_core (arity_known context.now.signature.now) (strategy_of source.now))) }
+    ensures { IfOk result (λ made. (all : List Alternative) → map head_in all ≡ groups.now →
+        views.strategy_of made.value ≡
+        strategy_at (within all (layers_of scopes.now))
+        (strategy_core (arity_known context.now.signature.now) (strategy_of source.now))) }
 {
     let keys = groups.keys(context.alloc)?;
     let inner = Scopes::Defined {
@@ -164,13 +180,14 @@ pub(crate) fn let_in(
     definitions: Vec<CoreDef>,
     body: Box<CoreStrategy>,
 ) -> Result<Box<CoreStrategy>, AllocError>
-    ensures { IfOk result (λ made. views.strategy_of made.value ≡ core.with_definitions (views.definitions_of definitions.items) (views.strategy_of body.value)) }
+    ensures { ReturnsCore result (core.with_definitions (views.definitions_of definitions.items)
+        (views.strategy_of body.value)) }
 {
     let made = Box::new(alloc, CoreStrategy::LetIn(definitions, body))?;
     Ok(made)
 }
 
-// The bodies of the alternatives of a `let`, each with the parameters of the first of its definition.
+/// The bodies of the alternatives of a `let`, each with the parameters of the first of its definition.
 #[cycle(walk)]
 #[inline(never)]
 fn bodies<'a>(
@@ -180,8 +197,11 @@ fn bodies<'a>(
     scopes: &Scopes,
     symbols: &mut Symbols,
 ) -> Result<Vec<CoreStrategy>, AllocError>
-    requires { groups.now ≡ map head_in (alternatives (arity_known context.now.signature.now) (definitions_of sources.now)) }
-    ensures { IfOk result (λ made. map views.strategy_of made.items ≡ bodies_at (layers_of scopes.now) (alternatives (arity_known context.now.signature.now) (definitions_of sources.now))) }
+    requires { groups.now ≡ map head_in
+        (alternatives (arity_known context.now.signature.now) (definitions_of sources.now)) }
+    ensures { IfOk result (λ made. map views.strategy_of made.items ≡
+        bodies_at (layers_of scopes.now)
+        (alternatives (arity_known context.now.signature.now) (definitions_of sources.now))) }
 {
     let mut made = Vec::with_capacity(context.alloc, sources.len())?;
     for source in sources {
@@ -191,7 +211,7 @@ fn bodies<'a>(
     Ok(made)
 }
 
-// The body of an alternative.
+/// The body of an alternative.
 #[cycle(walk)]
 #[inline(never)]
 fn alternative<'a>(
@@ -201,7 +221,9 @@ fn alternative<'a>(
     scopes: &Scopes,
     symbols: &mut Symbols,
 ) -> Result<Box<CoreStrategy>, AllocError>
-    ensures { IfOk result (λ made. views.strategy_of made.value ≡ body_among (layers_of scopes.now) groups.now (alternative_core (arity_known context.now.signature.now) (definition_of source.now))) }
+    ensures { ReturnsCore result (body_among (layers_of scopes.now)
+        groups.now (alternative_core (arity_known context.now.signature.now)
+        (definition_of source.now))) }
 {
     let first = groups.first_of(&source.head);
     let strategies = strategies_of(context.alloc, &first.parameters)?;

@@ -1,4 +1,4 @@
-// Marks of names. A table sets the marks of its names, and a name whose mark is not set there is not looked up in it.
+//! Marks of names. A table sets the marks of its names, and a name whose mark is not set there is not looked up in it.
 ghost use Rattle.std.specs.Prelude.{◌≡◌, ◌<◌, true};
 ghost use Rattle.str_desugar.specs.Marks.{AreKept, has_mark, mark_of};
 
@@ -6,7 +6,7 @@ use std::hash::{FoldHasher, Hasher};
 use std::marker::Model;
 use str_syntax::Name;
 
-// The mark of a name.
+/// The mark of a name.
 fn mark_of(name: &Name) -> usize
     ensures mark { result ≡ mark_of name.now }
     ensures small { result < 512 }

@@ -1,4 +1,4 @@
-// What is matched: patterns over coordinates.
+//! What is matched: patterns over coordinates.
 ghost use Rattle.std.specs.Prelude.{◌≡◌, IfOk};
 ghost use Rattle.core_lang.specs.Views as views;
 ghost use Rattle.str_syntax.specs.Views.{optional_pattern_of, pattern_of, patterns_of};
@@ -15,30 +15,31 @@ use term_model::Sym;
 
 /// The core of a pattern that is matched.
 #[cycle(matched)]
-pub(crate) fn matched(
+pub(crate) fn core_of_match(
     alloc: Global,
     source: &Pattern,
     scopes: &Scopes,
     symbols: &mut Symbols,
 ) -> Result<CorePattern, AllocError>
-    ensures { IfOk result (λ made. views.pattern_of made ≡ pattern_at (layers_of scopes.now) (equations.matched (pattern_of source.now))) }
+    ensures { IfOk result (λ made. views.pattern_of made ≡
+        pattern_at (layers_of scopes.now) (equations.matched (pattern_of source.now))) }
 {
     match source {
         Pattern::Variable(name) => Ok(CorePattern::Variable(scopes.variable(name)?)),
         Pattern::Alias(name, part) => {
             let name = scopes.variable(name)?;
-            let part = matched(alloc, part, scopes, symbols)?;
+            let part = core_of_match(alloc, part, scopes, symbols)?;
             Ok(CorePattern::Alias(name, Box::new(alloc, part)?))
         }
         Pattern::Integer(value) => Ok(CorePattern::Integer(*value)),
         Pattern::Quoted(text) => {
-            Ok(CorePattern::Applied(symbols.quoted(text)?, Vec::new(alloc)))
+            Ok(CorePattern::Applied(symbols.quoted_symbol(text)?, Vec::new(alloc)))
         }
         Pattern::Application(name, parts) => {
             let parts = matched_parts(alloc, parts, scopes, symbols)?;
             Ok(CorePattern::Applied(symbols.constructor(name)?, parts))
         }
-        Pattern::Parenthesized(inner) => matched(alloc, inner, scopes, symbols),
+        Pattern::Parenthesized(inner) => core_of_match(alloc, inner, scopes, symbols),
         Pattern::Tuple(parts) => {
             let parts = matched_parts(alloc, parts, scopes, symbols)?;
             Ok(CorePattern::Applied(Sym::tuple(), parts))
@@ -49,7 +50,7 @@ pub(crate) fn matched(
             Ok(CorePattern::List(elements, rest))
         }
         Pattern::Annotated(part, annotations) => {
-            let part = matched(alloc, part, scopes, symbols)?;
+            let part = core_of_match(alloc, part, scopes, symbols)?;
             let annotations = matched_parts(alloc, annotations, scopes, symbols)?;
             Ok(CorePattern::Annotated(Box::new(alloc, part)?, annotations))
         }
@@ -67,11 +68,12 @@ fn matched_parts(
     scopes: &Scopes,
     symbols: &mut Symbols,
 ) -> Result<Vec<CorePattern>, AllocError>
-    ensures { IfOk result (λ made. views.patterns_of made.items ≡ patterns_at (layers_of scopes.now) (equations.matched_parts (patterns_of sources.now))) }
+    ensures { IfOk result (λ made. views.patterns_of made.items ≡
+        patterns_at (layers_of scopes.now) (equations.matched_parts (patterns_of sources.now))) }
 {
     let mut made = Vec::with_capacity(alloc, sources.len())?;
     for source in sources {
-        let part = matched(alloc, source, scopes, symbols)?;
+        let part = core_of_match(alloc, source, scopes, symbols)?;
         made.push(part)?;
     }
     Ok(made)
@@ -84,12 +86,13 @@ fn matched_rest(
     scopes: &Scopes,
     symbols: &mut Symbols,
 ) -> Result<Option<Box<CorePattern>>, AllocError>
-    ensures { IfOk result (λ made. views.rest_of made ≡ rest_at (layers_of scopes.now) (optional_pattern_of source.now)) }
+    ensures { IfOk result (λ made. views.rest_of made ≡
+        rest_at (layers_of scopes.now) (optional_pattern_of source.now)) }
 {
     match source {
         None => Ok(None),
         Some(rest) => {
-            let rest = matched(alloc, rest, scopes, symbols)?;
+            let rest = core_of_match(alloc, rest, scopes, symbols)?;
             Ok(Some(Box::new(alloc, rest)?))
         }
     }

@@ -1,9 +1,10 @@
-// Names that a layer gives slots to.
+//! Names that a layer gives slots to.
 ghost use Rattle.std.specs.Prelude.{◌≡◌, [], ◌∷◌, ◌++◌, length, map, IfOk, OnOk, OnErr};
 ghost use Rattle.std.specs.Str.{bytes_eq};
 ghost use Rattle.core_lang.specs.Named.{position_of, written};
 ghost use Rattle.str_desugar.specs.Gathered.{has_name, with_new};
 ghost use Rattle.str_desugar.specs.HeldNames.{held_names};
+ghost use Rattle.term_model.specs.Results.{Returns};
 
 use crate::marks::{Marks, Wanted};
 use indexmap::IndexSet;
@@ -11,15 +12,15 @@ use std::alloc::{AllocError, Global};
 use std::marker::Model;
 use str_syntax::Name;
 
-// The most names that a look-up walks.
+/// The most names that a look-up walks.
 const FEW: usize = 8;
 
-// Names in order, which a look-up does not walk, as long as no name is a repeated one; in a checked file none is.
+/// Names in order, which a look-up does not walk, as long as no name is a repeated one; in a checked file none is.
 #[derive(Drop)]
 struct Hashed {
-    // The names in front of the first one that repeats another.
+    /// The names in front of the first one that repeats another.
     distinct: IndexSet<Name>,
-    // The names from there on.
+    /// The names from there on.
     others: Vec<Name>,
 }
 
@@ -32,9 +33,9 @@ impl Model for Hashed {
 }
 
 impl Hashed {
-    // The names of a list, in order.
+    /// The names of a list, in order.
     fn of(alloc: Global, source: &[Name]) -> Result<Hashed, AllocError>
-        ensures { IfOk result (λ made. made ≡ source.now) }
+        ensures { Returns result source.now }
     {
         let mut made = Hashed {
             distinct: IndexSet::new(alloc),
@@ -46,14 +47,14 @@ impl Hashed {
         Ok(made)
     }
 
-    // How many names there are.
+    /// How many names there are.
     fn len(&self) -> usize
         ensures { result ≡ length self.now }
     {
         self.distinct.len() + self.others.len()
     }
 
-    // Puts the name after the others.
+    /// Puts the name after the others.
     fn push(&mut self, name: Name) -> Result<(), AllocError>
         ensures pushed { OnOk result (self.new ≡ self.old ++ name ∷ []) }
         ensures unchanged { OnErr result (self.new ≡ self.old) }
@@ -66,7 +67,7 @@ impl Hashed {
         Ok(())
     }
 
-    // The slot of the first name that is the same.
+    /// The slot of the first name that is the same.
     fn position(&self, name: &Name) -> Option<usize>
         ensures { result ≡ position_of (written name.now) (map written self.now) }
     {
@@ -78,7 +79,7 @@ impl Hashed {
     }
 }
 
-// Few names are walked, and more are hashed.
+/// Few names are walked, and more are hashed.
 #[derive(Drop)]
 enum Held {
     Few(Vec<Name>),
@@ -86,7 +87,7 @@ enum Held {
 }
 
 impl Held {
-    // Puts the name after the others.
+    /// Puts the name after the others.
     fn push(&mut self, alloc: Global, name: Name) -> Result<(), AllocError>
         ensures pushed { OnOk result (held_names self.new ≡ held_names self.old ++ name ∷ []) }
         ensures unchanged { OnErr result (held_names self.new ≡ held_names self.old) }
@@ -106,7 +107,7 @@ impl Held {
         Ok(())
     }
 
-    // The slot of the first name that is the same.
+    /// The slot of the first name that is the same.
     #[inline(never)]
     fn position(&self, name: &Name) -> Option<usize>
         ensures { result ≡ position_of (written name.now) (map written (held_names self.now)) }
@@ -118,12 +119,12 @@ impl Held {
     }
 }
 
-// Names in the order of their slots. A look-up of a name whose mark is not set compares none of them, and else at most eight,
-// as long as no name is a repeated one.
+/// Names in the order of their slots. A look-up of a name whose mark is not set compares none of them, and else at most eight,
+/// as long as no name is a repeated one.
 #[derive(Drop)]
 struct Table {
     held: Held,
-    // The marks of the names.
+    /// The marks of the names.
     marks: Marks,
 }
 
@@ -141,7 +142,7 @@ impl Model for Table {
 }
 
 impl Table {
-    // No names.
+    /// No names.
     fn new(alloc: Global) -> Table
         ensures { result ≡ [] }
     {
@@ -151,7 +152,7 @@ impl Table {
         }
     }
 
-    // How many names there are.
+    /// How many names there are.
     fn len(&self) -> usize
         ensures { result ≡ length self.now }
     {
@@ -161,7 +162,7 @@ impl Table {
         }
     }
 
-    // Puts a copy of the name after the others.
+    /// Puts a copy of the name after the others.
     fn push(&mut self, alloc: Global, name: &Name) -> Result<(), AllocError>
         ensures { OnOk result (self.new ≡ self.old ++ name.now ∷ []) }
     {
@@ -171,7 +172,7 @@ impl Table {
         Ok(())
     }
 
-    // The slot of the first name that is the same.
+    /// The slot of the first name that is the same.
     #[inline(always)]
     fn position(&self, wanted: &Wanted) -> Option<usize>
         ensures { result ≡ position_of (written wanted.now) (map written self.now) }
@@ -183,7 +184,7 @@ impl Table {
     }
 }
 
-// A table of the one name.
+/// A table of the one name.
 #[inline(never)]
 fn table_of(alloc: Global, name: &Name) -> Result<Box<Table>, AllocError>
     ensures { IfOk result (λ made. made.value ≡ name.now ∷ []) }
@@ -268,7 +269,7 @@ impl Names {
     }
 }
 
-// The position of the first of these names that is the same.
+/// The position of the first of these names that is the same.
 fn position_among(names: &[Name], name: &Name) -> Option<usize>
     ensures { result ≡ position_of (written name.now) (map written names.now) }
 {
@@ -289,7 +290,7 @@ pub(crate) fn same(name: &Name, other: &Name) -> bool
 
 /// The names of a list, in order. `AllocError` where the memory for them is refused.
 pub(crate) fn names_in(alloc: Global, source: &[Name]) -> Result<Names, AllocError>
-    ensures { IfOk result (λ made. made ≡ source.now) }
+    ensures { Returns result source.now }
 {
     let mut made = Names::new();
     for name in source {

@@ -1,4 +1,4 @@
-// Where patterns stand in the definition file.
+//! Where patterns stand in the definition file.
 use crate::strategy::Context;
 use str_syntax::{Pattern, Sequence, Step, Strategy};
 
@@ -22,7 +22,7 @@ pub(crate) fn place_before(source: &Strategy) -> u64 {
     }
 }
 
-// Where the first name or `_` in the pattern stands. A `<..>` in a build is passed over, since what it applies has offsets of its own.
+/// Where the first name or `_` in the pattern stands. A `<..>` in a build is passed over, since what it applies has offsets of its own.
 #[cycle(offsets)]
 fn first_offset(source: &Pattern) -> Option<u64> {
     match source {

@@ -1,4 +1,4 @@
-// The names of parameters.
+//! The names of parameters.
 ghost use Rattle.std.specs.Prelude.{◌≡◌};
 ghost use Rattle.str_syntax.specs.Views.{parameters_of};
 ghost use Rattle.str_desugar.specs.Variables.{strategy_names, term_names};

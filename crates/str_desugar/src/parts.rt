@@ -1,4 +1,4 @@
-// Patterns of the names that a scope brings.
+//! Patterns of the names that a scope brings.
 ghost use Rattle.std.specs.Prelude.{◌≡◌, ◌+◌, suc, map, IfOk};
 ghost use Rattle.core_lang.specs.Named.{brought};
 ghost use Rattle.core_lang.specs.Program as core;
@@ -6,6 +6,7 @@ ghost use Rattle.core_lang.specs.Views as views;
 ghost use Rattle.str_desugar.specs.Brought.{elements_from, elements_and_rest_from, patterns_from};
 ghost use Rattle.str_desugar.specs.Frames.{pattern_at};
 ghost use Rattle.str_desugar.specs.Layers.{brought_from, layers_of};
+ghost use Rattle.term_model.specs.Results.{Returns};
 
 use crate::scopes::Scopes;
 use core_lang::CorePattern;
@@ -14,33 +15,35 @@ use term_model::Sym;
 
 /// The variable of the name that is brought at this index.
 pub(crate) fn variable(scopes: &Scopes, index: usize) -> Result<CorePattern, AllocError>
-    ensures { IfOk result (λ made. views.pattern_of made ≡ pattern_at (layers_of scopes.now) (core.variable (brought index))) }
+    ensures { IfOk result (λ made. views.pattern_of made ≡
+        pattern_at (layers_of scopes.now) (core.variable (brought index))) }
 {
-    Ok(CorePattern::Variable(scopes.brought(index)?))
+    Ok(CorePattern::Variable(scopes.equation_coordinate(index)?))
 }
 
 /// The number after this one. `Err` where that leaves 64 bits, since no memory holds as many parts.
 pub(crate) fn successor(number: usize) -> Result<usize, AllocError>
-    ensures { IfOk result (λ made. made ≡ suc number) }
+    ensures { Returns result (suc number) }
 {
     number.checked_add(1).ok_or(AllocError)
 }
 
 /// The sum of the numbers. `Err` where that leaves 64 bits, since no memory holds as many parts.
 pub(crate) fn sum(first: usize, second: usize) -> Result<usize, AllocError>
-    ensures { IfOk result (λ made. made ≡ first + second) }
+    ensures { Returns result (first + second) }
 {
     first.checked_add(second).ok_or(AllocError)
 }
 
-// The variables of the names that are brought from this index on, as many as the count says.
+/// The variables of the names that are brought from this index on, as many as the count says.
 fn variables(
     alloc: Global,
     scopes: &Scopes,
     from: usize,
     count: usize,
 ) -> Result<Vec<CorePattern>, AllocError>
-    ensures { IfOk result (λ made. map views.pattern_of made.items ≡ brought_from (layers_of scopes.now) from count) }
+    ensures { IfOk result (λ made. map views.pattern_of made.items ≡
+        brought_from (layers_of scopes.now) from count) }
 {
     let mut made = Vec::with_capacity(alloc, count)?;
     let mut index = from;
@@ -53,14 +56,15 @@ fn variables(
 }
 
 /// The symbol applied to them.
-pub(crate) fn applied(
+pub(crate) fn apply_symbol(
     alloc: Global,
     scopes: &Scopes,
     symbol: Sym,
     from: usize,
     count: usize,
 ) -> Result<CorePattern, AllocError>
-    ensures { IfOk result (λ made. views.pattern_of made ≡ pattern_at (layers_of scopes.now) (core.applied symbol (patterns_from from count))) }
+    ensures { IfOk result (λ made. views.pattern_of made ≡
+        pattern_at (layers_of scopes.now) (core.applied symbol (patterns_from from count))) }
 {
     let parts = variables(alloc, scopes, from, count)?;
     Ok(CorePattern::Applied(symbol, parts))
@@ -73,7 +77,8 @@ pub(crate) fn list(
     from: usize,
     count: usize,
 ) -> Result<CorePattern, AllocError>
-    ensures { IfOk result (λ made. views.pattern_of made ≡ pattern_at (layers_of scopes.now) (core.list (elements_from from count))) }
+    ensures { IfOk result (λ made. views.pattern_of made ≡
+        pattern_at (layers_of scopes.now) (core.list (elements_from from count))) }
 {
     let elements = variables(alloc, scopes, from, count)?;
     Ok(CorePattern::List(elements, None))
@@ -86,7 +91,8 @@ pub(crate) fn list_with_rest(
     from: usize,
     count: usize,
 ) -> Result<CorePattern, AllocError>
-    ensures { IfOk result (λ made. views.pattern_of made ≡ pattern_at (layers_of scopes.now) (core.list (elements_and_rest_from from count))) }
+    ensures { IfOk result (λ made. views.pattern_of made ≡
+        pattern_at (layers_of scopes.now) (core.list (elements_and_rest_from from count))) }
 {
     let elements = variables(alloc, scopes, from, count)?;
     let after = sum(from, count)?;

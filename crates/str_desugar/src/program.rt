@@ -13,6 +13,8 @@ ghost use Rattle.str_desugar.specs.Forms.{read_forms, tops_at};
 ghost use Rattle.str_desugar.specs.Frames.{definitions_at, key_position, keys_of, of_definitions, of_names, outermost, strategy_at};
 ghost use Rattle.str_desugar.specs.Groups.{bodies_at, body_among, head_in};
 ghost use Rattle.str_desugar.specs.Layers.{layers_of};
+ghost use Rattle.term_model.specs.Results.{Returns};
+ghost use Rattle.str_desugar.specs.Results.{ReturnsCore};
 
 use crate::alternatives::Groups;
 use crate::assembly::scope_of;
@@ -34,17 +36,18 @@ use str_syntax::{DefinitionForm, Name, Strategy};
 
 /// Reduces a checked file to its core program, in which each identifier is resolved. `AllocError` where the memory for it is refused.
 pub fn to_core(alloc: Global, checked: &Checked) -> Result<Core, AllocError>
-    ensures { IfOk result (λ core. ResolvesProgram (program_of_file (file_of checked.now.file)) (written checked.now.main) (program_of core) core.main) }
+    ensures { IfOk result (λ core. ResolvesProgram (program_of_file (file_of checked.now.file))
+        (written checked.now.main) (program_of core) core.main) }
 {
     let forms = forms_in(alloc, checked.file())?;
-    let core = core_of(alloc, checked, &forms)?;
-    Ok(core)
+    core_of(alloc, checked, &forms)
 }
 
-// The core program of a checked file, whose rules and definitions are these.
+/// The core program of a checked file, whose rules and definitions are these.
 fn core_of(alloc: Global, checked: &Checked, forms: &[&DefinitionForm]) -> Result<Core, AllocError>
     requires { read_forms forms.now ≡ forms_among (file_of checked.now.file).sections }
-    ensures { IfOk result (λ core. ResolvesProgram (program_of_file (file_of checked.now.file)) (written checked.now.main) (program_of core) core.main) }
+    ensures { IfOk result (λ core. ResolvesProgram (program_of_file (file_of checked.now.file))
+        (written checked.now.main) (program_of core) core.main) }
 {
     let groups = groups_of(alloc, forms)?;
     let core = core_among(alloc, checked, forms, &groups)?;
@@ -52,7 +55,7 @@ fn core_of(alloc: Global, checked: &Checked, forms: &[&DefinitionForm]) -> Resul
     Ok(core.with_heads(heads))
 }
 
-// The core program, whose rules and definitions have these heads.
+/// The core program, whose rules and definitions have these heads.
 fn core_among<'a>(
     alloc: Global,
     checked: &Checked,
@@ -60,8 +63,10 @@ fn core_among<'a>(
     groups: &Groups<'a>,
 ) -> Result<Core, AllocError>
     requires forms { read_forms forms.now ≡ forms_among (file_of checked.now.file).sections }
-    requires heads { groups.now ≡ map head_in (tops_at (arity_known checked.now.declarations) (read_forms forms.now)) }
-    ensures { IfOk result (λ core. ResolvesProgram (program_of_file (file_of checked.now.file)) (written checked.now.main) (program_of core) core.main) }
+    requires heads { groups.now ≡
+        map head_in (tops_at (arity_known checked.now.declarations) (read_forms forms.now)) }
+    ensures { IfOk result (λ core. ResolvesProgram (program_of_file (file_of checked.now.file))
+        (written checked.now.main) (program_of core) core.main) }
 {
     let context = Context {
         alloc,
@@ -76,24 +81,30 @@ fn core_among<'a>(
     Ok(core)
 }
 
-// The position of the definition of this name that has no parameters.
+/// The position of the definition of this name that has no parameters.
 fn plain_position(alloc: Global, keys: &Keys, name: &[u8]) -> Result<Option<usize>, AllocError>
-    ensures { IfOk result (λ found. found ≡ key_position keys.now (written name.now) 0 0) }
+    ensures { Returns result (key_position keys.now (written name.now) 0 0) }
 {
     let name = Name::new(alloc, name, 0)?;
     Ok(keys.position(&Wanted::new(&name), 0, 0))
 }
 
-// The definitions of these groups, in the layer that has their keys.
+/// The definitions of these groups, in the layer that has their keys.
 fn definitions<'a>(
     context: &Context,
     forms: &[&'a DefinitionForm],
     groups: &Groups<'a>,
     keys: &Keys,
 ) -> Result<Vec<CoreDef>, AllocError>
-    requires heads { groups.now ≡ map head_in (tops_at (arity_known context.now.signature.now) (read_forms forms.now)) }
-    requires keys { keys.now ≡ keys_of (definitions_of_all (tops_at (arity_known context.now.signature.now) (read_forms forms.now))) }
-    ensures { IfOk result (λ made. views.definitions_of made.items ≡ definitions_at (of_definitions keys.now outermost) (definitions_of_all (tops_at (arity_known context.now.signature.now) (read_forms forms.now)))) }
+    requires heads { groups.now ≡
+        map head_in (tops_at (arity_known context.now.signature.now) (read_forms forms.now)) }
+    requires keys { keys.now ≡ keys_of
+        (definitions_of_all (tops_at (arity_known context.now.signature.now)
+        (read_forms forms.now))) }
+    ensures { IfOk result (λ made. views.definitions_of made.items ≡
+        definitions_at (of_definitions keys.now outermost)
+        (definitions_of_all (tops_at (arity_known context.now.signature.now)
+        (read_forms forms.now)))) }
 {
     let outer = Scopes::Outermost;
     let scopes = Scopes::Defined {
@@ -106,7 +117,7 @@ fn definitions<'a>(
     Ok(made)
 }
 
-// The bodies of the rules and definitions, each with the parameters of the first of its group.
+/// The bodies of the rules and definitions, each with the parameters of the first of its group.
 fn bodies<'a>(
     context: &Context,
     forms: &[&'a DefinitionForm],
@@ -114,8 +125,11 @@ fn bodies<'a>(
     scopes: &Scopes,
     symbols: &mut Symbols,
 ) -> Result<Vec<CoreStrategy>, AllocError>
-    requires { groups.now ≡ map head_in (tops_at (arity_known context.now.signature.now) (read_forms forms.now)) }
-    ensures { IfOk result (λ made. map views.strategy_of made.items ≡ bodies_at (layers_of scopes.now) (tops_at (arity_known context.now.signature.now) (read_forms forms.now))) }
+    requires { groups.now ≡ map head_in
+        (tops_at (arity_known context.now.signature.now) (read_forms forms.now)) }
+    ensures { IfOk result (λ made. map views.strategy_of made.items ≡
+        bodies_at (layers_of scopes.now)
+        (tops_at (arity_known context.now.signature.now) (read_forms forms.now))) }
 {
     let mut made = Vec::with_capacity(context.alloc, forms.len())?;
     for form in forms {
@@ -125,7 +139,7 @@ fn bodies<'a>(
     Ok(made)
 }
 
-// The body of a rule or a definition, with the parameters of the first of its group.
+/// The body of a rule or a definition, with the parameters of the first of its group.
 fn alternative<'a>(
     context: &Context,
     form: &'a DefinitionForm,
@@ -133,7 +147,8 @@ fn alternative<'a>(
     scopes: &Scopes,
     symbols: &mut Symbols,
 ) -> Result<Box<CoreStrategy>, AllocError>
-    ensures { IfOk result (λ made. views.strategy_of made.value ≡ body_among (layers_of scopes.now) groups.now (top_core (arity_known context.now.signature.now) (form_of form.now))) }
+    ensures { ReturnsCore result (body_among (layers_of scopes.now)
+        groups.now (top_core (arity_known context.now.signature.now) (form_of form.now))) }
 {
     let first = groups.first_of(head_of(form));
     let strategies = names_in(context.alloc, strategy_names(&first.parameters))?;
@@ -146,7 +161,7 @@ fn alternative<'a>(
     Ok(made)
 }
 
-// The body under these parameters.
+/// The body under these parameters.
 fn under_parameters(
     context: &Context,
     form: &DefinitionForm,
@@ -155,7 +170,10 @@ fn under_parameters(
     scopes: &Scopes,
     symbols: &mut Symbols,
 ) -> Result<Box<CoreStrategy>, AllocError>
-    ensures { IfOk result (λ made. views.strategy_of made.value ≡ strategy_at (of_names (map written strategies.now) (map written terms.now) (layers_of scopes.now)) (top_core (arity_known context.now.signature.now) (form_of form.now)).body) }
+    ensures { ReturnsCore result (strategy_at (of_names (map written strategies.now)
+        (map written terms.now)
+        (layers_of scopes.now))
+        (top_core (arity_known context.now.signature.now) (form_of form.now)).body) }
 {
     let terms = names_in(context.alloc, terms)?;
     let inner = Scopes::Parameters {
@@ -167,32 +185,31 @@ fn under_parameters(
     Ok(made)
 }
 
-// The body in a scope of its variables but its term parameters.
+/// The body in a scope of its variables but its term parameters.
 fn body(
     context: &Context,
     form: &DefinitionForm,
     scopes: &Scopes,
     symbols: &mut Symbols,
 ) -> Result<Box<CoreStrategy>, AllocError>
-    ensures { IfOk result (λ made. views.strategy_of made.value ≡ strategy_at (layers_of scopes.now) (top_core (arity_known context.now.signature.now) (form_of form.now)).body) }
+    ensures { ReturnsCore result (strategy_at (layers_of scopes.now)
+        (top_core (arity_known context.now.signature.now) (form_of form.now)).body) }
 {
     match form {
         DefinitionForm::Rule(source) => {
             let terms = term_names(&source.head.parameters);
             let names = free_of_rule(context.alloc, &source.rule, terms)?;
-            let made = scoped_rule(context, &names, &source.rule, scopes, symbols)?;
-            Ok(made)
+            scoped_rule(context, &names, &source.rule, scopes, symbols)
         }
         DefinitionForm::Strategy(source) => {
             let terms = term_names(&source.head.parameters);
             let names = free_of_strategy(context.alloc, &source.body, terms)?;
-            let made = scoped_strategy(context, &names, &source.body, scopes, symbols)?;
-            Ok(made)
+            scoped_strategy(context, &names, &source.body, scopes, symbols)
         }
     }
 }
 
-// The core of a strategy in a scope of these variables, if there are any.
+/// The core of a strategy in a scope of these variables, if there are any.
 fn scoped_strategy(
     context: &Context,
     names: &Names,
@@ -200,7 +217,9 @@ fn scoped_strategy(
     scopes: &Scopes,
     symbols: &mut Symbols,
 ) -> Result<Box<CoreStrategy>, AllocError>
-    ensures { IfOk result (λ made. views.strategy_of made.value ≡ strategy_at (layers_of scopes.now) (scoped names.now (strategy_core (arity_known context.now.signature.now) (strategy_of source.now)))) }
+    ensures { ReturnsCore result (strategy_at (layers_of scopes.now)
+        (scoped names.now (strategy_core (arity_known context.now.signature.now)
+        (strategy_of source.now)))) }
 {
     let count = names.len();
     if count == 0 {
@@ -212,6 +231,5 @@ fn scoped_strategy(
         outer: &*scopes,
     };
     let body = strategy(context, source, &inner, symbols)?;
-    let made = scope_of(context.alloc, count, body)?;
-    Ok(made)
+    scope_of(context.alloc, count, body)
 }

@@ -1,5 +1,4 @@
-// Rules: a match, the condition if there is one, and a build.
-ghost use Rattle.std.specs.Prelude.{◌≡◌, IfOk};
+//! Rules: a match, the condition if there is one, and a build.
 ghost use Rattle.core_lang.specs.Views as views;
 ghost use Rattle.str_syntax.specs.Trees as trees;
 ghost use Rattle.str_syntax.specs.Views.{rule_of};
@@ -7,6 +6,7 @@ ghost use Rattle.str_desugar.specs.Equations.{primary_core, rule_core, scoped};
 ghost use Rattle.str_desugar.specs.Frames.{strategy_at};
 ghost use Rattle.str_desugar.specs.Layers.{layers_of};
 ghost use Rattle.signature_core.specs.Signature.{arity_known};
+ghost use Rattle.str_desugar.specs.Results.{ReturnsCore};
 
 use crate::assembly::{scope_of, seq};
 use crate::build::build;
@@ -19,7 +19,7 @@ use core_lang::CoreStrategy;
 use std::alloc::AllocError;
 use str_syntax::Rule;
 
-// The core of a rule, whose variables stand in the layers around it.
+/// The core of a rule, whose variables stand in the layers around it.
 #[cycle(walk)]
 #[inline(never)]
 fn rule(
@@ -28,7 +28,8 @@ fn rule(
     scopes: &Scopes,
     symbols: &mut Symbols,
 ) -> Result<Box<CoreStrategy>, AllocError>
-    ensures { IfOk result (λ made. views.strategy_of made.value ≡ strategy_at (layers_of scopes.now) (rule_core (arity_known context.now.signature.now) (rule_of source.now))) }
+    ensures { ReturnsCore result (strategy_at (layers_of scopes.now)
+        (rule_core (arity_known context.now.signature.now) (rule_of source.now))) }
 {
     let alloc = context.alloc;
     let first = match_of(context, &source.left, scopes, symbols)?;
@@ -57,7 +58,9 @@ pub(crate) fn scoped_rule(
     scopes: &Scopes,
     symbols: &mut Symbols,
 ) -> Result<Box<CoreStrategy>, AllocError>
-    ensures { IfOk result (λ made. views.strategy_of made.value ≡ strategy_at (layers_of scopes.now) (scoped names.now (rule_core (arity_known context.now.signature.now) (rule_of source.now)))) }
+    ensures { ReturnsCore result (strategy_at (layers_of scopes.now)
+        (scoped names.now (rule_core (arity_known context.now.signature.now)
+        (rule_of source.now)))) }
 {
     let count = names.len();
     if count == 0 {
@@ -82,7 +85,9 @@ pub(crate) fn lambda(
     scopes: &Scopes,
     symbols: &mut Symbols,
 ) -> Result<Box<CoreStrategy>, AllocError>
-    ensures { IfOk result (λ made. views.strategy_of made.value ≡ strategy_at (layers_of scopes.now) (primary_core (arity_known context.now.signature.now) (trees.lambda (rule_of source.now)))) }
+    ensures { ReturnsCore result (strategy_at (layers_of scopes.now)
+        (primary_core (arity_known context.now.signature.now) (trees.lambda
+        (rule_of source.now)))) }
 {
     let names = left_variables(context.alloc, source)?;
     let made = scoped_rule(context, &names, source, scopes, symbols)?;

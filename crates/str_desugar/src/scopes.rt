@@ -1,4 +1,4 @@
-// The layers around a part of a file, and where an identifier stands in them.
+//! The layers around a part of a file, and where an identifier stands in them.
 ghost use Rattle.std.specs.Prelude.{◌≡◌, ◌+◌, ◌<◌, [], ◌∷◌, map, IfOk, IfSome};
 ghost use Rattle.std.specs.Option.{option_map};
 ghost use Rattle.core_lang.specs.Named.{brought, parameter_position, written};
@@ -6,6 +6,7 @@ ghost use Rattle.str_desugar.specs.Frames.{around, key_position};
 ghost use Rattle.str_desugar.specs.Frames.{callee_at, callee_slot, variable_at, variable_slot};
 ghost use Rattle.str_desugar.specs.Layers.{layers_of};
 ghost use Rattle.str_desugar.specs.declared.scopes.Scopes.{size-Scopes};
+ghost use Rattle.term_model.specs.Results.{Returns};
 
 use crate::keys::Keys;
 use crate::marks::Wanted;
@@ -47,16 +48,17 @@ pub(crate) enum Scopes<'a> {
     },
 }
 
-// One more layer. `AllocError` where that leaves 64 bits; memory has no room for so many layers.
+/// One more layer. `AllocError` where that leaves 64 bits; memory has no room for so many layers.
 fn one_more(layers_up: usize) -> Result<usize, AllocError>
-    ensures { IfOk result (λ more. more ≡ layers_up + 1) }
+    ensures { Returns result (layers_up + 1) }
 {
     layers_up.checked_add(1).ok_or(AllocError)
 }
 
-// The slot of the strategy parameter that is called by this name with these numbers of strategies and terms.
+/// The slot of the strategy parameter that is called by this name with these numbers of strategies and terms.
 fn parameter(parameters: &Names, wanted: &Wanted, strategies: usize, terms: usize) -> Option<usize>
-    ensures { result ≡ parameter_position (map written parameters.now) (written wanted.now) strategies terms }
+    ensures { result ≡ parameter_position (map written parameters.now) (written wanted.now)
+        strategies terms }
 {
     if strategies == 0 && terms == 0 {
         return parameters.position(&*wanted);
@@ -64,14 +66,16 @@ fn parameter(parameters: &Names, wanted: &Wanted, strategies: usize, terms: usiz
     None
 }
 
-// The slot of the definition of a `rec` of the one name, where the other is called with these numbers of strategies and terms.
+/// The slot of the definition of a `rec` of the one name, where the other is called with these numbers of strategies and terms.
 fn only_definition(
     defined: &Name,
     wanted: &Wanted,
     strategies: usize,
     terms: usize,
 ) -> Option<usize>
-    ensures { result ≡ key_position (record { name = written defined.now; strategies = 0; terms = 0 } ∷ []) (written wanted.now) strategies terms }
+    ensures { result ≡ key_position
+        (record { name = written defined.now; strategies = 0; terms = 0 } ∷ []) (written wanted.now)
+        strategies terms }
 {
     if same(wanted.name(), defined) && strategies == 0 && terms == 0 {
         return Some(0);
@@ -80,7 +84,7 @@ fn only_definition(
 }
 
 impl<'a> Scopes<'a> {
-    // The layers around the innermost one. `None` where there is no layer.
+    /// The layers around the innermost one. `None` where there is no layer.
     fn outer(&self) -> Option<&'a Scopes<'a>>
         ensures layers { option_map (λ s. layers_of s.now) result ≡ around (layers_of self.now) }
         ensures fewer { IfSome result (λ outer. size-Scopes outer.now < size-Scopes self.now) }
@@ -95,7 +99,7 @@ impl<'a> Scopes<'a> {
         }
     }
 
-    // The slot of the variable of this name in the innermost layer.
+    /// The slot of the variable of this name in the innermost layer.
     fn own_variable(&self, wanted: &Wanted) -> Option<usize>
         ensures { result ≡ variable_slot (layers_of self.now) (written wanted.now) }
     {
@@ -108,7 +112,7 @@ impl<'a> Scopes<'a> {
         }
     }
 
-    // The slot of the ith name that the equations bring in the innermost layer.
+    /// The slot of the ith name that the equations bring in the innermost layer.
     fn own_brought(&self, index: usize) -> Option<usize>
         ensures { result ≡ variable_slot (layers_of self.now) (brought index) }
     {
@@ -126,8 +130,8 @@ impl<'a> Scopes<'a> {
         }
     }
 
-    // The slot in the innermost layer of what is called by this name with these numbers of
-    // strategies and terms.
+    /// The slot in the innermost layer of what is called by this name with these numbers of
+    /// strategies and terms.
     fn own_callee(&self, wanted: &Wanted, strategies: usize, terms: usize) -> Option<usize>
         ensures { result ≡ callee_slot (layers_of self.now) (written wanted.now) strategies terms }
     {
@@ -146,7 +150,7 @@ impl<'a> Scopes<'a> {
 
     /// Where the variable of this name stands.
     pub(crate) fn variable(&self, name: &Name) -> Result<Coordinate, AllocError>
-        ensures { IfOk result (λ made. made ≡ variable_at (layers_of self.now) (written name.now)) }
+        ensures { Returns result (variable_at (layers_of self.now) (written name.now)) }
     {
         let wanted = Wanted::new(name);
         let mut layers_up = 0;
@@ -162,8 +166,8 @@ impl<'a> Scopes<'a> {
     }
 
     /// Where the ith name that the equations bring stands.
-    pub(crate) fn brought(&self, index: usize) -> Result<Coordinate, AllocError>
-        ensures { IfOk result (λ made. made ≡ variable_at (layers_of self.now) (brought index)) }
+    pub(crate) fn equation_coordinate(&self, index: usize) -> Result<Coordinate, AllocError>
+        ensures { Returns result (variable_at (layers_of self.now) (brought index)) }
     {
         let mut layers_up = 0;
         let mut layer = *self;
@@ -184,7 +188,8 @@ impl<'a> Scopes<'a> {
         strategies: usize,
         terms: usize,
     ) -> Result<Coordinate, AllocError>
-        ensures { IfOk result (λ made. made ≡ callee_at (layers_of self.now) (written name.now) strategies terms) }
+        ensures { IfOk result (λ made. made ≡
+            callee_at (layers_of self.now) (written name.now) strategies terms) }
     {
         let wanted = Wanted::new(name);
         let mut layers_up = 0;

@@ -1,6 +1,6 @@
-// The walk over strategies, which recurses along the nesting of a file alone. So that a level takes little of the call stack, what is
-// made is held in boxes, and neither a function of the walk nor one that makes a form is inlined in another.
-ghost use Rattle.std.specs.Prelude.{◌≡◌, IfOk};
+//! The walk over strategies, which recurses along the nesting of a file alone. So that a level takes little of the call stack, what is
+//! made is held in boxes, and neither a function of the walk nor one that makes a form is inlined in another.
+ghost use Rattle.std.specs.Prelude.{◌≡◌};
 ghost use Rattle.core_lang.specs.Program as core;
 ghost use Rattle.core_lang.specs.Views as views;
 ghost use Rattle.str_syntax.specs.Trees as trees;
@@ -10,6 +10,7 @@ ghost use Rattle.str_desugar.specs.Equations.{strategy_core, sequence_core, step
 ghost use Rattle.str_desugar.specs.Frames.{strategy_at};
 ghost use Rattle.str_desugar.specs.Layers.{layers_of};
 ghost use Rattle.signature_core.specs.Signature.{arity_known};
+ghost use Rattle.str_desugar.specs.Results.{ReturnsCore};
 
 use crate::assembly::{
     choice, failure, identity, left_choice, negation, on_all, on_one, on_some, scope_of, seq,
@@ -21,7 +22,7 @@ use crate::congruence::{
     elements_congruence, items_before_rest, number_of, rest_congruence, symbol_congruence,
 };
 use crate::locals::{groups_of, let_body, let_definitions, let_in, recursive};
-use crate::matched::matched;
+use crate::matched::core_of_match;
 use crate::names::names_in;
 use crate::offsets::offset_of;
 use crate::primitive::primitive;
@@ -60,7 +61,8 @@ pub(crate) fn strategy(
     scopes: &Scopes,
     symbols: &mut Symbols,
 ) -> Result<Box<CoreStrategy>, AllocError>
-    ensures { IfOk result (λ made. views.strategy_of made.value ≡ strategy_at (layers_of scopes.now) (strategy_core (arity_known context.now.signature.now) (strategy_of source.now))) }
+    ensures { ReturnsCore result (strategy_at (layers_of scopes.now)
+        (strategy_core (arity_known context.now.signature.now) (strategy_of source.now))) }
 {
     match source {
         Strategy::Sequence(only) => sequence(context, only, scopes, symbols),
@@ -86,7 +88,8 @@ fn sequence(
     scopes: &Scopes,
     symbols: &mut Symbols,
 ) -> Result<Box<CoreStrategy>, AllocError>
-    ensures { IfOk result (λ made. views.strategy_of made.value ≡ strategy_at (layers_of scopes.now) (sequence_core (arity_known context.now.signature.now) (sequence_of source.now))) }
+    ensures { ReturnsCore result (strategy_at (layers_of scopes.now)
+        (sequence_core (arity_known context.now.signature.now) (sequence_of source.now))) }
 {
     match source {
         Sequence::Last(only) => step(context, only, scopes, symbols),
@@ -106,7 +109,8 @@ fn step(
     scopes: &Scopes,
     symbols: &mut Symbols,
 ) -> Result<Box<CoreStrategy>, AllocError>
-    ensures { IfOk result (λ made. views.strategy_of made.value ≡ strategy_at (layers_of scopes.now) (step_core (arity_known context.now.signature.now) (step_of source.now))) }
+    ensures { ReturnsCore result (strategy_at (layers_of scopes.now)
+        (step_core (arity_known context.now.signature.now) (step_of source.now))) }
 {
     match source {
         Step::Plain(at, only) => primary(&context.at(*at), only, scopes, symbols),
@@ -126,9 +130,10 @@ pub(crate) fn match_of(
     scopes: &Scopes,
     symbols: &mut Symbols,
 ) -> Result<Box<CoreStrategy>, AllocError>
-    ensures { IfOk result (λ made. views.strategy_of made.value ≡ strategy_at (layers_of scopes.now) (core.match (equations.matched (pattern_of source.now)))) }
+    ensures { ReturnsCore result (strategy_at (layers_of scopes.now) (core.match (equations.matched
+        (pattern_of source.now)))) }
 {
-    let pattern = matched(context.alloc, source, scopes, symbols)?;
+    let pattern = core_of_match(context.alloc, source, scopes, symbols)?;
     let pattern = SourcePattern::new(pattern, offset_of(context, source));
     let made = Box::new(context.alloc, CoreStrategy::Match(pattern))?;
     Ok(made)
@@ -142,7 +147,8 @@ fn primary(
     scopes: &Scopes,
     symbols: &mut Symbols,
 ) -> Result<Box<CoreStrategy>, AllocError>
-    ensures { IfOk result (λ made. views.strategy_of made.value ≡ strategy_at (layers_of scopes.now) (primary_core (arity_known context.now.signature.now) (primary_of source.now))) }
+    ensures { ReturnsCore result (strategy_at (layers_of scopes.now)
+        (primary_core (arity_known context.now.signature.now) (primary_of source.now))) }
 {
     match source {
         Primary::Id => identity(context.alloc),
@@ -197,7 +203,9 @@ fn scope(
     scopes: &Scopes,
     symbols: &mut Symbols,
 ) -> Result<Box<CoreStrategy>, AllocError>
-    ensures { IfOk result (λ made. views.strategy_of made.value ≡ strategy_at (layers_of scopes.now) (primary_core (arity_known context.now.signature.now) (trees.scope names.now (strategy_of source.now)))) }
+    ensures { ReturnsCore result (strategy_at (layers_of scopes.now)
+        (primary_core (arity_known context.now.signature.now)
+        (trees.scope names.now (strategy_of source.now)))) }
 {
     let alloc = context.alloc;
     let variables = names_in(alloc, names)?;
@@ -219,7 +227,9 @@ fn operator(
     scopes: &Scopes,
     symbols: &mut Symbols,
 ) -> Result<Box<CoreStrategy>, AllocError>
-    ensures { IfOk result (λ made. views.strategy_of made.value ≡ strategy_at (layers_of scopes.now) (primary_core (arity_known context.now.signature.now) (trees.operator kind (strategy_of source.now)))) }
+    ensures { ReturnsCore result (strategy_at (layers_of scopes.now)
+        (primary_core (arity_known context.now.signature.now)
+        (trees.operator kind (strategy_of source.now)))) }
 {
     if let Operator::Where = kind {
         return where_at(context, source, scopes, symbols);
@@ -244,7 +254,9 @@ pub(crate) fn where_at(
     scopes: &Scopes,
     symbols: &mut Symbols,
 ) -> Result<Box<CoreStrategy>, AllocError>
-    ensures { IfOk result (λ made. views.strategy_of made.value ≡ strategy_at (layers_of scopes.now) (where_core (strategy_core (arity_known context.now.signature.now) (strategy_of source.now)))) }
+    ensures { ReturnsCore result (strategy_at (layers_of scopes.now)
+        (where_core (strategy_core (arity_known context.now.signature.now)
+        (strategy_of source.now)))) }
 {
     let layer = Scopes::Brought {
         count: 1,
@@ -261,7 +273,9 @@ fn otherwise_of(
     scopes: &Scopes,
     symbols: &mut Symbols,
 ) -> Result<Box<CoreStrategy>, AllocError>
-    ensures { IfOk result (λ made. views.strategy_of made.value ≡ strategy_at (layers_of scopes.now) (otherwise_core (arity_known context.now.signature.now) (optional_strategy_of source.now))) }
+    ensures { ReturnsCore result (strategy_at (layers_of scopes.now)
+        (otherwise_core (arity_known context.now.signature.now)
+        (optional_strategy_of source.now))) }
 {
     match source {
         None => identity(context.alloc),

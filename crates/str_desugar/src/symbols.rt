@@ -1,14 +1,14 @@
-// Symbols of names and texts of the file.
-ghost use Rattle.std.specs.Prelude.{◌≡◌, IfOk};
+//! Symbols of names and texts of the file.
 ghost use Rattle.term_model.specs.Symbol.{Quoted};
 ghost use Rattle.str_desugar.specs.Equations.{constructor_symbol};
+ghost use Rattle.term_model.specs.Results.{Returns};
 
 use indexmap::IndexSet;
 use std::alloc::{AllocError, Global};
 use str_syntax::{Name, Text};
 use term_model::Sym;
 
-// The most bytes of a symbol that is not shared, since it stands in place.
+/// The most bytes of a symbol that is not shared, since it stands in place.
 const IN_PLACE: usize = 14;
 
 /// The symbols of a file. Each long one is kept once and shared.
@@ -29,25 +29,23 @@ impl Symbols {
 
     /// The symbol of the constructor of this name.
     pub(crate) fn constructor(&mut self, name: &Name) -> Result<Sym, AllocError>
-        ensures { IfOk result (λ made. made ≡ constructor_symbol name.now) }
+        ensures { Returns result (constructor_symbol name.now) }
     {
         let symbol = constructor_symbol(self.alloc, name)?;
-        let shared = self.shared(symbol)?;
-        Ok(shared)
+        self.share(symbol)
     }
 
     /// The symbol of a quoted text.
-    pub(crate) fn quoted(&mut self, text: &Text) -> Result<Sym, AllocError>
-        ensures { IfOk result (λ made. made ≡ Quoted text.now) }
+    pub(crate) fn quoted_symbol(&mut self, text: &Text) -> Result<Sym, AllocError>
+        ensures { Returns result (Quoted text.now) }
     {
         let symbol = Sym::quoted(self.alloc, text.bytes())?;
-        let shared = self.shared(symbol)?;
-        Ok(shared)
+        self.share(symbol)
     }
 
-    // The symbol that was kept first of those that are this one.
-    fn shared(&mut self, symbol: Sym) -> Result<Sym, AllocError>
-        ensures { IfOk result (λ made. made ≡ symbol) }
+    /// The symbol that was kept first of those that are this one.
+    fn share(&mut self, symbol: Sym) -> Result<Sym, AllocError>
+        ensures { Returns result symbol }
     {
         if symbol.bytes().len() <= IN_PLACE {
             return Ok(symbol);
@@ -62,9 +60,9 @@ impl Symbols {
     }
 }
 
-// The symbol of the constructor of this name, made anew.
+/// The symbol of the constructor of this name, made anew.
 fn constructor_symbol(alloc: Global, name: &Name) -> Result<Sym, AllocError>
-    ensures { IfOk result (λ made. made ≡ constructor_symbol name.now) }
+    ensures { Returns result (constructor_symbol name.now) }
 {
     match Sym::plain(alloc, name.bytes())? {
         Some(symbol) => Ok(symbol),

@@ -1,8 +1,9 @@
-// The free names of strategies and rules, each once, in the order of their first occurrences.
+//! The free names of strategies and rules, each once, in the order of their first occurrences.
 ghost use Rattle.std.specs.Prelude.{◌≡◌, IfOk, OnOk};
 ghost use Rattle.str_syntax.specs.Views.{arguments_of, definition_of, definitions_of, optional_pattern_of, optional_strategy_of, pattern_of, patterns_of, primary_of, rule_of, sequence_of, step_of, strategies_of, strategy_of};
 ghost use Rattle.str_desugar.specs.Gathered.{bound_names, gathered};
 ghost use Rattle.str_desugar.specs.Variables.{each_once, free_among, free_in, free_in_arguments, free_in_definition, free_in_definitions, free_in_optional, free_in_primary, free_in_rule, free_in_sequence, free_in_step, left_names, names_among, names_of, names_of_rest, without};
+ghost use Rattle.term_model.specs.Results.{Returns};
 
 use crate::bound::{Bound, note};
 use crate::names::{Names, names_in};
@@ -18,7 +19,8 @@ pub(crate) fn free_of_strategy(
     source: &Strategy,
     terms: &[Name],
 ) -> Result<Names, AllocError>
-    ensures { IfOk result (λ made. made ≡ each_once (without terms.now (free_in (strategy_of source.now)))) }
+    ensures { IfOk result (λ made. made ≡
+        each_once (without terms.now (free_in (strategy_of source.now)))) }
 {
     let terms = names_in(alloc, terms)?;
     let bound = Bound::Terms(&terms);
@@ -33,7 +35,8 @@ pub(crate) fn free_of_rule(
     source: &Rule,
     terms: &[Name],
 ) -> Result<Names, AllocError>
-    ensures { IfOk result (λ made. made ≡ each_once (without terms.now (free_in_rule (rule_of source.now)))) }
+    ensures { IfOk result (λ made. made ≡
+        each_once (without terms.now (free_in_rule (rule_of source.now)))) }
 {
     let terms = names_in(alloc, terms)?;
     let bound = Bound::Terms(&terms);
@@ -45,7 +48,7 @@ pub(crate) fn free_of_rule(
 /// The names of a rule's left side, which a rule in backslashes binds. `AllocError` where the memory for them is refused.
 #[cycle(gather)]
 pub(crate) fn left_variables(alloc: Global, source: &Rule) -> Result<Names, AllocError>
-    ensures { IfOk result (λ made. made ≡ each_once (left_names (rule_of source.now))) }
+    ensures { Returns result (each_once (left_names (rule_of source.now))) }
 {
     let mut found = Names::new();
     in_pattern(alloc, &source.left, &Bound::Nothing, &mut found)?;
@@ -59,7 +62,8 @@ fn in_pattern(
     bound: &Bound,
     found: &mut Names,
 ) -> Result<(), AllocError>
-    ensures { OnOk result (found.new ≡ gathered (bound_names bound.now) found.old (names_of (pattern_of source.now))) }
+    ensures { OnOk result (found.new ≡
+        gathered (bound_names bound.now) found.old (names_of (pattern_of source.now))) }
 {
     match source {
         Pattern::Variable(name) => note(alloc, name, bound, found),
@@ -95,7 +99,8 @@ fn in_patterns(
     bound: &Bound,
     found: &mut Names,
 ) -> Result<(), AllocError>
-    ensures { OnOk result (found.new ≡ gathered (bound_names bound.now) found.old (names_among (patterns_of sources.now))) }
+    ensures { OnOk result (found.new ≡
+        gathered (bound_names bound.now) found.old (names_among (patterns_of sources.now))) }
 {
     for source in sources {
         in_pattern(alloc, source, bound, found)?;
@@ -110,7 +115,8 @@ fn in_optional_pattern(
     bound: &Bound,
     found: &mut Names,
 ) -> Result<(), AllocError>
-    ensures { OnOk result (found.new ≡ gathered (bound_names bound.now) found.old (names_of_rest (optional_pattern_of source.now))) }
+    ensures { OnOk result (found.new ≡
+        gathered (bound_names bound.now) found.old (names_of_rest (optional_pattern_of source.now))) }
 {
     match source {
         None => Ok(()),
@@ -125,7 +131,8 @@ fn in_strategy(
     bound: &Bound,
     found: &mut Names,
 ) -> Result<(), AllocError>
-    ensures { OnOk result (found.new ≡ gathered (bound_names bound.now) found.old (free_in (strategy_of source.now))) }
+    ensures { OnOk result (found.new ≡
+        gathered (bound_names bound.now) found.old (free_in (strategy_of source.now))) }
 {
     match source {
         Strategy::Sequence(only) => in_sequence(alloc, only, bound, found),
@@ -148,7 +155,8 @@ fn in_strategies(
     bound: &Bound,
     found: &mut Names,
 ) -> Result<(), AllocError>
-    ensures { OnOk result (found.new ≡ gathered (bound_names bound.now) found.old (free_among (strategies_of sources.now))) }
+    ensures { OnOk result (found.new ≡
+        gathered (bound_names bound.now) found.old (free_among (strategies_of sources.now))) }
 {
     for source in sources {
         in_strategy(alloc, source, bound, found)?;
@@ -163,7 +171,9 @@ fn in_optional_strategy(
     bound: &Bound,
     found: &mut Names,
 ) -> Result<(), AllocError>
-    ensures { OnOk result (found.new ≡ gathered (bound_names bound.now) found.old (free_in_optional (optional_strategy_of source.now))) }
+    ensures { OnOk result (found.new ≡
+        gathered (bound_names bound.now)
+        found.old (free_in_optional (optional_strategy_of source.now))) }
 {
     match source {
         None => Ok(()),
@@ -178,7 +188,8 @@ fn in_sequence(
     bound: &Bound,
     found: &mut Names,
 ) -> Result<(), AllocError>
-    ensures { OnOk result (found.new ≡ gathered (bound_names bound.now) found.old (free_in_sequence (sequence_of source.now))) }
+    ensures { OnOk result (found.new ≡
+        gathered (bound_names bound.now) found.old (free_in_sequence (sequence_of source.now))) }
 {
     match source {
         Sequence::Last(only) => in_step(alloc, only, bound, found),
@@ -191,7 +202,8 @@ fn in_sequence(
 
 #[cycle(gather)]
 fn in_step(alloc: Global, source: &Step, bound: &Bound, found: &mut Names) -> Result<(), AllocError>
-    ensures { OnOk result (found.new ≡ gathered (bound_names bound.now) found.old (free_in_step (step_of source.now))) }
+    ensures { OnOk result (found.new ≡
+        gathered (bound_names bound.now) found.old (free_in_step (step_of source.now))) }
 {
     match source {
         Step::Plain(_, only) => in_primary(alloc, only, bound, found),
@@ -209,7 +221,8 @@ fn in_primary(
     bound: &Bound,
     found: &mut Names,
 ) -> Result<(), AllocError>
-    ensures { OnOk result (found.new ≡ gathered (bound_names bound.now) found.old (free_in_primary (primary_of source.now))) }
+    ensures { OnOk result (found.new ≡
+        gathered (bound_names bound.now) found.old (free_in_primary (primary_of source.now))) }
 {
     match source {
         Primary::Id | Primary::Fail => Ok(()),
@@ -251,7 +264,8 @@ fn in_arguments(
     bound: &Bound,
     found: &mut Names,
 ) -> Result<(), AllocError>
-    ensures { OnOk result (found.new ≡ gathered (bound_names bound.now) found.old (free_in_arguments (arguments_of source.now))) }
+    ensures { OnOk result (found.new ≡
+        gathered (bound_names bound.now) found.old (free_in_arguments (arguments_of source.now))) }
 {
     match source {
         Arguments::Absent => Ok(()),
@@ -263,7 +277,7 @@ fn in_arguments(
     }
 }
 
-// A strategy that is in a scope of these names.
+/// A strategy that is in a scope of these names.
 #[cycle(gather)]
 fn in_scope(
     alloc: Global,
@@ -272,7 +286,9 @@ fn in_scope(
     bound: &Bound,
     found: &mut Names,
 ) -> Result<(), AllocError>
-    ensures { OnOk result (found.new ≡ gathered (bound_names bound.now) found.old (without names.now (free_in (strategy_of inner.now)))) }
+    ensures { OnOk result (found.new ≡
+        gathered (bound_names bound.now)
+        found.old (without names.now (free_in (strategy_of inner.now)))) }
 {
     let names = names_in(alloc, names)?;
     let bound = Bound::Scope {
@@ -284,14 +300,15 @@ fn in_scope(
 
 #[cycle(gather)]
 fn in_rule(alloc: Global, source: &Rule, bound: &Bound, found: &mut Names) -> Result<(), AllocError>
-    ensures { OnOk result (found.new ≡ gathered (bound_names bound.now) found.old (free_in_rule (rule_of source.now))) }
+    ensures { OnOk result (found.new ≡
+        gathered (bound_names bound.now) found.old (free_in_rule (rule_of source.now))) }
 {
     in_pattern(alloc, &source.left, bound, found)?;
     in_pattern(alloc, &source.right, bound, found)?;
     in_optional_strategy(alloc, &source.condition, bound, found)
 }
 
-// A rule in backslashes.
+/// A rule in backslashes.
 #[cycle(gather)]
 fn in_lambda(
     alloc: Global,
@@ -299,7 +316,9 @@ fn in_lambda(
     bound: &Bound,
     found: &mut Names,
 ) -> Result<(), AllocError>
-    ensures { OnOk result (found.new ≡ gathered (bound_names bound.now) found.old (without (left_names (rule_of source.now)) (free_in_rule (rule_of source.now)))) }
+    ensures { OnOk result (found.new ≡
+        gathered (bound_names bound.now)
+        found.old (without (left_names (rule_of source.now)) (free_in_rule (rule_of source.now)))) }
 {
     let names = left_variables(alloc, &*source)?;
     let bound = Bound::Scope {
@@ -316,7 +335,8 @@ fn in_definition(
     bound: &Bound,
     found: &mut Names,
 ) -> Result<(), AllocError>
-    ensures { OnOk result (found.new ≡ gathered (bound_names bound.now) found.old (free_in_definition (definition_of source.now))) }
+    ensures { OnOk result (found.new ≡
+        gathered (bound_names bound.now) found.old (free_in_definition (definition_of source.now))) }
 {
     match &source.head.parameters {
         Parameters::WithTerms(_, terms) => in_scope(alloc, terms, &source.body, bound, found),
@@ -332,7 +352,9 @@ fn in_definitions(
     bound: &Bound,
     found: &mut Names,
 ) -> Result<(), AllocError>
-    ensures { OnOk result (found.new ≡ gathered (bound_names bound.now) found.old (free_in_definitions (definitions_of sources.now))) }
+    ensures { OnOk result (found.new ≡
+        gathered (bound_names bound.now)
+        found.old (free_in_definitions (definitions_of sources.now))) }
 {
     for source in sources {
         in_definition(alloc, source, bound, found)?;

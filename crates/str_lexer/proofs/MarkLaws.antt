@@ -84,7 +84,8 @@ same_rest DoubleArrow r s e = cc
 same_rest LeftChoice r s e = cc
 
 -- the bytes begin with one mark alone
-pub mark_once : (m j : Mark) (bs r s : List ℕ) → bs ≡ mark_bytes m ++ r → mark_goes_on m r ≡ false → bs ≡ mark_bytes j ++ s → mark_goes_on j s ≡ false → (j ≡ m) × (s ≡ r)
+pub mark_once : (m j : Mark) (bs r s : List ℕ) → bs ≡ mark_bytes m ++ r → mark_goes_on m r ≡ false →
+    bs ≡ mark_bytes j ++ s → mark_goes_on j s ≡ false → (j ≡ m) × (s ≡ r)
 mark_once m j bs r s e f g h =
     let k : j ≡ m = sym (mark_again j s h) ∙ ap mark_at (sym g ∙ e) ∙ mark_again m r f in
     (k, sym (same_rest m r s (sym e ∙ g ∙ ap (λ i. mark_bytes i ++ s) k)))

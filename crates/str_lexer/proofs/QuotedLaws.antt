@@ -79,7 +79,8 @@ no_item_lone bs e byte other g = go g.item (sym (ap (λ x. 92 ∷ x) e) ∙ g.by
     go (letter p) h = cc
     go (octal p q u v) h = cc
 
-pub no_item_escape : (b : ℕ) (bs rest : List ℕ) → bs ≡ b ∷ rest → unescaped b ≡ None → ((x y z : ℕ) (other : List ℕ) → BeginsOctal x y z bs other → ⊥) → NoItem (92 ∷ bs)
+pub no_item_escape : (b : ℕ) (bs rest : List ℕ) → bs ≡ b ∷ rest → unescaped b ≡ None →
+    ((x y z : ℕ) (other : List ℕ) → BeginsOctal x y z bs other → ⊥) → NoItem (92 ∷ bs)
 no_item_escape b bs rest e f n byte other g = go g.item g.bytes
   where
     go : {a : ℕ} {xs : List ℕ} → Item a xs → 92 ∷ bs ≡ xs ++ other → ⊥
@@ -88,13 +89,17 @@ no_item_escape b bs rest e f n byte other g = go g.item g.bytes
         let same : b ≡ l = heads b l _ _ (sym e ∙ tails 92 92 _ _ h) in
         let some : Some a ≡ None = sym p ∙ ap unescaped (sym same) ∙ f in
         cc
-    go (octal {x = x} {y = y} {z = z} p q u v) h = n x y z other (record { bytes = tails 92 92 _ _ h; high = p; middle = q; low = u })
+    go (octal {x = x} {y = y} {z = z} p q u v) h =
+        n x y z other (record { bytes = tails 92 92 _ _ h; high = p; middle = q; low = u })
 
-pub found_letter : (l byte : ℕ) (bs rest : List ℕ) → bs ≡ l ∷ rest → unescaped l ≡ Some byte → FoundItem byte (92 ∷ bs) rest
+pub found_letter : (l byte : ℕ) (bs rest : List ℕ) → bs ≡ l ∷ rest → unescaped l ≡ Some byte →
+    FoundItem byte (92 ∷ bs) rest
 found_letter l byte bs rest e f = record { written = 92 ∷ l ∷ []; bytes = ap (λ x. 92 ∷ x) e; item = letter f }
 
-pub found_octal : (x y z : ℕ) (bs rest : List ℕ) → bs ≡ x ∷ y ∷ z ∷ rest → x ≤ 51 → is_octal x ≡ true → is_octal y ≡ true → is_octal z ≡ true → FoundItem (8 * (8 * (x - 48) + (y - 48)) + (z - 48)) (92 ∷ bs) rest
-found_octal x y z bs rest e h p q u = record { written = 92 ∷ x ∷ y ∷ z ∷ []; bytes = ap (λ w. 92 ∷ w) e; item = octal (lower x h p) q u refl }
+pub found_octal : (x y z : ℕ) (bs rest : List ℕ) → bs ≡ x ∷ y ∷ z ∷ rest → x ≤ 51 → is_octal x ≡ true →
+    is_octal y ≡ true → is_octal z ≡ true → FoundItem (8 * (8 * (x - 48) + (y - 48)) + (z - 48)) (92 ∷ bs) rest
+found_octal x y z bs rest e h p q u =
+    record { written = 92 ∷ x ∷ y ∷ z ∷ []; bytes = ap (λ w. 92 ∷ w) e; item = octal (lower x h p) q u refl }
   where
     lower : (b : ℕ) → b ≤ 51 → is_octal b ≡ true → is_between 48 51 b ≡ true
     lower b h p = grind (arith, nat_tests)
@@ -124,23 +129,34 @@ pub record ReadItems (text done rest : List ℕ) : Type 0 where
 pub read_none : (text : List ℕ) → ReadItems text [] text
 read_none text = record { written = []; items = refl; bytes = refl }
 
-pub read_more : (text done rest following : List ℕ) (byte : ℕ) → ReadItems text done rest → FoundItem byte rest following → ReadItems text (done ++ byte ∷ []) following
+pub read_more : (text done rest following : List ℕ) (byte : ℕ) → ReadItems text done rest →
+    FoundItem byte rest following → ReadItems text (done ++ byte ∷ []) following
 read_more text done rest following byte r f = record {
   written = r.written ++ f.written;
   items = items_more done byte r.written f.written r.items f.item;
   bytes = r.bytes ∙ ap (λ x. r.written ++ x) f.bytes ∙ sym (append_assoc r.written f.written following);
 }
 
-first_item : (b : ℕ) (text ys s r : List ℕ) (j : Joined (Item b) (AreItems text) ys) → r ≡ ys ++ s → FoundItem b r (j.back ++ s)
-first_item b text ys s r j e = record { written = j.front; bytes = e ∙ ap (λ x. x ++ s) j.bytes ∙ append_assoc j.front j.back s; item = j.first }
+first_item : (b : ℕ) (text ys s r : List ℕ) (j : Joined (Item b) (AreItems text) ys) → r ≡ ys ++ s →
+    FoundItem b r (j.back ++ s)
+first_item b text ys s r j e = record {
+  written = j.front;
+  bytes =
+      e ∙ ap (λ x. x ++ s) j.bytes ∙ append_assoc j.front j.back s;
+  item = j.first;
+}
 
 -- items up to a place where none begins are read in one way
-pub items_once : (ts us xs ys r s : List ℕ) → AreItems ts xs → AreItems us ys → NoItem r → NoItem s → xs ++ r ≡ ys ++ s → (us ≡ ts) × (s ≡ r)
+pub items_once : (ts us xs ys r s : List ℕ) → AreItems ts xs → AreItems us ys → NoItem r → NoItem s →
+    xs ++ r ≡ ys ++ s → (us ≡ ts) × (s ≡ r)
 items_once [] [] xs ys r s a b n m e = (refl, ap (λ x. x ++ s) (sym b) ∙ sym e ∙ ap (λ x. x ++ r) a)
-items_once [] (u ∷ us) xs ys r s a b n m e = absurd (n u (b.back ++ s) (first_item u us ys s r b (sym (ap (λ x. x ++ r) a) ∙ e)))
-items_once (t ∷ ts) [] xs ys r s a b n m e = absurd (m t (a.back ++ r) (first_item t ts xs r s a (sym (ap (λ x. x ++ s) b) ∙ sym e)))
+items_once [] (u ∷ us) xs ys r s a b n m e =
+    absurd (n u (b.back ++ s) (first_item u us ys s r b (sym (ap (λ x. x ++ r) a) ∙ e)))
+items_once (t ∷ ts) [] xs ys r s a b n m e =
+    absurd (m t (a.back ++ r) (first_item t ts xs r s a (sym (ap (λ x. x ++ s) b) ∙ sym e)))
 items_once (t ∷ ts) (u ∷ us) xs ys r s a b n m e =
-    let o = item_once t u (xs ++ r) (a.back ++ r) (b.back ++ s) (first_item t ts xs r (xs ++ r) a refl) (first_item u us ys s (xs ++ r) b e) in
+    let o = item_once t u (xs ++ r) (a.back ++ r) (b.back ++ s) (first_item t ts xs r (xs ++ r) a refl)
+    (first_item u us ys s (xs ++ r) b e) in
     let k = items_once ts us a.back b.back r s a.second b.second n m (sym o.1) in
     let first = o.0 in
     let others = k.0 in
@@ -150,12 +166,16 @@ items_once (t ∷ ts) (u ∷ us) xs ys r s a b n m e =
 
 -- the bytes of a quoted text
 pub quoted_bytes : (text written : List ℕ) (q : IsQuoted text written) → written ≡ 34 ∷ (q.second.front ++ (34 ∷ []))
-quoted_bytes text written q = q.bytes ∙ ap (λ x. x ++ q.back) q.first ∙ ap (λ x. 34 ∷ x) (q.second.bytes ∙ ap (λ x. q.second.front ++ x) q.second.second)
+quoted_bytes text written q = q.bytes ∙ ap (λ x. x ++ q.back) q.first ∙
+    ap (λ x. 34 ∷ x) (q.second.bytes ∙ ap (λ x. q.second.front ++ x) q.second.second)
 
-quoted_inner : (inner written bs other : List ℕ) → bs ≡ written ++ other → written ≡ 34 ∷ (inner ++ (34 ∷ [])) → bs ≡ 34 ∷ (inner ++ (34 ∷ other))
-quoted_inner inner written bs other e f = e ∙ ap (λ w. w ++ other) f ∙ ap (λ x. 34 ∷ x) (append_assoc inner (34 ∷ []) other)
+quoted_inner : (inner written bs other : List ℕ) → bs ≡ written ++ other → written ≡ 34 ∷ (inner ++ (34 ∷ [])) →
+    bs ≡ 34 ∷ (inner ++ (34 ∷ other))
+quoted_inner inner written bs other e f =
+    e ∙ ap (λ w. w ++ other) f ∙ ap (λ x. 34 ∷ x) (append_assoc inner (34 ∷ []) other)
 
-pub found_quoted : (bs inner done rest others : List ℕ) → bs ≡ 34 ∷ inner → ReadItems inner done rest → rest ≡ 34 ∷ others → BeginsToken (T.Quoted done) bs others
+pub found_quoted : (bs inner done rest others : List ℕ) → bs ≡ 34 ∷ inner → ReadItems inner done rest →
+    rest ≡ 34 ∷ others → BeginsToken (T.Quoted done) bs others
 found_quoted bs inner done rest others e r f = record {
   written = 34 ∷ (r.written ++ (34 ∷ []));
   bytes = e ∙ ap (λ x. 34 ∷ x) (r.bytes ∙ ap (λ x. r.written ++ x) f ∙ sym (append_assoc r.written (34 ∷ []) others));
@@ -168,27 +188,32 @@ found_quoted bs inner done rest others e r f = record {
   };
 }
 
-pub missing_quoted : (bs inner done rest : List ℕ) → bs ≡ 34 ∷ inner → ReadItems inner done rest → NoItem rest → first_is (λ b. b == 34) rest ≡ false → (text other : List ℕ) → BeginsToken (T.Quoted text) bs other → ⊥
+pub missing_quoted : (bs inner done rest : List ℕ) → bs ≡ 34 ∷ inner → ReadItems inner done rest → NoItem rest →
+    first_is (λ b. b == 34) rest ≡ false → (text other : List ℕ) → BeginsToken (T.Quoted text) bs other → ⊥
 missing_quoted bs inner done rest e r n f text other b =
     let q = b.is_token in
     let h = quoted_inner q.second.front b.written bs other b.bytes (quoted_bytes text b.written q) in
     let k : inner ≡ q.second.front ++ (34 ∷ other) = tails 34 34 _ _ (sym e ∙ h) in
-    let o = items_once done text r.written q.second.front rest (34 ∷ other) r.items q.second.first n (no_item_quote other) (sym r.bytes ∙ k) in
+    let o = items_once done text r.written q.second.front rest (34 ∷ other)
+    r.items q.second.first n (no_item_quote other) (sym r.bytes ∙ k) in
     let g : first_is (λ b. b == 34) (34 ∷ other) ≡ false = ap (first_is (λ b. b == 34)) o.1 ∙ f in
     cc
 
 -- the bytes begin with one quoted text alone
-pub quoted_once : (t u bs w v r s : List ℕ) → bs ≡ w ++ r → bs ≡ v ++ s → IsQuoted t w → IsQuoted u v → (u ≡ t) × (s ≡ r)
+pub quoted_once : (t u bs w v r s : List ℕ) → bs ≡ w ++ r → bs ≡ v ++ s → IsQuoted t w → IsQuoted u v → (u ≡ t) ×
+    (s ≡ r)
 quoted_once t u bs w v r s e f p q =
     let g = quoted_inner p.second.front w bs r e (quoted_bytes t w p) in
     let h = quoted_inner q.second.front v bs s f (quoted_bytes u v q) in
     let k : p.second.front ++ (34 ∷ r) ≡ q.second.front ++ (34 ∷ s) = tails 34 34 _ _ (sym g ∙ h) in
-    let o = items_once t u p.second.front q.second.front (34 ∷ r) (34 ∷ s) p.second.first q.second.first (no_item_quote r) (no_item_quote s) k in
+    let o = items_once t u p.second.front q.second.front (34 ∷ r) (34 ∷ s)
+    p.second.first q.second.first (no_item_quote r) (no_item_quote s) k in
     (o.0, tails 34 34 s r o.1)
 
 -- ---- what is read after a \, and the first byte
 
-pub escape_read : (b : ℕ) (bs rest : List ℕ) (read : Option (ℕ × Bor (List ℕ))) → bs ≡ b ∷ rest → unescaped b ≡ None → IsOctalRead bs read → IsItemRead (92 ∷ bs) read
+pub escape_read : (b : ℕ) (bs rest : List ℕ) (read : Option (ℕ × Bor (List ℕ))) → bs ≡ b ∷ rest → unescaped b ≡ None →
+    IsOctalRead bs read → IsItemRead (92 ∷ bs) read
 escape_read b bs rest None e f o = no_item_escape b bs rest e f o
 escape_read b bs rest (Some (byte, other)) e f o = o
 

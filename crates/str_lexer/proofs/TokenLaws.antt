@@ -76,8 +76,14 @@ word_beginning bs f = rw f refl
 quote_beginning : (bs : List ℕ) → beginning (34 ∷ bs) ≡ quoted
 quote_beginning bs = refl
 
-blank_byte : (b : ℕ) → begins_gap b ≡ true → (begins_name b ≡ false) × (is_digit b ≡ false) × ((b == 45) ≡ false) × ((b == 34) ≡ false)
-blank_byte b e = (grind (arith, nat_tests), grind (arith, nat_tests), grind (arith, nat_tests), grind (arith, nat_tests))
+blank_byte : (b : ℕ) → begins_gap b ≡ true → (begins_name b ≡ false) × (is_digit b ≡ false) × ((b == 45) ≡ false) ×
+    ((b == 34) ≡ false)
+blank_byte b e = (
+  grind (arith, nat_tests),
+  grind (arith, nat_tests),
+  grind (arith, nat_tests),
+  grind (arith, nat_tests),
+)
 
 gap_beginning : (bs : List ℕ) → first_is begins_gap bs ≡ true → beginning bs ≡ gap
 gap_beginning [] e = cc
@@ -113,7 +119,9 @@ token_beginning T.Wildcard bs rest b = word_beginning bs (word_head bs b.written
 token_beginning (T.Keyword k) bs rest b = word_beginning bs (word_head bs b.written rest b.bytes b.is_token.1)
 token_beginning (T.LeftOut w) bs rest b = word_beginning bs (word_head bs b.written rest b.bytes b.is_token.1)
 token_beginning (T.Integer z) bs rest b = integer_beginning bs (integer_head z bs b.written rest b.bytes b.is_token)
-token_beginning (T.Quoted text) bs rest b = ap beginning (b.bytes ∙ ap (λ w. w ++ rest) (quoted_bytes text b.written b.is_token)) ∙ quote_beginning ((b.is_token.second.front ++ (34 ∷ [])) ++ rest)
+token_beginning (T.Quoted text) bs rest b =
+    ap beginning (b.bytes ∙ ap (λ w. w ++ rest) (quoted_bytes text b.written b.is_token)) ∙
+    quote_beginning ((b.is_token.second.front ++ (34 ∷ [])) ++ rest)
 token_beginning (T.Mark m) bs rest b = ap beginning (b.bytes ∙ ap (λ w. w ++ rest) b.is_token.0) ∙ mark_beginning m rest
 
 -- ---- one token alone
@@ -122,35 +130,68 @@ token_beginning (T.Mark m) bs rest b = ap beginning (b.bytes ∙ ap (λ w. w ++ 
 words_same : (bs w v r s : List ℕ) → bs ≡ w ++ r → bs ≡ v ++ s → IsWord w r → IsWord v s → (w ≡ v) × (r ≡ s)
 words_same bs w v r s e f a b = word_same w v r s a b (sym e ∙ f)
 
-same_reserved : (q r : Reserved) (w v : List ℕ) → w ≡ reserved_bytes q → v ≡ reserved_bytes r → w ≡ v → kind_of r ≡ kind_of q
+same_reserved : (q r : Reserved) (w v : List ℕ) → w ≡ reserved_bytes q → v ≡ reserved_bytes r → w ≡ v →
+    kind_of r ≡ kind_of q
 same_reserved q r w v e f g = ap kind_of (reserved_once r q (sym f ∙ sym g ∙ e))
 
-once_of : (bs r s : List ℕ) (t u : TokenKind) → BeginsToken t bs r → BeginsToken u bs s → beginning_of t ≡ beginning_of u → (u ≡ t) × (s ≡ r)
-once_of bs r s T.Name T.Name a b e = let h = words_same bs a.written b.written r s a.bytes b.bytes a.is_token.0 b.is_token.0 in (refl, sym h.1)
-once_of bs r s T.Name T.Wildcard a b e = let h = words_same bs a.written b.written r s a.bytes b.bytes a.is_token.0 b.is_token.1 in absurd (a.is_token.1 R.Wildcard (sym b.is_token.0 ∙ sym h.0))
-once_of bs r s T.Name (T.Keyword j) a b e = let h = words_same bs a.written b.written r s a.bytes b.bytes a.is_token.0 b.is_token.1 in absurd (a.is_token.1 (R.Keyword j) (sym b.is_token.0 ∙ sym h.0))
-once_of bs r s T.Name (T.LeftOut y) a b e = let h = words_same bs a.written b.written r s a.bytes b.bytes a.is_token.0 b.is_token.1 in absurd (a.is_token.1 (R.LeftOut y) (sym b.is_token.0 ∙ sym h.0))
+once_of : (bs r s : List ℕ) (t u : TokenKind) → BeginsToken t bs r → BeginsToken u bs s →
+    beginning_of t ≡ beginning_of u → (u ≡ t) × (s ≡ r)
+once_of bs r s T.Name T.Name a b e = let h =
+    words_same bs a.written b.written r s a.bytes b.bytes a.is_token.0 b.is_token.0 in (refl, sym h.1)
+once_of bs r s T.Name T.Wildcard a b e = let h =
+    words_same bs a.written b.written r s a.bytes b.bytes a.is_token.0 b.is_token.1 in
+    absurd (a.is_token.1 R.Wildcard (sym b.is_token.0 ∙ sym h.0))
+once_of bs r s T.Name (T.Keyword j) a b e = let h =
+    words_same bs a.written b.written r s a.bytes b.bytes a.is_token.0 b.is_token.1 in
+    absurd (a.is_token.1 (R.Keyword j) (sym b.is_token.0 ∙ sym h.0))
+once_of bs r s T.Name (T.LeftOut y) a b e = let h =
+    words_same bs a.written b.written r s a.bytes b.bytes a.is_token.0 b.is_token.1 in
+    absurd (a.is_token.1 (R.LeftOut y) (sym b.is_token.0 ∙ sym h.0))
 once_of bs r s T.Name (T.Integer i) a b e = cc
 once_of bs r s T.Name (T.Quoted u) a b e = cc
 once_of bs r s T.Name (T.Mark l) a b e = cc
-once_of bs r s T.Wildcard T.Name a b e = let h = words_same bs a.written b.written r s a.bytes b.bytes a.is_token.1 b.is_token.0 in absurd (b.is_token.1 R.Wildcard (sym a.is_token.0 ∙ h.0))
-once_of bs r s T.Wildcard T.Wildcard a b e = let h = words_same bs a.written b.written r s a.bytes b.bytes a.is_token.1 b.is_token.1 in (same_reserved R.Wildcard R.Wildcard a.written b.written a.is_token.0 b.is_token.0 h.0, sym h.1)
-once_of bs r s T.Wildcard (T.Keyword j) a b e = let h = words_same bs a.written b.written r s a.bytes b.bytes a.is_token.1 b.is_token.1 in (same_reserved R.Wildcard (R.Keyword j) a.written b.written a.is_token.0 b.is_token.0 h.0, sym h.1)
-once_of bs r s T.Wildcard (T.LeftOut y) a b e = let h = words_same bs a.written b.written r s a.bytes b.bytes a.is_token.1 b.is_token.1 in (same_reserved R.Wildcard (R.LeftOut y) a.written b.written a.is_token.0 b.is_token.0 h.0, sym h.1)
+once_of bs r s T.Wildcard T.Name a b e = let h =
+    words_same bs a.written b.written r s a.bytes b.bytes a.is_token.1 b.is_token.0 in
+    absurd (b.is_token.1 R.Wildcard (sym a.is_token.0 ∙ h.0))
+once_of bs r s T.Wildcard T.Wildcard a b e = let h =
+    words_same bs a.written b.written r s a.bytes b.bytes a.is_token.1 b.is_token.1 in
+    (same_reserved R.Wildcard R.Wildcard a.written b.written a.is_token.0 b.is_token.0 h.0, sym h.1)
+once_of bs r s T.Wildcard (T.Keyword j) a b e = let h =
+    words_same bs a.written b.written r s a.bytes b.bytes a.is_token.1 b.is_token.1 in
+    (same_reserved R.Wildcard (R.Keyword j) a.written b.written a.is_token.0 b.is_token.0 h.0, sym h.1)
+once_of bs r s T.Wildcard (T.LeftOut y) a b e = let h =
+    words_same bs a.written b.written r s a.bytes b.bytes a.is_token.1 b.is_token.1 in
+    (same_reserved R.Wildcard (R.LeftOut y) a.written b.written a.is_token.0 b.is_token.0 h.0, sym h.1)
 once_of bs r s T.Wildcard (T.Integer i) a b e = cc
 once_of bs r s T.Wildcard (T.Quoted u) a b e = cc
 once_of bs r s T.Wildcard (T.Mark l) a b e = cc
-once_of bs r s (T.Keyword k) T.Name a b e = let h = words_same bs a.written b.written r s a.bytes b.bytes a.is_token.1 b.is_token.0 in absurd (b.is_token.1 (R.Keyword k) (sym a.is_token.0 ∙ h.0))
-once_of bs r s (T.Keyword k) T.Wildcard a b e = let h = words_same bs a.written b.written r s a.bytes b.bytes a.is_token.1 b.is_token.1 in (same_reserved (R.Keyword k) R.Wildcard a.written b.written a.is_token.0 b.is_token.0 h.0, sym h.1)
-once_of bs r s (T.Keyword k) (T.Keyword j) a b e = let h = words_same bs a.written b.written r s a.bytes b.bytes a.is_token.1 b.is_token.1 in (same_reserved (R.Keyword k) (R.Keyword j) a.written b.written a.is_token.0 b.is_token.0 h.0, sym h.1)
-once_of bs r s (T.Keyword k) (T.LeftOut y) a b e = let h = words_same bs a.written b.written r s a.bytes b.bytes a.is_token.1 b.is_token.1 in (same_reserved (R.Keyword k) (R.LeftOut y) a.written b.written a.is_token.0 b.is_token.0 h.0, sym h.1)
+once_of bs r s (T.Keyword k) T.Name a b e = let h =
+    words_same bs a.written b.written r s a.bytes b.bytes a.is_token.1 b.is_token.0 in
+    absurd (b.is_token.1 (R.Keyword k) (sym a.is_token.0 ∙ h.0))
+once_of bs r s (T.Keyword k) T.Wildcard a b e = let h =
+    words_same bs a.written b.written r s a.bytes b.bytes a.is_token.1 b.is_token.1 in
+    (same_reserved (R.Keyword k) R.Wildcard a.written b.written a.is_token.0 b.is_token.0 h.0, sym h.1)
+once_of bs r s (T.Keyword k) (T.Keyword j) a b e = let h =
+    words_same bs a.written b.written r s a.bytes b.bytes a.is_token.1 b.is_token.1 in
+    (same_reserved (R.Keyword k) (R.Keyword j) a.written b.written a.is_token.0 b.is_token.0 h.0, sym h.1)
+once_of bs r s (T.Keyword k) (T.LeftOut y) a b e = let h =
+    words_same bs a.written b.written r s a.bytes b.bytes a.is_token.1 b.is_token.1 in
+    (same_reserved (R.Keyword k) (R.LeftOut y) a.written b.written a.is_token.0 b.is_token.0 h.0, sym h.1)
 once_of bs r s (T.Keyword k) (T.Integer i) a b e = cc
 once_of bs r s (T.Keyword k) (T.Quoted u) a b e = cc
 once_of bs r s (T.Keyword k) (T.Mark l) a b e = cc
-once_of bs r s (T.LeftOut x) T.Name a b e = let h = words_same bs a.written b.written r s a.bytes b.bytes a.is_token.1 b.is_token.0 in absurd (b.is_token.1 (R.LeftOut x) (sym a.is_token.0 ∙ h.0))
-once_of bs r s (T.LeftOut x) T.Wildcard a b e = let h = words_same bs a.written b.written r s a.bytes b.bytes a.is_token.1 b.is_token.1 in (same_reserved (R.LeftOut x) R.Wildcard a.written b.written a.is_token.0 b.is_token.0 h.0, sym h.1)
-once_of bs r s (T.LeftOut x) (T.Keyword j) a b e = let h = words_same bs a.written b.written r s a.bytes b.bytes a.is_token.1 b.is_token.1 in (same_reserved (R.LeftOut x) (R.Keyword j) a.written b.written a.is_token.0 b.is_token.0 h.0, sym h.1)
-once_of bs r s (T.LeftOut x) (T.LeftOut y) a b e = let h = words_same bs a.written b.written r s a.bytes b.bytes a.is_token.1 b.is_token.1 in (same_reserved (R.LeftOut x) (R.LeftOut y) a.written b.written a.is_token.0 b.is_token.0 h.0, sym h.1)
+once_of bs r s (T.LeftOut x) T.Name a b e = let h =
+    words_same bs a.written b.written r s a.bytes b.bytes a.is_token.1 b.is_token.0 in
+    absurd (b.is_token.1 (R.LeftOut x) (sym a.is_token.0 ∙ h.0))
+once_of bs r s (T.LeftOut x) T.Wildcard a b e = let h =
+    words_same bs a.written b.written r s a.bytes b.bytes a.is_token.1 b.is_token.1 in
+    (same_reserved (R.LeftOut x) R.Wildcard a.written b.written a.is_token.0 b.is_token.0 h.0, sym h.1)
+once_of bs r s (T.LeftOut x) (T.Keyword j) a b e = let h =
+    words_same bs a.written b.written r s a.bytes b.bytes a.is_token.1 b.is_token.1 in
+    (same_reserved (R.LeftOut x) (R.Keyword j) a.written b.written a.is_token.0 b.is_token.0 h.0, sym h.1)
+once_of bs r s (T.LeftOut x) (T.LeftOut y) a b e = let h =
+    words_same bs a.written b.written r s a.bytes b.bytes a.is_token.1 b.is_token.1 in
+    (same_reserved (R.LeftOut x) (R.LeftOut y) a.written b.written a.is_token.0 b.is_token.0 h.0, sym h.1)
 once_of bs r s (T.LeftOut x) (T.Integer i) a b e = cc
 once_of bs r s (T.LeftOut x) (T.Quoted u) a b e = cc
 once_of bs r s (T.LeftOut x) (T.Mark l) a b e = cc
@@ -158,7 +199,8 @@ once_of bs r s (T.Integer z) T.Name a b e = cc
 once_of bs r s (T.Integer z) T.Wildcard a b e = cc
 once_of bs r s (T.Integer z) (T.Keyword j) a b e = cc
 once_of bs r s (T.Integer z) (T.LeftOut y) a b e = cc
-once_of bs r s (T.Integer z) (T.Integer i) a b e = let h = integer_once z i bs a.written b.written r s a.bytes b.bytes a.is_token b.is_token in (ap T.Integer h.0, h.1)
+once_of bs r s (T.Integer z) (T.Integer i) a b e = let h =
+    integer_once z i bs a.written b.written r s a.bytes b.bytes a.is_token b.is_token in (ap T.Integer h.0, h.1)
 once_of bs r s (T.Integer z) (T.Quoted u) a b e = cc
 once_of bs r s (T.Integer z) (T.Mark l) a b e = cc
 once_of bs r s (T.Quoted t) T.Name a b e = cc
@@ -166,7 +208,8 @@ once_of bs r s (T.Quoted t) T.Wildcard a b e = cc
 once_of bs r s (T.Quoted t) (T.Keyword j) a b e = cc
 once_of bs r s (T.Quoted t) (T.LeftOut y) a b e = cc
 once_of bs r s (T.Quoted t) (T.Integer i) a b e = cc
-once_of bs r s (T.Quoted t) (T.Quoted u) a b e = let h = quoted_once t u bs a.written b.written r s a.bytes b.bytes a.is_token b.is_token in (ap T.Quoted h.0, h.1)
+once_of bs r s (T.Quoted t) (T.Quoted u) a b e = let h =
+    quoted_once t u bs a.written b.written r s a.bytes b.bytes a.is_token b.is_token in (ap T.Quoted h.0, h.1)
 once_of bs r s (T.Quoted t) (T.Mark l) a b e = cc
 once_of bs r s (T.Mark m) T.Name a b e = cc
 once_of bs r s (T.Mark m) T.Wildcard a b e = cc
@@ -174,7 +217,9 @@ once_of bs r s (T.Mark m) (T.Keyword j) a b e = cc
 once_of bs r s (T.Mark m) (T.LeftOut y) a b e = cc
 once_of bs r s (T.Mark m) (T.Integer i) a b e = cc
 once_of bs r s (T.Mark m) (T.Quoted u) a b e = cc
-once_of bs r s (T.Mark m) (T.Mark l) a b e = let h = mark_once m l bs r s (a.bytes ∙ ap (λ w. w ++ r) a.is_token.0) a.is_token.1 (b.bytes ∙ ap (λ w. w ++ s) b.is_token.0) b.is_token.1 in (ap T.Mark h.0, h.1)
+once_of bs r s (T.Mark m) (T.Mark l) a b e = let h =
+    mark_once m l bs r s (a.bytes ∙ ap (λ w. w ++ r) a.is_token.0) a.is_token.1 (b.bytes ∙
+    ap (λ w. w ++ s) b.is_token.0) b.is_token.1 in (ap T.Mark h.0, h.1)
 
 -- the bytes begin with one token alone
 pub token_once : (t u : TokenKind) (bs r s : List ℕ) → BeginsToken t bs r → BeginsToken u bs s → (u ≡ t) × (s ≡ r)
@@ -195,7 +240,8 @@ gap_or_token g t bs r s a b = not_gap t (sym (token_beginning t bs s b) ∙ gap_
 
 -- ---- where there is no token
 
-no_other_than_integer : (bs : List ℕ) → begins_integer bs ≡ true → ((z : ℤ) (other : List ℕ) → BeginsToken (T.Integer z) bs other → ⊥) → NoToken bs
+no_other_than_integer : (bs : List ℕ) → begins_integer bs ≡ true →
+    ((z : ℤ) (other : List ℕ) → BeginsToken (T.Integer z) bs other → ⊥) → NoToken bs
 no_other_than_integer bs f n t other b = go t b (sym (token_beginning t bs other b) ∙ integer_beginning bs f)
   where
     go : (t : TokenKind) → BeginsToken t bs other → beginning_of t ≡ integer → ⊥
@@ -207,10 +253,13 @@ no_other_than_integer bs f n t other b = go t b (sym (token_beginning t bs other
     go (T.Quoted t) b e = cc
     go (T.Mark m) b e = cc
 
-quoted_head : (text : List ℕ) (bs other : List ℕ) → BeginsToken (T.Quoted text) bs other → first_is (λ b. b == 34) bs ≡ true
-quoted_head text bs other b = ap (first_is (λ c. c == 34)) (b.bytes ∙ ap (λ w. w ++ other) (quoted_bytes text b.written b.is_token))
+quoted_head : (text : List ℕ) (bs other : List ℕ) → BeginsToken (T.Quoted text) bs other →
+    first_is (λ b. b == 34) bs ≡ true
+quoted_head text bs other b = ap (first_is (λ c. c == 34)) (b.bytes ∙
+    ap (λ w. w ++ other) (quoted_bytes text b.written b.is_token))
 
-no_other_than_quoted : (bs : List ℕ) → first_is (λ b. b == 34) bs ≡ true → ((text : List ℕ) (other : List ℕ) → BeginsToken (T.Quoted text) bs other → ⊥) → NoToken bs
+no_other_than_quoted : (bs : List ℕ) → first_is (λ b. b == 34) bs ≡ true →
+    ((text : List ℕ) (other : List ℕ) → BeginsToken (T.Quoted text) bs other → ⊥) → NoToken bs
 no_other_than_quoted bs f n t other b = go t b (sym (token_beginning t bs other b) ∙ at_quote bs f)
   where
     at_quote : (bs : List ℕ) → first_is (λ b. b == 34) bs ≡ true → beginning bs ≡ quoted
@@ -226,7 +275,8 @@ no_other_than_quoted bs f n t other b = go t b (sym (token_beginning t bs other 
     go (T.Quoted t) b e = n t other b
     go (T.Mark m) b e = cc
 
-pub no_other_than_mark : (bs : List ℕ) → first_is begins_name bs ≡ false → begins_integer bs ≡ false → first_is (λ b. b == 34) bs ≡ false → ((m : Mark) (other : List ℕ) → bs ≡ mark_bytes m ++ other → ⊥) → NoToken bs
+pub no_other_than_mark : (bs : List ℕ) → first_is begins_name bs ≡ false → begins_integer bs ≡ false →
+    first_is (λ b. b == 34) bs ≡ false → ((m : Mark) (other : List ℕ) → bs ≡ mark_bytes m ++ other → ⊥) → NoToken bs
 no_other_than_mark bs f g h n T.Name other b = let k = word_head bs b.written other b.bytes b.is_token.0 in cc
 no_other_than_mark bs f g h n T.Wildcard other b = let k = word_head bs b.written other b.bytes b.is_token.1 in cc
 no_other_than_mark bs f g h n (T.Keyword k) other b = let k = word_head bs b.written other b.bytes b.is_token.1 in cc
@@ -238,11 +288,13 @@ no_other_than_mark bs f g h n (T.Mark m) other b = n m other (b.bytes ∙ ap (λ
 pub found_mark : (m : Mark) (bs rest : List ℕ) → BeginsMark m bs rest → BeginsToken (T.Mark m) bs rest
 found_mark m bs rest b = record { written = mark_bytes m; bytes = b.bytes; is_token = (refl, b.longest) }
 
-pub integer_missing : (bs : List ℕ) (read : Option (ℤ × Bor (List ℕ))) → begins_integer bs ≡ true → read ≡ None → IsIntegerRead bs read → NoToken bs
+pub integer_missing : (bs : List ℕ) (read : Option (ℤ × Bor (List ℕ))) → begins_integer bs ≡ true → read ≡ None →
+    IsIntegerRead bs read → NoToken bs
 integer_missing bs None f e n = no_other_than_integer bs f n
 integer_missing bs (Some x) f e n = cc
 
-pub quoted_missing : (bs : List ℕ) (read : Option (List ℕ × Bor (List ℕ))) → first_is (λ b. b == 34) bs ≡ true → read ≡ None → IsQuotedRead bs read → NoToken bs
+pub quoted_missing : (bs : List ℕ) (read : Option (List ℕ × Bor (List ℕ))) → first_is (λ b. b == 34) bs ≡ true →
+    read ≡ None → IsQuotedRead bs read → NoToken bs
 quoted_missing bs None f e n = no_other_than_quoted bs f n
 quoted_missing bs (Some x) f e n = cc
 

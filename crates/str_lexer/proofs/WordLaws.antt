@@ -16,7 +16,12 @@ use Rattle.str_lexer.proofs.RunLaws.{run_taken, run_same}
 use Rattle.str_lexer.proofs.ByteLaws.{heads}
 
 abbrev pub all_reserved : List Reserved
-all_reserved = Wildcard ∷ (Keyword K.Signature) ∷ (Keyword K.Sorts) ∷ (Keyword K.Constructors) ∷ (Keyword K.Rules) ∷ (Keyword K.Strategies) ∷ (Keyword K.Id) ∷ (Keyword K.Fail) ∷ (Keyword K.Where) ∷ (Keyword K.Not) ∷ (Keyword K.If) ∷ (Keyword K.Then) ∷ (Keyword K.Else) ∷ (Keyword K.End) ∷ (Keyword K.All) ∷ (Keyword K.One) ∷ (Keyword K.Some) ∷ (Keyword K.Rec) ∷ (Keyword K.Let) ∷ (Keyword K.In) ∷ (Keyword K.Prim) ∷ (LeftOut L.Module) ∷ (LeftOut L.Imports) ∷ (LeftOut L.Overlays) ∷ (LeftOut L.With) ∷ (LeftOut L.Switch) ∷ (LeftOut L.Case) ∷ (LeftOut L.Otherwise) ∷ (LeftOut L.External) ∷ []
+all_reserved = Wildcard ∷ (Keyword K.Signature) ∷ (Keyword K.Sorts) ∷ (Keyword K.Constructors) ∷ (Keyword K.Rules) ∷
+    (Keyword K.Strategies) ∷ (Keyword K.Id) ∷ (Keyword K.Fail) ∷ (Keyword K.Where) ∷ (Keyword K.Not) ∷ (Keyword K.If) ∷
+    (Keyword K.Then) ∷ (Keyword K.Else) ∷ (Keyword K.End) ∷ (Keyword K.All) ∷ (Keyword K.One) ∷ (Keyword K.Some) ∷
+    (Keyword K.Rec) ∷ (Keyword K.Let) ∷ (Keyword K.In) ∷ (Keyword K.Prim) ∷ (LeftOut L.Module) ∷ (LeftOut L.Imports) ∷
+    (LeftOut L.Overlays) ∷ (LeftOut L.With) ∷ (LeftOut L.Switch) ∷ (LeftOut L.Case) ∷ (LeftOut L.Otherwise) ∷
+    (LeftOut L.External) ∷ []
 
 -- the word of these bytes, the first that stands in the list
 find : List Reserved → List ℕ → Reserved
@@ -74,7 +79,8 @@ words_of b =
     if b == 111 then (Keyword K.One) ∷ (LeftOut L.Overlays) ∷ (LeftOut L.Otherwise) ∷ [] else
     if b == 112 then (Keyword K.Prim) ∷ [] else
     if b == 114 then (Keyword K.Rules) ∷ (Keyword K.Rec) ∷ [] else
-    if b == 115 then (Keyword K.Signature) ∷ (Keyword K.Sorts) ∷ (Keyword K.Strategies) ∷ (Keyword K.Some) ∷ (LeftOut L.Switch) ∷ [] else
+    if b == 115 then (Keyword K.Signature) ∷ (Keyword K.Sorts) ∷ (Keyword K.Strategies) ∷ (Keyword K.Some) ∷
+    (LeftOut L.Switch) ∷ [] else
     if b == 116 then (Keyword K.Then) ∷ [] else
     if b == 119 then (Keyword K.Where) ∷ (LeftOut L.With) ∷ [] else
     []
@@ -119,12 +125,15 @@ first_is_first : (b : ℕ) (rest bs : List ℕ) → bs ≡ b ∷ rest → first_
 unfolding first_of
 first_is_first b rest bs e = rw e refl
 
-pub among : (b c : ℕ) (rs : List Reserved) → b ≡ c → rs ≡ words_of c → (r : Reserved) (rest : List ℕ) → reserved_bytes r ≡ b ∷ rest → IsAmong r rs
-among b c rs d e r rest f = rw e (subst (λ x. IsAmong r (words_of x)) (first_is_first b rest (reserved_bytes r) f ∙ d) (own r))
+pub among : (b c : ℕ) (rs : List Reserved) → b ≡ c → rs ≡ words_of c → (r : Reserved) (rest : List ℕ) →
+    reserved_bytes r ≡ b ∷ rest → IsAmong r rs
+among b c rs d e r rest f = rw e
+    (subst (λ x. IsAmong r (words_of x)) (first_is_first b rest (reserved_bytes r) f ∙ d) (own r))
 
 -- ---- the word that bytes begin with
 
-word_taken : (bs : List ℕ) (n end : ℕ) → first_is begins_name bs ≡ true → n ≡ run_length goes_on (drop 1 bs) → end ≡ 1 + n → IsWord (take end bs) (drop end bs)
+word_taken : (bs : List ℕ) (n end : ℕ) → first_is begins_name bs ≡ true → n ≡ run_length goes_on (drop 1 bs) →
+    end ≡ 1 + n → IsWord (take end bs) (drop end bs)
 word_taken [] n end f e g = cc
 word_taken (b ∷ bs) n zero f e g = absurd (omega arith)
 word_taken (b ∷ bs) n (suc m) f e g = (f, run_taken goes_on refl bs m (omega arith))
@@ -134,7 +143,8 @@ reserved_token Wildcard bs rest i = i
 reserved_token (Keyword k) bs rest i = i
 reserved_token (LeftOut w) bs rest i = i
 
-module _ (bs : List ℕ) (n end : ℕ) (f : first_is begins_name bs ≡ true) (e : n ≡ run_length goes_on (drop 1 bs)) (g : end ≡ 1 + n) where
+module _ (bs : List ℕ) (n end : ℕ) (f : first_is begins_name bs ≡ true) (e : n ≡ run_length goes_on (drop 1 bs))
+    (g : end ≡ 1 + n) where
   pub found_reserved : (r : Reserved) → reserved_bytes r ≡ take end bs → BeginsToken (kind_of r) bs (drop end bs)
   found_reserved r h = record {
     written = take end bs;

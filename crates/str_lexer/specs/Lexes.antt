@@ -102,7 +102,8 @@ pub record HoldsLeftOut (text : List ℕ) : Type 0 where
   pub only : OnlyTokens text tokens
   pub holds : holds_left_out tokens ≡ true
 
--- what reading a text returns: the tokens; Lexical where there are none; ReservedWord where they hold a word of a left-out part
+-- what reading a text returns: the tokens; Lexical where there are none; ReservedWord where they hold a word of a
+-- left-out part
 abbrev pub IsLexing : List ℕ → Result (Vec Token Global) Fault → Type 0
 IsLexing text (Ok ts) = OnlyTokens text ts.items × (holds_left_out ts.items ≡ false)
 IsLexing text (Err faults.Memory) = Unit {0}

@@ -1,3 +1,4 @@
+-- The headline does not rest on this file.
 -- What the parts of the lexer read at the front of bytes.
 use Rattle.std.specs.Prelude.{◌≡◌, ◌<◌, get_or, length, ℕ, ℤ, ◌+◌, Bool, true, false, ◌||◌, ◌==◌, if◌then◌else◌, List, [], ◌∷◌, ◌++◌, Option, Some, None, Result, Ok, Err}
 use Rattle.std.specs.Borrow.{Bor}
@@ -153,7 +154,8 @@ abbrev pub IsSearch : List Token → Option ℕ → Type 0
 IsSearch ts (Some _) = holds_left_out ts ≡ true
 IsSearch ts None = holds_left_out ts ≡ false
 
--- what cutting a text into tokens returns: the tokens, and whether they hold a word of a left-out part; or Lexical where there are none
+-- what cutting a text into tokens returns: the tokens, and whether they hold a word of a left-out part; or Lexical
+-- where there are none
 abbrev pub IsCutting : List ℕ → Result (Vec Token Global × Option ℕ) Fault → Type 0
 IsCutting text (Ok (ts, found)) = OnlyTokens text ts.items × IsSearch ts.items found
 IsCutting text (Err faults.Memory) = Unit {0}

@@ -1,10 +1,10 @@
-// What stands between tokens.
+//! What stands between tokens.
 ghost use Rattle.str_lexer.specs.Readings.{IsGapRead};
 
 use crate::runs::{after_comment, line_length};
 use term_model::bytes::is_blank_byte;
 
-// The bytes after the blank or the comment that the bytes begin with.
+/// The bytes after the blank or the comment that the bytes begin with.
 pub(crate) fn gap<'a>(text: &'a [u8]) -> Option<&'a [u8]>
     ensures { IsGapRead text.now result }
 {

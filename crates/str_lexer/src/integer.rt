@@ -1,4 +1,4 @@
-// Integers.
+//! Integers.
 ghost use Rattle.std.specs.Prelude.{true, false, ◌≡◌, ℕ, ◌≤◌, ◌^◌, ◌<◌, MatchOption, length};
 ghost use Rattle.term_model.specs.Limits.{max_magnitude};
 ghost use Rattle.term_model.specs.Bytes.{is_digit, value_from};
@@ -17,7 +17,7 @@ fn begins_digit(text: &[u8]) -> bool
     is_digit_byte(*first)
 }
 
-// Whether the bytes begin with a digit, or with a sign and a digit.
+/// Whether the bytes begin with a digit, or with a sign and a digit.
 pub(crate) fn begins(text: &[u8]) -> bool
     ensures { result ≡ begins_integer text.now }
 {
@@ -30,10 +30,11 @@ pub(crate) fn begins(text: &[u8]) -> bool
     is_digit_byte(*first)
 }
 
-// The magnitude that the digits spell, unless no integer of this sign has it.
+/// The magnitude that the digits spell, unless no integer of this sign has it.
 fn magnitude(negative: bool, digits: &[u8]) -> Option<u64>
     requires { run_length (first_is is_digit) digits.now ≡ length digits.now }
-    ensures { MatchOption result (max_magnitude negative < value_from 0 digits.now) (λ n. (n ≡ value_from 0 digits.now) × (n ≤ max_magnitude negative)) }
+    ensures { MatchOption result (max_magnitude negative < value_from 0 digits.now)
+        (λ n. (n ≡ value_from 0 digits.now) × (n ≤ max_magnitude negative)) }
 {
     let mut value = 0;
     for digit in digits {
@@ -45,7 +46,7 @@ fn magnitude(negative: bool, digits: &[u8]) -> Option<u64>
     Some(value)
 }
 
-// The integer that the bytes begin with after its sign, and the bytes after it.
+/// The integer that the bytes begin with after its sign, and the bytes after it.
 fn unsigned<'a>(negative: bool, text: &'a [u8]) -> Option<(i64, &'a [u8])>
     requires { first_is is_digit text.now ≡ true }
     ensures { IsSignedRead negative text.now result }
@@ -58,7 +59,7 @@ fn unsigned<'a>(negative: bool, text: &'a [u8]) -> Option<(i64, &'a [u8])>
     Some((signed(negative, value), rest))
 }
 
-// The integer that the bytes begin with, and the bytes after it.
+/// The integer that the bytes begin with, and the bytes after it.
 pub(crate) fn integer<'a>(text: &'a [u8]) -> Option<(i64, &'a [u8])>
     requires { begins_integer text.now ≡ true }
     ensures { IsIntegerRead text.now result }

@@ -1,4 +1,4 @@
-// Tokens from bytes, in one pass.
+//! Tokens from bytes, in one pass.
 ghost use Rattle.std.specs.Prelude.{true, ◌≡◌, ◌==◌, List, [], ◌∷◌, ◌++◌, IfOk};
 ghost use Rattle.str_lexer.specs.declared.token.Token.{Token};
 ghost use Rattle.str_lexer.specs.Tokens.{first_is};
@@ -8,13 +8,13 @@ ghost use Rattle.str_lexer.specs.Readings.{begins_integer, IsTokenRead, IsCuttin
 use crate::gap::gap;
 use crate::integer;
 use crate::mark::mark;
-use crate::quoted::quoted;
+use crate::quoted::quoted_text;
 use crate::token::{Token, TokenKind};
 use crate::word::word;
 use std::alloc::{AllocError, Global};
 use term_model::{Fault, symbol};
 
-// The integer that the bytes begin with, and the bytes after it.
+/// The integer that the bytes begin with, and the bytes after it.
 fn integer_token<'a>(text: &'a [u8]) -> Option<(TokenKind, &'a [u8])>
     requires { begins_integer text.now ≡ true }
     ensures { IsTokenRead text.now result }
@@ -25,7 +25,7 @@ fn integer_token<'a>(text: &'a [u8]) -> Option<(TokenKind, &'a [u8])>
     Some((TokenKind::Integer(value), rest))
 }
 
-// The quoted text that the bytes begin with, and the bytes after it.
+/// The quoted text that the bytes begin with, and the bytes after it.
 fn quoted_token<'a>(
     alloc: Global,
     text: &'a [u8],
@@ -33,13 +33,13 @@ fn quoted_token<'a>(
     requires { first_is (λ b. b == 34) text.now ≡ true }
     ensures { IfOk result (λ found. IsTokenRead text.now found) }
 {
-    let Some((value, rest)) = quoted(alloc, text)? else {
+    let Some((value, rest)) = quoted_text(alloc, text)? else {
         return Ok(None);
     };
     Ok(Some((TokenKind::Quoted(value), rest)))
 }
 
-// The token that the bytes begin with, and the bytes after it.
+/// The token that the bytes begin with, and the bytes after it.
 fn token<'a>(alloc: Global, text: &'a [u8]) -> Result<Option<(TokenKind, &'a [u8])>, AllocError>
     ensures { IfOk result (λ found. IsTokenRead text.now found) }
 {
@@ -67,7 +67,7 @@ fn is_left_out(token: &Token) -> bool
     matches!(token.kind, TokenKind::LeftOut(_))
 }
 
-// Where the first word of a left-out part stands, once this token comes after others.
+/// Where the first word of a left-out part stands, once this token comes after others.
 fn first_left_out(before: Option<usize>, token: &Token) -> Option<usize>
     ensures { (ts : List Token) → IsSearch ts before → IsSearch (ts ++ (token.now ∷ [])) result }
 {
@@ -78,7 +78,7 @@ fn first_left_out(before: Option<usize>, token: &Token) -> Option<usize>
     }
 }
 
-// The tokens that the bytes are, the words of left-out parts among them, and where the first such word stands.
+/// The tokens that the bytes are, the words of left-out parts among them, and where the first such word stands.
 fn cut(alloc: Global, text: &[u8]) -> Result<(Vec<Token>, Option<usize>), Fault>
     ensures { IsCutting text.now result }
 {

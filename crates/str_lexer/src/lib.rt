@@ -5,7 +5,7 @@ mod gap;
 mod integer;
 pub mod lexer;
 mod mark;
-mod quoted;
+pub mod quoted;
 mod runs;
 pub mod token;
 mod word;

@@ -1,10 +1,10 @@
-// The marks.
+//! The marks.
 ghost use Rattle.std.specs.Prelude.{false, ◌≡◌};
 ghost use Rattle.str_lexer.specs.Readings.{begins_longer, IsMarkRead, IsByteRead, IsShortMark};
 
 use crate::token::Mark;
 
-// The bytes after this one, if they begin with it.
+/// The bytes after this one, if they begin with it.
 pub(crate) fn after_byte<'a>(byte: u8, text: &'a [u8]) -> Option<&'a [u8]>
     ensures { IsByteRead byte text.now result }
 {
@@ -15,7 +15,7 @@ pub(crate) fn after_byte<'a>(byte: u8, text: &'a [u8]) -> Option<&'a [u8]>
     Some(others)
 }
 
-// The mark of this byte alone.
+/// The mark of this byte alone.
 fn short_mark(byte: u8) -> Option<Mark>
     requires { begins_longer byte ≡ false }
     ensures { IsShortMark byte result }
@@ -42,7 +42,7 @@ fn short_mark(byte: u8) -> Option<Mark>
     }
 }
 
-// The mark that the bytes begin with, the longest, and the bytes after it.
+/// The mark that the bytes begin with, the longest, and the bytes after it.
 pub(crate) fn mark<'a>(text: &'a [u8]) -> Option<(Mark, &'a [u8])>
     ensures { IsMarkRead text.now result }
 {

@@ -1,4 +1,4 @@
-// Quoted texts.
+//! Quoted texts.
 ghost use Rattle.std.specs.Prelude.{true, ◌≡◌, ◌==◌, IfOk};
 ghost use Rattle.str_lexer.specs.Tokens.{first_is};
 ghost use Rattle.str_lexer.specs.Readings.{IsItemRead, IsEscapeRead, IsOctalRead, IsQuotedRead};
@@ -7,7 +7,7 @@ use crate::token::QuotedText;
 use std::alloc::{AllocError, Global};
 use term_model::bytes::{is_octal_byte, unescaped};
 
-// The byte of three octal digits, and the bytes after them.
+/// The byte of three octal digits, and the bytes after them.
 fn octal<'a>(text: &'a [u8]) -> Option<(u8, &'a [u8])>
     ensures { IsOctalRead text.now result }
 {
@@ -24,8 +24,8 @@ fn octal<'a>(text: &'a [u8]) -> Option<(u8, &'a [u8])>
     Some((byte, rest))
 }
 
-// The byte that stands after a backslash, and the bytes after what spells it.
-fn escaped<'a>(text: &'a [u8]) -> Option<(u8, &'a [u8])>
+/// The byte that stands after a backslash, and the bytes after what spells it.
+fn escape<'a>(text: &'a [u8]) -> Option<(u8, &'a [u8])>
     ensures { IsEscapeRead text.now result }
 {
     let (first, others) = text.split_first()?;
@@ -35,13 +35,14 @@ fn escaped<'a>(text: &'a [u8]) -> Option<(u8, &'a [u8])>
     Some((byte, others))
 }
 
-// The byte that the first item of a quoted text stands for, and the bytes after the item.
-fn item<'a>(text: &'a [u8]) -> Option<(u8, &'a [u8])>
+/// Returns the byte that the first item of a quoted text stands for, and the bytes after the item. An item is a byte as it is, a backslash with
+/// a letter, or a backslash with three octal digits. `None` if the bytes begin with none, as at a quote or a line feed.
+pub fn item<'a>(text: &'a [u8]) -> Option<(u8, &'a [u8])>
     ensures { IsItemRead text.now result }
 {
     let (first, others) = text.split_first()?;
     if *first == b'\\' {
-        return escaped(others);
+        return escape(others);
     }
     if *first == b'"' || *first == b'\n' {
         return None;
@@ -49,8 +50,8 @@ fn item<'a>(text: &'a [u8]) -> Option<(u8, &'a [u8])>
     Some((*first, others))
 }
 
-// The quoted text that the bytes begin with, and the bytes after it.
-pub(crate) fn quoted<'a>(
+/// The quoted text that the bytes begin with, and the bytes after it.
+pub(crate) fn quoted_text<'a>(
     alloc: Global,
     text: &'a [u8],
 ) -> Result<Option<(QuotedText, &'a [u8])>, AllocError>

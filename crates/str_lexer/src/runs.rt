@@ -1,4 +1,4 @@
-// Classes of bytes, and how long a run of them is.
+//! Classes of bytes, and how long a run of them is.
 ghost use Rattle.std.specs.Prelude.{◌≡◌, ◌≤◌, ◌==◌, length};
 ghost use Rattle.term_model.specs.Bytes.{is_digit};
 ghost use Rattle.term_model.specs.Symbol.{begins_name};
@@ -24,7 +24,7 @@ fn begins_greater(text: &[u8]) -> bool
     *first == b'>'
 }
 
-// Whether a word goes on with the first of these bytes.
+/// Whether a word goes on with the first of these bytes.
 fn goes_on(text: &[u8]) -> bool
     ensures { result ≡ word_goes_on text.now }
 {
@@ -37,7 +37,7 @@ fn goes_on(text: &[u8]) -> bool
     continues(*first)
 }
 
-// How many bytes a word goes on with.
+/// How many bytes a word goes on with.
 pub(crate) fn word_length(text: &[u8]) -> usize
     ensures counts { result ≡ run_length word_goes_on text.now }
     ensures within { result ≤ length text.now }
@@ -50,7 +50,7 @@ pub(crate) fn word_length(text: &[u8]) -> usize
     text.len()
 }
 
-// How many digits the bytes begin with.
+/// How many digits the bytes begin with.
 pub(crate) fn digit_count(text: &[u8]) -> usize
     ensures counts { result ≡ run_length (first_is is_digit) text.now }
     ensures within { result ≤ length text.now }
@@ -69,7 +69,7 @@ fn is_on_line(byte: u8) -> bool
     byte != b'\n'
 }
 
-// How many bytes stand before the end of the line.
+/// How many bytes stand before the end of the line.
 pub(crate) fn line_length(text: &[u8]) -> usize
     ensures counts { result ≡ run_length (first_is stays_on_line) text.now }
     ensures within { result ≤ length text.now }
@@ -82,14 +82,14 @@ pub(crate) fn line_length(text: &[u8]) -> usize
     text.len()
 }
 
-// The bytes after `*/`, if they begin with it.
+/// The bytes after `*/`, if they begin with it.
 fn after_close<'a>(text: &'a [u8]) -> Option<&'a [u8]>
     ensures { IsCloseAt text.now result }
 {
     after_byte(b'/', after_byte(b'*', text)?)
 }
 
-// The bytes after the first `*/`, if there is one.
+/// The bytes after the first `*/`, if there is one.
 pub(crate) fn after_comment<'a>(text: &'a [u8]) -> Option<&'a [u8]>
     ensures { IsCloseRead text.now result }
 {

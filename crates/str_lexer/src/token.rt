@@ -1,5 +1,6 @@
-// The tokens of definition files.
-ghost use Rattle.std.specs.Prelude.{◌≡◌, IfOk};
+//! The tokens of definition files.
+ghost use Rattle.std.specs.Prelude.{◌≡◌};
+ghost use Rattle.term_model.specs.Results.{Returns};
 
 use std::alloc::{AllocError, Global};
 use std::marker::Model;
@@ -7,7 +8,7 @@ use std::marker::Model;
 /// The bytes that a quoted text stands for.
 #[derive(Drop)]
 pub struct QuotedText {
-    // In a box, as tokens of other kinds are small.
+    /// In a box, as tokens of other kinds are small.
     bytes: Box<Vec<u8>>,
 }
 
@@ -20,9 +21,9 @@ impl Model for QuotedText {
 }
 
 impl QuotedText {
-    // The text of these bytes.
+    /// The text of these bytes.
     pub(crate) fn new(alloc: Global, bytes: Vec<u8>) -> Result<QuotedText, AllocError>
-        ensures { IfOk result (λ text. text ≡ bytes.items) }
+        ensures { Returns result bytes.items }
     {
         Ok(QuotedText {
             bytes: Box::new(alloc, bytes)?,

@@ -1,4 +1,4 @@
-// The words: those that are no names, and names.
+//! The words: those that are no names, and names.
 ghost use Rattle.std.specs.Prelude.{true, ◌≡◌, ℕ, List, ◌∷◌, MatchOption};
 ghost use Rattle.term_model.specs.Symbol.{begins_name};
 ghost use Rattle.str_lexer.specs.Tokens.{first_is};
@@ -8,7 +8,7 @@ ghost use Rattle.str_lexer.specs.Readings.{IsAmong, BeginsToken};
 use crate::runs::word_length;
 use crate::token::{Keyword, LeftOut, TokenKind};
 
-// A word that is no name.
+/// A word that is no name.
 #[derive(Clone, Copy)]
 pub(crate) enum Reserved {
     Wildcard,
@@ -16,7 +16,7 @@ pub(crate) enum Reserved {
     LeftOut(LeftOut),
 }
 
-// The words that are no names, where more than one begins with a letter.
+/// The words that are no names, where more than one begins with a letter.
 const BEGINNING_WITH_C: &[Reserved] = &[
     Reserved::Keyword(Keyword::Constructors),
     Reserved::LeftOut(LeftOut::Case),
@@ -59,7 +59,7 @@ const BEGINNING_WITH_W: &[Reserved] = &[
     Reserved::LeftOut(LeftOut::With),
 ];
 
-// The bytes of the keyword.
+/// The bytes of the keyword.
 fn bytes_of_keyword(keyword: Keyword) -> &'static [u8]
     ensures { result.now ≡ keyword_bytes keyword }
 {
@@ -87,7 +87,7 @@ fn bytes_of_keyword(keyword: Keyword) -> &'static [u8]
     }
 }
 
-// The bytes of the word.
+/// The bytes of the word.
 fn bytes_of_left_out(word: LeftOut) -> &'static [u8]
     ensures { result.now ≡ left_out_bytes word }
 {
@@ -104,7 +104,7 @@ fn bytes_of_left_out(word: LeftOut) -> &'static [u8]
 }
 
 impl Reserved {
-    // The bytes of the word.
+    /// The bytes of the word.
     fn bytes(self) -> &'static [u8]
         ensures { result.now ≡ reserved_bytes self }
     {
@@ -115,7 +115,7 @@ impl Reserved {
         }
     }
 
-    // The kind of token that the word is.
+    /// The kind of token that the word is.
     fn kind(self) -> TokenKind
         ensures { result ≡ kind_of self }
     {
@@ -127,9 +127,10 @@ impl Reserved {
     }
 }
 
-// The words that are no names and begin with this byte.
+/// The words that are no names and begin with this byte.
 fn beginning_with(first: u8) -> &'static [Reserved]
-    ensures { (r : Reserved) (rest : List ℕ) → reserved_bytes r ≡ first ∷ rest → IsAmong r result.now }
+    ensures { (r : Reserved) (rest : List ℕ) → reserved_bytes r ≡ first ∷ rest →
+        IsAmong r result.now }
 {
     match first {
         b'_' => &[Reserved::Wildcard],
@@ -151,9 +152,10 @@ fn beginning_with(first: u8) -> &'static [Reserved]
     }
 }
 
-// The word that these bytes are, unless they are a name.
+/// The word that these bytes are, unless they are a name.
 fn reserved_word(bytes: &[u8]) -> Option<Reserved>
-    ensures { MatchOption result ((r : Reserved) → reserved_bytes r ≡ bytes.now → ⊥) (λ r. reserved_bytes r ≡ bytes.now) }
+    ensures { MatchOption result ((r : Reserved) → reserved_bytes r ≡ bytes.now →
+        ⊥) (λ r. reserved_bytes r ≡ bytes.now) }
 {
     let (first, _) = bytes.split_first()?;
     for reserved in beginning_with(*first) {
@@ -164,7 +166,7 @@ fn reserved_word(bytes: &[u8]) -> Option<Reserved>
     None
 }
 
-// The word that the bytes begin with, and the bytes after it.
+/// The word that the bytes begin with, and the bytes after it.
 pub(crate) fn word<'a>(text: &'a [u8]) -> (TokenKind, &'a [u8])
     requires { first_is begins_name text.now ≡ true }
     ensures { BeginsToken result.0 text.now result.1.now }

@@ -6,7 +6,8 @@ use Rattle.str_parser.specs.Lexemes.{Lexeme, strategy_part, first_begins}
 use Rattle.str_parser.specs.Items.{Item, either, Runs}
 use Rattle.str_parser.specs.Phrases.{pattern_part, pattern, strategy, sequence, step, primary}
 
-primary_begins : (k : ℕ) (u : PrimaryTree) (is : List Item) (ts : List Lexeme) → Runs either (primary k u is) ts → first_begins strategy_part ts ≡ true
+primary_begins : (k : ℕ) (u : PrimaryTree) (is : List Item) (ts : List Lexeme) → Runs either (primary k u is) ts →
+    first_begins strategy_part ts ≡ true
 primary_begins k identity is (t ∷ ts) r = rw r.0 refl
 primary_begins k failure is (t ∷ ts) r = rw r.0 refl
 primary_begins k (match p) is (t ∷ ts) r = rw r.0 refl
@@ -36,20 +37,24 @@ primary_begins k (tuple_congruence ss) is [] r = absurd r.1
 primary_begins k (list_congruence ss (one_strategy s)) is [] r = absurd r.1
 primary_begins k _ is [] r = absurd r
 
-step_begins : (k : ℕ) (u : StepTree) (is : List Item) (ts : List Lexeme) → Runs either (step k u is) ts → first_begins strategy_part ts ≡ true
+step_begins : (k : ℕ) (u : StepTree) (is : List Item) (ts : List Lexeme) → Runs either (step k u is) ts →
+    first_begins strategy_part ts ≡ true
 step_begins k (plain_step a) is ts r = primary_begins k a _ ts r
 step_begins k (matching a p) is ts r = primary_begins k a _ ts r
 
-pub sequence_begins : (k : ℕ) (u : SequenceTree) (is : List Item) (ts : List Lexeme) → Runs either (sequence k u is) ts → first_begins strategy_part ts ≡ true
+pub sequence_begins : (k : ℕ) (u : SequenceTree) (is : List Item) (ts : List Lexeme) →
+    Runs either (sequence k u is) ts → first_begins strategy_part ts ≡ true
 sequence_begins k (last a) is ts r = step_begins k a _ ts r
 sequence_begins k (then a q) is ts r = step_begins k a _ ts r
 
-pub strategy_begins : (k : ℕ) (u : StrategyTree) (is : List Item) (ts : List Lexeme) → Runs either (strategy k u is) ts → first_begins strategy_part ts ≡ true
+pub strategy_begins : (k : ℕ) (u : StrategyTree) (is : List Item) (ts : List Lexeme) →
+    Runs either (strategy k u is) ts → first_begins strategy_part ts ≡ true
 strategy_begins k (plain_sequence q) is ts r = sequence_begins k q _ ts r
 strategy_begins k (left_choice q s) is ts r = sequence_begins k q _ ts r
 strategy_begins k (guarded_choice q s t) is ts r = sequence_begins k q _ ts r
 
-pub pattern_begins : (in_match : Bool) (k : ℕ) (u : PatternTree) (is : List Item) (ts : List Lexeme) → Runs either (pattern in_match k u is) ts → first_begins (pattern_part in_match) ts ≡ true
+pub pattern_begins : (in_match : Bool) (k : ℕ) (u : PatternTree) (is : List Item) (ts : List Lexeme) →
+    Runs either (pattern in_match k u is) ts → first_begins (pattern_part in_match) ts ≡ true
 pattern_begins true k (variable x) is (t ∷ ts) r = rw r.0 refl
 pattern_begins true k wildcard is (t ∷ ts) r = rw r.0 refl
 pattern_begins true k (alias x p) is (t ∷ ts) r = rw r.0 refl

@@ -33,7 +33,10 @@ top_no_where (strategy_form (definition (head x ps) s)) is = λ t rest w. ap is_
 -- after one stands another, or what comes after all
 pub tops_follow : Follows one_top EndsRule EndsForms
 tops_follow [] is h = h.0
-tops_follow (d ∷ ds) is h = (top_at_most d.form (several one_top ds is), λ t rest w. top_no_where d.form (several one_top ds is) t rest w.1)
+tops_follow (d ∷ ds) is h = (
+  top_at_most d.form (several one_top ds is),
+  λ t rest w. top_no_where d.form (several one_top ds is) t rest w.1,
+)
 
 -- with a name another one comes
 pub name_goes_on : (rest : List Lexeme) → begins_name rest ≡ true → GoesOn EndsForms rest
@@ -47,99 +50,125 @@ begins_by_name (strategy_form (definition (head x ps) s)) is [] w = absurd w
 begins_by_name (strategy_form (definition (head x ps) s)) is (t ∷ ts) w = ap is_name w.0
 
 -- with no name none comes
-pub no_top : (rest : List Lexeme) → begins_name rest ≡ false → (u : TopTree) (is : List Item) → Runs either (one_top u is) rest → ⊥
+pub no_top : (rest : List Lexeme) → begins_name rest ≡ false → (u : TopTree) (is : List Item) →
+    Runs either (one_top u is) rest → ⊥
 no_top rest e u is w = let f = begins_by_name u.form is rest w.1 in cc
 
 -- ---- sections
 
 -- a test that no section's keyword passes, nothing after a section passes
-pub inside_only : (test : Lexeme → Bool) → test (keyword K.Signature) ≡ false → test (keyword K.Rules) ≡ false → test (keyword K.Strategies) ≡ false → (t : Lexeme) → is_inside t ≡ false → test t ≡ false
+pub inside_only : (test : Lexeme → Bool) → test (keyword K.Signature) ≡ false → test (keyword K.Rules) ≡ false →
+    test (keyword K.Strategies) ≡ false → (t : Lexeme) → is_inside t ≡ false → test t ≡ false
 inside_only test a b c (keyword K.Signature) e = a
 inside_only test a b c (keyword K.Rules) e = b
 inside_only test a b c (keyword K.Strategies) e = c
 inside_only test a b c _ e = cc
 
-pub section_stops : (test : Lexeme → Bool) → test (keyword K.Signature) ≡ false → test (keyword K.Rules) ≡ false → test (keyword K.Strategies) ≡ false → (is : List Item) → EndsSection is → NoneOf test is
+pub section_stops : (test : Lexeme → Bool) → test (keyword K.Signature) ≡ false → test (keyword K.Rules) ≡ false →
+    test (keyword K.Strategies) ≡ false → (is : List Item) → EndsSection is → NoneOf test is
 section_stops test a b c is h t rest w = inside_only test a b c t (h.1 t rest w)
 
 forms_end : (is : List Item) → EndsSection is → EndsForms is
 forms_end is h = ((h.0, section_stops is_where refl refl refl is h), section_stops is_name refl refl refl is h)
 
-signature_only : (Stops : List Item → Type 0) (ps : List SignatureTree) (ts rest : List Lexeme) → ((is : List Item) → EndsSection is → Stops is) → FoundAny signature_parts Stops ts ps rest → (u : SectionTree) (is : List Item) → EndsSection is → Runs either (section u is) (keyword K.Signature ∷ ts) → (u ≡ signature ps) × Runs either is rest
-signature_only Stops ps ts rest ends f (signature qs) is h w = let o = f.only_one qs is (ends is h) w.1 in (ap signature o.0, o.1)
+signature_only : (Stops : List Item → Type 0) (ps : List SignatureTree) (ts rest : List Lexeme) →
+    ((is : List Item) → EndsSection is → Stops is) → FoundAny signature_parts Stops ts ps rest →
+    (u : SectionTree) (is : List Item) → EndsSection is → Runs either (section u is) (keyword K.Signature ∷ ts) →
+    (u ≡ signature ps) × Runs either is rest
+signature_only Stops ps ts rest ends f (signature qs) is h w = let o = f.only_one qs is (ends is h) w.1 in
+    (ap signature o.0, o.1)
 signature_only Stops ps ts rest ends f (rules ds) is h w = let e = w.0 in cc
 signature_only Stops ps ts rest ends f (strategies ds) is h w = let e = w.0 in cc
 
-pub signature_found : (Stops : List Item → Type 0) (ps : List SignatureTree) (ts rest : List Lexeme) → ((is : List Item) → EndsSection is → Stops is) → FoundAny signature_parts Stops ts ps rest → Found section EndsSection (keyword K.Signature ∷ ts) (signature ps) rest
+pub signature_found : (Stops : List Item → Type 0) (ps : List SignatureTree) (ts rest : List Lexeme) →
+    ((is : List Item) → EndsSection is → Stops is) → FoundAny signature_parts Stops ts ps rest →
+    Found section EndsSection (keyword K.Signature ∷ ts) (signature ps) rest
 signature_found Stops ps ts rest ends f = record {
   sound = λ way is w. (refl, f.sound way is w);
   only_one = signature_only Stops ps ts rest ends f;
   shorter = let a = f.no_longer in omega arith;
 }
 
-no_signature : (Stops : List Item → Type 0) (ts : List Lexeme) → ((is : List Item) → EndsSection is → Stops is) → Missing signature_parts Stops ts → (u : SectionTree) (is : List Item) → EndsSection is → Runs either (section u is) (keyword K.Signature ∷ ts) → ⊥
+no_signature : (Stops : List Item → Type 0) (ts : List Lexeme) → ((is : List Item) → EndsSection is → Stops is) →
+    Missing signature_parts Stops ts → (u : SectionTree) (is : List Item) → EndsSection is →
+    Runs either (section u is) (keyword K.Signature ∷ ts) → ⊥
 no_signature Stops ts ends m (signature qs) is h w = m.none qs is (ends is h) w.1
 no_signature Stops ts ends m (rules ds) is h w = let e = w.0 in cc
 no_signature Stops ts ends m (strategies ds) is h w = let e = w.0 in cc
 
-pub signature_missing : (Stops : List Item → Type 0) (ts : List Lexeme) → ((is : List Item) → EndsSection is → Stops is) → Missing signature_parts Stops ts → Missing section EndsSection (keyword K.Signature ∷ ts)
+pub signature_missing : (Stops : List Item → Type 0) (ts : List Lexeme) →
+    ((is : List Item) → EndsSection is → Stops is) → Missing signature_parts Stops ts →
+    Missing section EndsSection (keyword K.Signature ∷ ts)
 signature_missing Stops ts ends m = record { none = no_signature Stops ts ends m }
 
 pub signature_nested : (ts : List Lexeme) → Nested signature_parts ts → Nested section (keyword K.Signature ∷ ts)
 signature_nested ts n = record { tree = signature n.tree; runs = λ is. (refl, n.runs is) }
 
-rules_only : (ds : List TopTree) (ts rest : List Lexeme) → FoundAny top_forms EndsForms ts ds rest → (u : SectionTree) (is : List Item) → EndsSection is → Runs either (section u is) (keyword K.Rules ∷ ts) → (u ≡ rules ds) × Runs either is rest
+rules_only : (ds : List TopTree) (ts rest : List Lexeme) → FoundAny top_forms EndsForms ts ds rest →
+    (u : SectionTree) (is : List Item) → EndsSection is → Runs either (section u is) (keyword K.Rules ∷ ts) →
+    (u ≡ rules ds) × Runs either is rest
 rules_only ds ts rest f (signature qs) is h w = let e = w.0 in cc
 rules_only ds ts rest f (rules es) is h w = let o = f.only_one es is (forms_end is h) w.1 in (ap rules o.0, o.1)
 rules_only ds ts rest f (strategies es) is h w = let e = w.0 in cc
 
-pub rules_found : (ds : List TopTree) (ts rest : List Lexeme) → FoundAny top_forms EndsForms ts ds rest → Found section EndsSection (keyword K.Rules ∷ ts) (rules ds) rest
+pub rules_found : (ds : List TopTree) (ts rest : List Lexeme) → FoundAny top_forms EndsForms ts ds rest →
+    Found section EndsSection (keyword K.Rules ∷ ts) (rules ds) rest
 rules_found ds ts rest f = record {
   sound = λ way is w. (refl, f.sound way is w);
   only_one = rules_only ds ts rest f;
   shorter = let a = f.no_longer in omega arith;
 }
 
-no_rules : (ts : List Lexeme) → Missing top_forms EndsForms ts → (u : SectionTree) (is : List Item) → EndsSection is → Runs either (section u is) (keyword K.Rules ∷ ts) → ⊥
+no_rules : (ts : List Lexeme) → Missing top_forms EndsForms ts → (u : SectionTree) (is : List Item) → EndsSection is →
+    Runs either (section u is) (keyword K.Rules ∷ ts) → ⊥
 no_rules ts m (signature qs) is h w = let e = w.0 in cc
 no_rules ts m (rules es) is h w = m.none es is (forms_end is h) w.1
 no_rules ts m (strategies es) is h w = let e = w.0 in cc
 
-pub rules_missing : (ts : List Lexeme) → Missing top_forms EndsForms ts → Missing section EndsSection (keyword K.Rules ∷ ts)
+pub rules_missing : (ts : List Lexeme) → Missing top_forms EndsForms ts →
+    Missing section EndsSection (keyword K.Rules ∷ ts)
 rules_missing ts m = record { none = no_rules ts m }
 
 pub rules_nested : (ts : List Lexeme) → Nested top_forms ts → Nested section (keyword K.Rules ∷ ts)
 rules_nested ts n = record { tree = rules n.tree; runs = λ is. (refl, n.runs is) }
 
-strategies_only : (ds : List TopTree) (ts rest : List Lexeme) → FoundAny top_forms EndsForms ts ds rest → (u : SectionTree) (is : List Item) → EndsSection is → Runs either (section u is) (keyword K.Strategies ∷ ts) → (u ≡ strategies ds) × Runs either is rest
+strategies_only : (ds : List TopTree) (ts rest : List Lexeme) → FoundAny top_forms EndsForms ts ds rest →
+    (u : SectionTree) (is : List Item) → EndsSection is → Runs either (section u is) (keyword K.Strategies ∷ ts) →
+    (u ≡ strategies ds) × Runs either is rest
 strategies_only ds ts rest f (signature qs) is h w = let e = w.0 in cc
 strategies_only ds ts rest f (rules es) is h w = let e = w.0 in cc
-strategies_only ds ts rest f (strategies es) is h w = let o = f.only_one es is (forms_end is h) w.1 in (ap strategies o.0, o.1)
+strategies_only ds ts rest f (strategies es) is h w = let o = f.only_one es is (forms_end is h) w.1 in
+    (ap strategies o.0, o.1)
 
-pub strategies_found : (ds : List TopTree) (ts rest : List Lexeme) → FoundAny top_forms EndsForms ts ds rest → Found section EndsSection (keyword K.Strategies ∷ ts) (strategies ds) rest
+pub strategies_found : (ds : List TopTree) (ts rest : List Lexeme) → FoundAny top_forms EndsForms ts ds rest →
+    Found section EndsSection (keyword K.Strategies ∷ ts) (strategies ds) rest
 strategies_found ds ts rest f = record {
   sound = λ way is w. (refl, f.sound way is w);
   only_one = strategies_only ds ts rest f;
   shorter = let a = f.no_longer in omega arith;
 }
 
-no_strategies : (ts : List Lexeme) → Missing top_forms EndsForms ts → (u : SectionTree) (is : List Item) → EndsSection is → Runs either (section u is) (keyword K.Strategies ∷ ts) → ⊥
+no_strategies : (ts : List Lexeme) → Missing top_forms EndsForms ts → (u : SectionTree) (is : List Item) →
+    EndsSection is → Runs either (section u is) (keyword K.Strategies ∷ ts) → ⊥
 no_strategies ts m (signature qs) is h w = let e = w.0 in cc
 no_strategies ts m (rules es) is h w = let e = w.0 in cc
 no_strategies ts m (strategies es) is h w = m.none es is (forms_end is h) w.1
 
-pub strategies_missing : (ts : List Lexeme) → Missing top_forms EndsForms ts → Missing section EndsSection (keyword K.Strategies ∷ ts)
+pub strategies_missing : (ts : List Lexeme) → Missing top_forms EndsForms ts →
+    Missing section EndsSection (keyword K.Strategies ∷ ts)
 strategies_missing ts m = record { none = no_strategies ts m }
 
 pub strategies_nested : (ts : List Lexeme) → Nested top_forms ts → Nested section (keyword K.Strategies ∷ ts)
 strategies_nested ts n = record { tree = strategies n.tree; runs = λ is. (refl, n.runs is) }
 
-no_keyword : (ts : List Lexeme) → NotAt (keyword K.Signature) ts → NotAt (keyword K.Rules) ts → NotAt (keyword K.Strategies) ts → (u : SectionTree) (is : List Item) → Runs either (section u is) ts → ⊥
+no_keyword : (ts : List Lexeme) → NotAt (keyword K.Signature) ts → NotAt (keyword K.Rules) ts →
+    NotAt (keyword K.Strategies) ts → (u : SectionTree) (is : List Item) → Runs either (section u is) ts → ⊥
 no_keyword ts a b c (signature ps) is w = not_along (keyword K.Signature) (signature_parts ps is) ts a w
 no_keyword ts a b c (rules ds) is w = not_along (keyword K.Rules) (top_forms ds is) ts b w
 no_keyword ts a b c (strategies ds) is w = not_along (keyword K.Strategies) (top_forms ds is) ts c w
 
-pub section_missing : (ts : List Lexeme) → NotAt (keyword K.Signature) ts → NotAt (keyword K.Rules) ts → NotAt (keyword K.Strategies) ts → Missing section EndsSection ts
+pub section_missing : (ts : List Lexeme) → NotAt (keyword K.Signature) ts → NotAt (keyword K.Rules) ts →
+    NotAt (keyword K.Strategies) ts → Missing section EndsSection ts
 section_missing ts a b c = record { none = λ u is h w. no_keyword ts a b c u is w }
 
 -- ---- sections up to the end
@@ -170,7 +199,8 @@ no_more (rules ds) is w = w
 no_more (strategies ds) is w = w
 
 -- with none no other one comes
-pub no_section : (rest : List Lexeme) → rest ≡ [] → (u : SectionTree) (is : List Item) → Runs either (section u is) rest → ⊥
+pub no_section : (rest : List Lexeme) → rest ≡ [] → (u : SectionTree) (is : List Item) →
+    Runs either (section u is) rest → ⊥
 no_section rest e u is w = no_more u is (rw e at w)
 
 pub not_empty : (b : Bool) (rest : List Lexeme) → IsTrue b ↔ (rest ≡ []) → b ≡ false → rest ≡ [] → ⊥
@@ -202,19 +232,22 @@ spelled_either (part p k ∷ is) ts r = inr (spelled_either is ts r)
 spelled_either (no_build ∷ is) ts r = (r.0, spelled_either is ts r.1)
 spelled_either (only b ∷ is) ts r = (r.0, spelled_either is ts r.1)
 
-pub file_found : (ss : List SectionTree) (ts : List Lexeme) → FoundAny sections AtEnd ts ss [] → OnlyPhrase ts (file_with ss) × (TooNested ts → ⊥)
+pub file_found : (ss : List SectionTree) (ts : List Lexeme) → FoundAny sections AtEnd ts ss [] →
+    OnlyPhrase ts (file_with ss) × (TooNested ts → ⊥)
 file_found ss ts f =
     let p : Runs whole (sections ss []) ts = f.sound whole [] refl in (
       record {
         phrase = whole_spelled (sections ss []) ts p;
-        only_one = λ g r. let o = f.only_one g.sections [] refl (spelled_either (sections g.sections []) ts r) in ap file_with o.0;
+        only_one = λ g r. let o = f.only_one g.sections [] refl (spelled_either (sections g.sections []) ts r) in
+            ap file_with o.0;
       },
       λ d.
           let o = f.only_one d.f.sections [] refl (deep_either (sections d.f.sections []) ts d.runs) in
           not_both (sections ss []) ts p (subst (λ v. Runs too_deep (sections v []) ts) o.0 d.runs),
     )
 
-file_missing : (ts : List Lexeme) → Missing sections AtEnd ts → ((f : FileTree) → IsPhrase ts f → ⊥) × (TooNested ts → ⊥)
+file_missing : (ts : List Lexeme) → Missing sections AtEnd ts → ((f : FileTree) → IsPhrase ts f → ⊥) ×
+    (TooNested ts → ⊥)
 file_missing ts m = (
   λ f r. m.none f.sections [] refl (spelled_either (sections f.sections []) ts r),
   λ d. m.none d.f.sections [] refl (deep_either (sections d.f.sections []) ts d.runs),

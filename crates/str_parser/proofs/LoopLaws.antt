@@ -27,14 +27,16 @@ leads_on f g = record {
 
 -- ---- the whole primary
 
-unwritten : (k : ℕ) (way : Way) (u : PrimaryTree) (is left : List Item) (ts : List Lexeme) → Written k u is left → Runs way left ts → Runs way (primary k u is) ts
+unwritten : (k : ℕ) (way : Way) (u : PrimaryTree) (is left : List Item) (ts : List Lexeme) → Written k u is left →
+    Runs way left ts → Runs way (primary k u is) ts
 unwritten k way u is left ts written r = r
 
 at_whole : (k : ℕ) (t : Box Primary Global) (rest : List Lexeme) (u : PrimaryTree) (is left : List Item) →
     Continues k (states.Whole t rest) u is left → Runs either left rest → (u ≡ primary_of t.value) × Runs either is rest
 at_whole k t rest u is left (at_end e) r = (e, r)
 
-pub found_whole : (k : ℕ) (ts rest : List Lexeme) (t : Box Primary Global) → Leads (Written k) (Continues k (states.Whole t rest)) ts rest →
+pub found_whole : (k : ℕ) (ts rest : List Lexeme) (t : Box Primary Global) →
+    Leads (Written k) (Continues k (states.Whole t rest)) ts rest →
     Found (primary k) (AtMost 3) ts (primary_of t.value) rest
 found_whole k ts rest t f = record {
   sound = λ way is r.
@@ -44,20 +46,30 @@ found_whole k ts rest t f = record {
       let w = f.all u is h (record { left = primary k u is; goes = written; runs = r }) in
       at_whole k t rest u is w.left w.goes w.runs;
   shorter =
-      let w = f.sound whole (primary_of t.value) (just rest) (record { left = just rest; goes = at_end refl; runs = just_runs rest }) in
-      primary_shorter k (primary_of t.value) rest ts (unwritten k whole (primary_of t.value) (just rest) w.left ts w.goes w.runs);
+      let w = f.sound whole (primary_of t.value) (just rest)
+      (record { left = just rest; goes = at_end refl; runs = just_runs rest }) in
+      primary_shorter k (primary_of t.value)
+      rest ts (unwritten k whole (primary_of t.value) (just rest) w.left ts w.goes w.runs);
 }
 
-pub missing_run : (k : ℕ) (ts us : List Lexeme) (Rest : PrimaryTree → List Item → List Item → Type 0) → Leads (Written k) Rest ts us → NoRun Rest us → Missing (primary k) (AtMost 3) ts
-missing_run k ts us Rest f n = record { none = λ u is h r. n.none u is h (f.all u is h (record { left = primary k u is; goes = written; runs = r })) }
+pub missing_run : (k : ℕ) (ts us : List Lexeme) (Rest : PrimaryTree → List Item → List Item → Type 0) →
+    Leads (Written k) Rest ts us → NoRun Rest us → Missing (primary k) (AtMost 3) ts
+missing_run k ts us Rest f n = record {
+  none =
+      λ u is h r. n.none u is h (f.all u is h (record { left = primary k u is; goes = written; runs = r }));
+}
 
 pub missing_all : (k : ℕ) (ts : List Lexeme) → NoRun (Written k) ts → Missing (primary k) (AtMost 3) ts
-missing_all k ts n = record { none = λ u is h r. n.none u is h (record { left = primary k u is; goes = written; runs = r }) }
+missing_all k ts n = record {
+  none =
+      λ u is h r. n.none u is h (record { left = primary k u is; goes = written; runs = r });
+}
 
 -- ---- a strategy in it
 
 -- what comes after a strategy stops it
-goes_stops : (k : ℕ) (before : BeforeStrategy) (s : StrategyTree) (u : PrimaryTree) (is left : List Item) → Goes k before s u is left → AtMost 0 left
+goes_stops : (k : ℕ) (before : BeforeStrategy) (s : StrategyTree) (u : PrimaryTree) (is left : List Item) →
+    Goes k before s u is left → AtMost 0 left
 goes_stops k before s u is left goes_apply = omega arith
 goes_stops k before s u is left (goes_parenthesized no_strategies e) = omega arith
 goes_stops k before s u is left (goes_parenthesized (more_strategies t ss) e) = omega arith
@@ -83,25 +95,36 @@ goes_stops k before s u is left (goes_definition t (more_definitions (definition
 goes_stops k before s u is left (goes_let_body e) = omega arith
 goes_stops k before s u is left goes_rule_condition = omega arith
 
-has_strategy : (k : ℕ) (before : BeforeStrategy) (rest after : List Lexeme) (s : StrategyTree) → Found (inner_strategy (k + 1)) (AtMost 0) rest s after →
-    (u : PrimaryTree) (is left : List Item) → Continues k (states.ToStrategy before rest) u is left → Runs either left rest → Run (HasStrategy before s k) either u is after
+has_strategy : (k : ℕ) (before : BeforeStrategy) (rest after : List Lexeme) (s : StrategyTree) →
+    Found (inner_strategy (k + 1)) (AtMost 0) rest s after →
+    (u : PrimaryTree) (is left : List Item) → Continues k (states.ToStrategy before rest) u is left →
+    Runs either left rest → Run (HasStrategy before s k) either u is after
 has_strategy k before rest after s f u is left (at_strategy t {left = l} g) r =
     let e = f.only_one t l (goes_stops k before t u is l g) r in
     record { left = l; goes = rw (sym e.0) g; runs = e.1 }
 
-pub leads_strategy : (k : ℕ) (before : BeforeStrategy) (rest after : List Lexeme) (s : StrategyTree) → Found (inner_strategy (k + 1)) (AtMost 0) rest s after →
+pub leads_strategy : (k : ℕ) (before : BeforeStrategy) (rest after : List Lexeme) (s : StrategyTree) →
+    Found (inner_strategy (k + 1)) (AtMost 0) rest s after →
     Leads (Continues k (states.ToStrategy before rest)) (HasStrategy before s k) rest after
 leads_strategy k before rest after s f = record {
-  sound = λ way u is r. record { left = inner_strategy (k + 1) s r.left; goes = at_strategy s r.goes; runs = f.sound way r.left r.runs };
+  sound = λ way u is r. record {
+    left = inner_strategy (k + 1) s r.left;
+    goes = at_strategy s r.goes;
+    runs =
+        f.sound way r.left r.runs;
+  };
   all = λ u is h r. has_strategy k before rest after s f u is r.left r.goes r.runs;
   no_longer = omega (arith, f.shorter);
 }
 
-strategy_no_run : (k : ℕ) (before : BeforeStrategy) (rest : List Lexeme) → Missing (inner_strategy (k + 1)) (AtMost 0) rest →
-    (u : PrimaryTree) (is left : List Item) → Continues k (states.ToStrategy before rest) u is left → Runs either left rest → ⊥
+strategy_no_run : (k : ℕ) (before : BeforeStrategy) (rest : List Lexeme) →
+    Missing (inner_strategy (k + 1)) (AtMost 0) rest →
+    (u : PrimaryTree) (is left : List Item) → Continues k (states.ToStrategy before rest) u is left →
+    Runs either left rest → ⊥
 strategy_no_run k before rest n u is left (at_strategy t {left = l} g) r = n.none t l (goes_stops k before t u is l g) r
 
-pub missing_strategy : (k : ℕ) (before : BeforeStrategy) (ts rest : List Lexeme) → Leads (Written k) (Continues k (states.ToStrategy before rest)) ts rest →
+pub missing_strategy : (k : ℕ) (before : BeforeStrategy) (ts rest : List Lexeme) →
+    Leads (Written k) (Continues k (states.ToStrategy before rest)) ts rest →
     Missing (inner_strategy (k + 1)) (AtMost 0) rest → Missing (primary k) (AtMost 3) ts
 missing_strategy k before ts rest f n = missing_run k ts rest (Continues k (states.ToStrategy before rest)) f (record {
   none = λ u is h r. strategy_no_run k before rest n u is r.left r.goes r.runs;
@@ -129,21 +152,29 @@ completed k (B.Definition done hd) s = record { tree = _; left = _; goes = λ is
 completed k (B.LetBody done) s = record { tree = _; left = _; goes = λ is. goes_let_body refl }
 completed k (B.RuleCondition l r) s = record { tree = _; left = _; goes = λ is. goes_rule_condition }
 
-pub nested_strategy : (k : ℕ) (before : BeforeStrategy) (ts rest : List Lexeme) → Leads (Written k) (Continues k (states.ToStrategy before rest)) ts rest →
+pub nested_strategy : (k : ℕ) (before : BeforeStrategy) (ts rest : List Lexeme) →
+    Leads (Written k) (Continues k (states.ToStrategy before rest)) ts rest →
     Nested (inner_strategy (k + 1)) rest → Nested (primary k) ts
 nested_strategy k before ts rest f n =
     let c = completed k before n.tree in
     record {
       tree = c.tree;
       runs = λ is.
-          let w = f.sound too_deep c.tree is (record { left = inner_strategy (k + 1) n.tree (c.left is); goes = at_strategy n.tree (c.goes is); runs = n.runs (c.left is) }) in
+          let w = f.sound too_deep c.tree is
+          (record {
+            left = inner_strategy (k + 1) n.tree (c.left is);
+            goes = at_strategy n.tree (c.goes is);
+            runs =
+                n.runs (c.left is);
+          }) in
           unwritten k too_deep c.tree is w.left ts w.goes w.runs;
     }
 
 -- ---- a pattern in it
 
 -- what comes after a pattern stops it
-goes_by_stops : (k : ℕ) (before : BeforePattern) (p : PatternTree) (u : PrimaryTree) (is left : List Item) → AtMost 3 is → GoesBy k before p u is left → AtMost 3 left
+goes_by_stops : (k : ℕ) (before : BeforePattern) (p : PatternTree) (u : PrimaryTree) (is left : List Item) →
+    AtMost 3 is → GoesBy k before p u is left → AtMost 3 left
 goes_by_stops k before p u is left h goes_match = h
 goes_by_stops k before p u is left h goes_build = h
 goes_by_stops k before p u is left h goes_apply_to = h
@@ -156,25 +187,37 @@ goes_by_stops k before p u is left h goes_rule_left_where = omega arith
 goes_by_stops k before p u is left h goes_rule_right = omega arith
 goes_by_stops k before p u is left h goes_rule_right_where = omega arith
 
-has_pattern : (k : ℕ) (before : BeforePattern) (rest after : List Lexeme) (p : PatternTree) → Found (inner_pattern (wants_match before) (k + 1)) (AtMost 3) rest p after →
-    (u : PrimaryTree) (is left : List Item) → AtMost 3 is → Continues k (states.ToPattern before rest) u is left → Runs either left rest → Run (HasPattern before p k) either u is after
+has_pattern : (k : ℕ) (before : BeforePattern) (rest after : List Lexeme) (p : PatternTree) →
+    Found (inner_pattern (wants_match before) (k + 1)) (AtMost 3) rest p after →
+    (u : PrimaryTree) (is left : List Item) → AtMost 3 is → Continues k (states.ToPattern before rest) u is left →
+    Runs either left rest → Run (HasPattern before p k) either u is after
 has_pattern k before rest after p f u is left h (at_pattern q {left = l} g) r =
     let e = f.only_one q l (goes_by_stops k before q u is l h g) r in
     record { left = l; goes = rw (sym e.0) g; runs = e.1 }
 
-pub leads_pattern : (k : ℕ) (before : BeforePattern) (rest after : List Lexeme) (p : PatternTree) → Found (inner_pattern (wants_match before) (k + 1)) (AtMost 3) rest p after →
+pub leads_pattern : (k : ℕ) (before : BeforePattern) (rest after : List Lexeme) (p : PatternTree) →
+    Found (inner_pattern (wants_match before) (k + 1)) (AtMost 3) rest p after →
     Leads (Continues k (states.ToPattern before rest)) (HasPattern before p k) rest after
 leads_pattern k before rest after p f = record {
-  sound = λ way u is r. record { left = inner_pattern (wants_match before) (k + 1) p r.left; goes = at_pattern p r.goes; runs = f.sound way r.left r.runs };
+  sound = λ way u is r. record {
+    left = inner_pattern (wants_match before) (k + 1) p r.left;
+    goes =
+        at_pattern p r.goes;
+    runs = f.sound way r.left r.runs;
+  };
   all = λ u is h r. has_pattern k before rest after p f u is r.left h r.goes r.runs;
   no_longer = omega (arith, f.shorter);
 }
 
-pattern_no_run : (k : ℕ) (before : BeforePattern) (rest : List Lexeme) → Missing (inner_pattern (wants_match before) (k + 1)) (AtMost 3) rest →
-    (u : PrimaryTree) (is left : List Item) → AtMost 3 is → Continues k (states.ToPattern before rest) u is left → Runs either left rest → ⊥
-pattern_no_run k before rest n u is left h (at_pattern q {left = l} g) r = n.none q l (goes_by_stops k before q u is l h g) r
+pattern_no_run : (k : ℕ) (before : BeforePattern) (rest : List Lexeme) →
+    Missing (inner_pattern (wants_match before) (k + 1)) (AtMost 3) rest →
+    (u : PrimaryTree) (is left : List Item) → AtMost 3 is → Continues k (states.ToPattern before rest) u is left →
+    Runs either left rest → ⊥
+pattern_no_run k before rest n u is left h (at_pattern q {left = l} g) r =
+    n.none q l (goes_by_stops k before q u is l h g) r
 
-pub missing_pattern : (k : ℕ) (before : BeforePattern) (ts rest : List Lexeme) → Leads (Written k) (Continues k (states.ToPattern before rest)) ts rest →
+pub missing_pattern : (k : ℕ) (before : BeforePattern) (ts rest : List Lexeme) →
+    Leads (Written k) (Continues k (states.ToPattern before rest)) ts rest →
     Missing (inner_pattern (wants_match before) (k + 1)) (AtMost 3) rest → Missing (primary k) (AtMost 3) ts
 missing_pattern k before ts rest f n = missing_run k ts rest (Continues k (states.ToPattern before rest)) f (record {
   none = λ u is h r. pattern_no_run k before rest n u is r.left h r.goes r.runs;
@@ -194,13 +237,20 @@ completed_by k (P.Primitive f done) p = record { tree = _; left = _; goes = λ i
 completed_by k P.RuleLeft p = record { tree = _; left = _; goes = λ is. goes_rule_left {r = p} }
 completed_by k (P.RuleRight l) p = record { tree = _; left = _; goes = λ is. goes_rule_right }
 
-pub nested_pattern : (k : ℕ) (before : BeforePattern) (ts rest : List Lexeme) → Leads (Written k) (Continues k (states.ToPattern before rest)) ts rest →
+pub nested_pattern : (k : ℕ) (before : BeforePattern) (ts rest : List Lexeme) →
+    Leads (Written k) (Continues k (states.ToPattern before rest)) ts rest →
     Nested (inner_pattern (wants_match before) (k + 1)) rest → Nested (primary k) ts
 nested_pattern k before ts rest f n =
     let c = completed_by k before n.tree in
     record {
       tree = c.tree;
       runs = λ is.
-          let w = f.sound too_deep c.tree is (record { left = inner_pattern (wants_match before) (k + 1) n.tree (c.left is); goes = at_pattern n.tree (c.goes is); runs = n.runs (c.left is) }) in
+          let w = f.sound too_deep c.tree is
+          (record {
+            left = inner_pattern (wants_match before) (k + 1) n.tree (c.left is);
+            goes =
+                at_pattern n.tree (c.goes is);
+            runs = n.runs (c.left is);
+          }) in
           unwritten k too_deep c.tree is w.left ts w.goes w.runs;
     }

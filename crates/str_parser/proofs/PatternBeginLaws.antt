@@ -17,7 +17,8 @@ use Rattle.str_parser.specs.Begun.{IsNextPattern, LeadsPattern, NoPattern, most_
 use Rattle.str_parser.specs.declared.begun.BeforeInner.TheVariants as I
 use Rattle.str_parser.specs.declared.begun.BegunPattern.TheVariants as states
 use Rattle.str_parser.proofs.PatternLists.{first_with}
-use Rattle.str_parser.proofs.LedLaws.{Led, led_variable, led_wildcard, led_alias, led_integer, led_quoted, led_application, led_grouped, led_tuple, led_list, led_list_with_tail, led_applied, led_applied_to, led, led_begins, no_tokens, no_inner, no_sign, runs_strength}
+use Rattle.str_parser.proofs.LedLaws.{Led, led_variable, led_wildcard, led_alias, led_integer, led_quoted, led_application, led_grouped, led_tuple, led_list, led_list_with_tail, led_applied, led_applied_to, led, led_begins, no_tokens, no_inner, runs_strength}
+use Rattle.str_parser.proofs.WayLaws.{not_along}
 
 -- ---- patterns of one token
 
@@ -37,9 +38,9 @@ data NoMore (x : Bytes) (ts : List Lexeme) : Type 0 where
 variable_led : (m : Bool) (k : ℕ) (x : Bytes) (t : Pattern) (rest : List Lexeme) → pattern_of t ≡ variable x → NoMore x rest →
     (u : PatternTree) (is : List Item) → Led m k rest (L.name x) u is → Run (ContinuesPattern m k (states.Whole t rest)) either u is rest
 variable_led m k x t rest e n u is (led_variable r) = record { left = _; goes = pattern_at_end (sym e); runs = r }
-variable_led m k x t rest e (no_more a o) u is (led_alias p r) = absurd (no_sign (L.mark M.At) (inner_pattern m (k + 1) p is) rest a r)
-variable_led m k x t rest e (no_constructor a o) u is (led_alias p r) = absurd (no_sign (L.mark M.At) (inner_pattern m (k + 1) p is) rest a r)
-variable_led m k x t rest e (no_more a o) u is (led_application ps h r) = absurd (no_sign (L.mark M.OpenParenthesis) (patterns m (k + 1) ps (sign M.CloseParenthesis ∷ is)) rest o r)
+variable_led m k x t rest e (no_more a o) u is (led_alias p r) = absurd (not_along (L.mark M.At) (inner_pattern m (k + 1) p is) rest a r)
+variable_led m k x t rest e (no_constructor a o) u is (led_alias p r) = absurd (not_along (L.mark M.At) (inner_pattern m (k + 1) p is) rest a r)
+variable_led m k x t rest e (no_more a o) u is (led_application ps h r) = absurd (not_along (L.mark M.OpenParenthesis) (patterns m (k + 1) ps (sign M.CloseParenthesis ∷ is)) rest o r)
 variable_led m k x t rest e (no_constructor a o) u is (led_application ps h r) = cc
 
 variable_all : (m : Bool) (k : ℕ) (x : Bytes) (t : Pattern) (rest : List Lexeme) → pattern_of t ≡ variable x → NoMore x rest →
@@ -200,7 +201,7 @@ application_led : (m : Bool) (k : ℕ) (x : Bytes) (none : Vec Pattern Global) (
     Run (ContinuesPattern m k (states.ToPattern (I.Application x none) rest)) either u is rest
 application_led m k x none rest e n u is s (led_variable r) = let h = runs_strength 4 (omega arith) is (L.mark M.OpenParenthesis) rest r s in absurd (omega arith)
 application_led m k x none rest e n u is s (led_alias p r) = let wrong = r.0 in cc
-application_led m k x none rest e n u is s (led_application no_patterns h r) = absurd (no_sign (L.mark M.CloseParenthesis) is rest n r.1)
+application_led m k x none rest e n u is s (led_application no_patterns h r) = absurd (not_along (L.mark M.CloseParenthesis) is rest n r.1)
 application_led m k x none rest e n u is s (led_application (more_patterns p ps) h r) =
     record { left = _; goes = pattern_at_pattern p (goes_application ps (ap (application x) (sym (first_with none p ps e)))); runs = r.1 }
 
@@ -267,7 +268,7 @@ grouped_led : (m : Bool) (k : ℕ) (none : Vec Pattern Global) (rest : List Lexe
     Run (ContinuesPattern m k (states.ToPattern (I.Parenthesized none) rest)) either u is rest
 grouped_led m k none rest e n u is (led_grouped p r) =
     record { left = _; goes = pattern_at_pattern p (goes_grouped no_patterns (ap patterns_in_parentheses (sym (first_with none p no_patterns e)))); runs = r }
-grouped_led m k none rest e n u is (led_tuple no_patterns h r) = absurd (no_sign (L.mark M.CloseParenthesis) is rest n r)
+grouped_led m k none rest e n u is (led_tuple no_patterns h r) = absurd (not_along (L.mark M.CloseParenthesis) is rest n r)
 grouped_led m k none rest e n u is (led_tuple (more_patterns p no_patterns) h r) = cc
 grouped_led m k none rest e n u is (led_tuple (more_patterns p (more_patterns q ps)) h r) =
     record { left = _; goes = pattern_at_pattern p (goes_grouped (more_patterns q ps) (ap patterns_in_parentheses (sym (first_with none p (more_patterns q ps) e)))); runs = r }
@@ -326,7 +327,7 @@ list_sound m k none rest e way u is left (pattern_at_pattern q (goes_list_to_tai
 list_led : (m : Bool) (k : ℕ) (none : Vec Pattern Global) (rest : List Lexeme) → none.items ≡ [] → NotAt (L.mark M.CloseBracket) rest →
     (u : PatternTree) (is : List Item) → Led m k rest (L.mark M.OpenBracket) u is →
     Run (ContinuesPattern m k (states.ToPattern (I.Bracketed none) rest)) either u is rest
-list_led m k none rest e n u is (led_list no_patterns r) = absurd (no_sign (L.mark M.CloseBracket) is rest n r)
+list_led m k none rest e n u is (led_list no_patterns r) = absurd (not_along (L.mark M.CloseBracket) is rest n r)
 list_led m k none rest e n u is (led_list (more_patterns p ps) r) =
     record { left = _; goes = pattern_at_pattern p (goes_list ps (ap (λ qs. list qs no_pattern) (sym (first_with none p ps e)))); runs = r }
 list_led m k none rest e n u is (led_list_with_tail no_patterns q h r) = cc

@@ -8,7 +8,8 @@ use Rattle.str_syntax.specs.Trees.{PatternTree, grouped, tuple, PatternTrees, no
 use Rattle.str_syntax.specs.Views.{pattern_of, patterns_in, patterns_of}
 use Rattle.str_parser.specs.Begun.{patterns_then, patterns_with, patterns_in_parentheses}
 
-patterns_grown : (xs : List PatternTree) (p : PatternTree) (more : PatternTrees) → patterns_then (xs ++ (p ∷ [])) more ≡ patterns_then xs (more_patterns p more)
+patterns_grown : (xs : List PatternTree) (p : PatternTree) (more : PatternTrees) →
+    patterns_then (xs ++ (p ∷ [])) more ≡ patterns_then xs (more_patterns p more)
 patterns_grown [] p more = refl
 patterns_grown (x ∷ xs) p more = ap (more_patterns x) (patterns_grown xs p more)
 
@@ -19,24 +20,29 @@ patterns_ended (x ∷ xs) = ap (more_patterns x) (patterns_ended xs)
 pushed_then : (xs grown : List Pattern) (part : Pattern) (more : PatternTrees) → grown ≡ xs ++ (part ∷ []) →
     patterns_then (map pattern_of grown) more ≡ patterns_then (map pattern_of xs) (more_patterns (pattern_of part) more)
 pushed_then xs grown part more e =
-    ap (λ ps. patterns_then ps more) (ap (map pattern_of) e ∙ map-append pattern_of xs (part ∷ [])) ∙ patterns_grown (map pattern_of xs) (pattern_of part) more
+    ap (λ ps. patterns_then ps more) (ap (map pattern_of) e ∙ map-append pattern_of xs (part ∷ [])) ∙
+    patterns_grown (map pattern_of xs) (pattern_of part) more
 
 -- one more pattern, and more after it
-pub pushed_with : (done grown : Vec Pattern Global) (part : Pattern) → grown.items ≡ done.items ++ (part ∷ []) → (q : PatternTree) (more : PatternTrees) →
+pub pushed_with : (done grown : Vec Pattern Global) (part : Pattern) → grown.items ≡ done.items ++ (part ∷ []) →
+    (q : PatternTree) (more : PatternTrees) →
     patterns_with grown q more ≡ patterns_with done (pattern_of part) (more_patterns q more)
 pushed_with done grown part e q more = pushed_then done.items grown.items part (more_patterns q more) e
 
 -- one more pattern, and none after it
 pub pushed_last : (done grown : Vec Pattern Global) (part : Pattern) → grown.items ≡ done.items ++ (part ∷ []) →
     patterns_of grown.items ≡ patterns_with done (pattern_of part) no_patterns
-pushed_last done grown part e = patterns_ended (map pattern_of grown.items) ∙ pushed_then done.items grown.items part no_patterns e
+pushed_last done grown part e =
+    patterns_ended (map pattern_of grown.items) ∙ pushed_then done.items grown.items part no_patterns e
 
-first_of : (xs : List Pattern) (q : PatternTree) (more : PatternTrees) → xs ≡ [] → patterns_then (map pattern_of xs) (more_patterns q more) ≡ more_patterns q more
+first_of : (xs : List Pattern) (q : PatternTree) (more : PatternTrees) → xs ≡ [] →
+    patterns_then (map pattern_of xs) (more_patterns q more) ≡ more_patterns q more
 first_of [] q more e = refl
 first_of (x ∷ xs) q more e = cc
 
 -- a pattern after none
-pub first_with : (none : Vec Pattern Global) (q : PatternTree) (more : PatternTrees) → none.items ≡ [] → patterns_with none q more ≡ more_patterns q more
+pub first_with : (none : Vec Pattern Global) (q : PatternTree) (more : PatternTrees) → none.items ≡ [] →
+    patterns_with none q more ≡ more_patterns q more
 first_with none q more e = first_of none.items q more e
 
 none_in : (xs : List Pattern) → xs ≡ [] → patterns_of xs ≡ no_patterns
@@ -48,24 +54,29 @@ no_patterns_of none e = none_in none.items e
 
 -- ---- in parentheses
 
-alone : (xs : List Pattern) (p : PatternTree) → length xs ≡ 0 → patterns_in_parentheses (patterns_then (map pattern_of xs) (more_patterns p no_patterns)) ≡ grouped p
+alone : (xs : List Pattern) (p : PatternTree) → length xs ≡ 0 →
+    patterns_in_parentheses (patterns_then (map pattern_of xs) (more_patterns p no_patterns)) ≡ grouped p
 alone [] p e = refl
 alone (x ∷ xs) p e = absurd (omega arith)
 
 after_some : (xs : List Pattern) (p : PatternTree) → 0 < length xs →
-    patterns_in_parentheses (patterns_then (map pattern_of xs) (more_patterns p no_patterns)) ≡ tuple (patterns_then (map pattern_of xs) (more_patterns p no_patterns))
+    patterns_in_parentheses (patterns_then (map pattern_of xs) (more_patterns p no_patterns)) ≡
+    tuple (patterns_then (map pattern_of xs) (more_patterns p no_patterns))
 after_some [] p h = absurd (omega arith)
 after_some (x ∷ []) p h = refl
 after_some (x ∷ y ∷ xs) p h = refl
 
 -- one pattern alone is grouped
-pub one_grouped : (done : Vec Pattern Global) (p : PatternTree) → length done.items ≡ 0 → patterns_in_parentheses (patterns_with done p no_patterns) ≡ grouped p
+pub one_grouped : (done : Vec Pattern Global) (p : PatternTree) → length done.items ≡ 0 →
+    patterns_in_parentheses (patterns_with done p no_patterns) ≡ grouped p
 one_grouped done p e = alone done.items p e
 
 -- a pattern after others makes them a tuple
-pub more_tuple : (done grown : Vec Pattern Global) (part : Pattern) → grown.items ≡ done.items ++ (part ∷ []) → 0 < length done.items →
+pub more_tuple : (done grown : Vec Pattern Global) (part : Pattern) → grown.items ≡ done.items ++ (part ∷ []) →
+    0 < length done.items →
     patterns_in_parentheses (patterns_with done (pattern_of part) no_patterns) ≡ tuple (patterns_of grown.items)
-more_tuple done grown part e h = after_some done.items (pattern_of part) h ∙ ap tuple (sym (pushed_last done grown part e))
+more_tuple done grown part e h =
+    after_some done.items (pattern_of part) h ∙ ap tuple (sym (pushed_last done grown part e))
 
 -- ---- what a test of an empty list says
 

@@ -61,8 +61,10 @@ module _ (k : ℕ) (rest : List Lexeme) where
       sound way u is left (at_pattern p goes_rule_left_where) r = (refl, r)
 
       all : Complete k (Continues k (states.ToPattern P.RuleLeft rest)) (mark M.Backslash) rest rest
-      all u is h (led_lambda {r = rewrites l g no_strategy}) r = record { left = _; goes = at_pattern _ goes_rule_left; runs = r.1 }
-      all u is h (led_lambda {r = rewrites l g (one_strategy s)}) r = record { left = _; goes = at_pattern _ goes_rule_left_where; runs = r.1 }
+      all u is h (led_lambda {r = rewrites l g no_strategy}) r =
+          record { left = _; goes = at_pattern _ goes_rule_left; runs = r.1 }
+      all u is h (led_lambda {r = rewrites l g (one_strategy s)}) r =
+          record { left = _; goes = at_pattern _ goes_rule_left_where; runs = r.1 }
 
   -- ---- id, fail and if
 
@@ -92,22 +94,27 @@ module _ (k : ℕ) (rest : List Lexeme) where
 -- ---- (
 
 module _ (k : ℕ) (rest : List Lexeme) where
-  pub empty_tuple_ends : EndsWith (Written k) (tuple_congruence no_strategies) (mark M.OpenParenthesis ∷ mark M.CloseParenthesis ∷ rest) rest
+  pub empty_tuple_ends : EndsWith (Written k) (tuple_congruence no_strategies)
+      (mark M.OpenParenthesis ∷ mark M.CloseParenthesis ∷ rest) rest
   empty_tuple_ends = ends_by k _ _ _ _ (λ way is r. (refl, (refl, (refl, r)))) all (omega arith)
     where
-      all : EndComplete k (tuple_congruence no_strategies) (mark M.OpenParenthesis) (mark M.CloseParenthesis ∷ rest) rest
+      all : EndComplete k (tuple_congruence no_strategies) (mark M.OpenParenthesis) (mark M.CloseParenthesis ∷ rest)
+          rest
       all u is h led_parenthesized r = let e = inner_strategy_begins _ _ _ _ _ r.1 in cc
       all u is h (led_tuple {ss = no_strategies} o) r = (refl, r.1.1.1)
       all u is h (led_tuple {ss = more_strategies s ss} o) r = let e = inner_strategy_begins _ s _ _ _ r.1.1 in cc
 
-  pub empty_list_ends : EndsWith (Written k) (list_congruence no_strategies no_strategy) (mark M.OpenBracket ∷ mark M.CloseBracket ∷ rest) rest
+  pub empty_list_ends : EndsWith (Written k) (list_congruence no_strategies no_strategy)
+      (mark M.OpenBracket ∷ mark M.CloseBracket ∷ rest) rest
   empty_list_ends = ends_by k _ _ _ _ (λ way is r. (refl, (refl, r))) all (omega arith)
     where
-      all : EndComplete k (list_congruence no_strategies no_strategy) (mark M.OpenBracket) (mark M.CloseBracket ∷ rest) rest
+      all : EndComplete k (list_congruence no_strategies no_strategy) (mark M.OpenBracket) (mark M.CloseBracket ∷ rest)
+          rest
       all u is h (led_list {ss = no_strategies}) r = (refl, r.1.1)
       all u is h (led_list {ss = more_strategies s ss}) r = let e = inner_strategy_begins _ s _ _ _ r.1 in cc
       all u is h (led_list_with_tail {ss = no_strategies} o) r = cc
-      all u is h (led_list_with_tail {ss = more_strategies s ss} o) r = let e = inner_strategy_begins _ s _ _ _ r.1.1 in cc
+      all u is h (led_list_with_tail {ss = more_strategies s ss} o) r = let e = inner_strategy_begins _ s _ _ _ r.1.1 in
+          cc
 
 module _ (k : ℕ) (v : Vec Strategy Global) (e : v.items ≡ []) (rest : List Lexeme) where
   pub parenthesized_leads : NotAt (mark M.CloseParenthesis) rest →
@@ -121,31 +128,56 @@ module _ (k : ℕ) (v : Vec Strategy Global) (e : v.items ≡ []) (rest : List L
       one_or_more way s (more_strategies t ss) is r = (refl, (refl, r))
 
       sound : Sound k (Continues k (states.ToStrategy (B.Parenthesized v) rest)) (mark M.OpenParenthesis) rest rest
-      sound way u is left (at_strategy s (goes_parenthesized ss f)) r = rw (f ∙ ap in_parentheses (none_before v s ss e)) (one_or_more way s ss is r)
+      sound way u is left (at_strategy s (goes_parenthesized ss f)) r =
+          rw (f ∙ ap in_parentheses (none_before v s ss e)) (one_or_more way s ss is r)
 
       all : Complete k (Continues k (states.ToStrategy (B.Parenthesized v) rest)) (mark M.OpenParenthesis) rest rest
       all u is h led_parenthesized r =
-          record { left = _; goes = at_strategy _ (goes_parenthesized no_strategies (sym (ap in_parentheses (none_before v _ _ e)))); runs = r.1 }
+          record {
+            left = _;
+            goes =
+                at_strategy _ (goes_parenthesized no_strategies (sym (ap in_parentheses (none_before v _ _ e))));
+            runs =
+                r.1;
+          }
       all u is h (led_tuple {ss = no_strategies} o) r = absurd (not_at either _ _ _ n r.1.1)
       all u is h (led_tuple {ss = more_strategies s no_strategies} o) r = cc
       all u is h (led_tuple {ss = more_strategies s (more_strategies t ss)} o) r =
-          record { left = _; goes = at_strategy s (goes_parenthesized (more_strategies t ss) (sym (ap in_parentheses (none_before v _ _ e)))); runs = r.1.1 }
+          record {
+            left = _;
+            goes =
+                at_strategy s (goes_parenthesized (more_strategies t ss) (sym (ap in_parentheses (none_before v _ _ e))));
+            runs = r.1.1;
+          }
 
   pub bracketed_leads : NotAt (mark M.CloseBracket) rest →
       Leads (Written k) (Continues k (states.ToStrategy (B.Bracketed v) rest)) (mark M.OpenBracket ∷ rest) rest
   bracketed_leads n = leads_by k _ _ _ _ sound all (omega arith)
     where
       sound : Sound k (Continues k (states.ToStrategy (B.Bracketed v) rest)) (mark M.OpenBracket) rest rest
-      sound way u is left (at_strategy s (goes_bracketed ss f)) r = rw (f ∙ ap (λ xs. list_congruence xs no_strategy) (none_before v s ss e)) (refl, r)
-      sound way u is left (at_strategy s (goes_to_tail t ss f)) r = rw (f ∙ ap (λ x. list_congruence x (one_strategy t)) (none_before v s ss e)) (refl, (refl, r))
+      sound way u is left (at_strategy s (goes_bracketed ss f)) r =
+          rw (f ∙ ap (λ xs. list_congruence xs no_strategy) (none_before v s ss e)) (refl, r)
+      sound way u is left (at_strategy s (goes_to_tail t ss f)) r =
+          rw (f ∙ ap (λ x. list_congruence x (one_strategy t)) (none_before v s ss e)) (refl, (refl, r))
 
       all : Complete k (Continues k (states.ToStrategy (B.Bracketed v) rest)) (mark M.OpenBracket) rest rest
       all u is h (led_list {ss = no_strategies}) r = absurd (not_at either _ _ _ n r.1)
       all u is h (led_list {ss = more_strategies s ss}) r =
-          record { left = _; goes = at_strategy s (goes_bracketed ss (sym (ap (λ xs. list_congruence xs no_strategy) (none_before v _ _ e)))); runs = r.1 }
+          record {
+            left = _;
+            goes =
+                at_strategy s (goes_bracketed ss (sym (ap (λ xs. list_congruence xs no_strategy) (none_before v _ _ e))));
+            runs = r.1;
+          }
       all u is h (led_list_with_tail {ss = no_strategies} o) r = cc
       all u is h (led_list_with_tail {ss = more_strategies s ss} {s = t} o) r =
-          record { left = _; goes = at_strategy s (goes_to_tail t ss (sym (ap (λ x. list_congruence x (one_strategy t)) (none_before v _ _ e)))); runs = r.1.1 }
+          record {
+            left = _;
+            goes =
+                at_strategy s (goes_to_tail t ss
+                (sym (ap (λ x. list_congruence x (one_strategy t)) (none_before v _ _ e))));
+            runs = r.1.1;
+          }
 
 -- ---- {
 
@@ -156,14 +188,16 @@ module _ (k : ℕ) where
   colon_stops : (is : List Item) → NoneOf names_go_on (sign M.Colon ∷ is)
   colon_stops is = λ t rest r. ap names_go_on r.0
 
-  pub scope_leads : (v : Vec Bytes Global) (ts rest : List Lexeme) → Found some_names (NoneOf names_go_on) ts v.items (mark M.Colon ∷ rest) →
+  pub scope_leads : (v : Vec Bytes Global) (ts rest : List Lexeme) →
+      Found some_names (NoneOf names_go_on) ts v.items (mark M.Colon ∷ rest) →
       Leads (Written k) (Continues k (states.ToStrategy (B.Scope v) rest)) (mark M.OpenBrace ∷ ts) rest
   scope_leads v ts rest f = leads_by k _ _ _ _ sound all (omega (arith, f.shorter))
     where
       sound : Sound k (Continues k (states.ToStrategy (B.Scope v) rest)) (mark M.OpenBrace) ts rest
       sound way u is left (at_strategy s goes_scope) r = (refl, f.sound way (scoped s is) (refl, r))
 
-      scope_of : (xs : List Bytes) → xs ≡ v.items → (s : StrategyTree) (is : List Item) → Runs either (inner_strategy (k + 1) s (sign M.CloseBrace ∷ is)) rest →
+      scope_of : (xs : List Bytes) → xs ≡ v.items → (s : StrategyTree) (is : List Item) →
+          Runs either (inner_strategy (k + 1) s (sign M.CloseBrace ∷ is)) rest →
           Run (Continues k (states.ToStrategy (B.Scope v) rest)) either (scope xs s) is rest
       scope_of xs e s is r = rw e (record { left = _; goes = at_strategy s goes_scope; runs = r })
 
@@ -172,13 +206,16 @@ module _ (k : ℕ) where
           let p = f.only_one xs (scoped s is) (colon_stops (inner_strategy (k + 1) s (sign M.CloseBrace ∷ is))) r.1 in
           scope_of xs p.0 s is p.1.1
 
-  pub scope_no_names : (ts : List Lexeme) → Missing some_names (NoneOf names_go_on) ts → NoRun (Written k) (mark M.OpenBrace ∷ ts)
+  pub scope_no_names : (ts : List Lexeme) → Missing some_names (NoneOf names_go_on) ts →
+      NoRun (Written k) (mark M.OpenBrace ∷ ts)
   scope_no_names ts m = no_run_by k _ _ none
     where
       none : NoneLed k (mark M.OpenBrace) ts
-      none u is (led_scope {xs = xs} {s = s}) r = m.none xs (scoped s is) (colon_stops (inner_strategy (k + 1) s (sign M.CloseBrace ∷ is))) r.1
+      none u is (led_scope {xs = xs} {s = s}) r =
+          m.none xs (scoped s is) (colon_stops (inner_strategy (k + 1) s (sign M.CloseBrace ∷ is))) r.1
 
-  pub scope_no_colon : (v : List Bytes) (ts rest : List Lexeme) → Found some_names (NoneOf names_go_on) ts v rest → NotAt (mark M.Colon) rest →
+  pub scope_no_colon : (v : List Bytes) (ts rest : List Lexeme) → Found some_names (NoneOf names_go_on) ts v rest →
+      NotAt (mark M.Colon) rest →
       NoRun (Written k) (mark M.OpenBrace ∷ ts)
   scope_no_colon v ts rest f n = no_run_by k _ _ none
     where
@@ -196,20 +233,24 @@ module _ (k : ℕ) where
   parenthesis s is = sign M.OpenParenthesis ∷ in_parenthesis s is
 
   pub operator_leads : (o : Operator) (rest : List Lexeme) →
-      Leads (Written k) (Continues k (states.ToStrategy (B.Operator o) rest)) (keyword (keyword_of o) ∷ mark M.OpenParenthesis ∷ rest) rest
+      Leads (Written k) (Continues k (states.ToStrategy (B.Operator o) rest))
+      (keyword (keyword_of o) ∷ mark M.OpenParenthesis ∷ rest) rest
   operator_leads o rest = leads_by k _ _ _ _ sound (all o) (omega arith)
     where
-      sound : Sound k (Continues k (states.ToStrategy (B.Operator o) rest)) (keyword (keyword_of o)) (mark M.OpenParenthesis ∷ rest) rest
+      sound : Sound k (Continues k (states.ToStrategy (B.Operator o) rest)) (keyword (keyword_of o))
+          (mark M.OpenParenthesis ∷ rest) rest
       sound way u is left (at_strategy s goes_operator) r = (refl, (refl, r))
 
-      all : (o : Operator) → Complete k (Continues k (states.ToStrategy (B.Operator o) rest)) (keyword (keyword_of o)) (mark M.OpenParenthesis ∷ rest) rest
+      all : (o : Operator) → Complete k (Continues k (states.ToStrategy (B.Operator o) rest)) (keyword (keyword_of o))
+          (mark M.OpenParenthesis ∷ rest) rest
       all O.Where u is h led_where r = record { left = _; goes = at_strategy _ goes_operator; runs = r.1.1 }
       all O.Not u is h led_not r = record { left = _; goes = at_strategy _ goes_operator; runs = r.1.1 }
       all O.All u is h led_all r = record { left = _; goes = at_strategy _ goes_operator; runs = r.1.1 }
       all O.One u is h led_one r = record { left = _; goes = at_strategy _ goes_operator; runs = r.1.1 }
       all O.Some u is h led_some r = record { left = _; goes = at_strategy _ goes_operator; runs = r.1.1 }
 
-  pub operator_no_parenthesis : (o : Operator) (ts : List Lexeme) → NotAt (mark M.OpenParenthesis) ts → NoRun (Written k) (keyword (keyword_of o) ∷ ts)
+  pub operator_no_parenthesis : (o : Operator) (ts : List Lexeme) → NotAt (mark M.OpenParenthesis) ts →
+      NoRun (Written k) (keyword (keyword_of o) ∷ ts)
   operator_no_parenthesis o ts n = no_run_by k _ _ (none o)
     where
       none : (o : Operator) → NoneLed k (keyword (keyword_of o)) ts
@@ -221,14 +262,16 @@ module _ (k : ℕ) where
 
   -- ---- rec
 
-  pub recursive_leads : (x : Bytes) (ts rest : List Lexeme) → Found one_name (AtMost 5) ts x (mark M.OpenParenthesis ∷ rest) →
+  pub recursive_leads : (x : Bytes) (ts rest : List Lexeme) →
+      Found one_name (AtMost 5) ts x (mark M.OpenParenthesis ∷ rest) →
       Leads (Written k) (Continues k (states.ToStrategy (B.Recursive x) rest)) (keyword K.Rec ∷ ts) rest
   recursive_leads x ts rest f = leads_by k _ _ _ _ sound all (omega (arith, f.shorter))
     where
       sound : Sound k (Continues k (states.ToStrategy (B.Recursive x) rest)) (keyword K.Rec) ts rest
       sound way u is left (at_strategy s goes_recursive) r = (refl, f.sound way (parenthesis s is) (refl, r))
 
-      recursive_of : (y : Bytes) → y ≡ x → (s : StrategyTree) (is : List Item) → Runs either (in_parenthesis s is) rest →
+      recursive_of : (y : Bytes) → y ≡ x → (s : StrategyTree) (is : List Item) →
+          Runs either (in_parenthesis s is) rest →
           Run (Continues k (states.ToStrategy (B.Recursive x) rest)) either (recursive y s) is rest
       recursive_of y e s is r = rw e (record { left = _; goes = at_strategy s goes_recursive; runs = r })
 
@@ -243,7 +286,8 @@ module _ (k : ℕ) where
       none : NoneLed k (keyword K.Rec) ts
       none u is (led_recursive {x = y} {s = s}) r = m.none y (parenthesis s is) (omega arith) r.1
 
-  pub recursive_no_parenthesis : (x : Bytes) (ts rest : List Lexeme) → Found one_name (AtMost 5) ts x rest → NotAt (mark M.OpenParenthesis) rest →
+  pub recursive_no_parenthesis : (x : Bytes) (ts rest : List Lexeme) → Found one_name (AtMost 5) ts x rest →
+      NotAt (mark M.OpenParenthesis) rest →
       NoRun (Written k) (keyword K.Rec ∷ ts)
   recursive_no_parenthesis x ts rest f n = no_run_by k _ _ none
     where
@@ -271,10 +315,12 @@ module _ (k : ℕ) where
   -- ---- prim
 
   pub primitive_ends : (x : Bytes) (rest : List Lexeme) →
-      EndsWith (Written k) (primitive x no_patterns) (keyword K.Prim ∷ mark M.OpenParenthesis ∷ quoted x ∷ mark M.CloseParenthesis ∷ rest) rest
+      EndsWith (Written k) (primitive x no_patterns)
+      (keyword K.Prim ∷ mark M.OpenParenthesis ∷ quoted x ∷ mark M.CloseParenthesis ∷ rest) rest
   primitive_ends x rest = ends_by k _ _ _ _ (λ way is r. (refl, (refl, (refl, (refl, r))))) all (omega arith)
     where
-      all : EndComplete k (primitive x no_patterns) (keyword K.Prim) (mark M.OpenParenthesis ∷ quoted x ∷ mark M.CloseParenthesis ∷ rest) rest
+      all : EndComplete k (primitive x no_patterns) (keyword K.Prim)
+          (mark M.OpenParenthesis ∷ quoted x ∷ mark M.CloseParenthesis ∷ rest) rest
       all u is h (led_primitive {text = y} {ps = no_patterns}) r =
           let same = r.1.1.0 in
           let e : y ≡ x = cc in
@@ -282,30 +328,42 @@ module _ (k : ℕ) where
       all u is h (led_primitive {ps = more_patterns p ps}) r = let e = r.1.1.1.0 in cc
 
   pub primitive_leads : (x : Bytes) (v : Vec Pattern Global) (rest : List Lexeme) → v.items ≡ [] →
-      Leads (Written k) (Continues k (states.ToPattern (P.Primitive x v) rest)) (keyword K.Prim ∷ mark M.OpenParenthesis ∷ quoted x ∷ mark M.Comma ∷ rest) rest
+      Leads (Written k) (Continues k (states.ToPattern (P.Primitive x v) rest))
+      (keyword K.Prim ∷ mark M.OpenParenthesis ∷ quoted x ∷ mark M.Comma ∷ rest) rest
   primitive_leads x v rest e = leads_by k _ _ _ _ sound all (omega arith)
     where
       first : (p : PatternTree) (ps : PatternTrees) → patterns_with v p ps ≡ more_patterns p ps
       first p ps = ap (λ xs. patterns_then (map pattern_of xs) (more_patterns p ps)) e
 
-      sound : Sound k (Continues k (states.ToPattern (P.Primitive x v) rest)) (keyword K.Prim) (mark M.OpenParenthesis ∷ quoted x ∷ mark M.Comma ∷ rest) rest
-      sound way u is left (at_pattern p (goes_primitive ps f)) r = rw (f ∙ ap (primitive x) (first p ps)) (refl, (refl, (refl, (refl, r))))
+      sound : Sound k (Continues k (states.ToPattern (P.Primitive x v) rest)) (keyword K.Prim)
+          (mark M.OpenParenthesis ∷ quoted x ∷ mark M.Comma ∷ rest) rest
+      sound way u is left (at_pattern p (goes_primitive ps f)) r =
+          rw (f ∙ ap (primitive x) (first p ps)) (refl, (refl, (refl, (refl, r))))
 
-      all : Complete k (Continues k (states.ToPattern (P.Primitive x v) rest)) (keyword K.Prim) (mark M.OpenParenthesis ∷ quoted x ∷ mark M.Comma ∷ rest) rest
+      all : Complete k (Continues k (states.ToPattern (P.Primitive x v) rest)) (keyword K.Prim)
+          (mark M.OpenParenthesis ∷ quoted x ∷ mark M.Comma ∷ rest) rest
       all u is h (led_primitive {ps = no_patterns}) r = let e = r.1.1.1.0 in cc
       all u is h (led_primitive {text = y} {ps = more_patterns p ps}) r =
           let same = r.1.1.0 in
           let d : y ≡ x = cc in
-          record { left = _; goes = at_pattern p (goes_primitive ps (ap (λ z. primitive z (more_patterns p ps)) d ∙ sym (ap (primitive x) (first p ps)))); runs = r.1.1.1.1 }
+          record {
+            left = _;
+            goes =
+                at_pattern p (goes_primitive ps (ap (λ z. primitive z (more_patterns p ps)) d ∙
+                sym (ap (primitive x) (first p ps))));
+            runs = r.1.1.1.1;
+          }
 
-  pub primitive_no_parenthesis : (ts : List Lexeme) → NotAt (mark M.OpenParenthesis) ts → NoRun (Written k) (keyword K.Prim ∷ ts)
+  pub primitive_no_parenthesis : (ts : List Lexeme) → NotAt (mark M.OpenParenthesis) ts →
+      NoRun (Written k) (keyword K.Prim ∷ ts)
   primitive_no_parenthesis ts n = no_run_by k _ _ none
     where
       none : NoneLed k (keyword K.Prim) ts
       none u is (led_primitive {text = y} {ps = ps}) r =
           not_at either _ (token (quoted y) ∷ other_patterns false (k + 1) ps (sign M.CloseParenthesis ∷ is)) _ n r.1
 
-  pub primitive_no_text : (ts : List Lexeme) → ((x : Bytes) → NotAt (quoted x) ts) → NoRun (Written k) (keyword K.Prim ∷ mark M.OpenParenthesis ∷ ts)
+  pub primitive_no_text : (ts : List Lexeme) → ((x : Bytes) → NotAt (quoted x) ts) →
+      NoRun (Written k) (keyword K.Prim ∷ mark M.OpenParenthesis ∷ ts)
   primitive_no_text ts n = no_run_by k _ _ none
     where
       none : NoneLed k (keyword K.Prim) (mark M.OpenParenthesis ∷ ts)
@@ -319,4 +377,5 @@ module _ (k : ℕ) where
       none : NoneLed k (keyword K.Prim) (mark M.OpenParenthesis ∷ quoted x ∷ ts)
       none u is (led_primitive {ps = no_patterns}) r = not_at either _ is _ c r.1.1.1
       none u is (led_primitive {ps = more_patterns p ps}) r =
-          not_at either _ (inner_pattern false (k + 1) p (other_patterns false (k + 1) ps (sign M.CloseParenthesis ∷ is))) _ m r.1.1.1
+          not_at either _ (inner_pattern false (k + 1)
+          p (other_patterns false (k + 1) ps (sign M.CloseParenthesis ∷ is))) _ m r.1.1.1

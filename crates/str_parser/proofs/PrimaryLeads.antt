@@ -34,15 +34,18 @@ pub data Led : Lexeme → PrimaryTree → Type 0 where
   led_conditional : {c s : StrategyTree} → Led (keyword K.If) (conditional c s no_strategy)
   led_conditional_else : {c s t : StrategyTree} → Led (keyword K.If) (conditional c s (one_strategy t))
   led_recursive : {x : Bytes} {s : StrategyTree} → Led (keyword K.Rec) (recursive x s)
-  led_let : {d : DefinitionTree} {ds : DefinitionTrees} {s : StrategyTree} → Led (keyword K.Let) (let_in (more_definitions d ds) s)
+  led_let : {d : DefinitionTree} {ds : DefinitionTrees} {s : StrategyTree} →
+      Led (keyword K.Let) (let_in (more_definitions d ds) s)
   led_primitive : {text : Bytes} {ps : PatternTrees} → Led (keyword K.Prim) (primitive text ps)
   led_lambda : {r : RuleTree} → Led (mark M.Backslash) (lambda r)
   led_call : {x : Bytes} → Led (name x) (call x no_arguments)
   led_call_with : {x : Bytes} {ss : StrategyTrees} → Led (name x) (call x (strategy_arguments ss))
-  led_call_with_terms : {x : Bytes} {ss : StrategyTrees} {ps : PatternTrees} → Led (name x) (call x (all_arguments ss ps))
+  led_call_with_terms : {x : Bytes} {ss : StrategyTrees} {ps : PatternTrees} →
+      Led (name x) (call x (all_arguments ss ps))
   led_tuple : {ss : StrategyTrees} → are_operands ss ≡ true → Led (mark M.OpenParenthesis) (tuple_congruence ss)
   led_list : {ss : StrategyTrees} → Led (mark M.OpenBracket) (list_congruence ss no_strategy)
-  led_list_with_tail : {ss : StrategyTrees} {s : StrategyTree} → any_strategies ss ≡ true → Led (mark M.OpenBracket) (list_congruence ss (one_strategy s))
+  led_list_with_tail : {ss : StrategyTrees} {s : StrategyTree} → any_strategies ss ≡ true →
+      Led (mark M.OpenBracket) (list_congruence ss (one_strategy s))
 
 operator_led : (t : Lexeme) (o : Operator) (s : StrategyTree) → t ≡ keyword (keyword_of o) → Led t (operator o s)
 operator_led t O.Where s e = rw e led_where
@@ -52,7 +55,8 @@ operator_led t O.One s e = rw e led_one
 operator_led t O.Some s e = rw e led_some
 
 -- a primary that tokens run along begins with the first of them
-pub led : (way : Way) (k : ℕ) (u : PrimaryTree) (is : List Item) (t : Lexeme) (ts : List Lexeme) → Runs way (primary k u is) (t ∷ ts) → Led t u
+pub led : (way : Way) (k : ℕ) (u : PrimaryTree) (is : List Item) (t : Lexeme) (ts : List Lexeme) →
+    Runs way (primary k u is) (t ∷ ts) → Led t u
 led way k identity is t ts r = rw r.0 led_identity
 led way k failure is t ts r = rw r.0 led_failure
 led way k (match p) is t ts r = rw r.0 led_match
@@ -131,25 +135,30 @@ led_begins t u (led_list_with_tail h) = refl
 pub not_led : (t : Lexeme) → begins_strategy t ≡ false → (u : PrimaryTree) → Led t u → ⊥
 not_led t e u l = let f : begins_strategy t ≡ true = led_begins t u l in cc
 
-step_begins : (way : Way) (k : ℕ) (a : StepTree) (is : List Item) (t : Lexeme) (ts : List Lexeme) → Runs way (step k a is) (t ∷ ts) → begins_strategy t ≡ true
+step_begins : (way : Way) (k : ℕ) (a : StepTree) (is : List Item) (t : Lexeme) (ts : List Lexeme) →
+    Runs way (step k a is) (t ∷ ts) → begins_strategy t ≡ true
 step_begins way k (plain_step a) is t ts r = led_begins t a (led way k a is t ts r)
 step_begins way k (matching a p) is t ts r = led_begins t a (led way k a _ t ts r)
 
-sequence_begins : (way : Way) (k : ℕ) (q : SequenceTree) (is : List Item) (t : Lexeme) (ts : List Lexeme) → Runs way (sequence k q is) (t ∷ ts) → begins_strategy t ≡ true
+sequence_begins : (way : Way) (k : ℕ) (q : SequenceTree) (is : List Item) (t : Lexeme) (ts : List Lexeme) →
+    Runs way (sequence k q is) (t ∷ ts) → begins_strategy t ≡ true
 sequence_begins way k (last a) is t ts r = step_begins way k a is t ts r
 sequence_begins way k (then a q) is t ts r = step_begins way k a _ t ts r
 
-pub strategy_begins : (way : Way) (k : ℕ) (s : StrategyTree) (is : List Item) (t : Lexeme) (ts : List Lexeme) → Runs way (strategy k s is) (t ∷ ts) → begins_strategy t ≡ true
+pub strategy_begins : (way : Way) (k : ℕ) (s : StrategyTree) (is : List Item) (t : Lexeme) (ts : List Lexeme) →
+    Runs way (strategy k s is) (t ∷ ts) → begins_strategy t ≡ true
 strategy_begins way k (plain_sequence q) is t ts r = sequence_begins way k q is t ts r
 strategy_begins way k (left_choice q s) is t ts r = sequence_begins way k q _ t ts r
 strategy_begins way k (guarded_choice q s u) is t ts r = sequence_begins way k q _ t ts r
 
 -- a strategy that is a part begins with what begins strategies
-pub inner_strategy_begins : (k : ℕ) (s : StrategyTree) (is : List Item) (t : Lexeme) (ts : List Lexeme) → Runs either (inner_strategy k s is) (t ∷ ts) → begins_strategy t ≡ true
+pub inner_strategy_begins : (k : ℕ) (s : StrategyTree) (is : List Item) (t : Lexeme) (ts : List Lexeme) →
+    Runs either (inner_strategy k s is) (t ∷ ts) → begins_strategy t ≡ true
 inner_strategy_begins k s is t ts (inl b) = b.1
 inner_strategy_begins k s is t ts (inr r) = strategy_begins either k s is t ts r
 
-pub build_begins : (way : Way) (k : ℕ) (p : PatternTree) (is : List Item) (t : Lexeme) (ts : List Lexeme) → Runs way (pattern false k p is) (t ∷ ts) → begins_pattern false t ≡ true
+pub build_begins : (way : Way) (k : ℕ) (p : PatternTree) (is : List Item) (t : Lexeme) (ts : List Lexeme) →
+    Runs way (pattern false k p is) (t ∷ ts) → begins_pattern false t ≡ true
 build_begins way k (variable x) is t ts r = rw r.0 refl
 build_begins way k wildcard is t ts r = rw r.0 refl
 build_begins way k (alias x p) is t ts r = rw r.0 refl
@@ -165,14 +174,16 @@ build_begins way k (applied s) is t ts r = rw r.1.0 refl
 build_begins way k (applied_to s p) is t ts r = rw r.1.0 refl
 
 -- so does a pattern in a build
-pub inner_build_begins : (k : ℕ) (p : PatternTree) (is : List Item) (t : Lexeme) (ts : List Lexeme) → Runs either (inner_pattern false k p is) (t ∷ ts) → begins_pattern false t ≡ true
+pub inner_build_begins : (k : ℕ) (p : PatternTree) (is : List Item) (t : Lexeme) (ts : List Lexeme) →
+    Runs either (inner_pattern false k p is) (t ∷ ts) → begins_pattern false t ≡ true
 inner_build_begins k p is t ts (inl b) = b.1
 inner_build_begins k p is t ts (inr r) = build_begins either k p is t ts r
 
 -- ---- first tokens of items
 
 -- tokens that run along items begin with one that binds no stronger than the first of the items
-pub strength_met : (is : List Item) (t : Lexeme) (ts : List Lexeme) → strength is ≤ 3 → Runs either is (t ∷ ts) → lexeme_strength t ≤ 3
+pub strength_met : (is : List Item) (t : Lexeme) (ts : List Lexeme) → strength is ≤ 3 → Runs either is (t ∷ ts) →
+    lexeme_strength t ≤ 3
 strength_met [] t ts h r = cc
 strength_met (token u ∷ is) t ts h r = rw r.0 h
 strength_met (part p k ∷ is) t ts h r = absurd (omega (arith, h))
@@ -185,55 +196,76 @@ not_at way t is [] n r = r
 not_at way t is (s ∷ ts) n r = n ts (ap (λ x. x ∷ ts) r.0)
 
 -- the keywords that are none of these begin no strategy
-pub keywords_left : (w : Keyword) → (w ≡ K.Id → ⊥) → (w ≡ K.Fail → ⊥) → (w ≡ K.Where → ⊥) → (w ≡ K.Not → ⊥) → (w ≡ K.All → ⊥) → (w ≡ K.One → ⊥) → (w ≡ K.Some → ⊥) → (w ≡ K.If → ⊥) → (w ≡ K.Rec → ⊥) → (w ≡ K.Let → ⊥) → (w ≡ K.Prim → ⊥) → begins_strategy (keyword w) ≡ false
+pub keywords_left : (w : Keyword) → (w ≡ K.Id → ⊥) → (w ≡ K.Fail → ⊥) → (w ≡ K.Where → ⊥) → (w ≡ K.Not → ⊥) →
+    (w ≡ K.All → ⊥) → (w ≡ K.One → ⊥) → (w ≡ K.Some → ⊥) → (w ≡ K.If → ⊥) → (w ≡ K.Rec → ⊥) → (w ≡ K.Let → ⊥) →
+    (w ≡ K.Prim → ⊥) → begins_strategy (keyword w) ≡ false
 keywords_left K.Signature no_id no_fail no_where no_not no_all no_one no_some no_if no_rec no_let no_prim = refl
 keywords_left K.Sorts no_id no_fail no_where no_not no_all no_one no_some no_if no_rec no_let no_prim = refl
 keywords_left K.Constructors no_id no_fail no_where no_not no_all no_one no_some no_if no_rec no_let no_prim = refl
 keywords_left K.Rules no_id no_fail no_where no_not no_all no_one no_some no_if no_rec no_let no_prim = refl
 keywords_left K.Strategies no_id no_fail no_where no_not no_all no_one no_some no_if no_rec no_let no_prim = refl
 keywords_left K.Id no_id no_fail no_where no_not no_all no_one no_some no_if no_rec no_let no_prim = absurd (no_id refl)
-keywords_left K.Fail no_id no_fail no_where no_not no_all no_one no_some no_if no_rec no_let no_prim = absurd (no_fail refl)
-keywords_left K.Where no_id no_fail no_where no_not no_all no_one no_some no_if no_rec no_let no_prim = absurd (no_where refl)
-keywords_left K.Not no_id no_fail no_where no_not no_all no_one no_some no_if no_rec no_let no_prim = absurd (no_not refl)
+keywords_left K.Fail no_id no_fail no_where no_not no_all no_one no_some no_if no_rec no_let no_prim =
+    absurd (no_fail refl)
+keywords_left K.Where no_id no_fail no_where no_not no_all no_one no_some no_if no_rec no_let no_prim =
+    absurd (no_where refl)
+keywords_left K.Not no_id no_fail no_where no_not no_all no_one no_some no_if no_rec no_let no_prim =
+    absurd (no_not refl)
 keywords_left K.If no_id no_fail no_where no_not no_all no_one no_some no_if no_rec no_let no_prim = absurd (no_if refl)
 keywords_left K.Then no_id no_fail no_where no_not no_all no_one no_some no_if no_rec no_let no_prim = refl
 keywords_left K.Else no_id no_fail no_where no_not no_all no_one no_some no_if no_rec no_let no_prim = refl
 keywords_left K.End no_id no_fail no_where no_not no_all no_one no_some no_if no_rec no_let no_prim = refl
-keywords_left K.All no_id no_fail no_where no_not no_all no_one no_some no_if no_rec no_let no_prim = absurd (no_all refl)
-keywords_left K.One no_id no_fail no_where no_not no_all no_one no_some no_if no_rec no_let no_prim = absurd (no_one refl)
-keywords_left K.Some no_id no_fail no_where no_not no_all no_one no_some no_if no_rec no_let no_prim = absurd (no_some refl)
-keywords_left K.Rec no_id no_fail no_where no_not no_all no_one no_some no_if no_rec no_let no_prim = absurd (no_rec refl)
-keywords_left K.Let no_id no_fail no_where no_not no_all no_one no_some no_if no_rec no_let no_prim = absurd (no_let refl)
+keywords_left K.All no_id no_fail no_where no_not no_all no_one no_some no_if no_rec no_let no_prim =
+    absurd (no_all refl)
+keywords_left K.One no_id no_fail no_where no_not no_all no_one no_some no_if no_rec no_let no_prim =
+    absurd (no_one refl)
+keywords_left K.Some no_id no_fail no_where no_not no_all no_one no_some no_if no_rec no_let no_prim =
+    absurd (no_some refl)
+keywords_left K.Rec no_id no_fail no_where no_not no_all no_one no_some no_if no_rec no_let no_prim =
+    absurd (no_rec refl)
+keywords_left K.Let no_id no_fail no_where no_not no_all no_one no_some no_if no_rec no_let no_prim =
+    absurd (no_let refl)
 keywords_left K.In no_id no_fail no_where no_not no_all no_one no_some no_if no_rec no_let no_prim = refl
-keywords_left K.Prim no_id no_fail no_where no_not no_all no_one no_some no_if no_rec no_let no_prim = absurd (no_prim refl)
+keywords_left K.Prim no_id no_fail no_where no_not no_all no_one no_some no_if no_rec no_let no_prim =
+    absurd (no_prim refl)
 
 -- the marks that are none of these begin no strategy
-pub marks_left : (m : Mark) → (m ≡ M.Question → ⊥) → (m ≡ M.Exclamation → ⊥) → (m ≡ M.Backslash → ⊥) → (m ≡ M.Less → ⊥) → (m ≡ M.OpenParenthesis → ⊥) → (m ≡ M.OpenBracket → ⊥) → (m ≡ M.OpenBrace → ⊥) → begins_strategy (mark m) ≡ false
-marks_left M.OpenParenthesis no_question no_exclamation no_backslash no_less no_parenthesis no_bracket no_brace = absurd (no_parenthesis refl)
+pub marks_left : (m : Mark) → (m ≡ M.Question → ⊥) → (m ≡ M.Exclamation → ⊥) → (m ≡ M.Backslash → ⊥) →
+    (m ≡ M.Less → ⊥) → (m ≡ M.OpenParenthesis → ⊥) → (m ≡ M.OpenBracket → ⊥) → (m ≡ M.OpenBrace → ⊥) →
+    begins_strategy (mark m) ≡ false
+marks_left M.OpenParenthesis no_question no_exclamation no_backslash no_less no_parenthesis no_bracket no_brace =
+    absurd (no_parenthesis refl)
 marks_left M.CloseParenthesis no_question no_exclamation no_backslash no_less no_parenthesis no_bracket no_brace = refl
-marks_left M.OpenBracket no_question no_exclamation no_backslash no_less no_parenthesis no_bracket no_brace = absurd (no_bracket refl)
+marks_left M.OpenBracket no_question no_exclamation no_backslash no_less no_parenthesis no_bracket no_brace =
+    absurd (no_bracket refl)
 marks_left M.CloseBracket no_question no_exclamation no_backslash no_less no_parenthesis no_bracket no_brace = refl
-marks_left M.OpenBrace no_question no_exclamation no_backslash no_less no_parenthesis no_bracket no_brace = absurd (no_brace refl)
+marks_left M.OpenBrace no_question no_exclamation no_backslash no_less no_parenthesis no_bracket no_brace =
+    absurd (no_brace refl)
 marks_left M.CloseBrace no_question no_exclamation no_backslash no_less no_parenthesis no_bracket no_brace = refl
 marks_left M.Bar no_question no_exclamation no_backslash no_less no_parenthesis no_bracket no_brace = refl
 marks_left M.Comma no_question no_exclamation no_backslash no_less no_parenthesis no_bracket no_brace = refl
 marks_left M.Colon no_question no_exclamation no_backslash no_less no_parenthesis no_bracket no_brace = refl
 marks_left M.Semicolon no_question no_exclamation no_backslash no_less no_parenthesis no_bracket no_brace = refl
 marks_left M.Equals no_question no_exclamation no_backslash no_less no_parenthesis no_bracket no_brace = refl
-marks_left M.Question no_question no_exclamation no_backslash no_less no_parenthesis no_bracket no_brace = absurd (no_question refl)
-marks_left M.Exclamation no_question no_exclamation no_backslash no_less no_parenthesis no_bracket no_brace = absurd (no_exclamation refl)
+marks_left M.Question no_question no_exclamation no_backslash no_less no_parenthesis no_bracket no_brace =
+    absurd (no_question refl)
+marks_left M.Exclamation no_question no_exclamation no_backslash no_less no_parenthesis no_bracket no_brace =
+    absurd (no_exclamation refl)
 marks_left M.At no_question no_exclamation no_backslash no_less no_parenthesis no_bracket no_brace = refl
 marks_left M.Star no_question no_exclamation no_backslash no_less no_parenthesis no_bracket no_brace = refl
 marks_left M.Plus no_question no_exclamation no_backslash no_less no_parenthesis no_bracket no_brace = refl
-marks_left M.Backslash no_question no_exclamation no_backslash no_less no_parenthesis no_bracket no_brace = absurd (no_backslash refl)
-marks_left M.Less no_question no_exclamation no_backslash no_less no_parenthesis no_bracket no_brace = absurd (no_less refl)
+marks_left M.Backslash no_question no_exclamation no_backslash no_less no_parenthesis no_bracket no_brace =
+    absurd (no_backslash refl)
+marks_left M.Less no_question no_exclamation no_backslash no_less no_parenthesis no_bracket no_brace =
+    absurd (no_less refl)
 marks_left M.Greater no_question no_exclamation no_backslash no_less no_parenthesis no_bracket no_brace = refl
 marks_left M.Arrow no_question no_exclamation no_backslash no_less no_parenthesis no_bracket no_brace = refl
 marks_left M.DoubleArrow no_question no_exclamation no_backslash no_less no_parenthesis no_bracket no_brace = refl
 marks_left M.LeftChoice no_question no_exclamation no_backslash no_less no_parenthesis no_bracket no_brace = refl
 
 -- a token in the code that is no name, no mark and no keyword begins no strategy
-pub tokens_left : (t : CodeLexeme) → ((x : Bor (List ℕ)) → t ≡ C.Name x → ⊥) → ((m : Mark) → t ≡ C.Mark m → ⊥) → ((w : Keyword) → t ≡ C.Keyword w → ⊥) →
+pub tokens_left : (t : CodeLexeme) → ((x : Bor (List ℕ)) → t ≡ C.Name x → ⊥) → ((m : Mark) → t ≡ C.Mark m → ⊥) →
+    ((w : Keyword) → t ≡ C.Keyword w → ⊥) →
     begins_strategy (lexeme_in t) ≡ false
 tokens_left (C.Name x) no_name no_mark no_keyword = absurd (no_name x refl)
 tokens_left C.Wildcard no_name no_mark no_keyword = refl
@@ -244,7 +276,8 @@ tokens_left (C.Keyword w) no_name no_mark no_keyword = absurd (no_keyword w refl
 tokens_left C.LeftOut no_name no_mark no_keyword = refl
 
 -- a token in the code that is no quoted text is at no quoted text
-pub no_quoted : (t : CodeLexeme) (ts rest : List Lexeme) → ts ≡ lexeme_in t ∷ rest → ((x : Bor (List ℕ)) → t ≡ C.Quoted x → ⊥) → (x : Bytes) → NotAt (quoted x) ts
+pub no_quoted : (t : CodeLexeme) (ts rest : List Lexeme) → ts ≡ lexeme_in t ∷ rest →
+    ((x : Bor (List ℕ)) → t ≡ C.Quoted x → ⊥) → (x : Bytes) → NotAt (quoted x) ts
 no_quoted (C.Name y) ts rest e no_text x = λ others f. cc
 no_quoted C.Wildcard ts rest e no_text x = λ others f. cc
 no_quoted (C.Integer z) ts rest e no_text x = λ others f. cc

@@ -16,20 +16,25 @@ use Rattle.str_parser.proofs.WholeLaws.{EndsWith}
 
 -- ---- \ p
 
-rule_left_sound : (k : ℕ) (l : Box Pattern Global) (rest : List Lexeme) (way : Way) (u : PrimaryTree) (is left : List Item) →
+rule_left_sound : (k : ℕ) (l : Box Pattern Global) (rest : List Lexeme) (way : Way) (u : PrimaryTree)
+    (is left : List Item) →
     Continues k (states.ToPattern (P.RuleRight l) rest) u is left → Runs way left rest →
     Run (GoesBy k P.RuleLeft (pattern_of l.value)) way u is (mark M.Arrow ∷ rest)
-rule_left_sound k l rest way u is left (at_pattern r goes_rule_right) s = record { left = _; goes = goes_rule_left; runs = (refl, s) }
-rule_left_sound k l rest way u is left (at_pattern r goes_rule_right_where) s = record { left = _; goes = goes_rule_left_where; runs = (refl, s) }
+rule_left_sound k l rest way u is left (at_pattern r goes_rule_right) s =
+    record { left = _; goes = goes_rule_left; runs = (refl, s) }
+rule_left_sound k l rest way u is left (at_pattern r goes_rule_right_where) s =
+    record { left = _; goes = goes_rule_left_where; runs = (refl, s) }
 
 rule_left_all : (k : ℕ) (l : Box Pattern Global) (rest : List Lexeme) (u : PrimaryTree) (is left : List Item) →
     GoesBy k P.RuleLeft (pattern_of l.value) u is left → Runs either left (mark M.Arrow ∷ rest) →
     Run (Continues k (states.ToPattern (P.RuleRight l) rest)) either u is rest
 rule_left_all k l rest u is left goes_rule_left s = record { left = _; goes = at_pattern _ goes_rule_right; runs = s.1 }
-rule_left_all k l rest u is left goes_rule_left_where s = record { left = _; goes = at_pattern _ goes_rule_right_where; runs = s.1 }
+rule_left_all k l rest u is left goes_rule_left_where s =
+    record { left = _; goes = at_pattern _ goes_rule_right_where; runs = s.1 }
 
 pub rule_left_leads : (k : ℕ) (l : Box Pattern Global) (rest : List Lexeme) →
-    Leads (GoesBy k P.RuleLeft (pattern_of l.value)) (Continues k (states.ToPattern (P.RuleRight l) rest)) (mark M.Arrow ∷ rest) rest
+    Leads (GoesBy k P.RuleLeft (pattern_of l.value)) (Continues k (states.ToPattern (P.RuleRight l) rest))
+    (mark M.Arrow ∷ rest) rest
 rule_left_leads k l rest = record {
   sound = λ way u is r. rule_left_sound k l rest way u is r.left r.goes r.runs;
   all = λ u is h r. rule_left_all k l rest u is r.left r.goes r.runs;
@@ -38,19 +43,23 @@ rule_left_leads k l rest = record {
 
 -- ---- \ p -> p
 
-rule_where_sound : (k : ℕ) (l r : Box Pattern Global) (rest : List Lexeme) (way : Way) (u : PrimaryTree) (is left : List Item) →
+rule_where_sound : (k : ℕ) (l r : Box Pattern Global) (rest : List Lexeme) (way : Way) (u : PrimaryTree)
+    (is left : List Item) →
     Continues k (states.ToStrategy (B.RuleCondition l r) rest) u is left → Runs way left rest →
     Run (GoesBy k (P.RuleRight l) (pattern_of r.value)) way u is (keyword K.Where ∷ rest)
-rule_where_sound k l r rest way u is left (at_strategy s goes_rule_condition) x = record { left = _; goes = goes_rule_right_where; runs = (refl, x) }
+rule_where_sound k l r rest way u is left (at_strategy s goes_rule_condition) x =
+    record { left = _; goes = goes_rule_right_where; runs = (refl, x) }
 
 rule_where_all : (k : ℕ) (l r : Box Pattern Global) (rest : List Lexeme) (u : PrimaryTree) (is left : List Item) →
     GoesBy k (P.RuleRight l) (pattern_of r.value) u is left → Runs either left (keyword K.Where ∷ rest) →
     Run (Continues k (states.ToStrategy (B.RuleCondition l r) rest)) either u is rest
 rule_where_all k l r rest u is left goes_rule_right x = let t = x.0 in cc
-rule_where_all k l r rest u is left goes_rule_right_where x = record { left = _; goes = at_strategy _ goes_rule_condition; runs = x.1 }
+rule_where_all k l r rest u is left goes_rule_right_where x =
+    record { left = _; goes = at_strategy _ goes_rule_condition; runs = x.1 }
 
 pub rule_where_leads : (k : ℕ) (l r : Box Pattern Global) (rest : List Lexeme) →
-    Leads (GoesBy k (P.RuleRight l) (pattern_of r.value)) (Continues k (states.ToStrategy (B.RuleCondition l r) rest)) (keyword K.Where ∷ rest) rest
+    Leads (GoesBy k (P.RuleRight l) (pattern_of r.value)) (Continues k (states.ToStrategy (B.RuleCondition l r) rest))
+    (keyword K.Where ∷ rest) rest
 rule_where_leads k l r rest = record {
   sound = λ way u is x. rule_where_sound k l r rest way u is x.left x.goes x.runs;
   all = λ u is h x. rule_where_all k l r rest u is x.left x.goes x.runs;
@@ -64,7 +73,8 @@ rule_end_all k l r rest u is left goes_rule_right x = (refl, x.1)
 rule_end_all k l r rest u is left goes_rule_right_where x = let t = x.0 in cc
 
 pub rule_ends : (k : ℕ) (l r : Box Pattern Global) (rest : List Lexeme) →
-    EndsWith (GoesBy k (P.RuleRight l) (pattern_of r.value)) (lambda (rewrites (pattern_of l.value) (pattern_of r.value) no_strategy)) (mark M.Backslash ∷ rest) rest
+    EndsWith (GoesBy k (P.RuleRight l) (pattern_of r.value))
+    (lambda (rewrites (pattern_of l.value) (pattern_of r.value) no_strategy)) (mark M.Backslash ∷ rest) rest
 rule_ends k l r rest = record {
   sound = λ way is x. record { left = _; goes = goes_rule_right; runs = (refl, x) };
   all = λ u is h x. rule_end_all k l r rest u is x.left x.goes x.runs;
@@ -73,13 +83,15 @@ rule_ends k l r rest = record {
 
 -- ---- \ p -> p where s
 
-rule_condition_all : (k : ℕ) (l r : Box Pattern Global) (s : StrategyTree) (rest : List Lexeme) (u : PrimaryTree) (is left : List Item) →
+rule_condition_all : (k : ℕ) (l r : Box Pattern Global) (s : StrategyTree) (rest : List Lexeme) (u : PrimaryTree)
+    (is left : List Item) →
     Goes k (B.RuleCondition l r) s u is left → Runs either left (mark M.Backslash ∷ rest) →
     (u ≡ lambda (rewrites (pattern_of l.value) (pattern_of r.value) (one_strategy s))) × Runs either is rest
 rule_condition_all k l r s rest u is left goes_rule_condition x = (refl, x.1)
 
 pub rule_condition_ends : (k : ℕ) (l r : Box Pattern Global) (s : StrategyTree) (rest : List Lexeme) →
-    EndsWith (Goes k (B.RuleCondition l r) s) (lambda (rewrites (pattern_of l.value) (pattern_of r.value) (one_strategy s))) (mark M.Backslash ∷ rest) rest
+    EndsWith (Goes k (B.RuleCondition l r) s)
+    (lambda (rewrites (pattern_of l.value) (pattern_of r.value) (one_strategy s))) (mark M.Backslash ∷ rest) rest
 rule_condition_ends k l r s rest = record {
   sound = λ way is x. record { left = _; goes = goes_rule_condition; runs = (refl, x) };
   all = λ u is h x. rule_condition_all k l r s rest u is x.left x.goes x.runs;

@@ -48,7 +48,8 @@ fault_along (refusals.Syntax _ _) f g h = f h
 fault_along (refusals.Nesting _) f g h = g h
 
 -- a fault that says Syntax says that there is no tree
-pub syntax_fault : {T : Type 0} {write : T → List Item → List Item} {Stops : List Item → Type 0} {ts : List Lexeme} (e : Refusal) →
+pub syntax_fault : {T : Type 0} {write : T → List Item → List Item} {Stops : List Item →
+    Type 0} {ts : List Lexeme} (e : Refusal) →
     IsSyntax e → Missing write Stops ts → IsFault write Stops ts e
 syntax_fault (refusals.Syntax _ _) s m = m
 syntax_fault _ s m = absurd s

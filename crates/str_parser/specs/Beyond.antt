@@ -1,3 +1,4 @@
+-- The headline does not rest on this file.
 -- The fault where a part would stand at level 201.
 use Rattle.std.specs.Prelude.{Bool, true, false}
 use Rattle.str_parser.specs.declared.refusal.Refusal.{Refusal}

@@ -2,8 +2,8 @@
 use Rattle.std.specs.Prelude.{◌≡◌, ◌⊎◌, ℕ, ◌+◌, ◌≤◌, Bool, true, false, List, [], ◌∷◌}
 use Rattle.str_parser.specs.Lexemes.{Lexeme, Part, build_part, first_begins}
 
--- A token; a mark that a part of this kind comes next, at this level; that no token comes next with which a build begins;
--- or that this holds of the phrase.
+-- A token; a mark that a part of this kind comes next, at this level; that no token comes next with which a build
+-- begins; or that this holds of the phrase.
 pub data Item : Type 0 where
   token : Lexeme → Item
   part : Part → ℕ → Item
@@ -14,8 +14,8 @@ pub data Item : Type 0 where
 abbrev pub max_level : ℕ
 max_level = 200
 
--- How tokens run along items: to the end of both, with no part beyond the greatest level; up to a part one level beyond it which the
--- next token can begin; or in one of these ways, where no level bounds what is passed on the way.
+-- How tokens run along items: to the end of both, with no part beyond the greatest level; up to a part one level beyond
+-- it which the next token can begin; or in one of these ways, where no level bounds what is passed on the way.
 pub data Way : Type 0 where
   whole : Way
   too_deep : Way

@@ -1,3 +1,4 @@
+-- The headline does not rest on this file.
 -- What reading the parts of files, and whole files, returns.
 use Rattle.std.specs.Prelude.{◌≡◌, Bool, true, false, map, if◌then◌else◌, List, [], ◌∷◌, Result, Ok, Err}
 use Rattle.std.specs.declared.vec.Vec.{Vec}
@@ -63,7 +64,8 @@ AtEnd is = is ≡ []
 -- ---- all of the tokens
 
 -- the tree that all of the tokens are, or a fault
-abbrev pub IsReadingAll : {T X : Type 0} → (T → List Item → List Item) → (X → T) → List Lexeme → Result X Refusal → Type 0
+abbrev pub IsReadingAll : {T X : Type 0} → (T → List Item → List Item) → (X → T) → List Lexeme → Result X Refusal →
+    Type 0
 IsReadingAll write tree_of ts (Ok x) = FoundAny write AtEnd ts (tree_of x) []
 IsReadingAll write tree_of ts (Err e) = IsFault write AtEnd ts e
 
@@ -87,8 +89,8 @@ fault_of refusals.Memory = faults.Memory
 fault_of (refusals.Syntax at _) = faults.Syntax at
 fault_of (refusals.Nesting at) = faults.Nesting at
 
--- What reading a file returns: the file; Syntax where the tokens are no phrase, and none up to a part at level 201; Nesting where
--- they are one up to such a part.
+-- What reading a file returns: the file; Syntax where the tokens are no phrase, and none up to a part at level 201;
+-- Nesting where they are one up to such a part.
 abbrev pub IsParsing : List Lexeme → Result File Fault → Type 0
 IsParsing ts (Ok f) = OnlyPhrase ts (file_of f) × (TooNested ts → ⊥)
 IsParsing ts (Err faults.Memory) = Unit {0}

@@ -42,7 +42,8 @@ some_names (x ∷ xs) is = named x ∷ other_names xs is
 abbrev pub parameters : ParameterTree → List Item → List Item
 parameters absent is = is
 parameters (strategies_only fs) is = sign M.OpenParenthesis ∷ names fs (sign M.CloseParenthesis ∷ is)
-parameters (with_terms fs xs) is = sign M.OpenParenthesis ∷ names fs (sign M.Bar ∷ names xs (sign M.CloseParenthesis ∷ is))
+parameters (with_terms fs xs) is =
+    sign M.OpenParenthesis ∷ names fs (sign M.Bar ∷ names xs (sign M.CloseParenthesis ∷ is))
 
 -- a name with parameters
 abbrev pub headed : HeadTree → List Item → List Item
@@ -88,7 +89,8 @@ abbrev pub any_strategies : StrategyTrees → Bool
 any_strategies no_strategies = false
 any_strategies (more_strategies s ss) = true
 
--- annotations may follow the pattern: after x@p they are those of p, after <s> p too, and after <s> or annotations there are none
+-- annotations may follow the pattern: after x@p they are those of p, after <s> p too, and after <s> or annotations
+-- there are none
 abbrev pub takes_annotations : PatternTree → Bool
 takes_annotations (alias x p) = false
 takes_annotations (annotated p qs) = false
@@ -101,33 +103,55 @@ abbrev mutual
   pub pattern : Bool → ℕ → PatternTree → List Item → List Item
   pattern in_match k (variable x) is = named x ∷ is
   pattern in_match k wildcard is = token L.wildcard ∷ is
-  pattern in_match k (alias x p) is = named x ∷ sign M.At ∷ part (pattern_part in_match) (k + 1) ∷ pattern in_match (k + 1) p is
+  pattern in_match k (alias x p) is =
+      named x ∷ sign M.At ∷ part (pattern_part in_match) (k + 1) ∷ pattern in_match (k + 1) p is
   pattern in_match k (integer z) is = token (L.integer z) ∷ is
   pattern in_match k (quoted text) is = token (L.quoted text) ∷ is
-  pattern in_match k (application c ps) is = only (is_constructor c) ∷ named c ∷ sign M.OpenParenthesis ∷ patterns in_match (k + 1) ps (sign M.CloseParenthesis ∷ is)
-  pattern in_match k (grouped p) is = sign M.OpenParenthesis ∷ part (pattern_part in_match) (k + 1) ∷ pattern in_match (k + 1) p (sign M.CloseParenthesis ∷ is)
-  pattern in_match k (tuple ps) is = only (are_parts ps) ∷ sign M.OpenParenthesis ∷ patterns in_match (k + 1) ps (sign M.CloseParenthesis ∷ is)
-  pattern in_match k (list ps no_pattern) is = sign M.OpenBracket ∷ patterns in_match (k + 1) ps (sign M.CloseBracket ∷ is)
-  pattern in_match k (list ps (one_pattern p)) is = only (any_patterns ps) ∷ sign M.OpenBracket ∷ patterns in_match (k + 1) ps (sign M.Bar ∷ part (pattern_part in_match) (k + 1) ∷ pattern in_match (k + 1) p (sign M.CloseBracket ∷ is))
-  pattern in_match k (annotated p qs) is = only (takes_annotations p) ∷ pattern in_match k p (sign M.OpenBrace ∷ patterns in_match (k + 1) qs (sign M.CloseBrace ∷ is))
-  pattern in_match k (applied s) is = only (is_not in_match) ∷ sign M.Less ∷ part strategy_part (k + 1) ∷ strategy (k + 1) s (sign M.Greater ∷ no_build ∷ is)
-  pattern in_match k (applied_to s p) is = only (is_not in_match) ∷ sign M.Less ∷ part strategy_part (k + 1) ∷ strategy (k + 1) s (sign M.Greater ∷ part build_part (k + 1) ∷ pattern in_match (k + 1) p is)
+  pattern in_match k (application c ps) is =
+      only (is_constructor c) ∷ named c ∷ sign M.OpenParenthesis ∷
+      patterns in_match (k + 1) ps (sign M.CloseParenthesis ∷ is)
+  pattern in_match k (grouped p) is =
+      sign M.OpenParenthesis ∷ part (pattern_part in_match) (k + 1) ∷
+      pattern in_match (k + 1) p (sign M.CloseParenthesis ∷ is)
+  pattern in_match k (tuple ps) is =
+      only (are_parts ps) ∷ sign M.OpenParenthesis ∷ patterns in_match (k + 1) ps (sign M.CloseParenthesis ∷ is)
+  pattern in_match k (list ps no_pattern) is =
+      sign M.OpenBracket ∷ patterns in_match (k + 1) ps (sign M.CloseBracket ∷ is)
+  pattern in_match k (list ps (one_pattern p)) is =
+      only (any_patterns ps) ∷ sign M.OpenBracket ∷
+      patterns in_match (k + 1)
+      ps (sign M.Bar ∷ part (pattern_part in_match) (k + 1) ∷ pattern in_match (k + 1) p (sign M.CloseBracket ∷ is))
+  pattern in_match k (annotated p qs) is =
+      only (takes_annotations p) ∷
+      pattern in_match k p (sign M.OpenBrace ∷ patterns in_match (k + 1) qs (sign M.CloseBrace ∷ is))
+  pattern in_match k (applied s) is =
+      only (is_not in_match) ∷ sign M.Less ∷ part strategy_part (k + 1) ∷
+      strategy (k + 1) s (sign M.Greater ∷ no_build ∷ is)
+  pattern in_match k (applied_to s p) is =
+      only (is_not in_match) ∷ sign M.Less ∷ part strategy_part (k + 1) ∷
+      strategy (k + 1) s (sign M.Greater ∷ part build_part (k + 1) ∷ pattern in_match (k + 1) p is)
 
   -- patterns at this level, with commas between
   pub patterns : Bool → ℕ → PatternTrees → List Item → List Item
   patterns in_match k no_patterns is = is
-  patterns in_match k (more_patterns p ps) is = part (pattern_part in_match) k ∷ pattern in_match k p (other_patterns in_match k ps is)
+  patterns in_match k (more_patterns p ps) is =
+      part (pattern_part in_match) k ∷ pattern in_match k p (other_patterns in_match k ps is)
 
   -- patterns at this level, with a comma before each
   pub other_patterns : Bool → ℕ → PatternTrees → List Item → List Item
   other_patterns in_match k no_patterns is = is
-  other_patterns in_match k (more_patterns p ps) is = sign M.Comma ∷ part (pattern_part in_match) k ∷ pattern in_match k p (other_patterns in_match k ps is)
+  other_patterns in_match k (more_patterns p ps) is =
+      sign M.Comma ∷ part (pattern_part in_match) k ∷ pattern in_match k p (other_patterns in_match k ps is)
 
-  -- The strategy at this level. What stands left of an operator is at its level, what stands right of it one level further in.
+  -- The strategy at this level. What stands left of an operator is at its level, what stands right of it one level
+  -- further in.
   pub strategy : ℕ → StrategyTree → List Item → List Item
   strategy k (plain_sequence q) is = sequence k q is
-  strategy k (left_choice q s) is = sequence k q (sign M.LeftChoice ∷ part strategy_part (k + 1) ∷ strategy (k + 1) s is)
-  strategy k (guarded_choice q s t) is = sequence k q (sign M.Less ∷ part strategy_part (k + 1) ∷ strategy (k + 1) s (sign M.Plus ∷ part strategy_part (k + 1) ∷ strategy (k + 1) t is))
+  strategy k (left_choice q s) is =
+      sequence k q (sign M.LeftChoice ∷ part strategy_part (k + 1) ∷ strategy (k + 1) s is)
+  strategy k (guarded_choice q s t) is =
+      sequence k q (sign M.Less ∷ part strategy_part (k + 1) ∷
+      strategy (k + 1) s (sign M.Plus ∷ part strategy_part (k + 1) ∷ strategy (k + 1) t is))
 
   -- strategies at this level, with commas between
   pub strategy_list : ℕ → StrategyTrees → List Item → List Item
@@ -137,7 +161,8 @@ abbrev mutual
   -- strategies at this level, with a comma before each
   pub other_strategies : ℕ → StrategyTrees → List Item → List Item
   other_strategies k no_strategies is = is
-  other_strategies k (more_strategies s ss) is = sign M.Comma ∷ part strategy_part k ∷ strategy k s (other_strategies k ss is)
+  other_strategies k (more_strategies s ss) is =
+      sign M.Comma ∷ part strategy_part k ∷ strategy k s (other_strategies k ss is)
 
   pub sequence : ℕ → SequenceTree → List Item → List Item
   sequence k (last a) is = step k a is
@@ -153,20 +178,38 @@ abbrev mutual
   primary k failure is = word K.Fail ∷ is
   primary k (match p) is = sign M.Question ∷ part match_part (k + 1) ∷ pattern true (k + 1) p is
   primary k (build p) is = sign M.Exclamation ∷ part build_part (k + 1) ∷ pattern false (k + 1) p is
-  primary k (apply s p) is = sign M.Less ∷ part strategy_part (k + 1) ∷ strategy (k + 1) s (sign M.Greater ∷ part build_part (k + 1) ∷ pattern false (k + 1) p is)
-  primary k (parenthesized s) is = sign M.OpenParenthesis ∷ part strategy_part (k + 1) ∷ strategy (k + 1) s (sign M.CloseParenthesis ∷ is)
-  primary k (scope xs s) is = sign M.OpenBrace ∷ some_names xs (sign M.Colon ∷ part strategy_part (k + 1) ∷ strategy (k + 1) s (sign M.CloseBrace ∷ is))
-  primary k (operator o s) is = word (keyword_of o) ∷ sign M.OpenParenthesis ∷ part strategy_part (k + 1) ∷ strategy (k + 1) s (sign M.CloseParenthesis ∷ is)
-  primary k (conditional c s o) is = word K.If ∷ part strategy_part (k + 1) ∷ strategy (k + 1) c (word K.Then ∷ part strategy_part (k + 1) ∷ strategy (k + 1) s (led_by K.Else (k + 1) o (word K.End ∷ is)))
-  primary k (recursive x s) is = word K.Rec ∷ named x ∷ sign M.OpenParenthesis ∷ part strategy_part (k + 1) ∷ strategy (k + 1) s (sign M.CloseParenthesis ∷ is)
+  primary k (apply s p) is = sign M.Less ∷ part strategy_part (k + 1) ∷
+      strategy (k + 1) s (sign M.Greater ∷ part build_part (k + 1) ∷ pattern false (k + 1) p is)
+  primary k (parenthesized s) is =
+      sign M.OpenParenthesis ∷ part strategy_part (k + 1) ∷ strategy (k + 1) s (sign M.CloseParenthesis ∷ is)
+  primary k (scope xs s) is = sign M.OpenBrace ∷
+      some_names xs (sign M.Colon ∷ part strategy_part (k + 1) ∷ strategy (k + 1) s (sign M.CloseBrace ∷ is))
+  primary k (operator o s) is =
+      word (keyword_of o) ∷ sign M.OpenParenthesis ∷ part strategy_part (k + 1) ∷
+      strategy (k + 1) s (sign M.CloseParenthesis ∷ is)
+  primary k (conditional c s o) is =
+      word K.If ∷ part strategy_part (k + 1) ∷
+      strategy (k + 1) c (word K.Then ∷ part strategy_part (k + 1) ∷
+      strategy (k + 1) s (led_by K.Else (k + 1) o (word K.End ∷ is)))
+  primary k (recursive x s) is =
+      word K.Rec ∷ named x ∷ sign M.OpenParenthesis ∷ part strategy_part (k + 1) ∷
+      strategy (k + 1) s (sign M.CloseParenthesis ∷ is)
   primary k (let_in no_definitions s) is = only false ∷ is
-  primary k (let_in (more_definitions d ds) s) is = word K.Let ∷ defined (k + 1) d (definitions (k + 1) ds (word K.In ∷ part strategy_part (k + 1) ∷ strategy (k + 1) s (word K.End ∷ is)))
-  primary k (primitive text ps) is = word K.Prim ∷ sign M.OpenParenthesis ∷ token (L.quoted text) ∷ other_patterns false (k + 1) ps (sign M.CloseParenthesis ∷ is)
+  primary k (let_in (more_definitions d ds) s) is =
+      word K.Let ∷ defined (k + 1)
+      d (definitions (k + 1) ds (word K.In ∷ part strategy_part (k + 1) ∷ strategy (k + 1) s (word K.End ∷ is)))
+  primary k (primitive text ps) is =
+      word K.Prim ∷ sign M.OpenParenthesis ∷ token (L.quoted text) ∷
+      other_patterns false (k + 1) ps (sign M.CloseParenthesis ∷ is)
   primary k (lambda r) is = sign M.Backslash ∷ rule (k + 1) r (sign M.Backslash ∷ is)
   primary k (call x a) is = named x ∷ arguments (k + 1) a is
-  primary k (tuple_congruence ss) is = only (are_operands ss) ∷ sign M.OpenParenthesis ∷ strategy_list (k + 1) ss (sign M.CloseParenthesis ∷ is)
-  primary k (list_congruence ss no_strategy) is = sign M.OpenBracket ∷ strategy_list (k + 1) ss (sign M.CloseBracket ∷ is)
-  primary k (list_congruence ss (one_strategy s)) is = only (any_strategies ss) ∷ sign M.OpenBracket ∷ strategy_list (k + 1) ss (sign M.Bar ∷ part strategy_part (k + 1) ∷ strategy (k + 1) s (sign M.CloseBracket ∷ is))
+  primary k (tuple_congruence ss) is =
+      only (are_operands ss) ∷ sign M.OpenParenthesis ∷ strategy_list (k + 1) ss (sign M.CloseParenthesis ∷ is)
+  primary k (list_congruence ss no_strategy) is =
+      sign M.OpenBracket ∷ strategy_list (k + 1) ss (sign M.CloseBracket ∷ is)
+  primary k (list_congruence ss (one_strategy s)) is =
+      only (any_strategies ss) ∷ sign M.OpenBracket ∷
+      strategy_list (k + 1) ss (sign M.Bar ∷ part strategy_part (k + 1) ∷ strategy (k + 1) s (sign M.CloseBracket ∷ is))
 
   -- an optional strategy at this level, with this keyword before it
   pub led_by : Keyword → ℕ → OptionalStrategy → List Item → List Item
@@ -177,11 +220,13 @@ abbrev mutual
   pub arguments : ℕ → ArgumentTree → List Item → List Item
   arguments k no_arguments is = is
   arguments k (strategy_arguments ss) is = sign M.OpenParenthesis ∷ strategy_list k ss (sign M.CloseParenthesis ∷ is)
-  arguments k (all_arguments ss ps) is = sign M.OpenParenthesis ∷ strategy_list k ss (sign M.Bar ∷ patterns false k ps (sign M.CloseParenthesis ∷ is))
+  arguments k (all_arguments ss ps) is =
+      sign M.OpenParenthesis ∷ strategy_list k ss (sign M.Bar ∷ patterns false k ps (sign M.CloseParenthesis ∷ is))
 
   -- the sides and the condition of a rule, at this level
   pub rule : ℕ → RuleTree → List Item → List Item
-  rule k (rewrites l r o) is = part match_part k ∷ pattern true k l (sign M.Arrow ∷ part build_part k ∷ pattern false k r (led_by K.Where k o is))
+  rule k (rewrites l r o) is = part match_part k ∷
+      pattern true k l (sign M.Arrow ∷ part build_part k ∷ pattern false k r (led_by K.Where k o is))
 
   -- a definition whose body is at this level
   pub defined : ℕ → DefinitionTree → List Item → List Item
@@ -200,7 +245,8 @@ any_sorts (more_sorts s ss) = true
 abbrev mutual
   pub sorted : ℕ → SortTree → List Item → List Item
   sorted k (sort x) is = named x ∷ is
-  sorted k (sort_of x ss) is = only (any_sorts ss) ∷ named x ∷ sign M.OpenParenthesis ∷ sort_list (k + 1) ss (sign M.CloseParenthesis ∷ is)
+  sorted k (sort_of x ss) is = only (any_sorts ss) ∷ named x ∷ sign M.OpenParenthesis ∷
+      sort_list (k + 1) ss (sign M.CloseParenthesis ∷ is)
 
   -- sorts at this level, with commas between
   pub sort_list : ℕ → SortTrees → List Item → List Item
@@ -287,7 +333,8 @@ pub record OnlyPhrase (ts : List Lexeme) (f : FileTree) : Type 0 where
   pub phrase : IsPhrase ts f
   pub only_one : (g : FileTree) → IsPhrase ts g → g ≡ f
 
--- some first tokens are the first of a phrase, of any depth, in which a part at level 201 comes next, and the next token can begin it
+-- some first tokens are the first of a phrase, of any depth, in which a part at level 201 comes next, and the next
+-- token can begin it
 pub record TooNested (ts : List Lexeme) : Type 0 where
   pub f : FileTree
   pub runs : Runs too_deep (file f) ts

@@ -1,3 +1,4 @@
+-- The headline does not rest on this file.
 -- What reading from the front of tokens returns.
 use Rattle.std.specs.Prelude.{◌≡◌, ℕ, ◌<◌, ◌≤◌, length, List, [], ◌∷◌, Option, Some, None, Result, Ok, Err}
 use Rattle.std.specs.declared.vec.Vec.{Vec}
@@ -50,7 +51,8 @@ IsSyntax _ = ⊥
 
 -- ---- trees
 
--- How strongly a token binds what stands before it: a ( or @ a name, a { a pattern, a => a primary, a ; a step, a <+ or < a sequence.
+-- How strongly a token binds what stands before it: a ( or @ a name, a { a pattern, a => a primary, a ; a step, a <+ or
+-- < a sequence.
 abbrev pub mark_strength : Mark → ℕ
 mark_strength M.OpenParenthesis = 5
 mark_strength M.At = 5
@@ -77,15 +79,17 @@ strength (no_build ∷ is) = 5
 abbrev pub AtMost : ℕ → List Item → Type 0
 AtMost most is = strength is ≤ most
 
--- The tokens begin with the tree, written so, and the rest comes after it. No other tree runs along them, in front of items
--- that stop it.
-pub record Found {T : Type 0} (write : T → List Item → List Item) (Stops : List Item → Type 0) (ts : List Lexeme) (t : T) (rest : List Lexeme) : Type 0 where
+-- The tokens begin with the tree, written so, and the rest comes after it. No other tree runs along them, in front of
+-- items that stop it.
+pub record Found {T : Type 0} (write : T → List Item → List Item) (Stops : List Item →
+    Type 0) (ts : List Lexeme) (t : T) (rest : List Lexeme) : Type 0 where
   pub sound : (way : Way) (is : List Item) → Runs way is rest → Runs way (write t is) ts
   pub only_one : (u : T) (is : List Item) → Stops is → Runs either (write u is) ts → (u ≡ t) × Runs either is rest
   pub shorter : length rest < length ts
 
 -- the tokens run along no such tree
-pub record Missing {T : Type 0} (write : T → List Item → List Item) (Stops : List Item → Type 0) (ts : List Lexeme) : Type 0 where
+pub record Missing {T : Type 0} (write : T → List Item → List Item) (Stops : List Item →
+    Type 0) (ts : List Lexeme) : Type 0 where
   pub none : (u : T) (is : List Item) → Stops is → Runs either (write u is) ts → ⊥
 
 -- the tokens run along a tree up to a part at level 201
@@ -100,14 +104,16 @@ IsFault write Stops ts (refusals.Syntax _ _) = Missing write Stops ts
 IsFault write Stops ts (refusals.Nesting _) = Nested write ts
 
 -- the tree and the rest, or a fault
-abbrev pub IsReading : {T X : Type 0} → (T → List Item → List Item) → (List Item → Type 0) → (X → T) → List Lexeme → Result (X × List Lexeme) Refusal → Type 0
+abbrev pub IsReading : {T X : Type 0} → (T → List Item → List Item) → (List Item → Type 0) → (X → T) → List Lexeme →
+    Result (X × List Lexeme) Refusal → Type 0
 IsReading write Stops tree_of ts (Ok (x, rest)) = Found write Stops ts (tree_of x) rest
 IsReading write Stops tree_of ts (Err e) = IsFault write Stops ts e
 
 -- ---- trees that have been begun
 
 -- a way to go on from the tree and the items after it, and tokens that run so
-pub record Run {T : Type 0} (Rest : T → List Item → List Item → Type 0) (way : Way) (u : T) (is : List Item) (ts : List Lexeme) : Type 0 where
+pub record Run {T : Type 0} (Rest : T → List Item → List Item →
+    Type 0) (way : Way) (u : T) (is : List Item) (ts : List Lexeme) : Type 0 where
   pub left : List Item
   pub goes : Rest u is left
   pub runs : Runs way left ts

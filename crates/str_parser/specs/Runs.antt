@@ -1,3 +1,4 @@
+-- The headline does not rest on this file.
 -- Phrases of any length: where they end, and what reading them returns.
 use Rattle.std.specs.Prelude.{◌≡◌, ◌≤◌, Bool, true, false, length, List, ◌∷◌, Result, Ok, Err}
 use Rattle.str_lexer.specs.declared.token.Mark.TheVariants as M
@@ -10,15 +11,17 @@ use Rattle.str_parser.specs.Readings.{IsFault}
 abbrev pub NoneOf : (Lexeme → Bool) → List Item → Type 0
 NoneOf these is = (t : Lexeme) (rest : List Lexeme) → Runs either is (t ∷ rest) → these t ≡ false
 
--- The tokens begin with the tree, written so, which may be of no token, and the rest comes after it. No other tree runs along
--- them, in front of items that stop it.
-pub record FoundAny {T : Type 0} (write : T → List Item → List Item) (Stops : List Item → Type 0) (ts : List Lexeme) (t : T) (rest : List Lexeme) : Type 0 where
+-- The tokens begin with the tree, written so, which may be of no token, and the rest comes after it. No other tree runs
+-- along them, in front of items that stop it.
+pub record FoundAny {T : Type 0} (write : T → List Item → List Item) (Stops : List Item →
+    Type 0) (ts : List Lexeme) (t : T) (rest : List Lexeme) : Type 0 where
   pub sound : (way : Way) (is : List Item) → Runs way is rest → Runs way (write t is) ts
   pub only_one : (u : T) (is : List Item) → Stops is → Runs either (write u is) ts → (u ≡ t) × Runs either is rest
   pub no_longer : length rest ≤ length ts
 
 -- the tree, which may be of no token, and the rest, or a fault
-abbrev pub IsReadingAny : {T X : Type 0} → (T → List Item → List Item) → (List Item → Type 0) → (X → T) → List Lexeme → Result (X × List Lexeme) Refusal → Type 0
+abbrev pub IsReadingAny : {T X : Type 0} → (T → List Item → List Item) → (List Item → Type 0) → (X → T) → List Lexeme →
+    Result (X × List Lexeme) Refusal → Type 0
 IsReadingAny write Stops tree_of ts (Ok (x, rest)) = FoundAny write Stops ts (tree_of x) rest
 IsReadingAny write Stops tree_of ts (Err e) = IsFault write Stops ts e
 

@@ -1,3 +1,4 @@
+-- The headline does not rest on this file.
 -- Sorts, declarations and signatures: their parts, what they begin with, and what goes on with them.
 use Rattle.std.specs.Prelude.{◌≡◌, ℕ, Bool, true, false, List, [], ◌∷◌, map, Option, Some, None}
 use Rattle.std.specs.Borrow.{Bor}

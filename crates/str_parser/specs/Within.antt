@@ -1,3 +1,4 @@
+-- The headline does not rest on this file.
 -- Tokens whose texts lie in a text of this size.
 use Rattle.std.specs.Prelude.{ℕ, ◌≤◌, List, [], ◌∷◌}
 use Rattle.str_lexer.specs.declared.token.Token.{Token}

@@ -1,62 +1,62 @@
-// Strategies and patterns of which the first tokens have been read.
+//! Strategies and patterns of which the first tokens have been read.
 use crate::input::Input;
 use str_syntax::{
     DefinitionHead, Name, Operator, Pattern, Primary, Strategy, StrategyDefinition, Text,
 };
 
-// A primary that has been read up to a strategy in it.
+/// A primary that has been read up to a strategy in it.
 #[derive(Drop)]
 pub(crate) enum BeforeStrategy {
-    // `<`
+    /// `<`
     Apply,
-    // `(s, ..,`
+    /// `(s, ..,`
     Parenthesized(Vec<Strategy>),
-    // `[s, ..,`
+    /// `[s, ..,`
     Bracketed(Vec<Strategy>),
-    // `[s, .. |`
+    /// `[s, .. |`
     Tail(Vec<Strategy>),
-    // `f(s, ..,`
+    /// `f(s, ..,`
     Arguments(Name, Vec<Strategy>),
-    // `{x, .. :`
+    /// `{x, .. :`
     Scope(Vec<Name>),
-    // `where(`
+    /// `where(`
     Operator(Operator),
-    // `rec f(`
+    /// `rec f(`
     Recursive(Name),
-    // `if`
+    /// `if`
     Condition,
-    // `if s then`
+    /// `if s then`
     Consequence(Box<Strategy>),
-    // `if s then s else`
+    /// `if s then s else`
     Alternative(Box<Strategy>, Box<Strategy>),
-    // `let .. f(..) =`
+    /// `let .. f(..) =`
     Definition(Vec<StrategyDefinition>, Box<DefinitionHead>),
-    // `let .. in`
+    /// `let .. in`
     LetBody(Vec<StrategyDefinition>),
-    // `\ p -> p where`
+    /// `\ p -> p where`
     RuleCondition(Box<Pattern>, Box<Pattern>),
 }
 
-// A primary that has been read up to a pattern in it.
+/// A primary that has been read up to a pattern in it.
 #[derive(Drop)]
 pub(crate) enum BeforePattern {
-    // `?`
+    /// `?`
     Match,
-    // `!`
+    /// `!`
     Build,
-    // `< s >`
+    /// `< s >`
     ApplyTo(Box<Strategy>),
-    // `f(s, .. | p, ..,`
+    /// `f(s, .. | p, ..,`
     Terms(Name, Vec<Strategy>, Box<Vec<Pattern>>),
-    // `prim("f", p, ..,`
+    /// `prim("f", p, ..,`
     Primitive(Text, Vec<Pattern>),
-    // `\`
+    /// `\`
     RuleLeft,
-    // `\ p ->`
+    /// `\ p ->`
     RuleRight(Box<Pattern>),
 }
 
-// How far a primary has been read, and the tokens after that.
+/// How far a primary has been read, and the tokens after that.
 #[derive(Drop)]
 pub(crate) enum Begun<'a> {
     Whole(Box<Primary>, Input<'a>),
@@ -64,30 +64,30 @@ pub(crate) enum Begun<'a> {
     ToPattern(BeforePattern, Input<'a>),
 }
 
-// A pattern that has been read up to a pattern in it.
+/// A pattern that has been read up to a pattern in it.
 #[derive(Drop)]
 pub(crate) enum BeforeInner {
-    // `x@`
+    /// `x@`
     Alias(Name),
-    // `C(p, ..,`
+    /// `C(p, ..,`
     Application(Name, Vec<Pattern>),
-    // `(p, ..,`
+    /// `(p, ..,`
     Parenthesized(Vec<Pattern>),
-    // `[p, ..,`
+    /// `[p, ..,`
     Bracketed(Vec<Pattern>),
-    // `[p, .. |`
+    /// `[p, .. |`
     Tail(Vec<Pattern>),
-    // `<s>`
+    /// `<s>`
     AppliedTo(Box<Strategy>),
-    // `p{p, ..,`
+    /// `p{p, ..,`
     Annotated(Box<Pattern>, Vec<Pattern>),
 }
 
-// How far a pattern has been read, and the tokens after that.
+/// How far a pattern has been read, and the tokens after that.
 #[derive(Drop)]
 pub(crate) enum BegunPattern<'a> {
     Whole(Pattern, Input<'a>),
-    // `<`, in a build
+    /// `<`, in a build
     ToStrategy(Input<'a>),
     ToPattern(BeforeInner, Input<'a>),
 }

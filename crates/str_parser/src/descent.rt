@@ -1,4 +1,4 @@
-// Strategies and patterns from tokens, by recursive descent with one token of look-ahead.
+//! Strategies and patterns from tokens, by recursive descent with one token of look-ahead.
 ghost use Rattle.std.specs.Prelude.{◌≡◌, ◌+◌, ◌≤◌, Bool, true, false, List, ◌∷◌, length};
 ghost use Rattle.str_lexer.specs.declared.token.Mark.TheVariants as M;
 ghost use Rattle.str_syntax.specs.Views.{pattern_of, sequence_of, step_of, strategy_of};
@@ -14,14 +14,14 @@ use crate::begun::{BeforePattern, Begun, BegunPattern};
 use crate::expected::Expected;
 use crate::file::MAX_LEVEL;
 use crate::input::{Input, Lexeme};
-use crate::pattern_part::{applied, begin_annotations, begins_pattern};
+use crate::pattern_part::{begin_annotations, begins_pattern, build_application};
 use crate::refusal::Refusal;
 use crate::{pattern_begin, primary_begin};
 use std::alloc::Global;
 use str_lexer::{Keyword, Mark};
 use str_syntax::{Pattern, Primary, Sequence, Step, Strategy, build};
 
-// The fault where a part would stand beyond the greatest level: whether the tokens can begin it decides.
+/// The fault where a part would stand beyond the greatest level: whether the tokens can begin it decides.
 fn beyond(input: &Input<'_>, begins: bool, expected: Expected) -> Refusal
     ensures { IsBeyondFault begins result }
 {
@@ -31,7 +31,7 @@ fn beyond(input: &Input<'_>, begins: bool, expected: Expected) -> Refusal
     input.syntax(expected)
 }
 
-// Tells whether the first token can begin a strategy.
+/// Tells whether the first token can begin a strategy.
 fn begins_strategy(input: &Input<'_>) -> bool
     ensures { result ≡ first_begins strategy_part input.now }
 {
@@ -68,7 +68,7 @@ fn begins_strategy(input: &Input<'_>) -> bool
     }
 }
 
-// Reads the strategy at this level that the tokens begin with; also returns the tokens after it.
+/// Reads the strategy at this level that the tokens begin with; also returns the tokens after it.
 #[cycle(phrase)]
 pub(crate) fn strategy<'a>(
     alloc: Global,
@@ -91,7 +91,7 @@ pub(crate) fn strategy<'a>(
     guarded_choice(alloc, first, following, level)
 }
 
-// Reads the left choice at this level of which the first sequence and `<+` stand before the tokens; also returns the tokens after it.
+/// Reads the left choice at this level of which the first sequence and `<+` stand before the tokens; also returns the tokens after it.
 #[cycle(phrase)]
 #[inline(never)]
 fn left_choice<'a>(
@@ -101,13 +101,15 @@ fn left_choice<'a>(
     level: u32,
 ) -> Result<(Strategy, Input<'a>), Refusal>
     requires { level ≤ max_level }
-    ensures { (ts : List L) → Found (inner_sequence level) (AtMost 1) ts (sequence_of first) (mark M.LeftChoice ∷ input.entry) → IsReading (inner_strategy level) (AtMost 0) strategy_of ts result }
+    ensures { (ts : List L) → Found (inner_sequence level) (AtMost 1) ts (sequence_of first)
+        (mark M.LeftChoice ∷ input.entry) →
+        IsReading (inner_strategy level) (AtMost 0) strategy_of ts result }
 {
     let (other, rest) = strategy(alloc, input, level + 1)?;
     Ok((Strategy::LeftChoice(first, Box::new(alloc, other)?), rest))
 }
 
-// Reads the guarded choice at this level of which the first sequence and `<` stand before the tokens; also returns the tokens after it.
+/// Reads the guarded choice at this level of which the first sequence and `<` stand before the tokens; also returns the tokens after it.
 #[cycle(phrase)]
 #[inline(never)]
 fn guarded_choice<'a>(
@@ -117,7 +119,9 @@ fn guarded_choice<'a>(
     level: u32,
 ) -> Result<(Strategy, Input<'a>), Refusal>
     requires { level ≤ max_level }
-    ensures { (ts : List L) → Found (inner_sequence level) (AtMost 1) ts (sequence_of first) (mark M.Less ∷ input.entry) → IsReading (inner_strategy level) (AtMost 0) strategy_of ts result }
+    ensures { (ts : List L) → Found (inner_sequence level) (AtMost 1) ts (sequence_of first)
+        (mark M.Less ∷ input.entry) →
+        IsReading (inner_strategy level) (AtMost 0) strategy_of ts result }
 {
     let (then, rest) = strategy(alloc, input, level + 1)?;
     let Some(following) = rest.after(Mark::Plus) else {
@@ -128,7 +132,7 @@ fn guarded_choice<'a>(
     Ok((made, rest))
 }
 
-// Reads the sequence at this level that the tokens begin with; also returns the tokens after it.
+/// Reads the sequence at this level that the tokens begin with; also returns the tokens after it.
 #[cycle(phrase)]
 fn sequence<'a>(
     alloc: Global,
@@ -148,7 +152,7 @@ fn sequence<'a>(
     then(alloc, first, following, level)
 }
 
-// Reads the sequence at this level of which the first step and `;` stand before the tokens; also returns the tokens after it.
+/// Reads the sequence at this level of which the first step and `;` stand before the tokens; also returns the tokens after it.
 #[cycle(phrase)]
 #[inline(never)]
 fn then<'a>(
@@ -158,13 +162,15 @@ fn then<'a>(
     level: u32,
 ) -> Result<(Sequence, Input<'a>), Refusal>
     requires { level ≤ max_level }
-    ensures { (ts : List L) → Found (step level) (AtMost 2) ts (step_of first) (mark M.Semicolon ∷ input.entry) → IsReading (inner_sequence level) (AtMost 1) sequence_of ts result }
+    ensures { (ts : List L) → Found (step level) (AtMost 2) ts (step_of first)
+        (mark M.Semicolon ∷ input.entry) →
+        IsReading (inner_sequence level) (AtMost 1) sequence_of ts result }
 {
     let (others, rest) = sequence(alloc, input, level + 1)?;
     Ok((Sequence::Then(first, Box::new(alloc, others)?), rest))
 }
 
-// Reads the step at this level that the tokens begin with; also returns the tokens after it.
+/// Reads the step at this level that the tokens begin with; also returns the tokens after it.
 #[cycle(phrase)]
 fn step<'a>(alloc: Global, input: Input<'a>, level: u32) -> Result<(Step, Input<'a>), Refusal>
     requires { level ≤ max_level }
@@ -178,8 +184,8 @@ fn step<'a>(alloc: Global, input: Input<'a>, level: u32) -> Result<(Step, Input<
     matching(alloc, at, first, following, level)
 }
 
-// Reads the step at this level that begins at this byte and of which the primary and `=>` stand before the tokens; also returns the
-// tokens after it.
+/// Reads the step at this level that begins at this byte and of which the primary and `=>` stand before the tokens; also returns the
+/// tokens after it.
 #[cycle(phrase)]
 #[inline(never)]
 fn matching<'a>(
@@ -190,7 +196,8 @@ fn matching<'a>(
     level: u32,
 ) -> Result<(Step, Input<'a>), Refusal>
     requires { level ≤ max_level }
-    ensures { (ts : List L) → Found (primary level) (AtMost 3) ts (boxed_primary_of first) (mark M.DoubleArrow ∷ input.entry) → IsReading (step level) (AtMost 2) step_of ts result }
+    ensures { (ts : List L) → Found (primary level) (AtMost 3) ts (boxed_primary_of first)
+        (mark M.DoubleArrow ∷ input.entry) → IsReading (step level) (AtMost 2) step_of ts result }
 {
     let there = input.at();
     let (matched, rest) = pattern(alloc, input, true, level + 1)?;
@@ -200,7 +207,7 @@ fn matching<'a>(
     ))
 }
 
-// Reads the primary at this level that the tokens begin with; also returns the tokens after it.
+/// Reads the primary at this level that the tokens begin with; also returns the tokens after it.
 #[cycle(phrase)]
 fn primary<'a>(
     alloc: Global,
@@ -224,7 +231,7 @@ fn primary<'a>(
     }
 }
 
-// Reads the pattern that comes next in the primary at this level, which has been read up to there, and goes on to its next part.
+/// Reads the pattern that comes next in the primary at this level, which has been read up to there, and goes on to its next part.
 #[cycle(phrase)]
 #[inline(never)]
 fn with_pattern<'a>(
@@ -234,14 +241,16 @@ fn with_pattern<'a>(
     level: u32,
 ) -> Result<Begun<'a>, Refusal>
     requires { level ≤ max_level }
-    ensures stands { (ts : List L) → Leads (Written level) (Continues level (states.ToPattern before input.entry)) ts input.entry → Stands level ts result }
+    ensures stands { (ts : List L) →
+        Leads (Written level) (Continues level (states.ToPattern before input.entry))
+        ts input.entry → Stands level ts result }
     ensures fewer { left_in result ≤ length input.entry }
 {
     let part = pattern(alloc, input, before.in_match(), level + 1);
     before.after(alloc, part)
 }
 
-// Reads the pattern at this level that the tokens begin with, in a match or in a build; also returns the tokens after it.
+/// Reads the pattern at this level that the tokens begin with, in a match or in a build; also returns the tokens after it.
 #[cycle(phrase)]
 pub(crate) fn pattern<'a>(
     alloc: Global,
@@ -266,7 +275,7 @@ pub(crate) fn pattern<'a>(
             }
             BegunPattern::ToStrategy(rest) => {
                 let (part, rest) = strategy(alloc, rest, level + 1)?;
-                applied(alloc, part, rest)?
+                build_application(alloc, part, rest)?
             }
             BegunPattern::ToPattern(before, rest) => {
                 let (part, rest) = pattern(alloc, rest, in_match, level + 1)?;

@@ -119,7 +119,7 @@ impl Expected {
     }
 }
 
-// Returns what could stand after these sections.
+/// Returns what could stand after these sections.
 pub(crate) fn after_sections(sections: &[Section]) -> Expected {
     match sections.last() {
         None => Expected::Section,
@@ -129,7 +129,7 @@ pub(crate) fn after_sections(sections: &[Section]) -> Expected {
     }
 }
 
-// Returns what could stand after these parts of a signature.
+/// Returns what could stand after these parts of a signature.
 fn after_parts(parts: &[SignaturePart]) -> Expected {
     match parts.last() {
         None => Expected::PartOrSection,
@@ -141,7 +141,7 @@ fn after_parts(parts: &[SignaturePart]) -> Expected {
     }
 }
 
-// Returns what could stand after these rules and definitions.
+/// Returns what could stand after these rules and definitions.
 fn after_definitions(definitions: &[Definition]) -> Expected {
     let Some(last) = definitions.last() else {
         return Expected::DefinitionOrSection;

@@ -1,4 +1,4 @@
-// The sections of files, and whole files, from tokens.
+//! The sections of files, and whole files, from tokens.
 ghost use Rattle.std.specs.Prelude.{◌≡◌};
 ghost use Rattle.str_syntax.specs.Views.{section_of};
 ghost use Rattle.str_lexer.specs.Lexes.{AreSlices};
@@ -17,7 +17,7 @@ use str_lexer::{Keyword, Token};
 use str_syntax::{File, Section};
 use term_model::Fault;
 
-// Reads the section that the tokens begin with; also returns the tokens after it. Where none begins, that is what was expected.
+/// Reads the section that the tokens begin with; also returns the tokens after it. Where none begins, that is what was expected.
 fn section<'a>(
     alloc: Global,
     input: Input<'a>,
@@ -40,7 +40,7 @@ fn section<'a>(
     Ok((Section::Strategies(definitions), rest))
 }
 
-// The sections that the tokens are.
+/// The sections that the tokens are.
 fn sections<'a>(alloc: Global, input: Input<'a>) -> Result<Vec<Section>, Refusal>
     ensures { IsReadingAll Phrases.sections sections_of input.entry result }
 {

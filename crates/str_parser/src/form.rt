@@ -1,4 +1,4 @@
-// The rules and the definitions of sections, from tokens.
+//! The rules and the definitions of sections, from tokens.
 ghost use Rattle.std.specs.Prelude.{◌≡◌};
 ghost use Rattle.str_syntax.specs.Views.{head_of, rule_of, form_of, top_of};
 ghost use Rattle.str_parser.specs.Phrases;
@@ -15,7 +15,7 @@ use std::alloc::Global;
 use str_lexer::{Keyword, Mark};
 use str_syntax::{Definition, DefinitionForm, DefinitionHead, Origin, Rule, RuleDefinition, build};
 
-// Reads the rule that the tokens begin with; also returns the tokens after it.
+/// Reads the rule that the tokens begin with; also returns the tokens after it.
 fn rule<'a>(alloc: Global, input: Input<'a>) -> Result<(Rule, Input<'a>), Refusal>
     ensures { IsReading (Phrases.rule 1) EndsRule rule_of input.entry result }
 {
@@ -34,7 +34,7 @@ fn rule<'a>(alloc: Global, input: Input<'a>) -> Result<(Rule, Input<'a>), Refusa
     Ok((made, rest))
 }
 
-// Reads the name and the parameters that the tokens begin with; also returns the tokens after them.
+/// Reads the name and the parameters that the tokens begin with; also returns the tokens after them.
 fn head<'a>(alloc: Global, input: Input<'a>) -> Result<(DefinitionHead, Input<'a>), Refusal>
     ensures { IsReading Phrases.headed (AtMost 3) head_of input.entry result }
 {
@@ -43,7 +43,7 @@ fn head<'a>(alloc: Global, input: Input<'a>) -> Result<(DefinitionHead, Input<'a
     Ok((DefinitionHead { name, parameters }, rest))
 }
 
-// Reads the rule or the definition that the tokens begin with; also returns the tokens after it.
+/// Reads the rule or the definition that the tokens begin with; also returns the tokens after it.
 fn form<'a>(alloc: Global, input: Input<'a>) -> Result<(DefinitionForm, Input<'a>), Refusal>
     ensures { IsReading Phrases.form EndsRule form_of input.entry result }
 {
@@ -61,7 +61,7 @@ fn form<'a>(alloc: Global, input: Input<'a>) -> Result<(DefinitionForm, Input<'a
     Ok((DefinitionForm::Strategy(definition), rest))
 }
 
-// The same, as a definition of the file.
+/// The same, as a definition of the file.
 fn definition<'a>(alloc: Global, input: Input<'a>) -> Result<(Definition, Input<'a>), Refusal>
     ensures { IsReading one_top EndsRule top_of input.entry result }
 {
@@ -70,14 +70,14 @@ fn definition<'a>(alloc: Global, input: Input<'a>) -> Result<(Definition, Input<
     Ok((Definition { origin, form }, rest))
 }
 
-// Tells whether the first token is a name, as each rule and definition begins.
+/// Tells whether the first token is a name, as each rule and definition begins.
 fn begins_form(input: &Input<'_>) -> bool
     ensures { result ≡ begins_name input.now }
 {
     matches!(input.first(), Some((Lexeme::Name(_), _)))
 }
 
-// Reads the rules and the definitions up to the first token that begins none; also returns the tokens after them.
+/// Reads the rules and the definitions up to the first token that begins none; also returns the tokens after them.
 pub(crate) fn definitions<'a>(
     alloc: Global,
     input: Input<'a>,

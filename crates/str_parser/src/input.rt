@@ -1,4 +1,4 @@
-// The tokens that are still to be read, each with its text.
+//! The tokens that are still to be read, each with its text.
 ghost use Rattle.std.specs.Prelude.{◌≡◌, ◌≤◌, ◌↔◌, IsTrue, length, []};
 ghost use Rattle.str_parser.specs.Lexemes.{lexemes, lexeme_of};
 ghost use Rattle.str_parser.specs.Within.{AreWithin};
@@ -9,7 +9,7 @@ use crate::refusal::Refusal;
 use std::marker::Model;
 use str_lexer::{Keyword, Mark, Token, TokenKind};
 
-// A token with its text.
+/// A token with its text.
 #[derive(Clone, Copy)]
 pub(crate) enum Lexeme<'a> {
     Name(&'a [u8]),
@@ -21,7 +21,7 @@ pub(crate) enum Lexeme<'a> {
     LeftOut,
 }
 
-// The tokens from one place of a file on, and the bytes of the file.
+/// The tokens from one place of a file on, and the bytes of the file.
 #[derive(Drop)]
 pub(crate) struct Input<'a> {
     text: &'a [u8],
@@ -40,7 +40,7 @@ impl<'a> Model for Input<'a> {
     ghost invariant = { λ i. AreWithin (length i.text.now) i.tokens.now };
 }
 
-// The token of this kind, with its text.
+/// The token of this kind, with its text.
 fn with_text<'a>(text: &'a [u8], token: &'a Token) -> Lexeme<'a>
     requires { (token.now.from ≤ token.now.to) × (token.now.to ≤ length text.now) }
     ensures { lexeme_in result ≡ lexeme_of text.now token.now }
@@ -57,7 +57,7 @@ fn with_text<'a>(text: &'a [u8], token: &'a Token) -> Lexeme<'a>
 }
 
 impl<'a> Input<'a> {
-    // These tokens of this text.
+    /// These tokens of this text.
     pub(crate) fn new(text: &'a [u8], tokens: &'a [Token]) -> Input<'a>
         requires { AreWithin (length text.now) tokens.now }
         ensures { result ≡ lexemes text.now tokens.now }
@@ -65,7 +65,7 @@ impl<'a> Input<'a> {
         Input { text, tokens }
     }
 
-    // Reads the first token; also returns the tokens after it.
+    /// Reads the first token; also returns the tokens after it.
     pub(crate) fn first(&self) -> Option<(Lexeme<'a>, Input<'a>)>
         ensures { IsFirst self.now result }
     {
@@ -77,7 +77,7 @@ impl<'a> Input<'a> {
         Some((with_text(self.text, token), rest))
     }
 
-    // The tokens after this mark, where they begin with it.
+    /// The tokens after this mark, where they begin with it.
     pub(crate) fn after(&self, mark: Mark) -> Option<Input<'a>>
         ensures { IsAfter mark self.now result }
     {
@@ -88,7 +88,7 @@ impl<'a> Input<'a> {
         }
     }
 
-    // The tokens after this keyword, where they begin with it.
+    /// The tokens after this keyword, where they begin with it.
     pub(crate) fn after_keyword(&self, keyword: Keyword) -> Option<Input<'a>>
         ensures { IsAfterKeyword keyword self.now result }
     {
@@ -99,7 +99,7 @@ impl<'a> Input<'a> {
         }
     }
 
-    // The byte at which the tokens begin, or the length of the text where there is none.
+    /// The byte at which the tokens begin, or the length of the text where there is none.
     pub(crate) fn at(&self) -> u64 {
         match self.tokens.first() {
             Some(token) => token.from as u64,
@@ -107,7 +107,7 @@ impl<'a> Input<'a> {
         }
     }
 
-    // The refusal of the first token, in the place of which something else was expected.
+    /// The refusal of the first token, in the place of which something else was expected.
     pub(crate) fn syntax(&self, expected: Expected) -> Refusal
         ensures { IsSyntax result }
     {
@@ -115,7 +115,7 @@ impl<'a> Input<'a> {
         Refusal::Syntax { at, expected }
     }
 
-    // Tells whether there is no token.
+    /// Tells whether there is no token.
     pub(crate) fn is_empty(&self) -> bool
         ensures { IsTrue result ↔ (self.now ≡ []) }
     {

@@ -1,4 +1,4 @@
-// Names and parameters from tokens.
+//! Names and parameters from tokens.
 ghost use Rattle.str_syntax.specs.Views.{parameters_of};
 ghost use Rattle.str_parser.specs.Phrases.{some_names, names as any_names, parameters as written_parameters};
 ghost use Rattle.str_parser.specs.Readings.{IsReading, AtMost, one_name, itself, names_of};
@@ -11,7 +11,7 @@ use std::alloc::Global;
 use str_lexer::Mark;
 use str_syntax::{Name, Parameters};
 
-// Reads the name that the tokens begin with; also returns the tokens after it. Where there is none, that is what was expected.
+/// Reads the name that the tokens begin with; also returns the tokens after it. Where there is none, that is what was expected.
 pub(crate) fn name<'a>(
     alloc: Global,
     input: Input<'a>,
@@ -25,7 +25,7 @@ pub(crate) fn name<'a>(
     Ok((Name::new(alloc, bytes, input.at())?, rest))
 }
 
-// Reads the names with commas between that the tokens begin with, one at least; also returns the tokens after them.
+/// Reads the names with commas between that the tokens begin with, one at least; also returns the tokens after them.
 pub(crate) fn names<'a>(alloc: Global, input: Input<'a>) -> Result<(Vec<Name>, Input<'a>), Refusal>
     ensures { IsReading some_names (NoneOf names_go_on) names_of input.entry result }
 {
@@ -40,7 +40,7 @@ pub(crate) fn names<'a>(alloc: Global, input: Input<'a>) -> Result<(Vec<Name>, I
     Ok((found, rest))
 }
 
-// Reads the names with commas between that the tokens begin with, if any; also returns the tokens after them.
+/// Reads the names with commas between that the tokens begin with, if any; also returns the tokens after them.
 fn names_up_to<'a>(alloc: Global, input: Input<'a>) -> Result<(Vec<Name>, Input<'a>), Refusal>
     ensures { IsReadingAny any_names (NoneOf any_names_go_on) names_of input.entry result }
 {
@@ -50,7 +50,7 @@ fn names_up_to<'a>(alloc: Global, input: Input<'a>) -> Result<(Vec<Name>, Input<
     }
 }
 
-// Returns what could stand after these strategy parameters.
+/// Returns what could stand after these strategy parameters.
 fn after_strategies(names: &[Name]) -> Expected {
     if names.is_empty() {
         return Expected::NameBarOrParenthesis;
@@ -58,7 +58,7 @@ fn after_strategies(names: &[Name]) -> Expected {
     Expected::CommaBarOrParenthesis
 }
 
-// Returns what could stand after these term parameters.
+/// Returns what could stand after these term parameters.
 fn after_terms(names: &[Name]) -> Expected {
     if names.is_empty() {
         return Expected::NameOrParenthesis;
@@ -66,7 +66,7 @@ fn after_terms(names: &[Name]) -> Expected {
     Expected::CommaOrParenthesis
 }
 
-// Reads the parameters that the tokens begin with; also returns the tokens after them.
+/// Reads the parameters that the tokens begin with; also returns the tokens after them.
 pub(crate) fn parameters<'a>(
     alloc: Global,
     input: Input<'a>,

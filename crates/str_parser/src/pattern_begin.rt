@@ -1,4 +1,4 @@
-// The first tokens of a pattern.
+//! The first tokens of a pattern.
 ghost use Rattle.std.specs.Prelude.{◌≡◌, ◌∷◌, Bool, Ok};
 ghost use Rattle.str_lexer.specs.declared.token.Mark.TheVariants as M;
 ghost use Rattle.str_parser.specs.Lexemes.{name, mark as mark_lexeme};
@@ -13,7 +13,7 @@ use std::alloc::Global;
 use str_lexer::Mark;
 use str_syntax::{Name, Pattern, Text};
 
-// The pattern that the tokens begin with, in a match or in a build, up to its first part.
+/// The pattern that the tokens begin with, in a match or in a build, up to its first part.
 pub(crate) fn begin<'a>(
     alloc: Global,
     input: Input<'a>,
@@ -38,7 +38,7 @@ pub(crate) fn begin<'a>(
     }
 }
 
-// The pattern whose mark, at this byte, stands before the tokens.
+/// The pattern whose mark, at this byte, stands before the tokens.
 fn begin_mark<'a>(
     alloc: Global,
     mark: Mark,
@@ -59,9 +59,11 @@ fn begin_mark<'a>(
     }
 }
 
-// The pattern whose `(` stands before the tokens.
+/// The pattern whose `(` stands before the tokens.
 fn begin_parenthesized<'a>(alloc: Global, input: Input<'a>) -> BegunPattern<'a>
-    ensures { (in_match : Bool) → IsNextPattern WrittenPattern in_match (mark_lexeme M.OpenParenthesis ∷ input.entry) (Ok result) }
+    ensures { (in_match : Bool) →
+        IsNextPattern WrittenPattern in_match (mark_lexeme M.OpenParenthesis ∷ input.entry)
+        (Ok result) }
 {
     if let Some(rest) = input.after(Mark::CloseParenthesis) {
         return BegunPattern::Whole(Pattern::Tuple(Vec::new(alloc)), rest);
@@ -69,9 +71,11 @@ fn begin_parenthesized<'a>(alloc: Global, input: Input<'a>) -> BegunPattern<'a>
     BegunPattern::ToPattern(BeforeInner::Parenthesized(Vec::new(alloc)), input)
 }
 
-// The list whose `[` stands before the tokens.
+/// The list whose `[` stands before the tokens.
 fn begin_bracketed<'a>(alloc: Global, input: Input<'a>) -> BegunPattern<'a>
-    ensures { (in_match : Bool) → IsNextPattern WrittenPattern in_match (mark_lexeme M.OpenBracket ∷ input.entry) (Ok result) }
+    ensures { (in_match : Bool) →
+        IsNextPattern WrittenPattern in_match (mark_lexeme M.OpenBracket ∷ input.entry)
+        (Ok result) }
 {
     if let Some(rest) = input.after(Mark::CloseBracket) {
         return BegunPattern::Whole(Pattern::List(Vec::new(alloc), None), rest);
@@ -79,7 +83,7 @@ fn begin_bracketed<'a>(alloc: Global, input: Input<'a>) -> BegunPattern<'a>
     BegunPattern::ToPattern(BeforeInner::Bracketed(Vec::new(alloc)), input)
 }
 
-// Tells whether the name can be a constructor's: whether there is no ' in it.
+/// Tells whether the name can be a constructor's: whether there is no ' in it.
 pub(crate) fn is_constructor(name: &[u8]) -> bool
     ensures { result ≡ has_no_quote name.now }
 {
@@ -91,14 +95,15 @@ pub(crate) fn is_constructor(name: &[u8]) -> bool
     true
 }
 
-// The variable, alias or application whose name, at this byte, stands before the tokens.
+/// The variable, alias or application whose name, at this byte, stands before the tokens.
 fn begin_name<'a>(
     alloc: Global,
     bytes: &'a [u8],
     at: u64,
     input: Input<'a>,
 ) -> Result<BegunPattern<'a>, Refusal>
-    ensures { (in_match : Bool) → IsNextPattern WrittenPattern in_match (name bytes.now ∷ input.entry) result }
+    ensures { (in_match : Bool) →
+        IsNextPattern WrittenPattern in_match (name bytes.now ∷ input.entry) result }
 {
     let name = Name::new(alloc, bytes, at)?;
     if let Some(following) = input.after(Mark::At) {

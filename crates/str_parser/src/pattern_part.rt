@@ -1,4 +1,4 @@
-// The tokens of a pattern after a part of it.
+//! The tokens of a pattern after a part of it.
 ghost use Rattle.std.specs.Prelude.{◌≡◌, Bool, false};
 ghost use Rattle.str_syntax.specs.Views.{pattern_of, strategy_of};
 ghost use Rattle.str_parser.specs.Lexemes.{first_begins};
@@ -14,7 +14,7 @@ use str_lexer::Mark;
 use str_syntax::{Name, Pattern, Strategy};
 
 impl BeforeInner {
-    // The pattern with this pattern after what has been read, up to its next part.
+    /// The pattern with this pattern after what has been read, up to its next part.
     #[inline(always)]
     pub(crate) fn with<'a>(
         self,
@@ -22,16 +22,17 @@ impl BeforeInner {
         part: Pattern,
         input: Input<'a>,
     ) -> Result<BegunPattern<'a>, Refusal>
-        ensures { (in_match : Bool) → IsNextPattern (HasInner self (pattern_of part)) in_match input.entry result }
+        ensures { (in_match : Bool) →
+            IsNextPattern (HasInner self (pattern_of part)) in_match input.entry result }
     {
         match self {
             BeforeInner::Alias(name) => alias(alloc, name, part, input),
             BeforeInner::Application(name, done) => application(name, done, part, input),
-            BeforeInner::Parenthesized(done) => parenthesized(alloc, done, part, input),
-            BeforeInner::Bracketed(done) => bracketed(done, part, input),
+            BeforeInner::Parenthesized(done) => in_parentheses(alloc, done, part, input),
+            BeforeInner::Bracketed(done) => in_brackets(done, part, input),
             BeforeInner::Tail(parts) => tail(alloc, parts, part, input),
             BeforeInner::AppliedTo(applied) => applied_to(alloc, applied, part, input),
-            BeforeInner::Annotated(bare, done) => annotated(bare, done, part, input),
+            BeforeInner::Annotated(bare, done) => with_annotations(bare, done, part, input),
         }
     }
 }
@@ -42,7 +43,9 @@ fn alias<'a>(
     part: Pattern,
     input: Input<'a>,
 ) -> Result<BegunPattern<'a>, Refusal>
-    ensures { (in_match : Bool) → IsNextPattern (HasInner (BeforeInner.Alias name) (pattern_of part)) in_match input.entry result }
+    ensures { (in_match : Bool) →
+        IsNextPattern (HasInner (BeforeInner.Alias name) (pattern_of part))
+        in_match input.entry result }
 {
     let made = Pattern::Alias(name, Box::new(alloc, part)?);
     Ok(BegunPattern::Whole(made, input))
@@ -54,7 +57,9 @@ fn application<'a>(
     part: Pattern,
     input: Input<'a>,
 ) -> Result<BegunPattern<'a>, Refusal>
-    ensures { (in_match : Bool) → IsNextPattern (HasInner (BeforeInner.Application name done) (pattern_of part)) in_match input.entry result }
+    ensures { (in_match : Bool) →
+        IsNextPattern (HasInner (BeforeInner.Application name done) (pattern_of part))
+        in_match input.entry result }
 {
     let mut parts = done;
     parts.push(part)?;
@@ -67,13 +72,15 @@ fn application<'a>(
     Ok(BegunPattern::Whole(Pattern::Application(name, parts), rest))
 }
 
-fn parenthesized<'a>(
+fn in_parentheses<'a>(
     alloc: Global,
     done: Vec<Pattern>,
     part: Pattern,
     input: Input<'a>,
 ) -> Result<BegunPattern<'a>, Refusal>
-    ensures { (in_match : Bool) → IsNextPattern (HasInner (BeforeInner.Parenthesized done) (pattern_of part)) in_match input.entry result }
+    ensures { (in_match : Bool) →
+        IsNextPattern (HasInner (BeforeInner.Parenthesized done) (pattern_of part))
+        in_match input.entry result }
 {
     let mut parts = done;
     if let Some(following) = input.after(Mark::Comma) {
@@ -90,12 +97,14 @@ fn parenthesized<'a>(
     Ok(BegunPattern::Whole(Pattern::Tuple(parts), rest))
 }
 
-fn bracketed<'a>(
+fn in_brackets<'a>(
     done: Vec<Pattern>,
     part: Pattern,
     input: Input<'a>,
 ) -> Result<BegunPattern<'a>, Refusal>
-    ensures { (in_match : Bool) → IsNextPattern (HasInner (BeforeInner.Bracketed done) (pattern_of part)) in_match input.entry result }
+    ensures { (in_match : Bool) →
+        IsNextPattern (HasInner (BeforeInner.Bracketed done) (pattern_of part))
+        in_match input.entry result }
 {
     let mut parts = done;
     parts.push(part)?;
@@ -117,7 +126,9 @@ fn tail<'a>(
     part: Pattern,
     input: Input<'a>,
 ) -> Result<BegunPattern<'a>, Refusal>
-    ensures { (in_match : Bool) → IsNextPattern (HasInner (BeforeInner.Tail parts) (pattern_of part)) in_match input.entry result }
+    ensures { (in_match : Bool) →
+        IsNextPattern (HasInner (BeforeInner.Tail parts) (pattern_of part))
+        in_match input.entry result }
 {
     let Some(rest) = input.after(Mark::CloseBracket) else {
         return Err(input.syntax(Expected::CloseBracket));
@@ -132,13 +143,15 @@ fn applied_to<'a>(
     part: Pattern,
     input: Input<'a>,
 ) -> Result<BegunPattern<'a>, Refusal>
-    ensures { (in_match : Bool) → IsNextPattern (HasInner (BeforeInner.AppliedTo applied) (pattern_of part)) in_match input.entry result }
+    ensures { (in_match : Bool) →
+        IsNextPattern (HasInner (BeforeInner.AppliedTo applied) (pattern_of part))
+        in_match input.entry result }
 {
     let made = Pattern::AppliedTo(applied, Box::new(alloc, part)?);
     Ok(BegunPattern::Whole(made, input))
 }
 
-// Tells whether annotations may follow the pattern. After `x@p` and `<s> p` they are those of p, and after annotations and `<s>` there are none.
+/// Tells whether annotations may follow the pattern. After `x@p` and `<s> p` they are those of p, and after annotations and `<s>` there are none.
 fn takes_annotations(pattern: &Pattern) -> bool
     ensures { result ≡ may_be_annotated (pattern_of pattern.now) }
 {
@@ -151,7 +164,7 @@ fn takes_annotations(pattern: &Pattern) -> bool
     }
 }
 
-// Why no annotations may follow the pattern.
+/// Why no annotations may follow the pattern.
 fn no_annotations(pattern: &Pattern) -> Expected {
     match pattern {
         Pattern::Applied(_) => Expected::ParenthesesAroundApplied,
@@ -159,14 +172,15 @@ fn no_annotations(pattern: &Pattern) -> Expected {
     }
 }
 
-// The pattern with this part, whose `{` stands before the tokens, up to its first annotation. No annotations may follow some.
+/// The pattern with this part, whose `{` stands before the tokens, up to its first annotation. No annotations may follow some.
 pub(crate) fn begin_annotations<'a>(
     alloc: Global,
     bare: Pattern,
     brace: &Input<'a>,
     input: Input<'a>,
 ) -> Result<BegunPattern<'a>, Refusal>
-    ensures { (in_match : Bool) → IsNextPattern (GoesAnnotated (pattern_of bare)) in_match input.entry result }
+    ensures { (in_match : Bool) →
+        IsNextPattern (GoesAnnotated (pattern_of bare)) in_match input.entry result }
 {
     if !takes_annotations(&bare) {
         return Err(brace.syntax(no_annotations(&bare)));
@@ -178,13 +192,15 @@ pub(crate) fn begin_annotations<'a>(
     Ok(BegunPattern::ToPattern(BeforeInner::Annotated(bare, Vec::new(alloc)), input))
 }
 
-fn annotated<'a>(
+fn with_annotations<'a>(
     bare: Box<Pattern>,
     done: Vec<Pattern>,
     part: Pattern,
     input: Input<'a>,
 ) -> Result<BegunPattern<'a>, Refusal>
-    ensures { (in_match : Bool) → IsNextPattern (HasInner (BeforeInner.Annotated bare done) (pattern_of part)) in_match input.entry result }
+    ensures { (in_match : Bool) →
+        IsNextPattern (HasInner (BeforeInner.Annotated bare done) (pattern_of part))
+        in_match input.entry result }
 {
     let mut parts = done;
     parts.push(part)?;
@@ -197,13 +213,14 @@ fn annotated<'a>(
     Ok(BegunPattern::Whole(Pattern::Annotated(bare, parts), rest))
 }
 
-// The build `<s>`, where this strategy is s and its `<` and itself have been read, up to its next part.
-pub(crate) fn applied<'a>(
+/// The build `<s>`, where this strategy is s and its `<` and itself have been read, up to its next part.
+pub(crate) fn build_application<'a>(
     alloc: Global,
     applied: Strategy,
     input: Input<'a>,
 ) -> Result<BegunPattern<'a>, Refusal>
-    ensures { (in_match : Bool) → IsNextPattern (GoesApplied (strategy_of applied)) in_match input.entry result }
+    ensures { (in_match : Bool) →
+        IsNextPattern (GoesApplied (strategy_of applied)) in_match input.entry result }
 {
     let Some(rest) = input.after(Mark::Greater) else {
         return Err(input.syntax(Expected::Greater));
@@ -216,7 +233,7 @@ pub(crate) fn applied<'a>(
     Ok(BegunPattern::Whole(made, rest))
 }
 
-// Tells whether the first token can begin a pattern, in a match or in a build.
+/// Tells whether the first token can begin a pattern, in a match or in a build.
 pub(crate) fn begins_pattern(input: &Input<'_>, in_match: bool) -> bool
     ensures { result ≡ first_begins (pattern_part in_match) input.now }
 {

@@ -1,4 +1,4 @@
-// The first tokens of a primary.
+//! The first tokens of a primary.
 ghost use Rattle.std.specs.Prelude.{◌∷◌};
 ghost use Rattle.str_syntax.specs.Views.{primary_of};
 ghost use Rattle.str_parser.specs.Lexemes.{Lexeme as L};
@@ -15,7 +15,7 @@ use std::alloc::Global;
 use str_lexer::{Keyword, Mark};
 use str_syntax::{Arguments, Name, Operator, Pattern, Primary, Strategy, Text};
 
-// This primary as a whole.
+/// This primary as a whole.
 pub(crate) fn whole<'a>(
     alloc: Global,
     made: Primary,
@@ -26,7 +26,7 @@ pub(crate) fn whole<'a>(
     Ok(Begun::Whole(Box::new(alloc, made)?, input))
 }
 
-// The primary that the tokens begin with, up to its first part.
+/// The primary that the tokens begin with, up to its first part.
 #[inline(never)]
 pub(crate) fn begin<'a>(alloc: Global, input: Input<'a>) -> Result<Begun<'a>, Refusal>
     ensures { IsNext Written input.entry result }
@@ -42,7 +42,7 @@ pub(crate) fn begin<'a>(alloc: Global, input: Input<'a>) -> Result<Begun<'a>, Re
     }
 }
 
-// The primary whose mark, at this byte, stands before the tokens.
+/// The primary whose mark, at this byte, stands before the tokens.
 fn begin_mark<'a>(
     alloc: Global,
     mark: Mark,
@@ -66,7 +66,7 @@ fn begin_mark<'a>(
     }
 }
 
-// The congruence or strategy whose `(` stands before the tokens.
+/// The congruence or strategy whose `(` stands before the tokens.
 fn begin_parenthesized<'a>(alloc: Global, input: Input<'a>) -> Result<Begun<'a>, Refusal>
     ensures { IsNext Written (L.mark Mark.OpenParenthesis ∷ input.entry) result }
 {
@@ -76,7 +76,7 @@ fn begin_parenthesized<'a>(alloc: Global, input: Input<'a>) -> Result<Begun<'a>,
     Ok(Begun::ToStrategy(BeforeStrategy::Parenthesized(Vec::new(alloc)), input))
 }
 
-// The congruence whose `[` stands before the tokens.
+/// The congruence whose `[` stands before the tokens.
 fn begin_bracketed<'a>(alloc: Global, input: Input<'a>) -> Result<Begun<'a>, Refusal>
     ensures { IsNext Written (L.mark Mark.OpenBracket ∷ input.entry) result }
 {
@@ -86,7 +86,7 @@ fn begin_bracketed<'a>(alloc: Global, input: Input<'a>) -> Result<Begun<'a>, Ref
     Ok(Begun::ToStrategy(BeforeStrategy::Bracketed(Vec::new(alloc)), input))
 }
 
-// The scope whose `{` stands before the tokens.
+/// The scope whose `{` stands before the tokens.
 fn begin_scope<'a>(alloc: Global, input: Input<'a>) -> Result<Begun<'a>, Refusal>
     ensures { IsNext Written (L.mark Mark.OpenBrace ∷ input.entry) result }
 {
@@ -97,7 +97,7 @@ fn begin_scope<'a>(alloc: Global, input: Input<'a>) -> Result<Begun<'a>, Refusal
     Ok(Begun::ToStrategy(BeforeStrategy::Scope(variables), following))
 }
 
-// The primary whose keyword, at this byte, stands before the tokens.
+/// The primary whose keyword, at this byte, stands before the tokens.
 fn begin_keyword<'a>(
     alloc: Global,
     keyword: Keyword,
@@ -125,7 +125,7 @@ fn begin_keyword<'a>(
     }
 }
 
-// The operator whose keyword stands before the tokens.
+/// The operator whose keyword stands before the tokens.
 fn begin_operator<'a>(operator: Operator, input: Input<'a>) -> Result<Begun<'a>, Refusal>
     ensures { IsNext Written (L.keyword (keyword_of operator) ∷ input.entry) result }
 {
@@ -135,7 +135,7 @@ fn begin_operator<'a>(operator: Operator, input: Input<'a>) -> Result<Begun<'a>,
     Ok(Begun::ToStrategy(BeforeStrategy::Operator(operator), following))
 }
 
-// The recursive strategy whose `rec` stands before the tokens.
+/// The recursive strategy whose `rec` stands before the tokens.
 fn begin_recursive<'a>(alloc: Global, input: Input<'a>) -> Result<Begun<'a>, Refusal>
     ensures { IsNext Written (L.keyword Keyword.Rec ∷ input.entry) result }
 {
@@ -146,7 +146,7 @@ fn begin_recursive<'a>(alloc: Global, input: Input<'a>) -> Result<Begun<'a>, Ref
     Ok(Begun::ToStrategy(BeforeStrategy::Recursive(recursive), following))
 }
 
-// The primitive whose `prim` stands before the tokens.
+/// The primitive whose `prim` stands before the tokens.
 fn begin_primitive<'a>(alloc: Global, input: Input<'a>) -> Result<Begun<'a>, Refusal>
     ensures { IsNext Written (L.keyword Keyword.Prim ∷ input.entry) result }
 {
@@ -170,7 +170,7 @@ fn begin_primitive<'a>(alloc: Global, input: Input<'a>) -> Result<Begun<'a>, Ref
     Ok(Begun::ToPattern(before, following))
 }
 
-// The call whose name, at this byte, stands before the tokens.
+/// The call whose name, at this byte, stands before the tokens.
 fn begin_name<'a>(
     alloc: Global,
     called: &'a [u8],
@@ -195,7 +195,7 @@ fn begin_name<'a>(
     Ok(Begun::ToStrategy(before, following))
 }
 
-// The call with these strategies whose `|` stands before the tokens.
+/// The call with these strategies whose `|` stands before the tokens.
 pub(crate) fn begin_terms<'a>(
     alloc: Global,
     called: Name,

@@ -1,4 +1,4 @@
-// The tokens of a let.
+//! The tokens of a let.
 ghost use Rattle.str_syntax.specs.Views.{strategy_of};
 ghost use Rattle.str_parser.specs.Begun.{IsNext, HasStrategy, GoesToDefinition};
 
@@ -12,7 +12,7 @@ use std::alloc::Global;
 use str_lexer::{Keyword, Mark};
 use str_syntax::{DefinitionHead, Primary, Strategy, StrategyDefinition};
 
-// The next definition of a let, after these. Where none begins, that is what was expected.
+/// The next definition of a let, after these. Where none begins, that is what was expected.
 pub(crate) fn begin_definition<'a>(
     alloc: Global,
     done: Vec<StrategyDefinition>,
@@ -31,7 +31,7 @@ pub(crate) fn begin_definition<'a>(
     Ok(Begun::ToStrategy(before, following))
 }
 
-// The let after this body of a definition.
+/// The let after this body of a definition.
 pub(crate) fn definition<'a>(
     alloc: Global,
     done: Vec<StrategyDefinition>,
@@ -39,7 +39,8 @@ pub(crate) fn definition<'a>(
     body: Strategy,
     input: Input<'a>,
 ) -> Result<Begun<'a>, Refusal>
-    ensures { IsNext (HasStrategy (BeforeStrategy.Definition done head) (strategy_of body)) input.entry result }
+    ensures { IsNext (HasStrategy (BeforeStrategy.Definition done head) (strategy_of body))
+        input.entry result }
 {
     let mut definitions = done;
     let body = Box::new(alloc, body)?;
@@ -51,14 +52,15 @@ pub(crate) fn definition<'a>(
     begin_definition(alloc, definitions, input, Expected::NameOrIn)
 }
 
-// The let after what its definitions scope over.
+/// The let after what its definitions scope over.
 pub(crate) fn let_body<'a>(
     alloc: Global,
     definitions: Vec<StrategyDefinition>,
     part: Strategy,
     input: Input<'a>,
 ) -> Result<Begun<'a>, Refusal>
-    ensures { IsNext (HasStrategy (BeforeStrategy.LetBody definitions) (strategy_of part)) input.entry result }
+    ensures { IsNext (HasStrategy (BeforeStrategy.LetBody definitions) (strategy_of part))
+        input.entry result }
 {
     let Some(rest) = input.after_keyword(Keyword::End) else {
         return Err(input.syntax(Expected::End));

@@ -1,4 +1,4 @@
-// The tokens of a primary after a pattern in it.
+//! The tokens of a primary after a pattern in it.
 ghost use Rattle.std.specs.Prelude.{◌≡◌};
 ghost use Rattle.str_syntax.specs.Views.{pattern_of, primary_of};
 ghost use Rattle.str_parser.specs.Begun.{IsNext, IsNextAfter, HasPattern, wants_match};
@@ -14,14 +14,14 @@ use str_lexer::Mark;
 use str_syntax::{Arguments, Name, Pattern, Primary, Strategy, Text};
 
 impl BeforePattern {
-    // Tells whether the pattern that comes next is in a match.
+    /// Tells whether the pattern that comes next is in a match.
     pub(crate) fn in_match(&self) -> bool
         ensures { result ≡ wants_match self.now }
     {
         matches!(self, BeforePattern::Match | BeforePattern::RuleLeft)
     }
 
-    // The same with the pattern that was read, or the refusal of it.
+    /// The same with the pattern that was read, or the refusal of it.
     #[inline(never)]
     pub(crate) fn after<'a>(
         self,
@@ -36,7 +36,7 @@ impl BeforePattern {
         }
     }
 
-    // The primary with this pattern after what has been read, up to its next part.
+    /// The primary with this pattern after what has been read, up to its next part.
     #[inline(always)]
     fn with<'a>(self, alloc: Global, part: Pattern, input: Input<'a>) -> Result<Begun<'a>, Refusal>
         ensures { IsNext (HasPattern self (pattern_of part)) input.entry result }
@@ -61,7 +61,8 @@ fn apply_to<'a>(
     part: Pattern,
     input: Input<'a>,
 ) -> Result<Begun<'a>, Refusal>
-    ensures { IsNext (HasPattern (BeforePattern.ApplyTo applied) (pattern_of part)) input.entry result }
+    ensures { IsNext (HasPattern (BeforePattern.ApplyTo applied) (pattern_of part))
+        input.entry result }
 {
     let made = Primary::Apply(applied, Box::new(alloc, part)?);
     whole(alloc, made, input)
@@ -75,7 +76,8 @@ fn terms<'a>(
     part: Pattern,
     input: Input<'a>,
 ) -> Result<Begun<'a>, Refusal>
-    ensures { IsNext (HasPattern (BeforePattern.Terms called strategies done) (pattern_of part)) input.entry result }
+    ensures { IsNext (HasPattern (BeforePattern.Terms called strategies done) (pattern_of part))
+        input.entry result }
 {
     let mut parts = done;
     parts.push(part)?;
@@ -98,7 +100,8 @@ fn primitive<'a>(
     part: Pattern,
     input: Input<'a>,
 ) -> Result<Begun<'a>, Refusal>
-    ensures { IsNext (HasPattern (BeforePattern.Primitive text done) (pattern_of part)) input.entry result }
+    ensures { IsNext (HasPattern (BeforePattern.Primitive text done) (pattern_of part))
+        input.entry result }
 {
     let mut parts = done;
     parts.push(part)?;

@@ -1,4 +1,4 @@
-// The tokens of a rule between backslashes.
+//! The tokens of a rule between backslashes.
 ghost use Rattle.std.specs.Prelude.{◌≡◌, IfOk};
 ghost use Rattle.str_syntax.specs.Trees as trees;
 ghost use Rattle.str_syntax.specs.Views.{pattern_of, primary_of, rule_of, strategy_of};
@@ -13,7 +13,7 @@ use std::alloc::{AllocError, Global};
 use str_lexer::{Keyword, Mark};
 use str_syntax::{Pattern, Primary, Rule, Strategy};
 
-// The rule after its left side.
+/// The rule after its left side.
 pub(crate) fn rule_left<'a>(
     alloc: Global,
     left: Pattern,
@@ -28,14 +28,15 @@ pub(crate) fn rule_left<'a>(
     Ok(Begun::ToPattern(before, following))
 }
 
-// The rule after its right side.
+/// The rule after its right side.
 pub(crate) fn rule_right<'a>(
     alloc: Global,
     left: Box<Pattern>,
     right: Pattern,
     input: Input<'a>,
 ) -> Result<Begun<'a>, Refusal>
-    ensures { IsNext (HasPattern (BeforePattern.RuleRight left) (pattern_of right)) input.entry result }
+    ensures { IsNext (HasPattern (BeforePattern.RuleRight left) (pattern_of right))
+        input.entry result }
 {
     let right = Box::new(alloc, right)?;
     if let Some(following) = input.after_keyword(Keyword::Where) {
@@ -54,7 +55,7 @@ pub(crate) fn rule_right<'a>(
     whole(alloc, primary, rest)
 }
 
-// The rule after its condition.
+/// The rule after its condition.
 pub(crate) fn rule_condition<'a>(
     alloc: Global,
     left: Box<Pattern>,
@@ -62,7 +63,8 @@ pub(crate) fn rule_condition<'a>(
     part: Strategy,
     input: Input<'a>,
 ) -> Result<Begun<'a>, Refusal>
-    ensures { IsNext (HasStrategy (BeforeStrategy.RuleCondition left right) (strategy_of part)) input.entry result }
+    ensures { IsNext (HasStrategy (BeforeStrategy.RuleCondition left right) (strategy_of part))
+        input.entry result }
 {
     let Some(rest) = input.after(Mark::Backslash) else {
         return Err(input.syntax(Expected::Backslash));
@@ -77,7 +79,7 @@ pub(crate) fn rule_condition<'a>(
     whole(alloc, primary, rest)
 }
 
-// The rule between backslashes.
+/// The rule between backslashes.
 fn lambda(alloc: Global, rule: Rule) -> Result<Primary, AllocError>
     ensures { IfOk result (λ made. primary_of made ≡ trees.lambda (rule_of rule)) }
 {

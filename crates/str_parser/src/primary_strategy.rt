@@ -1,4 +1,4 @@
-// The tokens of a primary after a strategy in it.
+//! The tokens of a primary after a strategy in it.
 ghost use Rattle.str_syntax.specs.Views.{strategy_of};
 ghost use Rattle.str_parser.specs.Begun.{IsNext, IsNextAfter, HasStrategy};
 
@@ -14,7 +14,7 @@ use str_lexer::{Keyword, Mark};
 use str_syntax::{Arguments, Name, Operator, Primary, Strategy};
 
 impl BeforeStrategy {
-    // The same with the strategy that was read, or the refusal of it.
+    /// The same with the strategy that was read, or the refusal of it.
     #[inline(never)]
     pub(crate) fn after<'a>(
         self,
@@ -29,19 +29,19 @@ impl BeforeStrategy {
         }
     }
 
-    // The primary with this strategy after what has been read, up to its next part.
+    /// The primary with this strategy after what has been read, up to its next part.
     #[inline(always)]
     fn with<'a>(self, alloc: Global, part: Strategy, input: Input<'a>) -> Result<Begun<'a>, Refusal>
         ensures { IsNext (HasStrategy self (strategy_of part)) input.entry result }
     {
         match self {
             BeforeStrategy::Apply => apply(alloc, part, input),
-            BeforeStrategy::Parenthesized(done) => parenthesized(alloc, done, part, input),
-            BeforeStrategy::Bracketed(done) => bracketed(alloc, done, part, input),
+            BeforeStrategy::Parenthesized(done) => in_parentheses(alloc, done, part, input),
+            BeforeStrategy::Bracketed(done) => in_brackets(alloc, done, part, input),
             BeforeStrategy::Tail(done) => tail(alloc, done, part, input),
             BeforeStrategy::Arguments(name, done) => arguments(alloc, name, done, part, input),
             BeforeStrategy::Scope(names) => scope(alloc, names, part, input),
-            BeforeStrategy::Operator(operator) => operated(alloc, operator, part, input),
+            BeforeStrategy::Operator(operator) => operator_call(alloc, operator, part, input),
             BeforeStrategy::Recursive(name) => recursive(alloc, name, part, input),
             BeforeStrategy::Condition => condition(alloc, part, input),
             BeforeStrategy::Consequence(condition) => consequence(alloc, condition, part, input),
@@ -67,13 +67,14 @@ fn apply<'a>(alloc: Global, applied: Strategy, input: Input<'a>) -> Result<Begun
     Ok(Begun::ToPattern(before, following))
 }
 
-fn parenthesized<'a>(
+fn in_parentheses<'a>(
     alloc: Global,
     done: Vec<Strategy>,
     part: Strategy,
     input: Input<'a>,
 ) -> Result<Begun<'a>, Refusal>
-    ensures { IsNext (HasStrategy (BeforeStrategy.Parenthesized done) (strategy_of part)) input.entry result }
+    ensures { IsNext (HasStrategy (BeforeStrategy.Parenthesized done) (strategy_of part))
+        input.entry result }
 {
     let mut parts = done;
     if let Some(following) = input.after(Mark::Comma) {
@@ -90,13 +91,14 @@ fn parenthesized<'a>(
     whole(alloc, Primary::TupleCongruence(parts), rest)
 }
 
-fn bracketed<'a>(
+fn in_brackets<'a>(
     alloc: Global,
     done: Vec<Strategy>,
     part: Strategy,
     input: Input<'a>,
 ) -> Result<Begun<'a>, Refusal>
-    ensures { IsNext (HasStrategy (BeforeStrategy.Bracketed done) (strategy_of part)) input.entry result }
+    ensures { IsNext (HasStrategy (BeforeStrategy.Bracketed done) (strategy_of part))
+        input.entry result }
 {
     let mut parts = done;
     parts.push(part)?;
@@ -118,7 +120,8 @@ fn tail<'a>(
     part: Strategy,
     input: Input<'a>,
 ) -> Result<Begun<'a>, Refusal>
-    ensures { IsNext (HasStrategy (BeforeStrategy.Tail parts) (strategy_of part)) input.entry result }
+    ensures { IsNext (HasStrategy (BeforeStrategy.Tail parts) (strategy_of part))
+        input.entry result }
 {
     let Some(rest) = input.after(Mark::CloseBracket) else {
         return Err(input.syntax(Expected::CloseBracket));
@@ -134,7 +137,8 @@ fn arguments<'a>(
     part: Strategy,
     input: Input<'a>,
 ) -> Result<Begun<'a>, Refusal>
-    ensures { IsNext (HasStrategy (BeforeStrategy.Arguments called done) (strategy_of part)) input.entry result }
+    ensures { IsNext (HasStrategy (BeforeStrategy.Arguments called done) (strategy_of part))
+        input.entry result }
 {
     let mut parts = done;
     parts.push(part)?;
@@ -157,7 +161,8 @@ fn scope<'a>(
     part: Strategy,
     input: Input<'a>,
 ) -> Result<Begun<'a>, Refusal>
-    ensures { IsNext (HasStrategy (BeforeStrategy.Scope variables) (strategy_of part)) input.entry result }
+    ensures { IsNext (HasStrategy (BeforeStrategy.Scope variables) (strategy_of part))
+        input.entry result }
 {
     let Some(rest) = input.after(Mark::CloseBrace) else {
         return Err(input.syntax(Expected::CloseBrace));
@@ -166,13 +171,14 @@ fn scope<'a>(
     whole(alloc, made, rest)
 }
 
-fn operated<'a>(
+fn operator_call<'a>(
     alloc: Global,
     operator: Operator,
     part: Strategy,
     input: Input<'a>,
 ) -> Result<Begun<'a>, Refusal>
-    ensures { IsNext (HasStrategy (BeforeStrategy.Operator operator) (strategy_of part)) input.entry result }
+    ensures { IsNext (HasStrategy (BeforeStrategy.Operator operator) (strategy_of part))
+        input.entry result }
 {
     let Some(rest) = input.after(Mark::CloseParenthesis) else {
         return Err(input.syntax(Expected::CloseParenthesis));
@@ -187,7 +193,8 @@ fn recursive<'a>(
     part: Strategy,
     input: Input<'a>,
 ) -> Result<Begun<'a>, Refusal>
-    ensures { IsNext (HasStrategy (BeforeStrategy.Recursive name) (strategy_of part)) input.entry result }
+    ensures { IsNext (HasStrategy (BeforeStrategy.Recursive name) (strategy_of part))
+        input.entry result }
 {
     let Some(rest) = input.after(Mark::CloseParenthesis) else {
         return Err(input.syntax(Expected::CloseParenthesis));
@@ -212,7 +219,8 @@ fn consequence<'a>(
     part: Strategy,
     input: Input<'a>,
 ) -> Result<Begun<'a>, Refusal>
-    ensures { IsNext (HasStrategy (BeforeStrategy.Consequence condition) (strategy_of part)) input.entry result }
+    ensures { IsNext (HasStrategy (BeforeStrategy.Consequence condition) (strategy_of part))
+        input.entry result }
 {
     let part = Box::new(alloc, part)?;
     if let Some(following) = input.after_keyword(Keyword::Else) {
@@ -233,7 +241,8 @@ fn alternative<'a>(
     part: Strategy,
     input: Input<'a>,
 ) -> Result<Begun<'a>, Refusal>
-    ensures { IsNext (HasStrategy (BeforeStrategy.Alternative condition then) (strategy_of part)) input.entry result }
+    ensures { IsNext (HasStrategy (BeforeStrategy.Alternative condition then) (strategy_of part))
+        input.entry result }
 {
     let Some(rest) = input.after_keyword(Keyword::End) else {
         return Err(input.syntax(Expected::End));

@@ -1,4 +1,4 @@
-// Why tokens are refused, with what a person wants to know.
+//! Why tokens are refused, with what a person wants to know.
 ghost use Rattle.std.specs.Prelude.{◌≡◌};
 ghost use Rattle.str_parser.specs.Parsing.{fault_of};
 
@@ -6,19 +6,19 @@ use crate::expected::Expected;
 use std::alloc::{AllocError, AllocFailed};
 use term_model::Fault;
 
-// Why tokens are refused. An offset `at` is that of `Fault`.
+/// Why tokens are refused. An offset `at` is that of `Fault`.
 #[derive(Clone, Copy)]
 pub(crate) enum Refusal {
-    // A growth of memory was refused.
+    /// A growth of memory was refused.
     Memory,
-    // No phrase goes on with the token at the offset.
+    /// No phrase goes on with the token at the offset.
     Syntax { at: u64, expected: Expected },
-    // A part begins one level beyond the greatest.
+    /// A part begins one level beyond the greatest.
     Nesting { at: u64 },
 }
 
 impl Refusal {
-    // Returns the refusal as a fault.
+    /// Returns the refusal as a fault.
     pub(crate) fn fault(&self) -> Fault
         ensures { result ≡ fault_of self.now }
     {
@@ -29,7 +29,7 @@ impl Refusal {
         }
     }
 
-    // Returns what could stand there instead, where that is known.
+    /// Returns what could stand there instead, where that is known.
     pub(crate) fn expected(&self) -> Option<Expected> {
         match self {
             Refusal::Syntax { expected, .. } => Some(*expected),
@@ -38,7 +38,7 @@ impl Refusal {
     }
 }
 
-// A refused growth is the refusal `Memory`.
+/// A refused growth is the refusal `Memory`.
 impl From<AllocError> for Refusal {
     ghost use Rattle.std.specs.Prelude.{◌≡◌};
     ghost use Rattle.str_parser.specs.declared.refusal.Refusal.TheVariants.{Memory};
@@ -50,7 +50,7 @@ impl From<AllocError> for Refusal {
     }
 }
 
-// So is a refused growth that gives a value back, which is dropped.
+/// So is a refused growth that gives a value back, which is dropped.
 impl<T: Drop> From<AllocFailed<T>> for Refusal {
     ghost use Rattle.std.specs.Prelude.{◌≡◌};
     ghost use Rattle.str_parser.specs.declared.refusal.Refusal.TheVariants.{Memory};

@@ -1,4 +1,4 @@
-// Sorts, declarations and the parts of signatures from tokens.
+//! Sorts, declarations and the parts of signatures from tokens.
 ghost use Rattle.std.specs.Prelude.{◌≡◌, ◌+◌, ◌≤◌, ◌∷◌};
 ghost use Rattle.str_syntax.specs.Views.{sort_tree_of, sorts_of, declaration_of, signature_of};
 ghost use Rattle.str_parser.specs.Items.{max_level};
@@ -17,16 +17,16 @@ use std::alloc::Global;
 use str_lexer::{Keyword, Mark};
 use str_syntax::{Declaration, Name, SignaturePart, Sort};
 
-// What stands after the colon of a declaration.
+/// What stands after the colon of a declaration.
 #[derive(Drop)]
 enum SortType {
-    // `A`
+    /// `A`
     Plain(Sort),
-    // `A * B -> D`
+    /// `A * B -> D`
     Mapping(Vec<Sort>, Sort),
 }
 
-// Reads the name that the tokens begin with, where they do; also returns the tokens after it.
+/// Reads the name that the tokens begin with, where they do; also returns the tokens after it.
 fn first_name<'a>(input: &Input<'a>) -> Option<(&'a [u8], Input<'a>)>
     ensures { IsFirstName input.now result }
 {
@@ -37,7 +37,7 @@ fn first_name<'a>(input: &Input<'a>) -> Option<(&'a [u8], Input<'a>)>
     }
 }
 
-// Tells whether a declaration can begin with the first of the tokens.
+/// Tells whether a declaration can begin with the first of the tokens.
 fn at_declaration(input: &Input) -> bool
     ensures { result ≡ first_is begins_declaration input.now }
 {
@@ -51,7 +51,7 @@ fn at_declaration(input: &Input) -> bool
     }
 }
 
-// Tells whether a part of a signature can begin with the first of the tokens.
+/// Tells whether a part of a signature can begin with the first of the tokens.
 fn at_signature_part(input: &Input) -> bool
     ensures { result ≡ first_is begins_signature_part input.now }
 {
@@ -65,7 +65,7 @@ fn at_signature_part(input: &Input) -> bool
     }
 }
 
-// Tells whether a sort can begin with the first of the tokens.
+/// Tells whether a sort can begin with the first of the tokens.
 fn at_sort(input: &Input) -> bool
     ensures { result ≡ first_is begins_sort input.now }
 {
@@ -78,7 +78,7 @@ fn at_sort(input: &Input) -> bool
     }
 }
 
-// Reads the sort at this level that the tokens begin with; also returns the tokens after it.
+/// Reads the sort at this level that the tokens begin with; also returns the tokens after it.
 #[cycle(sort)]
 fn sort<'a>(alloc: Global, input: Input<'a>, level: u32) -> Result<(Sort, Input<'a>), Refusal>
     requires { level ≤ max_level + 1 }
@@ -101,7 +101,7 @@ fn sort<'a>(alloc: Global, input: Input<'a>, level: u32) -> Result<(Sort, Input<
     Ok((Sort::Applied(name, parts), rest))
 }
 
-// Reads the sorts at this level with commas between that the tokens begin with, one at least; also returns the tokens after them.
+/// Reads the sorts at this level with commas between that the tokens begin with, one at least; also returns the tokens after them.
 #[cycle(sort)]
 fn sort_list<'a>(
     alloc: Global,
@@ -109,7 +109,8 @@ fn sort_list<'a>(
     level: u32,
 ) -> Result<(Vec<Sort>, Input<'a>), Refusal>
     requires { level ≤ max_level + 1 }
-    ensures { IsReading (some_sorts level) (NoneOf sort_list_goes_on) sorts_from input.entry result }
+    ensures { IsReading (some_sorts level) (NoneOf sort_list_goes_on)
+        sorts_from input.entry result }
 {
     let (first, mut rest) = sort(alloc, input, level)?;
     let mut parts = Vec::new(alloc);
@@ -122,7 +123,7 @@ fn sort_list<'a>(
     Ok((parts, rest))
 }
 
-// Reads the sorts that the tokens begin with, one after the other; also returns the tokens after them.
+/// Reads the sorts that the tokens begin with, one after the other; also returns the tokens after them.
 fn sort_run<'a>(alloc: Global, input: Input<'a>) -> Result<(Vec<Sort>, Input<'a>), Refusal>
     ensures { IsReadingAny written_run (NoneOf sort_run_goes_on) sorts_from input.entry result }
 {
@@ -136,7 +137,7 @@ fn sort_run<'a>(alloc: Global, input: Input<'a>) -> Result<(Vec<Sort>, Input<'a>
     Ok((found, rest))
 }
 
-// Reads the sorts with * between that the tokens begin with, one at least; also returns the tokens after them.
+/// Reads the sorts with * between that the tokens begin with, one at least; also returns the tokens after them.
 fn factors<'a>(alloc: Global, input: Input<'a>) -> Result<(Vec<Sort>, Input<'a>), Refusal>
     ensures { IsReading some_factors (NoneOf factors_go_on) sorts_from input.entry result }
 {
@@ -151,7 +152,7 @@ fn factors<'a>(alloc: Global, input: Input<'a>) -> Result<(Vec<Sort>, Input<'a>)
     Ok((parts, rest))
 }
 
-// The one sort, where there is one only.
+/// The one sort, where there is one only.
 fn sole(parts: Vec<Sort>) -> Option<Sort>
     ensures { IsSole (sorts_of parts.items) result }
 {
@@ -162,7 +163,7 @@ fn sole(parts: Vec<Sort>) -> Option<Sort>
     parts.pop()
 }
 
-// What the tokens after the colon of a declaration begin with, and the tokens after that.
+/// What the tokens after the colon of a declaration begin with, and the tokens after that.
 fn sort_type<'a>(alloc: Global, input: Input<'a>) -> Result<(SortType, Input<'a>), Refusal>
     ensures { IsReading typed (NoneOf declaration_goes_on) type_of input.entry result }
 {
@@ -177,9 +178,10 @@ fn sort_type<'a>(alloc: Global, input: Input<'a>) -> Result<(SortType, Input<'a>
     Ok((SortType::Plain(made), rest))
 }
 
-// Reads the injection whose colon stands before the tokens; also returns the tokens after it.
+/// Reads the injection whose colon stands before the tokens; also returns the tokens after it.
 fn injection<'a>(alloc: Global, input: Input<'a>) -> Result<(Declaration, Input<'a>), Refusal>
-    ensures { IsReading written_declaration (NoneOf declaration_goes_on) declaration_of (mark Mark.Colon ∷ input.entry) result }
+    ensures { IsReading written_declaration (NoneOf declaration_goes_on)
+        declaration_of (mark Mark.Colon ∷ input.entry) result }
 {
     let (found, rest) = sort_type(alloc, input)?;
     match found {
@@ -188,9 +190,10 @@ fn injection<'a>(alloc: Global, input: Input<'a>) -> Result<(Declaration, Input<
     }
 }
 
-// Reads the declaration that the tokens begin with; also returns the tokens after it.
+/// Reads the declaration that the tokens begin with; also returns the tokens after it.
 fn declaration<'a>(alloc: Global, input: Input<'a>) -> Result<(Declaration, Input<'a>), Refusal>
-    ensures { IsReading written_declaration (NoneOf declaration_goes_on) declaration_of input.entry result }
+    ensures { IsReading written_declaration (NoneOf declaration_goes_on)
+        declaration_of input.entry result }
 {
     if let Some(following) = input.after(Mark::Colon) {
         return injection(alloc, following);
@@ -212,12 +215,13 @@ fn declaration<'a>(alloc: Global, input: Input<'a>) -> Result<(Declaration, Inpu
     }
 }
 
-// Reads the declarations that the tokens begin with; also returns the tokens after them.
+/// Reads the declarations that the tokens begin with; also returns the tokens after them.
 fn declarations<'a>(
     alloc: Global,
     input: Input<'a>,
 ) -> Result<(Vec<Declaration>, Input<'a>), Refusal>
-    ensures { IsReadingAny written_declarations (NoneOf signature_part_goes_on) declarations_from input.entry result }
+    ensures { IsReadingAny written_declarations (NoneOf signature_part_goes_on)
+        declarations_from input.entry result }
 {
     let mut found = Vec::new(alloc);
     let mut rest = input;
@@ -229,12 +233,13 @@ fn declarations<'a>(
     Ok((found, rest))
 }
 
-// Reads the part of a signature that the tokens begin with; also returns the tokens after it.
+/// Reads the part of a signature that the tokens begin with; also returns the tokens after it.
 fn signature_part<'a>(
     alloc: Global,
     input: Input<'a>,
 ) -> Result<(SignaturePart, Input<'a>), Refusal>
-    ensures { IsReading written_part (NoneOf signature_part_goes_on) signature_of input.entry result }
+    ensures { IsReading written_part (NoneOf signature_part_goes_on)
+        signature_of input.entry result }
 {
     if let Some(following) = input.after_keyword(Keyword::Sorts) {
         let (found, rest) = sort_run(alloc, following)?;
@@ -247,12 +252,13 @@ fn signature_part<'a>(
     Ok((SignaturePart::Constructors(found), rest))
 }
 
-// Reads the parts of a signature that the tokens begin with; also returns the tokens after them.
+/// Reads the parts of a signature that the tokens begin with; also returns the tokens after them.
 pub(crate) fn signature_parts<'a>(
     alloc: Global,
     input: Input<'a>,
 ) -> Result<(Vec<SignaturePart>, Input<'a>), Refusal>
-    ensures { IsReadingAny written_parts (NoneOf signature_goes_on) signatures_from input.entry result }
+    ensures { IsReadingAny written_parts (NoneOf signature_goes_on)
+        signatures_from input.entry result }
 {
     let mut found = Vec::new(alloc);
     let mut rest = input;

@@ -14,4 +14,10 @@ pub strategies_counted : (ss : List Strategy) → number_of_strategies (strategi
 strategies_counted [] = refl
 strategies_counted (s ∷ ss) = ap suc (strategies_counted ss)
 
-pub ruleset counted = (patterns_counted, strategies_counted, reads_no_arguments, reads_strategy_arguments, reads_all_arguments)
+pub ruleset counted = (
+  patterns_counted,
+  strategies_counted,
+  reads_no_arguments,
+  reads_strategy_arguments,
+  reads_all_arguments,
+)

@@ -66,10 +66,18 @@ mutual
 
 -- the tests decide equality
 pub same_sort-Decides : (a b : SortTree) → Decides (same_sort a b) (a ≡ b)
-same_sort-Decides a b = (same_sort-true a b, λ e. let P : SortTree → Type 0 = λ c. same_sort a c ≡ true in subst P e (same_sort-refl a))
+same_sort-Decides a b = (
+  same_sort-true a b,
+  λ e. let P : SortTree → Type 0 = λ c. same_sort a c ≡ true in
+      subst P e (same_sort-refl a),
+)
 
 pub same_sorts-Decides : (parts others : SortTrees) → Decides (same_sorts parts others) (parts ≡ others)
-same_sorts-Decides parts others = (same_sorts-true parts others, λ e. let P : SortTrees → Type 0 = λ more. same_sorts parts more ≡ true in subst P e (same_sorts-refl parts))
+same_sorts-Decides parts others = (
+  same_sorts-true parts others,
+  λ e. let P : SortTrees → Type 0 = λ more. same_sorts parts more ≡ true in
+      subst P e (same_sorts-refl parts),
+)
 
 pub same_sort_equiv : IsEquivalence same_sort
 same_sort_equiv = decided same_sort same_sort-Decides

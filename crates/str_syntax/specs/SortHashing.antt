@@ -1,3 +1,4 @@
+-- The headline does not rest on this file.
 -- What a sort feeds a hasher: the same where the sorts are the same.
 use Rattle.std.specs.Prelude.{◌≡◌, ◌++◌, true}
 use Rattle.std.specs.Hash as fed

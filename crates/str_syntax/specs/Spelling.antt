@@ -1,3 +1,4 @@
+-- The headline does not rest on this file.
 -- What the bytes of a text in memory are seen as.
 use Rattle.std.specs.Prelude.{ℕ, List}
 use Rattle.str_syntax.specs.declared.text.Spelling.{Spelling}

@@ -1,3 +1,4 @@
+-- The headline does not rest on this file.
 -- What the trees in the code stand for.
 use Rattle.std.specs.Prelude.{List, [], ◌∷◌, map, Option, Some, None, Box}
 use Rattle.std.specs.declared.alloc.Global.{Global}
@@ -65,12 +66,14 @@ optional_strategy None = no_strategy
 optional_strategy (Some s) = one_strategy s.value
 
 -- one level of each tree, where the trees in it are known
-abbrev pub argument_step : Arguments-F ArgumentTree PatternTree PrimaryTree SequenceTree StepTree StrategyTree RuleTree DefinitionTree → ArgumentTree
+abbrev pub argument_step : Arguments-F ArgumentTree PatternTree PrimaryTree SequenceTree StepTree StrategyTree RuleTree
+    DefinitionTree → ArgumentTree
 argument_step forms.Absent = no_arguments
 argument_step (forms.Strategies ss) = strategy_arguments (strategies_in ss.items)
 argument_step (forms.WithTerms ss ps) = all_arguments (strategies_in ss.items) (patterns_in ps.value.items)
 
-abbrev pub pattern_step : Pattern-F ArgumentTree PatternTree PrimaryTree SequenceTree StepTree StrategyTree RuleTree DefinitionTree → PatternTree
+abbrev pub pattern_step : Pattern-F ArgumentTree PatternTree PrimaryTree SequenceTree StepTree StrategyTree RuleTree
+    DefinitionTree → PatternTree
 pattern_step (forms.Variable x) = variable x
 pattern_step (forms.Wildcard _) = wildcard
 pattern_step (forms.Alias x p) = alias x p.value
@@ -84,7 +87,8 @@ pattern_step (forms.Annotated p ps) = annotated p.value (patterns_in ps.items)
 pattern_step (forms.Applied s) = applied s.value
 pattern_step (forms.AppliedTo s p) = applied_to s.value p.value
 
-abbrev pub primary_step : Primary-F ArgumentTree PatternTree PrimaryTree SequenceTree StepTree StrategyTree RuleTree DefinitionTree → PrimaryTree
+abbrev pub primary_step : Primary-F ArgumentTree PatternTree PrimaryTree SequenceTree StepTree StrategyTree RuleTree
+    DefinitionTree → PrimaryTree
 primary_step forms.Id = identity
 primary_step forms.Fail = failure
 primary_step (forms.Match p) = match p
@@ -102,48 +106,67 @@ primary_step (forms.Call f arguments) = call f arguments
 primary_step (forms.TupleCongruence ss) = tuple_congruence (strategies_in ss.items)
 primary_step (forms.ListCongruence ss s) = list_congruence (strategies_in ss.items) (optional_strategy s)
 
-abbrev pub rule_step : Rule-F ArgumentTree PatternTree PrimaryTree SequenceTree StepTree StrategyTree RuleTree DefinitionTree → RuleTree
+abbrev pub rule_step : Rule-F ArgumentTree PatternTree PrimaryTree SequenceTree StepTree StrategyTree RuleTree
+    DefinitionTree → RuleTree
 rule_step r = rewrites r.left.value r.right.value (optional_strategy r.condition)
 
-abbrev pub sequence_step : Sequence-F ArgumentTree PatternTree PrimaryTree SequenceTree StepTree StrategyTree RuleTree DefinitionTree → SequenceTree
+abbrev pub sequence_step : Sequence-F ArgumentTree PatternTree PrimaryTree SequenceTree StepTree StrategyTree RuleTree
+    DefinitionTree → SequenceTree
 sequence_step (forms.Last s) = last s
 sequence_step (forms.Then s q) = then s q.value
 
-abbrev pub step_step : Step-F ArgumentTree PatternTree PrimaryTree SequenceTree StepTree StrategyTree RuleTree DefinitionTree → StepTree
+abbrev pub step_step : Step-F ArgumentTree PatternTree PrimaryTree SequenceTree StepTree StrategyTree RuleTree
+    DefinitionTree → StepTree
 step_step (forms.Plain at s) = plain_step s.value
 step_step (forms.Matching at s there p) = matching s.value p.value
 
-abbrev pub strategy_step : Strategy-F ArgumentTree PatternTree PrimaryTree SequenceTree StepTree StrategyTree RuleTree DefinitionTree → StrategyTree
+abbrev pub strategy_step : Strategy-F ArgumentTree PatternTree PrimaryTree SequenceTree StepTree StrategyTree RuleTree
+    DefinitionTree → StrategyTree
 strategy_step (forms.Sequence q) = plain_sequence q
 strategy_step (forms.LeftChoice q s) = left_choice q s.value
 strategy_step (forms.GuardedChoice q s t) = guarded_choice q s.value t.value
 
-abbrev pub definition_step : StrategyDefinition-F ArgumentTree PatternTree PrimaryTree SequenceTree StepTree StrategyTree RuleTree DefinitionTree → DefinitionTree
+abbrev pub definition_step : StrategyDefinition-F ArgumentTree PatternTree PrimaryTree SequenceTree StepTree
+    StrategyTree RuleTree DefinitionTree → DefinitionTree
 definition_step d = definition (head_of d.head) d.body.value
 
 abbrev pub arguments_of : Arguments → ArgumentTree
-arguments_of = fold-Arguments ArgumentTree PatternTree PrimaryTree SequenceTree StepTree StrategyTree RuleTree DefinitionTree argument_step pattern_step primary_step sequence_step step_step strategy_step rule_step definition_step
+arguments_of = fold-Arguments ArgumentTree PatternTree PrimaryTree SequenceTree StepTree StrategyTree RuleTree
+    DefinitionTree argument_step pattern_step primary_step sequence_step step_step strategy_step rule_step
+    definition_step
 
 abbrev pub pattern_of : Pattern → PatternTree
-pattern_of = fold-Pattern ArgumentTree PatternTree PrimaryTree SequenceTree StepTree StrategyTree RuleTree DefinitionTree argument_step pattern_step primary_step sequence_step step_step strategy_step rule_step definition_step
+pattern_of = fold-Pattern ArgumentTree PatternTree PrimaryTree SequenceTree StepTree StrategyTree RuleTree
+    DefinitionTree argument_step pattern_step primary_step sequence_step step_step strategy_step rule_step
+    definition_step
 
 abbrev pub primary_of : Primary → PrimaryTree
-primary_of = fold-Primary ArgumentTree PatternTree PrimaryTree SequenceTree StepTree StrategyTree RuleTree DefinitionTree argument_step pattern_step primary_step sequence_step step_step strategy_step rule_step definition_step
+primary_of = fold-Primary ArgumentTree PatternTree PrimaryTree SequenceTree StepTree StrategyTree RuleTree
+    DefinitionTree argument_step pattern_step primary_step sequence_step step_step strategy_step rule_step
+    definition_step
 
 abbrev pub rule_of : Rule → RuleTree
-rule_of = fold-Rule ArgumentTree PatternTree PrimaryTree SequenceTree StepTree StrategyTree RuleTree DefinitionTree argument_step pattern_step primary_step sequence_step step_step strategy_step rule_step definition_step
+rule_of = fold-Rule ArgumentTree PatternTree PrimaryTree SequenceTree StepTree StrategyTree RuleTree DefinitionTree
+    argument_step pattern_step primary_step sequence_step step_step strategy_step rule_step definition_step
 
 abbrev pub sequence_of : Sequence → SequenceTree
-sequence_of = fold-Sequence ArgumentTree PatternTree PrimaryTree SequenceTree StepTree StrategyTree RuleTree DefinitionTree argument_step pattern_step primary_step sequence_step step_step strategy_step rule_step definition_step
+sequence_of = fold-Sequence ArgumentTree PatternTree PrimaryTree SequenceTree StepTree StrategyTree RuleTree
+    DefinitionTree argument_step pattern_step primary_step sequence_step step_step strategy_step rule_step
+    definition_step
 
 abbrev pub step_of : Step → StepTree
-step_of = fold-Step ArgumentTree PatternTree PrimaryTree SequenceTree StepTree StrategyTree RuleTree DefinitionTree argument_step pattern_step primary_step sequence_step step_step strategy_step rule_step definition_step
+step_of = fold-Step ArgumentTree PatternTree PrimaryTree SequenceTree StepTree StrategyTree RuleTree DefinitionTree
+    argument_step pattern_step primary_step sequence_step step_step strategy_step rule_step definition_step
 
 abbrev pub strategy_of : Strategy → StrategyTree
-strategy_of = fold-Strategy ArgumentTree PatternTree PrimaryTree SequenceTree StepTree StrategyTree RuleTree DefinitionTree argument_step pattern_step primary_step sequence_step step_step strategy_step rule_step definition_step
+strategy_of = fold-Strategy ArgumentTree PatternTree PrimaryTree SequenceTree StepTree StrategyTree RuleTree
+    DefinitionTree argument_step pattern_step primary_step sequence_step step_step strategy_step rule_step
+    definition_step
 
 abbrev pub definition_of : StrategyDefinition → DefinitionTree
-definition_of = fold-StrategyDefinition ArgumentTree PatternTree PrimaryTree SequenceTree StepTree StrategyTree RuleTree DefinitionTree argument_step pattern_step primary_step sequence_step step_step strategy_step rule_step definition_step
+definition_of = fold-StrategyDefinition ArgumentTree PatternTree PrimaryTree SequenceTree StepTree StrategyTree RuleTree
+    DefinitionTree argument_step pattern_step primary_step sequence_step step_step strategy_step rule_step
+    definition_step
 
 abbrev pub optional_pattern_of : Option (Box Pattern Global) → OptionalPattern
 optional_pattern_of None = no_pattern

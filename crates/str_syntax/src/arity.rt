@@ -1,4 +1,4 @@
-// How many parameters a definition has, and how many arguments a call.
+//! How many parameters a definition has, and how many arguments a call.
 ghost use Rattle.std.specs.Prelude.{◌≡◌};
 ghost use Rattle.str_syntax.specs.Arity.{given_strategies, given_terms, strategy_parameters, term_parameters};
 ghost use Rattle.str_syntax.specs.Views.{arguments_of, parameters_of};

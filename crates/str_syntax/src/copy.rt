@@ -1,4 +1,4 @@
-// Copies of strategies and patterns.
+//! Copies of strategies and patterns.
 ghost use Rattle.std.specs.Prelude.{◌≡◌, IfOk, map};
 ghost use Rattle.str_syntax.specs.Views.{arguments_of, definition_of, head_of, optional_pattern_of, optional_strategy_of, parameters_of, pattern_of, primary_of, rule_of, sequence_of, step_of, strategy_of};
 
@@ -200,16 +200,14 @@ impl Pattern {
 fn boxed(alloc: Global, source: &Strategy) -> Result<Box<Strategy>, AllocError>
     ensures { IfOk result (λ made. strategy_of made.value ≡ strategy_of source.now) }
 {
-    let made = Box::new(alloc, source.copy(alloc)?)?;
-    Ok(made)
+    Ok(Box::new(alloc, source.copy(alloc)?)?)
 }
 
 #[cycle(copy)]
 fn boxed_pattern(alloc: Global, source: &Pattern) -> Result<Box<Pattern>, AllocError>
     ensures { IfOk result (λ made. pattern_of made.value ≡ pattern_of source.now) }
 {
-    let made = Box::new(alloc, source.copy(alloc)?)?;
-    Ok(made)
+    Ok(Box::new(alloc, source.copy(alloc)?)?)
 }
 
 #[cycle(copy)]
@@ -242,8 +240,7 @@ fn optional_pattern(
 fn boxed_primary(alloc: Global, source: &Primary) -> Result<Box<Primary>, AllocError>
     ensures { IfOk result (λ made. primary_of made.value ≡ primary_of source.now) }
 {
-    let made = Box::new(alloc, source.copy(alloc)?)?;
-    Ok(made)
+    Ok(Box::new(alloc, source.copy(alloc)?)?)
 }
 
 #[cycle(copy)]

@@ -1,4 +1,4 @@
-// The trees of files.
+//! The trees of files.
 ghost use Rattle.std.specs.Prelude.{◌≡◌, IfOk, map};
 ghost use Rattle.str_syntax.specs.Views.{file_of, form_of, rule_definition_of, section_of, signature_of, top_of};
 

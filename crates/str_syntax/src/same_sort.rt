@@ -1,4 +1,4 @@
-// Equality and hash of sorts: they are those of their trees, wherever the names stand.
+//! Equality and hash of sorts: they are those of their trees, wherever the names stand.
 ghost use Rattle.std.specs.Prelude.{◌≡◌, ◌↔◌, IsTrue, fold};
 ghost use Rattle.str_syntax.specs.SameSort.{same_sort, same_sorts};
 ghost use Rattle.str_syntax.specs.SortHashing.{sort_writes, sorts_writes};
@@ -43,7 +43,7 @@ impl Hash for Sort {
     }
 }
 
-// Whether two sorts are the same.
+/// Whether two sorts are the same.
 #[cycle(same)]
 fn are_same(left: &Sort, right: &Sort) -> bool
     ensures { result ≡ same_sort (sort_tree_of left.now) (sort_tree_of right.now) }
@@ -55,7 +55,7 @@ fn are_same(left: &Sort, right: &Sort) -> bool
     }
 }
 
-// Whether two slices have the same sorts in the same order.
+/// Whether two slices have the same sorts in the same order.
 #[cycle(same)]
 #[tactic(auto, using(crate::proofs::SortLaws::equality))]
 fn all_same(left: &[Sort], right: &[Sort]) -> bool
@@ -72,7 +72,7 @@ fn all_same(left: &[Sort], right: &[Sort]) -> bool
     true
 }
 
-// Feeds the hasher a sort.
+/// Feeds the hasher a sort.
 #[cycle(feed)]
 fn feed<H: Hasher>(sort: &Sort, state: &mut H)
     ensures { state.new ≡ fold H.write state.old (sort_writes (sort_tree_of sort.now)) }
@@ -90,7 +90,7 @@ fn feed<H: Hasher>(sort: &Sort, state: &mut H)
     }
 }
 
-// Feeds the hasher the sorts, and what ends them.
+/// Feeds the hasher the sorts, and what ends them.
 #[cycle(feed)]
 fn feed_all<H: Hasher>(sorts: &[Sort], state: &mut H)
     ensures { state.new ≡ fold H.write state.old (sorts_writes (sorts_of sorts.now)) }

@@ -1,4 +1,4 @@
-// The trees of signatures.
+//! The trees of signatures.
 ghost use Rattle.std.specs.Prelude.{◌≡◌, IfOk, map};
 ghost use Rattle.str_syntax.specs.Views.{declaration_of, signature_of, sort_tree_of};
 

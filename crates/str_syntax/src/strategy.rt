@@ -1,4 +1,4 @@
-// The trees of strategies and patterns: one type for each level at which operators bind.
+//! The trees of strategies and patterns: one type for each level at which operators bind.
 use crate::text::{Name, Text};
 
 /// A strategy: sequences with `<+`, or `<` and `+`, between them. These group to the right.

@@ -1,12 +1,13 @@
-// Names and quoted texts.
+//! Names and quoted texts.
 ghost use Rattle.std.specs.Prelude.{◌≡◌, ◌↔◌, IsTrue, IfOk};
+ghost use Rattle.term_model.specs.Results.{Returns};
 
 use std::alloc::{AllocError, Global};
 use std::hash::{Hash, Hasher};
 use std::marker::Model;
 use term_model::ShortText;
 
-// Where the bytes of a text are: short ones stand in place.
+/// Where the bytes of a text are: short ones stand in place.
 #[derive(Drop)]
 enum Spelling {
     Short(ShortText),
@@ -32,7 +33,7 @@ impl Model for Text {
 impl Text {
     /// Makes the text of these bytes. `AllocError` where the memory for them is refused.
     pub fn new(alloc: Global, bytes: &[u8]) -> Result<Text, AllocError>
-        ensures { IfOk result (λ text. text ≡ bytes.now) }
+        ensures { Returns result bytes.now }
     {
         if let Some(bytes) = ShortText::new(bytes) {
             let spelling = Spelling::Short(bytes);
@@ -45,7 +46,7 @@ impl Text {
 
     /// Copies the text. `AllocError` where the memory for it is refused.
     pub fn copy(&self, alloc: Global) -> Result<Text, AllocError>
-        ensures { IfOk result (λ made. made ≡ self.now) }
+        ensures { Returns result self.now }
     {
         Text::new(alloc, self.bytes())
     }
@@ -80,7 +81,7 @@ impl Model for Name {
 impl Name {
     /// Makes the name of these bytes, which stands at this offset. `AllocError` where the memory for it is refused.
     pub fn new(alloc: Global, bytes: &[u8], offset: u64) -> Result<Name, AllocError>
-        ensures { IfOk result (λ name. name ≡ bytes.now) }
+        ensures { Returns result bytes.now }
     {
         let text = Text::new(alloc, bytes)?;
         Ok(Name { text, offset })
@@ -88,7 +89,7 @@ impl Name {
 
     /// Copies the name and its offset. `AllocError` where the memory for it is refused.
     pub fn copy(&self, alloc: Global) -> Result<Name, AllocError>
-        ensures { IfOk result (λ made. made ≡ self.now) }
+        ensures { Returns result self.now }
     {
         Name::new(alloc, self.bytes(), self.offset)
     }
@@ -144,7 +145,7 @@ impl Hash for Name {
     }
 }
 
-// Copies the names.
+/// Copies the names.
 pub(crate) fn names(alloc: Global, source: &[Name]) -> Result<Vec<Name>, AllocError>
     ensures { IfOk result (λ made. made.items ≡ source.now) }
 {

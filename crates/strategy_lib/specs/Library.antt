@@ -83,14 +83,16 @@ alltd_definition = codes "alltd" ≔ s <+ all (with_s (codes "alltd"))
 
 -- innermost(s) = bottomup(try(s; innermost(s)))
 abbrev pub innermost_definition : DefinitionTree
-innermost_definition = codes "innermost" ≔ alone (called (codes "bottomup") (alone (called (codes "try") (s ⨟ with_s (codes "innermost")))))
+innermost_definition = codes "innermost" ≔ alone
+    (called (codes "bottomup") (alone (called (codes "try") (s ⨟ with_s (codes "innermost")))))
 
 -- map(s) = [] <+ [s | map(s)]
 abbrev pub map_definition : DefinitionTree
 map_definition = codes "map" ≔ empty_list <+ list_of s (with_s (codes "map"))
 
 abbrev pub library : List DefinitionTree
-library = try_definition ∷ repeat_definition ∷ topdown_definition ∷ bottomup_definition ∷ oncetd_definition ∷ oncebu_definition ∷ alltd_definition ∷ innermost_definition ∷ map_definition ∷ []
+library = try_definition ∷ repeat_definition ∷ topdown_definition ∷ bottomup_definition ∷ oncetd_definition ∷
+    oncebu_definition ∷ alltd_definition ∷ innermost_definition ∷ map_definition ∷ []
 
 -- ---- a file with the library
 

@@ -1,5 +1,5 @@
-// The forms of strategies that the library is made of. What is made is held in boxes, and no name of it stands in a file: its
-// offset is 0.
+//! The forms of strategies that the library is made of. What is made is held in boxes, and no name of it stands in a file: its
+//! offset is 0.
 ghost use Rattle.std.specs.Prelude.{◌≡◌, IfOk};
 ghost use Rattle.str_syntax.specs.declared.definition.Origin.TheVariants as origins;
 ghost use Rattle.str_syntax.specs.Views.{primary_of, strategy_of, top_of};
@@ -12,7 +12,7 @@ use str_syntax::{
     Strategy, StrategyDefinition, build,
 };
 
-// The name of the parameter of each definition.
+/// The name of the parameter of each definition.
 const PARAMETER: &[u8] = b"s";
 
 /// Makes the strategy that this primary alone is.
@@ -28,7 +28,8 @@ pub(crate) fn sequence(
     first: Box<Primary>,
     second: Box<Primary>,
 ) -> Result<Strategy, AllocError>
-    ensures { IfOk result (λ made. strategy_of made ≡ forms.◌⨟◌ (primary_of first.value) (primary_of second.value)) }
+    ensures { IfOk result (λ made. strategy_of made ≡
+        forms.◌⨟◌ (primary_of first.value) (primary_of second.value)) }
 {
     let rest = Box::new(alloc, Sequence::Last(Step::Plain(0, second)))?;
     Ok(Strategy::Sequence(Sequence::Then(Step::Plain(0, first), rest)))
@@ -40,7 +41,8 @@ pub(crate) fn left_choice(
     first: Box<Primary>,
     second: Box<Primary>,
 ) -> Result<Strategy, AllocError>
-    ensures { IfOk result (λ made. strategy_of made ≡ forms.◌<+◌ (primary_of first.value) (primary_of second.value)) }
+    ensures { IfOk result (λ made. strategy_of made ≡
+        forms.◌<+◌ (primary_of first.value) (primary_of second.value)) }
 {
     let other = Box::new(alloc, alone(second))?;
     Ok(Strategy::LeftChoice(Sequence::Last(Step::Plain(0, first)), other))
@@ -50,8 +52,7 @@ pub(crate) fn left_choice(
 pub(crate) fn identity(alloc: Global) -> Result<Box<Primary>, AllocError>
     ensures { IfOk result (λ made. primary_of made.value ≡ trees.identity) }
 {
-    let made = Box::new(alloc, Primary::Id)?;
-    Ok(made)
+    Ok(Box::new(alloc, Primary::Id)?)
 }
 
 /// Makes `all(part)`.
@@ -59,8 +60,7 @@ pub(crate) fn all(alloc: Global, part: Box<Primary>) -> Result<Box<Primary>, All
     ensures { IfOk result (λ made. primary_of made.value ≡ forms.all (primary_of part.value)) }
 {
     let part = Box::new(alloc, alone(part))?;
-    let made = Box::new(alloc, Primary::Operator(Operator::All, part))?;
-    Ok(made)
+    Ok(Box::new(alloc, Primary::Operator(Operator::All, part))?)
 }
 
 /// Makes `one(part)`.
@@ -68,44 +68,41 @@ pub(crate) fn one(alloc: Global, part: Box<Primary>) -> Result<Box<Primary>, All
     ensures { IfOk result (λ made. primary_of made.value ≡ forms.one (primary_of part.value)) }
 {
     let part = Box::new(alloc, alone(part))?;
-    let made = Box::new(alloc, Primary::Operator(Operator::One, part))?;
-    Ok(made)
+    Ok(Box::new(alloc, Primary::Operator(Operator::One, part))?)
 }
 
 /// Makes the call of this name with this argument.
-pub(crate) fn called(
+pub(crate) fn call_of(
     alloc: Global,
     name: &[u8],
     argument: Strategy,
 ) -> Result<Box<Primary>, AllocError>
-    ensures { IfOk result (λ made. primary_of made.value ≡ forms.called name.now (strategy_of argument)) }
+    ensures { IfOk result (λ made. primary_of made.value ≡
+        forms.called name.now (strategy_of argument)) }
 {
     let arguments = Arguments::Strategies(vec![in alloc; argument]?);
-    let made = Box::new(alloc, build::call(alloc, name, arguments)?)?;
-    Ok(made)
+    Ok(Box::new(alloc, build::call(alloc, name, arguments)?)?)
 }
 
 /// Makes `s`.
 pub(crate) fn parameter(alloc: Global) -> Result<Box<Primary>, AllocError>
     ensures { IfOk result (λ made. primary_of made.value ≡ forms.s) }
 {
-    let made = Box::new(alloc, build::call(alloc, PARAMETER, Arguments::Absent)?)?;
-    Ok(made)
+    Ok(Box::new(alloc, build::call(alloc, PARAMETER, Arguments::Absent)?)?)
 }
 
 /// Makes the call of this name with the argument `s`.
 pub(crate) fn with_parameter(alloc: Global, name: &[u8]) -> Result<Box<Primary>, AllocError>
     ensures { IfOk result (λ made. primary_of made.value ≡ forms.with_s name.now) }
 {
-    called(alloc, name, alone(parameter(alloc)?))
+    call_of(alloc, name, alone(parameter(alloc)?))
 }
 
 /// Makes `[]`.
 pub(crate) fn empty_list(alloc: Global) -> Result<Box<Primary>, AllocError>
     ensures { IfOk result (λ made. primary_of made.value ≡ forms.empty_list) }
 {
-    let made = Box::new(alloc, Primary::ListCongruence(Vec::new(alloc), None))?;
-    Ok(made)
+    Ok(Box::new(alloc, Primary::ListCongruence(Vec::new(alloc), None))?)
 }
 
 /// Makes `[first | rest]`.
@@ -114,12 +111,12 @@ pub(crate) fn list_of(
     first: Box<Primary>,
     rest: Box<Primary>,
 ) -> Result<Box<Primary>, AllocError>
-    ensures { IfOk result (λ made. primary_of made.value ≡ forms.list_of (primary_of first.value) (primary_of rest.value)) }
+    ensures { IfOk result (λ made. primary_of made.value ≡
+        forms.list_of (primary_of first.value) (primary_of rest.value)) }
 {
     let rest = Box::new(alloc, alone(rest))?;
     let parts = vec![in alloc; alone(first)]?;
-    let made = Box::new(alloc, Primary::ListCongruence(parts, Some(rest)))?;
-    Ok(made)
+    Ok(Box::new(alloc, Primary::ListCongruence(parts, Some(rest)))?)
 }
 
 /// Makes the definition of the library with this name, the parameter `s` and this body.
@@ -128,7 +125,8 @@ pub(crate) fn definition(
     name: &[u8],
     body: Strategy,
 ) -> Result<Definition, AllocError>
-    ensures { IfOk result (λ made. top_of made ≡ forms.from origins.Library (forms.◌≔◌ name.now (strategy_of body))) }
+    ensures { IfOk result (λ made. top_of made ≡
+        forms.from origins.Library (forms.◌≔◌ name.now (strategy_of body))) }
 {
     let body = Box::new(alloc, body)?;
     let parameters = vec![in alloc; build::name(alloc, PARAMETER)?]?;

@@ -11,10 +11,17 @@ pub returns-in_err-declare_part-clause-refused : goal.returns-in_err-declare_par
 returns-in_err-declare_part-clause-refused c =
     let p = err_from_is_err_and c.from_residual.result c.from_residual.ensures.1 in
     rw (p.1, p.2)
-    (next_refused (λ (x : SignaturePart). declared_by (signature_of x)) (λ xs. declarations_of_signature (map signature_of xs)) (λ x xs. more_parts (signature_of x) (map signature_of xs)) c.args.parts.now c.loop-part.part-index c.part-item.result _ _ c.loop-part.signature _
+    (next_refused (λ (x : SignaturePart). declared_by (signature_of x))
+    (λ xs. declarations_of_signature (map signature_of xs))
+    (λ x xs. more_parts (signature_of x) (map signature_of xs))
+    c.args.parts.now c.loop-part.part-index c.part-item.result _ _ c.loop-part.signature _
     c.loop-part-test.true c.part-item.is c.in_err-declare_part.ensures.refused c.loop-part.invariant)
 
 pub loop-part-preserved : goal.loop-part-preserved
 loop-part-preserved c =
-    next_declared (λ (x : SignaturePart). declared_by (signature_of x)) (λ xs. declarations_of_signature (map signature_of xs)) (λ x xs. more_parts (signature_of x) (map signature_of xs)) c.args.parts.now c.loop-part.part-index c.part-item.result _ _ c.loop-part.signature c.declare_part.new.signature
+    next_declared (λ (x : SignaturePart). declared_by (signature_of x))
+    (λ xs. declarations_of_signature (map signature_of xs))
+    (λ x xs. more_parts (signature_of x) (map signature_of xs))
+    c.args.parts.now c.loop-part.part-index c.part-item.result _ _ c.loop-part.signature
+    c.declare_part.new.signature
     c.loop-part-test.true c.part-item.is c.in_ok-declare_part.ensures.declared c.loop-part.invariant

@@ -9,5 +9,6 @@ use Rattle.scope_check.proofs.file.in_keys.Goals as goal
 
 pub returns : goal.returns
 returns c =
-    let P : Seen → Type 0 = λ L. IfOk c.sections.result (λ found. found ≡ found_in_tops (known_of c.args.known.now) L (tops_in (map section_of c.args.all.now))) in
+    let P : Seen → Type 0 = λ L. IfOk c.sections.result (λ found. found ≡
+    found_in_tops (known_of c.args.known.now) L (tops_in (map section_of c.args.all.now))) in
     subst P (reads_inner _ _ ∙ ap (inner (among c.args.keys.now)) reads_outermost) c.sections.ensures

@@ -7,6 +7,10 @@ use Rattle.scope_check.proofs.file.with_heads.Goals as goal
 
 pub returns : goal.returns
 returns c =
-    let inside : c.in_ok-inside.inside ≡ found_in_tops (known_of c.args.known.now) (inner (among (map key_of (heads_of c.args.heads.now))) nothing) (tops_in (map section_of c.args.all.now)) =
-    c.in_ok-inside.ensures ∙ ap (λ A. found_in_tops (known_of c.args.known.now) (inner A nothing) (tops_in (map section_of c.args.all.now))) c.in_ok-keys.ensures in
-    c.or.ensures ∙ ap (λ f. joined f c.in_ok-inside.inside) c.in_ok-here.ensures ∙ ap (λ f. joined (found_group (heads_of c.args.heads.now)) f) inside
+    let inside : c.in_ok-inside.inside ≡
+    found_in_tops (known_of c.args.known.now) (inner (among (map key_of (heads_of c.args.heads.now))) nothing)
+    (tops_in (map section_of c.args.all.now)) =
+    c.in_ok-inside.ensures ∙ ap (λ A. found_in_tops (known_of c.args.known.now) (inner A nothing)
+    (tops_in (map section_of c.args.all.now))) c.in_ok-keys.ensures in
+    c.or.ensures ∙ ap (λ f. joined f c.in_ok-inside.inside) c.in_ok-here.ensures ∙
+    ap (λ f. joined (found_group (heads_of c.args.heads.now)) f) inside

@@ -5,4 +5,6 @@ use Rattle.scope_check.specs.Tables.{heads_of}
 use Rattle.scope_check.proofs.library.heads_from.Given as goal
 
 abbrev pub invariant-loop-section : goal.invariant-loop-section
-invariant-loop-section l = heads_of l.heads.items ++ heads_from l.origin (tops_in (map section_of (drop l.section-index l.sections))) ≡ heads_from l.origin (tops_in (map section_of l.sections))
+invariant-loop-section l = heads_of l.heads.items ++
+    heads_from l.origin (tops_in (map section_of (drop l.section-index l.sections))) ≡
+    heads_from l.origin (tops_in (map section_of l.sections))

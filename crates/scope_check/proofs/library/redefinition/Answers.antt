@@ -12,9 +12,12 @@ returns c =
     let file = file_of c.args.file.now in
     let keys : among c.in_ok-keys.keys ≡ among (library_keys file) =
     c.in_ok-keys.ensures ∙ ap (λ hs. among (map key_of (heads_of hs))) c.deref-2.ensures.value ∙
-    ap (λ (hs : List HeadTree). among (map key_of hs)) (c.in_ok-library.ensures ∙ ap (λ ss. heads_from origins.Library (tops_in (map section_of ss))) c.deref.ensures.value) in
+    ap (λ (hs : List HeadTree). among (map key_of hs)) (c.in_ok-library.ensures ∙
+    ap (λ ss. heads_from origins.Library (tops_in (map section_of ss))) c.deref.ensures.value) in
     let own : heads_of c.deref-4.result.now ≡ own_heads file =
-    ap heads_of c.deref-4.ensures.value ∙ c.in_ok-own.ensures ∙ ap (λ ss. heads_from origins.File (tops_in (map section_of ss))) c.deref-3.ensures.value in
-    let clash = c.any_among.ensures ∙ ap (λ (A : Seen). list_any (λ h. A (key_of h)) (heads_of c.deref-4.result.now)) keys ∙
+    ap heads_of c.deref-4.ensures.value ∙ c.in_ok-own.ensures ∙
+    ap (λ ss. heads_from origins.File (tops_in (map section_of ss))) c.deref-3.ensures.value in
+    let clash = c.any_among.ensures ∙
+    ap (λ (A : Seen). list_any (λ h. A (key_of h)) (heads_of c.deref-4.result.now)) keys ∙
     ap (list_any (λ h. among (library_keys file) (key_of h))) own in
     λ i. record (c.none.ensures i) { clash = clash i }

@@ -15,5 +15,6 @@ returns c =
     either ∙
     repeats_together c.args.names.now c.args.others.now c.add_names.new.keys c.in_ok-first.first c.in_ok-second.second
     (c.in_ok-first.ensures.repeated ∙ ap (λ ks. repeats_after (among ks) c.args.names.now) c.new-keys.ensures)
-    (subst (λ ks. AreWith ks (map plain_key c.args.names.now) c.add_names.new.keys) c.new-keys.ensures c.in_ok-first.ensures.added)
+    (subst (λ ks. AreWith ks (map plain_key c.args.names.now) c.add_names.new.keys)
+    c.new-keys.ensures c.in_ok-first.ensures.added)
     c.in_ok-second.ensures.repeated

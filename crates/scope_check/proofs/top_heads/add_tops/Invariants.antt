@@ -5,4 +5,6 @@ use Rattle.scope_check.specs.Tables.{heads_of}
 use Rattle.scope_check.proofs.top_heads.add_tops.Given as goal
 
 abbrev pub invariant-loop-one : goal.invariant-loop-one
-invariant-loop-one l = heads_of l.heads.items ++ map head_of_top (map top_of (drop l.one-index l.all)) ≡ heads_of l.initial.heads.items ++ map head_of_top (map top_of l.all)
+invariant-loop-one l = heads_of l.heads.items ++
+    map head_of_top (map top_of (drop l.one-index l.all)) ≡ heads_of l.initial.heads.items ++
+    map head_of_top (map top_of l.all)

@@ -9,15 +9,24 @@ use Rattle.scope_check.proofs.WalkLaws.{one_more_found, all_found}
 use Rattle.scope_check.proofs.tops.sections.Goals as goal
 
 pub loop-one-init : goal.loop-one-init
-loop-one-init c = ap (λ f. joined f (found_in_tops (known_of c.args.known.now) (layers_of c.args.layers.now) (tops_in (map section_of c.args.all.now)))) c.none-found.ensures
+loop-one-init c = ap (λ f. joined f
+    (found_in_tops (known_of c.args.known.now) (layers_of c.args.layers.now) (tops_in (map section_of c.args.all.now))))
+    c.none-found.ensures
 
 pub loop-one-preserved : goal.loop-one-preserved
 loop-one-preserved c =
-    ap (λ f. joined f (found_in_tops (known_of c.args.known.now) (layers_of c.args.layers.now) (tops_in (map section_of (drop (c.loop-one.one-index + 1) c.args.all.now))))) c.or-found.ensures ∙
-    one_more_found (λ (s : Section). found_in_tops (known_of c.args.known.now) (layers_of c.args.layers.now) (tops_of (section_of s))) (λ ds. found_in_tops (known_of c.args.known.now) (layers_of c.args.layers.now) (tops_in (map section_of ds)))
-    (λ s ss. more_sections (known_of c.args.known.now) (layers_of c.args.layers.now) (section_of s) (map section_of ss)) c.args.all.now c.loop-one.one-index c.one-item.result c.loop-one.found c.in_ok-more.more _ c.loop-one-test.true c.one-item.is c.in_ok-more.ensures c.loop-one.invariant
+    ap (λ f. joined f (found_in_tops (known_of c.args.known.now) (layers_of c.args.layers.now)
+    (tops_in (map section_of (drop (c.loop-one.one-index + 1) c.args.all.now))))) c.or-found.ensures ∙
+    one_more_found (λ (s : Section). found_in_tops (known_of c.args.known.now) (layers_of c.args.layers.now)
+    (tops_of (section_of s)))
+    (λ ds. found_in_tops (known_of c.args.known.now) (layers_of c.args.layers.now) (tops_in (map section_of ds)))
+    (λ s ss. more_sections (known_of c.args.known.now) (layers_of c.args.layers.now) (section_of s) (map section_of ss))
+    c.args.all.now c.loop-one.one-index c.one-item.result c.loop-one.found c.in_ok-more.more _ c.loop-one-test.true
+    c.one-item.is c.in_ok-more.ensures c.loop-one.invariant
 
 pub returns : goal.returns
 returns c =
-    all_found (λ (s : Section). found_in_tops (known_of c.args.known.now) (layers_of c.args.layers.now) (tops_of (section_of s))) (λ ds. found_in_tops (known_of c.args.known.now) (layers_of c.args.layers.now) (tops_in (map section_of ds)))
+    all_found (λ (s : Section). found_in_tops (known_of c.args.known.now) (layers_of c.args.layers.now)
+    (tops_of (section_of s)))
+    (λ ds. found_in_tops (known_of c.args.known.now) (layers_of c.args.layers.now) (tops_in (map section_of ds)))
     refl c.args.all.now c.loop-one.one-index c.loop-one.found _ c.loop-one-test.false c.loop-one.invariant

@@ -7,4 +7,6 @@ use Rattle.scope_check.proofs.tops.sections.Given as goal
 
 abbrev pub invariant-loop-one : goal.invariant-loop-one
 invariant-loop-one l =
-    joined l.found (found_in_tops (known_of l.known) (layers_of l.layers) (tops_in (map section_of (drop l.one-index l.all)))) ≡ found_in_tops (known_of l.known) (layers_of l.layers) (tops_in (map section_of l.all))
+    joined l.found (found_in_tops (known_of l.known) (layers_of l.layers)
+    (tops_in (map section_of (drop l.one-index l.all)))) ≡
+    found_in_tops (known_of l.known) (layers_of l.layers) (tops_in (map section_of l.all))

@@ -6,4 +6,5 @@ use Rattle.scope_check.proofs.tops.tops.Given as goal
 
 abbrev pub invariant-loop-one : goal.invariant-loop-one
 invariant-loop-one l =
-    joined l.found (found_in_tops (known_of l.known) (layers_of l.layers) (map top_of (drop l.one-index l.all))) ≡ found_in_tops (known_of l.known) (layers_of l.layers) (map top_of l.all)
+    joined l.found (found_in_tops (known_of l.known) (layers_of l.layers) (map top_of (drop l.one-index l.all))) ≡
+    found_in_tops (known_of l.known) (layers_of l.layers) (map top_of l.all)

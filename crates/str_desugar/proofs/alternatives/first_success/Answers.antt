@@ -18,4 +18,5 @@ returns c =
     let others = c.in_ok-others.ensures in
     core_reads.reads_choice c.in_ok-first.first c.in_ok-others.others c.in_ok-new.field-0 ∙
     (λ i. choice (arm i).guard (arm i).then (views.first_of (others i) (last i))) ∙
-    sym (success_made c.args.strategies.items popped rest c.remove-first.result c.in-Some.last (vec_len c.pop.new.self) all c.pop.new.self.ok.0 some c.remove-first.ensures.value c.remove-first.ensures.items)
+    sym (success_made c.args.strategies.items popped rest c.remove-first.result c.in-Some.last (vec_len c.pop.new.self)
+    all c.pop.new.self.ok.0 some c.remove-first.ensures.value c.remove-first.ensures.items)

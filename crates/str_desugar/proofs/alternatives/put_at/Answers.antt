@@ -9,5 +9,7 @@ pub returns : goal.returns
 returns c =
     let gs = c.args.groups.now.items in
     let g = c.index_mut-group.result.now in
-    let pushed = ap (λ l. map views.strategy_of l) c.in_ok-push.ensures.items ∙ map-append views.strategy_of g.bodies.items (c.args.body ∷ []) in
-    map-set gathered_in gs c.args.number _ ∙ set_body gs c.args.number g (views.strategy_of c.args.body) _ c.requires c.index_mut-group.ensures.value pushed
+    let pushed = ap (λ l. map views.strategy_of l) c.in_ok-push.ensures.items ∙
+    map-append views.strategy_of g.bodies.items (c.args.body ∷ []) in
+    map-set gathered_in gs c.args.number _ ∙
+    set_body gs c.args.number g (views.strategy_of c.args.body) _ c.requires c.index_mut-group.ensures.value pushed

@@ -10,5 +10,6 @@ returns-in_ok-made-in_default c =
     let b = c.in_ok-second-in_default.second in
     ap views.strategy_of c.in_ok-made-in_default.ensures.ok ∙ reads_sequence a b c.new-in_default-2.result ∙
     ap (λ u. core.seq (views.strategy_of a.value) u)
-    (ap (λ more. views.chain (views.strategy_of b.value) (map views.strategy_of more)) c.new-in_default-2.ensures.items ∙
+    (ap (λ more. views.chain (views.strategy_of b.value) (map views.strategy_of more))
+    c.new-in_default-2.ensures.items ∙
     ap views.strategy_of c.in_ok-second-in_default.ensures.ok)

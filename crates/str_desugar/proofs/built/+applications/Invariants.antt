@@ -5,4 +5,5 @@ use Rattle.str_desugar.proofs.built.+applications.Given as goal
 
 abbrev pub invariant-applications_among-loop-source : goal.invariant-applications_among-loop-source
 invariant-applications_among-loop-source l =
-    applications_among (patterns_of l.sources) ≡ l.count + applications_among (patterns_of (drop l.source-index l.sources))
+    applications_among (patterns_of l.sources) ≡ l.count +
+    applications_among (patterns_of (drop l.source-index l.sources))

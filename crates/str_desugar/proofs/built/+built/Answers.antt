@@ -9,37 +9,47 @@ use Rattle.str_syntax.specs.Views.{pattern_of, patterns_of, optional_pattern_of}
 use Rattle.str_desugar.specs.Equations.{built, built_parts, built_rest, applications_among}
 use Rattle.str_desugar.specs.Frames.{pattern_at}
 use Rattle.str_desugar.specs.Layers.{layers_of, built_rest_at}
-use Rattle.str_desugar.proofs.PatternLaws.{Builds, one_more_build, no_more_build, rest_of, elements_made, rest_built}
+use Rattle.str_desugar.proofs.PatternLaws.{Builds, one_more_build, no_more_build, next_pattern, elements_made, rest_built}
 use Rattle.str_desugar.proofs.built.+built.Goals as goal
 
-pub built-returns-in_ok-rest-in-List-clause-made : goal.built-returns-in_ok-rest-in-List-clause-made
-built-returns-in_ok-rest-in-List-clause-made t c =
+pub core_of_build-returns-in_ok-rest-in-List-clause-made : goal.core_of_build-returns-in_ok-rest-in-List-clause-made
+core_of_build-returns-in_ok-rest-in-List-clause-made t c =
     let F = layers_of c.args.scopes.now in
     let ps = patterns_of c.in-List.elements.items in
     let o = optional_pattern_of c.in-List.rest in
     let i = c.args.next.now in
     let elements = rw c.deref-in-List.ensures.value at c.in_ok-elements-in-List.ensures.made in
     let next = rw c.deref-in-List.ensures.value at c.in_ok-elements-in-List.ensures.next in
-    let rest = ap (λ r. views.elements_in [] r) (c.in_ok-rest-in-List.ensures.made ∙ ap (λ n. built_rest_at F n o) next) ∙
+    let rest = ap (λ r. views.elements_in [] r) (c.in_ok-rest-in-List.ensures.made ∙
+    ap (λ n. built_rest_at F n o) next) ∙
     rest_built F (i + applications_among ps) o in
     core_reads.reads_list c.in_ok-elements-in-List.elements c.in_ok-rest-in-List.rest ∙
-    ap (λ es. list es) (elements_made F _ _ (built_parts i ps) (built_rest (i + applications_among ps) o) elements rest) ∙
-    sym (ap (λ p. pattern_at F (built i p)) (ap pattern_of c.in-List.is ∙ reads.reads_list c.in-List.elements c.in-List.rest))
+    ap (λ es. list es) (elements_made F _ _ (built_parts i ps) (built_rest (i + applications_among ps) o)
+    elements rest) ∙
+    sym (ap (λ p. pattern_at F (built i p)) (ap pattern_of c.in-List.is ∙
+    reads.reads_list c.in-List.elements c.in-List.rest))
 
 pub built_parts-loop-source-preserved : goal.built_parts-loop-source-preserved
 built_parts-loop-source-preserved t c =
     let sources = c.args.sources.now in
     let F = layers_of c.args.scopes.now in
-    let next = rest_of sources c.loop-source.source-index c.source-item.result c.loop-source-test.true c.source-item.is in
-    let P : PatternTrees → Type 0 = λ rest. Builds F c.args.next.now (patterns_of sources) c.loop-source.next (map views.pattern_of c.loop-source.made.items) rest in
-    let made = ap (λ ps. map views.pattern_of ps) c.in_ok-push.ensures.items ∙ map-append views.pattern_of c.loop-source.made.items (c.in_ok-part.part ∷ []) in
-    let Q : List _ → Type 0 = λ ps. Builds F c.args.next.now (patterns_of sources) c.built.new.next ps (patterns_of (drop (c.loop-source.source-index + 1) sources)) in
-    subst Q (sym made) (one_more_build _ _ _ _ _ _ _ _ _ (subst P next c.loop-source.invariant) c.in_ok-part.ensures.made c.in_ok-part.ensures.next)
+    let next = next_pattern sources c.loop-source.source-index c.source-item.result c.loop-source-test.true
+    c.source-item.is in
+    let P : PatternTrees → Type 0 =
+    λ rest. Builds F c.args.next.now (patterns_of sources)
+    c.loop-source.next (map views.pattern_of c.loop-source.made.items) rest in
+    let made = ap (λ ps. map views.pattern_of ps) c.in_ok-push.ensures.items ∙
+    map-append views.pattern_of c.loop-source.made.items (c.in_ok-part.part ∷ []) in
+    let Q : List _ → Type 0 = λ ps. Builds F c.args.next.now (patterns_of sources)
+    c.core_of_build.new.next ps (patterns_of (drop (c.loop-source.source-index + 1) sources)) in
+    subst Q (sym made) (one_more_build _ _ _ _ _ _ _ _ _ (subst P next c.loop-source.invariant)
+    c.in_ok-part.ensures.made c.in_ok-part.ensures.next)
 
 pub built_parts-returns-clause-made : goal.built_parts-returns-clause-made
 built_parts-returns-clause-made t c =
     let sources = c.args.sources.now in
     let none = drop_of_length-le sources c.loop-source-test.false in
     let P : List _ → Type 0 =
-    λ rest. Builds (layers_of c.args.scopes.now) c.args.next.now (patterns_of sources) c.loop-source.next (map views.pattern_of c.loop-source.made.items) (patterns_of rest) in
+    λ rest. Builds (layers_of c.args.scopes.now) c.args.next.now (patterns_of sources)
+    c.loop-source.next (map views.pattern_of c.loop-source.made.items) (patterns_of rest) in
     no_more_build _ _ _ _ _ (subst P none c.loop-source.invariant)

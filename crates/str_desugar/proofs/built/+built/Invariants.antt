@@ -7,4 +7,5 @@ use Rattle.str_desugar.proofs.built.+built.Given as goal
 
 abbrev pub invariant-built_parts-loop-source : goal.invariant-built_parts-loop-source
 invariant-built_parts-loop-source l =
-    Builds (layers_of l.scopes) l.initial.next (patterns_of l.sources) l.next (map views.pattern_of l.made.items) (patterns_of (drop l.source-index l.sources))
+    Builds (layers_of l.scopes) l.initial.next (patterns_of l.sources) l.next (map views.pattern_of l.made.items)
+    (patterns_of (drop l.source-index l.sources))

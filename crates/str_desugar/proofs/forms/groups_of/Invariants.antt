@@ -6,4 +6,5 @@ use Rattle.str_desugar.specs.Heads.{read_heads}
 use Rattle.str_desugar.proofs.forms.groups_of.Given as goal
 
 abbrev pub invariant-loop-form : goal.invariant-loop-form
-invariant-loop-form l = read_heads l.heads.items ≡ map (λ f. written_head (head_of_form f)) (read_forms (take l.form-index l.forms))
+invariant-loop-form l = read_heads l.heads.items ≡
+    map (λ f. written_head (head_of_form f)) (read_forms (take l.form-index l.forms))

@@ -9,5 +9,6 @@ returns c =
     λ declared.
     let sources = c.args.sources.now in
     c.in_ok-made.ensures ∙ c.loop-source.invariant ∙
-    ap (λ ds. map (λ d. head_of_definition (definition_of d)) ds) (take_all c.loop-source.source-index sources c.loop-source-test.false) ∙
+    ap (λ ds. map (λ d. head_of_definition (definition_of d)) ds)
+    (take_all c.loop-source.source-index sources c.loop-source-test.false) ∙
     heads_all declared sources

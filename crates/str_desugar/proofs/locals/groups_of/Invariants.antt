@@ -5,4 +5,5 @@ use Rattle.str_desugar.proofs.LocalLaws.{head_of_definition}
 use Rattle.str_desugar.proofs.locals.groups_of.Given as goal
 
 abbrev pub invariant-loop-source : goal.invariant-loop-source
-invariant-loop-source l = read_heads l.heads.items ≡ map (λ d. head_of_definition (definition_of d)) (take l.source-index l.sources)
+invariant-loop-source l = read_heads l.heads.items ≡
+    map (λ d. head_of_definition (definition_of d)) (take l.source-index l.sources)

@@ -6,4 +6,7 @@ use Rattle.str_desugar.proofs.marks.mark_of.Goals as goal
 pub returns-clause-mark : goal.returns-clause-mark
 unfolding mark_of
 returns-clause-mark c =
-    ap (λ n. n % 512) (c.finish-hash.ensures ∙ ap folding.finish (c.write.ensures ∙ ap (λ hasher. folding.write hasher c.bytes.result.now) c.default-hasher.ensures ∙ ap (folding.write folding.initial) c.bytes.ensures))
+    ap (λ n. n % 512) (c.finish-hash.ensures ∙
+    ap folding.finish (c.write.ensures ∙
+    ap (λ hasher. folding.write hasher c.bytes.result.now) c.default-hasher.ensures ∙
+    ap (folding.write folding.initial) c.bytes.ensures))

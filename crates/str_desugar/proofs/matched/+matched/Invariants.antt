@@ -7,4 +7,5 @@ use Rattle.str_desugar.proofs.matched.+matched.Given as goal
 
 abbrev pub invariant-matched_parts-loop-source : goal.invariant-matched_parts-loop-source
 invariant-matched_parts-loop-source l =
-    Matches (layers_of l.scopes) (patterns_of l.sources) (map views.pattern_of l.made.items) (patterns_of (drop l.source-index l.sources))
+    Matches (layers_of l.scopes) (patterns_of l.sources) (map views.pattern_of l.made.items)
+    (patterns_of (drop l.source-index l.sources))

@@ -8,4 +8,5 @@ use Rattle.str_desugar.proofs.parts.list.Goals as goal
 pub returns : goal.returns
 returns c =
     reads_list c.in_ok-elements.elements None ∙
-    list_made (layers_of c.args.scopes.now) c.args.from c.args.count (map views.pattern_of c.in_ok-elements.elements.items) c.in_ok-elements.ensures
+    list_made (layers_of c.args.scopes.now)
+    c.args.from c.args.count (map views.pattern_of c.in_ok-elements.elements.items) c.in_ok-elements.ensures

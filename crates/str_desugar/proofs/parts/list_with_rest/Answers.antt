@@ -8,5 +8,8 @@ use Rattle.str_desugar.proofs.parts.list_with_rest.Goals as goal
 pub returns : goal.returns
 returns c =
     reads_list c.in_ok-elements.elements (Some c.in_ok-rest.rest) ∙
-    rest_made (layers_of c.args.scopes.now) c.args.from c.args.count c.in_ok-after.after (map views.pattern_of c.in_ok-elements.elements.items)
-    (views.pattern_of c.in_ok-rest.rest.value) c.in_ok-elements.ensures c.in_ok-after.ensures (ap views.pattern_of c.in_ok-rest.ensures.ok ∙ c.in_ok-variable.ensures)
+    rest_made (layers_of c.args.scopes.now)
+    c.args.from c.args.count c.in_ok-after.after (map views.pattern_of c.in_ok-elements.elements.items)
+    (views.pattern_of c.in_ok-rest.rest.value)
+    c.in_ok-elements.ensures c.in_ok-after.ensures (ap views.pattern_of c.in_ok-rest.ensures.ok ∙
+    c.in_ok-variable.ensures)

@@ -7,5 +7,6 @@ use Rattle.str_desugar.proofs.program.bodies.Goals as goal
 
 pub returns : goal.returns
 returns c =
-    bodies_all (arity_known c.args.context.now.signature.now) (layers_of c.args.scopes.now) c.args.groups.now c.args.forms.now c.loop-form.form-index (map views.strategy_of c.loop-form.made.items)
+    bodies_all (arity_known c.args.context.now.signature.now) (layers_of c.args.scopes.now)
+    c.args.groups.now c.args.forms.now c.loop-form.form-index (map views.strategy_of c.loop-form.made.items)
     c.loop-form-test.false c.requires c.loop-form.invariant

@@ -9,4 +9,6 @@ use Rattle.str_desugar.proofs.program.bodies.Given as goal
 
 abbrev pub invariant-loop-form : goal.invariant-loop-form
 invariant-loop-form l =
-    map views.strategy_of l.made.items ≡ map (λ f. body_among (layers_of l.scopes) l.groups (top_core (arity_known l.context.signature.now) f)) (read_forms (take l.form-index l.forms))
+    map views.strategy_of l.made.items ≡
+    map (λ f. body_among (layers_of l.scopes) l.groups (top_core (arity_known l.context.signature.now) f))
+    (read_forms (take l.form-index l.forms))

@@ -13,7 +13,8 @@ magnitude-requires c = rw c.split_at.ensures.front (run_again is_digit _ _ c.dig
 
 pub returns-in_default : goal.returns-in_default
 returns-in_default c =
-    let h : max_magnitude c.args.negative < value_from 0 (take c.digit_count-end.result c.args.text.now) = rw c.split_at.ensures.front at c.in_default.ensures in
+    let h : max_magnitude c.args.negative < value_from 0 (take c.digit_count-end.result c.args.text.now) =
+    rw c.split_at.ensures.front at c.in_default.ensures in
     no_integer c.args.negative _ _ c.requires c.digit_count-end.ensures.counts (too_large c.args.negative _ h)
 
 pub returns : goal.returns
@@ -21,5 +22,7 @@ returns c =
     let v = c.in-Some.ensures.0 ∙ ap (value_from 0) c.split_at.ensures.front in
     let z : to_z w64 (of_z w64 c.signed.result) ≡ c.signed.result = search rules in
     let s = c.signed.ensures ∙ ap (signed c.args.negative) v in
-    let fits : IsInRange c.signed.result = rw c.signed.ensures (in_range c.args.negative c.in-Some.value c.in-Some.ensures.1) in
-    rw (z, c.split_at.ensures.back) (found_integer c.args.negative _ _ c.requires c.digit_count-end.ensures.counts _ s fits)
+    let fits : IsInRange c.signed.result =
+    rw c.signed.ensures (in_range c.args.negative c.in-Some.value c.in-Some.ensures.1) in
+    rw (z, c.split_at.ensures.back)
+    (found_integer c.args.negative _ _ c.requires c.digit_count-end.ensures.counts _ s fits)

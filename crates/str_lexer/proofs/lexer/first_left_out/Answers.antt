@@ -9,4 +9,5 @@ pub returns-in-None : goal.returns-in-None
 returns-in-None c = λ ts h. held_last ts _ (sym c.is_left_out.ensures ∙ c.if-is_left_out.true)
 
 pub returns-in-None-2 : goal.returns-in-None-2
-returns-in-None-2 c = λ ts h. none_held ts _ (rw c.in-None-2.is at h) (sym c.is_left_out.ensures ∙ c.if-is_left_out.false)
+returns-in-None-2 c = λ ts h. none_held ts _ (rw c.in-None-2.is at h) (sym c.is_left_out.ensures ∙
+    c.if-is_left_out.false)

@@ -20,7 +20,8 @@ use Rattle.str_parser.proofs.descent.+phrase.Goals as goal
 
 pub pattern-returns-then-level-gt-MAX_LEVEL : goal.pattern-returns-then-level-gt-MAX_LEVEL
 pattern-returns-then-level-gt-MAX_LEVEL t c =
-    beyond_fault (inner_pattern c.args.in_match c.args.level) (AtMost 3) c.args.input c.begins_pattern.result c.beyond.result
+    beyond_fault (inner_pattern c.args.in_match c.args.level) (AtMost 3)
+    c.args.input c.begins_pattern.result c.beyond.result
     (λ b. pattern_nested _ _ _ (omega arith) (sym c.begins_pattern.ensures ∙ b))
     (λ b. pattern_beyond _ _ _ (sym c.begins_pattern.ensures ∙ b))
     c.beyond.ensures
@@ -28,7 +29,9 @@ pattern-returns-then-level-gt-MAX_LEVEL t c =
 pub pattern-returns-in_err-begun : goal.pattern-returns-in_err-begun
 pattern-returns-in_err-begun t c =
     let p = err_from_is_err_and c.from_residual.result c.from_residual.ensures.1 in
-    rw (p.1, p.2) (next_pattern_fault WrittenPattern c.args.in_match c.args.input (inner_pattern c.args.in_match c.args.level) (AtMost 3) c.args.input _ (λ n. missing_all_patterns _ _ _ (omega arith) (n c.args.level)) c.in_err-begun.ensures)
+    rw (p.1, p.2) (next_pattern_fault WrittenPattern c.args.in_match c.args.input
+    (inner_pattern c.args.in_match c.args.level) (AtMost 3)
+    c.args.input _ (λ n. missing_all_patterns _ _ _ (omega arith) (n c.args.level)) c.in_err-begun.ensures)
 
 pub pattern-loop-begun-init : goal.pattern-loop-begun-init
 pattern-loop-begun-init t c = leads_in_braces c.args.in_match c.args.level (c.in_ok-begun.ensures c.args.level)
@@ -41,39 +44,57 @@ pattern-returns-in_default t c =
 pub pattern-returns-in_err-begun-in-Whole : goal.pattern-returns-in_err-begun-in-Whole
 pattern-returns-in_err-begun-in-Whole t c =
     let i = rw c.in-Whole.is at c.loop-begun.invariant in
-    let p = err_from_is_err_and c.from_residual-in_err-begun-in-Whole.result c.from_residual-in_err-begun-in-Whole.ensures.1 in
+    let p = err_from_is_err_and c.from_residual-in_err-begun-in-Whole.result
+    c.from_residual-in_err-begun-in-Whole.ensures.1 in
     rw (p.1, p.2) (next_pattern_fault (GoesAnnotated (pattern_of c.in-Whole.made)) c.args.in_match c.in-Some.following
     (inner_pattern c.args.in_match c.args.level) (AtMost 3) c.args.input _
-    (λ n. missing_pattern_run _ _ _ _ _ (omega arith) (leads_on i (rw c.in-Some.ensures (leads_annotated _ _ _ _ _))) (n c.args.level))
+    (λ n. missing_pattern_run _ _ _ _ _ (omega arith) (leads_on i (rw c.in-Some.ensures (leads_annotated _ _ _ _ _)))
+    (n c.args.level))
     (c.in_err-begun-in-Whole.ensures c.args.in_match))
 
 pub pattern-returns-in_err-part-in-ToStrategy : goal.pattern-returns-in_err-part-in-ToStrategy
 pattern-returns-in_err-part-in-ToStrategy t c =
     let i = rw c.in-ToStrategy.is at c.loop-begun.invariant in
-    let p = err_from_is_err_and c.from_residual-in_err-part-in-ToStrategy.result c.from_residual-in_err-part-in-ToStrategy.ensures.1 in
-    rw (p.1, p.2) (fault_means (inner_strategy (c.args.level + 1)) (AtMost 0) c.in-ToStrategy.rest (inner_pattern c.args.in_match c.args.level) (AtMost 3) c.args.input _
-    (missing_applied _ _ _ _ (omega arith) i) (nested_applied _ _ _ _ (omega arith) i) c.in_err-part-in-ToStrategy.ensures)
+    let p = err_from_is_err_and c.from_residual-in_err-part-in-ToStrategy.result
+    c.from_residual-in_err-part-in-ToStrategy.ensures.1 in
+    rw (p.1, p.2) (fault_means (inner_strategy (c.args.level + 1)) (AtMost 0)
+    c.in-ToStrategy.rest (inner_pattern c.args.in_match c.args.level) (AtMost 3) c.args.input _
+    (missing_applied _ _ _ _ (omega arith) i) (nested_applied _ _ _ _ (omega arith) i)
+    c.in_err-part-in-ToStrategy.ensures)
 
 pub pattern-returns-in_err-begun-in-ToStrategy : goal.pattern-returns-in_err-begun-in-ToStrategy
 pattern-returns-in_err-begun-in-ToStrategy t c =
     let i = rw c.in-ToStrategy.is at c.loop-begun.invariant in
-    let p = err_from_is_err_and c.from_residual-in_err-begun-in-ToStrategy.result c.from_residual-in_err-begun-in-ToStrategy.ensures.1 in
-    rw (p.1, p.2) (next_pattern_fault (GoesApplied (strategy_of c.in_ok-part-in-ToStrategy.part)) c.args.in_match c.in_ok-part-in-ToStrategy.rest (inner_pattern c.args.in_match c.args.level) (AtMost 3) c.args.input _
-    (λ n. missing_pattern_run _ _ _ _ _ (omega arith) (leads_on i (leads_in_braces _ _ (leads_applied _ _ _ _ _ c.in_ok-part-in-ToStrategy.ensures))) (n c.args.level)) (c.in_err-begun-in-ToStrategy.ensures c.args.in_match))
+    let p = err_from_is_err_and c.from_residual-in_err-begun-in-ToStrategy.result
+    c.from_residual-in_err-begun-in-ToStrategy.ensures.1 in
+    rw (p.1, p.2) (next_pattern_fault (GoesApplied (strategy_of c.in_ok-part-in-ToStrategy.part))
+    c.args.in_match c.in_ok-part-in-ToStrategy.rest (inner_pattern c.args.in_match c.args.level) (AtMost 3)
+    c.args.input _
+    (λ n. missing_pattern_run _ _ _ _ _ (omega arith)
+    (leads_on i (leads_in_braces _ _ (leads_applied _ _ _ _ _ c.in_ok-part-in-ToStrategy.ensures)))
+    (n c.args.level)) (c.in_err-begun-in-ToStrategy.ensures c.args.in_match))
 
 pub pattern-returns-in_err-part-in-ToPattern : goal.pattern-returns-in_err-part-in-ToPattern
 pattern-returns-in_err-part-in-ToPattern t c =
     let i = rw c.in-ToPattern.is at c.loop-begun.invariant in
-    let p = err_from_is_err_and c.from_residual-in_err-part-in-ToPattern.result c.from_residual-in_err-part-in-ToPattern.ensures.1 in
-    rw (p.1, p.2) (fault_means (inner_pattern c.args.in_match (c.args.level + 1)) (AtMost 3) c.in-ToPattern.rest (inner_pattern c.args.in_match c.args.level) (AtMost 3) c.args.input _
-    (missing_inner _ _ c.in-ToPattern.before _ _ (omega arith) i) (nested_inner _ _ c.in-ToPattern.before _ _ (omega arith) i) c.in_err-part-in-ToPattern.ensures)
+    let p = err_from_is_err_and c.from_residual-in_err-part-in-ToPattern.result
+    c.from_residual-in_err-part-in-ToPattern.ensures.1 in
+    rw (p.1, p.2) (fault_means (inner_pattern c.args.in_match (c.args.level + 1)) (AtMost 3)
+    c.in-ToPattern.rest (inner_pattern c.args.in_match c.args.level) (AtMost 3) c.args.input _
+    (missing_inner _ _ c.in-ToPattern.before _ _ (omega arith) i)
+    (nested_inner _ _ c.in-ToPattern.before _ _ (omega arith) i) c.in_err-part-in-ToPattern.ensures)
 
 pub pattern-returns-in_err-begun-in-ToPattern : goal.pattern-returns-in_err-begun-in-ToPattern
 pattern-returns-in_err-begun-in-ToPattern t c =
     let i = rw c.in-ToPattern.is at c.loop-begun.invariant in
-    let p = err_from_is_err_and c.from_residual-in_err-begun-in-ToPattern.result c.from_residual-in_err-begun-in-ToPattern.ensures.1 in
-    rw (p.1, p.2) (next_pattern_fault (HasInner c.in-ToPattern.before (pattern_of c.in_ok-part-in-ToPattern.part)) c.args.in_match c.in_ok-part-in-ToPattern.rest (inner_pattern c.args.in_match c.args.level) (AtMost 3) c.args.input _
-    (λ n. missing_pattern_run _ _ _ _ _ (omega arith) (leads_on i (leads_in_braces _ _ (leads_inner _ _ _ _ _ _ c.in_ok-part-in-ToPattern.ensures))) (n c.args.level)) (c.in_err-begun-in-ToPattern.ensures c.args.in_match))
+    let p = err_from_is_err_and c.from_residual-in_err-begun-in-ToPattern.result
+    c.from_residual-in_err-begun-in-ToPattern.ensures.1 in
+    rw (p.1, p.2) (next_pattern_fault (HasInner c.in-ToPattern.before (pattern_of c.in_ok-part-in-ToPattern.part))
+    c.args.in_match c.in_ok-part-in-ToPattern.rest (inner_pattern c.args.in_match c.args.level) (AtMost 3)
+    c.args.input _
+    (λ n. missing_pattern_run _ _ _ _ _ (omega arith)
+    (leads_on i (leads_in_braces _ _ (leads_inner _ _ _ _ _ _ c.in_ok-part-in-ToPattern.ensures))) (n c.args.level))
+    (c.in_err-begun-in-ToPattern.ensures c.args.in_match))
 
 pub pattern-loop-begun-smaller-in_ok-begun-in-Whole : goal.pattern-loop-begun-smaller-in_ok-begun-in-Whole
 pattern-loop-begun-smaller-in_ok-begun-in-Whole t c =
@@ -147,12 +168,14 @@ primary-loop-begun-preserved-in-Ok-ToStrategy t c =
 pub sequence-returns-then-level-gt-MAX_LEVEL : goal.sequence-returns-then-level-gt-MAX_LEVEL
 sequence-returns-then-level-gt-MAX_LEVEL t c =
     beyond_fault (inner_sequence c.args.level) (AtMost 1) c.args.input c.begins_strategy.result c.beyond.result
-    (λ b. sequence_nested _ _ (omega arith) (sym c.begins_strategy.ensures ∙ b)) (λ b. sequence_beyond _ _ (sym c.begins_strategy.ensures ∙ b)) c.beyond.ensures
+    (λ b. sequence_nested _ _ (omega arith) (sym c.begins_strategy.ensures ∙ b))
+    (λ b. sequence_beyond _ _ (sym c.begins_strategy.ensures ∙ b)) c.beyond.ensures
 
 pub sequence-returns-in_err-first : goal.sequence-returns-in_err-first
 sequence-returns-in_err-first t c =
     let p = err_from_is_err_and c.from_residual.result c.from_residual.ensures.1 in
-    rw (p.1, p.2) (fault_means (step c.args.level) (AtMost 2) c.args.input (inner_sequence c.args.level) (AtMost 1) c.args.input _ (missing_step _ _ (omega arith)) (nested_step _ _ (omega arith)) c.in_err-first.ensures)
+    rw (p.1, p.2) (fault_means (step c.args.level) (AtMost 2) c.args.input (inner_sequence c.args.level) (AtMost 1)
+    c.args.input _ (missing_step _ _ (omega arith)) (nested_step _ _ (omega arith)) c.in_err-first.ensures)
 
 pub sequence-returns-in_default : goal.sequence-returns-in_default
 sequence-returns-in_default t c =
@@ -164,7 +187,9 @@ sequence-returns t c = c.then.ensures _ (rw c.in-Some.ensures at c.in_ok-first.e
 pub then-returns-in_err-others : goal.then-returns-in_err-others
 then-returns-in_err-others t c =
     let p = err_from_is_err_and c.from_residual.result c.from_residual.ensures.1 in
-    rw (p.1, p.2) (λ ts f. fault_means (inner_sequence (c.args.level + 1)) (AtMost 1) c.args.input (inner_sequence c.args.level) (AtMost 1) ts _ (missing_others _ _ _ _ (omega arith) f) (nested_others _ _ _ _ (omega arith) f) c.in_err-others.ensures)
+    rw (p.1, p.2) (λ ts f. fault_means (inner_sequence (c.args.level + 1)) (AtMost 1)
+    c.args.input (inner_sequence c.args.level) (AtMost 1) ts _ (missing_others _ _ _ _ (omega arith) f)
+    (nested_others _ _ _ _ (omega arith) f) c.in_err-others.ensures)
 
 pub then-returns : goal.then-returns
 then-returns t c =
@@ -175,7 +200,8 @@ then-returns t c =
 pub step-returns-in_err-first : goal.step-returns-in_err-first
 step-returns-in_err-first t c =
     let p = err_from_is_err_and c.from_residual.result c.from_residual.ensures.1 in
-    rw (p.1, p.2) (fault_means (primary c.args.level) (AtMost 3) c.args.input (step c.args.level) (AtMost 2) c.args.input _ (missing_primary _ _) (nested_primary _ _) c.in_err-first.ensures)
+    rw (p.1, p.2) (fault_means (primary c.args.level) (AtMost 3) c.args.input (step c.args.level) (AtMost 2)
+    c.args.input _ (missing_primary _ _) (nested_primary _ _) c.in_err-first.ensures)
 
 pub step-returns-in_default : goal.step-returns-in_default
 step-returns-in_default t c =
@@ -187,7 +213,9 @@ step-returns t c = c.matching.ensures _ (rw c.in-Some.ensures at c.in_ok-first.e
 pub matching-returns-in_err-matched : goal.matching-returns-in_err-matched
 matching-returns-in_err-matched t c =
     let p = err_from_is_err_and c.from_residual.result c.from_residual.ensures.1 in
-    rw (p.1, p.2) (λ ts f. fault_means (inner_pattern true (c.args.level + 1)) (AtMost 3) c.args.input (step c.args.level) (AtMost 2) ts _ (missing_matched _ _ _ _ f) (nested_matched _ _ _ _ f) c.in_err-matched.ensures)
+    rw (p.1, p.2) (λ ts f. fault_means (inner_pattern true (c.args.level + 1)) (AtMost 3)
+    c.args.input (step c.args.level) (AtMost 2) ts _ (missing_matched _ _ _ _ f) (nested_matched _ _ _ _ f)
+    c.in_err-matched.ensures)
 
 pub matching-returns : goal.matching-returns
 matching-returns t c =
@@ -198,12 +226,14 @@ matching-returns t c =
 pub strategy-returns-then-level-gt-MAX_LEVEL : goal.strategy-returns-then-level-gt-MAX_LEVEL
 strategy-returns-then-level-gt-MAX_LEVEL t c =
     beyond_fault (inner_strategy c.args.level) (AtMost 0) c.args.input c.begins_strategy.result c.beyond.result
-    (λ b. strategy_nested _ _ (omega arith) (sym c.begins_strategy.ensures ∙ b)) (λ b. strategy_beyond _ _ (sym c.begins_strategy.ensures ∙ b)) c.beyond.ensures
+    (λ b. strategy_nested _ _ (omega arith) (sym c.begins_strategy.ensures ∙ b))
+    (λ b. strategy_beyond _ _ (sym c.begins_strategy.ensures ∙ b)) c.beyond.ensures
 
 pub strategy-returns-in_err-first : goal.strategy-returns-in_err-first
 strategy-returns-in_err-first t c =
     let p = err_from_is_err_and c.from_residual.result c.from_residual.ensures.1 in
-    rw (p.1, p.2) (fault_means (inner_sequence c.args.level) (AtMost 1) c.args.input (inner_strategy c.args.level) (AtMost 0) c.args.input _ (missing_sequence _ _) (nested_sequence _ _) c.in_err-first.ensures)
+    rw (p.1, p.2) (fault_means (inner_sequence c.args.level) (AtMost 1) c.args.input (inner_strategy c.args.level)
+    (AtMost 0) c.args.input _ (missing_sequence _ _) (nested_sequence _ _) c.in_err-first.ensures)
 
 pub strategy-returns-in-Some : goal.strategy-returns-in-Some
 strategy-returns-in-Some t c = c.left_choice.ensures _ (rw c.in-Some.ensures at c.in_ok-first.ensures)
@@ -220,7 +250,9 @@ strategy-returns t c = c.guarded_choice.ensures _ (rw c.in-Some-after.ensures at
 pub left_choice-returns-in_err-other : goal.left_choice-returns-in_err-other
 left_choice-returns-in_err-other t c =
     let p = err_from_is_err_and c.from_residual.result c.from_residual.ensures.1 in
-    rw (p.1, p.2) (λ ts f. fault_means (inner_strategy (c.args.level + 1)) (AtMost 0) c.args.input (inner_strategy c.args.level) (AtMost 0) ts _ (missing_right _ _ _ _ f) (nested_right _ _ _ _ f) c.in_err-other.ensures)
+    rw (p.1, p.2) (λ ts f. fault_means (inner_strategy (c.args.level + 1)) (AtMost 0)
+    c.args.input (inner_strategy c.args.level) (AtMost 0) ts _ (missing_right _ _ _ _ f) (nested_right _ _ _ _ f)
+    c.in_err-other.ensures)
 
 pub left_choice-returns : goal.left_choice-returns
 left_choice-returns t c =
@@ -231,17 +263,22 @@ left_choice-returns t c =
 pub guarded_choice-returns-in_err-then : goal.guarded_choice-returns-in_err-then
 guarded_choice-returns-in_err-then t c =
     let p = err_from_is_err_and c.from_residual.result c.from_residual.ensures.1 in
-    rw (p.1, p.2) (λ ts f. fault_means (inner_strategy (c.args.level + 1)) (AtMost 0) c.args.input (inner_strategy c.args.level) (AtMost 0) ts _ (missing_first _ _ _ _ f) (nested_first _ _ _ _ f) c.in_err-then.ensures)
+    rw (p.1, p.2) (λ ts f. fault_means (inner_strategy (c.args.level + 1)) (AtMost 0)
+    c.args.input (inner_strategy c.args.level) (AtMost 0) ts _ (missing_first _ _ _ _ f) (nested_first _ _ _ _ f)
+    c.in_err-then.ensures)
 
 pub guarded_choice-returns-in_default : goal.guarded_choice-returns-in_default
 guarded_choice-returns-in_default t c =
-    λ ts f. syntax_fault (inner_strategy c.args.level) (AtMost 0) ts c.syntax.result (missing_plus _ _ _ _ _ _ f c.in_ok-then.ensures c.in_default.ensures) c.syntax.ensures
+    λ ts f. syntax_fault (inner_strategy c.args.level) (AtMost 0)
+    ts c.syntax.result (missing_plus _ _ _ _ _ _ f c.in_ok-then.ensures c.in_default.ensures) c.syntax.ensures
 
 pub guarded_choice-returns-in_err-other : goal.guarded_choice-returns-in_err-other
 guarded_choice-returns-in_err-other t c =
     let p = err_from_is_err_and c.from_residual-in_err-other.result c.from_residual-in_err-other.ensures.1 in
     let g = rw c.in-Some.ensures at c.in_ok-then.ensures in
-    rw (p.1, p.2) (λ ts f. fault_means (inner_strategy (c.args.level + 1)) (AtMost 0) c.in-Some.following (inner_strategy c.args.level) (AtMost 0) ts _ (missing_second _ _ _ _ _ _ f g) (nested_second _ _ _ _ _ _ f g) c.in_err-other.ensures)
+    rw (p.1, p.2) (λ ts f. fault_means (inner_strategy (c.args.level + 1)) (AtMost 0)
+    c.in-Some.following (inner_strategy c.args.level) (AtMost 0) ts _ (missing_second _ _ _ _ _ _ f g)
+    (nested_second _ _ _ _ _ _ f g) c.in_err-other.ensures)
 
 pub guarded_choice-returns : goal.guarded_choice-returns
 guarded_choice-returns t c =

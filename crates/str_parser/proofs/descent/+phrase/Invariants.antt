@@ -42,7 +42,8 @@ abbrev pub decreases-primary-loop-begun : goal.decreases-primary-loop-begun
 decreases-primary-loop-begun l = left_in l.begun
 
 abbrev pub invariant-pattern-loop-begun : goal.invariant-pattern-loop-begun
-invariant-pattern-loop-begun l = Leads (WrittenAny l.in_match l.level) (ContinuesAny l.in_match l.level l.begun) l.fn.input (after_pattern l.begun)
+invariant-pattern-loop-begun l =
+    Leads (WrittenAny l.in_match l.level) (ContinuesAny l.in_match l.level l.begun) l.fn.input (after_pattern l.begun)
 
 abbrev pub decreases-pattern-loop-begun : goal.decreases-pattern-loop-begun
 decreases-pattern-loop-begun l = length (after_pattern l.begun)

@@ -16,8 +16,10 @@ returns-in_err-section c =
     let p = err_from_is_err_and c.from_residual.result c.from_residual.ensures.1 in
     let on = token_goes_on _ (not_empty _ _ c.is_empty.ensures c.loop-rest-test.true) in
     rw (p.1, p.2)
-    (fault_along _ (λ m. missing_written _ _ _ _ sections_written (sofar_missing _ _ _ _ _ _ sections_follow on c.loop-rest.invariant m))
-    (λ n. nested_written _ _ _ sections_written (sofar_nested _ _ _ _ _ c.loop-rest.invariant n)) c.in_err-section.ensures)
+    (fault_along _ (λ m. missing_written _ _ _ _ sections_written
+    (sofar_missing _ _ _ _ _ _ sections_follow on c.loop-rest.invariant m))
+    (λ n. nested_written _ _ _ sections_written (sofar_nested _ _ _ _ _ c.loop-rest.invariant n))
+    c.in_err-section.ensures)
 
 pub loop-rest-smaller : goal.loop-rest-smaller
 loop-rest-smaller c = c.in_ok-section.ensures.shorter
@@ -25,9 +27,11 @@ loop-rest-smaller c = c.in_ok-section.ensures.shorter
 pub loop-rest-preserved : goal.loop-rest-preserved
 loop-rest-preserved c =
     let on = token_goes_on _ (not_empty _ _ c.is_empty.ensures c.loop-rest-test.true) in
-    rw (c.in_ok-push.ensures.items, map-append) (sofar_more _ _ _ _ _ _ _ _ sections_follow on c.loop-rest.invariant c.in_ok-section.ensures)
+    rw (c.in_ok-push.ensures.items, map-append)
+    (sofar_more _ _ _ _ _ _ _ _ sections_follow on c.loop-rest.invariant c.in_ok-section.ensures)
 
 pub returns : goal.returns
 returns c =
     let e = is_empty _ _ c.is_empty.ensures c.loop-rest-test.false in
-    found_any_written _ _ _ _ _ _ sections_written (sofar_found _ _ _ _ _ (no_section _ refl) (rw e at c.loop-rest.invariant))
+    found_any_written _ _ _ _ _ _ sections_written
+    (sofar_found _ _ _ _ _ (no_section _ refl) (rw e at c.loop-rest.invariant))

@@ -16,8 +16,10 @@ returns-in_err-definition c =
     let p = err_from_is_err_and c.from_residual.result c.from_residual.ensures.1 in
     let on = name_goes_on _ (sym c.begins_form.ensures ∙ c.loop-alloc-test.true) in
     rw (p.1, p.2)
-    (fault_along _ (λ m. missing_written _ _ _ _ tops_written (sofar_missing _ _ _ _ _ _ tops_follow on c.loop-alloc.invariant m))
-    (λ n. nested_written _ _ _ tops_written (sofar_nested _ _ _ _ _ c.loop-alloc.invariant n)) c.in_err-definition.ensures)
+    (fault_along _ (λ m. missing_written _ _ _ _ tops_written
+    (sofar_missing _ _ _ _ _ _ tops_follow on c.loop-alloc.invariant m))
+    (λ n. nested_written _ _ _ tops_written (sofar_nested _ _ _ _ _ c.loop-alloc.invariant n))
+    c.in_err-definition.ensures)
 
 pub loop-alloc-smaller : goal.loop-alloc-smaller
 loop-alloc-smaller c = c.in_ok-definition.ensures.shorter
@@ -25,8 +27,10 @@ loop-alloc-smaller c = c.in_ok-definition.ensures.shorter
 pub loop-alloc-preserved : goal.loop-alloc-preserved
 loop-alloc-preserved c =
     let on = name_goes_on _ (sym c.begins_form.ensures ∙ c.loop-alloc-test.true) in
-    rw (c.in_ok-push.ensures.items, map-append) (sofar_more _ _ _ _ _ _ _ _ tops_follow on c.loop-alloc.invariant c.in_ok-definition.ensures)
+    rw (c.in_ok-push.ensures.items, map-append)
+    (sofar_more _ _ _ _ _ _ _ _ tops_follow on c.loop-alloc.invariant c.in_ok-definition.ensures)
 
 pub returns : goal.returns
 returns c =
-    found_any_written _ _ _ _ _ _ tops_written (sofar_found _ _ _ _ _ (no_top _ (sym c.begins_form.ensures ∙ c.loop-alloc-test.false)) c.loop-alloc.invariant)
+    found_any_written _ _ _ _ _ _ tops_written
+    (sofar_found _ _ _ _ _ (no_top _ (sym c.begins_form.ensures ∙ c.loop-alloc-test.false)) c.loop-alloc.invariant)

@@ -21,7 +21,8 @@ returns-in-Some c =
     rule_found _ _ _ _ _ _ f c.in_ok-rule.ensures
 
 pub returns-in_default-after : goal.returns-in_default-after
-returns-in_default-after c = syntax_fault _ c.syntax.ensures (sign_missing _ _ _ _ c.in_ok-head.ensures c.in_default.ensures c.in_default-after.ensures)
+returns-in_default-after c = syntax_fault _ c.syntax.ensures
+    (sign_missing _ _ _ _ c.in_ok-head.ensures c.in_default.ensures c.in_default-after.ensures)
 
 pub returns-in_err-body : goal.returns-in_err-body
 returns-in_err-body c =

@@ -12,7 +12,8 @@ returns-in_err-name c =
 pub returns-in_err-parameters : goal.returns-in_err-parameters
 returns-in_err-parameters c =
     let p = err_from_is_err_and c.from_residual-in_err-parameters.result c.from_residual-in_err-parameters.ensures.1 in
-    rw (p.1, p.2) (fault_along _ (parameters_missing _ _ _ c.in_ok-name.ensures) (parameters_nested _ _ _ c.in_ok-name.ensures) c.in_err-parameters.ensures)
+    rw (p.1, p.2) (fault_along _ (parameters_missing _ _ _ c.in_ok-name.ensures)
+    (parameters_nested _ _ _ c.in_ok-name.ensures) c.in_err-parameters.ensures)
 
 pub returns : goal.returns
 returns c = head_found _ _ _ _ _ c.in_ok-name.ensures c.in_ok-parameters.ensures

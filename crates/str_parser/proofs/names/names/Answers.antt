@@ -9,15 +9,18 @@ returns-in_err-first c =
     rw (p.1, p.2) (fault_means _ _ _ _ _ _ _ (names_none _) (flat _ _ _) c.in_err-first.ensures)
 
 pub loop-following-init : goal.loop-following-init
-loop-following-init c = rw (c.in_ok-push.ensures.items, c.in_ok-found.ensures.items) (names_first _ _ _ c.in_ok-first.ensures)
+loop-following-init c = rw (c.in_ok-push.ensures.items, c.in_ok-found.ensures.items)
+    (names_first _ _ _ c.in_ok-first.ensures)
 
 pub returns-in_err-other : goal.returns-in_err-other
 returns-in_err-other c =
     let p = err_from_is_err_and c.from_residual-in_err-other.result c.from_residual-in_err-other.ensures.1 in
-    rw (p.1, p.2) (fault_means _ _ _ _ _ _ _ (names_missing _ _ _ _ c.loop-following.invariant c.in-Some.ensures) (flat _ _ _) c.in_err-other.ensures)
+    rw (p.1, p.2) (fault_means _ _ _ _ _ _ _ (names_missing _ _ _ _ c.loop-following.invariant c.in-Some.ensures)
+    (flat _ _ _) c.in_err-other.ensures)
 
 pub loop-following-preserved : goal.loop-following-preserved
-loop-following-preserved c = rw c.in_ok-push-2.ensures.items (names_more _ _ _ _ _ _ c.loop-following.invariant c.in-Some.ensures c.in_ok-other.ensures)
+loop-following-preserved c = rw c.in_ok-push-2.ensures.items
+    (names_more _ _ _ _ _ _ c.loop-following.invariant c.in-Some.ensures c.in_ok-other.ensures)
 
 pub returns : goal.returns
 returns c = names_found _ _ _ c.loop-following.invariant c.in_default.ensures

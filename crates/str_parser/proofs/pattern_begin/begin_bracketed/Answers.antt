@@ -6,7 +6,9 @@ use Rattle.str_parser.proofs.PatternBeginLaws.{empty_list_leads, list_begins}
 use Rattle.str_parser.proofs.pattern_begin.begin_bracketed.Goals as goal
 
 pub returns-in-Some : goal.returns-in-Some
-returns-in-Some c = λ m k. rw c.in-Some.ensures (empty_list_leads m k _ _ (reads_list _ None ∙ ap (λ qs. list qs no_pattern) (no_patterns_of c.new.result c.new.ensures.items)))
+returns-in-Some c = λ m k. rw c.in-Some.ensures
+    (empty_list_leads m k _ _ (reads_list _ None ∙
+    ap (λ qs. list qs no_pattern) (no_patterns_of c.new.result c.new.ensures.items)))
 
 pub returns : goal.returns
 returns c = λ m k. list_begins m k _ _ c.new-2.ensures.items c.in_default.ensures

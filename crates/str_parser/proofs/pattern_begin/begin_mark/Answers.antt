@@ -13,6 +13,8 @@ returns-in-Less c = λ k. rw c.in-Less.is (less_begins c.args.in_match k _ c.if-
 
 pub returns-in_default : goal.returns-in_default
 returns-in_default c = elim c.in_default.branch [
-  | in_default-via-in-Less+else-not-in_match w ↦ λ k. rw w.in-Less.is (less_begins_none c.args.in_match k _ w.if-not-in_match.false)
-  | in_default-via-in_default w ↦ λ k. mark_begins_none c.args.in_match k _ _ w.in_default.not-OpenParenthesis w.in_default.not-OpenBracket w.in_default.not-Less
+  | in_default-via-in-Less+else-not-in_match w ↦ λ k. rw w.in-Less.is
+      (less_begins_none c.args.in_match k _ w.if-not-in_match.false)
+  | in_default-via-in_default w ↦ λ k. mark_begins_none c.args.in_match k _ _ w.in_default.not-OpenParenthesis
+      w.in_default.not-OpenBracket w.in_default.not-Less
 ]

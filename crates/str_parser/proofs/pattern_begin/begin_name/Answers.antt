@@ -10,7 +10,8 @@ pub returns-in-Some : goal.returns-in-Some
 returns-in-Some c = λ m k. rw (c.in-Some.ensures, c.in_ok-name.ensures) (alias_begins m k _ _)
 
 pub returns-in_default-after : goal.returns-in_default-after
-returns-in_default-after c = λ m k. name_leads m k _ _ _ (reads_variable _ ∙ ap variable c.in_ok-name.ensures) c.in_default.ensures c.in_default-after.ensures
+returns-in_default-after c = λ m k. name_leads m k _ _ _ (reads_variable _ ∙
+    ap variable c.in_ok-name.ensures) c.in_default.ensures c.in_default-after.ensures
 
 pub returns-then-not-is_constructor : goal.returns-then-not-is_constructor
 returns-then-not-is_constructor c =
@@ -20,9 +21,14 @@ returns-then-not-is_constructor c =
 pub returns-in-Some-after-2 : goal.returns-in-Some-after-2
 returns-in-Some-after-2 c =
     let plain : has_no_quote c.args.bytes.now ≡ true = sym c.is_constructor.ensures ∙ c.if-not-is_constructor.false in
-    λ m k. rw (c.in-Some-after.ensures, c.in-Some-after-2.ensures) (constant_leads m k _ _ _ (reads_application _ _ ∙ ap (application c.in_ok-name.name) (no_patterns_of c.new-in-Some-after-2.result c.new-in-Some-after-2.ensures.items) ∙ ap (λ x. application x no_patterns) c.in_ok-name.ensures) plain)
+    λ m k. rw (c.in-Some-after.ensures, c.in-Some-after-2.ensures)
+    (constant_leads m k _ _ _ (reads_application _ _ ∙
+    ap (application c.in_ok-name.name)
+    (no_patterns_of c.new-in-Some-after-2.result c.new-in-Some-after-2.ensures.items) ∙
+    ap (λ x. application x no_patterns) c.in_ok-name.ensures) plain)
 
 pub returns : goal.returns
 returns c =
     let plain : has_no_quote c.args.bytes.now ≡ true = sym c.is_constructor.ensures ∙ c.if-not-is_constructor.false in
-    λ m k. rw (c.in-Some-after.ensures, c.in_ok-name.ensures) (application_begins m k _ _ _ c.in_ok-parts.ensures.items plain c.in_default-after-2.ensures)
+    λ m k. rw (c.in-Some-after.ensures, c.in_ok-name.ensures)
+    (application_begins m k _ _ _ c.in_ok-parts.ensures.items plain c.in_default-after-2.ensures)

@@ -6,7 +6,8 @@ use Rattle.str_parser.proofs.PatternBeginLaws.{unit_leads, grouped_begins}
 use Rattle.str_parser.proofs.pattern_begin.begin_parenthesized.Goals as goal
 
 pub returns-in-Some : goal.returns-in-Some
-returns-in-Some c = λ m k. rw c.in-Some.ensures (unit_leads m k _ _ (reads_tuple _ ∙ ap tuple (no_patterns_of c.new.result c.new.ensures.items)))
+returns-in-Some c = λ m k. rw c.in-Some.ensures
+    (unit_leads m k _ _ (reads_tuple _ ∙ ap tuple (no_patterns_of c.new.result c.new.ensures.items)))
 
 pub returns : goal.returns
 returns c = λ m k. grouped_begins m k _ _ c.new-2.ensures.items c.in_default.ensures

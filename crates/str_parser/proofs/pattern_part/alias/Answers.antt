@@ -6,4 +6,5 @@ use Rattle.str_parser.proofs.InnerLaws.{alias_leads}
 use Rattle.str_parser.proofs.pattern_part.alias.Goals as goal
 
 pub returns : goal.returns
-returns c = λ m k. alias_leads m k _ _ _ _ (reads_alias _ _ ∙ ap (λ b. alias c.args.name (pattern_of b)) c.in_ok-new.ensures.ok)
+returns c = λ m k. alias_leads m k _ _ _ _ (reads_alias _ _ ∙
+    ap (λ b. alias c.args.name (pattern_of b)) c.in_ok-new.ensures.ok)

@@ -13,7 +13,12 @@ pub returns-in-Some : goal.returns-in-Some
 returns-in-Some c = λ m k. rw c.in-Some.ensures (application_more m k _ _ _ _ _ c.in_ok-push.ensures.items)
 
 pub returns-in_default-after : goal.returns-in_default-after
-returns-in_default-after c = λ m. syntax_inner (HasInner (I.Application c.args.name c.args.done) (pattern_of c.args.part)) m _ _ c.syntax.ensures (λ k. no_application m k c.args.name c.args.done (pattern_of c.args.part) _ c.in_default.ensures c.in_default-after.ensures)
+returns-in_default-after c = λ m. syntax_inner
+    (HasInner (I.Application c.args.name c.args.done) (pattern_of c.args.part))
+    m _ _ c.syntax.ensures (λ k. no_application m k c.args.name c.args.done (pattern_of c.args.part)
+    _ c.in_default.ensures c.in_default-after.ensures)
 
 pub returns : goal.returns
-returns c = λ m k. rw c.in-Some-after.ensures (application_end m k _ _ _ _ _ (reads_application _ _ ∙ ap (application c.args.name) (pushed_last c.args.done c.push.new.self c.args.part c.in_ok-push.ensures.items)))
+returns c = λ m k. rw c.in-Some-after.ensures
+    (application_end m k _ _ _ _ _ (reads_application _ _ ∙
+    ap (application c.args.name) (pushed_last c.args.done c.push.new.self c.args.part c.in_ok-push.ensures.items)))

@@ -6,4 +6,5 @@ use Rattle.str_parser.proofs.InnerLaws.{applied_to_leads}
 use Rattle.str_parser.proofs.pattern_part.applied_to.Goals as goal
 
 pub returns : goal.returns
-returns c = λ m k. applied_to_leads m k _ _ _ _ (reads_applied_to _ _ ∙ ap (λ b. applied_to (strategy_of c.args.applied.value) (pattern_of b)) c.in_ok-new.ensures.ok)
+returns c = λ m k. applied_to_leads m k _ _ _ _ (reads_applied_to _ _ ∙
+    ap (λ b. applied_to (strategy_of c.args.applied.value) (pattern_of b)) c.in_ok-new.ensures.ok)

@@ -11,19 +11,25 @@ use Rattle.str_parser.proofs.pattern_part.begin_annotations.Goals as goal
 
 pub returns-then-not-takes_annotations : goal.returns-then-not-takes_annotations
 returns-then-not-takes_annotations c =
-    let none : may_be_annotated (pattern_of c.args.bare) ≡ false = sym c.takes_annotations.ensures ∙ c.if-not-takes_annotations.true in
-    λ m. syntax_inner (GoesAnnotated (pattern_of c.args.bare)) m _ _ c.syntax.ensures (λ k. no_annotations m k (pattern_of c.args.bare) _ none)
+    let none : may_be_annotated (pattern_of c.args.bare) ≡ false =
+    sym c.takes_annotations.ensures ∙ c.if-not-takes_annotations.true in
+    λ m. syntax_inner (GoesAnnotated (pattern_of c.args.bare))
+    m _ _ c.syntax.ensures (λ k. no_annotations m k (pattern_of c.args.bare) _ none)
 
 pub returns-in-Some : goal.returns-in-Some
 returns-in-Some c =
-    let some : may_be_annotated (pattern_of c.args.bare) ≡ true = sym c.takes_annotations.ensures ∙ c.if-not-takes_annotations.false in
+    let some : may_be_annotated (pattern_of c.args.bare) ≡ true =
+    sym c.takes_annotations.ensures ∙ c.if-not-takes_annotations.false in
     let none = no_patterns_of c.new-in-Some.result c.new-in-Some.ensures.items in
-    let made = reads_annotated c.in_ok-bare.bare c.new-in-Some.result ∙ ap (annotated (pattern_of c.in_ok-bare.bare.value)) none
+    let made = reads_annotated c.in_ok-bare.bare c.new-in-Some.result ∙
+    ap (annotated (pattern_of c.in_ok-bare.bare.value)) none
     ∙ ap (λ p. annotated (pattern_of p) no_patterns) c.in_ok-bare.ensures.ok in
     λ m k. rw c.in-Some.ensures (empty_braces_lead m k _ _ _ some made)
 
 pub returns : goal.returns
 returns c =
-    let some : may_be_annotated (pattern_of c.args.bare) ≡ true = sym c.takes_annotations.ensures ∙ c.if-not-takes_annotations.false in
+    let some : may_be_annotated (pattern_of c.args.bare) ≡ true =
+    sym c.takes_annotations.ensures ∙ c.if-not-takes_annotations.false in
     let some_boxed : may_be_annotated (pattern_of c.in_ok-bare.bare.value) ≡ true = rw c.in_ok-bare.ensures.ok some in
-    λ m k. rw (sym c.in_ok-bare.ensures.ok) (annotations_begin m k _ _ _ some_boxed c.new-2.ensures.items c.in_default.ensures)
+    λ m k. rw (sym c.in_ok-bare.ensures.ok)
+    (annotations_begin m k _ _ _ some_boxed c.new-2.ensures.items c.in_default.ensures)

@@ -9,8 +9,11 @@ use Rattle.str_parser.specs.Begun.{HasInner}
 use Rattle.str_parser.proofs.pattern_part.tail.Goals as goal
 
 pub returns-in_default : goal.returns-in_default
-returns-in_default c = λ m. syntax_inner (HasInner (I.Tail c.args.parts) (pattern_of c.args.part)) m _ _ c.syntax.ensures
+returns-in_default c = λ m. syntax_inner (HasInner (I.Tail c.args.parts) (pattern_of c.args.part))
+    m _ _ c.syntax.ensures
     (λ k. no_tail m k c.args.parts (pattern_of c.args.part) _ c.in_default.ensures)
 
 pub returns : goal.returns
-returns c = λ m k. rw c.in-Some.ensures (tail_leads m k _ _ _ _ (reads_list _ (Some _) ∙ ap (λ b. list (patterns_of c.args.parts.items) (one_pattern (pattern_of b))) c.in_ok-new.ensures.ok))
+returns c = λ m k. rw c.in-Some.ensures
+    (tail_leads m k _ _ _ _ (reads_list _ (Some _) ∙
+    ap (λ b. list (patterns_of c.args.parts.items) (one_pattern (pattern_of b))) c.in_ok-new.ensures.ok))

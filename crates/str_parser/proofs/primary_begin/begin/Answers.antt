@@ -10,4 +10,6 @@ returns-in_default c = syntax_at Written _ _ _ c.syntax.ensures c.in_default.ens
 pub returns-in_default-first : goal.returns-in_default-first
 returns-in_default-first c =
     syntax_at Written _ _ _ c.syntax-in_default-first.ensures c.in-Some.ensures
-    (λ k. begins_no_primary k _ _ (tokens_left _ (λ x f. c.in_default-first.not-Name x f) (λ x f. c.in_default-first.not-Mark x f) (λ x f. c.in_default-first.not-Keyword x f)))
+    (λ k. begins_no_primary k _ _
+    (tokens_left _ (λ x f. c.in_default-first.not-Name x f) (λ x f. c.in_default-first.not-Mark x f)
+    (λ x f. c.in_default-first.not-Keyword x f)))

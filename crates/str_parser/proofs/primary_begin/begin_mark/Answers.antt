@@ -18,5 +18,6 @@ returns-in-Less c = λ k. rw c.in-Less.is (apply_leads k _)
 pub returns-in_default : goal.returns-in_default
 returns-in_default c = λ k.
     begins_no_primary k _ _
-    (marks_left _ (λ f. c.in_default.not-Question f) (λ f. c.in_default.not-Exclamation f) (λ f. c.in_default.not-Backslash f) (λ f. c.in_default.not-Less f)
+    (marks_left _ (λ f. c.in_default.not-Question f) (λ f. c.in_default.not-Exclamation f)
+    (λ f. c.in_default.not-Backslash f) (λ f. c.in_default.not-Less f)
     (λ f. c.in_default.not-OpenParenthesis f) (λ f. c.in_default.not-OpenBracket f) (λ f. c.in_default.not-OpenBrace f))

@@ -10,7 +10,8 @@ use Rattle.str_parser.proofs.primary_begin.begin_parenthesized.Goals as goal
 pub returns-in-Some : goal.returns-in-Some
 returns-in-Some c =
     rw c.in-Some.ensures
-    (made_next Written _ _ _ _ _ (reads_tuple_congruence _ ∙ ap (λ xs. tuple_congruence (strategies_of xs)) c.new.ensures.items) c.whole.ensures (λ k. empty_tuple_ends k _))
+    (made_next Written _ _ _ _ _ (reads_tuple_congruence _ ∙
+    ap (λ xs. tuple_congruence (strategies_of xs)) c.new.ensures.items) c.whole.ensures (λ k. empty_tuple_ends k _))
 
 pub returns : goal.returns
 returns c = λ k. parenthesized_leads k _ c.new-2.ensures.items _ c.in_default.ensures

@@ -29,16 +29,19 @@ returns-in_default-first-2 c =
 pub returns-in-Some-after : goal.returns-in-Some-after
 returns-in-Some-after c =
     rw (c.in-Some.ensures, c.in-Some-first.ensures, c.in-Quoted.is, c.in-Some-after.ensures, sym c.in_ok-text.ensures)
-    (made_next Written _ _ _ _ _ (reads_primitive _ _ ∙ ap (λ ps. primitive c.in_ok-text.text (patterns_of ps)) c.new-in-Some-after.ensures.items)
+    (made_next Written _ _ _ _ _ (reads_primitive _ _ ∙
+    ap (λ ps. primitive c.in_ok-text.text (patterns_of ps)) c.new-in-Some-after.ensures.items)
     c.whole.ensures (λ k. primitive_ends k _ _))
 
 pub returns-in_default-after-2 : goal.returns-in_default-after-2
 returns-in_default-after-2 c =
     syntax_at Written _ _ _ c.syntax-in_default-after-2.ensures
-    (ap (λ ts. keyword K.Prim ∷ ts) c.in-Some.ensures ∙ ap (λ ts. keyword K.Prim ∷ mark M.OpenParenthesis ∷ ts) c.in-Some-first.ensures
+    (ap (λ ts. keyword K.Prim ∷ ts) c.in-Some.ensures ∙
+    ap (λ ts. keyword K.Prim ∷ mark M.OpenParenthesis ∷ ts) c.in-Some-first.ensures
     ∙ ap (λ t. keyword K.Prim ∷ mark M.OpenParenthesis ∷ lexeme_in t ∷ c.in-Some-first.rest) c.in-Quoted.is)
     (λ k. primitive_no_end k _ _ c.in_default-after.ensures c.in_default-after-2.ensures)
 
 pub returns : goal.returns
 returns c = λ k.
-    rw (c.in-Some.ensures, c.in-Some-first.ensures, c.in-Quoted.is, c.in-Some-after-2.ensures, sym c.in_ok-text.ensures) (primitive_leads k _ _ _ c.new-2.ensures.items)
+    rw (c.in-Some.ensures, c.in-Some-first.ensures, c.in-Quoted.is, c.in-Some-after-2.ensures, sym c.in_ok-text.ensures)
+    (primitive_leads k _ _ _ c.new-2.ensures.items)

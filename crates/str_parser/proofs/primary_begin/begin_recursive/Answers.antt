@@ -12,7 +12,8 @@ returns-in_err-recursive c =
     rw (p.1, p.2) (name_fault Written (AtMost 5) _ _ _ (λ m k. recursive_no_name k _ m) c.in_err-recursive.ensures)
 
 pub returns-in_default : goal.returns-in_default
-returns-in_default c = syntax_next _ _ _ c.syntax.ensures (λ k. recursive_no_parenthesis k _ _ _ c.in_ok-recursive.ensures c.in_default.ensures)
+returns-in_default c = syntax_next _ _ _ c.syntax.ensures
+    (λ k. recursive_no_parenthesis k _ _ _ c.in_ok-recursive.ensures c.in_default.ensures)
 
 pub returns : goal.returns
 returns c = λ k. recursive_leads k _ _ _ (rw c.in-Some.ensures at c.in_ok-recursive.ensures)

@@ -10,8 +10,11 @@ use Rattle.str_parser.proofs.primary_begin.begin_terms.Goals as goal
 pub returns-in-Some : goal.returns-in-Some
 returns-in-Some c =
     rw c.in-Some.ensures
-    (made_next (GoesBehindBar c.args.called c.args.strategies) _ _ _ _ _ (reads_call_with_terms _ _ _ ∙ ap (λ ps. call c.args.called (all_arguments (strategies_of c.args.strategies.items) (patterns_of ps))) (ap (λ v. v.items) c.in_ok-terms.ensures.ok ∙ c.new.ensures.items))
+    (made_next (GoesBehindBar c.args.called c.args.strategies) _ _ _ _ _ (reads_call_with_terms _ _ _ ∙
+    ap (λ ps. call c.args.called (all_arguments (strategies_of c.args.strategies.items) (patterns_of ps)))
+    (ap (λ v. v.items) c.in_ok-terms.ensures.ok ∙ c.new.ensures.items))
     c.whole.ensures (λ k. no_terms_end k _ _ _))
 
 pub returns : goal.returns
-returns c = λ k. terms_lead k _ _ _ _ (ap (λ v. v.items) c.in_ok-terms.ensures.ok ∙ c.new.ensures.items) c.in_default.ensures
+returns c = λ k. terms_lead k _ _ _ _ (ap (λ v. v.items) c.in_ok-terms.ensures.ok ∙
+    c.new.ensures.items) c.in_default.ensures

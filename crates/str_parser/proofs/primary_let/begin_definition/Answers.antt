@@ -14,9 +14,11 @@ returns-in_err-parameters c =
     rw (p.1, p.2) (parameters_fault _ _ _ _ c.in_ok-name.ensures _ c.in_err-parameters.ensures)
 
 pub returns-in_default : goal.returns-in_default
-returns-in_default c = syntax_next _ _ _ c.syntax.ensures (λ k. equals_no_run _ k _ _ _ _ _ c.in_ok-name.ensures c.in_ok-parameters.ensures c.in_default.ensures)
+returns-in_default c = syntax_next _ _ _ c.syntax.ensures
+    (λ k. equals_no_run _ k _ _ _ _ _ c.in_ok-name.ensures c.in_ok-parameters.ensures c.in_default.ensures)
 
 pub returns : goal.returns
 returns c =
     let q = rw c.in-Some.ensures at c.in_ok-parameters.ensures in
-    λ k. begin_leads c.args.done k c.args.input c.in_ok-name.rest c.in-Some.following c.in_ok-head.head (rw c.in_ok-head.ensures.ok c.in_ok-name.ensures) (rw c.in_ok-head.ensures.ok q)
+    λ k. begin_leads c.args.done k c.args.input c.in_ok-name.rest c.in-Some.following c.in_ok-head.head
+    (rw c.in_ok-head.ensures.ok c.in_ok-name.ensures) (rw c.in_ok-head.ensures.ok q)

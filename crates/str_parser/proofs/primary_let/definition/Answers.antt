@@ -9,10 +9,16 @@ use Rattle.str_parser.proofs.primary_let.definition.Goals as goal
 
 pub returns-in-Some : goal.returns-in-Some
 returns-in-Some c =
-    λ k. rw c.in-Some.ensures (in_leads k _ c.push.new.self _ _ (grows _ _ _ _ c.in_ok-body.body _ c.in_ok-push.ensures.items (reads_made_definition _ ∙ ap (λ (h : DefinitionHead). definition (head_of h) (strategy_of c.in_ok-body.body.value)) c.into_inner-head.ensures) c.in_ok-body.ensures.ok) _)
+    λ k. rw c.in-Some.ensures (in_leads k _ c.push.new.self _ _
+    (grows _ _ _ _ c.in_ok-body.body _ c.in_ok-push.ensures.items (reads_made_definition _ ∙
+    ap (λ (h : DefinitionHead). definition (head_of h) (strategy_of c.in_ok-body.body.value))
+    c.into_inner-head.ensures) c.in_ok-body.ensures.ok) _)
 
 pub returns : goal.returns
 returns c =
     leads_next _ _ _ _ _
-    (λ k. to_definition_leads k _ c.push.new.self _ _ (grows _ _ _ _ c.in_ok-body.body _ c.in_ok-push.ensures.items (reads_made_definition _ ∙ ap (λ (h : DefinitionHead). definition (head_of h) (strategy_of c.in_ok-body.body.value)) c.into_inner-head.ensures) c.in_ok-body.ensures.ok) _ c.in_default.ensures)
+    (λ k. to_definition_leads k _ c.push.new.self _ _
+    (grows _ _ _ _ c.in_ok-body.body _ c.in_ok-push.ensures.items (reads_made_definition _ ∙
+    ap (λ (h : DefinitionHead). definition (head_of h) (strategy_of c.in_ok-body.body.value))
+    c.into_inner-head.ensures) c.in_ok-body.ensures.ok) _ c.in_default.ensures)
     c.begin_definition.ensures

@@ -8,7 +8,10 @@ pub returns-in-Some : goal.returns-in-Some
 returns-in-Some c = λ k. rw c.in-Some.ensures (primitive_more_leads k _ _ _ _ c.in_ok-push.ensures.items _)
 
 pub returns-in_default-after : goal.returns-in_default-after
-returns-in_default-after c = syntax_next _ _ _ c.syntax.ensures (λ k. no_primitive k _ _ _ _ c.in_default.ensures c.in_default-after.ensures)
+returns-in_default-after c = syntax_next _ _ _ c.syntax.ensures
+    (λ k. no_primitive k _ _ _ _ c.in_default.ensures c.in_default-after.ensures)
 
 pub returns : goal.returns
-returns c = whole_next _ _ _ _ _ c.whole.ensures (λ k. rw (reads_primitive, c.in-Some-after.ensures) (primitive_ends k _ _ c.push.new.self _ c.in_ok-push.ensures.items _))
+returns c = whole_next _ _ _ _ _ c.whole.ensures
+    (λ k. rw (reads_primitive, c.in-Some-after.ensures)
+    (primitive_ends k _ _ c.push.new.self _ c.in_ok-push.ensures.items _))

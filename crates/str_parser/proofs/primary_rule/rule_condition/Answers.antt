@@ -6,4 +6,5 @@ use Rattle.str_parser.proofs.primary_rule.rule_condition.Goals as goal
 pub returns : goal.returns
 returns c =
     whole_next _ _ _ _ _ c.whole.ensures
-    (λ k. rw (c.in_ok-primary.ensures, reads_made_rule, c.in-Some.ensures, c.in_ok-new.ensures.ok) (rule_condition_ends k _ _ _ _))
+    (λ k. rw (c.in_ok-primary.ensures, reads_made_rule, c.in-Some.ensures, c.in_ok-new.ensures.ok)
+    (rule_condition_ends k _ _ _ _))

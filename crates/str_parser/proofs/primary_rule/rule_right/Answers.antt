@@ -9,9 +9,11 @@ pub returns-in-Some : goal.returns-in-Some
 returns-in-Some c = λ k. rw (c.in-Some.ensures, sym c.in_ok-right.ensures.ok) (rule_where_leads k _ _ _)
 
 pub returns-in_default-after : goal.returns-in_default-after
-returns-in_default-after c = syntax_next _ _ _ c.syntax.ensures (λ k. no_rule_right k _ _ _ c.in_default.ensures c.in_default-after.ensures)
+returns-in_default-after c = syntax_next _ _ _ c.syntax.ensures
+    (λ k. no_rule_right k _ _ _ c.in_default.ensures c.in_default-after.ensures)
 
 pub returns : goal.returns
 returns c =
     whole_next _ _ _ _ _ c.whole.ensures
-    (λ k. rw (c.in_ok-primary.ensures, reads_made_rule, c.in-Some-after.ensures, sym c.in_ok-right.ensures.ok) (rule_ends k _ c.in_ok-right.right _))
+    (λ k. rw (c.in_ok-primary.ensures, reads_made_rule, c.in-Some-after.ensures, sym c.in_ok-right.ensures.ok)
+    (rule_ends k _ c.in_ok-right.right _))

@@ -5,4 +5,5 @@ use Rattle.str_parser.proofs.WholeLaws.{made_next}
 use Rattle.str_parser.proofs.primary_strategy.alternative.Goals as goal
 
 pub returns : goal.returns
-returns c = rw (c.in-Some.ensures, sym c.in_ok-new.ensures.ok) (made_next _ _ _ _ _ _ (reads_conditional _ _ (Some _)) c.whole.ensures (λ k. alternative_ends k _ _ _ _))
+returns c = rw (c.in-Some.ensures, sym c.in_ok-new.ensures.ok)
+    (made_next _ _ _ _ _ _ (reads_conditional _ _ (Some _)) c.whole.ensures (λ k. alternative_ends k _ _ _ _))

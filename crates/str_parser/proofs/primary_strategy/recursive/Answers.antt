@@ -5,4 +5,5 @@ use Rattle.str_parser.proofs.WholeLaws.{made_next}
 use Rattle.str_parser.proofs.primary_strategy.recursive.Goals as goal
 
 pub returns : goal.returns
-returns c = rw (c.in-Some.ensures, sym c.in_ok-new.ensures.ok, sym c.name.view_is) (made_next _ _ _ _ _ _ (reads_recursive _ _) c.whole.ensures (λ k. recursive_ends k _ _ _))
+returns c = rw (c.in-Some.ensures, sym c.in_ok-new.ensures.ok, sym c.name.view_is)
+    (made_next _ _ _ _ _ _ (reads_recursive _ _) c.whole.ensures (λ k. recursive_ends k _ _ _))

@@ -15,7 +15,9 @@ pub sort-returns-then-level-gt-MAX_LEVEL : goal.sort-returns-then-level-gt-MAX_L
 sort-returns-then-level-gt-MAX_LEVEL t c = deep_sort _ _ _ _ (omega arith) c.in-Some.ensures
 
 pub sort-returns-in_default-after : goal.sort-returns-in_default-after
-sort-returns-in_default-after t c = rw (reads_sort, c.in_ok-name.ensures) (found_named _ _ _ _ (omega arith) c.in-Some.ensures c.in_default-after.ensures)
+sort-returns-in_default-after t c =
+    rw (reads_sort, c.in_ok-name.ensures)
+    (found_named _ _ _ _ (omega arith) c.in-Some.ensures c.in_default-after.ensures)
 
 pub sort-returns-in_err-parts : goal.sort-returns-in_err-parts
 sort-returns-in_err-parts t c =
@@ -28,11 +30,14 @@ sort-returns-in_err-parts t c =
 pub sort-returns-in_default-after-2 : goal.sort-returns-in_default-after-2
 sort-returns-in_default-after-2 t c =
     at_syntax _ _ _ _ c.syntax-in_default-after-2.ensures
-    (missing_close _ _ _ _ _ _ _ (omega arith) c.in-Some.ensures c.in-Some-after.ensures c.in_ok-parts.ensures c.in_default-after-2.ensures)
+    (missing_close _ _ _ _ _ _ _ (omega arith)
+    c.in-Some.ensures c.in-Some-after.ensures c.in_ok-parts.ensures c.in_default-after-2.ensures)
 
 pub sort-returns : goal.sort-returns
 sort-returns t c =
-    rw (reads_sort_of, c.in_ok-name.ensures) (found_applied _ _ _ _ _ _ _ _ (omega arith) c.in-Some.ensures c.in-Some-after.ensures c.in_ok-parts.ensures c.in-Some-after-2.ensures)
+    rw (reads_sort_of, c.in_ok-name.ensures)
+    (found_applied _ _ _ _ _ _ _ _ (omega arith)
+    c.in-Some.ensures c.in-Some-after.ensures c.in_ok-parts.ensures c.in-Some-after-2.ensures)
 
 pub sort_list-returns-in_err-first : goal.sort_list-returns-in_err-first
 sort_list-returns-in_err-first t c =
@@ -40,7 +45,8 @@ sort_list-returns-in_err-first t c =
     rw (p.1, p.2) (fault_means _ _ _ _ _ _ _ (sorts_none _ _) (sorts_deep _ _) c.in_err-first.ensures)
 
 pub sort_list-loop-following-init : goal.sort_list-loop-following-init
-sort_list-loop-following-init t c = rw (c.in_ok-push.ensures.items, c.new-parts.ensures.items) (sorts_first _ _ _ _ c.in_ok-first.ensures)
+sort_list-loop-following-init t c =
+    rw (c.in_ok-push.ensures.items, c.new-parts.ensures.items) (sorts_first _ _ _ _ c.in_ok-first.ensures)
 
 pub sort_list-returns-in_err-other : goal.sort_list-returns-in_err-other
 sort_list-returns-in_err-other t c =
@@ -52,7 +58,8 @@ sort_list-returns-in_err-other t c =
 
 pub sort_list-loop-following-preserved : goal.sort_list-loop-following-preserved
 sort_list-loop-following-preserved t c =
-    rw (c.in_ok-push-2.ensures.items, map-append) (sorts_more _ _ _ _ _ _ _ c.loop-following.invariant c.in-Some.ensures c.in_ok-other.ensures)
+    rw (c.in_ok-push-2.ensures.items, map-append)
+    (sorts_more _ _ _ _ _ _ _ c.loop-following.invariant c.in-Some.ensures c.in_ok-other.ensures)
 
 pub sort_list-returns : goal.sort_list-returns
 sort_list-returns t c = sorts_found _ _ _ _ c.loop-following.invariant c.in_default.ensures

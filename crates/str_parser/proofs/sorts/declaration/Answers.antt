@@ -17,9 +17,11 @@ returns-in_err-found c =
 pub returns-in-Plain : goal.returns-in-Plain
 returns-in-Plain c =
     let f = rw c.in-Plain.is at c.in_ok-found.ensures in
-    rw c.in_ok-name.ensures (found_declared _ _ _ _ _ (type_of (types.Plain c.in-Plain.made)) (sym c.if-not-is_constructor.ensures) c.in-Some-first_name.ensures c.in-Some-after.ensures f)
+    rw c.in_ok-name.ensures (found_declared _ _ _ _ _ (type_of (types.Plain c.in-Plain.made))
+    (sym c.if-not-is_constructor.ensures) c.in-Some-first_name.ensures c.in-Some-after.ensures f)
 
 pub returns-in-Mapping : goal.returns-in-Mapping
 returns-in-Mapping c =
     let f = rw c.in-Mapping.is at c.in_ok-found.ensures in
-    rw c.in_ok-name.ensures (found_declared _ _ _ _ _ (type_of (types.Mapping c.in-Mapping.parts c.in-Mapping.made)) (sym c.if-not-is_constructor.ensures) c.in-Some-first_name.ensures c.in-Some-after.ensures f)
+    rw c.in_ok-name.ensures (found_declared _ _ _ _ _ (type_of (types.Mapping c.in-Mapping.parts c.in-Mapping.made))
+    (sym c.if-not-is_constructor.ensures) c.in-Some-first_name.ensures c.in-Some-after.ensures f)

@@ -15,7 +15,8 @@ returns-in_err-other c =
 
 pub declarations-preserved : goal.declarations-preserved
 declarations-preserved c =
-    rw (c.in_ok-push.ensures.items, map-append) (declarations_more _ _ _ _ _ c.declarations.invariant (sym c.declarations-test.ensures) c.in_ok-other.ensures)
+    rw (c.in_ok-push.ensures.items, map-append)
+    (declarations_more _ _ _ _ _ c.declarations.invariant (sym c.declarations-test.ensures) c.in_ok-other.ensures)
 
 pub returns : goal.returns
 returns c = declarations_found _ _ _ c.declarations.invariant (sym c.declarations-test.ensures)

@@ -10,7 +10,8 @@ returns-in_err-first c =
     rw (p.1, p.2) (fault_means _ _ _ _ _ _ _ (factors_none _) (factors_deep _) c.in_err-first.ensures)
 
 pub loop-following-init : goal.loop-following-init
-loop-following-init c = rw (c.in_ok-push.ensures.items, c.new-parts.ensures.items) (factors_first _ _ _ c.in_ok-first.ensures)
+loop-following-init c = rw (c.in_ok-push.ensures.items, c.new-parts.ensures.items)
+    (factors_first _ _ _ c.in_ok-first.ensures)
 
 pub returns-in_err-other : goal.returns-in_err-other
 returns-in_err-other c =
@@ -22,7 +23,8 @@ returns-in_err-other c =
 
 pub loop-following-preserved : goal.loop-following-preserved
 loop-following-preserved c =
-    rw (c.in_ok-push-2.ensures.items, map-append) (factors_more _ _ _ _ _ _ c.loop-following.invariant c.in-Some.ensures c.in_ok-other.ensures)
+    rw (c.in_ok-push-2.ensures.items, map-append)
+    (factors_more _ _ _ _ _ _ c.loop-following.invariant c.in-Some.ensures c.in_ok-other.ensures)
 
 pub returns : goal.returns
 returns c = factors_found _ _ _ c.loop-following.invariant c.in_default.ensures

@@ -9,7 +9,8 @@ returns-in_err-found c =
     rw (p.1, p.2) (fault_means _ _ _ _ _ _ _ (missing_injection _) (nested_injection _) c.in_err-found.ensures)
 
 pub returns-in-Plain : goal.returns-in-Plain
-returns-in-Plain c = at_syntax _ _ _ _ c.syntax.ensures (missing_plain _ _ _ (rw c.in-Plain.is at c.in_ok-found.ensures))
+returns-in-Plain c = at_syntax _ _ _ _ c.syntax.ensures
+    (missing_plain _ _ _ (rw c.in-Plain.is at c.in_ok-found.ensures))
 
 pub returns : goal.returns
 returns c = found_injection _ _ _ _ (rw c.in-Mapping.is at c.in_ok-found.ensures)

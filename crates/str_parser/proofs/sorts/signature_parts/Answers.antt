@@ -14,7 +14,8 @@ returns-in_err-other c =
     c.in_err-other.ensures)
 
 pub parts-preserved : goal.parts-preserved
-parts-preserved c = rw (c.in_ok-push.ensures.items, map-append) (parts_more _ _ _ _ _ c.parts.invariant (sym c.parts-test.ensures) c.in_ok-other.ensures)
+parts-preserved c = rw (c.in_ok-push.ensures.items, map-append)
+    (parts_more _ _ _ _ _ c.parts.invariant (sym c.parts-test.ensures) c.in_ok-other.ensures)
 
 pub returns : goal.returns
 returns c = parts_found _ _ _ c.parts.invariant (sym c.parts-test.ensures)

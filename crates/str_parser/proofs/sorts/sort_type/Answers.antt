@@ -20,7 +20,8 @@ pub returns-in-Some : goal.returns-in-Some
 returns-in-Some c = found_mapping _ _ _ _ _ _ c.in_ok-parts.ensures c.in-Some.ensures c.in_ok-made.ensures
 
 pub returns-in_default-sole : goal.returns-in_default-sole
-returns-in_default-sole c = at_syntax _ _ _ _ c.syntax.ensures (missing_arrow _ _ _ c.in_ok-parts.ensures c.in_default.ensures c.in_default-sole.ensures)
+returns-in_default-sole c = at_syntax _ _ _ _ c.syntax.ensures
+    (missing_arrow _ _ _ c.in_ok-parts.ensures c.in_default.ensures c.in_default-sole.ensures)
 
 pub returns : goal.returns
 returns c = found_plain _ _ _ _ c.in_ok-parts.ensures c.in_default.ensures c.in-Some-sole.ensures

@@ -8,4 +8,5 @@ pub returns-in-None : goal.returns-in-None
 returns-in-None c =
     let keys = c.self.inside.firsts.keys in
     c.len.ensures.len ∙ position_past (same_definition c.new.result) keys (sym c.in-None.ensures.found) ∙
-    ap₂ (λ h ks. position_or_len (same_definition h) ks) c.new.ensures (c.self.invariant ∙ ap first_heads c.self.view_is)
+    ap₂ (λ h ks. position_or_len (same_definition h) ks) c.new.ensures (c.self.invariant ∙
+    ap first_heads c.self.view_is)

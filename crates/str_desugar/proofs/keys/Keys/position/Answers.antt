@@ -9,5 +9,6 @@ pub returns-then-not-has : goal.returns-then-not-has
 returns-then-not-has c =
     let x = c.args.wanted.now in
     let unmarked : has_mark c.self.inside.marks.words (mark_of x) ≡ false = sym c.has.ensures ∙ c.if-not-has.true in
-    sym (unmarked_key c.self.inside.marks.words x c.args.strategies c.args.terms (c.self.inside.distinct.keys ++ c.self.inside.others.items) c.self.invariant unmarked) ∙
+    sym (unmarked_key c.self.inside.marks.words x c.args.strategies c.args.terms (c.self.inside.distinct.keys ++
+    c.self.inside.others.items) c.self.invariant unmarked) ∙
     ap (λ l. key_position l (written x) c.args.strategies c.args.terms) c.self.view_is

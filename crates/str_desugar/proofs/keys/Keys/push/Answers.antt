@@ -11,7 +11,9 @@ invariant_of-self c =
     let words = c.set.new.self.words in
     let ks = c.self.inside.distinct.keys in
     let P : List HeadKey → Type 0 = λ ls. AreKeysMarked words (ks ++ ls) in
-    subst P (sym c.in_err-push.ensures.items) (keys_marked_on c.self.inside.marks.words words c.set.ensures.kept (ks ++ c.self.inside.others.items) c.self.invariant)
+    subst P (sym c.in_err-push.ensures.items)
+    (keys_marked_on c.self.inside.marks.words words c.set.ensures.kept (ks ++ c.self.inside.others.items)
+    c.self.invariant)
 
 pub invariant_of-self-then-not-is_empty : goal.invariant_of-self-then-not-is_empty
 invariant_of-self-then-not-is_empty c =
@@ -19,7 +21,8 @@ invariant_of-self-then-not-is_empty c =
     let ks = c.self.inside.distinct.keys in
     let ls = c.self.inside.others.items in
     let P : List HeadKey → Type 0 = λ ls. AreKeysMarked words (ks ++ ls) in
-    let marked : has_mark words (mark_of c.args.key.name) ≡ true = ap (λ k. has_mark words (mark_of k.name)) (sym c.key.view_is) ∙ c.set.ensures.added in
+    let marked : has_mark words (mark_of c.args.key.name) ≡ true =
+    ap (λ k. has_mark words (mark_of k.name)) (sym c.key.view_is) ∙ c.set.ensures.added in
     let before = keys_marked_on c.self.inside.marks.words words c.set.ensures.kept (ks ++ ls) c.self.invariant in
     subst P (sym c.in_ok-push.ensures.items) (keys_marked_more words ks ls c.args.key before marked)
 
@@ -28,7 +31,9 @@ invariant_of-self-in_err-insert c =
     let words = c.set.new.self.words in
     let ls = c.self.inside.others.items in
     let P : List HeadKey → Type 0 = λ ks. AreKeysMarked words (ks ++ ls) in
-    subst P (sym c.in_err-insert.ensures.err) (keys_marked_on c.self.inside.marks.words words c.set.ensures.kept (c.self.inside.distinct.keys ++ ls) c.self.invariant)
+    subst P (sym c.in_err-insert.ensures.err)
+    (keys_marked_on c.self.inside.marks.words words c.set.ensures.kept (c.self.inside.distinct.keys ++ ls)
+    c.self.invariant)
 
 pub invariant_of-self-2 : goal.invariant_of-self-2
 invariant_of-self-2 c =
@@ -36,6 +41,8 @@ invariant_of-self-2 c =
     let ks = c.self.inside.distinct.keys in
     let ls = c.self.inside.others.items in
     let P : List HeadKey → Type 0 = λ ks. AreKeysMarked words (ks ++ ls) in
-    let marked : has_mark words (mark_of c.args.key.name) ≡ true = ap (λ k. has_mark words (mark_of k.name)) (sym c.key.view_is) ∙ c.set.ensures.added in
+    let marked : has_mark words (mark_of c.args.key.name) ≡ true =
+    ap (λ k. has_mark words (mark_of k.name)) (sym c.key.view_is) ∙ c.set.ensures.added in
     let before = keys_marked_on c.self.inside.marks.words words c.set.ensures.kept (ks ++ ls) c.self.invariant in
-    subst P (sym c.in_ok-insert.ensures.keys) (keys_marked_inserted words ks ls c.args.key (list_any (same_numbers c.args.key) ks) before marked)
+    subst P (sym c.in_ok-insert.ensures.keys)
+    (keys_marked_inserted words ks ls c.args.key (list_any (same_numbers c.args.key) ks) before marked)

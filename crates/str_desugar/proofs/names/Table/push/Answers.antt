@@ -8,12 +8,15 @@ pub invariant_of-self : goal.invariant_of-self
 invariant_of-self c =
     let words = c.set.new.self.words in
     let P : List _ → Type 0 = λ l. AreMarked words l in
-    subst P (sym c.in_err-push.ensures.unchanged) (marked_on c.self.inside.marks.words words c.set.ensures.kept (held_names c.self.inside.held) c.self.invariant)
+    subst P (sym c.in_err-push.ensures.unchanged)
+    (marked_on c.self.inside.marks.words words c.set.ensures.kept (held_names c.self.inside.held) c.self.invariant)
 
 pub invariant_of-self-2 : goal.invariant_of-self-2
 invariant_of-self-2 c =
     let words = c.set.new.self.words in
     let P : List _ → Type 0 = λ l. AreMarked words l in
     let marked = ap (λ n. has_mark words (mark_of n)) c.in_ok-copy.ensures ∙ c.set.ensures.added in
-    let before = marked_on c.self.inside.marks.words words c.set.ensures.kept (held_names c.self.inside.held) c.self.invariant in
-    subst P (sym c.in_ok-push.ensures.pushed) (marked_more words (held_names c.self.inside.held) c.in_ok-copy.copy before marked)
+    let before = marked_on c.self.inside.marks.words words c.set.ensures.kept (held_names c.self.inside.held)
+    c.self.invariant in
+    subst P (sym c.in_ok-push.ensures.pushed)
+    (marked_more words (held_names c.self.inside.held) c.in_ok-copy.copy before marked)

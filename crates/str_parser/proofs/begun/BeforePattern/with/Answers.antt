@@ -7,4 +7,5 @@ pub returns-in-Match : goal.returns-in-Match
 returns-in-Match c = whole_next _ _ _ _ _ c.whole.ensures (λ k. rw (reads_match, c.in-Match.is) (match_ends k _ _))
 
 pub returns-in-Build : goal.returns-in-Build
-returns-in-Build c = whole_next _ _ _ _ _ c.whole-in-Build.ensures (λ k. rw (reads_build, c.in-Build.is) (build_ends k _ _))
+returns-in-Build c = whole_next _ _ _ _ _ c.whole-in-Build.ensures
+    (λ k. rw (reads_build, c.in-Build.is) (build_ends k _ _))

@@ -3,7 +3,7 @@ use Rattle.core_lang.specs.Named.{brought}
 use Rattle.str_desugar.specs.Frames.{variable_at}
 use Rattle.str_desugar.specs.Layers.{layers_of}
 use Rattle.str_desugar.proofs.ScopeLaws.{further_out}
-use Rattle.str_desugar.proofs.scopes.Scopes.brought.Given as goal
+use Rattle.str_desugar.proofs.scopes.Scopes.equation_coordinate.Given as goal
 
 abbrev pub invariant-loop-outer : goal.invariant-loop-outer
 invariant-loop-outer l =

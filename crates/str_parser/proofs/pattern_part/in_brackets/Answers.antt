@@ -7,7 +7,7 @@ use Rattle.str_parser.proofs.PartFaults.{syntax_inner, no_listed}
 use Rattle.str_parser.specs.declared.begun.BeforeInner.TheVariants as I
 use Rattle.str_parser.specs.Begun.{HasInner}
 use Rattle.str_syntax.specs.Views.{pattern_of}
-use Rattle.str_parser.proofs.pattern_part.bracketed.Goals as goal
+use Rattle.str_parser.proofs.pattern_part.in_brackets.Goals as goal
 
 pub returns-in-Some : goal.returns-in-Some
 returns-in-Some c = λ m k. rw c.in-Some.ensures (list_more m k _ _ _ _ c.in_ok-push.ensures.items)
@@ -16,7 +16,11 @@ pub returns-in-Some-after : goal.returns-in-Some-after
 returns-in-Some-after c = λ m k. rw c.in-Some-after.ensures (list_bar m k _ _ _ _ c.in_ok-push.ensures.items)
 
 pub returns-in_default-after-2 : goal.returns-in_default-after-2
-returns-in_default-after-2 c = λ m. syntax_inner (HasInner (I.Bracketed c.args.done) (pattern_of c.args.part)) m _ _ c.syntax.ensures (λ k. no_listed m k c.args.done (pattern_of c.args.part) _ c.in_default.ensures c.in_default-after.ensures c.in_default-after-2.ensures)
+returns-in_default-after-2 c = λ m. syntax_inner (HasInner (I.Bracketed c.args.done) (pattern_of c.args.part))
+    m _ _ c.syntax.ensures (λ k. no_listed m k c.args.done (pattern_of c.args.part)
+    _ c.in_default.ensures c.in_default-after.ensures c.in_default-after-2.ensures)
 
 pub returns : goal.returns
-returns c = λ m k. rw c.in-Some-after-2.ensures (list_end m k _ _ _ _ (reads_list _ None ∙ ap (λ qs. list qs no_pattern) (pushed_last c.args.done c.push.new.self c.args.part c.in_ok-push.ensures.items)))
+returns c = λ m k. rw c.in-Some-after-2.ensures
+    (list_end m k _ _ _ _ (reads_list _ None ∙
+    ap (λ qs. list qs no_pattern) (pushed_last c.args.done c.push.new.self c.args.part c.in_ok-push.ensures.items)))

@@ -1,6 +1,6 @@
 use Rattle.std.proofs.Common.{length, drop}
 use Rattle.str_lexer.proofs.QuotedLaws.{ReadItems}
-use Rattle.str_lexer.proofs.quoted.quoted.Given as goal
+use Rattle.str_lexer.proofs.quoted.quoted_text.Given as goal
 
 abbrev pub invariant-loop-byte : goal.invariant-loop-byte
 invariant-loop-byte l = ReadItems (drop 1 l.text) l.bytes.items l.rest

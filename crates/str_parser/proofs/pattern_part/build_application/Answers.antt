@@ -6,7 +6,7 @@ use Rattle.str_parser.specs.Lexemes.{build_part, first_begins}
 use Rattle.str_parser.proofs.InnerLaws.{applied_whole, applied_then}
 use Rattle.str_parser.specs.Begun.{GoesApplied}
 use Rattle.str_parser.proofs.PartFaults.{syntax_inner, no_applied}
-use Rattle.str_parser.proofs.pattern_part.applied.Goals as goal
+use Rattle.str_parser.proofs.pattern_part.build_application.Goals as goal
 
 pub returns-in_default : goal.returns-in_default
 returns-in_default c = λ m. syntax_inner (GoesApplied (strategy_of c.args.applied)) m _ _ c.syntax.ensures
@@ -20,4 +20,5 @@ returns-then-begins_pattern c =
 pub returns : goal.returns
 returns c =
     let b : first_begins build_part c.in-Some.rest ≡ false = sym c.begins_pattern.ensures ∙ c.if-begins_pattern.false in
-    λ m k. rw c.in-Some.ensures (applied_whole m k _ _ _ (reads_applied _ ∙ ap (λ s. applied (strategy_of s)) c.in_ok-applied.ensures.ok) b)
+    λ m k. rw c.in-Some.ensures
+    (applied_whole m k _ _ _ (reads_applied _ ∙ ap (λ s. applied (strategy_of s)) c.in_ok-applied.ensures.ok) b)
