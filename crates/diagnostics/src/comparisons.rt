@@ -28,7 +28,7 @@ pub(crate) fn comparison(site: &Site<'_>) -> Option<Advice> {
     }
 }
 
-// The comparison whose sign begins at the site, in a build, if there are blanks around the sign.
+/// The comparison whose sign begins at the site, in a build, if there are blanks around the sign.
 fn built_at(site: &Site<'_>) -> Option<Advice> {
     if touches_next(site.tokens, site.index.checked_sub(1)?) {
         None
@@ -37,7 +37,7 @@ fn built_at(site: &Site<'_>) -> Option<Advice> {
     }
 }
 
-// The comparison whose sign begins at an index, if a condition begins with the name or integer in front of it.
+/// The comparison whose sign begins at an index, if a condition begins with the name or integer in front of it.
 fn condition_at(site: &Site<'_>, sign: usize) -> Option<Advice> {
     if begins_condition(site.tokens, sign.checked_sub(1)?) {
         comparison_at(site, sign)
@@ -46,7 +46,7 @@ fn condition_at(site: &Site<'_>, sign: usize) -> Option<Advice> {
     }
 }
 
-// The comparison of a name by a `>` or `>=`, if the name is a variable or the other side is an integer.
+/// The comparison of a name by a `>` or `>=`, if the name is a variable or the other side is an integer.
 fn greater_comparison(site: &Site<'_>, last: usize) -> Option<Advice> {
     let next = site.index.saturating_add(1);
     let after = next.saturating_add(1);
@@ -58,7 +58,7 @@ fn greater_comparison(site: &Site<'_>, last: usize) -> Option<Advice> {
     }
 }
 
-// The comparison of an integer in place of a strategy, on either side of the sign.
+/// The comparison of an integer in place of a strategy, on either side of the sign.
 fn integer_comparison(site: &Site<'_>, last: usize) -> Option<Advice> {
     if !is_integer(site.tokens, site.index) {
         return None;
@@ -69,7 +69,7 @@ fn integer_comparison(site: &Site<'_>, last: usize) -> Option<Advice> {
     }
 }
 
-// The comparison of two names by a `<`, if one of them is a variable.
+/// The comparison of two names by a `<`, if one of them is a variable.
 fn variable_comparison(site: &Site<'_>, last: usize) -> Option<Advice> {
     let sign = last.checked_sub(1)?;
     if is_variable(site, sign.checked_sub(1)?) || is_variable(site, last) {
@@ -79,7 +79,7 @@ fn variable_comparison(site: &Site<'_>, last: usize) -> Option<Advice> {
     }
 }
 
-// The comparison whose sign begins at an index. After `==` and `!=` any term may come, and after the others what ends a comparison.
+/// The comparison whose sign begins at an index. After `==` and `!=` any term may come, and after the others what ends a comparison.
 fn comparison_at(site: &Site<'_>, sign: usize) -> Option<Advice> {
     let is_long = site.touches(sign, Mark::Equals);
     let last = if is_long {
@@ -101,7 +101,7 @@ fn comparison_at(site: &Site<'_>, sign: usize) -> Option<Advice> {
     }
 }
 
-// Whether there is no blank between the token at an index and the next one.
+/// Whether there is no blank between the token at an index and the next one.
 fn touches_next(tokens: &[Token], index: usize) -> bool {
     match (tokens.get(index), tokens.get(index.saturating_add(1))) {
         (Some(token), Some(next)) => token.to == next.from,
@@ -109,7 +109,7 @@ fn touches_next(tokens: &[Token], index: usize) -> bool {
     }
 }
 
-// Whether a name or an integer is at an index, and after it what comes after a whole comparison.
+/// Whether a name or an integer is at an index, and after it what comes after a whole comparison.
 fn ends(site: &Site<'_>, operand: usize) -> bool {
     if !is_operand(site.tokens, operand) {
         return false;
@@ -127,7 +127,7 @@ fn ends(site: &Site<'_>, operand: usize) -> bool {
     }
 }
 
-// Whether a name or an integer is at an index, and in front of it what comes before a condition.
+/// Whether a name or an integer is at an index, and in front of it what comes before a condition.
 fn begins_condition(tokens: &[Token], operand: usize) -> bool {
     if !is_operand(tokens, operand) {
         return false;
@@ -140,12 +140,12 @@ fn begins_condition(tokens: &[Token], operand: usize) -> bool {
     }
 }
 
-// Whether the token at an index is a name or an integer.
+/// Whether the token at an index is a name or an integer.
 fn is_operand(tokens: &[Token], index: usize) -> bool {
     is_integer(tokens, index) || tokens.get(index).is_some_and(|token| is_name(token))
 }
 
-// Whether the token at an index is an integer.
+/// Whether the token at an index is an integer.
 fn is_integer(tokens: &[Token], index: usize) -> bool {
     matches!(
         tokens.get(index).map(|token| &token.kind),
@@ -153,7 +153,7 @@ fn is_integer(tokens: &[Token], index: usize) -> bool {
     )
 }
 
-// Whether the name at an index stands in a pattern, too, between it and the name of a definition in front of it.
+/// Whether the name at an index stands in a pattern, too, between it and the name of a definition in front of it.
 fn is_variable(site: &Site<'_>, named: usize) -> bool {
     let Some(name) = site.tokens.get(named) else {
         return false;
@@ -172,7 +172,7 @@ fn is_variable(site: &Site<'_>, named: usize) -> bool {
     false
 }
 
-// Whether the name at an index is a variable of a pattern.
+/// Whether the name at an index is a variable of a pattern.
 fn is_in_pattern(tokens: &[Token], index: usize) -> bool {
     match near_context(tokens, index) {
         Some(context) => {

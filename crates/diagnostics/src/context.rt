@@ -32,7 +32,7 @@ impl Context {
     }
 }
 
-// How many tokens are looked at for what leads to a token.
+/// How many tokens are looked at for what leads to a token.
 const NEAR: usize = 500;
 
 /// What the token at an index belongs to, if the tokens in front of it begin a file; nothing for one of a signature, or if what leads to
@@ -64,21 +64,21 @@ pub(crate) fn near_context(tokens: &[Token], index: usize) -> Option<Context> {
     None
 }
 
-// The way back from a token to what leads to it.
+/// The way back from a token to what leads to it.
 #[derive(Clone, Copy)]
 struct Way {
-    // How many brackets are closed after the place that is reached, and opened before it.
+    /// How many brackets are closed after the place that is reached, and opened before it.
     depth: usize,
-    // Whether a bracket that is open around the token is passed.
+    /// Whether a bracket that is open around the token is passed.
     is_part: bool,
-    // Whether a comma or a bar is passed since.
+    /// Whether a comma or a bar is passed since.
     is_parted: bool,
-    // Whether a bar is.
+    /// Whether a bar is.
     is_after_bar: bool,
 }
 
 impl Way {
-    // Goes on to the token at an index, and returns what it leads to. It may be right before the one from which the way begins.
+    /// Goes on to the token at an index, and returns what it leads to. It may be right before the one from which the way begins.
     fn step(&mut self, tokens: &[Token], at: usize, is_last: bool) -> Option<Role> {
         let token = tokens.get(at)?;
         if closes(token) {
@@ -100,7 +100,7 @@ impl Way {
         }
     }
 
-    // Passes an opening bracket. What comes after a bar between parentheses is built.
+    /// Passes an opening bracket. What comes after a bar between parentheses is built.
     fn pass_bracket(&mut self, token: &Token) -> Option<Role> {
         if self.depth > 0 {
             self.depth = self.depth.saturating_sub(1);
@@ -114,7 +114,7 @@ impl Way {
     }
 }
 
-// What the token at an index leads to, which is no bracket, comma or bar; nothing if it belongs to what comes after it.
+/// What the token at an index leads to, which is no bracket, comma or bar; nothing if it belongs to what comes after it.
 fn led_by(tokens: &[Token], at: usize, is_last: bool) -> Option<Role> {
     match &tokens.get(at)?.kind {
         TokenKind::Name | TokenKind::Integer(_) | TokenKind::Quoted(_) => None,
@@ -128,7 +128,7 @@ fn led_by(tokens: &[Token], at: usize, is_last: bool) -> Option<Role> {
     }
 }
 
-// Whether the last section that begins before a token is a signature.
+/// Whether the last section that begins before a token is a signature.
 fn is_in_signature(tokens: &[Token], index: usize) -> bool {
     for at in (0..index.min(tokens.len())).rev() {
         match &tokens[at].kind {

@@ -4,7 +4,7 @@ ghost use Rattle.std.specs.Prelude.{◌≤◌, ◌<◌, length, MatchOption};
 use crate::shown::{Shown, is_continuation};
 use std::fmt;
 
-// The most bytes of the line that are shown in front of the place.
+/// The most bytes of the line that are shown in front of the place.
 const FRONT: usize = 48;
 
 /// A place of a text, and what of its line is shown: 72 bytes at most. Has a fixed size, and takes no memory.
@@ -13,12 +13,12 @@ pub struct Excerpt {
     line: usize,
     column: usize,
     shown: Shown,
-    // How many of the characters that are shown stand in front of the place.
+    /// How many of the characters that are shown stand in front of the place.
     front: usize,
     is_cut: bool,
 }
 
-// Returns the line that the text begins with, without what ends it.
+/// Returns the line that the text begins with, without what ends it.
 fn first_line(text: &[u8]) -> &[u8] {
     let line = match text.iter().position(|byte| *byte == b'\n') {
         Some(end) => &text[..end],
@@ -30,7 +30,7 @@ fn first_line(text: &[u8]) -> &[u8] {
     }
 }
 
-// Returns the number of line line_feeds.
+/// Returns the number of line line_feeds.
 pub fn line_feeds(text: &[u8]) -> usize {
     let mut count: usize = 0;
     for byte in text {
@@ -41,7 +41,7 @@ pub fn line_feeds(text: &[u8]) -> usize {
     count
 }
 
-// Returns how many bytes stand after the last line feed.
+/// Returns how many bytes stand after the last line feed.
 pub(crate) fn bytes_in_line(text: &[u8]) -> usize {
     let mut count: usize = 0;
     for byte in text {
@@ -54,7 +54,7 @@ pub(crate) fn bytes_in_line(text: &[u8]) -> usize {
     count
 }
 
-// Returns the first offset of the line from this one on at which no character of UTF-8 is cut in two.
+/// Returns the first offset of the line from this one on at which no character of UTF-8 is cut in two.
 fn boundary_after(line: &[u8], offset: usize) -> usize {
     let rest = &line[offset.min(line.len())..];
     let skipped = rest

@@ -66,7 +66,7 @@ pub(crate) fn add_group_warnings(
     Ok(())
 }
 
-// An alternative of a definition that comes before another one: the first that always succeeds and, if there is none, the last.
+/// An alternative of a definition that comes before another one: the first that always succeeds and, if there is none, the last.
 #[derive(Clone, Copy)]
 struct Earlier<'a> {
     alternative: Alternative<'a>,
@@ -74,7 +74,7 @@ struct Earlier<'a> {
 }
 
 impl<'a> Earlier<'a> {
-    // It is the only one.
+    /// It is the only one.
     fn first(alternative: &Alternative<'a>) -> Earlier<'a> {
         Earlier {
             alternative: *alternative,
@@ -82,7 +82,7 @@ impl<'a> Earlier<'a> {
         }
     }
 
-    // The one of these and the next.
+    /// The one of these and the next.
     fn with(self, next: &Alternative<'a>) -> Earlier<'a> {
         if self.always_succeeds {
             self
@@ -92,14 +92,14 @@ impl<'a> Earlier<'a> {
     }
 }
 
-// Whether the definition with this first alternative may be needed without a call.
+/// Whether the definition with this first alternative may be needed without a call.
 fn is_needed(definitions: &Definitions<'_>, first: &Alternative<'_>) -> bool {
     let name = first.head().name.bytes();
     let is_applied = name == definitions.main || name == b"main".as_slice();
     !definitions.is_sound || is_applied || first.offset() < definitions.library
 }
 
-// Adds that a definition is never called.
+/// Adds that a definition is never called.
 fn add_uncalled(
     alloc: Global,
     first: &Alternative<'_>,
@@ -116,7 +116,7 @@ fn add_uncalled(
     Ok(())
 }
 
-// Adds the warning about an alternative that comes after another one, if there is one.
+/// Adds the warning about an alternative that comes after another one, if there is one.
 fn add_later(
     alloc: Global,
     earlier: &Earlier<'_>,
@@ -141,7 +141,7 @@ fn add_later(
     Ok(())
 }
 
-// Whether the alternative is a rule that never fails.
+/// Whether the alternative is a rule that never fails.
 fn always_succeeds(alternative: &Alternative<'_>) -> bool {
     let DefinitionForm::Rule(definition) = alternative.form else {
         return false;
@@ -153,7 +153,7 @@ fn always_succeeds(alternative: &Alternative<'_>) -> bool {
     never_fails(&definition.rule, terms)
 }
 
-// Whether a rule with these term parameters matches each term, and can always build its right side.
+/// Whether a rule with these term parameters matches each term, and can always build its right side.
 fn never_fails(rule: &Rule, terms: &[Name]) -> bool {
     if rule.condition.is_some() {
         return false;
@@ -171,7 +171,7 @@ fn is_among(names: &[Name], name: &Name) -> bool {
     names.iter().any(|other| other.bytes() == name.bytes())
 }
 
-// Whether a build always has an instance where this variable and these parameters have values.
+/// Whether a build always has an instance where this variable and these parameters have values.
 #[cycle(instances)]
 fn has_instance(source: &Pattern, variable: Option<&Name>, terms: &[Name]) -> bool {
     match source {

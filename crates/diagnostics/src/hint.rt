@@ -76,7 +76,7 @@ pub enum NameHint {
     },
 }
 
-// The ending of a word that is counted.
+/// The ending of a word that is counted.
 fn plural(number: usize) -> &'static str {
     if number == 1 { "" } else { "s" }
 }

@@ -28,7 +28,7 @@ pub fn push_cut(bytes: &[u8], most: usize, line: &mut Vec<u8>) -> Result<(), All
     line.extend_from_slice(b"..")
 }
 
-// Whether a character of several bytes begins with the byte, in UTF-8.
+/// Whether a character of several bytes begins with the byte, in UTF-8.
 fn begins_character(byte: u8) -> bool {
     byte >= 0xC0
 }

@@ -232,18 +232,18 @@ impl<'a> Listing<'a> {
         Ok(found)
     }
 
-    // The phrase that begins with the token at an index.
+    /// The phrase that begins with the token at an index.
     fn phrase_from(&self, first: usize) -> Phrase {
         let after = end_of_phrase(&self.tokens, first);
         Phrase { first, after }
     }
 
-    // The indexes of the tokens from a head up to the next one.
+    /// The indexes of the tokens from a head up to the next one.
     fn tokens_of(&self, head: usize) -> Range<usize> {
         self.first_token_of(head)..self.first_token_of(head.saturating_add(1))
     }
 
-    // The index of the token that a head is, or of the end where there is no such head.
+    /// The index of the token that a head is, or of the end where there is no such head.
     fn first_token_of(&self, head: usize) -> usize {
         match self.heads.get(head) {
             Some(head) => self.tokens.partition_point(|token| token.from < head.from),
@@ -251,7 +251,7 @@ impl<'a> Listing<'a> {
         }
     }
 
-    // Whether the token at an index is a name that no parenthesis follows.
+    /// Whether the token at an index is a name that no parenthesis follows.
     fn is_variable(&self, index: usize) -> bool {
         match self.tokens.get(index) {
             Some(token) => is_name(token) && !next_is(&self.tokens, index, Mark::OpenParenthesis),
@@ -259,7 +259,7 @@ impl<'a> Listing<'a> {
         }
     }
 
-    // The index of the token that begins with this byte.
+    /// The index of the token that begins with this byte.
     fn token_at(&self, offset: usize) -> Option<usize> {
         let index = self.tokens.partition_point(|token| token.from < offset);
         let token = self.tokens.get(index)?;
@@ -271,7 +271,7 @@ impl<'a> Listing<'a> {
     }
 }
 
-// The heads of the rules and definitions of the file.
+/// The heads of the rules and definitions of the file.
 fn heads_of(alloc: Global, file: &File) -> Result<Vec<Head>, AllocError> {
     let mut heads = Vec::new(alloc);
     for section in &file.sections {

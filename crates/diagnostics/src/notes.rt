@@ -50,24 +50,24 @@ pub struct RunNotes {
     used: Option<Used>,
     oversize: Option<OversizeTerm>,
     wants_explanation: bool,
-    // The texts of a run that may have to be explained.
+    /// The texts of a run that may have to be explained.
     definitions: Option<Vec<u8>>,
     term: Option<Vec<u8>>,
-    // How many bytes of the definitions, from the first on, are a library.
+    /// How many bytes of the definitions, from the first on, are a library.
     library: usize,
     explanation: Option<Explanation>,
 }
 
-// What was found in definitions while a program was made of them.
+/// What was found in definitions while a program was made of them.
 #[derive(Drop)]
 pub struct Found {
-    // What could stand at the place of a fault of syntax.
+    /// What could stand at the place of a fault of syntax.
     pub expected: Option<Expected>,
     pub checks: Notes,
 }
 
 impl Found {
-    // Nothing was found.
+    /// Nothing was found.
     pub fn none() -> Found {
         Found {
             expected: None,
@@ -104,7 +104,7 @@ impl RunNotes {
         notes
     }
 
-    // Drops what was noted before.
+    /// Drops what was noted before.
     pub fn begin(&mut self) {
         let wants_explanation = self.wants_explanation;
         *self = RunNotes::none();
@@ -156,59 +156,59 @@ impl RunNotes {
         self.explanation.as_ref()
     }
 
-    // Notes the size of a term that did not fit.
+    /// Notes the size of a term that did not fit.
     pub fn note_oversize(&mut self, size: Option<OversizeTerm>) {
         self.oversize = size;
     }
 
-    // Keeps the text of the definitions, if a run is to be explained.
+    /// Keeps the text of the definitions, if a run is to be explained.
     pub fn keep_definitions(&mut self, text: Vec<u8>) {
         if self.wants_explanation {
             self.definitions = Some(text);
         }
     }
 
-    // Keeps the text of the term, if a run is to be explained.
+    /// Keeps the text of the term, if a run is to be explained.
     pub fn keep_term(&mut self, text: Vec<u8>) {
         if self.wants_explanation {
             self.term = Some(text);
         }
     }
 
-    // Notes how many bytes of the definitions, from the first on, are a library.
+    /// Notes how many bytes of the definitions, from the first on, are a library.
     pub fn note_library(&mut self, bytes: usize) {
         self.library = bytes;
     }
 
-    // How many bytes of the definitions, from the first on, are a library.
+    /// How many bytes of the definitions, from the first on, are a library.
     pub fn library(&self) -> usize {
         self.library
     }
 
-    // Hands out the texts that are kept, the definitions first.
+    /// Hands out the texts that are kept, the definitions first.
     pub fn take_texts(&mut self) -> Option<(Vec<u8>, Vec<u8>)> {
         let definitions = self.definitions.take()?;
         let term = self.term.take()?;
         Some((definitions, term))
     }
 
-    // Notes why the run has no result.
+    /// Notes why the run has no result.
     pub fn note_explanation(&mut self, explanation: Explanation) {
         self.explanation = Some(explanation);
     }
 
-    // Notes what the run used.
+    /// Notes what the run used.
     pub fn note_run(&mut self, used: Used) {
         self.used = Some(used);
     }
 
-    // Notes that the term comes after this part of the joined form, and whether a line `#term` ends it.
+    /// Notes that the term comes after this part of the joined form, and whether a line `#term` ends it.
     pub fn begin_term(&mut self, front: &[u8], has_term_line: bool) {
         self.lines_before_term = line_feeds(front);
         self.has_term_line = has_term_line;
     }
 
-    // Notes why these definitions are refused. Where memory for a hint is refused there is none.
+    /// Notes why these definitions are refused. Where memory for a hint is refused there is none.
     pub fn note_definitions(
         &mut self,
         alloc: Global,
@@ -221,7 +221,7 @@ impl RunNotes {
             Fault::Lexical { at } => {
                 let (before, after) = (text_before(text, *at), text_after(text, *at));
                 self.keep(text, *at, no_token_reason(before, after));
-                self.hint = known(lexical_hint(alloc, before, after), primitives);
+                self.hint = usable_hint(lexical_hint(alloc, before, after), primitives);
             }
             Fault::ReservedWord { at } => {
                 let after = text_after(text, *at);
@@ -233,7 +233,7 @@ impl RunNotes {
                 let rest = text_after(text, *at);
                 self.keep(text, *at, syntax_reason(Subject::Definitions, rest, wanted));
                 let hint = syntax_hint(alloc, text, index_of(*at), found.expected);
-                self.hint = known(hint, primitives);
+                self.hint = usable_hint(hint, primitives);
             }
             Fault::Nesting { at } => {
                 self.keep(text, *at, Reason::NestedTooDeeply);
@@ -242,7 +242,7 @@ impl RunNotes {
         }
     }
 
-    // Notes what the checks noted of this fault.
+    /// Notes what the checks noted of this fault.
     fn note_checks(
         &mut self,
         alloc: Global,
@@ -268,12 +268,12 @@ impl RunNotes {
         }
     }
 
-    // Notes that the definitions are too long.
+    /// Notes that the definitions are too long.
     pub fn note_long_definitions(&mut self) {
         self.reason = Some(Reason::DefinitionsTooLong);
     }
 
-    // Notes the first application in this text of a term that the signature does not declare, if memory for the search is there.
+    /// Notes the first application in this text of a term that the signature does not declare, if memory for the search is there.
     pub fn note_undeclared(&mut self, alloc: Global, text: &[u8], signature: &Signature) {
         let Some(application) = undeclared_application(alloc, text, signature) else {
             return;
@@ -287,7 +287,7 @@ impl RunNotes {
         self.keep(text, application.from as u64, reason);
     }
 
-    // Notes why this text of a term is refused.
+    /// Notes why this text of a term is refused.
     pub fn note_term(&mut self, text: &[u8], fault: &Fault) {
         self.subject = Subject::Term;
         match fault {
@@ -317,7 +317,7 @@ impl RunNotes {
         }
     }
 
-    // Notes why a text was refused of which no place is known.
+    /// Notes why a text was refused of which no place is known.
     pub fn note_outcome(&mut self, outcome: &Result<Outcome<Vec<u8>>, Fault>) {
         match outcome {
             Err(Fault::DefsTooLong) => self.note_long_definitions(),
@@ -335,7 +335,7 @@ impl RunNotes {
         }
     }
 
-    // Notes what is wrong at the offset of the text. Where the text ends too early, that is the end of its last line that is not blank.
+    /// Notes what is wrong at the offset of the text. Where the text ends too early, that is the end of its last line that is not blank.
     fn keep(&mut self, text: &[u8], at: u64, reason: Reason) {
         let at = match reason {
             Reason::EndsEarly { .. } => end_of(text),
@@ -346,8 +346,8 @@ impl RunNotes {
     }
 }
 
-// The hint, unless it needs a primitive that there is not.
-fn known(hint: Option<Hint>, primitives: &PrimNames) -> Option<Hint> {
+/// The hint, unless it needs a primitive that there is not.
+fn usable_hint(hint: Option<Hint>, primitives: &PrimNames) -> Option<Hint> {
     let hint = hint?;
     match hint.primitive() {
         Some(name) if !primitives.has(name.as_bytes(), 2) => None,
@@ -355,7 +355,7 @@ fn known(hint: Option<Hint>, primitives: &PrimNames) -> Option<Hint> {
     }
 }
 
-// The byte at which the only call of the unknown primitive begins that is noted.
+/// The byte at which the only call of the unknown primitive begins that is noted.
 fn only_call(alloc: Global, text: &[u8], note: &Note) -> Option<u64> {
     let Detail::UnknownPrimitive { .. } = note.detail() else {
         return None;
@@ -364,19 +364,19 @@ fn only_call(alloc: Global, text: &[u8], note: &Note) -> Option<u64> {
     primitive_place(&tokens, note.name(), 0, 1)
 }
 
-// Whether the text is blank.
+/// Whether the text is blank.
 fn is_blank(text: &[u8]) -> bool {
     text.iter().all(|byte| is_blank_byte(*byte))
 }
 
-// Returns how many bytes the text has without the blanks at its end.
+/// Returns how many bytes the text has without the blanks at its end.
 fn end_of(text: &[u8]) -> usize {
     text.iter()
         .rposition(|byte| !is_blank_byte(*byte))
         .map_or(0, |last| last.saturating_add(1))
 }
 
-// Returns the offset at which the integer begins whose digits the text ends with.
+/// Returns the offset at which the integer begins whose digits the text ends with.
 fn integer_start(text: &[u8]) -> u64 {
     let digits = text
         .iter()
@@ -386,17 +386,17 @@ fn integer_start(text: &[u8]) -> u64 {
     digits.saturating_sub(usize::from(is_negative)) as u64
 }
 
-// Returns the index of the byte at the offset.
+/// Returns the index of the byte at the offset.
 fn index_of(at: u64) -> usize {
     usize::try_from(at).unwrap_or(usize::MAX)
 }
 
-// Returns the text before the offset.
+/// Returns the text before the offset.
 fn text_before(text: &[u8], at: u64) -> &[u8] {
     &text[..index_of(at).min(text.len())]
 }
 
-// Returns the text from the offset on.
+/// Returns the text from the offset on.
 fn text_after(text: &[u8], at: u64) -> &[u8] {
     &text[index_of(at).min(text.len())..]
 }

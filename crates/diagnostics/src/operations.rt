@@ -103,7 +103,7 @@ pub(crate) fn sign_hint(alloc: Global, before: &[u8], after: &[u8]) -> Option<Hi
     operation_hint(&tokens, tokens.len(), operation)
 }
 
-// The tokens of a text, if a file begins with it.
+/// The tokens of a text, if a file begins with it.
 fn beginning(alloc: Global, text: &[u8]) -> Option<Vec<Token>> {
     let tokens = lex(alloc, text).ok()?;
     match parse(alloc, text, &tokens) {
@@ -113,7 +113,7 @@ fn beginning(alloc: Global, text: &[u8]) -> Option<Vec<Token>> {
     }
 }
 
-// What was probably meant by an operator after the tokens up to an index, if a term ends there that is not matched.
+/// What was probably meant by an operator after the tokens up to an index, if a term ends there that is not matched.
 fn operation_hint(tokens: &[Token], index: usize, operation: Operation) -> Option<Hint> {
     let context = context_at(tokens, index)?;
     if context.role == Role::Match || !ends_term(tokens, index.checked_sub(1)?) {
@@ -122,12 +122,12 @@ fn operation_hint(tokens: &[Token], index: usize, operation: Operation) -> Optio
     Some(Hint::Operation { operation, context })
 }
 
-// Whether a term can begin with this byte.
+/// Whether a term can begin with this byte.
 fn begins_operand(byte: u8) -> bool {
     byte.is_ascii_alphanumeric() || matches!(byte, b'_' | b'(' | b'<')
 }
 
-// Whether a term can begin with the token at an index.
+/// Whether a term can begin with the token at an index.
 fn begins_term(tokens: &[Token], index: usize) -> bool {
     match tokens.get(index).map(|token| &token.kind) {
         Some(TokenKind::Name | TokenKind::Integer(_) | TokenKind::Quoted(_)) => true,
@@ -136,7 +136,7 @@ fn begins_term(tokens: &[Token], index: usize) -> bool {
     }
 }
 
-// Whether a term can end with the token at an index.
+/// Whether a term can end with the token at an index.
 fn ends_term(tokens: &[Token], index: usize) -> bool {
     match tokens.get(index).map(|token| &token.kind) {
         Some(TokenKind::Name | TokenKind::Integer(_) | TokenKind::Quoted(_)) => true,
@@ -145,7 +145,7 @@ fn ends_term(tokens: &[Token], index: usize) -> bool {
     }
 }
 
-// Whether the token at an index is an integer or a text.
+/// Whether the token at an index is an integer or a text.
 fn is_literal(tokens: &[Token], index: usize) -> bool {
     matches!(
         tokens.get(index).map(|token| &token.kind),
@@ -153,7 +153,7 @@ fn is_literal(tokens: &[Token], index: usize) -> bool {
     )
 }
 
-// Whether the token at an index is a text.
+/// Whether the token at an index is a text.
 fn is_text(tokens: &[Token], index: usize) -> bool {
     matches!(
         tokens.get(index).map(|token| &token.kind),

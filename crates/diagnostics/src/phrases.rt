@@ -66,7 +66,7 @@ pub(crate) fn first_of_pattern(tokens: &[Token], named: usize) -> usize {
     }
 }
 
-// Where the pattern begins in which a token is the first name. What an application `<s> p` in front of it has is passed over.
+/// Where the pattern begins in which a token is the first name. What an application `<s> p` in front of it has is passed over.
 fn first_before(tokens: &[Token], named: usize) -> usize {
     let mut depth: usize = 0;
     for index in (0..named.min(tokens.len())).rev() {
@@ -82,7 +82,7 @@ fn first_before(tokens: &[Token], named: usize) -> usize {
     named
 }
 
-// Where the pattern begins to which the token at an index leads, if a token after it belongs to that pattern.
+/// Where the pattern begins to which the token at an index leads, if a token after it belongs to that pattern.
 fn led_by(tokens: &[Token], index: usize, named: usize) -> Option<usize> {
     let first = match &tokens.get(index)?.kind {
         TokenKind::Mark(Mark::Question | Mark::Exclamation) => index,
@@ -107,7 +107,7 @@ pub(crate) fn is_of_scope(tokens: &[Token], colon: usize) -> bool {
     }
 }
 
-// Whether a token can stand in a pattern in front of its first name that is in no application, or is the end of `<s>`.
+/// Whether a token can stand in a pattern in front of its first name that is in no application, or is the end of `<s>`.
 fn is_inside(token: &Token) -> bool {
     match &token.kind {
         TokenKind::Name | TokenKind::Integer(_) | TokenKind::Quoted(_) => true,
@@ -118,7 +118,7 @@ fn is_inside(token: &Token) -> bool {
     }
 }
 
-// How many `<..>` stand open in front of a token, if this many do after it and the tokens are read backwards.
+/// How many `<..>` stand open in front of a token, if this many do after it and the tokens are read backwards.
 fn depth_before(depth: usize, token: &Token) -> usize {
     if is_mark(token, Mark::Greater) {
         depth.saturating_add(1)
@@ -129,7 +129,7 @@ fn depth_before(depth: usize, token: &Token) -> usize {
     }
 }
 
-// The index after the bracket that closes the one at an index.
+/// The index after the bracket that closes the one at an index.
 fn after_bracket(tokens: &[Token], first: usize) -> usize {
     let mut depth: usize = 0;
     for index in first..tokens.len() {
@@ -169,7 +169,7 @@ pub(crate) fn end_of_phrase(tokens: &[Token], first: usize) -> usize {
     tokens.len()
 }
 
-// Whether a pattern can begin with the token at an index.
+/// Whether a pattern can begin with the token at an index.
 fn begins_pattern(tokens: &[Token], index: usize) -> bool {
     match tokens.get(index).map(|token| &token.kind) {
         Some(TokenKind::Name | TokenKind::Integer(_) | TokenKind::Quoted(_)) => true,
@@ -179,7 +179,7 @@ fn begins_pattern(tokens: &[Token], index: usize) -> bool {
     }
 }
 
-// Whether a phrase in which no bracket is open goes on after the token at an index.
+/// Whether a phrase in which no bracket is open goes on after the token at an index.
 fn goes_on(tokens: &[Token], index: usize) -> bool {
     let is_annotated = next_is(tokens, index, Mark::OpenBrace);
     match tokens.get(index).map(|token| &token.kind) {

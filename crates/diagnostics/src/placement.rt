@@ -54,7 +54,7 @@ pub(crate) fn placement_advice(site: &Site<'_>, keyword: Keyword) -> Option<Advi
     None
 }
 
-// Whether strategies begin with the keyword, and patterns never do.
+/// Whether strategies begin with the keyword, and patterns never do.
 fn begins_strategy(keyword: Keyword) -> bool {
     matches!(
         keyword,
@@ -72,7 +72,7 @@ fn begins_strategy(keyword: Keyword) -> bool {
     )
 }
 
-// The index of the `=` or `:` of the definition in which the token at fault seems to be.
+/// The index of the `=` or `:` of the definition in which the token at fault seems to be.
 fn sign_before(site: &Site<'_>) -> Option<usize> {
     for name in (0..site.index.min(site.tokens.len())).rev() {
         if !is_name(&site.tokens[name]) {

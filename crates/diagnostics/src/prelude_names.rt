@@ -5,7 +5,7 @@ pub(crate) fn is_in_prelude(name: &[u8]) -> bool {
     NAMES.iter().any(|known| known.as_bytes() == name)
 }
 
-// In the order of their bytes. Names that end in an underscore are not for use by programs.
+/// In the order of their bytes. Names that end in an underscore are not for use by programs.
 const NAMES: &[&str] = &[
     "Fst",
     "Snd",

@@ -17,7 +17,7 @@ pub enum Wanted {
 }
 
 impl Wanted {
-    // What could stand there, as a list, or the rule that the token breaks.
+    /// What could stand there, as a list, or the rule that the token breaks.
     fn words(&self) -> &'static str {
         match self {
             Wanted::InDefinitions(expected) => expected.words(),
@@ -25,7 +25,7 @@ impl Wanted {
         }
     }
 
-    // Whether that is a rule.
+    /// Whether that is a rule.
     fn is_rule(&self) -> bool {
         match self {
             Wanted::InDefinitions(expected) => expected.is_rule(),
@@ -80,7 +80,7 @@ pub enum Reason {
     Checked(Note),
 }
 
-// Writes a token between quotes, or the number of a byte that cannot be shown.
+/// Writes a token between quotes, or the number of a byte that cannot be shown.
 fn write_token<W: fmt::Write>(token: &Shown, f: &mut fmt::Formatter<W>) -> fmt::Result {
     match token.hidden() {
         Some(byte) => write!(f, "byte 0x{byte:02x}"),
@@ -88,7 +88,7 @@ fn write_token<W: fmt::Write>(token: &Shown, f: &mut fmt::Formatter<W>) -> fmt::
     }
 }
 
-// Writes what could stand at a place, or which rule is broken there, where that is known.
+/// Writes what could stand at a place, or which rule is broken there, where that is known.
 fn write_wanted<W: fmt::Write>(wanted: Option<Wanted>, f: &mut fmt::Formatter<W>) -> fmt::Result {
     match wanted {
         Some(wanted) if wanted.is_rule() => write!(f, ": {}", wanted.words()),
@@ -97,7 +97,7 @@ fn write_wanted<W: fmt::Write>(wanted: Option<Wanted>, f: &mut fmt::Formatter<W>
     }
 }
 
-// Writes that an application with this number of parts is not declared, and with which number its name is.
+/// Writes that an application with this number of parts is not declared, and with which number its name is.
 fn write_undeclared<W: fmt::Write>(
     name: &Shown,
     parts: usize,
@@ -142,7 +142,7 @@ impl fmt::Display for Reason {
 }
 
 impl Reason {
-    // What is said where no piece of the text is named.
+    /// What is said where no piece of the text is named.
     fn words(&self) -> &'static str {
         match self {
             Reason::OpenComment => "the comment is not closed",
@@ -173,7 +173,7 @@ impl Reason {
     }
 }
 
-// Whether a name of such a text may go on with the byte.
+/// Whether a name of such a text may go on with the byte.
 fn is_in_name(subject: Subject, byte: u8) -> bool {
     match subject {
         Subject::Definitions => {
@@ -183,7 +183,7 @@ fn is_in_name(subject: Subject, byte: u8) -> bool {
     }
 }
 
-// Returns how many bytes of the text belong to the quoted text that it begins with.
+/// Returns how many bytes of the text belong to the quoted text that it begins with.
 fn quoted_length(text: &[u8]) -> usize {
     let mut is_escaped = true;
     for (index, byte) in text.iter().enumerate() {
@@ -195,7 +195,7 @@ fn quoted_length(text: &[u8]) -> usize {
     text.len()
 }
 
-// Shows the token or word that the text begins with, or its first byte.
+/// Shows the token or word that the text begins with, or its first byte.
 fn token_of(subject: Subject, text: &[u8]) -> Shown {
     let length = match text.first() {
         Some(b'"') => quoted_length(text),
@@ -214,7 +214,7 @@ fn token_of(subject: Subject, text: &[u8]) -> Shown {
     Shown::new(&text[..length.min(text.len())])
 }
 
-// Returns what is wrong with the quoted text that the text begins with.
+/// Returns what is wrong with the quoted text that the text begins with.
 fn quoted_text_reason(text: &[u8]) -> Reason {
     let mut is_escaped = false;
     for byte in text.iter().skip(1) {
@@ -235,13 +235,13 @@ fn quoted_text_reason(text: &[u8]) -> Reason {
     Reason::OpenText
 }
 
-// Whether a line ends after `#term`, with which the text begins.
+/// Whether a line ends after `#term`, with which the text begins.
 fn ends_term_line(text: &[u8]) -> bool {
     let rest = text.strip_prefix(b"#term").unwrap_or(text);
     rest.is_empty() || rest.starts_with(b"\n") || rest.starts_with(b"\r\n")
 }
 
-// Returns why definitions have no token where this text begins, which has this text before it.
+/// Returns why definitions have no token where this text begins, which has this text before it.
 pub(crate) fn no_token_reason(before: &[u8], text: &[u8]) -> Reason {
     if text.starts_with(b"\"") {
         return quoted_text_reason(text);
@@ -267,12 +267,12 @@ pub(crate) fn no_token_reason(before: &[u8], text: &[u8]) -> Reason {
     }
 }
 
-// Returns which word definitions have where this text begins.
+/// Returns which word definitions have where this text begins.
 pub(crate) fn left_out_reason(text: &[u8]) -> Reason {
     Reason::LeftOut(token_of(Subject::Definitions, text))
 }
 
-// Returns why no phrase goes on with this rest of a text, where something else is wanted.
+/// Returns why no phrase goes on with this rest of a text, where something else is wanted.
 pub(crate) fn syntax_reason(subject: Subject, text: &[u8], wanted: Option<Wanted>) -> Reason {
     if text.is_empty() {
         return Reason::EndsEarly { wanted };
@@ -281,7 +281,7 @@ pub(crate) fn syntax_reason(subject: Subject, text: &[u8], wanted: Option<Wanted
     Reason::Misplaced { token, wanted }
 }
 
-// Whether the text ends with a digit, and the other begins with one.
+/// Whether the text ends with a digit, and the other begins with one.
 fn cuts_number(before: &[u8], after: &[u8]) -> bool {
     match (before.last(), after.first()) {
         (Some(last), Some(first)) => is_digit_byte(*last) && is_digit_byte(*first),
@@ -289,7 +289,7 @@ fn cuts_number(before: &[u8], after: &[u8]) -> bool {
     }
 }
 
-// Returns why this text of a term is no term at the place that has this part of it before it and this part after it.
+/// Returns why this text of a term is no term at the place that has this part of it before it and this part after it.
 pub(crate) fn term_syntax_reason(text: &[u8], before: &[u8], after: &[u8]) -> Reason {
     if cuts_number(before, after) {
         return Reason::IntegerOutOfRange;

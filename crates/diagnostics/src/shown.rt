@@ -3,7 +3,7 @@ ghost use Rattle.std.specs.Prelude.{◌≤◌};
 
 use std::{fmt, str};
 
-// The most bytes that are shown.
+/// The most bytes that are shown.
 const MOST: usize = 72;
 
 /// The first bytes of a piece of text, at most 72 and without half a character at the end. A tab is a blank, and a byte that is no printable
@@ -13,12 +13,12 @@ pub struct Shown {
     bytes: [u8; MOST],
     length: usize,
     is_cut: bool,
-    // The first byte, where it is not shown as it is.
+    /// The first byte, where it is not shown as it is.
     hidden: Option<u8>,
     ghost within: { length ≤ 72 },
 }
 
-// Returns what is shown for the byte.
+/// Returns what is shown for the byte.
 fn printable(byte: u8) -> u8 {
     if byte == b'\t' {
         return b' ';
@@ -29,7 +29,7 @@ fn printable(byte: u8) -> u8 {
     b'?'
 }
 
-// Returns how many bytes of the text are shown: at most 72, and no half of a character.
+/// Returns how many bytes of the text are shown: at most 72, and no half of a character.
 fn whole_length(text: &[u8]) -> usize
     ensures { result ≤ 72 }
 {
@@ -49,7 +49,7 @@ pub(crate) fn is_continuation(byte: u8) -> bool {
     (0x80..0xC0).contains(&byte)
 }
 
-// Whether the text is UTF-8 in which each character can be seen.
+/// Whether the text is UTF-8 in which each character can be seen.
 fn is_readable(text: &[u8]) -> bool {
     let mut before: u8 = 0;
     let mut last: u8 = 0;
@@ -63,7 +63,7 @@ fn is_readable(text: &[u8]) -> bool {
     str::from_utf8(text).is_ok()
 }
 
-// Whether these bytes end with a control character above ASCII, one without width, one that turns the direction, or a byte order mark.
+/// Whether these bytes end with a control character above ASCII, one without width, one that turns the direction, or a byte order mark.
 fn is_unseen(first: u8, second: u8, third: u8) -> bool {
     match (first, second) {
         (_, 0xC2) => third < 0xA0,

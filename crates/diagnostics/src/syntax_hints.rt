@@ -47,7 +47,7 @@ pub(crate) struct Site<'a> {
 }
 
 impl<'a> Site<'a> {
-    // What the token at fault and those beside it tell.
+    /// What the token at fault and those beside it tell.
     fn token_hint(&self) -> Option<Hint> {
         let token = self.tokens.get(self.index)?;
         match &token.kind {
@@ -65,7 +65,7 @@ impl<'a> Site<'a> {
         }
     }
 
-    // What an integer or a text at fault tells.
+    /// What an integer or a text at fault tells.
     fn literal_hint(&self) -> Option<Hint> {
         if self.expected == Some(Expected::Strategy) {
             self.bar_hint()
@@ -74,7 +74,7 @@ impl<'a> Site<'a> {
         }
     }
 
-    // What a term among the strategies of a call tells, if definitions of that name have terms.
+    /// What a term among the strategies of a call tells, if definitions of that name have terms.
     fn bar_hint(&self) -> Option<Hint> {
         let name = self.name_around()?;
         let last = self.index.checked_sub(1)?;
@@ -84,12 +84,12 @@ impl<'a> Site<'a> {
             return None;
         }
         Some(Hint::TermsAfterBar {
-            name: self.shown(name),
+            name: self.shown_token(name),
             has_strategies: self.has_strategies(name)?,
         })
     }
 
-    // Whether a bracket that is no parenthesis opens at an index.
+    /// Whether a bracket that is no parenthesis opens at an index.
     fn opens_other(&self, index: usize) -> bool {
         match self.tokens.get(index) {
             Some(token) => opens(token) && !is_mark(token, Mark::OpenParenthesis),
@@ -97,7 +97,7 @@ impl<'a> Site<'a> {
         }
     }
 
-    // Whether the definitions of the name at an index that have terms have strategies, too, if they are alike in this.
+    /// Whether the definitions of the name at an index that have terms have strategies, too, if they are alike in this.
     fn has_strategies(&self, name: usize) -> Option<bool> {
         let token = self.tokens.get(name)?;
         let called = piece(self.text, token.from, token.to);
@@ -116,7 +116,7 @@ impl<'a> Site<'a> {
         found
     }
 
-    // Whether there are names in front of the bar among the parameters of the definition whose name is at an index.
+    /// Whether there are names in front of the bar among the parameters of the definition whose name is at an index.
     fn before_bar(&self, name: usize) -> Option<bool> {
         let first = name.saturating_add(2);
         for index in first..self.tokens.len() {
@@ -131,7 +131,7 @@ impl<'a> Site<'a> {
         None
     }
 
-    // What a mark at fault tells.
+    /// What a mark at fault tells.
     fn mark_hint(&self, mark: Mark) -> Option<Hint> {
         match mark {
             _ if self.index == 0 => Some(Hint::Advice(Advice::NoDefinitions)),
@@ -165,7 +165,7 @@ impl<'a> Site<'a> {
         }
     }
 
-    // What a keyword at fault tells.
+    /// What a keyword at fault tells.
     fn keyword_hint(&self, keyword: Keyword) -> Option<Hint> {
         let is_wanted = matches!(
             self.expected,
@@ -193,35 +193,35 @@ impl<'a> Site<'a> {
         let is_defined = next.is_some_and(|next| is_mark(next, Mark::Equals)
             || is_mark(next, Mark::Colon));
         if is_defined || (is_wanted && !begins_section(keyword)) {
-            return Some(Hint::KeywordAsName(self.shown(self.index)));
+            return Some(Hint::KeywordAsName(self.shown_token(self.index)));
         }
         None
     }
 
-    // Whether a pattern would go on there that is built.
+    /// Whether a pattern would go on there that is built.
     fn is_in_build(&self) -> bool {
         let context = context_at(self.tokens, self.index);
         let is_built = context.is_some_and(|context| context.role == Role::Build);
         is_built && self.expected == Some(Expected::Pattern)
     }
 
-    // What the call of a primitive tells, of which the token at fault is the first.
+    /// What the call of a primitive tells, of which the token at fault is the first.
     fn primitive_hint(&self) -> Option<Hint> {
         let name = self.index.saturating_add(2);
         match &self.tokens.get(name)?.kind {
             TokenKind::Quoted(_) => Some(Hint::PrimitiveInBuild {
-                name: self.shown(name),
+                name: self.shown_token(name),
                 context: context_at(self.tokens, self.index)?,
             }),
             _ => None,
         }
     }
 
-    // What it tells that the token at this index is the name of a definition, with the token in front of it.
+    /// What it tells that the token at this index is the name of a definition, with the token in front of it.
     fn head_hint(&self, name: usize) -> Option<Hint> {
         let before = self.tokens.get(name.checked_sub(1)?)?;
         let line = position_in(self.text, before.from).line;
-        let name = self.shown(name);
+        let name = self.shown_token(name);
         if is_mark(before, Mark::Greater) {
             return Some(Hint::TakenAsOperand { name, line });
         }
@@ -235,7 +235,7 @@ impl<'a> Site<'a> {
         })
     }
 
-    // The index of the name in front of the parenthesis in which the token at fault is.
+    /// The index of the name in front of the parenthesis in which the token at fault is.
     fn name_around(&self) -> Option<usize> {
         let name = self.opening_of(self.index)?.checked_sub(1)?;
         if is_name(self.tokens.get(name)?) {
@@ -265,7 +265,7 @@ impl<'a> Site<'a> {
         }
     }
 
-    // The index of the parenthesis that is closed by the one at an index.
+    /// The index of the parenthesis that is closed by the one at an index.
     fn opening_of(&self, closing: usize) -> Option<usize> {
         let mut depth: usize = 1;
         for index in (0..closing.min(self.tokens.len())).rev() {
@@ -282,7 +282,7 @@ impl<'a> Site<'a> {
         None
     }
 
-    // Whether a name is in front of the token at fault, and in front of that what a name among parameters has there.
+    /// Whether a name is in front of the token at fault, and in front of that what a name among parameters has there.
     fn is_in_parameters(&self) -> bool {
         let Some(before) = self
             .index
@@ -298,14 +298,14 @@ impl<'a> Site<'a> {
     }
 
     /// The mark at an index.
-    pub fn mark_at(&self, index: usize) -> Option<Mark> {
+    pub(crate) fn mark_at(&self, index: usize) -> Option<Mark> {
         match &self.tokens.get(index)?.kind {
             TokenKind::Mark(mark) => Some(*mark),
             _ => None,
         }
     }
 
-    // Whether this mark is at an index.
+    /// Whether this mark is at an index.
     fn has_mark(&self, index: usize, wanted: Mark) -> bool {
         self.mark_at(index) == Some(wanted)
     }
@@ -328,7 +328,7 @@ impl<'a> Site<'a> {
         before.is_some_and(|before| is_name(before))
     }
 
-    // Whether the token at fault comes after this mark.
+    /// Whether the token at fault comes after this mark.
     fn is_behind(&self, wanted: Mark) -> bool {
         let before = self
             .index
@@ -337,7 +337,7 @@ impl<'a> Site<'a> {
         before.is_some_and(|before| is_mark(before, wanted))
     }
 
-    // Whether the token at fault stands right behind the one before it, a name or a closing parenthesis.
+    /// Whether the token at fault stands right behind the one before it, a name or a closing parenthesis.
     fn touches_before(&self) -> bool {
         let before = self
             .index
@@ -352,7 +352,7 @@ impl<'a> Site<'a> {
         }
     }
 
-    // Whether the token at fault comes after this keyword.
+    /// Whether the token at fault comes after this keyword.
     fn comes_after(&self, keyword: Keyword) -> bool {
         match self.index.checked_sub(1) {
             Some(last) => is_keyword(self.tokens, last, keyword),
@@ -360,15 +360,15 @@ impl<'a> Site<'a> {
         }
     }
 
-    // The text of the token at an index.
-    fn shown(&self, index: usize) -> Shown {
+    /// The text of the token at an index.
+    fn shown_token(&self, index: usize) -> Shown {
         match self.tokens.get(index) {
             Some(token) => Shown::new(piece(self.text, token.from, token.to)),
             None => Shown::new(b""),
         }
     }
 
-    // The innermost bracket that is open where the text ends, a section begins or what looks like another definition begins.
+    /// The innermost bracket that is open where the text ends, a section begins or what looks like another definition begins.
     fn bracket_hint(&self, alloc: Global) -> Result<Option<Hint>, AllocError> {
         if !self.begins_another() {
             return Ok(None);
@@ -391,7 +391,7 @@ impl<'a> Site<'a> {
         }))
     }
 
-    // Whether the text ends at the fault, or a section or a definition seems to begin there.
+    /// Whether the text ends at the fault, or a section or a definition seems to begin there.
     fn begins_another(&self) -> bool {
         let Some(token) = self.tokens.get(self.index) else {
             return true;
@@ -405,7 +405,7 @@ impl<'a> Site<'a> {
     }
 
     /// Whether the name at an index is followed by what follows the name of a definition.
-    pub fn is_head(&self, name: usize) -> bool {
+    pub(crate) fn is_head(&self, name: usize) -> bool {
         self.sign_after(name).is_some()
     }
 
@@ -430,7 +430,7 @@ impl<'a> Site<'a> {
     }
 }
 
-// Whether the token joins what comes after it to what comes before.
+/// Whether the token joins what comes after it to what comes before.
 fn joins(token: &Token) -> bool {
     match &token.kind {
         TokenKind::Keyword(keyword) => *keyword == Keyword::Where,
@@ -449,7 +449,7 @@ fn joins(token: &Token) -> bool {
     }
 }
 
-// Whether a section begins with the keyword.
+/// Whether a section begins with the keyword.
 fn begins_section(keyword: Keyword) -> bool {
     matches!(
         keyword,

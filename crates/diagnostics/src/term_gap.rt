@@ -19,7 +19,7 @@ pub enum TermExpected {
 }
 
 impl TermExpected {
-    // What could stand there, as a list.
+    /// What could stand there, as a list.
     pub(crate) fn words(&self) -> &'static str {
         match self {
             TermExpected::Term => "a term",
@@ -35,27 +35,27 @@ impl TermExpected {
     }
 }
 
-// The most marks that are remembered. No more are open in the beginning of a term that fits.
+/// The most marks that are remembered. No more are open in the beginning of a term that fits.
 const MOST: usize = 1000;
 
-// What is open at the end of the beginning of a term.
+/// What is open at the end of the beginning of a term.
 #[derive(Clone, Copy)]
 pub(crate) struct TermGap {
-    // The marks that are open, the outermost first, as many as are remembered.
+    /// The marks that are open, the outermost first, as many as are remembered.
     open: [u8; MOST],
     depth: usize,
-    // The last byte that is no blank.
+    /// The last byte that is no blank.
     last: Option<u8>,
-    // Where the quoted text begins that is open.
+    /// Where the quoted text begins that is open.
     quote: Option<usize>,
     is_escaped: bool,
-    // Whether a minus without a digit stands at the end.
+    /// Whether a minus without a digit stands at the end.
     is_signed: bool,
 }
 
 impl TermGap {
-    // Returns what is open at the end of this text.
-    pub fn after(text: &[u8]) -> TermGap {
+    /// Returns what is open at the end of this text.
+    pub(crate) fn after(text: &[u8]) -> TermGap {
         let mut gap = TermGap {
             open: [0; MOST],
             depth: 0,
@@ -70,13 +70,13 @@ impl TermGap {
         gap
     }
 
-    // Where the quoted text begins that is open.
+    /// Where the quoted text begins that is open.
     pub(crate) fn quote(&self) -> Option<usize> {
         self.quote
     }
 
-    // What could stand next.
-    pub fn expected(&self) -> TermExpected {
+    /// What could stand next.
+    pub(crate) fn expected(&self) -> TermExpected {
         if self.is_signed {
             return TermExpected::Digit;
         }
@@ -89,7 +89,7 @@ impl TermGap {
         }
     }
 
-    // What could stand after a whole term.
+    /// What could stand after a whole term.
     fn closing(&self) -> TermExpected {
         let Some(outer) = self.depth.checked_sub(1) else {
             return TermExpected::End;
@@ -101,7 +101,7 @@ impl TermGap {
         }
     }
 
-    // Goes on with the byte at the index.
+    /// Goes on with the byte at the index.
     fn read(&mut self, index: usize, byte: u8) {
         if self.quote.is_some() {
             self.read_quoted(byte);
@@ -119,7 +119,7 @@ impl TermGap {
         }
     }
 
-    // Goes on with a byte of a quoted text.
+    /// Goes on with a byte of a quoted text.
     fn read_quoted(&mut self, byte: u8) {
         if self.is_escaped {
             self.is_escaped = false;
@@ -132,7 +132,7 @@ impl TermGap {
         }
     }
 
-    // Remembers the mark that is open from here on.
+    /// Remembers the mark that is open from here on.
     fn open(&mut self, mark: u8) {
         if let Some(place) = self.open.get_mut(self.depth) {
             *place = mark;

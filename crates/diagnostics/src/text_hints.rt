@@ -7,13 +7,13 @@ use crate::shown::Shown;
 use std::alloc::Global;
 use term_model::bytes::{is_blank_byte, is_digit_byte};
 
-// What a run prints in place of a term.
+/// What a run prints in place of a term.
 const OUTCOMES: &[&str] = &["#failed", "#refused", "#spent", "#oversize"];
 
-// The words with which definitions begin.
+/// The words with which definitions begin.
 const BEGINNINGS: &[&str] = &["module", "imports", "signature", "rules", "strategies"];
 
-// The words that are left out, and what to write instead.
+/// The words that are left out, and what to write instead.
 const LEFT_OUT: &[(&str, Advice)] = &[
     ("module", Advice::Module),
     ("imports", Advice::Imports),
@@ -57,7 +57,7 @@ pub(crate) fn left_out_hint(text: &[u8]) -> Option<Hint> {
     None
 }
 
-// Whether what comes before this text seems to be a name: one that is defined, a variable or an argument.
+/// Whether what comes before this text seems to be a name: one that is defined, a variable or an argument.
 fn is_name_before(text: &[u8]) -> bool {
     let at = text.iter().position(|byte| !is_blank_byte(*byte));
     let next = at.and_then(|index| text.get(index));
@@ -88,7 +88,7 @@ pub(crate) fn term_hint(text: &[u8], before: &[u8], after: &[u8]) -> Option<Hint
     }
 }
 
-// What both texts have in common.
+/// What both texts have in common.
 fn common_hint(before: &[u8], after: &[u8]) -> Option<Hint> {
     if after.starts_with(b"\xEF\xBB\xBF") {
         return Some(Hint::Advice(Advice::ByteOrderMark));
@@ -101,14 +101,14 @@ fn common_hint(before: &[u8], after: &[u8]) -> Option<Hint> {
     }
 }
 
-// Whether the text begins with what a run prints in place of a term.
+/// Whether the text begins with what a run prints in place of a term.
 fn begins_with_outcome(text: &[u8]) -> bool {
     OUTCOMES
         .iter()
         .any(|outcome| begins_with_word(text, outcome.as_bytes()))
 }
 
-// Whether the text begins with the word, and with no longer one.
+/// Whether the text begins with the word, and with no longer one.
 fn begins_with_word(text: &[u8], word: &[u8]) -> bool {
     match text.strip_prefix(word) {
         Some(rest) => !rest.first().is_some_and(|next| continues_word(*next)),

@@ -10,10 +10,10 @@ use str_syntax::{
     StrategyDefinition,
 };
 
-// The most variables that are kept at once. A definition with more gets no warnings about variables.
+/// The most variables that are kept at once. A definition with more gets no warnings about variables.
 const MOST_VARIABLES: usize = 200;
 
-// What a pattern does with its variables.
+/// What a pattern does with its variables.
 #[derive(Clone, Copy, Debug, PartialEq, Eq)]
 enum Use {
     Match,
@@ -24,7 +24,7 @@ enum Use {
     Primitive,
 }
 
-// A variable that is seen at some place of a definition.
+/// A variable that is seen at some place of a definition.
 #[derive(Clone, Copy)]
 struct Variable<'a> {
     name: &'a Name,
@@ -39,22 +39,22 @@ struct Variable<'a> {
 pub(crate) struct Walk<'a> {
     alloc: Global,
     signature: &'a Signature,
-    // The key of the definition.
+    /// The key of the definition.
     own: Option<Key<'a>>,
-    // Its variables that are in no scope within it.
+    /// Its variables that are in no scope within it.
     outer: Vec<Variable<'a>>,
-    // Those of scopes within it, the innermost last.
+    /// Those of scopes within it, the innermost last.
     inner: Vec<Variable<'a>>,
-    // Whether the definition uses more variables at once than are kept.
+    /// Whether the definition uses more variables at once than are kept.
     has_more: bool,
-    // The keys that other definitions call.
+    /// The keys that other definitions call.
     calls: Vec<Key<'a>>,
     warnings: Vec<Warning>,
 }
 
 impl<'a> Walk<'a> {
     /// A walk that has seen nothing.
-    pub fn new(alloc: Global, signature: &'a Signature) -> Walk<'a> {
+    pub(crate) fn new(alloc: Global, signature: &'a Signature) -> Walk<'a> {
         Walk {
             alloc,
             signature,
@@ -96,7 +96,7 @@ impl<'a> Walk<'a> {
         Ok(())
     }
 
-    // Adds the warning about a variable of a scope that ends, if there is one.
+    /// Adds the warning about a variable of a scope that ends, if there is one.
     fn judge(&mut self, variable: Variable<'a>) -> Result<(), AllocError> {
         let name = variable.name.bytes();
         let (false, Some((offset, used))) = (variable.is_bound || self.has_more, variable.used)
@@ -131,7 +131,7 @@ impl<'a> Walk<'a> {
         Ok(())
     }
 
-    // Begins a variable, which has a value if that is said.
+    /// Begins a variable, which has a value if that is said.
     fn variable(&mut self, name: &'a Name, is_bound: bool) -> Result<Variable<'a>, AllocError> {
         if self.signature.arity_known(name.bytes(), 0) {
             let mut text = Vec::new(self.alloc);
@@ -148,7 +148,7 @@ impl<'a> Walk<'a> {
         })
     }
 
-    // Puts names into scope.
+    /// Puts names into scope.
     fn declare(&mut self, names: &'a [Name], are_bound: bool) -> Result<(), AllocError> {
         for name in names {
             self.declare_one(name, are_bound)?;
@@ -166,7 +166,7 @@ impl<'a> Walk<'a> {
         Ok(())
     }
 
-    // Puts term parameters into scope.
+    /// Puts term parameters into scope.
     fn declare_terms(&mut self, parameters: &'a Parameters) -> Result<(), AllocError> {
         match parameters {
             Parameters::WithTerms(_, terms) => self.declare(terms, true),
@@ -174,7 +174,7 @@ impl<'a> Walk<'a> {
         }
     }
 
-    // Ends the scopes of all variables but this number.
+    /// Ends the scopes of all variables but this number.
     fn leave(&mut self, count: usize) -> Result<(), AllocError> {
         for _ in count..self.inner.len() {
             if let Some(variable) = self.inner.pop() {
@@ -184,7 +184,7 @@ impl<'a> Walk<'a> {
         Ok(())
     }
 
-    // Notes that a variable is used.
+    /// Notes that a variable is used.
     fn note(&mut self, name: &'a Name, used: Use) -> Result<(), AllocError> {
         if let Some(index) = position_among(&self.inner, name) {
             return note_at(&mut self.inner, index, name, used);
@@ -204,7 +204,7 @@ impl<'a> Walk<'a> {
         note_at(&mut self.outer, index, name, used)
     }
 
-    // Puts the variables of a pattern into scope, which have values.
+    /// Puts the variables of a pattern into scope, which have values.
     #[cycle(declares)]
     fn declare_pattern(&mut self, source: &'a Pattern) -> Result<(), AllocError> {
         match source {
@@ -393,7 +393,7 @@ impl<'a> Walk<'a> {
         self.leave(count)
     }
 
-    // A rule in backslashes has variables of its own for the names of its left side.
+    /// A rule in backslashes has variables of its own for the names of its left side.
     #[cycle(walk)]
     fn in_lambda(&mut self, rule: &'a Rule) -> Result<(), AllocError> {
         let count = self.inner.len();
@@ -421,14 +421,14 @@ impl<'a> Walk<'a> {
     }
 }
 
-// The index of the last variable of this name.
+/// The index of the last variable of this name.
 fn position_among(variables: &[Variable<'_>], name: &Name) -> Option<usize> {
     variables
         .iter()
         .rposition(|variable| variable.name.bytes() == name.bytes())
 }
 
-// Notes that the variable at an index is used where its name stands.
+/// Notes that the variable at an index is used where its name stands.
 fn note_at<'a>(
     variables: &mut Vec<Variable<'a>>,
     index: usize,

@@ -20,7 +20,7 @@ pub(crate) fn undeclared_application(
     text: &[u8],
     signature: &Signature,
 ) -> Option<Application> {
-    let mut search = Search::new(alloc, text, signature);
+    let mut search = ApplicationSearch::new(alloc, text, signature);
     for (at, byte) in text.iter().enumerate() {
         search.read(at, *byte).ok()?;
     }
@@ -29,7 +29,7 @@ pub(crate) fn undeclared_application(
     search.found
 }
 
-// What the byte before is part of.
+/// What the byte before is part of.
 #[derive(Clone, Copy, Debug, PartialEq, Eq)]
 enum Inside {
     Nothing,
@@ -42,7 +42,7 @@ enum Inside {
     Escape(usize),
 }
 
-// A name or a quoted text that has ended, after which a parenthesis may open.
+/// A name or a quoted text that has ended, after which a parenthesis may open.
 #[derive(Clone, Copy)]
 struct Symbol {
     from: usize,
@@ -50,28 +50,28 @@ struct Symbol {
     is_quoted: bool,
 }
 
-// A bracket that is open: after a symbol, or that of a list, a tuple or annotations.
+/// A bracket that is open: after a symbol, or that of a list, a tuple or annotations.
 #[derive(Clone, Copy)]
-struct Bracket {
+struct OpenBracket {
     symbol: Option<Symbol>,
     has_part: bool,
     commas: usize,
 }
 
-// A search through the text of a term.
+/// A search through the text of a term.
 #[derive(Drop)]
-struct Search<'a> {
+struct ApplicationSearch<'a> {
     text: &'a [u8],
     signature: &'a Signature,
     inside: Inside,
     symbol: Option<Symbol>,
-    brackets: Vec<Bracket>,
+    brackets: Vec<OpenBracket>,
     found: Option<Application>,
 }
 
-impl<'a> Search<'a> {
-    fn new(alloc: Global, text: &'a [u8], signature: &'a Signature) -> Search<'a> {
-        Search {
+impl<'a> ApplicationSearch<'a> {
+    fn new(alloc: Global, text: &'a [u8], signature: &'a Signature) -> ApplicationSearch<'a> {
+        ApplicationSearch {
             text,
             signature,
             inside: Inside::Nothing,
@@ -81,7 +81,7 @@ impl<'a> Search<'a> {
         }
     }
 
-    // Goes on with the byte that stands there.
+    /// Goes on with the byte that stands there.
     fn read(&mut self, at: usize, byte: u8) -> Result<(), AllocError> {
         match self.inside {
             Inside::Escape(from) => self.inside = Inside::Quotes(from),
@@ -97,7 +97,7 @@ impl<'a> Search<'a> {
         Ok(())
     }
 
-    // Ends a quoted text with the byte that stands there.
+    /// Ends a quoted text with the byte that stands there.
     fn end_quotes(&mut self, from: usize, at: usize) {
         self.inside = Inside::Nothing;
         self.symbol = Some(Symbol {
@@ -107,7 +107,7 @@ impl<'a> Search<'a> {
         });
     }
 
-    // Ends a name or a number in front of the byte that stands there.
+    /// Ends a name or a number in front of the byte that stands there.
     fn end_token(&mut self, at: usize) {
         if let Inside::Name(from) = self.inside {
             self.symbol = Some(Symbol {
@@ -119,7 +119,7 @@ impl<'a> Search<'a> {
         self.inside = Inside::Nothing;
     }
 
-    // Looks at a byte that is not inside of a token.
+    /// Looks at a byte that is not inside of a token.
     fn begin(&mut self, at: usize, byte: u8) -> Result<(), AllocError> {
         if is_blank_byte(byte) {
             return Ok(());
@@ -140,13 +140,13 @@ impl<'a> Search<'a> {
         Ok(())
     }
 
-    // Begins a part of the innermost bracket with this token.
+    /// Begins a part of the innermost bracket with this token.
     fn begin_part(&mut self, inside: Inside) {
         self.inside = inside;
         self.note_part();
     }
 
-    // Notes that the innermost bracket has a part.
+    /// Notes that the innermost bracket has a part.
     fn note_part(&mut self) {
         if let Some(innermost) = self.brackets.last_mut() {
             innermost.has_part = true;
@@ -159,10 +159,10 @@ impl<'a> Search<'a> {
         }
     }
 
-    // Opens a bracket after this symbol, or one that is a part itself.
+    /// Opens a bracket after this symbol, or one that is a part itself.
     fn open(&mut self, symbol: Option<Symbol>) -> Result<(), AllocError> {
         self.note_part();
-        self.brackets.push(Bracket {
+        self.brackets.push(OpenBracket {
             symbol,
             has_part: false,
             commas: 0,
@@ -170,7 +170,7 @@ impl<'a> Search<'a> {
         Ok(())
     }
 
-    // Closes the innermost bracket.
+    /// Closes the innermost bracket.
     fn close(&mut self) {
         let Some(bracket) = self.brackets.pop() else {
             return;
@@ -186,14 +186,14 @@ impl<'a> Search<'a> {
         self.judge(symbol, parts);
     }
 
-    // Ends a symbol after which no parenthesis opens.
+    /// Ends a symbol after which no parenthesis opens.
     fn end_symbol(&mut self) {
         if let Some(symbol) = self.symbol.take() {
             self.judge(symbol, 0);
         }
     }
 
-    // Keeps the application of the symbol to this number of parts if it is not declared and comes before what was found.
+    /// Keeps the application of the symbol to this number of parts if it is not declared and comes before what was found.
     fn judge(&mut self, symbol: Symbol, parts: usize) {
         let is_declared = if symbol.is_quoted {
             parts == 0

@@ -10,7 +10,7 @@ use signature_core::Signature;
 use std::alloc::{AllocError, Global};
 use str_syntax::{Definition, DefinitionForm, DefinitionHead, File, Origin, Section};
 
-// The most warnings that are told.
+/// The most warnings that are told.
 const MOST: usize = 100;
 
 /// A warning: the byte of the definitions that it is about, what it says, and the byte of another place whose line ends it.
@@ -30,7 +30,7 @@ pub(crate) struct Alternative<'a> {
 }
 
 impl<'a> Alternative<'a> {
-    pub fn head(self) -> &'a DefinitionHead {
+    pub(crate) fn head(self) -> &'a DefinitionHead {
         match self.form {
             DefinitionForm::Rule(rule) => &rule.head,
             DefinitionForm::Strategy(definition) => &definition.head,
@@ -38,7 +38,7 @@ impl<'a> Alternative<'a> {
     }
 
     /// The byte of the definitions at which its name begins.
-    pub fn offset(self) -> usize {
+    pub(crate) fn offset(self) -> usize {
         usize::try_from(self.head().name.offset()).unwrap_or(usize::MAX)
     }
 }
@@ -100,7 +100,7 @@ pub fn add_warnings(
     add_count(alloc, count, b" warnings", remarks)
 }
 
-// What is told of a warning.
+/// What is told of a warning.
 fn text_of(alloc: Global, warning: &Warning) -> Result<Vec<u8>, AllocError> {
     let mut line = b"warning: ".to_vec(alloc)?;
     line.extend_from_slice(&warning.text)?;
@@ -128,7 +128,7 @@ pub fn add_count(
     Ok(())
 }
 
-// The rules and definitions of the file, without those of the library, in the order of the text.
+/// The rules and definitions of the file, without those of the library, in the order of the text.
 fn alternatives_of(alloc: Global, file: &File) -> Result<Vec<Alternative<'_>>, AllocError> {
     let mut found = Vec::new(alloc);
     for (number, section) in file.sections.iter().enumerate() {

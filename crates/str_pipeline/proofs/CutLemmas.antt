@@ -15,7 +15,8 @@ use Rattle.str_pipeline.specs.declared.joined.Search.{Search}
 use Rattle.str_pipeline.specs.declared.joined.Search.TheVariants.{AtLine, InLine}
 
 -- of two fronts of one text one begins with the other
-pub fronts : (xs ys more after : List ℕ) → xs ++ more ≡ ys ++ after → starts_with nat_eq xs ys ≡ false → starts_with nat_eq ys xs ≡ false → ⊥
+pub fronts : (xs ys more after : List ℕ) → xs ++ more ≡ ys ++ after → starts_with nat_eq xs ys ≡ false →
+    starts_with nat_eq ys xs ≡ false → ⊥
 fronts [] ys more after same first second = cc
 fronts (x ∷ xs) [] more after same first second = cc
 fronts (x ∷ xs) (y ∷ ys) more after same first second =
@@ -25,16 +26,20 @@ fronts (x ∷ xs) (y ∷ ys) more after same first second =
 
 -- bytes that begin neither line, and that neither line begins with
 pub other_kind : (known : List ℕ) (is_end : Bool) → is_end ≡ false
-    → starts_with nat_eq known (codes "#term" ++ 10 ∷ []) ≡ false → starts_with nat_eq known (codes "#term" ++ 13 ∷ 10 ∷ []) ≡ false
-    → starts_with nat_eq (codes "#term" ++ 10 ∷ []) known ≡ false → starts_with nat_eq (codes "#term" ++ 13 ∷ 10 ∷ []) known ≡ false
+    → starts_with nat_eq known (codes "#term" ++ 10 ∷ []) ≡ false →
+    starts_with nat_eq known (codes "#term" ++ 13 ∷ 10 ∷ []) ≡ false
+    → starts_with nat_eq (codes "#term" ++ 10 ∷ []) known ≡ false →
+    starts_with nat_eq (codes "#term" ++ 13 ∷ 10 ∷ []) known ≡ false
     → IsKind is_end known Other
 other_kind known is_end goes_on feed ret in_feed in_return more line after follow same (by_line_feed is) =
     fronts known (codes "#term" ++ 10 ∷ []) more after (same ∙ ap (λ (xs : List ℕ). xs ++ after) is) feed in_feed
 other_kind known is_end goes_on feed ret in_feed in_return more line after follow same (by_return is) =
     fronts known (codes "#term" ++ 13 ∷ 10 ∷ []) more after (same ∙ ap (λ (xs : List ℕ). xs ++ after) is) ret in_return
 other_kind known is_end goes_on feed ret in_feed in_return more line after follow same (by_end is last) =
-    let bare : known ++ more ≡ codes "#term" = same ∙ (ap (λ (xs : List ℕ). xs ++ after) is ∙ ap (λ (xs : List ℕ). codes "#term" ++ xs) last) in
-    let fed : known ++ (more ++ 10 ∷ []) ≡ (codes "#term" ++ 10 ∷ []) ++ [] = sym (append_assoc known more (10 ∷ [])) ∙ ap (λ (xs : List ℕ). xs ++ 10 ∷ []) bare in
+    let bare : known ++ more ≡ codes "#term" =
+    same ∙ (ap (λ (xs : List ℕ). xs ++ after) is ∙ ap (λ (xs : List ℕ). codes "#term" ++ xs) last) in
+    let fed : known ++ (more ++ 10 ∷ []) ≡ (codes "#term" ++ 10 ∷ []) ++ [] =
+    sym (append_assoc known more (10 ∷ [])) ∙ ap (λ (xs : List ℕ). xs ++ 10 ∷ []) bare in
     fronts known (codes "#term" ++ 10 ∷ []) (more ++ 10 ∷ []) [] fed feed in_feed
 
 -- where no such line begins
@@ -44,10 +49,12 @@ nothing_before known = record { clear = λ more before line after follow has. om
 -- more bytes become known
 pub clear_append : (known more : List ℕ) (n : ℕ) → IsClear false known n → IsClear false (known ++ more) n
 clear_append known more n clear = record {
-  clear = λ rest before line after follow has. clear.clear (more ++ rest) before line after tt (rw (append_assoc known more rest) at has);
+  clear = λ rest before line after follow has. clear.clear (more ++ rest)
+      before line after tt (rw (append_assoc known more rest) at has);
 }
 
-pub searched_append : (known more : List ℕ) (search : Search) → IsSearched false known search → IsSearched false (known ++ more) search
+pub searched_append : (known more : List ℕ) (search : Search) → IsSearched false known search →
+    IsSearched false (known ++ more) search
 searched_append known more (AtLine n) (within, begins, clear) =
     let long : n ≤ length (known ++ more) = rw length-append (omega arith) in
     (long, rw (take-append-le n known more within) begins, clear_append known more n clear)
@@ -57,14 +64,17 @@ searched_append known more (InLine n) (within, clear) =
 
 -- what holds whatever follows holds where nothing does
 pub clear_at : (is_end : Bool) (known : List ℕ) (n : ℕ) → IsClear false known n → IsClear is_end known n
-clear_at is_end known n clear = record { clear = λ more before line after follow has. clear.clear more before line after tt has }
+clear_at is_end known n clear =
+    record { clear = λ more before line after follow has. clear.clear more before line after tt has }
 
-pub searched_at : (is_end : Bool) (known : List ℕ) (search : Search) → IsSearched false known search → IsSearched is_end known search
+pub searched_at : (is_end : Bool) (known : List ℕ) (search : Search) → IsSearched false known search →
+    IsSearched is_end known search
 searched_at is_end known (AtLine n) (within, begins, clear) = (within, begins, clear_at is_end known n clear)
 searched_at is_end known (InLine n) (within, clear) = (within, clear_at is_end known (n + 1) clear)
 
 -- the front of a text, and the rest after it
-split_at : (known more before rest : List ℕ) (n : ℕ) → known ++ more ≡ before ++ rest → length before ≡ n → n ≤ length known
+split_at : (known more before rest : List ℕ) (n : ℕ) → known ++ more ≡ before ++ rest → length before ≡ n →
+    n ≤ length known
     → (before ≡ take n known) × (drop n known ++ more ≡ rest)
 split_at known more before rest n same long within = (
   sym (take_at before rest n long) ∙ (ap (take n) (sym same) ∙ take-append-le n known more within),
@@ -72,7 +82,8 @@ split_at known more before rest n same long within = (
 )
 
 -- the front of a text, a part after it and the rest
-three_parts : (known more : List ℕ) (n m : ℕ) → known ++ more ≡ take n known ++ (take m (drop n known) ++ (drop (n + m) known ++ more))
+three_parts : (known more : List ℕ) (n m : ℕ) →
+    known ++ more ≡ take n known ++ (take m (drop n known) ++ (drop (n + m) known ++ more))
 three_parts known more n m =
     rw (
       ← append_assoc (take m (drop n known)) (drop (n + m) known) more,
@@ -83,7 +94,8 @@ three_parts known more n m =
     )
 
 -- the line at n is another one
-pub clear_other : (is_end : Bool) (known : List ℕ) (n : ℕ) → n ≤ length known → IsClear is_end known n → IsKind is_end (drop n known) Other
+pub clear_other : (is_end : Bool) (known : List ℕ) (n : ℕ) → n ≤ length known → IsClear is_end known n →
+    IsKind is_end (drop n known) Other
     → IsClear is_end known (n + 1)
 clear_other is_end known n within clear other = record {
   clear = λ more before line after follow has. ⊎_elim
@@ -91,7 +103,8 @@ clear_other is_end known n within clear other = record {
       (λ (at_most : length before ≤ n).
       let at_least : n ≤ length before = clear.clear more before line after follow has in
       let long : length before ≡ n = omega arith in
-      absurd (other more line after follow ((split_at known more before (line ++ after) n has.whole long within).1) has.is_line))
+      absurd (other more line after follow ((split_at known more before (line ++ after) n has.whole long within).1)
+      has.is_line))
       (cases_lt n (length before));
 }
 
@@ -111,10 +124,12 @@ clear_line is_end known n m within clear none = record {
       let from : n ≤ length ended.0 = omega arith in
       let inside : length ended.0 < length known = omega arith in
       let whole : known ++ more ≡ ended.0 ++ 10 ∷ (line ++ after) =
-      has.whole ∙ (ap (λ (xs : List ℕ). xs ++ (line ++ after)) ended.1 ∙ append_assoc ended.0 (10 ∷ []) (line ++ after)) in
+      has.whole ∙ (ap (λ (xs : List ℕ). xs ++ (line ++ after)) ended.1 ∙
+      append_assoc ended.0 (10 ∷ []) (line ++ after)) in
       none (length ended.0) from below
       (sym (get_or_append_left known more 0 (length ended.0) inside)
-      ∙ (ap (λ (xs : List ℕ). get_or xs (length ended.0) 0) whole ∙ get_or_at ended.0 10 (line ++ after) 0 (length ended.0) refl)))
+      ∙ (ap (λ (xs : List ℕ). get_or xs (length ended.0) 0) whole ∙
+      get_or_at ended.0 10 (line ++ after) 0 (length ended.0) refl)))
       has.begins))
       (cases_lt m (length before));
 }
@@ -128,7 +143,8 @@ clear_fewer is_end known n m clear fewer = record {
 }
 
 -- no line begins within bytes after the first n of which none is a line feed
-pub clear_rest : (is_end : Bool) (known : List ℕ) (n m : ℕ) → n ≤ length known → IsClear is_end known (n + 1) → m ≤ length (drop n known)
+pub clear_rest : (is_end : Bool) (known : List ℕ) (n m : ℕ) → n ≤ length known → IsClear is_end known (n + 1) →
+    m ≤ length (drop n known)
     → ((k : ℕ) → k < m → get_or (drop n known) k 0 ≢ 10) → IsClear is_end known (n + m + 1)
 clear_rest is_end known n m within clear room none =
     let short : m ≤ length known - n = rw (← length-drop n known) room in
@@ -147,17 +163,21 @@ clear_to_end is_end known n (within, clear) none =
     (rw length-drop (omega arith))
 
 -- after a first line feed a line begins, and none before
-pub next_line : (is_end : Bool) (known : List ℕ) (n m : ℕ) → IsSearched is_end known (InLine n) → m < length (drop n known)
-    → get_or (drop n known) m 0 ≡ 10 → ((k : ℕ) → k < m → get_or (drop n known) k 0 ≢ 10) → IsSearched is_end known (AtLine (n + m + 1))
+pub next_line : (is_end : Bool) (known : List ℕ) (n m : ℕ) → IsSearched is_end known (InLine n) →
+    m < length (drop n known)
+    → get_or (drop n known) m 0 ≡ 10 → ((k : ℕ) → k < m → get_or (drop n known) k 0 ≢ 10) →
+    IsSearched is_end known (AtLine (n + m + 1))
 next_line is_end known n m (within, clear) inside feed none =
     let short : m < length known - n = rw (← length-drop n known) inside in
     let is : get_or known (n + m) 0 ≡ 10 = sym (get_or-drop n known m 0) ∙ feed in
     let below : n + m < length known = omega arith in
-    let begins : IsBeforeLine (take (n + m + 1) known) = inr (take (n + m) known, rw (← is) (take_more known (n + m) 0 below)) in
+    let begins : IsBeforeLine (take (n + m + 1) known) =
+    inr (take (n + m) known, rw (← is) (take_more known (n + m) 0 below)) in
     (omega arith, begins, clear_rest is_end known n m within clear (omega arith) none)
 
 -- a line that begins at n is the one that is looked for
-pub found_line : (is_end : Bool) (known : List ℕ) (n m : ℕ) → IsSearched is_end known (AtLine n) → IsKind is_end (drop n known) (Term m)
+pub found_line : (is_end : Bool) (known : List ℕ) (n m : ℕ) → IsSearched is_end known (AtLine n) →
+    IsKind is_end (drop n known) (Term m)
     → IsFound is_end known n (n + m)
 found_line is_end known n m (within, begins, clear) (short, kind) =
     let room : m ≤ length known - n = rw (← length-drop n known) short in
@@ -165,32 +185,43 @@ found_line is_end known n m (within, begins, clear) (short, kind) =
       defs_within = within;
       term_within = omega arith;
       split = λ more follow.
-          let has : HasTermLine (known ++ more) (take n known) (take m (drop n known)) (drop (n + m) known ++ more) = record {
+          let has : HasTermLine (known ++ more) (take n known) (take m (drop n known)) (drop (n + m) known ++ more) =
+          record {
             whole = three_parts known more n m;
             begins = begins;
             is_line = rw (← drop-drop m n known) (kind more follow);
           } in
-          parted has (λ before other after h. rw (length-take-le n known within) (clear.clear more before other after follow h));
+          parted has (λ before other after h. rw (length-take-le n known within)
+          (clear.clear more before other after follow h));
     }
 
 -- a text without such a line is all definitions
-pub found_none : (known : List ℕ) → IsClear true known (length known + 1) → IsFound true known (length known) (length known)
+pub found_none : (known : List ℕ) → IsClear true known (length known + 1) →
+    IsFound true known (length known) (length known)
 found_none known clear = record {
   defs_within = omega arith;
   term_within = omega arith;
   split = λ more nothing.
       let whole : known ++ more ≡ known = ap (λ (xs : List ℕ). known ++ xs) nothing ∙ append-nil known in
-      rw (nothing, append-nil known, take_all (length known) known (omega arith), append-nil (drop (length known) known), drop_all (length known) known (omega arith))
+      rw (
+        nothing,
+        append-nil known,
+        take_all (length known) known (omega arith),
+        append-nil (drop (length known) known),
+        drop_all (length known) known (omega arith),
+      )
       (unparted (λ before line after has.
       let has_all : HasTermLine (known ++ []) before line after = rw append-nil has in
       let far : length known + 1 ≤ length before = clear.clear [] before line after refl has_all in
-      let sizes : length known ≡ length before + length (line ++ after) = ap length has.whole ∙ length-append before (line ++ after) in
+      let sizes : length known ≡ length before + length (line ++ after) =
+      ap length has.whole ∙ length-append before (line ++ after) in
       let bad : ⊥ = omega arith in
       bad));
 }
 
 -- the split of a text of which this front is known
-pub front_split : (told left known : List ℕ) (is_end : Bool) (defs term : ℕ) → told ≡ known ++ left → (is_end ≡ true → left ≡ [])
+pub front_split : (told left known : List ℕ) (is_end : Bool) (defs term : ℕ) → told ≡ known ++ left →
+    (is_end ≡ true → left ≡ [])
     → IsFound is_end known defs term → IsSplit told (take defs known) (drop term known ++ left)
 front_split told left known true defs term same dry found = rw same (found.split left (dry refl))
 front_split told left known false defs term same dry found = rw same (found.split left tt)
@@ -200,16 +231,19 @@ follows_at true left dry = dry refl
 follows_at false left dry = tt
 
 -- the definitions are too long where none of the first places is before the line
-pub front_too_long : (told left known : List ℕ) (is_end : Bool) (limit : ℕ) → told ≡ known ++ left → (is_end ≡ true → left ≡ [])
+pub front_too_long : (told left known : List ℕ) (is_end : Bool) (limit : ℕ) → told ≡ known ++ left →
+    (is_end ≡ true → left ≡ [])
     → limit < length known → IsClear is_end known (limit + 1) → HasLongDefinitions limit told
 front_too_long told left known is_end limit same dry long clear _ _ (parted {defs} {line} {term} has least) =
-    let far : limit + 1 ≤ length defs = clear.clear left defs line term (follows_at is_end left dry) (rw (← same) has) in
+    let far : limit + 1 ≤ length defs =
+    clear.clear left defs line term (follows_at is_end left dry) (rw (← same) has) in
     omega arith
 front_too_long told left known is_end limit same dry long clear _ _ (unparted none) =
     let sizes : length told ≡ length known + length left = ap length same ∙ length-append known left in
     omega arith
 
-pub too_long_told : (old new : Option (List ℕ)) (known : List ℕ) (is_end : Bool) (limit : ℕ) → Loses old new known → (IsTrue is_end → IsDry new)
+pub too_long_told : (old new : Option (List ℕ)) (known : List ℕ) (is_end : Bool) (limit : ℕ) → Loses old new known →
+    (IsTrue is_end → IsDry new)
     → IsStep is_end limit known TooLong → IfSome old (λ told. IsSomeAnd new (λ left. HasLongDefinitions limit told))
 too_long_told None new known is_end limit loses dry step = tt
 too_long_told (Some told) None known is_end limit loses dry step = absurd loses
@@ -219,28 +253,36 @@ too_long_told (Some told) (Some left) known is_end limit loses dry (long, clear)
 -- a line `#term` and what comes after it
 same_rest : (line other t u : List ℕ) → IsTermLine line t → IsTermLine other u → line ++ t ≡ other ++ u → t ≡ u
 same_rest line other t u (by_line_feed a) (by_line_feed b) same =
-    let h : (codes "#term" ++ 10 ∷ []) ++ t ≡ (codes "#term" ++ 10 ∷ []) ++ u = sym (ap (λ (xs : List ℕ). xs ++ t) a) ∙ (same ∙ ap (λ (xs : List ℕ). xs ++ u) b) in
+    let h : (codes "#term" ++ 10 ∷ []) ++ t ≡ (codes "#term" ++ 10 ∷ []) ++ u =
+    sym (ap (λ (xs : List ℕ). xs ++ t) a) ∙ (same ∙ ap (λ (xs : List ℕ). xs ++ u) b) in
     cc
 same_rest line other t u (by_line_feed a) (by_return b) same =
-    let h : (codes "#term" ++ 10 ∷ []) ++ t ≡ (codes "#term" ++ 13 ∷ 10 ∷ []) ++ u = sym (ap (λ (xs : List ℕ). xs ++ t) a) ∙ (same ∙ ap (λ (xs : List ℕ). xs ++ u) b) in
+    let h : (codes "#term" ++ 10 ∷ []) ++ t ≡ (codes "#term" ++ 13 ∷ 10 ∷ []) ++ u =
+    sym (ap (λ (xs : List ℕ). xs ++ t) a) ∙ (same ∙ ap (λ (xs : List ℕ). xs ++ u) b) in
     cc
 same_rest line other t u (by_line_feed a) (by_end b last) same =
-    let h : (codes "#term" ++ 10 ∷ []) ++ t ≡ codes "#term" ++ u = sym (ap (λ (xs : List ℕ). xs ++ t) a) ∙ (same ∙ ap (λ (xs : List ℕ). xs ++ u) b) in
+    let h : (codes "#term" ++ 10 ∷ []) ++ t ≡ codes "#term" ++ u =
+    sym (ap (λ (xs : List ℕ). xs ++ t) a) ∙ (same ∙ ap (λ (xs : List ℕ). xs ++ u) b) in
     cc
 same_rest line other t u (by_return a) (by_line_feed b) same =
-    let h : (codes "#term" ++ 13 ∷ 10 ∷ []) ++ t ≡ (codes "#term" ++ 10 ∷ []) ++ u = sym (ap (λ (xs : List ℕ). xs ++ t) a) ∙ (same ∙ ap (λ (xs : List ℕ). xs ++ u) b) in
+    let h : (codes "#term" ++ 13 ∷ 10 ∷ []) ++ t ≡ (codes "#term" ++ 10 ∷ []) ++ u =
+    sym (ap (λ (xs : List ℕ). xs ++ t) a) ∙ (same ∙ ap (λ (xs : List ℕ). xs ++ u) b) in
     cc
 same_rest line other t u (by_return a) (by_return b) same =
-    let h : (codes "#term" ++ 13 ∷ 10 ∷ []) ++ t ≡ (codes "#term" ++ 13 ∷ 10 ∷ []) ++ u = sym (ap (λ (xs : List ℕ). xs ++ t) a) ∙ (same ∙ ap (λ (xs : List ℕ). xs ++ u) b) in
+    let h : (codes "#term" ++ 13 ∷ 10 ∷ []) ++ t ≡ (codes "#term" ++ 13 ∷ 10 ∷ []) ++ u =
+    sym (ap (λ (xs : List ℕ). xs ++ t) a) ∙ (same ∙ ap (λ (xs : List ℕ). xs ++ u) b) in
     cc
 same_rest line other t u (by_return a) (by_end b last) same =
-    let h : (codes "#term" ++ 13 ∷ 10 ∷ []) ++ t ≡ codes "#term" ++ u = sym (ap (λ (xs : List ℕ). xs ++ t) a) ∙ (same ∙ ap (λ (xs : List ℕ). xs ++ u) b) in
+    let h : (codes "#term" ++ 13 ∷ 10 ∷ []) ++ t ≡ codes "#term" ++ u =
+    sym (ap (λ (xs : List ℕ). xs ++ t) a) ∙ (same ∙ ap (λ (xs : List ℕ). xs ++ u) b) in
     cc
 same_rest line other t u (by_end a none) (by_line_feed b) same =
-    let h : codes "#term" ++ t ≡ (codes "#term" ++ 10 ∷ []) ++ u = sym (ap (λ (xs : List ℕ). xs ++ t) a) ∙ (same ∙ ap (λ (xs : List ℕ). xs ++ u) b) in
+    let h : codes "#term" ++ t ≡ (codes "#term" ++ 10 ∷ []) ++ u =
+    sym (ap (λ (xs : List ℕ). xs ++ t) a) ∙ (same ∙ ap (λ (xs : List ℕ). xs ++ u) b) in
     cc
 same_rest line other t u (by_end a none) (by_return b) same =
-    let h : codes "#term" ++ t ≡ (codes "#term" ++ 13 ∷ 10 ∷ []) ++ u = sym (ap (λ (xs : List ℕ). xs ++ t) a) ∙ (same ∙ ap (λ (xs : List ℕ). xs ++ u) b) in
+    let h : codes "#term" ++ t ≡ (codes "#term" ++ 13 ∷ 10 ∷ []) ++ u =
+    sym (ap (λ (xs : List ℕ). xs ++ t) a) ∙ (same ∙ ap (λ (xs : List ℕ). xs ++ u) b) in
     cc
 same_rest line other t u (by_end a none) (by_end b last) same = none ∙ sym last
 
@@ -253,7 +295,8 @@ one_split text d t e u (parted {line} has least) (parted {line = other} again sm
     let same : d ++ (line ++ t) ≡ e ++ (other ++ u) = sym has.whole ∙ again.whole in
     let parts = split_at d (line ++ t) e (other ++ u) (length d) same sizes (omega arith) in
     let fronts_same : d ≡ e = sym (parts.0 ∙ take_all (length d) d (omega arith)) in
-    let rests : line ++ t ≡ other ++ u = sym (ap (λ (xs : List ℕ). xs ++ (line ++ t)) (drop_all (length d) d (omega arith))) ∙ parts.1 in
+    let rests : line ++ t ≡ other ++ u =
+    sym (ap (λ (xs : List ℕ). xs ++ (line ++ t)) (drop_all (length d) d (omega arith))) ∙ parts.1 in
     (fronts_same, same_rest line other t u has.is_line again.is_line rests)
 one_split text d t _ _ (parted {line} has least) (unparted none) = absurd (none d line t has)
 one_split text _ _ e u (unparted none) (parted {line} has least) = absurd (none e line u has)

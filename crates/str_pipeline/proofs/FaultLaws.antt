@@ -31,21 +31,24 @@ is_no_read faults.Read high = absurd (omega arith)
 is_no_read _ high = refl
 
 -- the faults of reading a term
-pub text_stops : (strict : Bool) (ds : List Declared) (text : List ℕ) (fault : Fault) → IsTermRead strict ds text (Err fault) → IsStop fault
+pub text_stops : (strict : Bool) (ds : List Declared) (text : List ℕ) (fault : Fault) →
+    IsTermRead strict ds text (Err fault) → IsStop fault
 text_stops strict ds text faults.Memory reading = inl (omega arith, omega arith)
 text_stops strict ds text (faults.TermOversize at) reading = inr (omega arith, omega arith)
 text_stops strict ds text (faults.TermSyntax at) reading = inr (omega arith, omega arith)
 text_stops strict ds text faults.TermUndeclared reading = inr (omega arith, omega arith)
 text_stops strict ds text _ reading = absurd reading
 
-pub text_apart : (strict : Bool) (ds : List Declared) (text : List ℕ) (fault : Fault) → IsTermRead strict ds text (Err fault) → IsOfDefinitions fault → ⊥
+pub text_apart : (strict : Bool) (ds : List Declared) (text : List ℕ) (fault : Fault) →
+    IsTermRead strict ds text (Err fault) → IsOfDefinitions fault → ⊥
 text_apart strict ds text faults.Memory reading of_definitions = omega arith
 text_apart strict ds text (faults.TermOversize at) reading of_definitions = omega arith
 text_apart strict ds text (faults.TermSyntax at) reading of_definitions = omega arith
 text_apart strict ds text faults.TermUndeclared reading of_definitions = omega arith
 text_apart strict ds text _ reading of_definitions = absurd reading
 
-pub text_no_read : (strict : Bool) (ds : List Declared) (text : List ℕ) (fault : Fault) → IsTermRead strict ds text (Err fault) → is_read fault ≡ false
+pub text_no_read : (strict : Bool) (ds : List Declared) (text : List ℕ) (fault : Fault) →
+    IsTermRead strict ds text (Err fault) → is_read fault ≡ false
 text_no_read strict ds text faults.Read reading = absurd reading
 text_no_read strict ds text _ reading = refl
 
@@ -65,14 +68,17 @@ program_stops S defs (faults.Syntax at) made = inr (omega arith, omega arith)
 program_stops S defs (faults.Nesting at) made = inr (omega arith, omega arith)
 program_stops S defs fault made = inr (check_fault_refuses fault made)
 
-pub program_no_read : (S : Setting) (defs : List ℕ) (fault : Fault) → IsProgram S defs (Err fault) → is_read fault ≡ false
+pub program_no_read : (S : Setting) (defs : List ℕ) (fault : Fault) → IsProgram S defs (Err fault) →
+    is_read fault ≡ false
 program_no_read S defs faults.Read made = absurd (no_check_fault faults.Read made (λ numbered. omega arith))
 program_no_read S defs _ made = refl
 
 -- with such a fault, if it is not one of memory, definitions of this length are refused
-pub program_refused : (S : Setting) (defs : List ℕ) (fault : Fault) → length defs ≤ max_definitions → 2 < number_of fault → IsProgram S defs (Err fault) → AreRefused S defs fault
+pub program_refused : (S : Setting) (defs : List ℕ) (fault : Fault) → length defs ≤ max_definitions →
+    2 < number_of fault → IsProgram S defs (Err fault) → AreRefused S defs fault
 program_refused S defs faults.Memory short high made = absurd (omega arith)
-program_refused S defs faults.DefsTooLong short high made = absurd (no_check_fault faults.DefsTooLong made (λ numbered. omega arith))
+program_refused S defs faults.DefsTooLong short high made =
+    absurd (no_check_fault faults.DefsTooLong made (λ numbered. omega arith))
 program_refused S defs (faults.Lexical at) short high made = (short, made)
 program_refused S defs (faults.ReservedWord at) short high made = (short, made)
 program_refused S defs (faults.Syntax at) short high made = (short, made)
@@ -81,7 +87,8 @@ program_refused S defs _ short high made = (short, made)
 
 -- what is judged of a text is judged of what a reader told
 pub verdict_told : (S : Setting) (told : Option (List ℕ)) (text : List ℕ) (verdict : Result (Option Fault) Fault) →
-    IfSome told (λ bytes. text ≡ bytes) → IfOk verdict (IsVerdict S text) → IfOk verdict (λ v. IfSome told (λ bytes. IsVerdict S bytes v))
+    IfSome told (λ bytes. text ≡ bytes) → IfOk verdict (IsVerdict S text) →
+    IfOk verdict (λ v. IfSome told (λ bytes. IsVerdict S bytes v))
 verdict_told S told text (Err fault) same judged = tt
 verdict_told S None text (Ok v) same judged = tt
 verdict_told S (Some bytes) text (Ok v) same judged = subst (λ (b : List ℕ). IsVerdict S b v) same judged

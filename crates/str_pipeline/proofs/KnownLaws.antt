@@ -1,5 +1,6 @@
 -- Which primitives there are, by the names of a registry and by the definitions that passed the checks.
-use Rattle.std.proofs.Common.{◌≡◌, ◌<◌, ◌↔◌, ℕ, zero, suc, true, List, [], ◌∷◌, Contains, length, get_or, refl, arith}
+use Rattle.std.proofs.Common.{◌≡◌, ◌<◌, ◌↔◌, ℕ, true, List, [], Contains, length}
+use Rattle.std.proofs.lemmas.List.{get_or_default}
 use Rattle.std.specs.Prelude.{None}
 use Rattle.term_model.specs.Flat.{Meaning}
 use Rattle.term_model.specs.PrimNames.{NameKey, key_at}
@@ -27,21 +28,21 @@ module _ (xs ys : List NameKey) (same : HaveSame xs ys) where
   pub same_setting : (M : Meaning) (options : Options) → setting_with M xs options ≡ setting_with M ys options
   same_setting M options = λ i. record { options = options; has_primitive = λ f n. held_alike f n i; meaning = M }
 
-at_default : (keys : List NameKey) (i : ℕ) (a b : NameKey) → i < length keys → get_or keys i a ≡ get_or keys i b
-at_default [] i a b h = absurd (omega arith)
-at_default (k ∷ ks) zero a b h = refl
-at_default (k ∷ ks) (suc i) a b h = at_default ks i a b (omega arith)
-
 -- a registry of these names has each of those that are among them
-pub covered : (prims names entries : List NameKey) → HaveSame names entries → ((f : Bytes) (n : ℕ) → Contains prims (f, n) → Contains names (f, n))
+pub covered : (prims names entries : List NameKey) → HaveSame names entries →
+    ((f : Bytes) (n : ℕ) → Contains prims (f, n) → Contains names (f, n))
     → (i : ℕ) → i < length prims → Contains entries (key_at prims i)
 covered prims names entries same among i within =
     let key = key_at prims i in
-    (same key).0 (among key.0 key.1 (i, within, at_default prims i key ([], 0) within))
+    (same key).0 (among key.0 key.1 (i, within, get_or_default prims i key ([], 0) within))
 
 -- a primitive of the core of a file without a fault is among those there are
-pub known : (names : List NameKey) (f : FileTree) (main : Bytes) (core : CoreParts) → first_fault (holds names) f main ≡ None
-    → ResolvesProgram (program_of_file f) (written main) (program_of core) core.main → AreOccurring core.prims (program_of core)
+pub known : (names : List NameKey) (f : FileTree) (main : Bytes) (core : CoreParts) →
+    first_fault (holds names) f main ≡ None
+    → ResolvesProgram (program_of_file f) (written main) (program_of core) core.main →
+    AreOccurring core.prims (program_of core)
     → (name : Bytes) (k : ℕ) → Contains core.prims (name, k) → Contains names (name, k)
 known names f main core passes resolved occurring name k there =
-    (holds-contains names name k).0 (known_primitives (holds names) f main (program_of core) core.main passes resolved name k ((occurring name k).0 there))
+    (holds-contains names name k).0
+    (known_primitives (holds names) f main (program_of core)
+    core.main passes resolved name k ((occurring name k).0 there))

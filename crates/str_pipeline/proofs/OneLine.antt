@@ -41,18 +41,22 @@ same_tokens {ts = ts} one other = other.only ts one.tokens
 -- bytes whose tokens hold no word of a left-out part do not hold one
 none_held : {bytes : List ℕ} {ts : List Token} → AreTokens bytes ts → HoldsLeftOut bytes → ⊥
 none_held {ts = ts} are held =
-    let holds : holds_left_out ts ≡ true = subst (λ us. holds_left_out us ≡ true) (same_tokens held.only are.only) held.holds in
+    let holds : holds_left_out ts ≡ true =
+    subst (λ us. holds_left_out us ≡ true) (same_tokens held.only are.only) held.holds in
     let wrong : false ≡ true = sym are.none_left_out ∙ holds in cc
 
 -- tokens that are nested too deep are no others that are not
-not_nested : {bytes : List ℕ} {ts : List Token} → AreTokens bytes ts → (TooNested (lexemes bytes ts) → ⊥) → AreTooNested bytes → ⊥
+not_nested : {bytes : List ℕ} {ts : List Token} → AreTokens bytes ts → (TooNested (lexemes bytes ts) → ⊥) →
+    AreTooNested bytes → ⊥
 not_nested {bytes = bytes} are flat deep =
     flat (subst (λ us. TooNested (lexemes bytes us)) (same_tokens deep.are_tokens.only are.only) deep.nested)
 
 -- the phrase of other tokens of the same bytes
-phrase_again : {bytes : List ℕ} {ts us : List Token} (f : FileTree) → AreTokens bytes ts → AreTokens bytes us → IsPhrase (lexemes bytes ts) f →
+phrase_again : {bytes : List ℕ} {ts us : List Token} (f : FileTree) → AreTokens bytes ts → AreTokens bytes us →
+    IsPhrase (lexemes bytes ts) f →
     IsPhrase (lexemes bytes us) f
-phrase_again {bytes = bytes} f one other is = subst (λ ts. IsPhrase (lexemes bytes ts) f) (same_tokens one.only other.only) is
+phrase_again {bytes = bytes} f one other is =
+    subst (λ ts. IsPhrase (lexemes bytes ts) f) (same_tokens one.only other.only) is
 
 -- ---- files
 
@@ -66,19 +70,23 @@ a_phrase {f = f} file other = other.none f (phrase_again f file.are_tokens other
 
 -- of one file
 same_file : {bytes : List ℕ} {f g : FileTree} → IsFile bytes f → IsFile bytes g → f ≡ g
-same_file {f = f} file other = other.only_phrase.only_one f (phrase_again f file.are_tokens other.are_tokens file.only_phrase.phrase)
+same_file {f = f} file other = other.only_phrase.only_one f
+    (phrase_again f file.are_tokens other.are_tokens file.only_phrase.phrase)
 
 -- which has one first fault
 same_first : {S : Setting} {bytes : List ℕ} {f g : Fault} → FailsChecks S bytes f → FailsChecks S bytes g → f ≡ g
 same_first {S = S} bad wrong =
-    let same = ap (λ file. first_fault S.has_primitive (with_library file) S.options.main.items) (same_file bad.is_file wrong.is_file) in
+    let same = ap (λ file. first_fault S.has_primitive (with_library file) S.options.main.items)
+    (same_file bad.is_file wrong.is_file) in
     some_is_one (sym bad.fails ∙ (same ∙ wrong.fails))
 
 -- or none
-no_fault : {S : Setting} {bytes : List ℕ} {f : FileTree} {fault : Fault} → FailsChecks S bytes fault → PassesChecks S bytes f → ⊥
+no_fault : {S : Setting} {bytes : List ℕ} {f : FileTree} {fault : Fault} → FailsChecks S bytes fault →
+    PassesChecks S bytes f → ⊥
 no_fault {S = S} bad good =
     let same = ap with_library (same_file bad.is_file good.is_file) ∙ sym good.extended in
-    some_is_no_none (sym bad.fails ∙ (ap (λ file. first_fault S.has_primitive file S.options.main.items) same ∙ good.passes))
+    some_is_no_none (sym bad.fails ∙
+    (ap (λ file. first_fault S.has_primitive file S.options.main.items) same ∙ good.passes))
 
 -- ---- causes
 
@@ -119,8 +127,10 @@ same_cause (fails short bad) (no_tokens also none) = absurd (no_tokens_of_file b
 same_cause (no_tokens also none) (fails short bad) = absurd (no_tokens_of_file bad.is_file none)
 same_cause (fails short bad) (left_out also held) = absurd (none_held bad.is_file.are_tokens held)
 same_cause (left_out also held) (fails short bad) = absurd (none_held bad.is_file.are_tokens held)
-same_cause (fails short bad) (too_nested also deep) = absurd (not_nested bad.is_file.are_tokens bad.is_file.not_nested deep)
-same_cause (too_nested also deep) (fails short bad) = absurd (not_nested bad.is_file.are_tokens bad.is_file.not_nested deep)
+same_cause (fails short bad) (too_nested also deep) =
+    absurd (not_nested bad.is_file.are_tokens bad.is_file.not_nested deep)
+same_cause (too_nested also deep) (fails short bad) =
+    absurd (not_nested bad.is_file.are_tokens bad.is_file.not_nested deep)
 same_cause (fails short bad) (no_phrase also none) = absurd (a_phrase bad.is_file none)
 same_cause (no_phrase also none) (fails short bad) = absurd (a_phrase bad.is_file none)
 same_cause (too_long long) (no_tokens short none) = absurd (omega arith)
@@ -154,13 +164,16 @@ no_file (no_phrase short none) (also, good) = a_phrase good.is_file none
 no_file (fails short bad) (also, good) = no_fault bad good
 
 -- nor is what a reader told, where these bytes are all of it
-pub none_refused : (S : Setting) (told : Option (List ℕ)) (defs : List ℕ) (f : FileTree) (Y : Type 0) → IfSome told (λ d. defs ≡ d) →
+pub none_refused : (S : Setting) (told : Option (List ℕ)) (defs : List ℕ) (f : FileTree) (Y : Type 0) →
+    IfSome told (λ d. defs ≡ d) →
     AreAccepted S defs f → IfSome told (λ d. (fault : Fault) → AreRefused S d fault → Y)
 none_refused S None defs f Y same accepted = tt
-none_refused S (Some d) defs f Y same accepted = λ fault refused. absurd (no_file (cause_of S defs fault (rw same refused)) accepted)
+none_refused S (Some d) defs f Y same accepted =
+    λ fault refused. absurd (no_file (cause_of S defs fault (rw same refused)) accepted)
 
 -- nor those of each split of what a reader told, where these are the definitions of one
-pub none_refused_joined : (S : Setting) (old new : Option (List ℕ)) (defs : List ℕ) (rest : List ℕ → List ℕ) (f : FileTree) (Y : Type 0) →
+pub none_refused_joined : (S : Setting) (old new : Option (List ℕ)) (defs : List ℕ) (rest : List ℕ →
+    List ℕ) (f : FileTree) (Y : Type 0) →
     IfSome old (λ told. IsSomeAnd new (λ left. IsSplit told defs (rest left))) → AreAccepted S defs f →
     IfSome old (λ told. (d t : List ℕ) → IsSplit told d t → (fault : Fault) → AreRefused S d fault → Y)
 none_refused_joined S old new defs rest f Y split accepted =
@@ -176,17 +189,21 @@ within_told S (Some bytes) n m h = λ d t split fault refused. h
 
 -- they are those of one file
 one_file : {S : Setting} {defs : List ℕ} {f g : FileTree} → AreAccepted S defs f → AreAccepted S defs g → f ≡ g
-one_file (short, good) (also, other) = good.extended ∙ (ap with_library (same_file good.is_file other.is_file) ∙ sym other.extended)
+one_file (short, good) (also, other) =
+    good.extended ∙ (ap with_library (same_file good.is_file other.is_file) ∙ sym other.extended)
 
 -- ---- refusals of terms
 
 data TermCause (strict : Bool) (f : FileTree) (text : List ℕ) : Fault → Type 0 where
   long_term : max_term < length text → TermCause strict f text TermTooLong
-  large_term : {at : ℕ} → length text ≤ max_term → IsReading text (Err (TermOversize at)) → TermCause strict f text (TermOversize at)
-  no_term : {at : ℕ} → length text ≤ max_term → IsReading text (Err (TermSyntax at)) → TermCause strict f text (TermSyntax at)
+  large_term : {at : ℕ} → length text ≤ max_term → IsReading text (Err (TermOversize at)) →
+      TermCause strict f text (TermOversize at)
+  no_term : {at : ℕ} → length text ≤ max_term → IsReading text (Err (TermSyntax at)) →
+      TermCause strict f text (TermSyntax at)
   undeclared_term : strict ≡ true → IsUndeclared f text → TermCause strict f text TermUndeclared
 
-term_cause_of : (strict : Bool) (f : FileTree) (text : List ℕ) (fault : Fault) → IsRefused strict f text fault → TermCause strict f text fault
+term_cause_of : (strict : Bool) (f : FileTree) (text : List ℕ) (fault : Fault) → IsRefused strict f text fault →
+    TermCause strict f text fault
 term_cause_of strict f text TermTooLong long = long_term long
 term_cause_of strict f text (TermOversize at) (short, reading) = large_term short reading
 term_cause_of strict f text (TermSyntax at) (short, reading) = no_term short reading
@@ -194,7 +211,8 @@ term_cause_of strict f text TermUndeclared (on, undeclared) = undeclared_term on
 term_cause_of strict f text _ refused = absurd refused
 
 -- a text that is too large is not one that spells no term
-large_or_none : {text : List ℕ} (at place : ℕ) → IsReading text (Err (TermOversize at)) → IsReading text (Err (TermSyntax place)) → ⊥
+large_or_none : {text : List ℕ} (at place : ℕ) → IsReading text (Err (TermOversize at)) →
+    IsReading text (Err (TermSyntax place)) → ⊥
 large_or_none at place (inl deep) (flat, none) = flat deep
 large_or_none at place (inr (t, spelled, large)) (flat, none) = none t spelled
 
@@ -208,7 +226,8 @@ large_or_term at {t = t} (inr (u, spells, large)) (short, spelled) =
 none_or_term : {text : List ℕ} (at : ℕ) {t : Tree} → IsReading text (Err (TermSyntax at)) → IsTerm text t → ⊥
 none_or_term at {t = t} (flat, none) (short, spelled) = none t spelled.spells
 
-same_term_cause : {strict : Bool} {file : FileTree} {text : List ℕ} {f g : Fault} → TermCause strict file text f → TermCause strict file text g → AreOne f g
+same_term_cause : {strict : Bool} {file : FileTree} {text : List ℕ} {f g : Fault} → TermCause strict file text f →
+    TermCause strict file text g → AreOne f g
 same_term_cause (long_term long) (long_term also) = (refl, refl)
 same_term_cause (large_term short r) (large_term also q) = (refl, refl)
 same_term_cause (no_term short r) (no_term also q) = (refl, refl)
@@ -230,7 +249,8 @@ same_term_cause (undeclared_term on u) (no_term {at = at} short r) = absurd (non
 one_tree : {text : List ℕ} {t u : Tree} → IsTerm text t → IsTerm text u → t ≡ u
 one_tree {t = t} (short, spelled) (also, other) = other.only t spelled.spells
 
-no_accepted_term : {strict : Bool} {f : FileTree} {text : List ℕ} {fault : Fault} {t : Tree} → TermCause strict f text fault → IsAccepted strict f text t → ⊥
+no_accepted_term : {strict : Bool} {f : FileTree} {text : List ℕ} {fault : Fault} {t : Tree} →
+    TermCause strict f text fault → IsAccepted strict f text t → ⊥
 no_accepted_term (long_term long) ((short, spelled), declared) = omega arith
 no_accepted_term (large_term {at = at} short r) (is_term, declared) = large_or_term at r is_term
 no_accepted_term (no_term {at = at} short r) (is_term, declared) = none_or_term at r is_term
@@ -240,17 +260,20 @@ no_accepted_term {f = f} {t = t} (undeclared_term on u) (is_term, declared) =
     subst (λ (v : Tree). term_is_declared (declarations_of f) v ≡ false) (one_tree u.is_term is_term) u.undeclared in
     let wrong : false ≡ true = sym missing ∙ known in cc
 
-one_term : (strict : Bool) (f g : FileTree) {text : List ℕ} {t u : Tree} → IsAccepted strict f text t → IsAccepted strict g text u → t ≡ u
+one_term : (strict : Bool) (f g : FileTree) {text : List ℕ} {t u : Tree} → IsAccepted strict f text t →
+    IsAccepted strict g text u → t ≡ u
 one_term strict f g (is_term, declared) (also, known) = one_tree is_term also
 
 -- ---- the line
 
 -- what is said of a file holds of another one of the same definitions
-in_file : {S : Setting} {defs : List ℕ} (f g : FileTree) (X : FileTree → Type 0) → AreAccepted S defs f → AreAccepted S defs g → X f → X g
+in_file : {S : Setting} {defs : List ℕ} (f g : FileTree) (X : FileTree → Type 0) → AreAccepted S defs f →
+    AreAccepted S defs g → X f → X g
 in_file f g X accepted also known = subst X (one_file accepted also) known
 
 -- the first fault
-one_fault : (defs term : List ℕ) (S : Setting) (f g : Fault) → IsFirstFault defs term S f → IsFirstFault defs term S g → AreOne f g
+one_fault : (defs term : List ℕ) (S : Setting) (f g : Fault) → IsFirstFault defs term S f → IsFirstFault defs term S g →
+    AreOne f g
 one_fault defs term S f g (inl x) (inl y) = same_cause (cause_of _ _ f x) (cause_of _ _ g y)
 one_fault defs term S f g (inl x) (inr (file, accepted, y)) = absurd (no_file (cause_of _ _ f x) accepted)
 one_fault defs term S f g (inr (file, accepted, x)) (inl y) = absurd (no_file (cause_of _ _ g y) accepted)
@@ -280,48 +303,69 @@ ended_or_spent f main {n = n} {o = o} derived within none = let more : _ < n = n
 
 -- the statuses and the lines of one file and one term
 one_answer : (M : Meaning) (f : FileTree) (main : Bytes) (t : Tree) (budget : ℕ) (s r : Status) (line other : List ℕ) →
-    IsRun s → IsRun r → IsAnswer M f main t budget s line → IsAnswer M f main t budget r other → AreAlike s r × (line ≡ other)
+    IsRun s → IsRun r → IsAnswer M f main t budget s line → IsAnswer M f main t budget r other → AreAlike s r ×
+    (line ≡ other)
 one_answer M f main t budget _ _ line other rewritten rewritten (u, e, n, x, within, is) (v, g, m, y, also, be) =
     let same = (unique x y).outcome in (refl, cc)
-one_answer M f main t budget _ _ line other rewritten failing (u, e, n, x, within, is) (m, y, also, be) = let same = (unique x y).outcome in (cc, cc)
-one_answer M f main t budget _ _ line other rewritten too_large (u, e, n, x, within, is) (m, y, also, be) = let same = (unique x y).outcome in (cc, cc)
-one_answer M f main t budget _ _ line other rewritten spending (u, e, n, x, within, is) (none, be) = absurd (ended_or_spent f main x within none)
-one_answer M f main t budget _ _ line other failing rewritten (n, x, within, is) (v, g, m, y, also, be) = let same = (unique x y).outcome in (cc, cc)
+one_answer M f main t budget _ _ line other rewritten failing (u, e, n, x, within, is) (m, y, also, be) = let same =
+    (unique x y).outcome in (cc, cc)
+one_answer M f main t budget _ _ line other rewritten too_large (u, e, n, x, within, is) (m, y, also, be) = let same =
+    (unique x y).outcome in (cc, cc)
+one_answer M f main t budget _ _ line other rewritten spending (u, e, n, x, within, is) (none, be) =
+    absurd (ended_or_spent f main x within none)
+one_answer M f main t budget _ _ line other failing rewritten (n, x, within, is) (v, g, m, y, also, be) = let same =
+    (unique x y).outcome in (cc, cc)
 one_answer M f main t budget _ _ line other failing failing (n, x, within, is) (m, y, also, be) = (refl, cc)
-one_answer M f main t budget _ _ line other failing too_large (n, x, within, is) (m, y, also, be) = let same = (unique x y).outcome in (cc, cc)
-one_answer M f main t budget _ _ line other failing spending (n, x, within, is) (none, be) = absurd (ended_or_spent f main x within none)
-one_answer M f main t budget _ _ line other too_large rewritten (n, x, within, is) (v, g, m, y, also, be) = let same = (unique x y).outcome in (cc, cc)
-one_answer M f main t budget _ _ line other too_large failing (n, x, within, is) (m, y, also, be) = let same = (unique x y).outcome in (cc, cc)
+one_answer M f main t budget _ _ line other failing too_large (n, x, within, is) (m, y, also, be) = let same =
+    (unique x y).outcome in (cc, cc)
+one_answer M f main t budget _ _ line other failing spending (n, x, within, is) (none, be) =
+    absurd (ended_or_spent f main x within none)
+one_answer M f main t budget _ _ line other too_large rewritten (n, x, within, is) (v, g, m, y, also, be) = let same =
+    (unique x y).outcome in (cc, cc)
+one_answer M f main t budget _ _ line other too_large failing (n, x, within, is) (m, y, also, be) = let same =
+    (unique x y).outcome in (cc, cc)
 one_answer M f main t budget _ _ line other too_large too_large (n, x, within, is) (m, y, also, be) = (refl, cc)
-one_answer M f main t budget _ _ line other too_large spending (n, x, within, is) (none, be) = absurd (ended_or_spent f main x within none)
-one_answer M f main t budget _ _ line other spending rewritten (none, is) (v, g, m, y, also, be) = absurd (ended_or_spent f main y also none)
-one_answer M f main t budget _ _ line other spending failing (none, is) (m, y, also, be) = absurd (ended_or_spent f main y also none)
-one_answer M f main t budget _ _ line other spending too_large (none, is) (m, y, also, be) = absurd (ended_or_spent f main y also none)
+one_answer M f main t budget _ _ line other too_large spending (n, x, within, is) (none, be) =
+    absurd (ended_or_spent f main x within none)
+one_answer M f main t budget _ _ line other spending rewritten (none, is) (v, g, m, y, also, be) =
+    absurd (ended_or_spent f main y also none)
+one_answer M f main t budget _ _ line other spending failing (none, is) (m, y, also, be) =
+    absurd (ended_or_spent f main y also none)
+one_answer M f main t budget _ _ line other spending too_large (none, is) (m, y, also, be) =
+    absurd (ended_or_spent f main y also none)
 one_answer M f main t budget _ _ line other spending spending (none, is) (nothing, be) = (refl, cc)
 
 -- the status and the line of a run, or of a refusal
 data Line (defs term : List ℕ) (S : Setting) : Status → List ℕ → Type 0 where
   of_run : {line : List ℕ} (status : Status) → IsRun status → (f : FileTree) (t : Tree) → AreAccepted S defs f →
-      IsAccepted S.options.strict f term t → IsAnswer S.meaning f S.options.main.items t S.options.budget status line → Line defs term S status line
-  of_fault : {line : List ℕ} (fault : Fault) → IsFirstFault defs term S fault → line ≡ refusal_line fault → Line defs term S (Refused fault) line
+      IsAccepted S.options.strict f term t → IsAnswer S.meaning f S.options.main.items t S.options.budget status line →
+      Line defs term S status line
+  of_fault : {line : List ℕ} (fault : Fault) → IsFirstFault defs term S fault → line ≡ refusal_line fault →
+      Line defs term S (Refused fault) line
 
 line_of_status : (defs term : List ℕ) (S : Setting) (status : Status) (line : List ℕ) →
     IsWritten defs term S status line → Line defs term S status line
 line_of_status defs term S (Refused fault) line (first, is) = of_fault fault first is
-line_of_status defs term S Rewritten line (f, t, file, spelled, answer) = of_run Rewritten rewritten f t file spelled answer
+line_of_status defs term S Rewritten line (f, t, file, spelled, answer) =
+    of_run Rewritten rewritten f t file spelled answer
 line_of_status defs term S Failed line (f, t, file, spelled, answer) = of_run Failed failing f t file spelled answer
-line_of_status defs term S Oversize line (f, t, file, spelled, answer) = of_run Oversize too_large f t file spelled answer
+line_of_status defs term S Oversize line (f, t, file, spelled, answer) =
+    of_run Oversize too_large f t file spelled answer
 line_of_status defs term S Spent line (f, t, file, spelled, answer) = of_run Spent spending f t file spelled answer
 
 one_of_lines : {defs term : List ℕ} {S : Setting} {s r : Status} {line other : List ℕ} → Line defs term S s line →
     Line defs term S r other → AreAlike s r × (line ≡ other)
-one_of_lines {S = S} {line = line} {other = other} (of_run s x f t file spelled answer) (of_run r y g u also spells reply) =
+one_of_lines {S = S} {line = line} {other =
+    other} (of_run s x f t file spelled answer) (of_run r y g u also spells reply) =
     let same_file : g ≡ f = one_file also file in
     let same_term : u ≡ t = one_term S.options.strict g f spells spelled in
     let P : FileTree → Tree → Type 0 = λ h v. IsAnswer S.meaning h S.options.main.items v S.options.budget r other in
-    one_answer S.meaning f S.options.main.items t S.options.budget s r line other x y answer (subst (λ v. P f v) same_term (subst (λ h. P h u) same_file reply))
-one_of_lines {defs = defs} {term = term} {S = S} (of_run s x f t file spelled answer) (of_fault fault first is) = absurd (no_run defs term S fault first file spelled)
-one_of_lines {defs = defs} {term = term} {S = S} (of_fault fault first is) (of_run s x f t file spelled answer) = absurd (no_run defs term S fault first file spelled)
+    one_answer S.meaning f S.options.main.items t S.options.budget s r line other x y answer
+    (subst (λ v. P f v) same_term (subst (λ h. P h u) same_file reply))
+one_of_lines {defs = defs} {term = term} {S = S} (of_run s x f t file spelled answer) (of_fault fault first is) =
+    absurd (no_run defs term S fault first file spelled)
+one_of_lines {defs = defs} {term = term} {S = S} (of_fault fault first is) (of_run s x f t file spelled answer) =
+    absurd (no_run defs term S fault first file spelled)
 one_of_lines {defs = defs} {term = term} {S = S} (of_fault f x is) (of_fault g y be) =
     let one : AreOne f g = one_fault defs term S f g x y in
     (one.1, is ∙ (ap (λ w. line_of (codes "#refused " ++ w)) one.0 ∙ sym be))
@@ -329,4 +373,5 @@ one_of_lines {defs = defs} {term = term} {S = S} (of_fault f x is) (of_fault g y
 -- definitions and a term's text have one status and one line in a setting
 pub one_line : (defs term : List ℕ) (S : Setting) (s r : Status) (line other : List ℕ) →
     IsWritten defs term S s line → IsWritten defs term S r other → AreAlike s r × (line ≡ other)
-one_line defs term S s r line other x y = one_of_lines (line_of_status defs term S s line x) (line_of_status defs term S r other y)
+one_line defs term S s r line other x y =
+    one_of_lines (line_of_status defs term S s line x) (line_of_status defs term S r other y)

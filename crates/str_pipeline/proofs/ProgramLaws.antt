@@ -25,7 +25,8 @@ read_tokens : (text : List ℕ) (ts : Vec Token Global) → IsLexing text (Ok ts
 read_tokens text ts (only, none) = record { only = only; none_left_out = none }
 
 -- the file that they are
-pub read_file : (text : List ℕ) (ts : Vec Token Global) (file : File) → IsLexing text (Ok ts) → IsParsing (lexemes text ts.items) (Ok file) →
+pub read_file : (text : List ℕ) (ts : Vec Token Global) (file : File) → IsLexing text (Ok ts) →
+    IsParsing (lexemes text ts.items) (Ok file) →
     IsFile text (file_of file)
 read_file text ts file lexed parsed = record {
   tokens = ts.items;
@@ -35,7 +36,8 @@ read_file text ts file lexed parsed = record {
 }
 
 -- a file in which something is wrong with the library after it
-fails : (S : Setting) (text : List ℕ) (file whole : File) (fault : Fault) → IsFile text (file_of file) → file_of whole ≡ with_library (file_of file) →
+fails : (S : Setting) (text : List ℕ) (file whole : File) (fault : Fault) → IsFile text (file_of file) →
+    file_of whole ≡ with_library (file_of file) →
     first_fault S.has_primitive (file_of whole) S.options.main.items ≡ Some fault → FailsChecks S text fault
 fails S text file whole fault is extended found = record {
   file = file_of file;
@@ -47,7 +49,8 @@ fails S text file whole fault is extended found = record {
 refused : (S : Setting) (text : List ℕ) (fault : Fault) → FailsChecks S text fault → IsProgram S text (Err fault)
 refused S text faults.Memory bad = tt
 refused S text (faults.Lexical at) bad = absurd (no_check_fault (faults.Lexical at) bad (λ numbered. omega arith))
-refused S text (faults.ReservedWord at) bad = absurd (no_check_fault (faults.ReservedWord at) bad (λ numbered. omega arith))
+refused S text (faults.ReservedWord at) bad =
+    absurd (no_check_fault (faults.ReservedWord at) bad (λ numbered. omega arith))
 refused S text (faults.Syntax at) bad = absurd (no_check_fault (faults.Syntax at) bad (λ numbered. omega arith))
 refused S text (faults.Nesting at) bad = absurd (no_check_fault (faults.Nesting at) bad (λ numbered. omega arith))
 refused S text _ bad = bad
@@ -56,9 +59,11 @@ no_memory : (S : Setting) (text : List ℕ) (fault : Fault) → fault ≡ faults
 no_memory S text fault is = rw is tt
 
 -- what the checks refuse
-pub not_passed : (S : Setting) (text : List ℕ) (ts : Vec Token Global) (file whole : File) (fault : Fault) → IsLexing text (Ok ts)
+pub not_passed : (S : Setting) (text : List ℕ) (ts : Vec Token Global) (file whole : File) (fault : Fault) →
+    IsLexing text (Ok ts)
     → IsParsing (lexemes text ts.items) (Ok file) → file_of whole ≡ with_library (file_of file)
-    → ((fault ≡ faults.Memory) ⊎ (first_fault S.has_primitive (file_of whole) S.options.main.items ≡ Some fault)) → IsProgram S text (Err fault)
+    → ((fault ≡ faults.Memory) ⊎ (first_fault S.has_primitive (file_of whole) S.options.main.items ≡ Some fault)) →
+    IsProgram S text (Err fault)
 not_passed S text ts file whole fault lexed parsed extended (inl is) = no_memory S text fault is
 not_passed S text ts file whole fault lexed parsed extended (inr found) =
     refused S text fault (fails S text file whole fault (read_file text ts file lexed parsed) extended found)
@@ -75,5 +80,7 @@ pub same_program : (checked file : File) (asked main : Bytes) (core : CoreParts)
     ResolvesProgram (program_of_file (file_of checked)) (written asked) (program_of core) core.main →
     ResolvesProgram (program_of_file (file_of file)) (written main) (program_of core) core.main
 same_program checked file asked main core is named resolved =
-    let of_file = subst (λ (f : File). ResolvesProgram (program_of_file (file_of f)) (written asked) (program_of core) core.main) is resolved in
-    subst (λ (x : Bytes). ResolvesProgram (program_of_file (file_of file)) (written x) (program_of core) core.main) named of_file
+    let of_file = subst (λ (f : File). ResolvesProgram (program_of_file (file_of f)) (written asked) (program_of core)
+    core.main) is resolved in
+    subst (λ (x : Bytes). ResolvesProgram (program_of_file (file_of file)) (written x) (program_of core) core.main)
+    named of_file

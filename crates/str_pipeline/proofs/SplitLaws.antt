@@ -30,17 +30,22 @@ DecidesLine text = ((line : List ℕ) × (after : List ℕ) × (text ≡ line ++
 no_line : (text line after : List ℕ) → ((rest : List ℕ) → text ≡ (codes "#term" ++ 10 ∷ []) ++ rest → ⊥)
     → ((rest : List ℕ) → text ≡ (codes "#term" ++ 13 ∷ 10 ∷ []) ++ rest → ⊥) → (text ≡ codes "#term" → ⊥)
     → text ≡ line ++ after → IsTermLine line after → ⊥
-no_line text line after no_feed no_return no_bare same (by_line_feed is) = no_feed after (same ∙ ap (λ (xs : List ℕ). xs ++ after) is)
-no_line text line after no_feed no_return no_bare same (by_return is) = no_return after (same ∙ ap (λ (xs : List ℕ). xs ++ after) is)
+no_line text line after no_feed no_return no_bare same (by_line_feed is) =
+    no_feed after (same ∙ ap (λ (xs : List ℕ). xs ++ after) is)
+no_line text line after no_feed no_return no_bare same (by_return is) =
+    no_return after (same ∙ ap (λ (xs : List ℕ). xs ++ after) is)
 no_line text line after no_feed no_return no_bare same (by_end is last) =
     no_bare (same ∙ (ap (λ (xs : List ℕ). xs ++ after) is ∙ ap (λ (xs : List ℕ). codes "#term" ++ xs) last))
 
 -- with neither ended line, one at the end of the text
 bare_line : (text : List ℕ) → ((rest : List ℕ) → text ≡ (codes "#term" ++ 10 ∷ []) ++ rest → ⊥)
-    → ((rest : List ℕ) → text ≡ (codes "#term" ++ 13 ∷ 10 ∷ []) ++ rest → ⊥) → Decides (codes "#term") text → DecidesLine text
+    → ((rest : List ℕ) → text ≡ (codes "#term" ++ 13 ∷ 10 ∷ []) ++ rest → ⊥) → Decides (codes "#term") text →
+    DecidesLine text
 bare_line text no_feed no_return (inl ([], same)) = inl (codes "#term", [], same, by_end refl refl)
-bare_line text no_feed no_return (inl (x ∷ rest, same)) = inr (λ line after. no_line text line after no_feed no_return (λ bare. cc))
-bare_line text no_feed no_return (inr none) = inr (λ line after. no_line text line after no_feed no_return (λ bare. none [] bare))
+bare_line text no_feed no_return (inl (x ∷ rest, same)) =
+    inr (λ line after. no_line text line after no_feed no_return (λ bare. cc))
+bare_line text no_feed no_return (inr none) =
+    inr (λ line after. no_line text line after no_feed no_return (λ bare. none [] bare))
 
 decide_line : (text : List ℕ) → DecidesLine text
 decide_line text = ⊎_elim
@@ -59,10 +64,13 @@ DecidesBegin before = IsBeforeLine before ⊎ (IsBeforeLine before → ⊥)
 
 decide_begin : (before : List ℕ) (y : ℕ) → DecidesBegin (before ++ y ∷ [])
 decide_begin before y = ⊎_elim
-    (λ (is : y ≡ 10). let h : DecidesBegin (before ++ y ∷ []) = inl (inr (before, ap (λ (b : ℕ). before ++ b ∷ []) is)) in h)
+    (λ (is : y ≡ 10). let h : DecidesBegin (before ++ y ∷ []) =
+    inl (inr (before, ap (λ (b : ℕ). before ++ b ∷ []) is)) in h)
     (λ (other : y ≡ 10 → ⊥). let h : DecidesBegin (before ++ y ∷ []) = inr (λ begins. ⊎_elim
-    (λ (empty : before ++ y ∷ [] ≡ []). let sizes : length before + 1 ≡ 0 = sym (length_push before y) ∙ ap length empty in let bad : ⊥ = omega arith in bad)
-    (λ (ended : (front : List ℕ) × (before ++ y ∷ [] ≡ front ++ 10 ∷ [])). other ((same_from_push before ended.0 y 10 ended.1).1))
+    (λ (empty : before ++ y ∷ [] ≡ []). let sizes : length before + 1 ≡ 0 =
+    sym (length_push before y) ∙ ap length empty in let bad : ⊥ = omega arith in bad)
+    (λ (ended : (front : List ℕ) ×
+    (before ++ y ∷ [] ≡ front ++ 10 ∷ [])). other ((same_from_push before ended.0 y 10 ended.1).1))
     begins) in h)
     (cases_eq y 10)
 
@@ -74,11 +82,22 @@ abbrev DecidesHere : List ℕ → List ℕ → Type 0
 DecidesHere text before = ((line : List ℕ) × (after : List ℕ) × HasTermLine text before line after)
     ⊎ ((line after : List ℕ) → HasTermLine text before line after → ⊥)
 
-decide_here : (text before rest : List ℕ) → text ≡ before ++ rest → DecidesBegin before → DecidesLine rest → DecidesHere text before
+decide_here : (text before rest : List ℕ) → text ≡ before ++ rest → DecidesBegin before → DecidesLine rest →
+    DecidesHere text before
 decide_here text before rest same (inl begins) (inl (line, after, parts, is_line)) =
-    inl (line, after, record { whole = same ∙ ap (λ (xs : List ℕ). before ++ xs) parts; begins = begins; is_line = is_line })
+    inl (
+      line,
+      after,
+      record {
+        whole = same ∙ ap (λ (xs : List ℕ). before ++ xs) parts;
+        begins = begins;
+        is_line =
+            is_line;
+      },
+    )
 decide_here text before rest same (inl begins) (inr none) =
-    inr (λ line after has. none line after (append_cancel_left before rest (line ++ after) (sym same ∙ has.whole)) has.is_line)
+    inr (λ line after has. none line after (append_cancel_left before rest (line ++ after) (sym same ∙ has.whole))
+    has.is_line)
 decide_here text before rest same (inr refuse) line = inr (λ line after has. refuse has.begins)
 
 none_here : (text before rest : List ℕ) → text ≡ before ++ rest → NoneBefore text (length before)
@@ -89,7 +108,8 @@ none_here text before rest same none refuse = λ front line after has. ⊎_elim
     let reached : length before ≤ length front = none front line after has in
     let sizes : length front ≡ length before = omega arith in
     let fronts_same : front ≡ before =
-    sym (take_at front (line ++ after) (length before) sizes) ∙ (ap (take (length before)) (sym has.whole ∙ same) ∙ take_at before rest (length before) refl) in
+    sym (take_at front (line ++ after) (length before) sizes) ∙
+    (ap (take (length before)) (sym has.whole ∙ same) ∙ take_at before rest (length before) refl) in
     absurd (refuse line after (subst (λ (x : List ℕ). HasTermLine text x line after) fronts_same has)))
     (cases_lt (length before) (length front))
 
@@ -97,7 +117,8 @@ abbrev HasSplit : List ℕ → Type 0
 HasSplit text = (d : List ℕ) × (t : List ℕ) × IsSplit text d t
 
 -- a text has a split where no such line begins before the rest of it
-split_from : (text before rest : List ℕ) → text ≡ before ++ rest → NoneBefore text (length before) → DecidesBegin before → HasSplit text
+split_from : (text before rest : List ℕ) → text ≡ before ++ rest → NoneBefore text (length before) →
+    DecidesBegin before → HasSplit text
 split_from text before [] same none begins = ⊎_elim
     (λ (found : (line : List ℕ) × (after : List ℕ) × HasTermLine text before line after).
     let h : HasSplit text = (before, found.1, parted found.2 none) in h)
@@ -108,7 +129,8 @@ split_from text before [] same none begins = ⊎_elim
       unparted (λ front line after has.
           let far : length before + 1 ≤ length front = none_here text before [] same none no front line after has in
           let whole : length text ≡ length before + 0 = ap length same ∙ length-append before [] in
-          let parts : length text ≡ length front + length (line ++ after) = ap length has.whole ∙ length-append front (line ++ after) in
+          let parts : length text ≡ length front + length (line ++ after) =
+          ap length has.whole ∙ length-append front (line ++ after) in
           let bad : ⊥ = omega arith in
           bad),
     ) in h)

@@ -1,3 +1,4 @@
+-- The headline does not rest on this file.
 -- What a device of this crate was asked to do, and what it has done.
 use Rattle.std.specs.Prelude.{ℕ, Bool, false, nat_le, List, drop, Option, None, Some}
 use Rattle.str_pipeline.specs.declared.counted.Counted.{Counted}

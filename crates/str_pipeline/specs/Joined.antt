@@ -1,5 +1,13 @@
+-- The headline does not rest on this file.
 -- The joined form: definitions, a line that is `#term`, and the text of a term.
-use Rattle.std.specs.Prelude.{◌≡◌, ℕ, ◌≤◌, ◌⊎◌, List, [], ◌∷◌, ◌++◌, length, codes}
+use Rattle.std.specs.Prelude.{◌≡◌, ℕ, ◌+◌, ◌≤◌, ◌⊎◌, List, [], ◌∷◌, ◌++◌, length, codes, Option, Result, IfOk, IfSome, if◌then◌else◌}
+use Rattle.term_model.specs.declared.fault.Fault.{Fault}
+use Rattle.str_pipeline.specs.Device.{Reader}
+use Rattle.str_pipeline.specs.Faults.{RefusesDefinitions, is_read_fault}
+use Rattle.str_pipeline.specs.Judged.{AreRefused}
+use Rattle.str_pipeline.specs.Limits.{max_definitions, max_term}
+use Rattle.str_pipeline.specs.Setting.{Setting}
+use Rattle.str_pipeline.specs.declared.status.Status.{Status}
 
 -- a line begins after these bytes: they are none, or end with a line feed
 abbrev pub IsBeforeLine : List ℕ → Type 0
@@ -20,5 +28,20 @@ pub record HasTermLine (text before line after : List ℕ) : Type 0 where
 -- the definitions and the term text: before and after the first such line; where there is none, all is definitions
 pub data IsSplit (text : List ℕ) : List ℕ → List ℕ → Type 0 where
   parted : {defs line term : List ℕ} → HasTermLine text defs line term →
-      ((before other after : List ℕ) → HasTermLine text before other after → length defs ≤ length before) → IsSplit text defs term
+      ((before other after : List ℕ) → HasTermLine text before other after → length defs ≤ length before) →
+      IsSplit text defs term
   unparted : ((before line after : List ℕ) → ¬ (HasTermLine text before line after)) → IsSplit text text []
+
+-- this holds of the two texts into which the bytes of one reader split in the joined form, if it shows them
+abbrev pub OfJoined : Option (List ℕ) → (List ℕ → List ℕ → Type 0) → Type 0
+OfJoined input holds = IfSome input (λ told. (d t : List ℕ) → IsSplit told d t → holds d t)
+
+-- what is read of one reader in the joined form: no more than the definitions and the line if they are refused
+pub record ReadsJoined {I : Type 0} (input : Reader I) (S : Setting) (old new : I) (result : Result Status Fault)
+    : Type 0 where
+  pub read_failed : input.failed_reads new ≡ input.failed_reads old + (if is_read_fault result then 1 else 0)
+  pub bounded : input.reads new ≤ input.reads old + max_definitions + 7 + max_term + 1
+  pub defs_bounded : IfOk result (λ status. RefusesDefinitions status →
+      input.reads new ≤ input.reads old + max_definitions + 7)
+  pub unread_told : IfSome (input.coming old) (λ told. (d t : List ℕ) → IsSplit told d t → (fault : Fault) →
+      AreRefused S d fault → input.reads new ≤ input.reads old + max_definitions + 7)

@@ -58,8 +58,8 @@ pub record PassesChecks (S : Setting) (bytes : List ℕ) (f : FileTree) : Type 0
   pub extended : f ≡ with_library file
   pub passes : first_fault S.has_primitive f S.options.main.items ≡ None
 
--- the definitions are refused with this fault: for their size, their tokens, their nesting, their phrase, or what the checks find in their file
--- with the library after it
+-- the definitions are refused with this fault: for their size, their tokens, their nesting, their phrase, or what the
+-- checks find in their file with the library after it
 abbrev pub AreRefused : Setting → List ℕ → Fault → Type 0
 AreRefused S defs DefsTooLong = max_definitions < length defs
 AreRefused S defs (Lexical at) = (length defs ≤ max_definitions) × HasNoTokens defs

@@ -8,3 +8,4 @@ pub mod Search
 pub mod Setting
 pub mod Steps
 pub mod Written
+pub mod Transformation

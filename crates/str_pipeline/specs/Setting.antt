@@ -19,5 +19,6 @@ abbrev pub setting_with : Meaning → List NameKey → Options → Setting
 setting_with M names options = record { options = options; has_primitive = holds names; meaning = M }
 
 -- the primitives are those of the registry
-abbrev pub setting_of : {M X Y : Type 0} {F : X → Type 0} {G : Y → Type 0} {g : _} {h : _} → Meaning → Registry M X Y F G g h → Options → Setting
+abbrev pub setting_of : {M X Y : Type 0} {F : X → Type 0} {G : Y → Type 0} {g : _} {h : _} → Meaning →
+    Registry M X Y F G g h → Options → Setting
 setting_of M r options = setting_with M (entries_of r) options

@@ -1,3 +1,4 @@
+-- The headline does not rest on this file.
 -- What the steps of a transformation return.
 use Rattle.std.specs.Prelude.{◌≡◌, ◌⊎◌, ℕ, Bool, true, false, List, codes, Result, Ok, Err, Vec}
 use Rattle.std.specs.Global.{Global}
@@ -34,8 +35,8 @@ use Rattle.str_pipeline.specs.declared.status.Status.TheVariants.{Rewritten, Fai
 abbrev pub IsStop : Fault → Type 0
 IsStop fault = IsReadingFault fault ⊎ IsRefusal fault
 
--- the code stands for a program over coordinates that the program of the file is resolved to, with the definition that the options name as the
--- one that is run, and its primitives are those that occur in that program
+-- the code stands for a program over coordinates that the program of the file is resolved to, with the definition that
+-- the options name as the one that is run, and its primitives are those that occur in that program
 pub record IsCodeOf (S : Setting) (f : FileTree) (code : CodeParts) : Type 0 where
   pub core : ResolvedDefinitions
   pub main : ℕ
@@ -61,12 +62,14 @@ IsProgram S defs (Err fault) = FailsChecks S defs fault
 -- what reading a term returns: in strict mode, one whose applications are among these declarations
 abbrev pub IsTermRead : Bool → List Declared → List ℕ → Result Tree Fault → Type 0
 IsTermRead strict ds text (Ok t) = IsReading text (Ok t) × (strict ≡ true → term_is_declared ds t ≡ true)
-IsTermRead strict ds text (Err TermUndeclared) = (strict ≡ true) × ((t : Tree) × IsReading text (Ok t) × (term_is_declared ds t ≡ false))
+IsTermRead strict ds text (Err TermUndeclared) = (strict ≡ true) ×
+    ((t : Tree) × IsReading text (Ok t) × (term_is_declared ds t ≡ false))
 IsTermRead strict ds text (Err fault) = IsReading text (Err fault)
 
 -- the outcome is that of each program that the code stands for
 pub record IsOutcomeOf (M : Meaning) (code : CodeParts) (t : Tree) (budget : ℕ) (outcome : Outcome Tree) : Type 0 where
-  pub each : (P : Definitions Name (List Name)) (main : Name) (C : ResolvedDefinitions) (i : ℕ) → StandsFor (code_of code.tables code.instrs) C i →
+  pub each : (P : Definitions Name (List Name)) (main : Name) (C : ResolvedDefinitions) (i : ℕ) →
+      StandsFor (code_of code.tables code.instrs) C i →
       AreOccurring code.prims C → ResolvesProgram P main C i → (n : ℕ) × IsOutcome M P main t budget outcome n
 
 abbrev pub status_of : {R : Type 0} → Outcome R → Status
@@ -94,7 +97,8 @@ pub record IsTextOf (told : Outcome (Vec ℕ Global)) (outcome : Outcome Tree) :
   pub line : text_line told ≡ outcome_line outcome
 
 -- the outcome of each program that the code stands for, with the text of the term
-pub record IsTextOfRun (M : Meaning) (code : CodeParts) (t : Tree) (budget : ℕ) (told : Outcome (Vec ℕ Global)) : Type 0 where
+pub record IsTextOfRun (M : Meaning) (code : CodeParts) (t : Tree) (budget : ℕ)
+    (told : Outcome (Vec ℕ Global)) : Type 0 where
   pub outcome : Outcome Tree
   pub is_outcome : IsOutcomeOf M code t budget outcome
   pub is_text : IsTextOf told outcome

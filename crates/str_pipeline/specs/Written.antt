@@ -30,14 +30,19 @@ Rewrites M f main t o n = named.Rewrites M (program_of_file f) (written main) t 
 
 -- the first fault: of the definitions, and of the term only where the definitions have none
 abbrev pub IsFirstFault : List ℕ → List ℕ → Setting → Fault → Type 0
-IsFirstFault defs term S fault = AreRefused S defs fault ⊎ ((f : FileTree) × AreAccepted S defs f × IsRefused S.options.strict f term fault)
+IsFirstFault defs term S fault =
+    AreRefused S defs fault ⊎ ((f : FileTree) × AreAccepted S defs f × IsRefused S.options.strict f term fault)
 
 -- what a file does with a term within the budget: the line and the status
 abbrev pub IsAnswer : Meaning → FileTree → Bytes → Tree → ℕ → Status → List ℕ → Type 0
-IsAnswer M f main t budget Rewritten line = (u : Tree) × (e : Bindings) × (n : ℕ) × Rewrites M f main t (ok u e) n × (n ≤ budget) × (line ≡ line_of (text u))
-IsAnswer M f main t budget Failed line = (n : ℕ) × Rewrites M f main t failed n × (n ≤ budget) × (line ≡ line_of (codes "#failed"))
-IsAnswer M f main t budget Oversize line = (n : ℕ) × Rewrites M f main t oversize n × (n ≤ budget) × (line ≡ line_of (codes "#oversize"))
-IsAnswer M f main t budget Spent line = ((o : Ending Tree) (n : ℕ) → Rewrites M f main t o n → budget < n) × (line ≡ line_of (codes "#spent"))
+IsAnswer M f main t budget Rewritten line = (u : Tree) × (e : Bindings) × (n : ℕ) × Rewrites M f main t (ok u e) n ×
+    (n ≤ budget) × (line ≡ line_of (text u))
+IsAnswer M f main t budget Failed line = (n : ℕ) × Rewrites M f main t failed n × (n ≤ budget) ×
+    (line ≡ line_of (codes "#failed"))
+IsAnswer M f main t budget Oversize line = (n : ℕ) × Rewrites M f main t oversize n × (n ≤ budget) ×
+    (line ≡ line_of (codes "#oversize"))
+IsAnswer M f main t budget Spent line = ((o : Ending Tree) (n : ℕ) → Rewrites M f main t o n → budget < n) ×
+    (line ≡ line_of (codes "#spent"))
 IsAnswer M f main t budget (Refused fault) line = ⊥
 
 -- the line and the status for these definitions and this text of a term, in this setting

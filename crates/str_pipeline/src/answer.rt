@@ -10,9 +10,10 @@ ghost use Rattle.str_pipeline.specs.Judged.{AreAccepted};
 ghost use Rattle.str_pipeline.specs.Written.{line_of, refusal_line};
 ghost use Rattle.str_pipeline.specs.Steps.{IsStop, IsProgramOf, IsTermRead, IsTextResult, status_of, text_line};
 ghost use Rattle.str_pipeline.specs.Faults.{IsOfDefinitions, IsTransferFault, is_read_fault, is_write_fault};
+ghost use Rattle.term_model.specs.Results.{Returns};
 
 use crate::program::Program;
-use crate::runs::{Holds, run_code};
+use crate::runs::{Holds, run_machine};
 use crate::sink::{Sink, write_all};
 use crate::status::{Options, Status};
 use aterm_text::read_in;
@@ -112,7 +113,8 @@ pub(crate) fn outcome_of<S: TermSpace + Holds + Drop, M: PrimMeaning>(
     requires fits { vec_len text ≤ max_term }
     requires honest { IsHonest M.answer registry.now }
     requires covers { Covers registry.now program.code.prims }
-    ensures result { (defs : List ℕ) (f : FileTree) → AreAccepted (setting_of M.answer registry.now options.now) defs f →
+    ensures result { (defs : List ℕ) (f : FileTree) →
+        AreAccepted (setting_of M.answer registry.now options.now) defs f →
         IsProgramOf (setting_of M.answer registry.now options.now) f program →
         IsTextResult defs text.items (setting_of M.answer registry.now options.now) result }
     ensures kinds { IfErr result IsStop }
@@ -122,7 +124,7 @@ pub(crate) fn outcome_of<S: TermSpace + Holds + Drop, M: PrimMeaning>(
     let Program { checked, code } = program;
     let mut space = space;
     let term = term_alone(alloc, &mut space, checked, text, options.strict, notes)?;
-    let outcome = run_code(alloc, space, &code, term, options.budget, registry, notes)?;
+    let outcome = run_machine(alloc, space, &code, term, options.budget, registry, notes)?;
     Ok(outcome)
 }
 
@@ -156,13 +158,14 @@ pub(crate) fn write_outcome<W: Sink>(
     outcome: Outcome<Vec<u8>>,
     out: &mut W,
 ) -> Result<Status, Fault>
-    ensures status { IfOk result (λ status. status ≡ status_of outcome) }
+    ensures status { Returns result (status_of outcome) }
     ensures whole { OnOk result
-        (Gains (W.written out.old) (W.written out.new) (text_line outcome)) }
+        (Gains (W.writer.written out.old) (W.writer.written out.new) (text_line outcome)) }
     ensures prefix { IsErrOf result Fault.Write →
-        GainsPrefix (W.written out.old) (W.written out.new) (text_line outcome) }
+        GainsPrefix (W.writer.written out.old) (W.writer.written out.new) (text_line outcome) }
     ensures untouched { IsErrOf result Fault.Memory → out.new ≡ out.old }
-    ensures failed { W.failed_writes out.new ≡ W.failed_writes out.old + (if is_write_fault result then 1 else 0) }
+    ensures failed { W.writer.failed_writes out.new ≡ W.writer.failed_writes out.old +
+        (if is_write_fault result then 1 else 0) }
     ensures kinds { IfErr result IsTransferFault }
     ensures read { is_read_fault result ≡ false }
 {
@@ -179,11 +182,14 @@ pub(crate) fn write_refusal<W: Sink>(
     fault: Fault,
     out: &mut W,
 ) -> Result<Status, Fault>
-    ensures status { IfOk result (λ status. status ≡ Status.Refused fault) }
-    ensures whole { OnOk result (Gains (W.written out.old) (W.written out.new) (refusal_line fault)) }
-    ensures prefix { IsErrOf result Fault.Write → GainsPrefix (W.written out.old) (W.written out.new) (refusal_line fault) }
+    ensures status { Returns result (Status.Refused fault) }
+    ensures whole { OnOk result (Gains (W.writer.written out.old) (W.writer.written out.new)
+        (refusal_line fault)) }
+    ensures prefix { IsErrOf result Fault.Write →
+        GainsPrefix (W.writer.written out.old) (W.writer.written out.new) (refusal_line fault) }
     ensures untouched { IsErrOf result Fault.Memory → out.new ≡ out.old }
-    ensures failed { W.failed_writes out.new ≡ W.failed_writes out.old + (if is_write_fault result then 1 else 0) }
+    ensures failed { W.writer.failed_writes out.new ≡ W.writer.failed_writes out.old +
+        (if is_write_fault result then 1 else 0) }
     ensures kinds { IfErr result IsTransferFault }
     ensures read { is_read_fault result ≡ false }
 {

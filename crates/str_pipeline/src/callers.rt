@@ -5,7 +5,7 @@ use diagnostics::{Listing, MOST_OF_NAME, push_cut, push_number};
 use std::alloc::{AllocError, Global};
 use strat_code::{Code, Instr};
 
-// How many definitions are named from the innermost one on, and how many up to the outermost one, where there are more.
+/// How many definitions are named from the innermost one on, and how many up to the outermost one, where there are more.
 const FIRST: usize = 8;
 
 const LAST: usize = 3;
@@ -25,7 +25,7 @@ pub(crate) fn call_sites(
     Ok(sites)
 }
 
-// For each address that of the call after which the run goes on there, or 0.
+/// For each address that of the call after which the run goes on there, or 0.
 fn calls_by_return(alloc: Global, code: &Code) -> Result<Vec<usize>, AllocError> {
     let mut calls = Vec::from_elem(alloc, 0usize, code.len().saturating_add(1))?;
     for (address, instr) in code.instrs().iter().enumerate() {
@@ -59,14 +59,14 @@ pub(crate) fn search_site(sites: &[Option<usize>], is_library: bool) -> Option<u
     None
 }
 
-// A definition that waits, and how often it does without another one in between.
+/// A definition that waits, and how often it does without another one in between.
 #[derive(Clone, Copy)]
 struct Caller {
     head: usize,
     count: usize,
 }
 
-// The definitions in which the calls stand, the innermost first.
+/// The definitions in which the calls stand, the innermost first.
 fn callers(
     alloc: Global,
     listing: &Listing,

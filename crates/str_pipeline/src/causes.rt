@@ -7,7 +7,7 @@ use strat_code::{Code, Instr, SourceMark};
 use strat_machine::Stand;
 use term_model::bytes::is_blank_byte;
 
-// The most bytes of a strategy that are shown.
+/// The most bytes of a strategy that are shown.
 const MOST_OF_STRATEGY: usize = 60;
 
 /// The instruction before which a run stands, with its place in the definitions.
@@ -44,7 +44,7 @@ impl<'a> Leaf<'a> {
         file_offset(self.mark)
     }
 
-    // The strategy as it is written.
+    /// The strategy as it is written.
     fn find_phrase(&self, listing: &Listing) -> Option<Phrase> {
         let offset = self.offset()?;
         let head = listing.head_before(offset)?;
@@ -161,7 +161,7 @@ pub(crate) fn search_failure(listing: &Listing, call: Option<Phrase>) -> &'stati
     b" fails".as_slice()
 }
 
-// Puts on the line that a `fail` is reached, or that a `not` fails.
+/// Puts on the line that a `fail` is reached, or that a `not` fails.
 fn push_giving_up(listing: &Listing, leaf: &Leaf, line: &mut Vec<u8>) -> Result<(), AllocError> {
     let Some(phrase) = leaf.phrase else {
         return line.extend_from_slice(b"'fail' is reached, or the strategy of a 'not' succeeds");
@@ -182,7 +182,7 @@ pub(crate) fn is_negation(listing: &Listing, leaf: &Leaf) -> bool {
     }
 }
 
-// Whether a phrase is `fail`.
+/// Whether a phrase is `fail`.
 fn is_fail(listing: &Listing, phrase: Phrase) -> bool {
     listing.text_of(phrase) == b"fail".as_slice()
 }
@@ -207,7 +207,7 @@ pub(crate) fn push_excess(
     line.extend_from_slice(b" makes the term")
 }
 
-// Puts on the line why a primitive has no result.
+/// Puts on the line why a primitive has no result.
 fn push_primitive(
     alloc: Global,
     listing: &Listing,
@@ -226,7 +226,7 @@ fn push_primitive(
     push_lack(alloc, listing, leaf, stand, line)
 }
 
-// Puts the call of a primitive on the line.
+/// Puts the call of a primitive on the line.
 fn push_primitive_call(
     listing: &Listing,
     leaf: &Leaf,
@@ -241,7 +241,7 @@ fn push_primitive_call(
     line.extend_from_slice(b"\", ..)")
 }
 
-// Puts on the line what a build or a call lacks: the first variable without a value or, where all have one, a list.
+/// Puts on the line what a build or a call lacks: the first variable without a value or, where all have one, a list.
 fn push_lack(
     alloc: Global,
     listing: &Listing,

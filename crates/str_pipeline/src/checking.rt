@@ -39,12 +39,13 @@ pub fn check_definitions<D: Source, M: PrimMeaning>(
     registry: &Registry<M>,
     notes: &mut RunNotes,
 ) -> Result<Option<Fault>, Fault>
-    ensures judged { IfOk result (λ verdict. IfSome (D.coming definitions.old) (λ d.
+    ensures judged { IfOk result (λ verdict. IfSome (D.reader.coming definitions.old) (λ d.
         IsVerdict (setting_of M.answer registry.now options.now) d verdict)) }
     ensures kinds { IfErr result IsReadingFault }
-    ensures failed { D.failed_reads definitions.new
-        ≡ D.failed_reads definitions.old + (if is_read_fault result then 1 else 0) }
-    ensures bounded { D.reads definitions.new ≤ D.reads definitions.old + max_definitions + 1 }
+    ensures failed { D.reader.failed_reads definitions.new
+        ≡ D.reader.failed_reads definitions.old + (if is_read_fault result then 1 else 0) }
+    ensures bounded { D.reader.reads definitions.new ≤ D.reader.reads definitions.old +
+        max_definitions + 1 }
 {
     notes.begin();
     let Some(text) = read_all(alloc, definitions, MAX_DEFINITIONS)? else {
@@ -65,7 +66,8 @@ fn judge<M: PrimMeaning>(
     notes: &mut RunNotes,
 ) -> Result<Option<Fault>, Fault>
     requires { length text.now ≤ max_definitions }
-    ensures judged { IfOk result (IsVerdict (setting_of M.answer registry.now options.now) text.now) }
+    ensures judged { IfOk result (IsVerdict
+        (setting_of M.answer registry.now options.now) text.now) }
     ensures kinds { IfErr result IsReadingFault }
     ensures read { is_read_fault result ≡ false }
 {

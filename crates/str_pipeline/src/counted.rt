@@ -41,11 +41,11 @@ impl<D> Counted<D> {
 }
 
 impl<D: Read> Source for Counted<D> {
-    ghost coming = { λ c. D.remaining (device_of c) };
-
-    ghost reads = { λ c. calls_of c };
-
-    ghost failed_reads = { λ c. failures_of c };
+    ghost reader = { record {
+      coming = λ c. D.remaining (device_of c);
+      reads = λ c. calls_of c;
+      failed_reads = λ c. failures_of c;
+    } };
 
     fn read(&mut self, piece: &mut [u8]) -> Option<usize> {
         self.calls.step();
@@ -65,11 +65,11 @@ impl<D: Read> Source for Counted<D> {
 }
 
 impl<D: Write> Sink for Counted<D> {
-    ghost written = { λ c. D.contents (device_of c) };
-
-    ghost writes = { λ c. calls_of c };
-
-    ghost failed_writes = { λ c. failures_of c };
+    ghost writer = { record {
+      written = λ c. D.contents (device_of c);
+      writes = λ c. calls_of c;
+      failed_writes = λ c. failures_of c;
+    } };
 
     fn write(&mut self, text: &[u8]) -> Option<usize> {
         self.calls.step();

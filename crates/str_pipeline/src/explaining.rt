@@ -21,28 +21,28 @@ use strat_code::Code;
 use strat_machine::{Account, Ending, Machine, Stand};
 use term_model::{Fault, Term};
 
-// The most rules for which a run is followed.
+/// The most rules for which a run is followed.
 const MOST_RULES: u32 = 100_000_000;
 
-// The most bytes of the text of a term that are shown.
+/// The most bytes of the text of a term that are shown.
 const MOST_OF_TERM: usize = 100;
 
-// The most variables whose terms are shown.
+/// The most variables whose terms are shown.
 const MOST_VARIABLES: usize = 8;
 
-// What is added to a failure inside a search.
+/// What is added to a failure inside a search.
 const LAST_IN_SEARCH: &[u8] = b", the last failure inside that call";
 
-// What the term is called on which a strategy of the file stands.
+/// What the term is called on which a strategy of the file stands.
 const CURRENT: &[u8] = b"the current term: ";
 
-// What the term is called that the strategy of a `not` made.
+/// What the term is called that the strategy of a `not` made.
 const MADE: &[u8] = b"the term that its strategy made: ";
 
-// What the last term is called to which a search of the library came.
+/// What the last term is called to which a search of the library came.
 const LAST_TRIED: &[u8] = b"the last term that was tried: ";
 
-// What is added to a failure in front of the last one.
+/// What is added to a failure in front of the last one.
 const DEEPEST: &[u8] = b", the deepest failure before that, and maybe the cause";
 
 /// Notes why a run has no result, if that is asked for and it has none, and warnings about its definitions. If memory for it is refused
@@ -79,7 +79,7 @@ pub(crate) fn note_explanation<M: PrimMeaning>(
     }
 }
 
-// The explanation of a run of these definitions, of which the first bytes are a library, on the term of this text.
+/// The explanation of a run of these definitions, of which the first bytes are a library, on the term of this text.
 fn explanation_of<M: PrimMeaning>(
     alloc: Global,
     definitions: &[u8],
@@ -110,17 +110,17 @@ fn explanation_of<M: PrimMeaning>(
     Ok(Explanation::new(remarks))
 }
 
-// What a run did, and where it stood.
+/// What a run did, and where it stood.
 #[derive(Drop)]
 struct Evidence {
     account: Account,
-    // Before its last instruction, if it has no result.
+    /// Before its last instruction, if it has no result.
     last: Option<Stand>,
-    // Before its deepest failure since a call last returned, if that is another one.
+    /// Before its deepest failure since a call last returned, if that is another one.
     deepest: Option<Stand>,
 }
 
-// Runs the code on the term of this text again, up to three times, each time in a space of its own.
+/// Runs the code on the term of this text again, up to three times, each time in a space of its own.
 fn run_again<M: PrimMeaning>(
     alloc: Global,
     code: &Code,
@@ -147,7 +147,7 @@ fn run_again<M: PrimMeaning>(
     })
 }
 
-// The account of a run of the code on the term of this text.
+/// The account of a run of the code on the term of this text.
 fn account_of<M: PrimMeaning>(
     alloc: Global,
     code: &Code,
@@ -161,11 +161,10 @@ fn account_of<M: PrimMeaning>(
     let mut space = FollowedSpace::new(alloc);
     let term = read_in(&mut space, alloc, text)?;
     let mut machine = Machine::new(alloc, space);
-    let account = machine.account(code, term, budget, registry)?;
-    Ok(account)
+    machine.account(code, term, budget, registry)
 }
 
-// Where such a run stands after this number of steps, if an instruction comes next.
+/// Where such a run stands after this number of steps, if an instruction comes next.
 fn stand_after<M: PrimMeaning>(
     alloc: Global,
     code: &Code,
@@ -180,23 +179,22 @@ fn stand_after<M: PrimMeaning>(
     let mut space = FollowedSpace::new(alloc);
     let term = read_in(&mut space, alloc, text)?;
     let mut machine = Machine::new(alloc, space);
-    let stand = machine.stand(code, term, budget, registry, count)?;
-    Ok(stand)
+    machine.stand(code, term, budget, registry, count)
 }
 
-// Makes the remarks of an explanation.
+/// Makes the remarks of an explanation.
 #[derive(Clone, Copy)]
 struct Explainer<'a> {
     alloc: Global,
     listing: &'a Listing<'a>,
     code: &'a Code,
     run: &'a Evidence,
-    // Whether the run was followed for fewer rules than it may use.
+    /// Whether the run was followed for fewer rules than it may use.
     is_short: bool,
 }
 
 impl<'a> Explainer<'a> {
-    // Adds the remarks.
+    /// Adds the remarks.
     fn explain(&self, remarks: &mut Vec<Remark>) -> Result<(), AllocError> {
         if self.run.account.ending != Ending::Spent {
             return match &self.run.last {
@@ -217,7 +215,7 @@ impl<'a> Explainer<'a> {
         }
     }
 
-    // Adds where the run was in the end: at the innermost strategy of the file.
+    /// Adds where the run was in the end: at the innermost strategy of the file.
     fn add_end(&self, stand: &Stand, remarks: &mut Vec<Remark>) -> Result<(), AllocError> {
         let sites = call_sites(self.alloc, self.code, &stand.waiting)?;
         let leaf = Leaf::new(self.listing, self.code, stand).and_then(|leaf| leaf.offset());
@@ -241,7 +239,7 @@ impl<'a> Explainer<'a> {
         self.add_callers(&sites[..waiting.min(sites.len())], remarks)
     }
 
-    // Adds what there is to say of the last instruction, and of the deepest failure in front of it.
+    /// Adds what there is to say of the last instruction, and of the deepest failure in front of it.
     fn add_last(&self, stand: &Stand, remarks: &mut Vec<Remark>) -> Result<(), AllocError> {
         let Some(leaf) = Leaf::new(self.listing, self.code, stand) else {
             return Ok(());
@@ -272,7 +270,7 @@ impl<'a> Explainer<'a> {
         }
     }
 
-    // Adds what there is to say of the deepest failure in front of the last one, if it came in a strategy of the file.
+    /// Adds what there is to say of the deepest failure in front of the last one, if it came in a strategy of the file.
     fn add_deepest(&self, stand: &Stand, remarks: &mut Vec<Remark>) -> Result<(), AllocError> {
         let Some(leaf) = Leaf::new(self.listing, self.code, stand) else {
             return Ok(());
@@ -285,7 +283,7 @@ impl<'a> Explainer<'a> {
         self.add_callers(&sites, remarks)
     }
 
-    // Adds what an instruction does, if it is one of the file, its term and its variables. The note comes after what it does.
+    /// Adds what an instruction does, if it is one of the file, its term and its variables. The note comes after what it does.
     fn add_leaf(
         &self,
         leaf: &Leaf<'_>,
@@ -300,7 +298,7 @@ impl<'a> Explainer<'a> {
         self.add_variables(leaf, stand, remarks)
     }
 
-    // What the term is called that stands where an instruction is.
+    /// What the term is called that stands where an instruction is.
     fn name_of_term(&self, leaf: &Leaf<'_>) -> &'static [u8] {
         if self.run.account.ending != Ending::Failed {
             CURRENT
@@ -313,7 +311,7 @@ impl<'a> Explainer<'a> {
         }
     }
 
-    // Adds that the call at this index fails, in which the library searches, and what waits for it.
+    /// Adds that the call at this index fails, in which the library searches, and what waits for it.
     fn add_search(
         &self,
         sites: &[Option<usize>],
@@ -337,7 +335,7 @@ impl<'a> Explainer<'a> {
         self.add_callers(&sites[..index.min(sites.len())], remarks)
     }
 
-    // Adds what an instruction does.
+    /// Adds what an instruction does.
     fn add_effect(
         &self,
         leaf: &Leaf<'_>,
@@ -360,7 +358,7 @@ impl<'a> Explainer<'a> {
         self.add_alternatives(offset, remarks)
     }
 
-    // Adds that the definition at this byte has other alternatives, if it has.
+    /// Adds that the definition at this byte has other alternatives, if it has.
     fn add_alternatives(&self, offset: usize, remarks: &mut Vec<Remark>) -> Result<(), AllocError> {
         let Some(head) = self.listing.head_before(offset) else {
             return Ok(());
@@ -379,7 +377,7 @@ impl<'a> Explainer<'a> {
         push_line(text, remarks)
     }
 
-    // Adds the text of the term, as much as stands on a line, after what it is called.
+    /// Adds the text of the term, as much as stands on a line, after what it is called.
     fn add_term(
         &self,
         name: &[u8],
@@ -391,7 +389,7 @@ impl<'a> Explainer<'a> {
         push_line(text, remarks)
     }
 
-    // Adds what the variables of an instruction have.
+    /// Adds what the variables of an instruction have.
     fn add_variables(
         &self,
         leaf: &Leaf<'_>,
@@ -414,7 +412,7 @@ impl<'a> Explainer<'a> {
         Ok(())
     }
 
-    // Whether the variable at an index stands in front of it, too.
+    /// Whether the variable at an index stands in front of it, too.
     fn is_repeated(&self, names: &[Phrase], index: usize) -> bool {
         let Some(name) = names.get(index) else {
             return true;
@@ -439,7 +437,7 @@ impl<'a> Explainer<'a> {
         push_line(text, remarks)
     }
 
-    // Adds the definitions in which the calls stand, if there are any.
+    /// Adds the definitions in which the calls stand, if there are any.
     fn add_callers(
         &self,
         sites: &[Option<usize>],
@@ -451,7 +449,7 @@ impl<'a> Explainer<'a> {
         }
     }
 
-    // The beginning of a remark: the definition in which this byte stands.
+    /// The beginning of a remark: the definition in which this byte stands.
     fn beginning_at(&self, offset: usize) -> Result<Vec<u8>, AllocError> {
         let mut text = b"in ".to_vec(self.alloc)?;
         if let Some(head) = self.listing.head_before(offset) {
@@ -461,7 +459,7 @@ impl<'a> Explainer<'a> {
         Ok(text)
     }
 
-    // Adds a remark on what stands at this byte.
+    /// Adds a remark on what stands at this byte.
     fn push_at(
         &self,
         offset: usize,
@@ -477,7 +475,7 @@ impl<'a> Explainer<'a> {
     }
 }
 
-// Adds a remark without a place.
+/// Adds a remark without a place.
 fn push_line(text: Vec<u8>, remarks: &mut Vec<Remark>) -> Result<(), AllocError> {
     remarks.push(Remark {
         position: None,
@@ -487,7 +485,7 @@ fn push_line(text: Vec<u8>, remarks: &mut Vec<Remark>) -> Result<(), AllocError>
     Ok(())
 }
 
-// Puts the text of a term on a line, as much of it as is shown.
+/// Puts the text of a term on a line, as much of it as is shown.
 fn push_term(alloc: Global, term: &Term, line: &mut Vec<u8>) -> Result<(), AllocError> {
     let mut text = Vec::new(alloc);
     write_term(term, &mut text)?;

@@ -9,7 +9,7 @@ mod front;
 
 use crate::source::{PIECE, Source, read_onto};
 use diagnostics::RunNotes;
-pub(crate) use front::Front;
+pub(crate) use front::JoinedFront;
 use std::alloc::Global;
 use term_model::Fault;
 
@@ -68,7 +68,8 @@ fn line_kind(text: &[u8], is_end: bool) -> LineKind
 fn line_feed(text: &[u8]) -> Option<usize>
     ensures { MatchOption result
         (EachIndex text.now (λ k. slice_index text.now k ≢ 10))
-        (λ n. (n < length text.now) × (slice_index text.now n ≡ 10) × ((k : ℕ) → k < n → slice_index text.now k ≢ 10)) }
+        (λ n. (n < length text.now) × (slice_index text.now n ≡ 10) ×
+        ((k : ℕ) → k < n → slice_index text.now k ≢ 10)) }
 {
     text.iter().position(|byte| *byte == b'\n')
 }
@@ -122,14 +123,19 @@ pub(crate) fn read_front<S: Source>(
     alloc: Global,
     input: &mut S,
     limit: usize,
-) -> Result<Option<Front>, Fault>
-    ensures split { IfOk result (λ front. IfSome (S.coming input.old) (λ told. IsSomeAnd (S.coming input.new) (λ left.
-        MatchOption front (HasLongDefinitions limit told) (λ f. IsSplit told (definitions_of f) (term_of f left))))) }
-    ensures ended { IfOk result (λ front. IfSome front (λ f. IsTrue f.is_ended → IsDry (S.coming input.new))) }
+) -> Result<Option<JoinedFront>, Fault>
+    ensures split { IfOk result
+        (λ front. IfSome (S.reader.coming input.old) (λ told. IsSomeAnd (S.reader.coming input.new)
+        (λ left.
+        MatchOption front (HasLongDefinitions limit told)
+        (λ f. IsSplit told (definitions_of f) (term_of f left))))) }
+    ensures ended { IfOk result
+        (λ front. IfSome front (λ f. IsTrue f.is_ended → IsDry (S.reader.coming input.new))) }
     ensures fits { IfOk result (λ front. IfSome front (λ f. length (definitions_of f) ≤ limit)) }
-    ensures failed { S.failed_reads input.new ≡ S.failed_reads input.old + (if is_read_fault result then 1 else 0) }
+    ensures failed { S.reader.failed_reads input.new ≡ S.reader.failed_reads input.old +
+        (if is_read_fault result then 1 else 0) }
     ensures kinds { IfErr result IsReadingFault }
-    ensures bounded { S.reads input.new ≤ S.reads input.old + limit + 7 }
+    ensures bounded { S.reader.reads input.new ≤ S.reader.reads input.old + limit + 7 }
 {
     let mut bytes = Vec::new(alloc);
     let mut search = Search::AtLine(0);
@@ -138,7 +144,7 @@ pub(crate) fn read_front<S: Source>(
     loop {
         match advance(&bytes, search, limit, is_ended) {
             Step::Found(definitions, term) => {
-                return Ok(Some(Front {
+                return Ok(Some(JoinedFront {
                     bytes,
                     definitions,
                     term,
@@ -156,7 +162,7 @@ pub(crate) fn read_front<S: Source>(
     }
 }
 
-impl Front {
+impl JoinedFront {
     pub(crate) fn definitions(&self) -> &[u8]
         ensures { result.now ≡ definitions_of self.now }
     {
@@ -165,7 +171,7 @@ impl Front {
 
     /// The text of the definitions.
     pub(crate) fn into_definitions(self) -> Vec<u8> {
-        let Front {
+        let JoinedFront {
             mut bytes,
             definitions,
             ..
@@ -187,13 +193,15 @@ impl Front {
         input: &mut S,
         limit: usize,
     ) -> Result<Option<Vec<u8>>, Fault>
-        requires { IsTrue self.now.is_ended → IsDry (S.coming input.old) }
-        ensures whole { IfOk result (λ text. IfSome (S.coming input.old) (λ left.
-            MatchOption text (limit < length (term_of self.now left)) (λ all. all.items ≡ term_of self.now left))) }
+        requires { IsTrue self.now.is_ended → IsDry (S.reader.coming input.old) }
+        ensures whole { IfOk result (λ text. IfSome (S.reader.coming input.old) (λ left.
+            MatchOption text (limit < length (term_of self.now left))
+            (λ all. all.items ≡ term_of self.now left))) }
         ensures fits { IfOk result (λ text. IfSome text (λ all. vec_len all ≤ limit)) }
-        ensures failed { S.failed_reads input.new ≡ S.failed_reads input.old + (if is_read_fault result then 1 else 0) }
+        ensures failed { S.reader.failed_reads input.new ≡ S.reader.failed_reads input.old +
+            (if is_read_fault result then 1 else 0) }
         ensures kinds { IfErr result IsReadingFault }
-        ensures bounded { S.reads input.new ≤ S.reads input.old + limit + 1 }
+        ensures bounded { S.reader.reads input.new ≤ S.reader.reads input.old + limit + 1 }
     {
         let begun = self.bytes[self.term..].to_vec(alloc)?;
         if !self.is_ended {

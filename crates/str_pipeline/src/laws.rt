@@ -8,7 +8,8 @@ ghost use Rattle.str_pipeline.specs.Written.{AreAlike, IsWritten};
 /// Says that each text of the joined form has a split, and only one.
 #[tactic(auto, using(crate::proofs::CutLemmas::one_split, crate::proofs::SplitLaws::some_split))]
 pub fn joined_form_law()
-    ensures one { (text d t e u : List ℕ) → IsSplit text d t → IsSplit text e u → (d ≡ e) × (t ≡ u) }
+    ensures one { (text d t e u : List ℕ) → IsSplit text d t → IsSplit text e u → (d ≡ e) ×
+        (t ≡ u) }
     ensures some { (text : List ℕ) → (d : List ℕ) × (t : List ℕ) × IsSplit text d t }
 {}
 
@@ -17,5 +18,6 @@ pub fn joined_form_law()
 #[tactic(auto, using(crate::proofs::OneLine::one_line))]
 pub fn one_line_law()
     ensures { (defs term : List ℕ) (S : Setting) (s r : Status) (line other : List ℕ) →
-        IsWritten defs term S s line → IsWritten defs term S r other → AreAlike s r × (line ≡ other) }
+        IsWritten defs term S s line → IsWritten defs term S r other → AreAlike s r ×
+        (line ≡ other) }
 {}

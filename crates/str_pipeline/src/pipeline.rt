@@ -3,13 +3,14 @@ ghost use Rattle.std.specs.Prelude.{◌≡◌, ◌↔◌, ◌+◌, ◌≤◌, �
 ghost use Rattle.term_model.specs.declared.fault.Fault.{Fault};
 ghost use Rattle.term_model.specs.Fault.{number_of};
 ghost use Rattle.prim_registry.specs.Entries.{IsHonest};
-ghost use Rattle.str_pipeline.specs.Joined.{IsSplit};
+ghost use Rattle.str_pipeline.specs.Joined.{IsSplit, OfJoined, ReadsJoined};
 ghost use Rattle.str_pipeline.specs.Limits.{max_definitions, max_term};
 ghost use Rattle.term_model.specs.Limits.{max_budget};
 ghost use Rattle.str_pipeline.specs.Setting.{Setting, setting_of};
 ghost use Rattle.str_pipeline.specs.Judged.{AreRefused};
 ghost use Rattle.str_pipeline.specs.Written.{HasWritten, HasBegun};
 ghost use Rattle.str_pipeline.specs.Steps.{IsStop, IsResult, IsTextResult};
+ghost use Rattle.str_pipeline.specs.Transformation.{Ends, OfTwo, ReadsTwo, Transforms};
 ghost use Rattle.str_pipeline.specs.Faults.{HoldsRefusal, IsRefusal, IsTransferFault, IsOfDefinitions, RefusesDefinitions, is_read, is_read_fault, is_write_fault};
 
 use crate::answer::{MAX_DEFINITIONS, MAX_TERM, outcome_of, write_outcome, write_refusal};
@@ -40,16 +41,18 @@ fn outcome_apart<D: Source, T: Source, M: PrimMeaning>(
     notes: &mut RunNotes,
 ) -> Result<Outcome<Vec<u8>>, Fault>
     requires honest { IsHonest M.answer registry.now }
-    ensures result { IfSome (D.coming defs.old)
-        (λ d. IfSome (T.coming term.old) (λ t.
+    ensures result { IfSome (D.reader.coming defs.old)
+        (λ d. IfSome (T.reader.coming term.old) (λ t.
         IsTextResult d t (setting_of M.answer registry.now options.now) result)) }
     ensures kinds { IfErr result IsStop }
-    ensures failed { D.failed_reads defs.new + T.failed_reads term.new
-        ≡ D.failed_reads defs.old + T.failed_reads term.old + (if is_read_fault result then 1 else 0) }
+    ensures failed { D.reader.failed_reads defs.new + T.reader.failed_reads term.new
+        ≡ D.reader.failed_reads defs.old + T.reader.failed_reads term.old +
+        (if is_read_fault result then 1 else 0) }
     ensures unread { IfErr result (λ fault. IsOfDefinitions fault → term.new ≡ term.old) }
-    ensures unread_told { IfSome (D.coming defs.old) (λ d. (fault : Fault) → AreRefused (setting_of M.answer registry.now options.now) d fault → term.new ≡ term.old) }
-    ensures defs_bounded { D.reads defs.new ≤ D.reads defs.old + max_definitions + 1 }
-    ensures term_bounded { T.reads term.new ≤ T.reads term.old + max_term + 1 }
+    ensures unread_told { IfSome (D.reader.coming defs.old) (λ d. (fault : Fault) →
+        AreRefused (setting_of M.answer registry.now options.now) d fault → term.new ≡ term.old) }
+    ensures defs_bounded { D.reader.reads defs.new ≤ D.reader.reads defs.old + max_definitions + 1 }
+    ensures term_bounded { T.reader.reads term.new ≤ T.reader.reads term.old + max_term + 1 }
 {
     let Some(text) = read_all(alloc, defs, MAX_DEFINITIONS)? else {
         return Err(Fault::DefsTooLong);
@@ -80,16 +83,20 @@ fn outcome_joined<S: Source, M: PrimMeaning>(
     notes: &mut RunNotes,
 ) -> Result<Outcome<Vec<u8>>, Fault>
     requires honest { IsHonest M.answer registry.now }
-    ensures result { IfSome (S.coming input.old)
+    ensures result { IfSome (S.reader.coming input.old)
         (λ told. (d t : List ℕ) → IsSplit told d t →
         IsTextResult d t (setting_of M.answer registry.now options.now) result) }
     ensures kinds { IfErr result IsStop }
-    ensures failed { S.failed_reads input.new ≡ S.failed_reads input.old + (if is_read_fault result then 1 else 0) }
-    ensures bounded { S.reads input.new ≤ S.reads input.old + max_definitions + 7 + max_term + 1 }
-    ensures defs_bounded { IfErr result (λ fault. IsOfDefinitions fault → S.reads input.new ≤ S.reads input.old + max_definitions + 7) }
-    ensures unread_told { IfSome (S.coming input.old) (λ told. (d t : List ℕ) → IsSplit told d t →
+    ensures failed { S.reader.failed_reads input.new ≡ S.reader.failed_reads input.old +
+        (if is_read_fault result then 1 else 0) }
+    ensures bounded { S.reader.reads input.new ≤ S.reader.reads input.old + max_definitions + 7 +
+        max_term + 1 }
+    ensures defs_bounded { IfErr result (λ fault. IsOfDefinitions fault →
+        S.reader.reads input.new ≤ S.reader.reads input.old + max_definitions + 7) }
+    ensures unread_told { IfSome (S.reader.coming input.old) (λ told. (d t : List ℕ) →
+        IsSplit told d t →
         (fault : Fault) → AreRefused (setting_of M.answer registry.now options.now) d fault →
-        S.reads input.new ≤ S.reads input.old + max_definitions + 7) }
+        S.reader.reads input.new ≤ S.reader.reads input.old + max_definitions + 7) }
 {
     let Some(front) = read_front(alloc, input, MAX_DEFINITIONS)? else {
         return Err(Fault::DefsTooLong);
@@ -121,16 +128,19 @@ fn finish<W: Sink>(
 ) -> Result<Status, Fault>
     requires { IfErr outcome IsStop }
     ensures written { IfOk result (λ status. (d t : List ℕ) (S : Setting) →
-        IsTextResult d t S outcome → HasWritten d t S status (W.written out.old)
-        (W.written out.new)) }
+        IsTextResult d t S outcome → HasWritten d t S status (W.writer.written out.old)
+        (W.writer.written out.new)) }
     ensures begun { IsErrOf result Fault.Write → (d t : List ℕ) (S : Setting) →
-        IsTextResult d t S outcome → HasBegun d t S (W.written out.old) (W.written out.new) }
+        IsTextResult d t S outcome → HasBegun d t S (W.writer.written out.old)
+        (W.writer.written out.new) }
     ensures status { IfOk result HoldsRefusal }
-    ensures definitions { IfOk result (λ status. RefusesDefinitions status → IsErrAnd outcome IsOfDefinitions) }
+    ensures definitions { IfOk result (λ status. RefusesDefinitions status →
+        IsErrAnd outcome IsOfDefinitions) }
     ensures read { is_read_fault result ≡ is_read_fault outcome }
     ensures untouched_memory { IsErrOf result Fault.Memory → out.new ≡ out.old }
     ensures untouched_read { IsErrOf result Fault.Read → out.new ≡ out.old }
-    ensures failed { W.failed_writes out.new ≡ W.failed_writes out.old + (if is_write_fault result then 1 else 0) }
+    ensures failed { W.writer.failed_writes out.new ≡ W.writer.failed_writes out.old +
+        (if is_write_fault result then 1 else 0) }
     ensures kinds { IfErr result IsTransferFault }
 {
     match outcome {
@@ -139,7 +149,7 @@ fn finish<W: Sink>(
     }
 }
 
-// Returns whether no line is written about the fault: one of memory or of reading.
+/// Returns whether no line is written about the fault: one of memory or of reading.
 fn has_no_line(fault: &Fault) -> bool
     ensures { IsTrue result ↔ number_of fault.now ≤ 2 }
 {
@@ -150,13 +160,18 @@ fn has_no_line(fault: &Fault) -> bool
 #[tactic(auto, using(crate::proofs::WrittenLaws::refusal_has_begun, crate::proofs::WrittenLaws::refusal_written, crate::proofs::WrittenLaws::refusal_status, crate::proofs::WrittenLaws::writes_not_read, crate::proofs::FaultLaws::is_refusal, crate::proofs::FaultLaws::is_reading, crate::proofs::FaultLaws::is_no_read))]
 fn write_fault<W: Sink>(alloc: Global, fault: Fault, out: &mut W) -> Result<Status, Fault>
     requires { IsStop fault }
-    ensures written { IfOk result (λ status. (d t : List ℕ) (S : Setting) → IsResult d t S (Err fault) → HasWritten d t S status (W.written out.old) (W.written out.new)) }
-    ensures begun { IsErrOf result Fault.Write → (d t : List ℕ) (S : Setting) → IsResult d t S (Err fault) → HasBegun d t S (W.written out.old) (W.written out.new) }
+    ensures written { IfOk result (λ status. (d t : List ℕ) (S : Setting) →
+        IsResult d t S (Err fault) →
+        HasWritten d t S status (W.writer.written out.old) (W.writer.written out.new)) }
+    ensures begun { IsErrOf result Fault.Write → (d t : List ℕ) (S : Setting) →
+        IsResult d t S (Err fault) → HasBegun d t S (W.writer.written out.old)
+        (W.writer.written out.new) }
     ensures status { IfOk result (λ status. (status ≡ Status.Refused fault) × IsRefusal fault) }
     ensures read { is_read_fault result ≡ is_read fault }
     ensures untouched_memory { IsErrOf result Fault.Memory → out.new ≡ out.old }
     ensures untouched_read { IsErrOf result Fault.Read → out.new ≡ out.old }
-    ensures failed { W.failed_writes out.new ≡ W.failed_writes out.old + (if is_write_fault result then 1 else 0) }
+    ensures failed { W.writer.failed_writes out.new ≡ W.writer.failed_writes out.old +
+        (if is_write_fault result then 1 else 0) }
     ensures kinds { IfErr result IsTransferFault }
 {
     if has_no_line(&fault) {
@@ -188,21 +203,11 @@ pub fn transform<D: Source, T: Source, M: PrimMeaning, W: Sink>(
 ) -> Result<Status, Fault>
     requires budget { options.now.budget ≤ max_budget }
     requires honest { IsHonest M.answer registry.now }
-    ensures written { IfOk result (λ status. IfSome (D.coming defs.old) (λ d. IfSome (T.coming term.old) (λ t.
-        HasWritten d t (setting_of M.answer registry.now options.now) status (W.written out.old) (W.written out.new)))) }
-    ensures begun { IsErrOf result Fault.Write → IfSome (D.coming defs.old) (λ d. IfSome (T.coming term.old) (λ t.
-        HasBegun d t (setting_of M.answer registry.now options.now) (W.written out.old) (W.written out.new))) }
-    ensures status { IfOk result HoldsRefusal }
-    ensures kinds { IfErr result IsTransferFault }
-    ensures untouched_memory { IsErrOf result Fault.Memory → out.new ≡ out.old }
-    ensures untouched_read { IsErrOf result Fault.Read → out.new ≡ out.old }
-    ensures read_failed { D.failed_reads defs.new + T.failed_reads term.new
-        ≡ D.failed_reads defs.old + T.failed_reads term.old + (if is_read_fault result then 1 else 0) }
-    ensures write_failed { W.failed_writes out.new ≡ W.failed_writes out.old + (if is_write_fault result then 1 else 0) }
-    ensures unread { IfOk result (λ status. RefusesDefinitions status → term.new ≡ term.old) }
-    ensures unread_told { IfSome (D.coming defs.old) (λ d. (fault : Fault) → AreRefused (setting_of M.answer registry.now options.now) d fault → term.new ≡ term.old) }
-    ensures defs_bounded { D.reads defs.new ≤ D.reads defs.old + max_definitions + 1 }
-    ensures term_bounded { T.reads term.new ≤ T.reads term.old + max_term + 1 }
+    ensures transforms { Transforms W.writer (setting_of M.answer registry.now options.now)
+        (OfTwo (D.reader.coming defs.old) (T.reader.coming term.old)) out.old out.new result }
+    ensures ends { Ends W.writer out.old out.new result }
+    ensures reads { ReadsTwo D.reader T.reader (setting_of M.answer registry.now options.now)
+        defs.old defs.new term.old term.new result }
 {
     let mut notes = RunNotes::none();
     transform_with_notes(alloc, defs, term, options, registry, &mut notes, out)
@@ -224,21 +229,11 @@ pub fn transform_with_notes<D: Source, T: Source, M: PrimMeaning, W: Sink>(
 ) -> Result<Status, Fault>
     requires budget { options.now.budget ≤ max_budget }
     requires honest { IsHonest M.answer registry.now }
-    ensures written { IfOk result (λ status. IfSome (D.coming defs.old) (λ d. IfSome (T.coming term.old) (λ t.
-        HasWritten d t (setting_of M.answer registry.now options.now) status (W.written out.old) (W.written out.new)))) }
-    ensures begun { IsErrOf result Fault.Write → IfSome (D.coming defs.old) (λ d. IfSome (T.coming term.old) (λ t.
-        HasBegun d t (setting_of M.answer registry.now options.now) (W.written out.old) (W.written out.new))) }
-    ensures status { IfOk result HoldsRefusal }
-    ensures kinds { IfErr result IsTransferFault }
-    ensures untouched_memory { IsErrOf result Fault.Memory → out.new ≡ out.old }
-    ensures untouched_read { IsErrOf result Fault.Read → out.new ≡ out.old }
-    ensures read_failed { D.failed_reads defs.new + T.failed_reads term.new
-        ≡ D.failed_reads defs.old + T.failed_reads term.old + (if is_read_fault result then 1 else 0) }
-    ensures write_failed { W.failed_writes out.new ≡ W.failed_writes out.old + (if is_write_fault result then 1 else 0) }
-    ensures unread { IfOk result (λ status. RefusesDefinitions status → term.new ≡ term.old) }
-    ensures unread_told { IfSome (D.coming defs.old) (λ d. (fault : Fault) → AreRefused (setting_of M.answer registry.now options.now) d fault → term.new ≡ term.old) }
-    ensures defs_bounded { D.reads defs.new ≤ D.reads defs.old + max_definitions + 1 }
-    ensures term_bounded { T.reads term.new ≤ T.reads term.old + max_term + 1 }
+    ensures transforms { Transforms W.writer (setting_of M.answer registry.now options.now)
+        (OfTwo (D.reader.coming defs.old) (T.reader.coming term.old)) out.old out.new result }
+    ensures ends { Ends W.writer out.old out.new result }
+    ensures reads { ReadsTwo D.reader T.reader (setting_of M.answer registry.now options.now)
+        defs.old defs.new term.old term.new result }
 {
     notes.begin();
     let outcome = outcome_apart(alloc, defs, term, options, registry, notes);
@@ -267,21 +262,11 @@ pub fn transform_joined<S: Source, M: PrimMeaning, W: Sink>(
 ) -> Result<Status, Fault>
     requires budget { options.now.budget ≤ max_budget }
     requires honest { IsHonest M.answer registry.now }
-    ensures written { IfOk result (λ status. IfSome (S.coming input.old) (λ told. (d t : List ℕ) → IsSplit told d t →
-        HasWritten d t (setting_of M.answer registry.now options.now) status (W.written out.old) (W.written out.new))) }
-    ensures begun { IsErrOf result Fault.Write → IfSome (S.coming input.old) (λ told. (d t : List ℕ) → IsSplit told d t →
-        HasBegun d t (setting_of M.answer registry.now options.now) (W.written out.old) (W.written out.new)) }
-    ensures status { IfOk result HoldsRefusal }
-    ensures kinds { IfErr result IsTransferFault }
-    ensures untouched_memory { IsErrOf result Fault.Memory → out.new ≡ out.old }
-    ensures untouched_read { IsErrOf result Fault.Read → out.new ≡ out.old }
-    ensures read_failed { S.failed_reads input.new ≡ S.failed_reads input.old + (if is_read_fault result then 1 else 0) }
-    ensures write_failed { W.failed_writes out.new ≡ W.failed_writes out.old + (if is_write_fault result then 1 else 0) }
-    ensures bounded { S.reads input.new ≤ S.reads input.old + max_definitions + 7 + max_term + 1 }
-    ensures defs_bounded { IfOk result (λ status. RefusesDefinitions status → S.reads input.new ≤ S.reads input.old + max_definitions + 7) }
-    ensures unread_told { IfSome (S.coming input.old) (λ told. (d t : List ℕ) → IsSplit told d t →
-        (fault : Fault) → AreRefused (setting_of M.answer registry.now options.now) d fault →
-        S.reads input.new ≤ S.reads input.old + max_definitions + 7) }
+    ensures transforms { Transforms W.writer (setting_of M.answer registry.now options.now)
+        (OfJoined (S.reader.coming input.old)) out.old out.new result }
+    ensures ends { Ends W.writer out.old out.new result }
+    ensures reads { ReadsJoined S.reader (setting_of M.answer registry.now options.now)
+        input.old input.new result }
 {
     let mut notes = RunNotes::none();
     transform_joined_with_notes(alloc, input, options, registry, &mut notes, out)
@@ -302,21 +287,11 @@ pub fn transform_joined_with_notes<S: Source, M: PrimMeaning, W: Sink>(
 ) -> Result<Status, Fault>
     requires budget { options.now.budget ≤ max_budget }
     requires honest { IsHonest M.answer registry.now }
-    ensures written { IfOk result (λ status. IfSome (S.coming input.old) (λ told. (d t : List ℕ) → IsSplit told d t →
-        HasWritten d t (setting_of M.answer registry.now options.now) status (W.written out.old) (W.written out.new))) }
-    ensures begun { IsErrOf result Fault.Write → IfSome (S.coming input.old) (λ told. (d t : List ℕ) → IsSplit told d t →
-        HasBegun d t (setting_of M.answer registry.now options.now) (W.written out.old) (W.written out.new)) }
-    ensures status { IfOk result HoldsRefusal }
-    ensures kinds { IfErr result IsTransferFault }
-    ensures untouched_memory { IsErrOf result Fault.Memory → out.new ≡ out.old }
-    ensures untouched_read { IsErrOf result Fault.Read → out.new ≡ out.old }
-    ensures read_failed { S.failed_reads input.new ≡ S.failed_reads input.old + (if is_read_fault result then 1 else 0) }
-    ensures write_failed { W.failed_writes out.new ≡ W.failed_writes out.old + (if is_write_fault result then 1 else 0) }
-    ensures bounded { S.reads input.new ≤ S.reads input.old + max_definitions + 7 + max_term + 1 }
-    ensures defs_bounded { IfOk result (λ status. RefusesDefinitions status → S.reads input.new ≤ S.reads input.old + max_definitions + 7) }
-    ensures unread_told { IfSome (S.coming input.old) (λ told. (d t : List ℕ) → IsSplit told d t →
-        (fault : Fault) → AreRefused (setting_of M.answer registry.now options.now) d fault →
-        S.reads input.new ≤ S.reads input.old + max_definitions + 7) }
+    ensures transforms { Transforms W.writer (setting_of M.answer registry.now options.now)
+        (OfJoined (S.reader.coming input.old)) out.old out.new result }
+    ensures ends { Ends W.writer out.old out.new result }
+    ensures reads { ReadsJoined S.reader (setting_of M.answer registry.now options.now)
+        input.old input.new result }
 {
     notes.begin();
     let outcome = outcome_joined(alloc, input, options, registry, notes);

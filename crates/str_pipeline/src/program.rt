@@ -37,7 +37,8 @@ pub(crate) fn noted_program<M: PrimMeaning>(
     registry: &Registry<M>,
     notes: &mut RunNotes,
 ) -> Result<Program, Fault>
-    ensures program { IsProgram (setting_of M.answer registry.now options.now) definitions.now result }
+    ensures program { IsProgram (setting_of M.answer registry.now options.now)
+        definitions.now result }
     ensures covers { IfOk result (λ program. Covers registry.now program.code.prims) }
 {
     let mut found = Found::none();
@@ -74,7 +75,8 @@ pub(crate) fn program_of<M: PrimMeaning>(
     purpose: Purpose,
     found: &mut Found,
 ) -> Result<Program, Fault>
-    ensures program { IsProgram (setting_of M.answer registry.now options.now) definitions.now result }
+    ensures program { IsProgram (setting_of M.answer registry.now options.now)
+        definitions.now result }
     ensures covers { IfOk result (λ program. Covers registry.now program.code.prims) }
 {
     let primitives = registry.names(alloc)?;
@@ -93,8 +95,10 @@ fn program_with(
     purpose: Purpose,
     found: &mut Found,
 ) -> Result<Program, Fault>
-    ensures program { (M : Meaning) → IsProgram (setting_with M primitives.now options.now) definitions.now result }
-    ensures known { IfOk result (λ program. (name : List ℕ) (k : ℕ) → Contains program.code.prims (name, k) → Contains primitives.now (name, k)) }
+    ensures program { (M : Meaning) →
+        IsProgram (setting_with M primitives.now options.now) definitions.now result }
+    ensures known { IfOk result (λ program. (name : List ℕ) (k : ℕ) →
+        Contains program.code.prims (name, k) → Contains primitives.now (name, k)) }
 {
     let tokens = lex(alloc, definitions)?;
     let file = parse_with_notes(alloc, definitions, &tokens, &mut found.expected)?;

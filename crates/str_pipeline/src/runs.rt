@@ -33,7 +33,7 @@ impl Holds for StoreSpace {
 
 /// Returns what the code does with the term of the reference within a budget of rules, with the canonical text of the result in place
 /// of the result, and notes what the run used. The run takes place in the space, which no term leaves. The only fault is `Memory`.
-pub(crate) fn run_code<S: TermSpace + Holds + Drop, M: PrimMeaning>(
+pub(crate) fn run_machine<S: TermSpace + Holds + Drop, M: PrimMeaning>(
     alloc: Global,
     space: S,
     code: &Code,
@@ -70,7 +70,8 @@ fn in_text<S: TermSpace>(
     outcome: &Outcome<S::Ref>,
 ) -> Result<Outcome<Vec<u8>>, AllocError>
     requires { OutcomeStands (λ r. IsTrue (S.space.stands space.now r)) outcome.now }
-    ensures { IfOk result (λ told. IsTextOf told (outcome_tree (S.space.term_of space.now) outcome.now)) }
+    ensures { IfOk result (λ told. IsTextOf told
+        (outcome_tree (S.space.term_of space.now) outcome.now)) }
 {
     match outcome {
         Outcome::Rewritten(reference) => {

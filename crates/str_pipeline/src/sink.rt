@@ -1,27 +1,24 @@
 //! What is written to.
 ghost use Rattle.std.specs.Prelude.{◌≡◌, ◌+◌, ◌≤◌, ℕ, List, Option, length, is_err, IfSome, IfErr, OnOk, if◌then◌else◌};
-ghost use Rattle.str_pipeline.specs.Device.{WritesFront, is_failed_write, Gains, GainsPrefix};
+ghost use Rattle.str_pipeline.specs.Device.{Writer, WritesFront, is_failed_write, Gains, GainsPrefix};
 
 use std::io::ErrorKind;
 use term_model::Fault;
 
 /// A writer. A call that returns `None` failed.
 pub trait Sink {
-    /// The bytes written so far, where the device shows them.
-    ghost written: { Self → Option (List ℕ) };
-
-    /// How many writes it has had.
-    ghost writes: { Self → ℕ };
-
-    /// How many of them failed, or took no byte of a text that isn't empty.
-    ghost failed_writes: { Self → ℕ };
+    /// The bytes written so far, where the device shows them, how many writes it has had, and how many of them failed, or took no byte of a
+    /// text that isn't empty.
+    ghost writer: { Writer Self };
 
     /// Takes the first bytes of `text` and returns their number.
     fn write(&mut self, text: &[u8]) -> Option<usize>
         ensures bound { IfSome result (λ n. n ≤ length text.now) }
-        ensures bytes { WritesFront (written self.old) (written self.new) result text.now }
-        ensures writes { writes self.new ≡ writes self.old + 1 }
-        ensures failed { failed_writes self.new ≡ failed_writes self.old + (if is_failed_write result text.now then 1 else 0) };
+        ensures bytes { WritesFront (writer.written self.old)
+            (writer.written self.new) result text.now }
+        ensures writes { writer.writes self.new ≡ writer.writes self.old + 1 }
+        ensures failed { writer.failed_writes self.new ≡ writer.failed_writes self.old +
+            (if is_failed_write result text.now then 1 else 0) };
 
     /// Why the last write that failed did, for a person; nothing where none failed, or where the device does not know. No clause speaks of it.
     fn failure(&self) -> Option<ErrorKind> {
@@ -33,9 +30,11 @@ pub trait Sink {
 /// written by then is a prefix of the text.
 #[tactic(auto, using(crate::proofs::DeviceLemmas::gains_more))]
 pub fn write_all<W: Sink>(sink: &mut W, text: &[u8]) -> Result<(), Fault>
-    ensures whole { OnOk result (Gains (W.written sink.old) (W.written sink.new) text.now) }
-    ensures prefix { GainsPrefix (W.written sink.old) (W.written sink.new) text.now }
-    ensures failed { W.failed_writes sink.new ≡ W.failed_writes sink.old + (if is_err result then 1 else 0) }
+    ensures whole { OnOk result (Gains (W.writer.written sink.old)
+        (W.writer.written sink.new) text.now) }
+    ensures prefix { GainsPrefix (W.writer.written sink.old) (W.writer.written sink.new) text.now }
+    ensures failed { W.writer.failed_writes sink.new ≡ W.writer.failed_writes sink.old +
+        (if is_err result then 1 else 0) }
     ensures kinds { IfErr result (λ e. e ≡ Fault.Write) }
 {
     let mut sent = 0;

@@ -1,6 +1,6 @@
 //! What is read from.
 ghost use Rattle.std.specs.Prelude.{◌≡◌, ◌+◌, ◌^◌, ◌<◌, ◌≤◌, ◌++◌, ℕ, List, Option, is_none, length, vec_len, IfSome, IfOk, IfErr, MatchOption, if◌then◌else◌};
-ghost use Rattle.str_pipeline.specs.Device.{ReadsFront};
+ghost use Rattle.str_pipeline.specs.Device.{Reader, ReadsFront};
 ghost use Rattle.str_pipeline.specs.Faults.{is_read_fault, IsReadingFault};
 
 use crate::progress::FileProgress;
@@ -10,22 +10,18 @@ use term_model::Fault;
 
 /// A reader. A call that returns `None` failed.
 pub trait Source {
-    /// The bytes still to come, where the device shows them.
-    ghost coming: { Self → Option (List ℕ) };
-
-    /// How many reads it has had.
-    ghost reads: { Self → ℕ };
-
-    /// How many of them failed.
-    ghost failed_reads: { Self → ℕ };
+    /// The bytes still to come, where the device shows them, how many reads it has had, and how many of them failed.
+    ghost reader: { Reader Self };
 
     /// Puts the next bytes at the front of `piece` and returns their number. It returns 0 only at the
     /// end, or where `piece` is empty.
     fn read(&mut self, piece: &mut [u8]) -> Option<usize>
         ensures bound { IfSome result (λ n. n ≤ length piece.new) }
-        ensures bytes { ReadsFront (coming self.old) (coming self.new) result piece.new }
-        ensures reads { reads self.new ≡ reads self.old + 1 }
-        ensures failed { failed_reads self.new ≡ failed_reads self.old + (if is_none result then 1 else 0) };
+        ensures bytes { ReadsFront (reader.coming self.old)
+            (reader.coming self.new) result piece.new }
+        ensures reads { reader.reads self.new ≡ reader.reads self.old + 1 }
+        ensures failed { reader.failed_reads self.new ≡ reader.failed_reads self.old +
+            (if is_none result then 1 else 0) };
 
     /// Why the last read that failed did, for a person; nothing where none failed, or where the device does not know. No clause speaks of it.
     fn failure(&self) -> Option<ErrorKind> {
@@ -50,12 +46,13 @@ pub fn read_all<S: Source, A: Allocator + Drop>(
     source: &mut S,
     limit: usize,
 ) -> Result<Option<Vec<u8, A>>, Fault>
-    ensures whole { IfOk result (λ text. IfSome (S.coming source.old) (λ told.
+    ensures whole { IfOk result (λ text. IfSome (S.reader.coming source.old) (λ told.
         MatchOption text (limit < length told) (λ bytes. bytes.items ≡ told))) }
     ensures fits { IfOk result (λ text. IfSome text (λ bytes. vec_len bytes ≤ limit)) }
-    ensures failed { S.failed_reads source.new ≡ S.failed_reads source.old + (if is_read_fault result then 1 else 0) }
+    ensures failed { S.reader.failed_reads source.new ≡ S.reader.failed_reads source.old +
+        (if is_read_fault result then 1 else 0) }
     ensures kinds { IfErr result IsReadingFault }
-    ensures bounded { S.reads source.new ≤ S.reads source.old + limit + 1 }
+    ensures bounded { S.reader.reads source.new ≤ S.reader.reads source.old + limit + 1 }
 {
     read_onto(Vec::new(alloc), source, limit)
 }
@@ -67,12 +64,14 @@ pub(crate) fn read_onto<S: Source, A: Allocator + Drop>(
     source: &mut S,
     limit: usize,
 ) -> Result<Option<Vec<u8, A>>, Fault>
-    ensures whole { IfOk result (λ text. IfSome (S.coming source.old) (λ told.
-        MatchOption text (limit < vec_len bytes + length told) (λ all. all.items ≡ bytes.items ++ told))) }
+    ensures whole { IfOk result (λ text. IfSome (S.reader.coming source.old) (λ told.
+        MatchOption text (limit < vec_len bytes + length told) (λ all. all.items ≡ bytes.items ++
+        told))) }
     ensures fits { IfOk result (λ text. IfSome text (λ all. vec_len all ≤ limit)) }
-    ensures failed { S.failed_reads source.new ≡ S.failed_reads source.old + (if is_read_fault result then 1 else 0) }
+    ensures failed { S.reader.failed_reads source.new ≡ S.reader.failed_reads source.old +
+        (if is_read_fault result then 1 else 0) }
     ensures kinds { IfErr result IsReadingFault }
-    ensures bounded { S.reads source.new ≤ S.reads source.old + limit + 1 }
+    ensures bounded { S.reader.reads source.new ≤ S.reader.reads source.old + limit + 1 }
 {
     if limit < bytes.len() {
         return Ok(None);

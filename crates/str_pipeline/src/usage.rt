@@ -5,7 +5,7 @@ use diagnostics::{Listing, MOST_OF_NAME, push_cut, push_number};
 use std::alloc::{AllocError, Global};
 use strat_code::Code;
 
-// How many definitions are named.
+/// How many definitions are named.
 const NAMED: usize = 3;
 
 /// The line that names the definitions that used most rules, of a run in which the instruction at each address used these.
@@ -32,7 +32,7 @@ pub(crate) fn usage_line(
     Ok(line)
 }
 
-// How many rules each definition used, by the index of its last head, and after all of them those of the library.
+/// How many rules each definition used, by the index of its last head, and after all of them those of the library.
 fn rules_by_heads(
     alloc: Global,
     listing: &Listing,
@@ -66,7 +66,7 @@ fn add_rules(used: &mut [u64], head: usize, count: u64) {
     }
 }
 
-// Counts the rules of one head for the next one.
+/// Counts the rules of one head for the next one.
 fn move_rules(used: &mut [u64], head: usize, next: usize) {
     let count = used.get(head).copied().unwrap_or(0);
     add_rules(used, next, count);
@@ -75,7 +75,7 @@ fn move_rules(used: &mut [u64], head: usize, next: usize) {
     }
 }
 
-// The index of the greatest number, if there is one above 0.
+/// The index of the greatest number, if there is one above 0.
 fn most_used(used: &[u64]) -> Option<usize> {
     let mut most: Option<usize> = None;
     let mut greatest: u64 = 0;

@@ -26,11 +26,13 @@ turned (Some xs) None next rest lost dry = absurd lost
 turned (Some xs) (Some ys) next rest lost dry = at_feed (Some xs) (whole_text (next ∷ rest)) (rw (lost, dry) refl)
 
 -- where nothing more of a file comes, a read that gives the line feed after it goes on to the next file
-pub feed_given : {R : Type 0} (coming : R → Option (List ℕ)) (old new next : R) (waiting rest : List R) (popped : Option R)
+pub feed_given : {R : Type 0} (coming : R →
+    Option (List ℕ)) (old new next : R) (waiting rest : List R) (popped : Option R)
     (answer : Option ℕ) (count : ℕ) (piece : List ℕ) (is_empty : Bool)
     → ReadsFront (coming old) (coming new) answer piece → answer ≡ Some count → count ≤ 0
     → is_empty ≡ (length piece == 0) → is_empty ≡ false → popped ≡ Some next → waiting ≡ option_to_list popped ++ rest
-    → ReadsFront (whole_text (map coming (old ∷ waiting))) (whole_text (map coming (next ∷ rest))) (Some 1) (slice_set piece 0 10)
+    → ReadsFront (whole_text (map coming (old ∷ waiting))) (whole_text (map coming (next ∷ rest))) (Some 1)
+    (slice_set piece 0 10)
 feed_given coming old new next waiting rest popped answer count piece is_empty read given ended told none is whole =
     let none_left : count ≡ 0 = omega (arith, ended) in
     let room : 0 < length piece = has_room piece is_empty told none in

@@ -8,7 +8,8 @@ use Rattle.strc.specs.Report.{IsReported, IsReportedWith}
 use Rattle.strc.specs.Request.{IsPlainRequest, IsAsked, ArePlain}
 
 -- where nothing is asked for, they are the plain ones
-pub plain_options : (request : Request) (options : Options) → IsPlainRequest request → IsAsked request options → ArePlain options
+pub plain_options : (request : Request) (options : Options) → IsPlainRequest request → IsAsked request options →
+    ArePlain options
 plain_options request options plain asked = record {
   main = asked.main ∙ plain.main;
   lenient = asked.strict ∙ plain.lenient;
@@ -16,8 +17,10 @@ plain_options request options plain asked = record {
 }
 
 -- where nothing more is asked for, nothing is reported but a refusal, a spent budget and a term that did not fit
-pub plain_report : (has_stats explains : Bool) (status : Status) (before after : ℕ) (old new : Option (List ℕ)) → has_stats ≡ false →
-    explains ≡ false → IsReportedWith has_stats explains status before after old new → IsReported status before after old new
+pub plain_report : (has_stats explains : Bool) (status : Status) (before after : ℕ) (old new : Option (List ℕ)) →
+    has_stats ≡ false →
+    explains ≡ false → IsReportedWith has_stats explains status before after old new →
+    IsReported status before after old new
 plain_report true explains status before after old new quiet unexplained reported = absurd (true≢false quiet)
 plain_report false true status before after old new quiet unexplained reported = absurd (true≢false unexplained)
 plain_report false false Rewritten before after old new quiet unexplained reported = reported

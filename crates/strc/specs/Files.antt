@@ -1,3 +1,4 @@
+-- The headline does not rest on this file.
 -- The text of definitions that come from several files.
 use Rattle.std.specs.Prelude.{ℕ, List, [], ◌∷◌, ◌++◌, map, Option, None, Some}
 use Rattle.strc.specs.declared.definition_files.DefinitionFiles.{DefinitionFiles}
@@ -8,7 +9,8 @@ abbrev pub with_next : Option (List ℕ) → Option (List ℕ) → Option (List 
 with_next (Some text) (Some next) = Some (text ++ 10 ∷ next)
 with_next text next = None
 
--- the texts of files one after another, each but the last followed by a line feed; nothing where one of them is not known
+-- the texts of files one after another, each but the last followed by a line feed; nothing where one of them is not
+-- known
 abbrev pub whole_text : List (Option (List ℕ)) → Option (List ℕ)
 whole_text [] = Some []
 whole_text (text ∷ []) = text
@@ -30,6 +32,8 @@ failures_of f = f.failed.number
 abbrev pub path_of : Library → List ℕ
 path_of library = library.path.bytes.items
 
--- the texts at the paths of the libraries, and then that at the path of the definitions, where a path leads to such a text
+-- the texts at the paths of the libraries, and then that at the path of the definitions, where a path leads to such a
+-- text
 abbrev pub texts_at : (List ℕ → Option (List ℕ)) → List Library → List ℕ → List (Option (List ℕ))
-texts_at text_at libraries definitions = map (λ library. text_at (path_of library)) libraries ++ text_at definitions ∷ []
+texts_at text_at libraries definitions =
+    map (λ library. text_at (path_of library)) libraries ++ text_at definitions ∷ []

@@ -1,3 +1,4 @@
+-- The headline does not rest on this file.
 -- In which form the line of a transformation is written.
 use Rattle.std.specs.Prelude.{◌≡◌, ℕ, List, Option}
 use Rattle.str_pipeline.specs.Device.{Gains, GainsPrefix}
@@ -17,7 +18,8 @@ IsInForm Pretty Rewritten line text = IsSpaced line text
 IsInForm form status line text = text ≡ line
 
 -- a writer that shows its bytes has gained the line in this form
-pub record HasWrittenIn (form : Form) (defs term : List ℕ) (S : Setting) (status : Status) (old new : Option (List ℕ)) : Type 0 where
+pub record HasWrittenIn (form : Form) (defs term : List ℕ) (S : Setting) (status : Status)
+    (old new : Option (List ℕ)) : Type 0 where
   pub line : List ℕ
   pub text : List ℕ
   pub is_written : IsWritten defs term S status line

@@ -6,3 +6,4 @@ pub mod Files
 pub mod Pretty
 pub mod Raw
 pub mod Forms
+pub mod Runs

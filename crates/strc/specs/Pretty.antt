@@ -1,3 +1,4 @@
+-- The headline does not rest on this file.
 -- What `--pretty` adds to a line.
 use Rattle.std.specs.Prelude.{◌≡◌, ℕ, Bool, true, ◌||◌, ◌==◌, if◌then◌else◌, List, [], ◌∷◌, ◌++◌}
 use Rattle.std.specs.List.{list_all}
@@ -31,10 +32,12 @@ is_space b = b == 32 || b == 10
 abbrev pub AreSpaces : List ℕ → Type 0
 AreSpaces bs = list_all is_space bs ≡ true
 
--- a byte with what is added to it: outside quotes blanks and line feeds after an opening bracket or a comma, or before a closing bracket
+-- a byte with what is added to it: outside quotes blanks and line feeds after an opening bracket or a comma, or before
+-- a closing bracket
 pub data Piece : Place → ℕ → List ℕ → Type 0 where
   bare : {place : Place} {b : ℕ} → Piece place b (b ∷ [])
-  opening : {b : ℕ} (spaces : List ℕ) → (is_opening b || b == 44) ≡ true → AreSpaces spaces → Piece Outside b (b ∷ spaces)
+  opening : {b : ℕ} (spaces : List ℕ) → (is_opening b || b == 44) ≡ true → AreSpaces spaces →
+      Piece Outside b (b ∷ spaces)
   closing : {b : ℕ} (spaces : List ℕ) → is_closing b ≡ true → AreSpaces spaces → Piece Outside b (spaces ++ b ∷ [])
 
 -- a piece for each of the bytes, of which the first stands at this place

@@ -1,3 +1,4 @@
+-- The headline does not rest on this file.
 -- The primitives of the program: the standard ones, and no others.
 use Rattle.std.specs.Prelude.{List, ℕ, map}
 use Rattle.term_model.specs.PrimNames.{NameKey}

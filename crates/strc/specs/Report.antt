@@ -1,3 +1,4 @@
+-- The headline does not rest on this file.
 -- The exit status, and what is reported on the diagnostic stream.
 use Rattle.std.specs.Prelude.{◌≡◌, ◌<◌, ℕ, Bool, true, false, ◌||◌, List, [], ◌∷◌, ◌++◌, ◌⊎◌, codes, decimal, Option, None, Some}
 use Rattle.term_model.specs.declared.fault.Fault.{Fault}
@@ -45,15 +46,16 @@ AreNone calls = calls.after ≡ calls.before
 abbrev pub AreSome : Failures → Type 0
 AreSome calls = calls.before < calls.after
 
--- why a run stopped, by the failed reads and writes in it: Read exactly where a read failed, Write exactly where a write failed, and else Memory
+-- why a run stopped, by the failed reads and writes in it: Read exactly where a read failed, Write exactly where a
+-- write failed, and else Memory
 abbrev pub IsCause : Failures → Failures → Fault → Type 0
 IsCause reads writes Memory = AreNone reads × AreNone writes
 IsCause reads writes Read = AreSome reads × AreNone writes
 IsCause reads writes Write = AreNone reads × AreSome writes
 IsCause reads writes fault = ⊥
 
--- the line of the fault is on a stream with these numbers of failed writes before and after: a beginning of it, and the whole
--- where no write failed
+-- the line of the fault is on a stream with these numbers of failed writes before and after: a beginning of it, and the
+-- whole where no write failed
 pub record Tells (fault : Fault) (before after : ℕ) (old new : Option (List ℕ)) : Type 0 where
   pub beginning : GainsPrefix old new (diagnostic fault)
   pub whole : after ≡ before → Gains old new (diagnostic fault)
@@ -64,7 +66,8 @@ pub record TellsMore (fault : Fault) (before after : ℕ) (old new : Option (Lis
   pub beginning : GainsPrefix old new (diagnostic fault ++ more)
   pub whole : after ≡ before → Gains old new (diagnostic fault ++ more)
 
--- the line of a fault that stops a run is on a stream, and of a failed read or write more may follow; of memory nothing does
+-- the line of a fault that stops a run is on a stream, and of a failed read or write more may follow; of memory nothing
+-- does
 abbrev pub TellsFault : Fault → ℕ → ℕ → Option (List ℕ) → Option (List ℕ) → Type 0
 TellsFault Memory before after old new = Tells Memory before after old new
 TellsFault fault before after old new = TellsMore fault before after old new
@@ -80,9 +83,11 @@ pub record IsSilent (writes : Failures) (fault : Fault) (before after : ℕ) (ol
   pub unfailed : after ≡ before
   pub nothing : new ≡ old
 
--- a fault that stops a run is told, but for some failed writes to the output, whose numbers these are: nobody may be reading it any more
+-- a fault that stops a run is told, but for some failed writes to the output, whose numbers these are: nobody may be
+-- reading it any more
 abbrev pub TellsStop : Failures → Fault → ℕ → ℕ → Option (List ℕ) → Option (List ℕ) → Type 0
-TellsStop writes fault before after old new = TellsFault fault before after old new ⊎ IsSilent writes fault before after old new
+TellsStop writes fault before after old new =
+    TellsFault fault before after old new ⊎ IsSilent writes fault before after old new
 
 -- a text for a person is on a stream, as far as it could be written
 abbrev pub TellsText : Option (List ℕ) → Option (List ℕ) → Type 0
@@ -93,8 +98,8 @@ abbrev pub TellsIfAsked : Bool → Option (List ℕ) → Option (List ℕ) → T
 TellsIfAsked false old new = new ≡ old
 TellsIfAsked true old new = TellsText old new
 
--- a refusal is reported, and for a person that the budget is spent or that a term did not fit. Of a result and of a failure nothing is, unless
--- the numbers of the run or an explanation are asked for
+-- a refusal is reported, and for a person that the budget is spent or that a term did not fit. Of a result and of a
+-- failure nothing is, unless the numbers of the run or an explanation are asked for
 abbrev pub IsReportedWith : Bool → Bool → Status → ℕ → ℕ → Option (List ℕ) → Option (List ℕ) → Type 0
 IsReportedWith has_stats explains Rewritten before after old new = TellsIfAsked (has_stats || explains) old new
 IsReportedWith has_stats explains Failed before after old new = TellsIfAsked (has_stats || explains) old new

@@ -1,3 +1,4 @@
+-- The headline does not rest on this file.
 -- What a command line asks for.
 use Rattle.std.specs.Prelude.{◌≡◌, [], codes, false}
 use Rattle.term_model.specs.Limits.{default_budget}
@@ -24,7 +25,8 @@ pub record IsAsked (request : Request) (options : Options) : Type 0 where
   pub strict : options.strict ≡ request.is_strict
   pub budget : options.budget ≡ request.rules
 
--- the options that hold where nothing is asked for: `main` is applied, the term need not be declared, and the budget is the default
+-- the options that hold where nothing is asked for: `main` is applied, the term need not be declared, and the budget is
+-- the default
 pub record ArePlain (options : Options) : Type 0 where
   pub main : options.main.items ≡ codes "main"
   pub lenient : options.strict ≡ false

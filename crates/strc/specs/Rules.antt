@@ -1,3 +1,4 @@
+-- The headline does not rest on this file.
 -- How many rules a command line may ask for.
 use Rattle.std.specs.Prelude.{◌≡◌, ℕ, false, List, codes, pos, Some}
 use Rattle.std.specs.List.{All}

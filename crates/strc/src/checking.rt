@@ -7,6 +7,7 @@ ghost use Rattle.str_pipeline.specs.Limits.{max_definitions};
 ghost use Rattle.strc.specs.Files.{texts_at, whole_text};
 ghost use Rattle.strc.specs.Report.{exit_of_verdict, IsUnread, TellsVerdict};
 ghost use Rattle.strc.specs.declared.request.Texts.TheVariants.{Joined};
+ghost use Rattle.strc.specs.Runs.{Told};
 
 use crate::ending::{report_findings, write_remarks};
 use crate::failure::Failure;
@@ -29,8 +30,7 @@ fn conclude_check<E: Sink>(
     diagnostics: &mut E,
 ) -> u8
     ensures status { (exit_of_verdict verdict ≡ result) × (result ≤ 2) }
-    ensures told { TellsVerdict verdict (E.failed_writes diagnostics.old) (E.failed_writes diagnostics.new)
-        (E.written diagnostics.old) (E.written diagnostics.new) }
+    ensures told { Told E.writer diagnostics.old diagnostics.new (TellsVerdict verdict) }
 {
     match verdict {
         Some(fault) => {
@@ -56,12 +56,13 @@ fn check_reader<D: Source, E: Sink, M: PrimMeaning>(
 ) -> u8
     ensures status { result ≤ 4 }
     ensures judged { result < 4 → (verdict : Option Fault) × (exit_of_verdict verdict ≡ result)
-        × IfSome (D.coming definitions.old) (λ d. IsVerdict (setting_of M.answer registry.now options.now) d verdict)
-        × TellsVerdict verdict (E.failed_writes diagnostics.old) (E.failed_writes diagnostics.new)
-        (E.written diagnostics.old) (E.written diagnostics.new) }
-    ensures stopped { result ≡ 4 → IsUnread (E.failed_writes diagnostics.old) (E.failed_writes diagnostics.new)
-        (E.written diagnostics.old) (E.written diagnostics.new) }
-    ensures bounded { D.reads definitions.new ≤ D.reads definitions.old + max_definitions + 1 }
+        × IfSome (D.reader.coming definitions.old)
+        (λ d. IsVerdict (setting_of M.answer registry.now options.now) d verdict)
+        × Told E.writer diagnostics.old diagnostics.new (TellsVerdict verdict) }
+    ensures stopped { result ≡ 4 →
+        Told E.writer diagnostics.old diagnostics.new IsUnread }
+    ensures bounded { D.reader.reads definitions.new ≤ D.reader.reads definitions.old +
+        max_definitions + 1 }
 {
     let mut notes = RunNotes::none();
     match check_definitions(alloc, definitions, options, registry, &mut notes) {
@@ -95,12 +96,12 @@ fn check_files<P: Paths, E: Sink, M: PrimMeaning>(
 ) -> u8
     ensures status { result ≤ 4 }
     ensures judged { result < 4 → (verdict : Option Fault) × (exit_of_verdict verdict ≡ result)
-        × IfSome (whole_text (texts_at (P.text_at paths.old) reporting.entry.libraries.now reporting.entry.definitions.now))
+        × IfSome (whole_text (texts_at (P.text_at paths.old)
+        reporting.entry.libraries.now reporting.entry.definitions.now))
         (λ d. IsVerdict (setting_of M.answer registry.now options.now) d verdict)
-        × TellsVerdict verdict (E.failed_writes diagnostics.old) (E.failed_writes diagnostics.new)
-        (E.written diagnostics.old) (E.written diagnostics.new) }
-    ensures stopped { result ≡ 4 → IsUnread (E.failed_writes diagnostics.old) (E.failed_writes diagnostics.new)
-        (E.written diagnostics.old) (E.written diagnostics.new) }
+        × Told E.writer diagnostics.old diagnostics.new (TellsVerdict verdict) }
+    ensures stopped { result ≡ 4 →
+        Told E.writer diagnostics.old diagnostics.new IsUnread }
 {
     let (libraries, path) = (reporting.libraries, reporting.definitions);
     let mut definitions = match open_definitions(alloc, paths, libraries, path, diagnostics) {
@@ -129,16 +130,16 @@ pub(crate) fn run_check<P: Paths, I: Source, E: Sink, M: PrimMeaning>(
     diagnostics: &mut E,
 ) -> u8
     ensures status { result ≤ 4 }
-    ensures input_judged { request.now.texts ≡ Joined → result < 4 → (verdict : Option Fault) × (exit_of_verdict verdict ≡ result)
-        × IfSome (I.coming input.old) (λ d. IsVerdict (setting_of M.answer registry.now options.now) d verdict)
-        × TellsVerdict verdict (E.failed_writes diagnostics.old) (E.failed_writes diagnostics.new)
-        (E.written diagnostics.old) (E.written diagnostics.new) }
+    ensures input_judged { request.now.texts ≡ Joined → result < 4 → (verdict : Option Fault) ×
+        (exit_of_verdict verdict ≡ result)
+        × IfSome (I.reader.coming input.old)
+        (λ d. IsVerdict (setting_of M.answer registry.now options.now) d verdict)
+        × Told E.writer diagnostics.old diagnostics.new (TellsVerdict verdict) }
     ensures told { result < 4 → (verdict : Option Fault) × (exit_of_verdict verdict ≡ result)
-        × TellsVerdict verdict (E.failed_writes diagnostics.old) (E.failed_writes diagnostics.new)
-        (E.written diagnostics.old) (E.written diagnostics.new) }
-    ensures stopped { result ≡ 4 → IsUnread (E.failed_writes diagnostics.old) (E.failed_writes diagnostics.new)
-        (E.written diagnostics.old) (E.written diagnostics.new) }
-    ensures bounded { I.reads input.new ≤ I.reads input.old + max_definitions + 1 }
+        × Told E.writer diagnostics.old diagnostics.new (TellsVerdict verdict) }
+    ensures stopped { result ≡ 4 →
+        Told E.writer diagnostics.old diagnostics.new IsUnread }
+    ensures bounded { I.reader.reads input.new ≤ I.reader.reads input.old + max_definitions + 1 }
 {
     let path = match request.texts {
         Texts::Joined => {

@@ -100,11 +100,11 @@ impl<R: Source + Drop> DefinitionFiles<R> {
 }
 
 impl<R: Source + Drop> Source for DefinitionFiles<R> {
-    ghost coming = { λ f. whole_text (map R.coming (readers_of f)) };
-
-    ghost reads = { λ f. calls_of f };
-
-    ghost failed_reads = { λ f. failures_of f };
+    ghost reader = { record {
+      coming = λ f. whole_text (map R.reader.coming (readers_of f));
+      reads = λ f. calls_of f;
+      failed_reads = λ f. failures_of f;
+    } };
 
     /// Reads from the file that is read. If it is at its end and another file waits, that one is read from the next call on, and this call
     /// gives the line feed between the two.

@@ -1,6 +1,7 @@
 //! Reports of how a transformation ended.
 ghost use Rattle.std.specs.Prelude.{◌||◌};
 ghost use Rattle.strc.specs.Report.{IsReportedWith, TellsIfAsked, TellsMore, TellsText};
+ghost use Rattle.strc.specs.Runs.{Told};
 
 use crate::report::{FileLine, Reporting, report, report_numbers, report_refusal};
 use itoa::Buffer;
@@ -20,7 +21,7 @@ pub(crate) fn notes_for(reporting: Reporting<'_>) -> RunNotes {
 
 /// Writes the pieces of a text, up to the first one that cannot be written.
 fn write_pieces<E: Sink>(pieces: &[&[u8]], diagnostics: &mut E) -> Result<(), Fault>
-    ensures { TellsText (E.written diagnostics.old) (E.written diagnostics.new) }
+    ensures { TellsText (E.writer.written diagnostics.old) (E.writer.written diagnostics.new) }
 {
     for piece in pieces {
         write_all(diagnostics, piece)?;
@@ -30,7 +31,7 @@ fn write_pieces<E: Sink>(pieces: &[&[u8]], diagnostics: &mut E) -> Result<(), Fa
 
 /// Writes that the budget is spent.
 fn write_spent<E: Sink>(budget: u32, diagnostics: &mut E) -> Result<(), Fault>
-    ensures { TellsText (E.written diagnostics.old) (E.written diagnostics.new) }
+    ensures { TellsText (E.writer.written diagnostics.old) (E.writer.written diagnostics.new) }
 {
     let mut digits = Buffer::new();
     let pieces = [
@@ -70,7 +71,7 @@ fn excess_of(size: &OversizeTerm) -> Excess {
 
 /// Writes how large a term was that did not fit.
 pub(crate) fn write_excess<E: Sink>(size: &OversizeTerm, diagnostics: &mut E) -> Result<(), Fault>
-    ensures { TellsText (E.written diagnostics.old) (E.written diagnostics.new) }
+    ensures { TellsText (E.writer.written diagnostics.old) (E.writer.written diagnostics.new) }
 {
     let excess = excess_of(size);
     let (mut size_digits, mut most_digits) = (Buffer::new(), Buffer::new());
@@ -88,7 +89,7 @@ pub(crate) fn write_excess<E: Sink>(size: &OversizeTerm, diagnostics: &mut E) ->
 
 /// Writes how large the term was that did not fit, where that is known.
 fn write_oversize<E: Sink>(notes: &RunNotes, diagnostics: &mut E) -> Result<(), Fault>
-    ensures { TellsText (E.written diagnostics.old) (E.written diagnostics.new) }
+    ensures { TellsText (E.writer.written diagnostics.old) (E.writer.written diagnostics.new) }
 {
     match notes.oversize_term() {
         Some(size) => write_excess(size, diagnostics),
@@ -103,7 +104,7 @@ fn write_mention<E: Sink>(
     beside: &str,
     diagnostics: &mut E,
 ) -> Result<(), Fault>
-    ensures { TellsText (E.written diagnostics.old) (E.written diagnostics.new) }
+    ensures { TellsText (E.writer.written diagnostics.old) (E.writer.written diagnostics.new) }
 {
     let Some(other) = on_line else {
         return write_pieces(&[b"\n".as_slice()], diagnostics);
@@ -129,7 +130,7 @@ pub(crate) fn write_remark<E: Sink>(
     remark: &Remark,
     diagnostics: &mut E,
 ) -> Result<(), Fault>
-    ensures { TellsText (E.written diagnostics.old) (E.written diagnostics.new) }
+    ensures { TellsText (E.writer.written diagnostics.old) (E.writer.written diagnostics.new) }
 {
     let text = remark.text.as_slice();
     let Some(Position { line, column }) = remark.position else {
@@ -156,7 +157,7 @@ pub(crate) fn write_remarks<E: Sink>(
     notes: &RunNotes,
     diagnostics: &mut E,
 ) -> Result<(), Fault>
-    ensures { TellsText (E.written diagnostics.old) (E.written diagnostics.new) }
+    ensures { TellsText (E.writer.written diagnostics.old) (E.writer.written diagnostics.new) }
 {
     let Some(explanation) = notes.explanation() else {
         return Ok(());
@@ -175,7 +176,7 @@ fn report_asked<E: Sink>(
     diagnostics: &mut E,
 )
     ensures { TellsIfAsked (reporting.entry.has_stats || reporting.entry.explains)
-        (E.written diagnostics.old) (E.written diagnostics.new) }
+        (E.writer.written diagnostics.old) (E.writer.written diagnostics.new) }
 {
     if !reporting.reports_runs() {
         return;
@@ -195,8 +196,7 @@ pub(crate) fn report_findings<E: Sink>(
     notes: &RunNotes,
     diagnostics: &mut E,
 )
-    ensures { TellsMore fault.now (E.failed_writes diagnostics.old) (E.failed_writes diagnostics.new)
-        (E.written diagnostics.old) (E.written diagnostics.new) }
+    ensures { Told E.writer diagnostics.old diagnostics.new (TellsMore fault.now) }
 {
     if notes.explanation().is_none() {
         report_refusal(alloc, fault, reporting, notes, diagnostics);
@@ -215,7 +215,7 @@ fn report_oversize<E: Sink>(
     notes: &RunNotes,
     diagnostics: &mut E,
 )
-    ensures { TellsText (E.written diagnostics.old) (E.written diagnostics.new) }
+    ensures { TellsText (E.writer.written diagnostics.old) (E.writer.written diagnostics.new) }
 {
     if write_oversize(notes, diagnostics).is_err() {
         return;
@@ -231,7 +231,7 @@ fn report_spent<E: Sink>(
     notes: &RunNotes,
     diagnostics: &mut E,
 )
-    ensures { TellsText (E.written diagnostics.old) (E.written diagnostics.new) }
+    ensures { TellsText (E.writer.written diagnostics.old) (E.writer.written diagnostics.new) }
 {
     if write_spent(budget, diagnostics).is_err() {
         return;
@@ -249,9 +249,8 @@ pub(crate) fn report_end<E: Sink>(
     notes: &RunNotes,
     diagnostics: &mut E,
 )
-    ensures { IsReportedWith reporting.entry.has_stats reporting.entry.explains status.now
-        (E.failed_writes diagnostics.old) (E.failed_writes diagnostics.new)
-        (E.written diagnostics.old) (E.written diagnostics.new) }
+    ensures { Told E.writer diagnostics.old diagnostics.new
+        (IsReportedWith reporting.entry.has_stats reporting.entry.explains status.now) }
 {
     match status {
         Status::Rewritten => report_asked(alloc, reporting, notes, diagnostics),

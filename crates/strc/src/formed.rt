@@ -1,9 +1,10 @@
 //! Transformations whose line is written in a form.
-ghost use Rattle.std.specs.Prelude.{◌≡◌, ◌+◌, ◌≤◌, ◌⊎◌, ℕ, List, if◌then◌else◌, IfErr, IfOk, IfSome, IsErrOf};
+ghost use Rattle.std.specs.Prelude.{◌≡◌, ◌+◌, ◌≤◌, ◌⊎◌, if◌then◌else◌, IfErr, IfOk, IsErrOf};
 ghost use Rattle.term_model.specs.Limits.{max_budget};
 ghost use Rattle.prim_registry.specs.Entries.{IsHonest};
-ghost use Rattle.str_pipeline.specs.Faults.{HoldsRefusal, IsTransferFault, is_read_fault, is_write_fault};
-ghost use Rattle.str_pipeline.specs.Joined.{IsSplit};
+ghost use Rattle.str_pipeline.specs.Faults.{is_read_fault, is_write_fault};
+ghost use Rattle.str_pipeline.specs.Joined.{OfJoined};
+ghost use Rattle.str_pipeline.specs.Transformation.{Ends, OfTwo};
 ghost use Rattle.str_pipeline.specs.Limits.{max_definitions, max_term};
 ghost use Rattle.str_pipeline.specs.Setting.{setting_of};
 ghost use Rattle.strc.specs.Forms.{IsInForm, GainsForm, BeginsForm, HasWrittenIn, HasBegunIn};
@@ -45,13 +46,13 @@ fn write_in_form<W: Sink>(
     out: &mut W,
 ) -> Result<Status, Fault>
     ensures whole { IfOk result (λ ended. (ended ≡ status)
-        × GainsForm form status line.items (W.written out.old) (W.written out.new)) }
+        × GainsForm form status line.items (W.writer.written out.old) (W.writer.written out.new)) }
     ensures begun { IsErrOf result Fault.Write →
-        BeginsForm form status line.items (W.written out.old) (W.written out.new) }
+        BeginsForm form status line.items (W.writer.written out.old) (W.writer.written out.new) }
     ensures kinds { IfErr result (λ fault. (fault ≡ Fault.Memory) ⊎ (fault ≡ Fault.Write)) }
     ensures untouched { IsErrOf result Fault.Memory → out.new ≡ out.old }
-    ensures write_failed { W.failed_writes out.new
-        ≡ W.failed_writes out.old + (if is_write_fault result then 1 else 0) }
+    ensures write_failed { W.writer.failed_writes out.new
+        ≡ W.writer.failed_writes out.old + (if is_write_fault result then 1 else 0) }
 {
     let text = text_in_form(alloc, form, &status, line)?;
     write_all(out, &text)?;
@@ -75,26 +76,21 @@ pub(crate) fn transform_in_form<D: Source, T: Source, W: Sink, M: PrimMeaning>(
 ) -> Result<Status, Fault>
     requires budget { options.now.budget ≤ max_budget }
     requires honest { IsHonest M.answer registry.now }
-    ensures written { IfOk result (λ status. IfSome (D.coming definitions.old) (λ d.
-        IfSome (T.coming term.old) (λ t. HasWrittenIn form d t
-        (setting_of M.answer registry.now options.now) status
-        (W.written out.old) (W.written out.new)))) }
-    ensures begun { IsErrOf result Fault.Write → IfSome (D.coming definitions.old) (λ d.
-        IfSome (T.coming term.old) (λ t. HasBegunIn form d t
-        (setting_of M.answer registry.now options.now)
-        (W.written out.old) (W.written out.new))) }
-    ensures status { IfOk result HoldsRefusal }
-    ensures kinds { IfErr result IsTransferFault }
-    ensures untouched_memory { IsErrOf result Fault.Memory → out.new ≡ out.old }
-    ensures untouched_read { IsErrOf result Fault.Read → out.new ≡ out.old }
-    ensures read_failed { D.failed_reads definitions.new + T.failed_reads term.new
-        ≡ D.failed_reads definitions.old + T.failed_reads term.old
-        + (if is_read_fault result then 1 else 0) }
-    ensures write_failed { W.failed_writes out.new
-        ≡ W.failed_writes out.old + (if is_write_fault result then 1 else 0) }
-    ensures definitions_bounded { D.reads definitions.new
-        ≤ D.reads definitions.old + max_definitions + 1 }
-    ensures term_bounded { T.reads term.new ≤ T.reads term.old + max_term + 1 }
+    ensures written { IfOk result (λ status.
+        OfTwo (D.reader.coming definitions.old) (T.reader.coming term.old) (λ d t.
+        HasWrittenIn form d t (setting_of M.answer registry.now options.now) status
+        (W.writer.written out.old) (W.writer.written out.new))) }
+    ensures begun { IsErrOf result Fault.Write →
+        OfTwo (D.reader.coming definitions.old) (T.reader.coming term.old) (λ d t.
+        HasBegunIn form d t (setting_of M.answer registry.now options.now)
+        (W.writer.written out.old) (W.writer.written out.new)) }
+    ensures ends { Ends W.writer out.old out.new result }
+    ensures read_failed { D.reader.failed_reads definitions.new + T.reader.failed_reads term.new
+        ≡ D.reader.failed_reads definitions.old + T.reader.failed_reads term.old +
+        (if is_read_fault result then 1 else 0) }
+    ensures definitions_bounded { D.reader.reads definitions.new ≤ D.reader.reads definitions.old +
+        max_definitions + 1 }
+    ensures term_bounded { T.reader.reads term.new ≤ T.reader.reads term.old + max_term + 1 }
 {
     if form == Form::Line {
         return transform_with_notes(alloc, definitions, term, options, registry, notes, out);
@@ -130,22 +126,17 @@ pub(crate) fn transform_joined_in_form<I: Source, W: Sink, M: PrimMeaning>(
 ) -> Result<Status, Fault>
     requires budget { options.now.budget ≤ max_budget }
     requires honest { IsHonest M.answer registry.now }
-    ensures written { IfOk result (λ status. IfSome (I.coming input.old) (λ told.
-        (d t : List ℕ) → IsSplit told d t → HasWrittenIn form d t
-        (setting_of M.answer registry.now options.now) status
-        (W.written out.old) (W.written out.new))) }
-    ensures begun { IsErrOf result Fault.Write → IfSome (I.coming input.old) (λ told.
-        (d t : List ℕ) → IsSplit told d t → HasBegunIn form d t
-        (setting_of M.answer registry.now options.now) (W.written out.old) (W.written out.new)) }
-    ensures status { IfOk result HoldsRefusal }
-    ensures kinds { IfErr result IsTransferFault }
-    ensures untouched_memory { IsErrOf result Fault.Memory → out.new ≡ out.old }
-    ensures untouched_read { IsErrOf result Fault.Read → out.new ≡ out.old }
-    ensures read_failed { I.failed_reads input.new
-        ≡ I.failed_reads input.old + (if is_read_fault result then 1 else 0) }
-    ensures write_failed { W.failed_writes out.new
-        ≡ W.failed_writes out.old + (if is_write_fault result then 1 else 0) }
-    ensures bounded { I.reads input.new ≤ I.reads input.old + max_definitions + 7 + max_term + 1 }
+    ensures written { IfOk result (λ status. OfJoined (I.reader.coming input.old) (λ d t.
+        HasWrittenIn form d t (setting_of M.answer registry.now options.now) status
+        (W.writer.written out.old) (W.writer.written out.new))) }
+    ensures begun { IsErrOf result Fault.Write → OfJoined (I.reader.coming input.old) (λ d t.
+        HasBegunIn form d t (setting_of M.answer registry.now options.now)
+        (W.writer.written out.old) (W.writer.written out.new)) }
+    ensures ends { Ends W.writer out.old out.new result }
+    ensures read_failed { I.reader.failed_reads input.new ≡ I.reader.failed_reads input.old +
+        (if is_read_fault result then 1 else 0) }
+    ensures bounded { I.reader.reads input.new ≤ I.reader.reads input.old + max_definitions + 7 +
+        max_term + 1 }
 {
     if form == Form::Line {
         return transform_joined_with_notes(alloc, input, options, registry, notes, out);

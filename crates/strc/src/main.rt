@@ -7,6 +7,7 @@ mod definition_files;
 mod ending;
 mod failure;
 mod formed;
+mod open_streams;
 mod opening;
 mod paths;
 mod pretty;

@@ -3,6 +3,7 @@ ghost use Rattle.std.specs.Prelude.{◌≡◌, map, ℕ, List, IfErr, IfOk};
 ghost use Rattle.str_pipeline.specs.Faults.{IsReadingFault};
 ghost use Rattle.strc.specs.Files.{path_of, readers_of, texts_at};
 ghost use Rattle.strc.specs.Report.{IsUnread};
+ghost use Rattle.strc.specs.Runs.{Told};
 
 use crate::definition_files::DefinitionFiles;
 use crate::failure::Failure;
@@ -84,8 +85,8 @@ pub(crate) fn find_libraries<P: Paths, E: Sink>(
     diagnostics: &mut E,
 ) -> Result<Vec<Library>, u8>
     ensures found { IfOk result (λ libraries. diagnostics.new ≡ diagnostics.old) }
-    ensures stopped { IfErr result (λ status. (status ≡ 4) × IsUnread (E.failed_writes diagnostics.old)
-        (E.failed_writes diagnostics.new) (E.written diagnostics.old) (E.written diagnostics.new)) }
+    ensures stopped { IfErr result (λ status. (status ≡ 4) ×
+        Told E.writer diagnostics.old diagnostics.new IsUnread) }
 {
     match libraries_of(alloc, paths, words) {
         Ok(libraries) => Ok(libraries),
@@ -100,7 +101,7 @@ fn open_libraries<'a, P: Paths>(
     libraries: &'a [Library],
 ) -> Result<VecDeque<P::Reader>, Unopened<'a>>
     ensures fault { IfErr result (λ unopened. IsReadingFault unopened.fault) }
-    ensures texts { IfOk result (λ readers. map P.Reader.coming readers.items
+    ensures texts { IfOk result (λ readers. map P.Reader.reader.coming readers.items
         ≡ map (λ library. P.text_at paths.old (path_of library)) libraries.now) }
     ensures kept { (other : List ℕ) → P.text_at paths.new other ≡ P.text_at paths.old other }
 {
@@ -131,9 +132,10 @@ pub(crate) fn open_reader<P: Paths, E: Sink>(
     diagnostics: &mut E,
 ) -> Result<P::Reader, u8>
     ensures opened { IfOk result (λ reader. diagnostics.new ≡ diagnostics.old) }
-    ensures text { IfOk result (λ reader. P.Reader.coming reader ≡ P.text_at paths.old path.now) }
-    ensures stopped { IfErr result (λ status. (status ≡ 4) × IsUnread (E.failed_writes diagnostics.old)
-        (E.failed_writes diagnostics.new) (E.written diagnostics.old) (E.written diagnostics.new)) }
+    ensures text { IfOk result (λ reader. P.Reader.reader.coming reader ≡
+        P.text_at paths.old path.now) }
+    ensures stopped { IfErr result (λ status. (status ≡ 4) ×
+        Told E.writer diagnostics.old diagnostics.new IsUnread) }
     ensures kept { (other : List ℕ) → P.text_at paths.new other ≡ P.text_at paths.old other }
 {
     match paths.open(path) {
@@ -156,10 +158,10 @@ pub(crate) fn open_definitions<P: Paths, E: Sink>(
     diagnostics: &mut E,
 ) -> Result<DefinitionFiles<P::Reader>, u8>
     ensures opened { IfOk result (λ files. diagnostics.new ≡ diagnostics.old) }
-    ensures texts { IfOk result (λ files. map P.Reader.coming (readers_of files)
+    ensures texts { IfOk result (λ files. map P.Reader.reader.coming (readers_of files)
         ≡ texts_at (P.text_at paths.old) libraries.now definitions.now) }
-    ensures stopped { IfErr result (λ status. (status ≡ 4) × IsUnread (E.failed_writes diagnostics.old)
-        (E.failed_writes diagnostics.new) (E.written diagnostics.old) (E.written diagnostics.new)) }
+    ensures stopped { IfErr result (λ status. (status ≡ 4) ×
+        Told E.writer diagnostics.old diagnostics.new IsUnread) }
     ensures kept { (other : List ℕ) → P.text_at paths.new other ≡ P.text_at paths.old other }
 {
     let readers = match open_libraries(alloc, paths, libraries) {

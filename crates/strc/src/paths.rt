@@ -9,7 +9,7 @@ use str_pipeline::{Counted, Source};
 use term_model::Fault;
 
 /// Opens files by their paths.
-pub trait Paths {
+pub(crate) trait Paths {
     /// What an opened file is read through.
     type Reader: Source + Drop;
 
@@ -19,7 +19,8 @@ pub trait Paths {
     /// Opens the file at this path, to be read from its beginning. The fault is `Read` where it cannot be opened, or `Memory`.
     fn open(&mut self, path: &str) -> Result<Self::Reader, Fault>
         ensures fault { IfErr result IsReadingFault }
-        ensures text { IfOk result (λ reader. Self.Reader.coming reader ≡ text_at self.old path.now) }
+        ensures text { IfOk result
+            (λ reader. Self.Reader.reader.coming reader ≡ text_at self.old path.now) }
         ensures kept { (other : List ℕ) → text_at self.new other ≡ text_at self.old other };
 
     /// Returns the path of the prelude that is installed with the program, whether or not a file is there; nothing where the place of the

@@ -1,5 +1,5 @@
 //! The standard primitives, and the program over a registry of them.
-ghost use Rattle.std.specs.Prelude.{◌≡◌, ◌+◌, ◌<◌, ◌≤◌, ◌++◌, ◌∷◌, ℕ, ℤ, [], List, length, Contains, IsTrue, IfErr, IfOk, IfSome, IsOkAnd, OnOk};
+ghost use Rattle.std.specs.Prelude.{◌≡◌, ◌+◌, ◌<◌, ◌≤◌, ◌++◌, ◌∷◌, ℤ, [], length, Contains, IsTrue, IfErr, IfOk, IsOkAnd, OnOk};
 ghost use Rattle.std.specs.Option.{option_map};
 ghost use Rattle.term_model.specs.Flat.{number};
 ghost use Rattle.term_model.specs.declared.fault.Fault.{Fault};
@@ -7,16 +7,10 @@ ghost use Rattle.prim_registry.specs.Answers.{AnswersBy, CalculatesBy};
 ghost use Rattle.prim_registry.specs.Entries.{IsHonest, entries_of};
 ghost use Rattle.prim_registry.specs.Standard.{standard};
 ghost use Rattle.prim_registry.specs.Values.{answer_of, values_of};
-ghost use Rattle.str_pipeline.specs.declared.status.Options.{Options};
-ghost use Rattle.str_pipeline.specs.declared.status.Status.{Status};
-ghost use Rattle.str_pipeline.specs.Joined.{IsSplit};
-ghost use Rattle.str_pipeline.specs.Written.{HasWritten, HasBegun};
-ghost use Rattle.str_pipeline.specs.Faults.{HoldsRefusal, IsTransferFault};
 ghost use Rattle.str_pipeline.specs.Limits.{max_definitions, max_term};
 ghost use Rattle.prim_registry.specs.StandardPrimitives.{is_arithmetic, key_of};
 ghost use Rattle.strc.specs.Primitives.{names_of, standard_setting};
-ghost use Rattle.strc.specs.Report.{exit_of, IsCause, TellsStop, IsReported};
-ghost use Rattle.strc.specs.Request.{ArePlain};
+ghost use Rattle.strc.specs.Runs.{RunsPlain, Stops};
 
 use crate::paths::Paths;
 use crate::program::run;
@@ -41,13 +35,16 @@ fn register(
 ) -> Result<(), Fault>
     requires honest { IsHonest ⟦<Standard as PrimMeaning>⟧.answer registry.old }
     requires fresh { Contains (names_of (entries_of registry.old)) (key_of primitive).0 → ⊥ }
-    requires may_run { (args : _) → length args.now ≡ (key_of primitive).1 → Action.pre action args }
-    requires answers { AnswersBy (Action.post action) (key_of primitive).1 (standard (key_of primitive).0) }
+    requires may_run { (args : _) → length args.now ≡ (key_of primitive).1 →
+        Action.pre action args }
+    requires answers { AnswersBy (Action.post action)
+        (key_of primitive).1 (standard (key_of primitive).0) }
     requires may_calculate { (left right : ℤ) → Calculation.pre calculation left right }
     requires calculates { IsTrue (is_arithmetic primitive) →
         CalculatesBy (Calculation.post calculation) (standard (key_of primitive).0) }
     ensures honest { IsHonest ⟦<Standard as PrimMeaning>⟧.answer registry.new }
-    ensures registered { OnOk result (entries_of registry.new ≡ entries_of registry.old ++ key_of primitive ∷ []) }
+    ensures registered { OnOk result (entries_of registry.new ≡ entries_of registry.old ++
+        key_of primitive ∷ []) }
     ensures fault { IfErr result (λ fault. fault ≡ Fault.Memory) }
 {
     let name = primitive.name().to_vec(alloc)?;
@@ -62,7 +59,7 @@ fn register(
 /// memory for that is refused the fault is `Memory`. Where there are no words, that is reported on `diagnostics`, and the status is 5, or 4
 /// where memory was refused.
 #[tactic(auto, using(crate::proofs::CauseLaws::line_told))]
-pub fn run_standard<P: Paths, I: Source, W: Sink, E: Sink>(
+pub(crate) fn run_standard<P: Paths, I: Source, W: Sink, E: Sink>(
     alloc: Global,
     words: &io::Result<Vec<String>>,
     paths: &mut P,
@@ -72,26 +69,13 @@ pub fn run_standard<P: Paths, I: Source, W: Sink, E: Sink>(
 ) -> u8
     ensures status { result ≤ 5 }
     ensures usage { result ≡ 5 → (out.new ≡ out.old) × (input.new ≡ input.old) }
-    ensures stopped { result ≡ 4 → (fault : Fault) × IsTransferFault fault
-        × TellsStop (record { before = W.failed_writes out.old; after = W.failed_writes out.new }) fault
-        (E.failed_writes diagnostics.old) (E.failed_writes diagnostics.new)
-        (E.written diagnostics.old) (E.written diagnostics.new) }
-    ensures unwritten { result ≡ 4 → W.failed_writes out.new ≡ W.failed_writes out.old → out.new ≡ out.old }
-    ensures write_failed { W.failed_writes out.old < W.failed_writes out.new → result ≡ 4 }
-    ensures bounded { I.reads input.new ≤ I.reads input.old + max_definitions + 7 + max_term + 1 }
-    ensures plain_status { IsOkAnd words.now (λ ws. length ws.items ≤ 1) → result ≤ 4 }
-    ensures plain_ended { IsOkAnd words.now (λ ws. length ws.items ≤ 1) → result < 4 → (options : Options) × (status : Status) × ArePlain options × (exit_of status ≡ result) × HoldsRefusal status
-        × IfSome (I.coming input.old) (λ told. (d t : List ℕ) → IsSplit told d t → HasWritten d t (standard_setting options) status (W.written out.old) (W.written out.new))
-        × IsReported status (E.failed_writes diagnostics.old) (E.failed_writes diagnostics.new) (E.written diagnostics.old) (E.written diagnostics.new) }
-    ensures plain_stopped { IsOkAnd words.now (λ ws. length ws.items ≤ 1) → result ≡ 4 → (fault : Fault)
-        × IsCause (record { before = I.failed_reads input.old; after = I.failed_reads input.new })
-        (record { before = W.failed_writes out.old; after = W.failed_writes out.new }) fault
-        × TellsStop (record { before = W.failed_writes out.old; after = W.failed_writes out.new }) fault
-        (E.failed_writes diagnostics.old) (E.failed_writes diagnostics.new)
-        (E.written diagnostics.old) (E.written diagnostics.new) }
-    ensures plain_begun { IsOkAnd words.now (λ ws. length ws.items ≤ 1) → W.failed_writes out.old < W.failed_writes out.new → (options : Options) × ArePlain options
-        × IfSome (I.coming input.old) (λ told. (d t : List ℕ) → IsSplit told d t → HasBegun d t (standard_setting options) (W.written out.old) (W.written out.new)) }
-    ensures plain_read_failed { IsOkAnd words.now (λ ws. length ws.items ≤ 1) → I.failed_reads input.old < I.failed_reads input.new → result ≡ 4 }
+    ensures stops { Stops W.writer E.writer out.old out.new diagnostics.old diagnostics.new result }
+    ensures bounded { I.reader.reads input.new ≤ I.reader.reads input.old + max_definitions + 7 +
+        max_term + 1 }
+    ensures plain { IsOkAnd words.now (λ ws. length ws.items ≤ 1) →
+        RunsPlain I.reader W.writer E.writer
+        standard_setting
+        input.old input.new out.old out.new diagnostics.old diagnostics.new result }
 {
     let mut registry = Registry::<Standard>::new(alloc);
     for primitive in STANDARD {

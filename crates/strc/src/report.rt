@@ -2,6 +2,7 @@
 ghost use Rattle.std.specs.Prelude.{◌≡◌, ◌+◌, ◌||◌, OnOk, IfErr, is_err, if◌then◌else◌};
 ghost use Rattle.str_pipeline.specs.Device.{Gains, GainsPrefix};
 ghost use Rattle.strc.specs.Report.{place_of, place_text, diagnostic, TellsMore, TellsIfAsked};
+ghost use Rattle.strc.specs.Runs.{Told};
 
 use crate::failure::Failure;
 use crate::opening::Library;
@@ -31,9 +32,15 @@ fn place_of(fault: &Fault) -> Option<u64>
 
 /// Writes the place of a fault, where it has one.
 fn write_place<E: Sink>(place: Option<u64>, diagnostics: &mut E) -> Result<(), Fault>
-    ensures whole { OnOk result (Gains (E.written diagnostics.old) (E.written diagnostics.new) (place_text place)) }
-    ensures prefix { GainsPrefix (E.written diagnostics.old) (E.written diagnostics.new) (place_text place) }
-    ensures failed { E.failed_writes diagnostics.new ≡ E.failed_writes diagnostics.old + (if is_err result then 1 else 0) }
+    ensures whole { OnOk result
+        (Gains (E.writer.written diagnostics.old) (E.writer.written diagnostics.new)
+        (place_text place)) }
+    ensures prefix { GainsPrefix (E.writer.written diagnostics.old)
+        (E.writer.written diagnostics.new)
+        (place_text place) }
+    ensures failed { E.writer.failed_writes diagnostics.new ≡
+        E.writer.failed_writes diagnostics.old +
+        (if is_err result then 1 else 0) }
     ensures kinds { IfErr result (λ e. e ≡ Fault.Write) }
 {
     let Some(at) = place else {
@@ -47,9 +54,15 @@ fn write_place<E: Sink>(place: Option<u64>, diagnostics: &mut E) -> Result<(), F
 /// Writes the diagnostic line of a fault: `strc: `, its word and, where a text was refused at some
 /// byte, ` at byte ` and its place.
 pub(crate) fn report<E: Sink>(fault: &Fault, diagnostics: &mut E) -> Result<(), Fault>
-    ensures whole { OnOk result (Gains (E.written diagnostics.old) (E.written diagnostics.new) (diagnostic fault.now)) }
-    ensures prefix { GainsPrefix (E.written diagnostics.old) (E.written diagnostics.new) (diagnostic fault.now) }
-    ensures failed { E.failed_writes diagnostics.new ≡ E.failed_writes diagnostics.old + (if is_err result then 1 else 0) }
+    ensures whole { OnOk result
+        (Gains (E.writer.written diagnostics.old) (E.writer.written diagnostics.new)
+        (diagnostic fault.now)) }
+    ensures prefix { GainsPrefix (E.writer.written diagnostics.old)
+        (E.writer.written diagnostics.new)
+        (diagnostic fault.now) }
+    ensures failed { E.writer.failed_writes diagnostics.new ≡
+        E.writer.failed_writes diagnostics.old +
+        (if is_err result then 1 else 0) }
     ensures kinds { IfErr result (λ e. e ≡ Fault.Write) }
 {
     write_all(diagnostics, b"strc: ")?;
@@ -246,7 +259,7 @@ fn with_hint(
 
 /// Writes the diagnostic line of a fault and, where there is a text that says more, the text. Where a write fails, nothing more is written.
 fn report_with<E: Sink>(fault: &Fault, more: Option<String>, diagnostics: &mut E)
-    ensures { TellsMore fault.now (E.failed_writes diagnostics.old) (E.failed_writes diagnostics.new) (E.written diagnostics.old) (E.written diagnostics.new) }
+    ensures { Told E.writer diagnostics.old diagnostics.new (TellsMore fault.now) }
 {
     if report(fault, diagnostics).is_err() {
         return;
@@ -265,7 +278,7 @@ pub(crate) fn report_refusal<E: Sink>(
     notes: &RunNotes,
     diagnostics: &mut E,
 )
-    ensures { TellsMore fault.now (E.failed_writes diagnostics.old) (E.failed_writes diagnostics.new) (E.written diagnostics.old) (E.written diagnostics.new) }
+    ensures { Told E.writer diagnostics.old diagnostics.new (TellsMore fault.now) }
 {
     report_with(fault, explanation(alloc, reporting, notes), diagnostics);
 }
@@ -277,7 +290,7 @@ pub(crate) fn report_failure<E: Sink>(
     failure: Failure<'_>,
     diagnostics: &mut E,
 )
-    ensures { TellsMore fault.now (E.failed_writes diagnostics.old) (E.failed_writes diagnostics.new) (E.written diagnostics.old) (E.written diagnostics.new) }
+    ensures { Told E.writer diagnostics.old diagnostics.new (TellsMore fault.now) }
 {
     report_with(fault, failure.line(alloc), diagnostics);
 }
@@ -299,7 +312,8 @@ pub(crate) fn report_numbers<E: Sink>(
     notes: &RunNotes,
     diagnostics: &mut E,
 )
-    ensures { TellsIfAsked has_stats (E.written diagnostics.old) (E.written diagnostics.new) }
+    ensures { TellsIfAsked has_stats (E.writer.written diagnostics.old)
+        (E.writer.written diagnostics.new) }
 {
     if !has_stats {
         return;

@@ -170,7 +170,7 @@ fn term<'a>(alloc: Global) -> Arg<'a>
 }
 
 /// Returns the program with its texts, without options and paths.
-fn described<'a>(alloc: Global) -> Command<'a>
+fn command_with_texts<'a>(alloc: Global) -> Command<'a>
     ensures { TakesRules result }
 {
     Command::new(alloc, "strc")
@@ -185,7 +185,7 @@ fn described<'a>(alloc: Global) -> Command<'a>
 fn command<'a>(alloc: Global) -> Result<Command<'a>, Error>
     ensures { IfOk result TakesRules }
 {
-    let command = described(alloc).arg(rules(alloc))?;
+    let command = command_with_texts(alloc).arg(rules(alloc))?;
     let command = command.arg(main_name(alloc))?;
     let command = command.arg(flag(alloc, "strict", STRICT))?;
     let command = command.arg(flag(alloc, "stats", STATS))?;

@@ -2,6 +2,7 @@
 ghost use Rattle.std.specs.Prelude.{◌≡◌};
 ghost use Rattle.term_model.specs.declared.fault.Fault.TheVariants.{Write};
 ghost use Rattle.strc.specs.Report.{AreSome, Failures, Tells, TellsFault, TellsStop};
+ghost use Rattle.strc.specs.Runs.{Told};
 
 use crate::failure::Failure;
 use crate::report::{report, report_failure};
@@ -14,7 +15,7 @@ use term_model::Fault;
 #[tactic(auto, using(crate::proofs::PrefixLaws::tells))]
 pub(crate) fn stop<E: Sink>(fault: &Fault, diagnostics: &mut E) -> u8
     ensures status { result ≡ 4 }
-    ensures told { Tells fault.now (E.failed_writes diagnostics.old) (E.failed_writes diagnostics.new) (E.written diagnostics.old) (E.written diagnostics.new) }
+    ensures told { Told E.writer diagnostics.old diagnostics.new (Tells fault.now) }
 {
     let _ = report(fault, diagnostics);
     4
@@ -29,8 +30,7 @@ pub(crate) fn stop_reading<E: Sink>(
     diagnostics: &mut E,
 ) -> u8
     ensures status { result ≡ 4 }
-    ensures told { TellsFault fault.now (E.failed_writes diagnostics.old) (E.failed_writes diagnostics.new)
-        (E.written diagnostics.old) (E.written diagnostics.new) }
+    ensures told { Told E.writer diagnostics.old diagnostics.new (TellsFault fault.now) }
 {
     match fault {
         Fault::Read => {
@@ -44,9 +44,8 @@ pub(crate) fn stop_reading<E: Sink>(
 /// Reports that a write to `out` failed, and returns 4. Of a broken pipe nothing is reported, since its reader wants no more.
 pub(crate) fn stop_writing<W: Sink, E: Sink>(alloc: Global, out: &W, diagnostics: &mut E) -> u8
     ensures status { result ≡ 4 }
-    ensures told { (writes : Failures) → AreSome writes → TellsStop writes Write
-        (E.failed_writes diagnostics.old) (E.failed_writes diagnostics.new)
-        (E.written diagnostics.old) (E.written diagnostics.new) }
+    ensures told { (writes : Failures) → AreSome writes →
+        Told E.writer diagnostics.old diagnostics.new (TellsStop writes Write) }
 {
     let kind = out.failure();
     if kind == Some(io::ErrorKind::BrokenPipe) {
@@ -66,9 +65,8 @@ pub(crate) fn stop_run<W: Sink, E: Sink>(
     diagnostics: &mut E,
 ) -> u8
     ensures status { result ≡ 4 }
-    ensures told { (writes : Failures) → (fault.now ≡ Write → AreSome writes) → TellsStop writes fault.now
-        (E.failed_writes diagnostics.old) (E.failed_writes diagnostics.new)
-        (E.written diagnostics.old) (E.written diagnostics.new) }
+    ensures told { (writes : Failures) → (fault.now ≡ Write → AreSome writes) →
+        Told E.writer diagnostics.old diagnostics.new (TellsStop writes fault.now) }
 {
     match fault {
         Fault::Write => stop_writing(alloc, out, diagnostics),

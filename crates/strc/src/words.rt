@@ -2,6 +2,7 @@
 ghost use Rattle.std.specs.Prelude.{◌≡◌, ◌⊎◌};
 ghost use Rattle.term_model.specs.declared.fault.Fault.TheVariants.{Memory};
 ghost use Rattle.strc.specs.Report.{Tells};
+ghost use Rattle.strc.specs.Runs.{Told};
 
 use crate::stopping::stop;
 use std::env;
@@ -22,7 +23,8 @@ pub(crate) fn words_of(runtime: &HostRuntime) -> io::Result<Vec<String>> {
 /// Tells why there are no words, and returns the exit status: 5 where one is no text, and else 4.
 pub(crate) fn refuse<E: Sink>(kind: ErrorKind, diagnostics: &mut E) -> u8
     ensures status { (result ≡ 4) ⊎ (result ≡ 5) }
-    ensures told { result ≡ 4 → Tells Memory (E.failed_writes diagnostics.old) (E.failed_writes diagnostics.new) (E.written diagnostics.old) (E.written diagnostics.new) }
+    ensures told { result ≡ 4 →
+        Told E.writer diagnostics.old diagnostics.new (Tells Memory) }
 {
     if kind != ErrorKind::InvalidData {
         return stop(&Fault::Memory, diagnostics);

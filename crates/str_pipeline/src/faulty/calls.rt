@@ -14,10 +14,11 @@ impl Faulty {
     pub fn reader(bytes: Vec<u8>, piece: usize, bad: Option<u64>) -> Faulty
         requires piece { 1 ≤ piece }
         requires bad { IfSome bad (λ n. 1 ≤ n) }
-        ensures orders { orders_of result ≡ record { piece = piece; bad = bad; is_silent = false; room = 0 } }
-        ensures coming { ⟦<Faulty as Source>⟧.coming result ≡ Some bytes.items }
-        ensures reads { ⟦<Faulty as Source>⟧.reads result ≡ 0 }
-        ensures failed { ⟦<Faulty as Source>⟧.failed_reads result ≡ 0 }
+        ensures orders { orders_of result ≡
+            record { piece = piece; bad = bad; is_silent = false; room = 0 } }
+        ensures coming { ⟦<Faulty as Source>⟧.reader.coming result ≡ Some bytes.items }
+        ensures reads { ⟦<Faulty as Source>⟧.reader.reads result ≡ 0 }
+        ensures failed { ⟦<Faulty as Source>⟧.reader.failed_reads result ≡ 0 }
     {
         Faulty {
             bytes,
@@ -41,10 +42,11 @@ impl Faulty {
     ) -> Result<Faulty, AllocError>
         requires piece { 1 ≤ piece }
         requires bad { IfSome bad (λ n. 1 ≤ n) }
-        ensures orders { IfOk result (λ w. orders_of w ≡ record { piece = piece; bad = bad; is_silent = silent; room = room }) }
-        ensures written { IfOk result (λ w. ⟦<Faulty as Sink>⟧.written w ≡ Some []) }
-        ensures writes { IfOk result (λ w. ⟦<Faulty as Sink>⟧.writes w ≡ 0) }
-        ensures failed { IfOk result (λ w. ⟦<Faulty as Sink>⟧.failed_writes w ≡ 0) }
+        ensures orders { IfOk result (λ w. orders_of w ≡
+            record { piece = piece; bad = bad; is_silent = silent; room = room }) }
+        ensures written { IfOk result (λ w. ⟦<Faulty as Sink>⟧.writer.written w ≡ Some []) }
+        ensures writes { IfOk result (λ w. ⟦<Faulty as Sink>⟧.writer.writes w ≡ 0) }
+        ensures failed { IfOk result (λ w. ⟦<Faulty as Sink>⟧.writer.failed_writes w ≡ 0) }
     {
         Ok(Faulty {
             bytes: Vec::with_capacity(alloc, room)?,
@@ -60,7 +62,7 @@ impl Faulty {
 
     /// Returns what was written so far.
     pub fn written(&self) -> &[u8]
-        ensures { ⟦<Faulty as Sink>⟧.written self.now ≡ Some result.now }
+        ensures { ⟦<Faulty as Sink>⟧.writer.written self.now ≡ Some result.now }
     {
         self.bytes.as_slice()
     }
@@ -87,7 +89,8 @@ impl Faulty {
         ensures counted { call_count self.new ≡ call_count self.old }
         ensures orders { orders_of self.new ≡ orders_of self.old }
         ensures written { bytes_written self.new ≡ bytes_written self.old }
-        ensures failed { failure_count self.new ≡ failure_count self.old + (if is_failed_write result text.now then 1 else 0) }
+        ensures failed { failure_count self.new ≡ failure_count self.old +
+            (if is_failed_write result text.now then 1 else 0) }
     {
         if !self.is_silent {
             self.failed.step();
@@ -101,23 +104,26 @@ impl Faulty {
 }
 
 impl Source for Faulty {
-    ghost coming = { λ f. Some (bytes_coming f) };
-
-    ghost reads = { λ f. call_count f };
-
-    ghost failed_reads = { λ f. failure_count f };
+    ghost reader = { record {
+      coming = λ f. Some (bytes_coming f);
+      reads = λ f. call_count f;
+      failed_reads = λ f. failure_count f;
+    } };
 
     /// A bad call fails. Each other one moves as many bytes as `self`'s piece, the slice and what
     /// is left allow.
     fn read(&mut self, piece: &mut [u8]) -> Option<usize>
         ensures bound { IfSome result (λ n. n ≤ length piece.new) }
-        ensures bytes { ReadsFront (Some (bytes_coming self.old)) (Some (bytes_coming self.new)) result piece.new }
+        ensures bytes { ReadsFront (Some (bytes_coming self.old)) (Some (bytes_coming self.new))
+            result piece.new }
         ensures reads { call_count self.new ≡ call_count self.old + 1 }
-        ensures failed { failure_count self.new ≡ failure_count self.old + (if is_none result then 1 else 0) }
+        ensures failed { failure_count self.new ≡ failure_count self.old +
+            (if is_none result then 1 else 0) }
         ensures orders { orders_of self.new ≡ orders_of self.old }
         ensures answer { result ≡ (if is_bad_call (orders_of self.old) (call_count self.new)
             then None
-            else Some (min (length piece.new) (min (orders_of self.old).piece (length (bytes_coming self.old))))) }
+            else Some (min (length piece.new)
+            (min (orders_of self.old).piece (length (bytes_coming self.old))))) }
     {
         if self.begins_badly() {
             self.failed.step();
@@ -132,27 +138,32 @@ impl Source for Faulty {
 }
 
 impl Sink for Faulty {
-    ghost written = { λ f. Some (bytes_written f) };
-
-    ghost writes = { λ f. call_count f };
-
-    ghost failed_writes = { λ f. failure_count f };
+    ghost writer = { record {
+      written = λ f. Some (bytes_written f);
+      writes = λ f. call_count f;
+      failed_writes = λ f. failure_count f;
+    } };
 
     /// A bad call fails, or takes nothing where `self` is silent. Of the others one into a full
     /// writer fails, and each other one takes as many bytes as `self`'s piece and the room allow.
     fn write(&mut self, text: &[u8]) -> Option<usize>
         ensures bound { IfSome result (λ n. n ≤ length text.now) }
-        ensures bytes { WritesFront (Some (bytes_written self.old)) (Some (bytes_written self.new)) result text.now }
+        ensures bytes { WritesFront (Some (bytes_written self.old)) (Some (bytes_written self.new))
+            result text.now }
         ensures writes { call_count self.new ≡ call_count self.old + 1 }
-        ensures failed { failure_count self.new ≡ failure_count self.old + (if is_failed_write result text.now then 1 else 0) }
+        ensures failed { failure_count self.new ≡ failure_count self.old +
+            (if is_failed_write result text.now then 1 else 0) }
         ensures orders { orders_of self.new ≡ orders_of self.old }
         ensures bad { is_bad_call (orders_of self.old) (call_count self.new) ≡ true →
             result ≡ (if (orders_of self.old).is_silent then Some 0 else None) }
-        ensures full { is_bad_call (orders_of self.old) (call_count self.new) ≡ false → 0 < length text.now →
+        ensures full { is_bad_call (orders_of self.old) (call_count self.new) ≡ false →
+            0 < length text.now →
             (orders_of self.old).room ≤ length (bytes_written self.old) → result ≡ None }
         ensures good { is_bad_call (orders_of self.old) (call_count self.new) ≡ false →
             length (bytes_written self.old) < (orders_of self.old).room →
-            result ≡ Some (min (length text.now) (min (orders_of self.old).piece ((orders_of self.old).room - length (bytes_written self.old)))) }
+            result ≡ Some (min (length text.now)
+            (min (orders_of self.old).piece
+            ((orders_of self.old).room - length (bytes_written self.old)))) }
     {
         if self.begins_badly() {
             return self.refuse(text);

@@ -3,14 +3,14 @@ ghost use Rattle.std.specs.Prelude.{◌≤◌, vec_len};
 
 /// The definitions of the joined form, and what was read after them.
 #[derive(Drop)]
-pub(crate) struct Front {
-    pub(super) bytes: Vec<u8>,
+pub(crate) struct JoinedFront {
+    pub(crate) bytes: Vec<u8>,
     /// Where the definitions end.
-    pub(super) definitions: usize,
+    pub(crate) definitions: usize,
     /// Where the term text begins.
-    pub(super) term: usize,
+    pub(crate) term: usize,
     /// Whether nothing is left to be read.
-    pub(super) is_ended: bool,
+    pub(crate) is_ended: bool,
     ghost definitions_within: { definitions ≤ vec_len bytes },
     ghost term_within: { term ≤ vec_len bytes },
 }

@@ -5,7 +5,7 @@ use std::alloc::{AllocError, Global};
 use std::test::Fail;
 use str_pipeline::Faulty;
 
-// Words of the command line, standard input, and the status and the report of the check.
+/// Words of the command line, standard input, and the status and the report of the check.
 const ROWS: &[(&str, &str, u8, &str)] = &[
     ("strc --check", "strategies main = id", 0, ""),
     ("strc --check id.str", "no definitions", 0, ""),

@@ -3,7 +3,7 @@ use crate::tests::samples::reports;
 use std::alloc::{AllocError, Global};
 use std::test::Fail;
 
-// Definitions up to a token, the token, and what is expected in its place.
+/// Definitions up to a token, the token, and what is expected in its place.
 const DEFINITIONS: &[(&str, &str, &str)] = &[
     ("", "main", "'signature', 'rules' or 'strategies'"),
     ("signature ", "x", "'sorts', 'constructors' or a section"),
@@ -105,7 +105,7 @@ const DEFINITIONS: &[(&str, &str, &str)] = &[
     ("rules r : x{y ", "->", "',' or '}'"),
 ];
 
-// Definitions up to a token, the token, and the rule that it breaks.
+/// Definitions up to a token, the token, and the rule that it breaks.
 const RULES: &[(&str, &str, &str)] = &[
     (
         "strategies main = ?x{y}",
@@ -139,7 +139,7 @@ const RULES: &[(&str, &str, &str)] = &[
     ),
 ];
 
-// A term up to a token, the token, and what is expected in its place.
+/// A term up to a token, the token, and what is expected in its place.
 const TERMS: &[(&str, &str, &str)] = &[
     ("", ")", "a term"),
     ("(", ",", "a term or ')'"),
@@ -155,7 +155,7 @@ const TERMS: &[(&str, &str, &str)] = &[
     ("[(1),f(\"a)\\\"]\") ", ")", "',' or ']'"),
 ];
 
-// What else is reported: the words of the command line, the text, and the two first lines.
+/// What else is reported: the words of the command line, the text, and the two first lines.
 const OTHERS: &[(&str, &str, &str)] = &[
     (
         "strc",
@@ -204,7 +204,7 @@ const OTHERS: &[(&str, &str, &str)] = &[
     ),
 ];
 
-// Returns the first lines of the report that the token is refused, for this reason.
+/// Returns the first lines of the report that the token is refused, for this reason.
 fn report_of(
     alloc: Global,
     word: &str,

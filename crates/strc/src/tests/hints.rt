@@ -3,7 +3,7 @@ use crate::tests::samples::run_on;
 use std::alloc::{AllocError, Global};
 use std::test::Fail;
 
-// The joined form, and the hint; nothing where the text only just gets none.
+/// The joined form, and the hint; nothing where the text only just gets none.
 const ROWS: &[(&str, &str)] = &[
     (
         "strategies main = try(_)\n#term\n1",
@@ -236,7 +236,7 @@ const ROWS: &[(&str, &str)] = &[
     ),
 ];
 
-// The joined form, and the hint on a rule, a strategy or a condition in a place where it cannot be; nothing if there is none.
+/// The joined form, and the hint on a rule, a strategy or a condition in a place where it cannot be; nothing if there is none.
 const MISPLACED: &[(&str, &str)] = &[
     (
         "signature constructors P : N * N -> N strategies main = P(x, y) -> x\n#term\n1",
@@ -298,7 +298,7 @@ const MISPLACED: &[(&str, &str)] = &[
     ("rules main : x -> <prim(\"print\", x, x)>\n#term\n1", ""),
 ];
 
-// The joined form, and the hint on a name that is not defined in the text, or not as a strategy; nothing if there is none.
+/// The joined form, and the hint on a name that is not defined in the text, or not as a strategy; nothing if there is none.
 const DEFINED_ELSEWHERE: &[(&str, &str)] = &[
     (
         "strategies main = foldr(id, id)\n#term\n1",
@@ -367,7 +367,7 @@ fn names_that_are_defined_elsewhere(rt: HostRuntime) -> Result<(), Fail> {
     compare_hints(rt.alloc(), DEFINED_ELSEWHERE)
 }
 
-// The joined form of a run that fails, and the first line of its explanation.
+/// The joined form of a run that fails, and the first line of its explanation.
 const FAILING: &[(&str, &str)] = &[
     (
         "rules r : 1 -> 2 strategies main = bottomup(r)\n#term\n[1]",

@@ -4,7 +4,7 @@ use std::alloc::{AllocError, Global};
 use std::test::Fail;
 use str_pipeline::Faulty;
 
-// The joined form, and what is reported of it.
+/// The joined form, and what is reported of it.
 const ROWS: &[(&str, &str)] = &[
     (
         "strategies\n\tmain = id /* id",
@@ -88,7 +88,7 @@ const ROWS: &[(&str, &str)] = &[
     ),
 ];
 
-// What the checks find: definitions, and what the second line says of them.
+/// What the checks find: definitions, and what the second line says of them.
 const CHECKS: &[(&str, &str, &str)] = &[
     (
         "signature constructors C : E C : E strategies main = id",
@@ -147,7 +147,7 @@ const CHECKS: &[(&str, &str, &str)] = &[
     ),
 ];
 
-// Words of the command line, a text, how often it stands in standard input, and what is reported first.
+/// Words of the command line, a text, how often it stands in standard input, and what is reported first.
 const LONG: &[(&str, &str, u32, &str)] = &[
     (
         "strc",
@@ -175,7 +175,7 @@ const LONG: &[(&str, &str, u32, &str)] = &[
     ),
 ];
 
-// Words of the command line, the term, and what is reported of the run.
+/// Words of the command line, the term, and what is reported of the run.
 const RUNS: &[(&str, &str, &str)] = &[
     (
         "strc --stats id.str",

@@ -2,7 +2,7 @@
 use crate::tests::hints::compare_hints;
 use std::test::Fail;
 
-// The joined form, and the hint on an operator; nothing if there is none.
+/// The joined form, and the hint on an operator; nothing if there is none.
 const OPERATORS: &[(&str, &str)] = &[
     (
         "signature constructors A : N * N -> N N : N -> N rules\n  main : A(x, y) -> x + y\n#term\n1",
@@ -92,7 +92,7 @@ const OPERATORS: &[(&str, &str)] = &[
     ),
 ];
 
-// The joined form, and the hint on a comparison; nothing if there is none.
+/// The joined form, and the hint on a comparison; nothing if there is none.
 const COMPARISONS: &[(&str, &str)] = &[
     (
         "signature constructors A : N * N -> N N : N -> N rules\n  main : A(x, y) -> N(x < y)\n#term\n1",
@@ -177,7 +177,7 @@ const COMPARISONS: &[(&str, &str)] = &[
     ("strategies main = {x== id}\n#term\n1", ""),
 ];
 
-// The joined form, and the hint on a call; nothing if there is none.
+/// The joined form, and the hint on a call; nothing if there is none.
 const CALLS: &[(&str, &str)] = &[
     (
         "signature constructors A : N * N -> N N : N -> N rules\n  main : A(x, y) -> prim(\"add\", x, y)\n#term\n1",

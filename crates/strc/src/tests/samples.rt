@@ -51,7 +51,7 @@ const BLANKS: (&str, usize) = ("blank", 524_288);
 
 /// A device in memory that knows why its calls fail.
 #[derive(Drop)]
-pub(super) struct Device {
+pub(crate) struct Device {
     memory: Faulty,
     kind: ErrorKind,
     failure: Option<ErrorKind>,
@@ -59,7 +59,7 @@ pub(super) struct Device {
 
 impl Device {
     /// Makes a device of this one, whose calls fail with errors of this kind.
-    pub(super) fn new(memory: Faulty, kind: ErrorKind) -> Device {
+    pub(crate) fn new(memory: Faulty, kind: ErrorKind) -> Device {
         Device {
             memory,
             kind,
@@ -69,11 +69,11 @@ impl Device {
 }
 
 impl Source for Device {
-    ghost coming = { λ d. None };
-
-    ghost reads = { λ d. ⟦<Faulty as Source>⟧.reads d.memory };
-
-    ghost failed_reads = { λ d. ⟦<Faulty as Source>⟧.failed_reads d.memory };
+    ghost reader = { record {
+      coming = λ d. None;
+      reads = λ d. ⟦<Faulty as Source>⟧.reader.reads d.memory;
+      failed_reads = λ d. ⟦<Faulty as Source>⟧.reader.failed_reads d.memory;
+    } };
 
     fn read(&mut self, piece: &mut [u8]) -> Option<usize> {
         let count = self.memory.read(piece);
@@ -89,11 +89,11 @@ impl Source for Device {
 }
 
 impl Sink for Device {
-    ghost written = { λ d. ⟦<Faulty as Sink>⟧.written d.memory };
-
-    ghost writes = { λ d. ⟦<Faulty as Sink>⟧.writes d.memory };
-
-    ghost failed_writes = { λ d. ⟦<Faulty as Sink>⟧.failed_writes d.memory };
+    ghost writer = { record {
+      written = λ d. ⟦<Faulty as Sink>⟧.writer.written d.memory;
+      writes = λ d. ⟦<Faulty as Sink>⟧.writer.writes d.memory;
+      failed_writes = λ d. ⟦<Faulty as Sink>⟧.writer.failed_writes d.memory;
+    } };
 
     fn write(&mut self, text: &[u8]) -> Option<usize> {
         let count = self.memory.write(text);
@@ -111,15 +111,15 @@ impl Sink for Device {
 /// Opens the files. A path that ends with a slash is one of a folder, which can be opened and not read; one with a colon cannot be opened,
 /// for a reason without a name, and one with a bar may not be.
 #[derive(Drop)]
-pub(super) struct Shelf {
-    pub(super) alloc: Global,
+pub(crate) struct Shelf {
+    pub(crate) alloc: Global,
     /// The path of the installed prelude.
-    pub(super) prelude: Option<&'static str>,
+    pub(crate) prelude: Option<&'static str>,
     failure: Option<ErrorKind>,
 }
 
 impl Shelf {
-    pub(super) fn new(alloc: Global) -> Shelf {
+    pub(crate) fn new(alloc: Global) -> Shelf {
         Shelf {
             alloc,
             prelude: Some("home/prelude.str"),
@@ -177,14 +177,14 @@ impl Paths for Shelf {
 
 /// What a run has left.
 #[derive(Drop)]
-pub(super) struct Ran {
-    pub(super) status: u8,
-    pub(super) out: Faulty,
-    pub(super) diagnostics: Faulty,
+pub(crate) struct Ran {
+    pub(crate) status: u8,
+    pub(crate) out: Faulty,
+    pub(crate) diagnostics: Faulty,
 }
 
 /// Returns the words between single blanks.
-pub(super) fn words_of(alloc: Global, line: &str) -> Result<Vec<String>, AllocError> {
+pub(crate) fn words_of(alloc: Global, line: &str) -> Result<Vec<String>, AllocError> {
     let mut words = Vec::new(alloc);
     for word in line.split(' ') {
         words.push(String::from_str(alloc, word)?)?;
@@ -193,7 +193,7 @@ pub(super) fn words_of(alloc: Global, line: &str) -> Result<Vec<String>, AllocEr
 }
 
 /// Runs the program with these words and this standard input. From their first bad call on, reads of standard input and writes fail.
-pub(super) fn run_on(
+pub(crate) fn run_on(
     alloc: Global,
     line: &str,
     input: &[u8],
@@ -210,7 +210,7 @@ pub(super) fn run_on(
 }
 
 /// The same, over this reader.
-pub(super) fn run_over(
+pub(crate) fn run_over(
     alloc: Global,
     line: &str,
     input: Faulty,
@@ -232,7 +232,7 @@ pub(super) fn run_over(
 }
 
 /// Runs the program with these words over these devices, and returns its status.
-pub(super) fn run_with<I: Source, W: Sink>(
+pub(crate) fn run_with<I: Source, W: Sink>(
     alloc: Global,
     line: &str,
     input: &mut I,
@@ -245,7 +245,7 @@ pub(super) fn run_with<I: Source, W: Sink>(
 }
 
 /// Runs the program with these words and this standard input, and returns whether its report begins so.
-pub(super) fn reports(
+pub(crate) fn reports(
     alloc: Global,
     line: &str,
     input: &str,
@@ -256,13 +256,13 @@ pub(super) fn reports(
 }
 
 /// Runs the program in the joined form on this input, and returns whether it is refused with this report.
-pub(super) fn is_refused(alloc: Global, input: &[u8], report: &str) -> Result<bool, AllocError> {
+pub(crate) fn is_refused(alloc: Global, input: &[u8], report: &str) -> Result<bool, AllocError> {
     let ran = run_on(alloc, "strc", input, None, None, None)?;
     Ok(ran.status == 2 && ran.diagnostics.written() == report.as_bytes())
 }
 
 /// Returns the first bad call of a row. Calls are counted from 1 on.
-pub(super) fn bad_call(call: Option<u64>) -> Option<u64>
+pub(crate) fn bad_call(call: Option<u64>) -> Option<u64>
     ensures { IfSome result (λ n. 1 ≤ n) }
 {
     match call {

@@ -4,7 +4,7 @@ use std::alloc::{AllocError, Global};
 use std::test::Fail;
 use str_pipeline::Faulty;
 
-// Definitions, and the only warning about them, or nothing where they only just get none.
+/// Definitions, and the only warning about them, or nothing where they only just get none.
 const ROWS: &[(&str, &str)] = &[
     (
         "strategies main = ?x; !y; fail",
@@ -119,7 +119,7 @@ fn warnings_with_explanations(rt: HostRuntime) -> Result<(), Fail> {
     Ok(())
 }
 
-// Words of the command line, the joined form, and all that is reported of a run with a result.
+/// Words of the command line, the joined form, and all that is reported of a run with a result.
 const RESULTS: &[(&str, &str, &str)] = &[
     ("strc --explain", "strategies main = id\n#term\n7", ""),
     (

@@ -7,8 +7,10 @@ use Rattle.str_pipeline.proofs.joined.read_front.Goals as goal
 
 pub returns-in-TooLong-clause-split : goal.returns-in-TooLong-clause-split
 returns-in-TooLong-clause-split g c =
-    too_long_told (g.S.Source.coming c.args.input.now) _ c.loop-definitions.bytes.items c.loop-definitions.is_ended c.args.limit
-    c.loop-definitions.invariant.given c.loop-definitions.invariant.ended (rw c.deref.ensures.value at c.in-TooLong.ensures)
+    too_long_told (g.S.Source.reader.coming c.args.input.now)
+    _ c.loop-definitions.bytes.items c.loop-definitions.is_ended c.args.limit
+    c.loop-definitions.invariant.given c.loop-definitions.invariant.ended
+    (rw c.deref.ensures.value at c.in-TooLong.ensures)
 
 pub loop-definitions-preserved : goal.loop-definitions-preserved
 loop-definitions-preserved g c =
@@ -16,7 +18,8 @@ loop-definitions-preserved g c =
     rw c.deref.ensures.value at c.in-More.ensures in
     let searched : IsSearched false c.loop-definitions.bytes.items c.in-More.further = rw more.0 at more.2 in
     record {
-      searched = rw c.in_ok-extend_from_slice.ensures.items (searched_append c.loop-definitions.bytes.items _ c.in-More.further searched);
+      searched = rw c.in_ok-extend_from_slice.ensures.items
+          (searched_append c.loop-definitions.bytes.items _ c.in-More.further searched);
       given = grind (arith, common_steps);
       ended = grind (arith, common_steps);
       few = grind (arith, common_steps);

@@ -8,11 +8,11 @@ invariant-loop-definitions g l =
     let S = g.S.Source in
     record {
       searched : IsSearched false l.bytes.items l.search;
-      given : Loses (S.coming l.initial.input) (S.coming l.input) l.bytes.items;
-      ended : IsTrue l.is_ended → IsDry (S.coming l.input);
-      few : S.reads l.input ≤ S.reads l.initial.input + vec_len l.bytes + (if l.is_ended then 1 else 0);
-      bounded : S.reads l.input ≤ S.reads l.initial.input + l.limit + 7;
-      unfailed : S.failed_reads l.input ≡ S.failed_reads l.initial.input;
+      given : Loses (S.reader.coming l.initial.input) (S.reader.coming l.input) l.bytes.items;
+      ended : IsTrue l.is_ended → IsDry (S.reader.coming l.input);
+      few : S.reader.reads l.input ≤ S.reader.reads l.initial.input + vec_len l.bytes + (if l.is_ended then 1 else 0);
+      bounded : S.reader.reads l.input ≤ S.reader.reads l.initial.input + l.limit + 7;
+      unfailed : S.reader.failed_reads l.input ≡ S.reader.failed_reads l.initial.input;
     }
 
 abbrev pub decreases-loop-definitions : goal.decreases-loop-definitions

@@ -16,25 +16,33 @@ use Rattle.str_pipeline.proofs.pipeline.outcome_joined.Goals as goal
 pub returns-in_err-program-clause-result : goal.returns-in_err-program-clause-result
 returns-in_err-program-clause-result g c =
     let S : Setting = setting_of g.M.PrimMeaning.answer c.args.registry.now c.args.options.now in
-    of_split (g.S.Source.coming c.args.input.now) (g.S.Source.coming c.read_front.new.input) (definitions_of c.in-Some.front) (term_of c.in-Some.front)
+    of_split (g.S.Source.reader.coming c.args.input.now) (g.S.Source.reader.coming c.read_front.new.input)
+    (definitions_of c.in-Some.front) (term_of c.in-Some.front)
     (λ d t. IsTextResult d t S c.from_residual-in_err-program.result)
     (rw c.in-Some.is at c.in_ok-front.ensures.split)
-    (for_each_told (g.S.Source.coming c.read_front.new.input) (λ left. IsTextResult (definitions_of c.in-Some.front) (term_of c.in-Some.front left) S c.from_residual-in_err-program.result)
-    (λ left. rw (passed c.from_residual-in_err-program.result c.in_err-program.field-0.0 c.from_residual-in_err-program.ensures.1)
+    (for_each_told (g.S.Source.reader.coming c.read_front.new.input)
+    (λ left. IsTextResult (definitions_of c.in-Some.front) (term_of c.in-Some.front left)
+    S c.from_residual-in_err-program.result)
+    (λ left. rw (passed c.from_residual-in_err-program.result c.in_err-program.field-0.0
+    c.from_residual-in_err-program.ensures.1)
     (program_fault (definitions_of c.in-Some.front) (term_of c.in-Some.front left) S c.in_err-program.field-0.0
     (rw c.in-Some.is at c.in_ok-front.ensures.fits)
-    (subst (λ (bytes : List ℕ). IsProgram S bytes (Err c.in_err-program.field-0.0)) c.definitions.ensures c.in_err-program.ensures.program))))
+    (subst (λ (bytes : List ℕ). IsProgram S bytes (Err c.in_err-program.field-0.0))
+    c.definitions.ensures c.in_err-program.ensures.program))))
 
 pub returns-in_default-2-clause-result : goal.returns-in_default-2-clause-result
 returns-in_default-2-clause-result g c =
     let S : Setting = setting_of g.M.PrimMeaning.answer c.args.registry.now c.args.options.now in
     let made = c.in_ok-program.ensures.program in
     let file : PassesChecks S (definitions_of c.in-Some.front) made.0 = rw c.definitions.ensures at made.1 in
-    let short : length (definitions_of c.in-Some.front) ≤ max_definitions = rw c.in-Some.is at c.in_ok-front.ensures.fits in
-    of_split (g.S.Source.coming c.args.input.now) (g.S.Source.coming c.read_front.new.input) (definitions_of c.in-Some.front) (term_of c.in-Some.front)
+    let short : length (definitions_of c.in-Some.front) ≤ max_definitions =
+    rw c.in-Some.is at c.in_ok-front.ensures.fits in
+    of_split (g.S.Source.reader.coming c.args.input.now) (g.S.Source.reader.coming c.read_front.new.input)
+    (definitions_of c.in-Some.front) (term_of c.in-Some.front)
     (λ d t. IsFirstFault d t S TermTooLong)
     (rw c.in-Some.is at c.in_ok-front.ensures.split)
-    (told_then _ (λ left. max_term < length (term_of c.in-Some.front left)) _ (rw c.in_default-2.is at c.in_ok-text.ensures.whole)
+    (told_then _ (λ left. max_term < length (term_of c.in-Some.front left))
+    _ (rw c.in_default-2.is at c.in_ok-text.ensures.whole)
     (λ left long. inr (made.0, (short, file), long)))
 
 pub returns-clause-result : goal.returns-clause-result
@@ -42,11 +50,14 @@ returns-clause-result g c =
     let S : Setting = setting_of g.M.PrimMeaning.answer c.args.registry.now c.args.options.now in
     let made = c.in_ok-program.ensures.program in
     let file : PassesChecks S (definitions_of c.in-Some.front) made.0 = rw c.definitions.ensures at made.1 in
-    let short : length (definitions_of c.in-Some.front) ≤ max_definitions = rw c.in-Some.is at c.in_ok-front.ensures.fits in
-    of_split (g.S.Source.coming c.args.input.now) (g.S.Source.coming c.read_front.new.input) (definitions_of c.in-Some.front) (term_of c.in-Some.front)
+    let short : length (definitions_of c.in-Some.front) ≤ max_definitions =
+    rw c.in-Some.is at c.in_ok-front.ensures.fits in
+    of_split (g.S.Source.reader.coming c.args.input.now) (g.S.Source.reader.coming c.read_front.new.input)
+    (definitions_of c.in-Some.front) (term_of c.in-Some.front)
     (λ d t. IsTextResult d t S c.outcome_of.result)
     (rw c.in-Some.is at c.in_ok-front.ensures.split)
-    (told_then _ (λ left. c.in-Some-2.text.items ≡ term_of c.in-Some.front left) _ (rw c.in-Some-2.is at c.in_ok-text.ensures.whole)
+    (told_then _ (λ left. c.in-Some-2.text.items ≡ term_of c.in-Some.front left)
+    _ (rw c.in-Some-2.is at c.in_ok-text.ensures.whole)
     (λ left same. rw (← same)
     (c.outcome_of.ensures.result (definitions_of c.in-Some.front) made.0 (short, file) made.2)))
 
@@ -54,11 +65,14 @@ pub returns-in_err-text-clause-result : goal.returns-in_err-text-clause-result
 returns-in_err-text-clause-result g c =
     let S : Setting = setting_of g.M.PrimMeaning.answer c.args.registry.now c.args.options.now in
     rw (passed c.from_residual-in_err-text.result c.in_err-text.field-0.0 c.from_residual-in_err-text.ensures.1)
-    (for_each_told (g.S.Source.coming c.args.input.now) (λ told. (d t : List ℕ) → IsSplit told d t → IsTextResult d t S (Err c.in_err-text.field-0.0))
+    (for_each_told (g.S.Source.reader.coming c.args.input.now) (λ told. (d t : List ℕ) → IsSplit told d t →
+    IsTextResult d t S (Err c.in_err-text.field-0.0))
     (λ told d t split. reading_result d t S c.in_err-text.field-0.0 c.in_err-text.ensures.kinds))
 
 pub returns-clause-defs_bounded : goal.returns-clause-defs_bounded
-returns-clause-defs_bounded g c = IfErr-weaker c.outcome_of.result _ _ (λ fault apart of_definitions. absurd (apart of_definitions)) c.outcome_of.ensures.apart
+returns-clause-defs_bounded g c =
+    IfErr-weaker c.outcome_of.result _ _ (λ fault apart of_definitions. absurd (apart of_definitions))
+    c.outcome_of.ensures.apart
 
 pub returns-in_err-text-clause-defs_bounded : goal.returns-in_err-text-clause-defs_bounded
 returns-in_err-text-clause-defs_bounded g c =
@@ -70,8 +84,10 @@ returns-in_err-text-clause-unread_told g c =
     let S : Setting = setting_of g.M.PrimMeaning.answer c.args.registry.now c.args.options.now in
     let made = c.in_ok-program.ensures.program in
     let file : PassesChecks S (definitions_of c.in-Some.front) made.0 = rw c.definitions.ensures at made.1 in
-    let short : length (definitions_of c.in-Some.front) ≤ max_definitions = rw c.in-Some.is at c.in_ok-front.ensures.fits in
-    none_refused_joined S (g.S.Source.coming c.args.input.now) (g.S.Source.coming c.read_front.new.input) (definitions_of c.in-Some.front) (term_of c.in-Some.front)
+    let short : length (definitions_of c.in-Some.front) ≤ max_definitions =
+    rw c.in-Some.is at c.in_ok-front.ensures.fits in
+    none_refused_joined S (g.S.Source.reader.coming c.args.input.now) (g.S.Source.reader.coming c.read_front.new.input)
+    (definitions_of c.in-Some.front) (term_of c.in-Some.front)
     made.0 _ (rw c.in-Some.is at c.in_ok-front.ensures.split) (short, file)
 
 pub returns-in_default-2-clause-unread_told : goal.returns-in_default-2-clause-unread_told
@@ -79,8 +95,10 @@ returns-in_default-2-clause-unread_told g c =
     let S : Setting = setting_of g.M.PrimMeaning.answer c.args.registry.now c.args.options.now in
     let made = c.in_ok-program.ensures.program in
     let file : PassesChecks S (definitions_of c.in-Some.front) made.0 = rw c.definitions.ensures at made.1 in
-    let short : length (definitions_of c.in-Some.front) ≤ max_definitions = rw c.in-Some.is at c.in_ok-front.ensures.fits in
-    none_refused_joined S (g.S.Source.coming c.args.input.now) (g.S.Source.coming c.read_front.new.input) (definitions_of c.in-Some.front) (term_of c.in-Some.front)
+    let short : length (definitions_of c.in-Some.front) ≤ max_definitions =
+    rw c.in-Some.is at c.in_ok-front.ensures.fits in
+    none_refused_joined S (g.S.Source.reader.coming c.args.input.now) (g.S.Source.reader.coming c.read_front.new.input)
+    (definitions_of c.in-Some.front) (term_of c.in-Some.front)
     made.0 _ (rw c.in-Some.is at c.in_ok-front.ensures.split) (short, file)
 
 pub returns-clause-unread_told : goal.returns-clause-unread_told
@@ -88,6 +106,8 @@ returns-clause-unread_told g c =
     let S : Setting = setting_of g.M.PrimMeaning.answer c.args.registry.now c.args.options.now in
     let made = c.in_ok-program.ensures.program in
     let file : PassesChecks S (definitions_of c.in-Some.front) made.0 = rw c.definitions.ensures at made.1 in
-    let short : length (definitions_of c.in-Some.front) ≤ max_definitions = rw c.in-Some.is at c.in_ok-front.ensures.fits in
-    none_refused_joined S (g.S.Source.coming c.args.input.now) (g.S.Source.coming c.read_front.new.input) (definitions_of c.in-Some.front) (term_of c.in-Some.front)
+    let short : length (definitions_of c.in-Some.front) ≤ max_definitions =
+    rw c.in-Some.is at c.in_ok-front.ensures.fits in
+    none_refused_joined S (g.S.Source.reader.coming c.args.input.now) (g.S.Source.reader.coming c.read_front.new.input)
+    (definitions_of c.in-Some.front) (term_of c.in-Some.front)
     made.0 _ (rw c.in-Some.is at c.in_ok-front.ensures.split) (short, file)

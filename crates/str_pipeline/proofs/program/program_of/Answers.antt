@@ -9,16 +9,20 @@ use Rattle.str_pipeline.proofs.program.program_of.Goals as goal
 pub returns-in_err-program-clause-program : goal.returns-in_err-program-clause-program
 returns-in_err-program-clause-program g c =
     let M = g.M.PrimMeaning.answer in
-    rw (passed c.from_residual-in_err-program.result c.in_err-program.field-0.0 c.from_residual-in_err-program.ensures.1)
+    rw (passed c.from_residual-in_err-program.result c.in_err-program.field-0.0
+    c.from_residual-in_err-program.ensures.1)
     (subst (λ (S : Setting). IsProgram S c.args.definitions.now (Err c.in_err-program.field-0.0))
-    (same_setting c.in_ok-primitives.primitives (entries_of c.args.registry.now) c.in_ok-primitives.ensures M c.args.options.now) (c.in_err-program.ensures.program M))
+    (same_setting c.in_ok-primitives.primitives (entries_of c.args.registry.now)
+    c.in_ok-primitives.ensures M c.args.options.now) (c.in_err-program.ensures.program M))
 
 pub returns-clause-program : goal.returns-clause-program
 returns-clause-program g c =
     let M = g.M.PrimMeaning.answer in
     subst (λ (S : Setting). IsProgram S c.args.definitions.now (Ok c.in_ok-program.program))
-    (same_setting c.in_ok-primitives.primitives (entries_of c.args.registry.now) c.in_ok-primitives.ensures M c.args.options.now) (c.in_ok-program.ensures.program M)
+    (same_setting c.in_ok-primitives.primitives (entries_of c.args.registry.now)
+    c.in_ok-primitives.ensures M c.args.options.now) (c.in_ok-program.ensures.program M)
 
 pub returns-clause-covers : goal.returns-clause-covers
 returns-clause-covers g c =
-    covered c.in_ok-program.program.code.prims c.in_ok-primitives.primitives (entries_of c.args.registry.now) c.in_ok-primitives.ensures c.in_ok-program.ensures.known
+    covered c.in_ok-program.program.code.prims c.in_ok-primitives.primitives (entries_of c.args.registry.now)
+    c.in_ok-primitives.ensures c.in_ok-program.ensures.known

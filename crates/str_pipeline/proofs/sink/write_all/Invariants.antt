@@ -7,8 +7,8 @@ invariant-loop-sent g l =
     let W = g.W.Sink in
     record {
       within : l.sent ≤ length l.text;
-      gained : Gains (W.written l.initial.sink) (W.written l.sink) (take l.sent l.text);
-      unfailed : W.failed_writes l.sink ≡ W.failed_writes l.initial.sink;
+      gained : Gains (W.writer.written l.initial.sink) (W.writer.written l.sink) (take l.sent l.text);
+      unfailed : W.writer.failed_writes l.sink ≡ W.writer.failed_writes l.initial.sink;
     }
 
 abbrev pub decreases-loop-sent : goal.decreases-loop-sent

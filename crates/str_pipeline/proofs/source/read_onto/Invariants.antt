@@ -7,9 +7,10 @@ invariant-loop-count g l =
     let S = g.S.Source in
     record {
       fits : vec_len l.bytes ≤ l.limit;
-      given : (read : List ℕ) × (l.bytes.items ≡ l.initial.bytes.items ++ read) × Loses (S.coming l.initial.source) (S.coming l.source) read;
-      bounded : S.reads l.source + vec_len l.initial.bytes ≤ S.reads l.initial.source + vec_len l.bytes;
-      unfailed : S.failed_reads l.source ≡ S.failed_reads l.initial.source;
+      given : (read : List ℕ) × (l.bytes.items ≡ l.initial.bytes.items ++ read) ×
+          Loses (S.reader.coming l.initial.source) (S.reader.coming l.source) read;
+      bounded : S.reader.reads l.source + vec_len l.initial.bytes ≤ S.reader.reads l.initial.source + vec_len l.bytes;
+      unfailed : S.reader.failed_reads l.source ≡ S.reader.failed_reads l.initial.source;
     }
 
 abbrev pub decreases-loop-count : goal.decreases-loop-count

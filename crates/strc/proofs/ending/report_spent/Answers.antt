@@ -4,4 +4,5 @@ use Rattle.strc.proofs.ending.report_spent.Goals as goal
 
 pub returns : goal.returns
 returns g c =
-    asked_after (c.args.reporting.has_stats || c.args.reporting.explains) _ _ _ c.write_spent.ensures c.report_asked.ensures
+    asked_after (c.args.reporting.has_stats ||
+    c.args.reporting.explains) _ _ _ c.write_spent.ensures c.report_asked.ensures

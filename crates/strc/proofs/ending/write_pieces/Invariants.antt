@@ -3,4 +3,5 @@ use Rattle.strc.proofs.ending.write_pieces.Given as goal
 
 -- so far a text was written
 abbrev pub invariant-loop-piece : goal.invariant-loop-piece
-invariant-loop-piece g l = TellsText (g.E.Sink.written l.initial.diagnostics) (g.E.Sink.written l.diagnostics)
+invariant-loop-piece g l =
+    TellsText (g.E.Sink.writer.written l.initial.diagnostics) (g.E.Sink.writer.written l.diagnostics)

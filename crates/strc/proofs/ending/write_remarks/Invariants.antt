@@ -3,4 +3,5 @@ use Rattle.strc.proofs.ending.write_remarks.Given as goal
 
 -- so far a text was written
 abbrev pub invariant-loop-remark : goal.invariant-loop-remark
-invariant-loop-remark g l = TellsText (g.E.Sink.written l.initial.diagnostics) (g.E.Sink.written l.diagnostics)
+invariant-loop-remark g l =
+    TellsText (g.E.Sink.writer.written l.initial.diagnostics) (g.E.Sink.writer.written l.diagnostics)

@@ -7,8 +7,10 @@ use Rattle.strc.proofs.opening.open_definitions.Goals as goal
 
 pub returns-in-Ok-new-clause-texts : goal.returns-in-Ok-new-clause-texts
 returns-in-Ok-new-clause-texts g c =
-    with_last g.P.Reader.Source.coming (readers_of c.in-Ok-new.files) c.in-Ok.readers.items c.in_ok-last.last _ _ _
-    c.in-Ok-new.ensures.readers c.in-Ok.ensures.texts c.in_ok-last.ensures.text (c.in-Ok.ensures.kept c.args.definitions.now)
+    with_last g.P.Reader.Source.reader.coming
+    (readers_of c.in-Ok-new.files) c.in-Ok.readers.items c.in_ok-last.last _ _ _
+    c.in-Ok-new.ensures.readers c.in-Ok.ensures.texts c.in_ok-last.ensures.text
+    (c.in-Ok.ensures.kept c.args.definitions.now)
 
 pub returns-in-Err-new-clause-stopped : goal.returns-in-Err-new-clause-stopped
 returns-in-Err-new-clause-stopped g c = (
@@ -16,7 +18,9 @@ returns-in-Err-new-clause-stopped g c = (
   (
     Memory,
     (omega arith, omega arith),
-    subst (λ before. Tells Memory (g.E.Sink.failed_writes before) (g.E.Sink.failed_writes c.stop.new.diagnostics) (g.E.Sink.written before) (g.E.Sink.written c.stop.new.diagnostics))
+    subst (λ before. Tells Memory (g.E.Sink.writer.failed_writes before)
+        (g.E.Sink.writer.failed_writes c.stop.new.diagnostics)
+        (g.E.Sink.writer.written before) (g.E.Sink.writer.written c.stop.new.diagnostics))
         c.in_ok-last.ensures.opened c.stop.ensures.told,
   ),
 )

@@ -6,4 +6,5 @@ use Rattle.strc.proofs.pretty.laid_out.Goals as goal
 pub loop-index-preserved : goal.loop-index-preserved
 loop-index-preserved c =
     let within : c.loop-index.index < length c.args.line.now = omega arith in
-    rw (take_more c.args.line.now c.loop-index.index 0 within) (lays_more _ _ _ _ c.loop-index.invariant c.in_ok-put.ensures)
+    rw (take_more c.args.line.now c.loop-index.index 0 within)
+    (lays_more _ _ _ _ c.loop-index.invariant c.in_ok-put.ensures)

@@ -1,17 +1,22 @@
-use Rattle.std.proofs.Common.{◌∙◌, arith, sym}
-use Rattle.term_model.specs.declared.fault.Fault.TheVariants.{Memory, Write}
-use Rattle.strc.proofs.CauseLaws.{line_told, writing_stopped}
+use Rattle.std.proofs.Common.{◌∙◌, arith, rules, sym}
+use Rattle.term_model.specs.declared.fault.Fault.TheVariants.{Write}
+use Rattle.strc.proofs.CauseLaws.{memory_stops, writing_stopped}
 use Rattle.strc.proofs.program.explain.Goals as goal
 
-pub returns-then-eq-clause-stopped : goal.returns-then-eq-clause-stopped
-returns-then-eq-clause-stopped g c = λ four. (Memory, (omega arith, omega arith), line_told _ Memory _ _ _ _ c.stop.ensures.told)
+pub returns-then-eq-clause-stops : goal.returns-then-eq-clause-stops
+returns-then-eq-clause-stops g c = memory_stops _ _ _ _ _ _ (λ four. c.stop.ensures.told)
 
-pub returns-in_default-clause-stopped : goal.returns-in_default-clause-stopped
-returns-in_default-clause-stopped g c = λ four. (Memory, (omega arith, omega arith), line_told _ Memory _ _ _ _ c.stop-in_default.ensures.told)
+pub returns-in_default-clause-stops : goal.returns-in_default-clause-stops
+returns-in_default-clause-stops g c = memory_stops _ _ _ _ _ _ (λ four. c.stop-in_default.ensures.told)
 
-pub returns-then-is_err-clause-stopped : goal.returns-then-is_err-clause-stopped
-returns-then-is_err-clause-stopped g c = λ four. (
-  Write,
-  (omega arith, omega arith),
-  writing_stopped c.write_all-2.result _ _ _ _ _ _ (sym c.is_err.ensures.value ∙ c.if-is_err.true) c.write_all-2.ensures.failed c.stop_writing.ensures.told,
-)
+pub returns-then-is_err-clause-stops : goal.returns-then-is_err-clause-stops
+returns-then-is_err-clause-stops g c = record {
+  stopped = λ four. (
+    Write,
+    (omega arith, omega arith),
+    writing_stopped c.write_all-2.result _ _ _ _ _ _ (sym c.is_err.ensures.value ∙
+        c.if-is_err.true) c.write_all-2.ensures.failed c.stop_writing.ensures.told,
+  );
+  unwritten = search rules;
+  write_failed = search rules;
+}

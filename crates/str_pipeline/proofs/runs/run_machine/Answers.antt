@@ -1,4 +1,4 @@
-use Rattle.str_pipeline.proofs.runs.run_code.Goals as goal
+use Rattle.str_pipeline.proofs.runs.run_machine.Goals as goal
 
 pub returns-clause-outcome : goal.returns-clause-outcome
 returns-clause-outcome g c = record {

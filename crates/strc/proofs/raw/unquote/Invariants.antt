@@ -1,6 +1,6 @@
 use Rattle.std.proofs.Common.{length}
-use Rattle.strc.proofs.RawLaws.{ReadItems}
-use Rattle.strc.proofs.raw.unquoted.Given as goal
+use Rattle.str_lexer.proofs.QuotedLaws.{ReadItems}
+use Rattle.strc.proofs.raw.unquote.Given as goal
 
 abbrev pub invariant-loop-byte : goal.invariant-loop-byte
 invariant-loop-byte l = ReadItems l.initial.rest l.bytes.items l.rest
