@@ -1,3 +1,4 @@
+-- The headline does not rest on this file.
 -- How many tokens and sections a definition file has.
 use Rattle.std.specs.Prelude.{◌≡◌, ℕ, List, length}
 use Rattle.str_lexer.specs.declared.token.Token.{Token}

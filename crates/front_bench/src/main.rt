@@ -13,7 +13,7 @@ use str_lexer::lex;
 use str_parser::parse;
 use term_model::Fault;
 
-// How many tokens and sections a file has, and how long lexing and parsing took.
+/// How many tokens and sections a file has, and how long lexing and parsing took.
 #[derive(Drop)]
 struct Measured {
     tokens: usize,
@@ -22,7 +22,7 @@ struct Measured {
     parsing: Duration,
 }
 
-// The counts of the tokens and the sections of the file that the text is.
+/// The counts of the tokens and the sections of the file that the text is.
 fn counted(clock: &impl Clock, alloc: Global, text: &[u8]) -> Result<Measured, Fault>
     ensures { IfOk result (λ answer. AreCounts text.now answer.tokens answer.sections) }
 {

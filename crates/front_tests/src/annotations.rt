@@ -1,4 +1,4 @@
-// Annotations in patterns, from the text of definitions to its core; what is expected was worked out by hand.
+//! Annotations in patterns, from the text of definitions to its core; what is expected was worked out by hand.
 use crate::checks::is_refused_so;
 use crate::front::{core_of, read};
 use crate::mutations::levels::push_times;
@@ -8,7 +8,7 @@ use core_lang::Core;
 use std::alloc::Global;
 use std::test::Fail;
 
-// Texts that are no files, in two pieces, with the fault between them: in a list of annotations.
+/// Texts that are no files, in two pieces, with the fault between them: in a list of annotations.
 const NO_LISTS: &[(&str, &str)] = &[
     ("rules r : x{", ",} -> x"),
     ("rules r : x{y,", "} -> x"),
@@ -32,7 +32,7 @@ const NO_LISTS: &[(&str, &str)] = &[
     ("strategies main = prim(\"p\", 1{", ", x)"),
 ];
 
-// A list of annotations where none may stand.
+/// A list of annotations where none may stand.
 const NO_PLACES: &[(&str, &str)] = &[
     ("rules r : ", "{x} -> y"),
     ("rules r : x{}", "{} -> x"),
@@ -63,7 +63,7 @@ const NO_PLACES: &[(&str, &str)] = &[
     ("strategies main = {x", "{y}: id}"),
 ];
 
-// What the text of these pieces is read as.
+/// What the text of these pieces is read as.
 fn joined(alloc: Global, front: &str, back: &str) -> Result<Reading, Fail> {
     let mut text = String::from_str(alloc, front)?;
     text.push_str(back)?;
@@ -83,8 +83,8 @@ fn no_annotations(rt: HostRuntime) -> Result<(), Fail> {
     Ok(())
 }
 
-// What stands in front, how many times `x{` does, what stands between, how many times `}` does, what stands at the end, and what the text
-// of all is read as.
+/// What stands in front, how many times `x{` does, what stands between, how many times `}` does, what stands at the end, and what the text
+/// of all is read as.
 type Braces = (
     &'static str,
     usize,
@@ -138,7 +138,7 @@ const LEVELS: &[Braces] = &[
     ),
 ];
 
-// Whether the row is read as it says.
+/// Whether the row is read as it says.
 fn is_read_so(alloc: Global, row: &Braces) -> Result<bool, Fail> {
     let (front, openings, between, closings, back, expected) = row;
     let mut text = String::from_str(alloc, front)?;
@@ -159,7 +159,7 @@ fn levels_of_annotations(rt: HostRuntime) -> Result<(), Fail> {
     Ok(())
 }
 
-// Definitions, and the refusal; without one they have no fault.
+/// Definitions, and the refusal; without one they have no fault.
 const JUDGED: &[(&str, &str)] = &[
     ("strategies main = ?_{_, x@_{}}", ""),
     (
@@ -223,7 +223,7 @@ fn judged(rt: HostRuntime) -> Result<(), Fail> {
     Ok(())
 }
 
-// The strategy of main in two ways that have one core, and in a way that has another.
+/// The strategy of main in two ways that have one core, and in a way that has another.
 const CORES: &[(&str, &str, &str)] = &[
     // a list of annotations belongs to what stands before it
     ("?x{}", "?(x){}", "?x"),
@@ -271,13 +271,13 @@ const CORES: &[(&str, &str, &str)] = &[
     ),
 ];
 
-// The core of a file with this strategy of main.
+/// The core of a file with this strategy of main.
 fn core_of_main(alloc: Global, strategy: &str) -> Result<Core, Fail> {
     let text = format!(in alloc; "strategies main = {strategy}")?;
     core_of(alloc, read(alloc, text.as_str())?)
 }
 
-// Whether two strategies of main have one core.
+/// Whether two strategies of main have one core.
 fn have_one_core(alloc: Global, left: &str, right: &str) -> Result<bool, Fail> {
     let left = core_of_main(alloc, left)?;
     let right = core_of_main(alloc, right)?;

@@ -1,4 +1,4 @@
-// The judgement of small files with ample memory; what is expected was worked out by hand.
+//! The judgement of small files with ample memory; what is expected was worked out by hand.
 use crate::front::{checked, read};
 use scope_check::{Checked, Notes, check_with_notes};
 use std::alloc::{AllocError, Global};
@@ -7,7 +7,7 @@ use str_syntax::File;
 use strategy_lib::with_library;
 use term_model::PrimNames;
 
-// The word of the fault that the file has, where `add` with two terms is the one primitive, or nothing.
+/// The word of the fault that the file has, where `add` with two terms is the one primitive, or nothing.
 fn judged(alloc: Global, file: File, notes: &mut Notes) -> Result<&'static str, AllocError> {
     let mut primitives = PrimNames::new(alloc);
     primitives.insert(b"add", 2)?;
@@ -17,7 +17,7 @@ fn judged(alloc: Global, file: File, notes: &mut Notes) -> Result<&'static str, 
     }
 }
 
-// The word of the fault that the file has and what is noted of it, or nothing.
+/// The word of the fault that the file has and what is noted of it, or nothing.
 fn refusal(alloc: Global, file: File) -> Result<String, Fail> {
     let mut notes = Notes::none();
     let word = judged(alloc, file, &mut notes)?;
@@ -28,13 +28,13 @@ fn refusal(alloc: Global, file: File) -> Result<String, Fail> {
     Ok(format!(in alloc; "{word}: {note}")?)
 }
 
-// Whether this is the refusal of the file.
+/// Whether this is the refusal of the file.
 pub(crate) fn is_refused_so(alloc: Global, file: File, expected: &str) -> Result<bool, Fail> {
     let refusal = refusal(alloc, file)?;
     Ok(refusal.as_str() == expected)
 }
 
-// A line of a table: definitions, and the refusal after a `#`; without it they have no fault.
+/// A line of a table: definitions, and the refusal after a `#`; without it they have no fault.
 fn definitions_and_refusal(line: &str) -> (&str, &str) {
     line.split_once(" # ").unwrap_or((line, ""))
 }
@@ -85,7 +85,7 @@ fn faults(rt: HostRuntime) -> Result<(), Fail> {
     Ok(())
 }
 
-// A definition, how often it stands there, one definition more, the fault and what is noted of it.
+/// A definition, how often it stands there, one definition more, the fault and what is noted of it.
 const TOGETHER: &[(&str, usize, &str, &str)] = &[
     (
         "f(s) = id",
@@ -131,7 +131,7 @@ const TOGETHER: &[(&str, usize, &str, &str)] = &[
     ),
 ];
 
-// The file of a definition this number of times, and one definition more.
+/// The file of a definition this number of times, and one definition more.
 fn repeated(alloc: Global, first: &str, number: usize, last: &str) -> Result<File, Fail> {
     let mut text = String::from_str(alloc, "strategies ")?;
     for _ in 0..number {
@@ -153,7 +153,7 @@ fn definitions_together(rt: HostRuntime) -> Result<(), Fail> {
     Ok(())
 }
 
-// Definitions in front of the library's, as of `try(s)` and `map(s)`.
+/// Definitions in front of the library's, as of `try(s)` and `map(s)`.
 const WITH_LIBRARY: &str = "strategies f = id main = id
 signature constructors s : A -> A strategies f = id main = id
 signature constructors s : A -> A strategies f(s) = id main = id # Clash: name s is that of a declared constructor and of a strategy
@@ -176,7 +176,7 @@ fn definitions_before_the_library(rt: HostRuntime) -> Result<(), Fail> {
     Ok(())
 }
 
-// Whether the parts are those of the file that declares C of one sort.
+/// Whether the parts are those of the file that declares C of one sort.
 fn has_its_parts(checked: &Checked) -> bool {
     checked.main() == b"main".as_slice()
         && checked.file().sections.len() == 2
@@ -194,8 +194,8 @@ fn a_file_without_a_fault(rt: HostRuntime) -> Result<(), Fail> {
     Ok(())
 }
 
-// Definitions in front of the library's, the word of their fault, the name that is noted, and the name as it stands there: where this
-// first stands in the text is the place that is noted.
+/// Definitions in front of the library's, the word of their fault, the name that is noted, and the name as it stands there: where this
+/// first stands in the text is the place that is noted.
 const PLACES: &[(&str, &str, &str, &str)] = &[
     // The first place of the least fault.
     (
@@ -225,7 +225,7 @@ const PLACES: &[(&str, &str, &str, &str)] = &[
     ),
 ];
 
-// Whether this name is noted at this place, with this fault.
+/// Whether this name is noted at this place, with this fault.
 fn is_noted_at(notes: &Notes, word: &str, name: &str, at: Option<usize>) -> bool {
     let Some(note) = notes.first() else {
         return false;
@@ -248,7 +248,7 @@ fn places(rt: HostRuntime) -> Result<(), Fail> {
     Ok(())
 }
 
-// 10,000 definitions and main.
+/// 10,000 definitions and main.
 fn large_text(alloc: Global) -> Result<String, Fail> {
     let mut text = String::from_str(alloc, "strategies main = id")?;
     for number in 0..10000 {

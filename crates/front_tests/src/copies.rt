@@ -1,4 +1,4 @@
-// Copies of files with every form have the core programs of their sources.
+//! Copies of files with every form have the core programs of their sources.
 use crate::front::{core_of, read};
 use crate::same::same_definitions;
 use std::alloc::Global;
@@ -29,7 +29,7 @@ const FILES: &[&str] = &[
       main = !<r> 2{<id>}",
 ];
 
-// Whether the copy of the file of this text has the core of its source.
+/// Whether the copy of the file of this text has the core of its source.
 fn copy_has_core(alloc: Global, text: &str) -> Result<bool, Fail> {
     let file = read(alloc, text)?;
     let copy = core_of(alloc, file.copy(alloc)?)?;

@@ -1,4 +1,4 @@
-// The core programs of small files with ample memory; what is expected was worked out by hand.
+//! The core programs of small files with ample memory; what is expected was worked out by hand.
 use crate::front::{core_of, read};
 use crate::same::same_definitions;
 use core_lang::{
@@ -7,16 +7,16 @@ use core_lang::{
 use std::alloc::Global;
 use std::test::Fail;
 
-// What becomes of a body.
+/// What becomes of a body.
 #[derive(Clone, Copy)]
 enum Made {
     Id,
     Fail,
-    // A call of the definition at this position.
+    /// A call of the definition at this position.
     Call(usize),
-    // `?x; !x` in a scope of the one variable.
+    /// `?x; !x` in a scope of the one variable.
     Keep,
-    // A call of the primitive of this name without arguments.
+    /// A call of the primitive of this name without arguments.
     Primitive(&'static str),
 }
 
@@ -24,7 +24,7 @@ fn at(layers_up: usize, slot: usize) -> Coordinate {
     Coordinate { layers_up, slot }
 }
 
-// The first variable of the innermost layer.
+/// The first variable of the innermost layer.
 fn variable() -> SourcePattern {
     SourcePattern::new(CorePattern::Variable(at(0, 0)), None)
 }
@@ -50,7 +50,7 @@ fn expected(alloc: Global, made: &Made) -> Result<CoreStrategy, Fail> {
     }
 }
 
-// The definition of one alternative, or of two.
+/// The definition of one alternative, or of two.
 fn expected_definition(
     alloc: Global,
     first: &Made,
@@ -73,7 +73,7 @@ fn expected_definition(
     })
 }
 
-// Whether the core has these definitions and this main.
+/// Whether the core has these definitions and this main.
 fn is_core(
     alloc: Global,
     core: &Core,
@@ -87,7 +87,7 @@ fn is_core(
     Ok(same_definitions(core.defs(), all.as_slice()) && core.main() == main)
 }
 
-// Definitions; the alternatives of each definition that they become, and the position of main among them.
+/// Definitions; the alternatives of each definition that they become, and the position of main among them.
 const CORES: &[(&str, &[(Made, Option<Made>)], usize)] = &[
     ("strategies main = id", &[(Made::Id, None)], 0),
     (

@@ -1,4 +1,4 @@
-// Each public call with ample memory; what is expected was worked out by hand.
+//! Each public call with ample memory; what is expected was worked out by hand.
 use aterm_text::read_term;
 use signature_core::Signature;
 use std::alloc::Global;
@@ -6,14 +6,14 @@ use std::test::Fail;
 use str_syntax::{Name, Sort};
 use term_model::Fault;
 
-// A declaration: a name, the sorts of its arguments, its own sort, and whether it is new to those above it. The sorts of the arguments
-// have blanks between them.
+/// A declaration: a name, the sorts of its arguments, its own sort, and whether it is new to those above it. The sorts of the arguments
+/// have blanks between them.
 type Declared = (&'static str, &'static str, &'static str, bool);
 
-// A name and a number of arguments: whether this name is known with this number, and the number of its first declaration.
+/// A name and a number of arguments: whether this name is known with this number, and the number of its first declaration.
 type Asked = (&'static str, usize, bool, Option<usize>);
 
-// A sort, written `A`, or with the name in front of the names that it is applied to: `List:A` is `List(A)`.
+/// A sort, written `A`, or with the name in front of the names that it is applied to: `List:A` is `List(A)`.
 fn sort(alloc: Global, text: &str) -> Result<Sort, Fail> {
     let mut name = None;
     let mut inner = Vec::new(alloc);
@@ -32,7 +32,7 @@ fn sort(alloc: Global, text: &str) -> Result<Sort, Fail> {
     Ok(Sort::Applied(name, inner))
 }
 
-// Declares, and returns whether the declaration was new.
+/// Declares, and returns whether the declaration was new.
 fn declares(
     alloc: Global,
     signature: &mut Signature,
@@ -53,7 +53,7 @@ fn declares(
     }
 }
 
-// The signature of these declarations, each of which is new or is not, as its row says.
+/// The signature of these declarations, each of which is new or is not, as its row says.
 fn signature(alloc: Global, rows: &[Declared]) -> Result<Signature, Fail> {
     let mut signature = Signature::new(alloc);
     for (name, arguments, to, is_new) in rows {
@@ -64,7 +64,7 @@ fn signature(alloc: Global, rows: &[Declared]) -> Result<Signature, Fail> {
     Ok(signature)
 }
 
-// Whether the signature says this of the name.
+/// Whether the signature says this of the name.
 fn is_known_so(signature: &Signature, asked: &Asked) -> bool {
     let (name, number, known, first) = asked;
     signature.arity_known(name.as_bytes(), *number) == *known
@@ -72,7 +72,7 @@ fn is_known_so(signature: &Signature, asked: &Asked) -> bool {
         && signature.is_declared_name(name.as_bytes()) == first.is_some()
 }
 
-// Declarations, and what is known by them.
+/// Declarations, and what is known by them.
 const KNOWN: &[(&[Declared], &[Asked])] = &[
     (&[], &[("F", 1, false, None)]),
     (
@@ -127,7 +127,7 @@ fn declarations(rt: HostRuntime) -> Result<(), Fail> {
     Ok(())
 }
 
-// Whether the term of this text is declared.
+/// Whether the term of this text is declared.
 fn is_declared(alloc: Global, signature: &Signature, text: &str) -> Result<bool, Fail> {
     let term = read_term(alloc, text.as_bytes())?;
     match signature.check_term(&term) {
@@ -137,7 +137,7 @@ fn is_declared(alloc: Global, signature: &Signature, text: &str) -> Result<bool,
     }
 }
 
-// Terms, and whether they are declared where `F` of one argument and `Zero` of none are.
+/// Terms, and whether they are declared where `F` of one argument and `Zero` of none are.
 const TERMS: &[(&str, bool)] = &[
     ("7", true),
     ("F(7)", true),

@@ -1,4 +1,4 @@
-// `parse` on files whose faults were placed by hand, on both sides of the greatest level, and the shape of a tree.
+//! `parse` on files whose faults were placed by hand, on both sides of the greatest level, and the shape of a tree.
 use crate::front::read;
 use crate::mutations::levels::push_times;
 use crate::mutations::readings::{Reading, parsed};
@@ -9,7 +9,7 @@ use str_syntax::{
     Sequence, Step, Strategy, StrategyDefinition,
 };
 
-// Files of sections of all kinds.
+/// Files of sections of all kinds.
 const SECTIONS: &[&str] = &[
     "",
     "signature",
@@ -27,7 +27,7 @@ const SECTIONS: &[&str] = &[
     "rules f = id r : 1 -> 2 strategies g = r s : \"a\" -> \"b\"",
 ];
 
-// Files with each form of strategies and patterns.
+/// Files with each form of strategies and patterns.
 const STRATEGIES: &[&str] = &[
     "strategies main = id",
     "strategies main = fail f = main",
@@ -69,7 +69,7 @@ fn files(rt: HostRuntime) -> Result<(), Fail> {
     Ok(())
 }
 
-// Texts that are no files, in two pieces, with the fault between them: in sections.
+/// Texts that are no files, in two pieces, with the fault between them: in sections.
 const NO_SECTIONS: &[(&str, &str)] = &[
     ("", "id"),
     ("", "main = id"),
@@ -93,7 +93,7 @@ const NO_SECTIONS: &[(&str, &str)] = &[
     ("strategies f(", "1) = id"),
 ];
 
-// In patterns.
+/// In patterns.
 const NO_PATTERNS: &[(&str, &str)] = &[
     ("strategies main = ", "_"),
     ("strategies main = !<id> f ", "= id"),
@@ -110,7 +110,7 @@ const NO_PATTERNS: &[(&str, &str)] = &[
     ("strategies main = ![<", "1>]"),
 ];
 
-// In strategies.
+/// In strategies.
 const NO_STRATEGIES: &[(&str, &str)] = &[
     ("strategies main = id ", "id"),
     ("strategies main = fail", ")"),
@@ -141,7 +141,7 @@ const NO_STRATEGIES: &[(&str, &str)] = &[
     ("strategies main = id rules f ", "strategies"),
 ];
 
-// What the text of these pieces is read as.
+/// What the text of these pieces is read as.
 fn joined(alloc: Global, front: &str, back: &str) -> Result<Reading, Fail> {
     let mut text = String::from_str(alloc, front)?;
     text.push_str(back)?;
@@ -161,8 +161,8 @@ fn no_files(rt: HostRuntime) -> Result<(), Fail> {
     Ok(())
 }
 
-// What stands in front, a piece and its number of times, what stands between, a second piece and its number of times, and what the text of
-// all is read as.
+/// What stands in front, a piece and its number of times, what stands between, a second piece and its number of times, and what the text of
+/// all is read as.
 type Levels = (
     &'static str,
     (&'static str, usize),
@@ -259,7 +259,7 @@ const LEVELS: &[Levels] = &[
     ),
 ];
 
-// Whether the row is read as it says.
+/// Whether the row is read as it says.
 fn is_read_so(alloc: Global, row: &Levels) -> Result<bool, Fail> {
     let (front, (opening, openings), between, (closing, closings), expected) = row;
     let mut text = String::from_str(alloc, front)?;
@@ -279,7 +279,7 @@ fn levels_end_at_200(rt: HostRuntime) -> Result<(), Fail> {
     Ok(())
 }
 
-// The first definition of a file whose first section has strategies.
+/// The first definition of a file whose first section has strategies.
 fn first_definition(file: &File) -> Option<&StrategyDefinition> {
     let Some(Section::Strategies(definitions)) = file.sections.first() else {
         return None;
@@ -291,7 +291,7 @@ fn first_definition(file: &File) -> Option<&StrategyDefinition> {
     }
 }
 
-// The name of a call without arguments.
+/// The name of a call without arguments.
 fn called(step: &Step) -> Option<&Name> {
     let Step::Plain(_, primary) = step else {
         return None;
@@ -302,7 +302,7 @@ fn called(step: &Step) -> Option<&Name> {
     }
 }
 
-// The names of two calls in sequence.
+/// The names of two calls in sequence.
 fn two_calls(sequence: &Sequence) -> Option<(&Name, &Name)> {
     let Sequence::Then(first, others) = sequence else {
         return None;
@@ -313,12 +313,12 @@ fn two_calls(sequence: &Sequence) -> Option<(&Name, &Name)> {
     Some((called(first)?, called(last)?))
 }
 
-// Whether the name is this one, at this byte.
+/// Whether the name is this one, at this byte.
 fn stands_at(name: &Name, bytes: &[u8], offset: u64) -> bool {
     name.bytes() == bytes && name.offset() == offset
 }
 
-// Whether the strategy is the left choice of a; b and c; d, with the names where they stand in the file.
+/// Whether the strategy is the left choice of a; b and c; d, with the names where they stand in the file.
 fn is_choice_of_sequences(strategy: &Strategy) -> bool {
     let Strategy::LeftChoice(first, others) = strategy else {
         return false;
@@ -335,7 +335,7 @@ fn is_choice_of_sequences(strategy: &Strategy) -> bool {
         && stands_at(d, b"d", 29)
 }
 
-// Whether a copy of the strategy is this choice too.
+/// Whether a copy of the strategy is this choice too.
 fn copy_is_choice(alloc: Global, strategy: &Strategy) -> Result<bool, Fail> {
     let copy = strategy.copy(alloc)?;
     Ok(is_choice_of_sequences(&copy))
@@ -356,7 +356,7 @@ fn sequences_bind_stronger_than_choices(rt: HostRuntime) -> Result<(), Fail> {
     Ok(())
 }
 
-// The first definition of a file whose first section has rules.
+/// The first definition of a file whose first section has rules.
 fn first_rule(file: &File) -> Option<&RuleDefinition> {
     let Some(Section::Rules(definitions)) = file.sections.first() else {
         return None;
@@ -367,7 +367,7 @@ fn first_rule(file: &File) -> Option<&RuleDefinition> {
     }
 }
 
-// Whether the patterns are C(x, _) and x, with each where it stands in the file.
+/// Whether the patterns are C(x, _) and x, with each where it stands in the file.
 fn are_in_place(left: &Pattern, right: &Pattern) -> bool {
     let (Pattern::Application(constructor, parts), Pattern::Variable(built)) = (left, right) else {
         return false;

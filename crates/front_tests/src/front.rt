@@ -1,4 +1,4 @@
-// From the text of definitions to what is known of them.
+//! From the text of definitions to what is known of them.
 use core_lang::Core;
 use scope_check::{Checked, check};
 use std::alloc::Global;
@@ -9,13 +9,13 @@ use str_parser::parse;
 use str_syntax::File;
 use term_model::PrimNames;
 
-// The file that the text spells.
+/// The file that the text spells.
 pub(crate) fn read(alloc: Global, text: &str) -> Result<File, Fail> {
     let tokens = lex(alloc, text.as_bytes())?;
     Ok(parse(alloc, text.as_bytes(), &tokens)?)
 }
 
-// The file without a fault, where `p` is a primitive without terms and with two.
+/// The file without a fault, where `p` is a primitive without terms and with two.
 pub(crate) fn checked(alloc: Global, file: File) -> Result<Checked, Fail> {
     let mut primitives = PrimNames::new(alloc);
     primitives.insert(b"p", 0)?;
@@ -23,7 +23,7 @@ pub(crate) fn checked(alloc: Global, file: File) -> Result<Checked, Fail> {
     Ok(check(alloc, file, &primitives, b"main")?)
 }
 
-// The core of the file.
+/// The core of the file.
 pub(crate) fn core_of(alloc: Global, file: File) -> Result<Core, Fail> {
     let checked = checked(alloc, file)?;
     Ok(to_core(alloc, &checked)?)

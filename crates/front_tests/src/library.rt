@@ -21,7 +21,7 @@ const LIBRARY: &str = "strategies
   map(s) = [] <+ [s | map(s)]
 ";
 
-// Whether two strategies are the same. Forms that the library does not have are never the same here.
+/// Whether two strategies are the same. Forms that the library does not have are never the same here.
 #[cycle(compare)]
 fn same_strategy(left: &Strategy, right: &Strategy) -> bool {
     match (left, right) {
@@ -75,7 +75,7 @@ fn same_arguments(left: &Arguments, right: &Arguments) -> bool {
     }
 }
 
-// No strategy or one: the library has no more in a row.
+/// No strategy or one: the library has no more in a row.
 #[cycle(compare)]
 fn same_strategies(left: &[Strategy], right: &[Strategy]) -> bool {
     match (left, right) {
@@ -94,7 +94,7 @@ fn same_head(left: &DefinitionHead, right: &DefinitionHead) -> bool {
     }
 }
 
-// Whether a definition of the library is one of a file, but for where they come from.
+/// Whether a definition of the library is one of a file, but for where they come from.
 fn is_read_as(made: &Definition, read: &Definition) -> bool {
     let (DefinitionForm::Strategy(left), DefinitionForm::Strategy(right)) = (&made.form, &read.form)
     else {
@@ -106,7 +106,7 @@ fn is_read_as(made: &Definition, read: &Definition) -> bool {
         && same_strategy(&left.body, &right.body)
 }
 
-// The definitions of a file that has one section, of strategies.
+/// The definitions of a file that has one section, of strategies.
 fn definitions(file: &File) -> Option<&[Definition]> {
     match file.sections.as_slice() {
         [Section::Strategies(definitions)] => Some(definitions.as_slice()),
@@ -114,7 +114,7 @@ fn definitions(file: &File) -> Option<&[Definition]> {
     }
 }
 
-// Whether the definitions are the same one by one, and 9 in number.
+/// Whether the definitions are the same one by one, and 9 in number.
 fn are_read_as(made: &File, read: &File) -> bool {
     let (Some(left), Some(right)) = (definitions(made), definitions(read)) else {
         return false;
@@ -127,7 +127,7 @@ fn are_read_as(made: &File, read: &File) -> bool {
             .all(|(one, other)| is_read_as(one, other))
 }
 
-// The library alone.
+/// The library alone.
 fn library(alloc: Global) -> Result<File, Fail> {
     let sections = Vec::new(alloc);
     Ok(with_library(alloc, File { sections })?)
@@ -152,7 +152,7 @@ fn the_library_has_no_main(rt: HostRuntime) -> Result<(), Fail> {
     Ok(())
 }
 
-// Whether the sections are strategies of one definition, a signature, rules, and the strategies of the library.
+/// Whether the sections are strategies of one definition, a signature, rules, and the strategies of the library.
 fn ends_with_library(file: &File) -> bool {
     let [
         Section::Strategies(own),

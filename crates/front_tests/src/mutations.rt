@@ -1,4 +1,4 @@
-// Each edit of a word of valid files is read as a second, plain reading of the grammar says.
+//! Each edit of a word of valid files is read as a second, plain reading of the grammar says.
 mod chart;
 mod edits;
 mod files;
@@ -25,7 +25,7 @@ const EDITS: [Edit; 5] = [
     Edit::Replaced("module"),
 ];
 
-// Fails with their text where the readings of the words are not the same.
+/// Fails with their text where the readings of the words are not the same.
 fn compare(alloc: Global, grammar: &Grammar, words: &[Word<'_>]) -> Result<(), Fail> {
     let text = text(alloc, words)?;
     let found = parsed(alloc, text.as_bytes());
@@ -36,7 +36,7 @@ fn compare(alloc: Global, grammar: &Grammar, words: &[Word<'_>]) -> Result<(), F
     Ok(())
 }
 
-// Compares the readings of the edits of the word of this number.
+/// Compares the readings of the edits of the word of this number.
 fn compare_edits(
     alloc: Global,
     grammar: &Grammar,
@@ -50,7 +50,7 @@ fn compare_edits(
     Ok(())
 }
 
-// Compares the readings of all edits of the words.
+/// Compares the readings of all edits of the words.
 fn compare_all(alloc: Global, grammar: &Grammar, words: &[Word<'_>]) -> Result<(), Fail> {
     for at in 0..words.len() {
         compare_edits(alloc, grammar, words, at)?;
@@ -58,7 +58,7 @@ fn compare_all(alloc: Global, grammar: &Grammar, words: &[Word<'_>]) -> Result<(
     Ok(())
 }
 
-// Compares the readings of all edits of the file.
+/// Compares the readings of all edits of the file.
 fn compare_file(alloc: Global, grammar: &Grammar, file: &str) -> Result<(), Fail> {
     let words = words(alloc, file)?;
     compare_all(alloc, grammar, &words)
@@ -73,7 +73,7 @@ fn edits_of_files(rt: HostRuntime) -> Result<(), Fail> {
     Ok(())
 }
 
-// The number of words of the file, which is one by both readings.
+/// The number of words of the file, which is one by both readings.
 fn words_of_file(alloc: Global, grammar: &Grammar, file: &str) -> Result<usize, Fail> {
     if parsed(alloc, file.as_bytes()) != Reading::File {
         return Err(Fail::new(file));
@@ -97,13 +97,13 @@ fn unedited_files_are_files(rt: HostRuntime) -> Result<(), Fail> {
     Ok(())
 }
 
-// The unedited file, as a chart.
+/// The unedited file, as a chart.
 fn chart_of<'a>(alloc: Global, grammar: &'a Grammar, file: &str) -> Result<Chart<'a>, AllocError> {
     let words = words(alloc, file)?;
     Chart::read(alloc, grammar, &words)
 }
 
-// The unedited files, as charts.
+/// The unedited files, as charts.
 fn charts<'a>(alloc: Global, grammar: &'a Grammar) -> Result<Vec<Chart<'a>>, AllocError> {
     let mut charts = Vec::new(alloc);
     for file in files::ALL {
@@ -112,7 +112,7 @@ fn charts<'a>(alloc: Global, grammar: &'a Grammar) -> Result<Vec<Chart<'a>>, All
     Ok(charts)
 }
 
-// Whether some chart has each form of the grammar but the empty ones.
+/// Whether some chart has each form of the grammar but the empty ones.
 fn have_each_form(grammar: &Grammar, charts: &[Chart<'_>]) -> bool {
     for (phrase, forms) in grammar.phrases.iter().enumerate() {
         for (form, symbols) in forms.iter().enumerate() {

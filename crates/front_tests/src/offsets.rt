@@ -1,4 +1,4 @@
-// Where the parts of core programs stand in their files; what is expected was counted by hand.
+//! Where the parts of core programs stand in their files; what is expected was counted by hand.
 use crate::front::{core_of, read};
 use core_lang::{Core, CoreArm, CoreDef, CoreStrategy};
 use std::alloc::{AllocError, Global};
@@ -76,14 +76,14 @@ fn put_definitions(sources: &[CoreDef], found: &mut Vec<u64>) -> Result<(), Allo
     Ok(())
 }
 
-// Whether the matches, builds and calls of the core that have an offset have these, in order.
+/// Whether the matches, builds and calls of the core that have an offset have these, in order.
 fn has_offsets(alloc: Global, core: &Core, offsets: &[u64]) -> Result<bool, Fail> {
     let mut found = Vec::new(alloc);
     put_definitions(core.defs(), &mut found)?;
     Ok(found.as_slice() == offsets)
 }
 
-// Whether the names of the definitions of the core stand here.
+/// Whether the names of the definitions of the core stand here.
 fn has_heads(core: &Core, heads: &[u64]) -> bool {
     for (position, head) in heads.iter().enumerate() {
         if core.head(position) != Some(*head) {
@@ -93,7 +93,7 @@ fn has_heads(core: &Core, heads: &[u64]) -> bool {
     core.defs().len() == heads.len() && core.head(heads.len()).is_none()
 }
 
-// Files; where the names of their definitions stand, and where their matches, builds and calls do.
+/// Files; where the names of their definitions stand, and where their matches, builds and calls do.
 const FILES: &[(&str, &[u64], &[u64])] = &[
     ("strategies main = ?x; !x", &[11], &[19, 23]),
     // A pattern without a name stands where its step begins, and a definition at its first alternative.

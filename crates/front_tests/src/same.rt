@@ -1,7 +1,7 @@
-// When two core programs are the same, wherever their parts stand in their files.
+//! When two core programs are the same, wherever their parts stand in their files.
 use core_lang::{CoreArm, CoreDef, CoreStrategy};
 
-// Whether the definitions are the same, one by one.
+/// Whether the definitions are the same, one by one.
 #[cycle(same)]
 pub(crate) fn same_definitions(left: &[CoreDef], right: &[CoreDef]) -> bool {
     for (left, right) in left.iter().zip(right) {

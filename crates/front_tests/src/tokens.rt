@@ -1,10 +1,10 @@
-// `lex` on texts whose tokens were cut by hand, and the bytes of quoted texts.
+//! `lex` on texts whose tokens were cut by hand, and the bytes of quoted texts.
 use std::alloc::Global;
 use std::test::Fail;
 use str_lexer::{Keyword, LeftOut, Mark, Token, TokenKind, lex};
 use term_model::Fault;
 
-// The token's kind and value, and its span.
+/// The token's kind and value, and its span.
 fn add(shown: &mut String, token: &Token) -> Result<(), Fail> {
     match &token.kind {
         TokenKind::Name => shown.push_str("name")?,
@@ -19,7 +19,7 @@ fn add(shown: &mut String, token: &Token) -> Result<(), Fail> {
     Ok(())
 }
 
-// What the text is read as: each token, or the refusal.
+/// What the text is read as: each token, or the refusal.
 fn shown(alloc: Global, text: &[u8]) -> Result<String, Fail> {
     let mut shown = String::new(alloc);
     match lex(alloc, text) {
@@ -38,7 +38,7 @@ fn shown(alloc: Global, text: &[u8]) -> Result<String, Fail> {
     Ok(shown)
 }
 
-// Texts, and their tokens.
+/// Texts, and their tokens.
 const TOKENS: &[(&[u8], &str)] = &[
     (b"", ""),
     (b" \t\r\n", ""),
@@ -80,7 +80,7 @@ const TOKENS: &[(&[u8], &str)] = &[
     (b"a // \"/* \r b\n\rc", "name 0-1, name 14-15"),
 ];
 
-// Texts with a place where no token is.
+/// Texts with a place where no token is.
 const NO_TOKENS: &[(&[u8], &str)] = &[
     (b"9223372036854775808", "Lexical 0"),
     (b"x -9223372036854775809", "Lexical 2"),
@@ -101,7 +101,7 @@ const NO_TOKENS: &[(&[u8], &str)] = &[
     (b"a*/", "Lexical 2"),
 ];
 
-// Keywords, words of parts that are left out, and names.
+/// Keywords, words of parts that are left out, and names.
 const WORDS: &[(&[u8], &str)] = &[
     (
         b"signature sorts constructors rules strategies id fail where not if then else end all one some rec let in prim",
@@ -124,7 +124,7 @@ const WORDS: &[(&[u8], &str)] = &[
     ),
 ];
 
-// Whether this is what the text is read as.
+/// Whether this is what the text is read as.
 fn is_read_so(alloc: Global, text: &[u8], expected: &str) -> Result<bool, Fail> {
     let shown = shown(alloc, text)?;
     Ok(shown.as_str() == expected)
@@ -152,7 +152,7 @@ fn kinds_are_compared() -> Result<(), Fail> {
     Ok(())
 }
 
-// How many tokens a text of 1,048,576 bytes is that are all this one.
+/// How many tokens a text of 1,048,576 bytes is that are all this one.
 fn count(alloc: Global, byte: u8) -> Result<Option<usize>, Fail> {
     let mut text = Vec::new(alloc);
     for _ in 0..1_048_576 {
@@ -164,7 +164,7 @@ fn count(alloc: Global, byte: u8) -> Result<Option<usize>, Fail> {
     }
 }
 
-// Bytes, and how many tokens a text of each is.
+/// Bytes, and how many tokens a text of each is.
 const LONG: &[(u8, Option<usize>)] = &[
     (b'/', Some(0)),
     (b' ', Some(0)),

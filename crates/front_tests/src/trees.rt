@@ -12,7 +12,7 @@ fn names(alloc: Global, words: &[&str]) -> Result<Vec<Name>, Fail> {
     Ok(names)
 }
 
-// What `f` and `g` have at these keys.
+/// What `f` and `g` have at these keys.
 fn table(alloc: Global) -> Result<HashMap<Name, i32>, Fail> {
     let mut table = HashMap::new(alloc);
     table.insert(Name::new(alloc, b"f", 1)?, 10)?;
@@ -20,13 +20,13 @@ fn table(alloc: Global) -> Result<HashMap<Name, i32>, Fail> {
     Ok(table)
 }
 
-// What the name has in the table.
+/// What the name has in the table.
 fn value_of(alloc: Global, table: &HashMap<Name, i32>, name: &[u8]) -> Result<Option<i32>, Fail> {
     let name = Name::new(alloc, name, 3)?;
     Ok(table.get(&name).copied())
 }
 
-// Whether the names of these bytes at two places are the same.
+/// Whether the names of these bytes at two places are the same.
 fn are_same(alloc: Global, left: &[u8], right: &[u8]) -> Result<bool, Fail> {
     let left = Name::new(alloc, left, 3)?;
     let right = Name::new(alloc, right, 4)?;
@@ -52,7 +52,7 @@ fn names_are_their_bytes(rt: HostRuntime) -> Result<(), Fail> {
     Ok(())
 }
 
-// Whether these are the numbers of the parameters.
+/// Whether these are the numbers of the parameters.
 fn has_parameters(parameters: &Parameters, strategies: usize, terms: usize) -> bool {
     parameters.strategies() == strategies && parameters.terms() == terms
 }
@@ -71,7 +71,7 @@ fn parameters_are_counted(rt: HostRuntime) -> Result<(), Fail> {
     Ok(())
 }
 
-// The argument `x`, which is a term.
+/// The argument `x`, which is a term.
 fn one_term(alloc: Global) -> Result<Arguments, Fail> {
     let mut patterns = Vec::new(alloc);
     patterns.push(build::variable(alloc, b"x")?)?;
@@ -79,7 +79,7 @@ fn one_term(alloc: Global) -> Result<Arguments, Fail> {
     Ok(Arguments::WithTerms(Vec::new(alloc), patterns))
 }
 
-// Whether these are the numbers of the arguments.
+/// Whether these are the numbers of the arguments.
 fn has_arguments(arguments: &Arguments, strategies: usize, terms: usize) -> bool {
     arguments.strategies() == strategies && arguments.terms() == terms
 }
@@ -93,7 +93,7 @@ fn arguments_are_counted(rt: HostRuntime) -> Result<(), Fail> {
     Ok(())
 }
 
-// The definition `f = id` of the library.
+/// The definition `f = id` of the library.
 fn of_library(alloc: Global) -> Result<Definition, Fail> {
     let head = build::head(alloc, b"f", Parameters::Absent)?;
     let body = build::strategy(alloc, Primary::Id)?;

@@ -1,4 +1,4 @@
-// Cases: programs with a term and a budget.
+//! Cases: programs with a term and a budget.
 use std::alloc::{AllocError, Global};
 use std::str;
 
@@ -13,8 +13,8 @@ pub(crate) struct Case {
 }
 
 impl Case {
-    // The case that a line begins, or `None` where the line is no `#case BUDGET MAIN`.
-    fn begun(alloc: Global, line: &[u8]) -> Result<Option<Case>, AllocError> {
+    /// The case that a line begins, or `None` where the line is no `#case BUDGET MAIN`.
+    fn from_line(alloc: Global, line: &[u8]) -> Result<Option<Case>, AllocError> {
         let Some((budget, main)) = header_of(line) else {
             return Ok(None);
         };
@@ -27,7 +27,7 @@ impl Case {
         }))
     }
 
-    // Adds the next line of the case: the definitions end at a line `#term`.
+    /// Adds the next line of the case: the definitions end at a line `#term`.
     fn add(&mut self, line: &[u8]) -> Result<(), AllocError> {
         if !self.in_term && line == b"#term".as_slice() {
             self.in_term = true;
@@ -44,7 +44,7 @@ impl Case {
     }
 }
 
-// The budget and the name on the first line of a case.
+/// The budget and the name on the first line of a case.
 fn header_of(line: &[u8]) -> Option<(u32, &str)> {
     let header = str::from_utf8(line.strip_prefix(b"#case ")?).ok()?;
     let (budget, main) = header.split_once(' ')?;
@@ -56,7 +56,7 @@ fn header_of(line: &[u8]) -> Option<(u32, &str)> {
 pub(crate) fn cases_in(alloc: Global, text: &[u8]) -> Result<Vec<Case>, AllocError> {
     let mut cases = Vec::new(alloc);
     for line in text.split(|byte| *byte == b'\n') {
-        if let Some(case) = Case::begun(alloc, line)? {
+        if let Some(case) = Case::from_line(alloc, line)? {
             cases.push(case)?;
         } else if let Some(case) = cases.last_mut() {
             case.add(line)?;

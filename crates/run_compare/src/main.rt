@@ -16,7 +16,7 @@ use std::io::{Read, Write};
 use std::process::ExitCode;
 use term_model::Fault;
 
-// What was found so far.
+/// What was found so far.
 #[derive(Drop)]
 struct Totals {
     runs: u64,
@@ -35,7 +35,7 @@ impl Totals {
         }
     }
 
-    // Adds a case, and says whether both runs of it are the same.
+    /// Adds a case, and says whether both runs of it are the same.
     fn add(&mut self, compared: &Compared) -> bool {
         match compared {
             Compared::Same { rules, steps } => {
@@ -53,7 +53,7 @@ impl Totals {
     }
 }
 
-// What both runs of each case say, or the number of the first case, from 0 on, whose runs differ.
+/// What both runs of each case say, or the number of the first case, from 0 on, whose runs differ.
 fn compare_all(
     alloc: Global,
     text: &[u8],

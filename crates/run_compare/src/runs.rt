@@ -1,4 +1,4 @@
-// The two runs of a case.
+//! The two runs of a case.
 ghost use Rattle.prim_registry.specs.Entries.{Covers, IsHonest};
 
 use crate::case::Case;
@@ -18,7 +18,7 @@ use strategy_lib::with_library;
 use term_model::{Fault, Term, TermSpace};
 use term_store::StoreSpace;
 
-// The greatest budget of the evaluator, whose calls stand in one another.
+/// The greatest budget of the evaluator, whose calls stand in one another.
 const MOST: u32 = 2_000;
 
 /// What two runs of a case say.
@@ -64,7 +64,7 @@ pub(crate) fn compare(
     })
 }
 
-// The core of the definitions, and the term.
+/// The core of the definitions, and the term.
 fn read_case(
     alloc: Global,
     case: &Case,
@@ -81,7 +81,7 @@ fn read_case(
     Ok((core, term))
 }
 
-// The run of the core's code on the machine over the space.
+/// The run of the core's code on the machine over the space.
 fn run_compiled<S: TermSpace + Drop>(
     alloc: Global,
     space: S,

@@ -1,14 +1,5 @@
-//! Tests of the public calls from terms to whole runs: terms and their text, primitives, the evaluator and `transform`. They stand in a
-//! crate of their own, since a crate with tests is proved once more for them.
+//! Tests of whole runs, from bytes to bytes. They stand in a crate of their own, since a crate with tests is proved once more for them.
 #![tactic(auto)]
 
-#[cfg(test)]
-mod evaluator;
-#[cfg(test)]
-mod primitives;
-#[cfg(test)]
-mod term_text;
-#[cfg(test)]
-mod terms;
 #[cfg(test)]
 mod transform;

@@ -1,4 +1,4 @@
-// Accounts of runs.
+//! Accounts of runs.
 use crate::single_calls::core_of;
 use aterm_text::{read_term, write_term};
 use prim_registry::{Registry, Standard};
@@ -33,7 +33,7 @@ const RUNS: &[(&[u8], &[u8], u32, &[u8])] = &[
     ),
 ];
 
-// Adds the text of what a run stands on.
+/// Adds the text of what a run stands on.
 fn push_stand(
     alloc: Global,
     code: &Code,
@@ -58,7 +58,7 @@ fn push_stand(
     line.extend_from_slice(format!(in alloc; "calls {calls}")?.as_bytes())
 }
 
-// The text of an account and a stand.
+/// The text of an account and a stand.
 fn account_text(
     alloc: Global,
     code: &Code,
@@ -82,7 +82,7 @@ fn account_text(
     Ok(line)
 }
 
-// The text of the account of a run of the code on the term of this text.
+/// The text of the account of a run of the code on the term of this text.
 fn account_of_run(alloc: Global, code: &Code, text: &[u8], budget: u32) -> Result<Vec<u8>, Fault> {
     let registry = Registry::<Standard>::new(alloc);
     if !registry.covers(code.prims()) {
@@ -95,7 +95,7 @@ fn account_of_run(alloc: Global, code: &Code, text: &[u8], budget: u32) -> Resul
     Ok(account_text(alloc, code, &account, stand.as_ref())?)
 }
 
-// The same of a run of these definitions.
+/// The same of a run of these definitions.
 fn account_of(
     alloc: Global,
     definitions: &[u8],

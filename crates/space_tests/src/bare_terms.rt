@@ -1,10 +1,10 @@
-// What matches of terms without their annotations add to a store, and when it is given back; what is expected was worked out by hand.
+//! What matches of terms without their annotations add to a store, and when it is given back; what is expected was worked out by hand.
 use crate::going_back::{Seen, run_in_store};
 use std::alloc::Global;
 use std::test::Fail;
 
-// A strategy of main and a term; what the run writes, which is nothing where it fails; how many shapes the store holds then; and how often
-// it went back.
+/// A strategy of main and a term; what the run writes, which is nothing where it fails; how many shapes the store holds then; and how often
+/// it went back.
 type Row = (&'static [u8], &'static [u8], &'static [u8], usize, u32);
 
 const ROWS: &[Row] = &[
@@ -57,7 +57,7 @@ const ROWS: &[Row] = &[
     ),
 ];
 
-// The strategy of main in a file with a constructor.
+/// The strategy of main in a file with a constructor.
 fn run(alloc: Global, strategy: &[u8], text: &[u8]) -> Result<Seen, Fail> {
     let mut definitions = b"signature constructors F : T -> T strategies main = ".to_vec(alloc)?;
     definitions.extend_from_slice(strategy)?;

@@ -1,4 +1,4 @@
-// The code of a small program, which was worked out by hand.
+//! The code of a small program, which was worked out by hand.
 ghost use Rattle.std.specs.Prelude.{◌≡◌, [], IfOk, map};
 ghost use Rattle.core_lang.specs.Program.{no_patterns};
 ghost use Rattle.core_lang.specs.Views.{pattern_of};
@@ -23,7 +23,7 @@ const ONE_LAYER_UP: Coordinate = Coordinate {
     slot: 0,
 };
 
-// F(x)
+/// F(x)
 fn f_of_x(alloc: Global) -> Result<CorePattern, AllocError>
     ensures { IfOk result (λ made. match_term 3 (pattern_of made) ≡ match_of_small) }
 {
@@ -31,12 +31,12 @@ fn f_of_x(alloc: Global) -> Result<CorePattern, AllocError>
     Ok(CorePattern::Applied(Sym::named(alloc, b"F")?, parts))
 }
 
-// A call without term arguments.
+/// A call without term arguments.
 fn call(alloc: Global, at: Coordinate, strategies: Vec<CoreStrategy>) -> CoreStrategy {
     CoreStrategy::Call(CallTarget::new(at, None), strategies, Vec::new(alloc))
 }
 
-// {x: ?F(x); !x; s}
+/// {x: ?F(x); !x; s}
 fn body_of_f(alloc: Global) -> Result<CoreStrategy, AllocError> {
     let matching = Box::new(
         alloc,
@@ -50,7 +50,7 @@ fn body_of_f(alloc: Global) -> Result<CoreStrategy, AllocError> {
     Ok(CoreStrategy::Scope(1, body))
 }
 
-// f(s) = {x: ?F(x); !x; s}, main = f(id)
+/// f(s) = {x: ?F(x); !x; s}, main = f(id)
 fn small_core(alloc: Global) -> Result<Core, Fail> {
     let arguments = vec![in alloc; CoreStrategy::Id]?;
     let body = call(alloc, ONE_LAYER_UP, arguments);
@@ -72,7 +72,7 @@ fn small_core(alloc: Global) -> Result<Core, Fail> {
     Ok(Core::new(alloc, defs, 1)?)
 }
 
-// A call in code without term arguments.
+/// A call in code without term arguments.
 fn call_in_code(
     alloc: Global,
     frames: usize,
@@ -81,7 +81,9 @@ fn call_in_code(
     next_address: usize,
     arguments: Vec<Argument>,
 ) -> Instr
-    ensures { instr_of [] result ≡ call_definition 1 frames entry room next_address (map argument_of arguments.items) no_patterns }
+    ensures { instr_of [] result ≡
+        call_definition 1 frames entry room next_address (map argument_of arguments.items)
+        no_patterns }
 {
     Instr::CallDefinition {
         nodes: 1,
@@ -94,7 +96,7 @@ fn call_in_code(
     }
 }
 
-// Code of it: main's call and the end of the run, the body of main with the code of its argument, the body of f.
+/// Code of it: main's call and the end of the run, the body of main with the code of its argument, the body of f.
 fn small_instrs(alloc: Global) -> Result<Vec<Instr>, AllocError>
     ensures { IfOk result (λ made. code_of [] made.items ≡ small_code) }
 {
@@ -123,7 +125,7 @@ fn small_instrs(alloc: Global) -> Result<Vec<Instr>, AllocError>
     Ok(made)
 }
 
-// What it is compiled to: main's call and the end of the run, the body of main with that of f in place, the body of f.
+/// What it is compiled to: main's call and the end of the run, the body of main with that of f in place, the body of f.
 fn instrs_in_place(alloc: Global) -> Result<Vec<Instr>, AllocError> {
     let made = vec![in alloc;
         call_in_code(alloc, 0, 2, 0, 1, Vec::new(alloc)),

@@ -1,12 +1,12 @@
-// Declarations one after the other, for runs in which memory is refused: `tools/growth` refuses each call for memory in turn. A declaration
-// that is refused memory leaves the signature as it was, and is made once more.
+//! Declarations one after the other, for runs in which memory is refused: `tools/growth` refuses each call for memory in turn. A declaration
+//! that is refused memory leaves the signature as it was, and is made once more.
 use signature_core::Signature;
 use std::alloc::{AllocError, Global};
 use std::test::Fail;
 use str_syntax::{Name, Sort};
 use term_model::Fault;
 
-// Names and their numbers of arguments, each of the sort `T`.
+/// Names and their numbers of arguments, each of the sort `T`.
 const DECLARED: &[(&[u8], usize)] = &[
     (b"F", 1),
     (b"F", 2),
@@ -19,7 +19,7 @@ const DECLARED: &[(&[u8], usize)] = &[
     (b"J", 0),
 ];
 
-// As many sorts `T`.
+/// As many sorts `T`.
 fn sorts(alloc: Global, count: usize) -> Result<Vec<Sort>, AllocError> {
     let mut sorts = Vec::with_capacity(alloc, count)?;
     for _ in 0..count {
@@ -28,7 +28,7 @@ fn sorts(alloc: Global, count: usize) -> Result<Vec<Sort>, AllocError> {
     Ok(sorts)
 }
 
-// Declares the name with as many arguments.
+/// Declares the name with as many arguments.
 fn declare(
     alloc: Global,
     signature: &mut Signature,
@@ -41,7 +41,7 @@ fn declare(
     signature.declare(name, arguments, to)
 }
 
-// Whether exactly the first declarations are known, as many as this.
+/// Whether exactly the first declarations are known, as many as this.
 fn knows_first(signature: &Signature, count: usize) -> bool {
     for (index, (name, number)) in DECLARED.iter().enumerate() {
         if signature.arity_known(name, *number) != (index < count) {
@@ -51,8 +51,8 @@ fn knows_first(signature: &Signature, count: usize) -> bool {
     true
 }
 
-// Declares the name after this many others, once more where memory is refused. Whether the signature is as it was after the refusal, and knows
-// one more in the end.
+/// Declares the name after this many others, once more where memory is refused. Whether the signature is as it was after the refusal, and knows
+/// one more in the end.
 fn is_declared(
     alloc: Global,
     signature: &mut Signature,
@@ -69,7 +69,7 @@ fn is_declared(
     Ok(knows_first(signature, index.saturating_add(1)))
 }
 
-// Whether the name is refused, since it is declared already.
+/// Whether the name is refused, since it is declared already.
 fn is_refused(
     alloc: Global,
     signature: &mut Signature,

@@ -1,4 +1,4 @@
-// Runs of the machine that go back, over a store that counts it; what is expected was worked out by hand.
+//! Runs of the machine that go back, over a store that counts it; what is expected was worked out by hand.
 ghost use Rattle.std.specs.Prelude.{◌≡◌, All, map, IsTrue, IfOk, Some};
 ghost use Rattle.term_model.specs.Term.{term};
 ghost use Rattle.term_model.specs.Space.{Keeps, Makes, MayHave, space_in};
@@ -16,8 +16,8 @@ use strat_machine::Machine;
 use term_model::{Head, Kind, Made, Parts, Shape, Sym, Term, TermSpace, Top};
 use term_store::StoreSpace;
 
-// Definitions and a term; what the run writes, which is nothing where it fails, and by how many rules; how many shapes the
-// store holds then, and whether it went back once alone.
+/// Definitions and a term; what the run writes, which is nothing where it fails, and by how many rules; how many shapes the
+/// store holds then, and whether it went back once alone.
 const ROWS: &[(&[u8], &[u8], &[u8], u32, usize, bool)] = &[
     (
         b"signature constructors A : T -> T B : T strategies main = (!A(B()); fail) <+ id",
@@ -37,7 +37,7 @@ const ROWS: &[(&[u8], &[u8], &[u8], u32, usize, bool)] = &[
     ),
 ];
 
-// A space that counts how often it goes back.
+/// A space that counts how often it goes back.
 #[derive(Drop)]
 struct Counting<S> {
     space: S,
@@ -187,7 +187,10 @@ impl<S: TermSpace + Drop> TermSpace for Counting<S> {
         requires parts { All (λ r. IsTrue (S.space.stands self.old.space r)) parts.items }
         requires annos { All (λ r. IsTrue (S.space.stands self.old.space r)) annos.items }
         ensures keeps { Keeps ⟦<Counting<S> as TermSpace>⟧.space self.old self.new }
-        ensures made { IfOk result (Makes ⟦<Counting<S> as TermSpace>⟧.space self.new (term head (map (S.space.term_of self.old.space) parts.items) (map (S.space.term_of self.old.space) annos.items))) }
+        ensures made { IfOk result
+            (Makes ⟦<Counting<S> as TermSpace>⟧.space self.new
+            (term head (map (S.space.term_of self.old.space) parts.items)
+            (map (S.space.term_of self.old.space) annos.items))) }
     {
         self.space.make(alloc, head, parts, annos)
     }
@@ -210,8 +213,8 @@ impl<S: TermSpace + Drop> TermSpace for Counting<S> {
     }
 }
 
-// What a run comes to: what it writes, which is nothing where it fails; how many rules it takes; how many shapes the space holds then, and
-// how often it went back.
+/// What a run comes to: what it writes, which is nothing where it fails; how many rules it takes; how many shapes the space holds then, and
+/// how often it went back.
 #[derive(Drop)]
 pub(crate) struct Seen {
     pub(crate) written: Vec<u8>,
@@ -220,7 +223,7 @@ pub(crate) struct Seen {
     pub(crate) back: u32,
 }
 
-// Runs the code on the term, and writes what it is rewritten to; nothing where it fails.
+/// Runs the code on the term, and writes what it is rewritten to; nothing where it fails.
 fn run<S: TermSpace + Drop>(
     alloc: Global,
     machine: &mut Machine<S>,
@@ -242,7 +245,7 @@ fn run<S: TermSpace + Drop>(
     Ok((written, run.rules))
 }
 
-// Runs the code on the term over the space, whose times back are counted.
+/// Runs the code on the term over the space, whose times back are counted.
 fn run_over<S: TermSpace + Holds + Drop>(
     alloc: Global,
     space: S,
@@ -260,7 +263,7 @@ fn run_over<S: TermSpace + Holds + Drop>(
     })
 }
 
-// Runs the definitions on the term over a store.
+/// Runs the definitions on the term over a store.
 pub(crate) fn run_in_store(alloc: Global, definitions: &[u8], text: &[u8]) -> Result<Seen, Fail> {
     let code = code_of(alloc, definitions)?;
     let term = read_term(alloc, text)?;

@@ -1,5 +1,5 @@
-// Steps that make something new in a space, for runs in which memory is refused: `tools/growth` refuses each call for memory in turn. A step
-// whose memory is refused is taken once more; after each step an older reference has its term. Each test passes with ample memory, too.
+//! Steps that make something new in a space, for runs in which memory is refused: `tools/growth` refuses each call for memory in turn. A step
+//! whose memory is refused is taken once more; after each step an older reference has its term. Each test passes with ample memory, too.
 ghost use Rattle.std.specs.Prelude.{◌≡◌, IsTrue};
 
 use crate::single_calls::code_of;
@@ -14,13 +14,13 @@ use strat_machine::Machine;
 use term_model::{Fault, Head, Made, RcSpace, Sym, Term, TermSpace};
 use term_store::StoreSpace;
 
-// How many steps a row has.
+/// How many steps a row has.
 const STEPS: i64 = 12;
 
-// The term of the older reference.
+/// The term of the older reference.
 const OLDER: &[u8] = b"[0,1,2,3,4,5,6,7,8,9,10,11]";
 
-// Definitions and a term that are run, and the weight of what the term is rewritten to.
+/// Definitions and a term that are run, and the weight of what the term is rewritten to.
 const RUNS: &[(&[u8], &[u8], u32)] = &[
     (b"strategies main = all({x: ?x; !(x,x)})", OLDER, 37),
     (
@@ -30,7 +30,7 @@ const RUNS: &[(&[u8], &[u8], u32)] = &[
     ),
 ];
 
-// The call of a space that a row is about.
+/// The call of a space that a row is about.
 #[derive(Clone, Copy)]
 enum Row {
     Enter,
@@ -42,7 +42,7 @@ enum Row {
 
 const ROWS: &[Row] = &[Row::Enter, Row::Make, Row::Rest, Row::Prepend, Row::Leave];
 
-// Whether the reference has this term; looks twice where memory is refused.
+/// Whether the reference has this term; looks twice where memory is refused.
 fn has_term<S: TermSpace>(
     alloc: Global,
     space: &S,
@@ -58,16 +58,15 @@ fn has_term<S: TermSpace>(
     Ok(left == *term)
 }
 
-// The list of an integer and the older term.
+/// The list of an integer and the older term.
 fn pair_of(alloc: Global, term: &Term, value: i64) -> Result<Made<Term>, AllocError> {
     let mut parts = Vec::with_capacity(alloc, 2)?;
     parts.push(Term::int(alloc, value)?)?;
     parts.push(term.clone()?)?;
-    let made = Term::list(alloc, parts)?;
-    Ok(made)
+    Term::list(alloc, parts)
 }
 
-// Enters a list of the integer and the term.
+/// Enters a list of the integer and the term.
 fn enter<S: TermSpace>(
     alloc: Global,
     space: &mut S,
@@ -85,7 +84,7 @@ fn enter<S: TermSpace>(
     has_term(alloc, space, &entered, &pair)
 }
 
-// Makes the application of a symbol to the older term and the integer, with the older term as its annotation.
+/// Makes the application of a symbol to the older term and the integer, with the older term as its annotation.
 fn make<S: TermSpace>(
     alloc: Global,
     space: &mut S,
@@ -105,7 +104,7 @@ fn make<S: TermSpace>(
     Ok(matches!(made, Made::Fits(_)))
 }
 
-// Puts integers in front of the older list.
+/// Puts integers in front of the older list.
 fn prepend<S: TermSpace>(
     alloc: Global,
     space: &mut S,
@@ -125,7 +124,7 @@ fn prepend<S: TermSpace>(
     Ok(matches!(made, Made::Fits(_)))
 }
 
-// Takes the first elements of the older list away.
+/// Takes the first elements of the older list away.
 fn rest<S: TermSpace>(
     alloc: Global,
     space: &mut S,
@@ -143,7 +142,7 @@ fn rest<S: TermSpace>(
     Ok(true)
 }
 
-// One step of a row. The older reference has this term, which is a list.
+/// One step of a row. The older reference has this term, which is a list.
 fn step<S: TermSpace>(
     alloc: Global,
     space: &mut S,
@@ -164,7 +163,7 @@ fn step<S: TermSpace>(
     }
 }
 
-// Takes the steps of a row, each once more where memory is refused; whether each did its work, and the older reference had its term after it.
+/// Takes the steps of a row, each once more where memory is refused; whether each did its work, and the older reference had its term after it.
 fn take_steps<S: TermSpace>(
     alloc: Global,
     space: &mut S,
@@ -238,14 +237,15 @@ fn growth_of_terms(rt: HostRuntime) -> Result<(), Fail> {
     Ok(())
 }
 
-// The weight of what the code rewrites the term to; 0 where it does not.
+/// The weight of what the code rewrites the term to; 0 where it does not.
 fn weight_after<S: TermSpace + Drop>(
     alloc: Global,
     machine: &mut Machine<S>,
     code: &Code,
     term: &Term,
 ) -> Result<u32, Fault>
-    ensures { (r : S.Ref) → IsTrue (S.space.stands machine.old r) → IsTrue (S.space.stands machine.new r) }
+    ensures { (r : S.Ref) → IsTrue (S.space.stands machine.old r) →
+        IsTrue (S.space.stands machine.new r) }
 {
     let registry = Registry::<Standard>::new(alloc);
     if !registry.covers(code.prims()) {
@@ -260,7 +260,7 @@ fn weight_after<S: TermSpace + Drop>(
     Ok(left.weight())
 }
 
-// Runs the code, once more where memory is refused, when an older reference has its term.
+/// Runs the code, once more where memory is refused, when an older reference has its term.
 fn run_again<S: TermSpace + Drop>(
     alloc: Global,
     space: S,
@@ -278,7 +278,7 @@ fn run_again<S: TermSpace + Drop>(
     weight_after(alloc, &mut machine, code, term)
 }
 
-// The weight of what the definitions rewrite the term to over the space, in a run that is taken again where memory is refused.
+/// The weight of what the definitions rewrite the term to over the space, in a run that is taken again where memory is refused.
 fn weight_over<S: TermSpace + Drop>(
     alloc: Global,
     space: S,

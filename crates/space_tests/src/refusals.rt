@@ -15,14 +15,14 @@ use term_store::StoreSpace;
 
 const ADDING: &[u8] = b"strategies main = ?(x,_); prim(\"add\", x, x)";
 
-// The code of definitions that call `add`.
+/// The code of definitions that call `add`.
 fn adding_code(alloc: Global) -> Result<Code, Fault> {
     let mut names = PrimNames::new(alloc);
     names.insert(b"add", 2)?;
     code_with(alloc, ADDING, &names)
 }
 
-// Whether the run of the code from the reference is refused memory.
+/// Whether the run of the code from the reference is refused memory.
 fn is_refused<S: TermSpace + Drop>(
     machine: &mut Machine<S>,
     adding: &Code,
@@ -31,7 +31,8 @@ fn is_refused<S: TermSpace + Drop>(
 ) -> Result<bool, Fault>
     requires honest { IsHonest ⟦<Standard as PrimMeaning>⟧.answer registry.now }
     requires stands { IsTrue (S.space.stands machine.old entered.now) }
-    ensures { (r : S.Ref) → IsTrue (S.space.stands machine.old r) → IsTrue (S.space.stands machine.new r) }
+    ensures { (r : S.Ref) → IsTrue (S.space.stands machine.old r) →
+        IsTrue (S.space.stands machine.new r) }
 {
     if !registry.covers(adding.prims()) {
         return Err(Fault::UnknownPrimitive);
@@ -41,7 +42,7 @@ fn is_refused<S: TermSpace + Drop>(
     Ok(matches!(run, Err(Fault::Memory)))
 }
 
-// Whether the run of the code is refused memory, and the machine then runs other code from the same reference.
+/// Whether the run of the code is refused memory, and the machine then runs other code from the same reference.
 fn runs_afterwards<S: TermSpace + Drop>(
     alloc: Global,
     space: S,

@@ -1,4 +1,4 @@
-// Choices among alternatives by the root of a term; what is expected was worked out by hand.
+//! Choices among alternatives by the root of a term; what is expected was worked out by hand.
 use crate::single_calls::code_of;
 use aterm_text::{read_term, write_term};
 use core_lang::Outcome;
@@ -11,8 +11,8 @@ use strat_machine::Machine;
 use term_model::{Term, TermSpace};
 use term_store::StoreSpace;
 
-// Three rules, and an alternative that any term may have between others; a term; what the run writes, which is nothing where it
-// fails, and by how many rules.
+/// Three rules, and an alternative that any term may have between others; a term; what the run writes, which is nothing where it
+/// fails, and by how many rules.
 const ROWS: &[(&[u8], &[u8], &[u8], u32)] = &[
     (THREE, b"C(3)", b"3", 14),
     (THREE, b"D(3)", b"", 13),
@@ -29,7 +29,7 @@ const ROWS: &[(&[u8], &[u8], &[u8], u32)] = &[
 const THREE: &[u8] = b"signature constructors A : T -> T B : T -> T C : T -> T
     rules r : A(x) -> x r : B(x) -> x r : C(x) -> x strategies main = r";
 
-// The second alternative takes any term, and fails where this is no application of A to an application.
+/// The second alternative takes any term, and fails where this is no application of A to an application.
 const MIXED: &[u8] = b"signature constructors A : T -> T B : T -> T text : T
     rules r : B(x) -> x r : x -> y where <?A(y@B(_))> x r : A(x) -> 1 r : \"five\" -> text()
     strategies main = r";
@@ -38,7 +38,7 @@ const LISTS: &[u8] = b"signature constructors single : T
     rules r : [x] -> single() r : [x,y|z] -> z r : [x|y] -> y
     strategies main = r";
 
-// What a run writes, or nothing where it does not end with a term, its rules and its steps.
+/// What a run writes, or nothing where it does not end with a term, its rules and its steps.
 #[derive(Drop)]
 struct Ran {
     written: Vec<u8>,
@@ -46,7 +46,7 @@ struct Ran {
     steps: u64,
 }
 
-// Runs the code on the term.
+/// Runs the code on the term.
 fn run<S: TermSpace + Drop>(
     alloc: Global,
     machine: &mut Machine<S>,
@@ -71,7 +71,7 @@ fn run<S: TermSpace + Drop>(
     })
 }
 
-// Runs the code on the term over the space.
+/// Runs the code on the term over the space.
 fn run_over<S: TermSpace + Drop>(
     alloc: Global,
     space: S,
@@ -80,11 +80,10 @@ fn run_over<S: TermSpace + Drop>(
     budget: u32,
 ) -> Result<Ran, Fail> {
     let mut machine = Machine::new(alloc, space);
-    let ran = run(alloc, &mut machine, code, term, budget)?;
-    Ok(ran)
+    run(alloc, &mut machine, code, term, budget)
 }
 
-// Runs the definitions on the term over a store.
+/// Runs the definitions on the term over a store.
 fn run_in_store(alloc: Global, definitions: &[u8], text: &[u8], budget: u32) -> Result<Ran, Fail> {
     let code = code_of(alloc, definitions)?;
     let term = read_term(alloc, text)?;
@@ -92,7 +91,7 @@ fn run_in_store(alloc: Global, definitions: &[u8], text: &[u8], budget: u32) -> 
     run_over(alloc, space, &code, &term, budget)
 }
 
-// A thousand rules, each for a constructor of its own.
+/// A thousand rules, each for a constructor of its own.
 fn thousand_rules(alloc: Global) -> Result<Vec<u8>, AllocError> {
     let mut text = b"signature constructors".to_vec(alloc)?;
     for number in 1..=1_000 {

@@ -1,4 +1,4 @@
-// A definition file through each call from its bytes to a run; what is expected was worked out by hand.
+//! A definition file through each call from its bytes to a run; what is expected was worked out by hand.
 ghost use Rattle.std.specs.Prelude.{◌≤◌, IsTrue};
 ghost use Rattle.prim_registry.specs.Entries.{IsHonest};
 
@@ -23,7 +23,7 @@ use term_store::StoreSpace;
 
 pub(crate) const DEFINITIONS: &[u8] = b"strategies main = ?(x,_); !x";
 
-// The definitions with the library, where these are the primitives.
+/// The definitions with the library, where these are the primitives.
 fn checked(alloc: Global, definitions: &[u8], primitives: &PrimNames) -> Result<Checked, Fault> {
     let tokens = lex(alloc, definitions)?;
     let file = parse(alloc, definitions, &tokens)?;
@@ -31,7 +31,7 @@ fn checked(alloc: Global, definitions: &[u8], primitives: &PrimNames) -> Result<
     check(alloc, file, primitives, b"main")
 }
 
-// Their core.
+/// Their core.
 pub(crate) fn core_of(
     alloc: Global,
     definitions: &[u8],
@@ -41,7 +41,7 @@ pub(crate) fn core_of(
     Ok(to_core(alloc, &checked)?)
 }
 
-// Their code.
+/// Their code.
 pub(crate) fn code_with(
     alloc: Global,
     definitions: &[u8],
@@ -51,12 +51,12 @@ pub(crate) fn code_with(
     Ok(compile(alloc, &core)?)
 }
 
-// The code of definitions that call no primitive.
+/// The code of definitions that call no primitive.
 pub(crate) fn code_of(alloc: Global, definitions: &[u8]) -> Result<Code, Fault> {
     code_with(alloc, definitions, &PrimNames::new(alloc))
 }
 
-// The text of the term that the core rewrites to within the budget, and the rules; no text where the budget is spent.
+/// The text of the term that the core rewrites to within the budget, and the rules; no text where the budget is spent.
 fn run(alloc: Global, core: &Core, text: &[u8], budget: u32) -> Result<(Vec<u8>, u32), Fail>
     requires { budget ≤ 2_000 }
 {
@@ -90,7 +90,7 @@ fn from_bytes_to_a_run(rt: HostRuntime) -> Result<(), Fail> {
     Ok(())
 }
 
-// Whether the machine takes the term of the reference to 7 within five rules, by five rules.
+/// Whether the machine takes the term of the reference to 7 within five rules, by five rules.
 fn takes_five<S: TermSpace + Drop>(
     alloc: Global,
     machine: &mut Machine<S>,
@@ -98,7 +98,8 @@ fn takes_five<S: TermSpace + Drop>(
     entered: &S::Ref,
 ) -> Result<bool, Fault>
     requires { IsTrue (S.space.stands machine.old entered.now) }
-    ensures { (r : S.Ref) → IsTrue (S.space.stands machine.old r) → IsTrue (S.space.stands machine.new r) }
+    ensures { (r : S.Ref) → IsTrue (S.space.stands machine.old r) →
+        IsTrue (S.space.stands machine.new r) }
 {
     let registry = Registry::<Standard>::new(alloc);
     if !registry.covers(code.prims()) {
@@ -114,7 +115,7 @@ fn takes_five<S: TermSpace + Drop>(
     Ok(written[..] == b"7"[..] && run.rules == 5 && run.steps <= 60)
 }
 
-// Whether the machine does so. A run that is refused memory is taken once more from the same reference, which must have its term.
+/// Whether the machine does so. A run that is refused memory is taken once more from the same reference, which must have its term.
 pub(crate) fn takes_five_at_last<S: TermSpace + Drop>(
     alloc: Global,
     machine: &mut Machine<S>,
@@ -123,7 +124,8 @@ pub(crate) fn takes_five_at_last<S: TermSpace + Drop>(
     term: &Term,
 ) -> Result<bool, Fault>
     requires { IsTrue (S.space.stands machine.old entered.now) }
-    ensures { (r : S.Ref) → IsTrue (S.space.stands machine.old r) → IsTrue (S.space.stands machine.new r) }
+    ensures { (r : S.Ref) → IsTrue (S.space.stands machine.old r) →
+        IsTrue (S.space.stands machine.new r) }
 {
     if let Ok(is_seven) = takes_five(alloc, machine, code, entered) {
         return Ok(is_seven);
@@ -134,7 +136,7 @@ pub(crate) fn takes_five_at_last<S: TermSpace + Drop>(
     takes_five(alloc, machine, code, entered)
 }
 
-// Whether the machine does so twice with the same reference.
+/// Whether the machine does so twice with the same reference.
 fn takes_five_twice<S: TermSpace + Drop>(
     alloc: Global,
     machine: &mut Machine<S>,
@@ -148,7 +150,7 @@ fn takes_five_twice<S: TermSpace + Drop>(
     takes_five_at_last(alloc, machine, code, &entered, term)
 }
 
-// Whether a machine over the space does so.
+/// Whether a machine over the space does so.
 fn runs_over<S: TermSpace + Drop>(
     alloc: Global,
     space: S,
@@ -174,7 +176,7 @@ fn from_bytes_to_runs_of_the_machine(rt: HostRuntime) -> Result<(), Fail> {
     Ok(())
 }
 
-// How many definitions the file has, which has one section, of strategies.
+/// How many definitions the file has, which has one section, of strategies.
 fn count_of_definitions(file: &File) -> usize {
     match file.sections.as_slice() {
         [Section::Strategies(definitions)] => definitions.len(),
@@ -182,7 +184,7 @@ fn count_of_definitions(file: &File) -> usize {
     }
 }
 
-// What the check of the file, which calls no primitive, returns.
+/// What the check of the file, which calls no primitive, returns.
 fn judgement(alloc: Global, file: File) -> Result<(), Fault> {
     let _checked = check(alloc, file, &PrimNames::new(alloc), b"main")?;
     Ok(())

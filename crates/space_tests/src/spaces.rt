@@ -1,4 +1,4 @@
-// Clients of any space, run over the space of terms themselves and over the store; what is expected was worked out by hand.
+//! Clients of any space, run over the space of terms themselves and over the store; what is expected was worked out by hand.
 ghost use Rattle.std.specs.Prelude.{◌≡◌, IfOk, IfSome, IsTrue, [], ◌∷◌};
 ghost use Rattle.term_model.specs.Term.{Tree, term};
 ghost use Rattle.term_model.specs.declared.term.Head.TheVariants as heads;
@@ -10,7 +10,7 @@ use std::test::Fail;
 use term_model::{Block, Front, Head, Made, Parts, RcSpace, Sym, Term, TermSpace, Top};
 use term_store::StoreSpace;
 
-// Texts of terms with two parts, and what `changed` makes of each.
+/// Texts of terms with two parts, and what `changed` makes of each.
 const CHANGED: &[(&[u8], &[u8])] = &[
     (b"[1,2]{7}", b"[2,1]{7} [1,2]{2,1} [2] "),
     (b"[F,F]{F}", b"[F,F]{F} [F,F]{F,F} [F] "),
@@ -18,7 +18,7 @@ const CHANGED: &[(&[u8], &[u8])] = &[
     (b"(1,[3]){7,8}", b"([3],1){7,8} (1,[3]){[3],1} "),
 ];
 
-// Names of symbols, and two integers.
+/// Names of symbols, and two integers.
 const MAKERS: &[(&[u8], i64, i64)] = &[
     (b"F", 1, 2),
     (b"Plus", -7, -7),
@@ -27,14 +27,14 @@ const MAKERS: &[(&[u8], i64, i64)] = &[
     (b"F", -9223372036854775808, 0),
 ];
 
-// Texts of terms that are taken apart.
+/// Texts of terms that are taken apart.
 const TAKEN: &[&[u8]] = &[b"[2,F(1,2)]{1}", b"F(1,F(1)){[]}", b"7{1}", b"[1,1,1,1,1]"];
 
-// Texts of terms, and whether the root of each has a number.
+/// Texts of terms, and whether the root of each has a number.
 const ROOTS: &[(&[u8], bool)] = &[(b"7{F}", false), (b"[F,F]", false), (b"F{7}", true)];
 
-// The list of the second integer and of the symbol over both, with the first integer as its annotation, after something
-// else was made and given back.
+/// The list of the second integer and of the symbol over both, with the first integer as its annotation, after something
+/// else was made and given back.
 fn built<S: TermSpace>(
     alloc: Global,
     space: &mut S,
@@ -43,7 +43,11 @@ fn built<S: TermSpace>(
     right: i64,
 ) -> Result<Option<S::Ref>, AllocError>
     ensures stands { IfOk result (λ made. IfSome made (λ r. IsTrue (S.space.stands space.new r))) }
-    ensures term { IfOk result (λ made. IfSome made (λ r. S.space.term_of space.new r ≡ term heads.List (term (heads.Int right) [] [] ∷ term (heads.App symbol.now) (term (heads.Int left) [] [] ∷ term (heads.Int right) [] [] ∷ []) [] ∷ []) (term (heads.Int left) [] [] ∷ []))) }
+    ensures term { IfOk result (λ made. IfSome made (λ r. S.space.term_of space.new r ≡
+        term heads.List (term (heads.Int right) [] [] ∷
+        term (heads.App symbol.now)
+        (term (heads.Int left) [] [] ∷ term (heads.Int right) [] [] ∷ []) [] ∷ [])
+        (term (heads.Int left) [] [] ∷ []))) }
 {
     let name = space.name(alloc, symbol)?;
     let mut stack = Vec::new(alloc);
@@ -67,7 +71,7 @@ fn built<S: TermSpace>(
     Ok(Some(noted))
 }
 
-// Takes a term apart and makes it again, and a list from this place on; returns what was made last, where all is as it was.
+/// Takes a term apart and makes it again, and a list from this place on; returns what was made last, where all is as it was.
 fn takes_apart<S: TermSpace>(
     alloc: Global,
     space: &mut S,
@@ -101,8 +105,8 @@ fn takes_apart<S: TermSpace>(
     Ok(if as_it_was { Some(whole) } else { None })
 }
 
-// Writes a term with its two parts the other way round, with these as its annotations, and the list after its first
-// element.
+/// Writes a term with its two parts the other way round, with these as its annotations, and the list after its first
+/// element.
 fn changed<S: TermSpace>(alloc: Global, space: &mut S, from: &Term) -> Result<Vec<u8>, AllocError> {
     let mut written = Vec::new(alloc);
     let at = space.enter(alloc, from)?;
@@ -128,7 +132,7 @@ fn changed<S: TermSpace>(alloc: Global, space: &mut S, from: &Term) -> Result<Ve
     Ok(written)
 }
 
-// The second part of an application: as an integer, and as it is lent.
+/// The second part of an application: as an integer, and as it is lent.
 fn second<S: TermSpace>(
     alloc: Global,
     space: &mut S,
@@ -146,7 +150,7 @@ fn second<S: TermSpace>(
     Ok(Some((space.int_of(&part), term)))
 }
 
-// Whether the numbers of the symbol and of a term with it are one, and whether the term is the symbol over two parts alone.
+/// Whether the numbers of the symbol and of a term with it are one, and whether the term is the symbol over two parts alone.
 fn is_numbered<S: TermSpace>(
     alloc: Global,
     space: &mut S,
@@ -164,13 +168,13 @@ fn is_numbered<S: TermSpace>(
     Ok(is_two && space.root_number(&at) == Some(space.number(&name)))
 }
 
-// Whether the term has a number.
+/// Whether the term has a number.
 fn has_number<S: TermSpace>(alloc: Global, space: &mut S, from: &Term) -> Result<bool, AllocError> {
     let at = space.enter(alloc, from)?;
     Ok(space.root_number(&at).is_some())
 }
 
-// The term that `built` makes, by the makers of terms.
+/// The term that `built` makes, by the makers of terms.
 fn expected(alloc: Global, symbol: &Sym, left: i64, right: i64) -> Result<Term, Fail> {
     let parts = vec![in alloc; Term::int(alloc, left)?, Term::int(alloc, right)?]?;
     let Made::Fits(pair) = Term::app(alloc, symbol.clone()?, parts)? else {
@@ -184,7 +188,7 @@ fn expected(alloc: Global, symbol: &Sym, left: i64, right: i64) -> Result<Term, 
     Ok(list)
 }
 
-// The list of the first integers from 0 on.
+/// The list of the first integers from 0 on.
 fn numbers(alloc: Global, count: i64) -> Result<Term, Fail> {
     let mut elements = Vec::new(alloc);
     for value in 0..count {
@@ -200,7 +204,7 @@ fn store(alloc: Global) -> StoreSpace {
     StoreSpace::new(alloc, BuildHasherDefault::new())
 }
 
-// Whether the client that makes terms makes the one that is expected.
+/// Whether the client that makes terms makes the one that is expected.
 fn makes<S: TermSpace>(
     alloc: Global,
     space: &mut S,
@@ -216,7 +220,7 @@ fn makes<S: TermSpace>(
     Ok(term == expected(alloc, &symbol, left, right)?)
 }
 
-// Runs the client that makes terms over a space.
+/// Runs the client that makes terms over a space.
 fn run_makers<S: TermSpace>(alloc: Global, space: &mut S) -> Result<(), Fail> {
     for (name, left, right) in MAKERS {
         if !makes(alloc, space, name, *left, *right)? {
@@ -226,7 +230,7 @@ fn run_makers<S: TermSpace>(alloc: Global, space: &mut S) -> Result<(), Fail> {
     Ok(())
 }
 
-// Changes terms over a space.
+/// Changes terms over a space.
 fn run_changes<S: TermSpace>(alloc: Global, space: &mut S) -> Result<(), Fail> {
     for (text, wanted) in CHANGED {
         let written = changed(alloc, space, &read_term(alloc, text)?)?;
@@ -237,7 +241,7 @@ fn run_changes<S: TermSpace>(alloc: Global, space: &mut S) -> Result<(), Fail> {
     Ok(())
 }
 
-// Whether the term is as it was, wherever it is taken apart.
+/// Whether the term is as it was, wherever it is taken apart.
 fn is_as_it_was<S: TermSpace>(alloc: Global, space: &mut S, text: &[u8]) -> Result<bool, Fail> {
     let term = read_term(alloc, text)?;
     for place in 0..term.children().len() {
@@ -248,13 +252,13 @@ fn is_as_it_was<S: TermSpace>(alloc: Global, space: &mut S, text: &[u8]) -> Resu
     Ok(true)
 }
 
-// Whether the second part of a pair is 2.
+/// Whether the second part of a pair is 2.
 fn is_second<S: TermSpace>(alloc: Global, space: &mut S) -> Result<bool, Fail> {
     let pair = read_term(alloc, b"(1,2){3}")?;
     Ok(second(alloc, space, &pair)? == Some((Some(2), Term::int(alloc, 2)?)))
 }
 
-// Takes terms apart over a space, and looks at their parts.
+/// Takes terms apart over a space, and looks at their parts.
 fn run_takers<S: TermSpace>(alloc: Global, space: &mut S) -> Result<(), Fail> {
     for text in TAKEN {
         if !is_as_it_was(alloc, space, text)? {
@@ -267,7 +271,7 @@ fn run_takers<S: TermSpace>(alloc: Global, space: &mut S) -> Result<(), Fail> {
     Ok(())
 }
 
-// Looks at the numbers of symbols over a space.
+/// Looks at the numbers of symbols over a space.
 fn run_symbols<S: TermSpace>(alloc: Global, space: &mut S) -> Result<(), Fail> {
     if !is_numbered(alloc, space, &Sym::named(alloc, b"F")?)?
         || !is_numbered(alloc, space, &Sym::named(alloc, b"FG")?)?
@@ -279,7 +283,7 @@ fn run_symbols<S: TermSpace>(alloc: Global, space: &mut S) -> Result<(), Fail> {
     Ok(())
 }
 
-// Looks at the numbers of roots over a space.
+/// Looks at the numbers of roots over a space.
 fn run_roots<S: TermSpace>(alloc: Global, space: &mut S) -> Result<(), Fail> {
     for (text, is_symbol) in ROOTS {
         if has_number(alloc, space, &read_term(alloc, text)?)? != *is_symbol {
@@ -289,7 +293,7 @@ fn run_roots<S: TermSpace>(alloc: Global, space: &mut S) -> Result<(), Fail> {
     Ok(())
 }
 
-// Runs all clients over a space.
+/// Runs all clients over a space.
 fn run_clients<S: TermSpace + Drop>(alloc: Global, space: S) -> Result<(), Fail> {
     let mut space = space;
     run_symbols(alloc, &mut space)?;
@@ -309,7 +313,7 @@ fn stored_terms(rt: HostRuntime) -> Result<(), Fail> {
     run_clients(rt.alloc(), store(rt.alloc()))
 }
 
-// A space that says how many shapes it holds.
+/// A space that says how many shapes it holds.
 pub(crate) trait Holds {
     fn held(&self) -> usize;
 }
@@ -320,7 +324,7 @@ impl Holds for StoreSpace {
     }
 }
 
-// Whether the two parts of a pair are one.
+/// Whether the two parts of a pair are one.
 fn is_one_twice<S: TermSpace>(
     alloc: Global,
     space: &mut S,
@@ -335,7 +339,7 @@ fn is_one_twice<S: TermSpace>(
     Ok(false)
 }
 
-// How many shapes the space holds with a pair, with `G` more, and after it goes back; and the pair again.
+/// How many shapes the space holds with a pair, with `G` more, and after it goes back; and the pair again.
 fn goes_back<S: TermSpace + Holds>(
     alloc: Global,
     space: &mut S,
@@ -352,8 +356,8 @@ fn goes_back<S: TermSpace + Holds>(
     Ok(([entered, made, space.held()], left))
 }
 
-// Equal parts are one, and what came after a mark is given back. Returns how many shapes the space holds with the pair, with one more, and
-// after it goes back; nothing if the pair is another then.
+/// Equal parts are one, and what came after a mark is given back. Returns how many shapes the space holds with the pair, with one more, and
+/// after it goes back; nothing if the pair is another then.
 fn run_going_back<S: TermSpace + Holds + Drop>(
     alloc: Global,
     space: S,
@@ -368,8 +372,8 @@ fn run_going_back<S: TermSpace + Holds + Drop>(
     Ok(if left == pair { Some(held) } else { None })
 }
 
-// Pairs, and how many shapes the store holds with them, with one more, and after it goes back. It holds no small integer
-// without annotations.
+/// Pairs, and how many shapes the store holds with them, with one more, and after it goes back. It holds no small integer
+/// without annotations.
 const PAIRS: &[(&[u8], [usize; 3])] = &[
     (b"F(A(),A())", [2, 3, 2]),
     (b"F(1,1)", [1, 2, 1]),
@@ -392,8 +396,8 @@ fn shared(rt: HostRuntime) -> Result<(), Fail> {
     Ok(())
 }
 
-// A list is taken apart at each place and put together again: it has the number that it had, and each rest is new. Returns how many shapes
-// the space holds then; nothing where a list has another number.
+/// A list is taken apart at each place and put together again: it has the number that it had, and each rest is new. Returns how many shapes
+/// the space holds then; nothing where a list has another number.
 fn run_lists<S: TermSpace<Ref = u32> + Holds + Drop>(
     alloc: Global,
     space: S,
@@ -410,7 +414,7 @@ fn run_lists<S: TermSpace<Ref = u32> + Holds + Drop>(
     Ok(Some(space.held()))
 }
 
-// Lengths of lists, and how many shapes the space holds then.
+/// Lengths of lists, and how many shapes the space holds then.
 const LISTS: &[(i64, usize)] = &[(7, 8), (100, 101)];
 
 #[test]
@@ -423,7 +427,7 @@ fn numbers_of_lists(rt: HostRuntime) -> Result<(), Fail> {
     Ok(())
 }
 
-// Blocks of the parts from 2 on, the last first.
+/// Blocks of the parts from 2 on, the last first.
 const BLOCKS: &[Block<usize>] = &[
     Block {
         front: Front::Three(5, 6, 7),

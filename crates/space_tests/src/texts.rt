@@ -1,4 +1,4 @@
-// Texts that are read into a space and written from it, and terms that are judged where they lie in it: in both spaces.
+//! Texts that are read into a space and written from it, and terms that are judged where they lie in it: in both spaces.
 use aterm_text::{read_in, write_out};
 use signature_core::Signature;
 use std::alloc::{AllocError, Global};
@@ -8,7 +8,7 @@ use str_syntax::{Name, Sort};
 use term_model::{Fault, RcSpace, TermSpace};
 use term_store::StoreSpace;
 
-// Texts, and the canonical texts of the terms that they spell.
+/// Texts, and the canonical texts of the terms that they spell.
 const SPELLED: &[(&[u8], &[u8])] = &[
     (
         b" f ( 007 , \"a\\\"b\" , g() ) { x } ",
@@ -27,7 +27,7 @@ const SPELLED: &[(&[u8], &[u8])] = &[
     ),
 ];
 
-// Texts that are refused, with the place of the refusal.
+/// Texts that are refused, with the place of the refusal.
 const REFUSED: &[(&[u8], u64)] = &[
     (b"f(1,]", 4),
     (b"f(1){}{}", 6),
@@ -35,7 +35,7 @@ const REFUSED: &[(&[u8], u64)] = &[
     (b"9223372036854775808", 18),
 ];
 
-// Texts of terms, and whether each of their applications is declared, where `F` is with one argument.
+/// Texts of terms, and whether each of their applications is declared, where `F` is with one argument.
 const JUDGED: &[(&[u8], bool)] = &[
     (b"F(1)", true),
     (b"F(1,2)", false),
@@ -45,7 +45,7 @@ const JUDGED: &[(&[u8], bool)] = &[
     (b"\"quoted\"(1)", false),
 ];
 
-// Texts of terms, and how many parts each has.
+/// Texts of terms, and how many parts each has.
 const COUNTED: &[(&[u8], usize)] = &[
     (b"7{1}", 0),
     (b"F", 0),
@@ -55,7 +55,7 @@ const COUNTED: &[(&[u8], usize)] = &[
     (b"[1,2,3,4,5,6,7,8,9,10,11,12,13]", 13),
 ];
 
-// Whether the text is read into the space and written from it as the other text.
+/// Whether the text is read into the space and written from it as the other text.
 fn is_spelled<S: TermSpace>(
     alloc: Global,
     space: &mut S,
@@ -68,7 +68,7 @@ fn is_spelled<S: TermSpace>(
     Ok(out[..] == canonical[..])
 }
 
-// Whether the text is refused for its syntax at this place.
+/// Whether the text is refused for its syntax at this place.
 fn is_refused<S: TermSpace>(alloc: Global, space: &mut S, text: &[u8], place: u64) -> bool {
     match read_in(space, alloc, text) {
         Err(Fault::TermSyntax { at }) => at == place,
@@ -76,7 +76,7 @@ fn is_refused<S: TermSpace>(alloc: Global, space: &mut S, text: &[u8], place: u6
     }
 }
 
-// A signature in which `F` is declared with one argument.
+/// A signature in which `F` is declared with one argument.
 fn signature_of_one(alloc: Global) -> Result<Signature, Fault> {
     let mut signature = Signature::new(alloc);
     let mut arguments = Vec::with_capacity(alloc, 1)?;
@@ -90,7 +90,7 @@ fn sort(alloc: Global) -> Result<Sort, AllocError> {
     Ok(Sort::Named(name))
 }
 
-// Whether each application of the term that the text spells is declared.
+/// Whether each application of the term that the text spells is declared.
 fn is_declared<S: TermSpace>(
     alloc: Global,
     space: &mut S,
@@ -101,7 +101,7 @@ fn is_declared<S: TermSpace>(
     Ok(signature.check_in(space, &at).is_ok())
 }
 
-// How many parts of the term that the text spells a walk meets; no term is without parts where it meets some.
+/// How many parts of the term that the text spells a walk meets; no term is without parts where it meets some.
 fn count_by_walk<S: TermSpace>(alloc: Global, space: &mut S, text: &[u8]) -> Result<usize, Fault> {
     let at = read_in(space, alloc, text)?;
     let parts = space.parts(&at);

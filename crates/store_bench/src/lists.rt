@@ -1,10 +1,10 @@
-// Lists in a space.
+//! Lists in a space.
 ghost use Rattle.std.specs.Prelude.{◌≡◌, IsTrue, IfOk};
 
 use std::alloc::{AllocError, Global};
 use term_model::{Made, TermSpace};
 
-// The list of the integers below a number; an empty one where that would not fit.
+/// The list of the integers below a number; an empty one where that would not fit.
 pub(crate) fn numbered<S: TermSpace>(
     alloc: Global,
     space: &mut S,
@@ -23,7 +23,7 @@ pub(crate) fn numbered<S: TermSpace>(
     }
 }
 
-// Takes the first element of the list away until there is none, and returns how many there were.
+/// Takes the first element of the list away until there is none, and returns how many there were.
 pub(crate) fn taken_apart<S: TermSpace>(
     alloc: Global,
     space: &mut S,
@@ -42,7 +42,7 @@ pub(crate) fn taken_apart<S: TermSpace>(
     Ok(count)
 }
 
-// Puts the integers below a number in front of an empty list, one by one, and returns how many elements it then has.
+/// Puts the integers below a number in front of an empty list, one by one, and returns how many elements it then has.
 pub(crate) fn built<S: TermSpace>(
     alloc: Global,
     space: &mut S,

@@ -20,7 +20,7 @@ use term_model::{Fault, Sym, Term, TermSpace};
 use term_store::StoreSpace;
 use trees::{make_all, tree_of};
 
-// A job, for how large a tree or list, and how many times.
+/// A job, for how large a tree or list, and how many times.
 #[derive(Clone, Copy)]
 struct Job<'a> {
     name: &'a str,
@@ -28,7 +28,7 @@ struct Job<'a> {
     times: u32,
 }
 
-// The job of a line.
+/// The job of a line.
 fn job_of<'a>(line: &'a [u8]) -> Option<Job<'a>> {
     let mut words = str::from_utf8(line).ok()?.split_whitespace();
     let name = words.next()?;
@@ -41,7 +41,7 @@ fn now(rt: &HostRuntime) -> Result<Instant, Fault> {
     Instant::now(rt).map_err(|_| Fault::Read)
 }
 
-// Says how many nanoseconds a task took.
+/// Says how many nanoseconds a task took.
 fn tell(rt: &HostRuntime, task: &str, start: Instant) -> Result<(), Fault> {
     let time = start.elapsed(rt).map_err(|_| Fault::Read)?.as_nanos();
     eprintln!(rt; "{task} {time}").map_err(|_| Fault::Write)
@@ -59,7 +59,7 @@ fn make<S: TermSpace>(rt: &HostRuntime, space: &mut S, job: Job) -> Result<(), F
     Ok(())
 }
 
-// Brings the term into the space and out of it again.
+/// Brings the term into the space and out of it again.
 fn enter_and_leave<S: TermSpace>(
     rt: &HostRuntime,
     space: &mut S,
@@ -105,7 +105,7 @@ fn list<S: TermSpace>(rt: &HostRuntime, space: &mut S, size: u32) -> Result<(), 
     println!(rt; "{tails} tails, {elements} elements").map_err(|_| Fault::Write)
 }
 
-// Does the job in a new store, and says how many shapes it holds then.
+/// Does the job in a new store, and says how many shapes it holds then.
 fn run(rt: &HostRuntime, job: Job) -> Result<usize, Fault> {
     let mut store = StoreSpace::new(rt.alloc(), BuildHasherDefault::new());
     match job.name {

@@ -1,15 +1,15 @@
-// Random trees, as plans.
+//! Random trees, as plans.
 use std::alloc::{AllocError, Global};
 
-// A node of a tree whose nodes come after their parts: how many of the last terms are its parts, and the integer that it is
-// where it has none.
+/// A node of a tree whose nodes come after their parts: how many of the last terms are its parts, and the integer that it is
+/// where it has none.
 #[derive(Clone, Copy)]
 pub(crate) struct Node {
     pub(crate) count: usize,
     pub(crate) value: i64,
 }
 
-// The next number of a linear congruence, which is less than 2^31.
+/// The next number of a linear congruence, which is less than 2^31.
 fn next(state: &mut u64) -> u32 {
     *state = state
         .wrapping_mul(6_364_136_223_846_793_005)
@@ -17,7 +17,7 @@ fn next(state: &mut u64) -> u32 {
     (*state >> 33) as u32
 }
 
-// A random tree of this number of nodes, of one to three parts each.
+/// A random tree of this number of nodes, of one to three parts each.
 pub(crate) fn random_nodes(alloc: Global, size: u32) -> Result<Vec<Node>, AllocError> {
     let mut nodes = Vec::new(alloc);
     let mut open: Vec<u32> = Vec::new(alloc);

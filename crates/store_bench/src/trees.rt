@@ -1,9 +1,9 @@
-// Trees, as terms and in a space.
+//! Trees, as terms and in a space.
 use crate::nodes::Node;
 use std::alloc::{AllocError, Global};
 use term_model::{Made, Sym, Term, TermSpace};
 
-// The tree as a term; `None` where it would not fit.
+/// The tree as a term; `None` where it would not fit.
 pub(crate) fn tree_of(
     alloc: Global,
     symbol: &Sym,
@@ -25,7 +25,7 @@ pub(crate) fn tree_of(
     Ok(stack.pop())
 }
 
-// Makes each node of the tree in the space.
+/// Makes each node of the tree in the space.
 pub(crate) fn make_all<S: TermSpace>(
     alloc: Global,
     space: &mut S,

@@ -14,7 +14,7 @@ use std::rt::Clock;
 use std::time::{Duration, Instant};
 use term_model::Fault;
 
-// The canonical text of a term, and how long the term's reading and its writing took.
+/// The canonical text of a term, and how long the term's reading and its writing took.
 #[derive(Drop)]
 struct Respelled {
     text: Vec<u8>,
@@ -22,9 +22,10 @@ struct Respelled {
     writing: Duration,
 }
 
-// The canonical text of the term that the text spells.
+/// The canonical text of the term that the text spells.
 fn respell(clock: &impl Clock, alloc: Global, text: &[u8]) -> Result<Respelled, Fault>
-    ensures { IfOk result (λ answer. (t : Tree) × IsText t text.now × (answer.text.items ≡ canonical_text t)) }
+    ensures { IfOk result (λ answer. (t : Tree) × IsText t text.now ×
+        (answer.text.items ≡ canonical_text t)) }
 {
     let start = Instant::now(clock).map_err(|_| Fault::Read)?;
     let term = read_term(alloc, text)?;

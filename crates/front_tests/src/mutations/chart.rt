@@ -1,12 +1,12 @@
-// The second reading: a chart of all phrases that the words can be part of, over the table of productions.
+//! The second reading: a chart of all phrases that the words can be part of, over the table of productions.
 use super::grammar::{Grammar, Symbol, begins_build};
 use super::words::Word;
 use std::alloc::{AllocError, Global};
 
-// More than the entries of any place of a chart.
+/// More than the entries of any place of a chart.
 const MOST_ENTRIES: usize = 100_000;
 
-// A form of a phrase that begins at a place, read up to its part of this number.
+/// A form of a phrase that begins at a place, read up to its part of this number.
 #[derive(Clone, Copy, PartialEq, Eq)]
 struct Entry {
     phrase: usize,
@@ -15,17 +15,17 @@ struct Entry {
     from: usize,
 }
 
-// The entries of each place between words that were read.
+/// The entries of each place between words that were read.
 #[derive(Drop)]
-pub(super) struct Chart<'a> {
+pub(crate) struct Chart<'a> {
     grammar: &'a Grammar,
     places: Vec<Vec<Entry>>,
-    // The number of the first word with which no file goes on, or that of all words where more would have to follow.
-    pub(super) fault: Option<usize>,
+    /// The number of the first word with which no file goes on, or that of all words where more would have to follow.
+    pub(crate) fault: Option<usize>,
 }
 
 impl Entry {
-    // None of this form of this phrase, which begins at this place.
+    /// None of this form of this phrase, which begins at this place.
     fn new(phrase: usize, form: usize, from: usize) -> Entry {
         Entry {
             phrase,
@@ -35,7 +35,7 @@ impl Entry {
         }
     }
 
-    // The entry one part further.
+    /// The entry one part further.
     fn advanced(self) -> Entry {
         Entry {
             part: self.part.saturating_add(1),
@@ -44,7 +44,7 @@ impl Entry {
     }
 }
 
-// Adds the entry, where it is not there yet.
+/// Adds the entry, where it is not there yet.
 fn add(entries: &mut Vec<Entry>, entry: Entry) -> Result<(), AllocError> {
     if !entries.contains(&entry) {
         entries.push(entry)?;
@@ -52,7 +52,7 @@ fn add(entries: &mut Vec<Entry>, entry: Entry) -> Result<(), AllocError> {
     Ok(())
 }
 
-// Whether the form can begin with this word, as far as its first symbol says.
+/// Whether the form can begin with this word, as far as its first symbol says.
 fn can_begin(form: &[Symbol], word: Option<Word<'_>>) -> bool {
     match form.first() {
         None | Some(Symbol::Phrase(_)) => true,
@@ -61,13 +61,13 @@ fn can_begin(form: &[Symbol], word: Option<Word<'_>>) -> bool {
 }
 
 impl<'a> Chart<'a> {
-    // What comes next in the entry.
+    /// What comes next in the entry.
     fn next(&self, entry: Entry) -> Option<Symbol> {
         let forms = self.grammar.phrases.get(entry.phrase)?;
         forms.get(entry.form)?.get(entry.part).copied()
     }
 
-    // Adds the forms of a phrase that comes next in an entry, but for those that cannot begin with this word.
+    /// Adds the forms of a phrase that comes next in an entry, but for those that cannot begin with this word.
     fn predict(
         &self,
         entries: &mut Vec<Entry>,
@@ -88,7 +88,7 @@ impl<'a> Chart<'a> {
         Ok(())
     }
 
-    // Adds what goes on after a phrase that is whole.
+    /// Adds what goes on after a phrase that is whole.
     fn complete(&self, entries: &mut Vec<Entry>, whole: Entry) -> Result<(), AllocError> {
         let Some(waiting) = self.places.get(whole.from) else {
             return Ok(());
@@ -101,7 +101,7 @@ impl<'a> Chart<'a> {
         Ok(())
     }
 
-    // Adds what follows from an entry before this word, or before the end.
+    /// Adds what follows from an entry before this word, or before the end.
     fn follow(
         &self,
         entries: &mut Vec<Entry>,
@@ -118,7 +118,7 @@ impl<'a> Chart<'a> {
         }
     }
 
-    // Makes a place of these entries, and of all that follow from them before this word.
+    /// Makes a place of these entries, and of all that follow from them before this word.
     fn close(&mut self, entries: Vec<Entry>, word: Option<Word<'_>>) -> Result<(), AllocError> {
         let mut entries = entries;
         for number in 0..MOST_ENTRIES {
@@ -131,7 +131,7 @@ impl<'a> Chart<'a> {
         Ok(())
     }
 
-    // The entries of the last place that this word goes on with, one part further.
+    /// The entries of the last place that this word goes on with, one part further.
     fn scan(&self, alloc: Global, word: Word<'_>) -> Result<Vec<Entry>, AllocError> {
         let mut entries = Vec::new(alloc);
         let Some(last) = self.places.last() else {
@@ -145,7 +145,7 @@ impl<'a> Chart<'a> {
         Ok(entries)
     }
 
-    // Whether what was read is a file.
+    /// Whether what was read is a file.
     fn is_file(&self) -> bool {
         let Some(last) = self.places.last() else {
             return false;
@@ -153,7 +153,7 @@ impl<'a> Chart<'a> {
         last.iter().any(|entry| entry.phrase == 0 && entry.from == 0 && self.next(*entry).is_none())
     }
 
-    // The entries before the first word.
+    /// The entries before the first word.
     fn first(&self, alloc: Global) -> Result<Vec<Entry>, AllocError> {
         let mut entries = Vec::new(alloc);
         let Some(forms) = self.grammar.phrases.first() else {
@@ -165,8 +165,8 @@ impl<'a> Chart<'a> {
         Ok(entries)
     }
 
-    // Reads the words, up to the first with which no file goes on.
-    pub(super) fn read(
+    /// Reads the words, up to the first with which no file goes on.
+    pub(crate) fn read(
         alloc: Global,
         grammar: &'a Grammar,
         words: &[Word<'_>],
@@ -192,8 +192,8 @@ impl<'a> Chart<'a> {
         Ok(chart)
     }
 
-    // Whether some of the words are this form of this phrase.
-    pub(super) fn has_form(&self, phrase: usize, form: usize) -> bool {
+    /// Whether some of the words are this form of this phrase.
+    pub(crate) fn has_form(&self, phrase: usize, form: usize) -> bool {
         self.places.iter().any(|entries| {
             entries.iter().any(|entry| entry.phrase == phrase
                 && entry.form == form

@@ -1,18 +1,18 @@
-// The edits of a row of words.
+//! The edits of a row of words.
 use super::words::{Word, word_of};
 use std::alloc::{AllocError, Global};
 
-// What is done to a word.
+/// What is done to a word.
 #[derive(Clone, Copy, PartialEq, Eq)]
-pub(super) enum Edit {
+pub(crate) enum Edit {
     Dropped,
     Doubled,
-    // It changes places with the next word.
+    /// It changes places with the next word.
     Swapped,
     Replaced(&'static str),
 }
 
-// What is put in the place of the word.
+/// What is put in the place of the word.
 fn put<'a>(
     edited: &mut Vec<Word<'a>>,
     edit: Edit,
@@ -36,8 +36,8 @@ fn put<'a>(
     }
 }
 
-// The words with this edit of the word of this number.
-pub(super) fn edited<'a>(
+/// The words with this edit of the word of this number.
+pub(crate) fn edited<'a>(
     alloc: Global,
     words: &[Word<'a>],
     edit: Edit,

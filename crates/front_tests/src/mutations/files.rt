@@ -1,6 +1,6 @@
-// Valid files that have each form of the grammar, with blanks between all tokens.
+//! Valid files that have each form of the grammar, with blanks between all tokens.
 
-pub(super) const SIGNATURES: &str = "
+pub(crate) const SIGNATURES: &str = "
     signature
       sorts Exp List ( Exp ) Map ( Exp , List ( Exp ) )
       constructors
@@ -14,7 +14,7 @@ pub(super) const SIGNATURES: &str = "
     signature rules strategies
     signature sorts A";
 
-pub(super) const FORMS: &str = "
+pub(crate) const FORMS: &str = "
     rules
       r : x -> x
       s ( ) : 1 -> \"a\"
@@ -29,7 +29,7 @@ pub(super) const FORMS: &str = "
       c ( | x ) : x -> < id > y
       main = r";
 
-pub(super) const OPERATORS: &str = "
+pub(crate) const OPERATORS: &str = "
     strategies
       main = a ; b <+ c ; d <+ e => x ; f
       f = a < b + c
@@ -38,7 +38,7 @@ pub(super) const OPERATORS: &str = "
       k = ! x < s + ! < id > < id > y <+ < < id > x > y => _
       l = { x : id } ; { x , y' , z : ? x } ; ( id )";
 
-pub(super) const PRIMARIES: &str = "
+pub(crate) const PRIMARIES: &str = "
     strategies
       main = where ( a ) ; not ( id <+ fail ) ; all ( b ) ; one ( c ) ; some ( ? x ; ! y )
       f = if a then b end ; if a ; b then c else if d then e end end
@@ -48,14 +48,14 @@ pub(super) const PRIMARIES: &str = "
       l = prim ( \"p\" ) ; prim ( \"q\" , 1 , x , < id > )
       m = \\ x -> y \\ ; \\ ( x , y ) -> x where \\ z -> z \\ <+ id \\";
 
-pub(super) const CALLS: &str = "
+pub(crate) const CALLS: &str = "
     strategies
       main = f ; f ( ) ; f' ( id ) ; f ( id , fail <+ id ) ; f ( | )
       f = f ( id | 1 ) ; f ( id , id | 1 , x ) ; f ( | C ( ) ) ; f ( id | )
       g = ( ) ; ( id , fail ) ; ( a , b , ( c ) )
       h = [ ] <+ [ id ] <+ [ id , a ; b ] <+ [ a | b ] <+ [ a , b | c ]";
 
-pub(super) const MATCHES: &str = "
+pub(crate) const MATCHES: &str = "
     strategies
       main = ? x ; ? _ ; ? y @ 1 ; ? -1 ; ? \"q\" ; ? x @ y @ C ( x )
       f = ? C ( ) ; ? D ( x , _ , 0 ) ; ? f'
@@ -64,7 +64,7 @@ pub(super) const MATCHES: &str = "
     rules
       r : [ C ( x ) | _ ] -> x";
 
-pub(super) const BUILDS: &str = "
+pub(crate) const BUILDS: &str = "
     strategies
       main = ! x ; ! _ ; ! y @ 1 ; ! -1 ; ! \"q\" ; ! x @ < f > y
       f = ! C ( ) ; ! D ( < id > , < a ; b > 0 ) ; ! f'
@@ -72,15 +72,15 @@ pub(super) const BUILDS: &str = "
       h = ! [ ] ; ! [ x ] ; ! [ x , < f > ] ; ! [ x | < g > ] ; ! [ x , y | [ z ] ]
       k = ! < id > ; ! < id > 1 ; < f > < g > ( < h > )";
 
-// A file is read once for each edit of each of its words, so short ones cost less.
-pub(super) const ANNOTATED_MATCHES: &str = "
+/// A file is read once for each edit of each of its words, so short ones cost less.
+pub(crate) const ANNOTATED_MATCHES: &str = "
     rules r : x @ C ( y ) { 1 { } , _ } -> y
     strategies main = ? ( x ) { y @ z } ; id";
 
-pub(super) const ANNOTATED_BUILDS: &str = "
+pub(crate) const ANNOTATED_BUILDS: &str = "
     strategies main = ! [ ] { } ; < f > x { < id > , \"q\" { y } } <+ ! ( < f > ) { < f > 1 { } }";
 
-pub(super) const ALL: &[&str] = &[
+pub(crate) const ALL: &[&str] = &[
     SIGNATURES,
     FORMS,
     OPERATORS,

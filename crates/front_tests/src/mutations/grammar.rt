@@ -1,10 +1,10 @@
-// The grammar of definition files as a table of productions, for the second reading.
+//! The grammar of definition files as a table of productions, for the second reading.
 use super::words::{Kind, Word};
 use std::alloc::{AllocError, Global};
 
-// Each kind of phrase with its forms. In a form `name` is any name, `plain-name` one without ', `integer` and `quoted` are as they say,
-// and `no-build` is no token, but stands only in front of the end or of a token with which no build begins. A word that begins with a
-// capital is a kind of phrase, and any other is itself. Each kind of phrase that can be of no token has the empty form.
+/// Each kind of phrase with its forms. In a form `name` is any name, `plain-name` one without ', `integer` and `quoted` are as they say,
+/// and `no-build` is no token, but stands only in front of the end or of a token with which no build begins. A word that begins with a
+/// capital is a kind of phrase, and any other is itself. Each kind of phrase that can be of no token has the empty form.
 const FILES: &[(&str, &[&str])] = &[
     ("File", &["", "File Section"]),
     (
@@ -133,23 +133,23 @@ const PATTERNS: &[(&str, &[&str])] = &[
     ("MoreBuilds", &["", "MoreBuilds , Build"]),
 ];
 
-// What a form says comes next.
+/// What a form says comes next.
 #[derive(Clone, Copy, PartialEq, Eq)]
-pub(super) enum Symbol {
-    // A phrase of the kind of this number.
+pub(crate) enum Symbol {
+    /// A phrase of the kind of this number.
     Phrase(usize),
     Name,
     PlainName,
     Integer,
     Quoted,
-    // No word, but none with which a build begins comes next.
+    /// No word, but none with which a build begins comes next.
     NoBuild,
-    // This word.
+    /// This word.
     Word(&'static str),
 }
 
 impl Symbol {
-    // The symbol of the table's word, which is no kind of phrase.
+    /// The symbol of the table's word, which is no kind of phrase.
     fn of_word(word: &'static str) -> Symbol {
         match word {
             "name" => Symbol::Name,
@@ -161,8 +161,8 @@ impl Symbol {
         }
     }
 
-    // Whether the symbol is for words, and this is one of them.
-    pub(super) fn is_for(self, word: Word<'_>) -> bool {
+    /// Whether the symbol is for words, and this is one of them.
+    pub(crate) fn is_for(self, word: Word<'_>) -> bool {
         match self {
             Symbol::Phrase(_) | Symbol::NoBuild => false,
             Symbol::Name => matches!(word.kind, Kind::PlainName | Kind::PrimedName),
@@ -174,23 +174,23 @@ impl Symbol {
     }
 }
 
-// Whether a build can begin with the word.
-pub(super) fn begins_build(word: Word<'_>) -> bool {
+/// Whether a build can begin with the word.
+pub(crate) fn begins_build(word: Word<'_>) -> bool {
     word.kind != Kind::Other || matches!(word.text, "_" | "(" | "[" | "<")
 }
 
-// The forms of each kind of phrase, by its number; files are number 0.
+/// The forms of each kind of phrase, by its number; files are number 0.
 #[derive(Drop)]
-pub(super) struct Grammar {
-    pub(super) phrases: Vec<Vec<Vec<Symbol>>>,
+pub(crate) struct Grammar {
+    pub(crate) phrases: Vec<Vec<Vec<Symbol>>>,
 }
 
-// The number of the kind of phrase of this name.
+/// The number of the kind of phrase of this name.
 fn number(names: &[&'static str], name: &str) -> Option<usize> {
     names.iter().position(|other| *other == name)
 }
 
-// The symbols of a form.
+/// The symbols of a form.
 fn symbols(
     alloc: Global,
     names: &[&'static str],
@@ -206,10 +206,10 @@ fn symbols(
     Ok(symbols)
 }
 
-// The tables one after another.
+/// The tables one after another.
 const TABLES: [&[(&str, &[&str])]; 3] = [FILES, STRATEGIES, PATTERNS];
 
-// The names of the kinds of phrases, in the order of their numbers.
+/// The names of the kinds of phrases, in the order of their numbers.
 fn names(alloc: Global) -> Result<Vec<&'static str>, AllocError> {
     let mut names = Vec::new(alloc);
     for table in TABLES {
@@ -220,7 +220,7 @@ fn names(alloc: Global) -> Result<Vec<&'static str>, AllocError> {
     Ok(names)
 }
 
-// The forms of a kind of phrase.
+/// The forms of a kind of phrase.
 fn forms_of(
     alloc: Global,
     names: &[&'static str],
@@ -233,7 +233,7 @@ fn forms_of(
     Ok(made)
 }
 
-// The forms of all kinds of phrases, by these names.
+/// The forms of all kinds of phrases, by these names.
 fn phrases(alloc: Global, names: &[&'static str]) -> Result<Vec<Vec<Vec<Symbol>>>, AllocError> {
     let mut phrases = Vec::new(alloc);
     for table in TABLES {
@@ -244,8 +244,8 @@ fn phrases(alloc: Global, names: &[&'static str]) -> Result<Vec<Vec<Vec<Symbol>>
     Ok(phrases)
 }
 
-// The grammar of the tables.
-pub(super) fn tabled(alloc: Global) -> Result<Grammar, AllocError> {
+/// The grammar of the tables.
+pub(crate) fn tabled(alloc: Global) -> Result<Grammar, AllocError> {
     let names = names(alloc)?;
     let phrases = phrases(alloc, &names)?;
     Ok(Grammar { phrases })

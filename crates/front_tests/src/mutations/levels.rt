@@ -1,16 +1,16 @@
-// Files that are nested to the greatest level and one level beyond it, by each form in which a part can stand.
+//! Files that are nested to the greatest level and one level beyond it, by each form in which a part can stand.
 use super::readings::{Reading, parsed};
 use std::alloc::{AllocError, Global};
 use std::test::Fail;
 
-// The greatest level of a part.
+/// The greatest level of a part.
 const MOST_LEVELS: usize = 200;
 
-// A token with which no part begins.
+/// A token with which no part begins.
 const NO_PART: &str = "= ";
 
-// A form in which a part stands: what stands before the first part of the form, what between there and the part in question, and what
-// after that part; and by how many levels that part is further in. The first part of a form is one level further in.
+/// A form in which a part stands: what stands before the first part of the form, what between there and the part in question, and what
+/// after that part; and by how many levels that part is further in. The first part of a form is one level further in.
 type Form = (&'static str, &'static str, &'static str, usize);
 
 const STRATEGIES: &[Form] = &[
@@ -74,7 +74,7 @@ const APPLICATIONS: &[Form] = &[
 
 const SORTS: &[Form] = &[("A ( ", "", ") ", 1), ("A ( ", "B , ", ") ", 1)];
 
-// A place of a file where a part stands: what stands before it and after it, its level, and a part of one word.
+/// A place of a file where a part stands: what stands before it and after it, its level, and a part of one word.
 type Site = (&'static str, &'static str, usize, &'static str);
 
 const STRATEGY_SITES: &[Site] = &[
@@ -106,7 +106,7 @@ const SORT_SITES: &[Site] = &[
     ("signature constructors : A -> ", "", 1, "B "),
 ];
 
-// Repeats the text this number of times.
+/// Repeats the text this number of times.
 pub(crate) fn push_times(text: &mut String, piece: &str, times: usize) -> Result<(), AllocError> {
     for _ in 0..times {
         text.push_str(piece)?;
@@ -114,7 +114,7 @@ pub(crate) fn push_times(text: &mut String, piece: &str, times: usize) -> Result
     Ok(())
 }
 
-// Files with a part that is this number of forms further in than the site is.
+/// Files with a part that is this number of forms further in than the site is.
 #[derive(Clone, Copy)]
 struct Nesting {
     site: Site,
@@ -123,7 +123,7 @@ struct Nesting {
 }
 
 impl Nesting {
-    // The file with this part.
+    /// The file with this part.
     fn file(self, alloc: Global, part: &str) -> Result<String, AllocError> {
         let mut text = String::from_str(alloc, self.site.0)?;
         for _ in 0..self.times {
@@ -136,33 +136,33 @@ impl Nesting {
         Ok(text)
     }
 
-    // How many bytes stand before the part.
+    /// How many bytes stand before the part.
     fn bytes_before(self) -> usize {
         let form = self.form.0.len().saturating_add(self.form.1.len());
         let site = self.site.0.len();
         site.saturating_add(form.saturating_mul(self.times))
     }
 
-    // The level of the part.
+    /// The level of the part.
     fn level(self) -> usize {
         let levels = self.form.3.saturating_mul(self.times);
         levels.saturating_add(self.site.2)
     }
 
-    // With as many forms as the greatest level allows.
+    /// With as many forms as the greatest level allows.
     fn most(site: Site, form: Form) -> Nesting {
         let levels = MOST_LEVELS.saturating_sub(site.2);
         let times = levels.checked_div(form.3).unwrap_or(0);
         Nesting { site, form, times }
     }
 
-    // With one form more.
+    /// With one form more.
     fn one_more(self) -> Nesting {
         let times = self.times.saturating_add(1);
         Nesting { times, ..self }
     }
 
-    // Fails with its text where the file with this part is not read so.
+    /// Fails with its text where the file with this part is not read so.
     fn expect(self, alloc: Global, part: &str, expected: Reading) -> Result<(), Fail> {
         let text = self.file(alloc, part)?;
         if parsed(alloc, text.as_bytes()) != expected {
@@ -172,7 +172,7 @@ impl Nesting {
     }
 }
 
-// Where the first part at level 201 begins, with one form more than the greatest level allows.
+/// Where the first part at level 201 begins, with one form more than the greatest level allows.
 fn beyond(most: Nesting) -> usize {
     if most.level() == MOST_LEVELS {
         return most.bytes_before().saturating_add(most.form.0.len());
@@ -180,7 +180,7 @@ fn beyond(most: Nesting) -> usize {
     most.one_more().bytes_before()
 }
 
-// Compares what files are read as in which a part stands at the greatest level, or one form further in.
+/// Compares what files are read as in which a part stands at the greatest level, or one form further in.
 fn try_form(alloc: Global, site: Site, form: Form) -> Result<(), Fail> {
     let most = Nesting::most(site, form);
     most.expect(alloc, site.3, Reading::File)?;
@@ -198,7 +198,7 @@ fn try_form(alloc: Global, site: Site, form: Form) -> Result<(), Fail> {
     more.expect(alloc, NO_PART, fault)
 }
 
-// Tries all of these forms at each of these sites.
+/// Tries all of these forms at each of these sites.
 fn try_forms(alloc: Global, sites: &[Site], forms: &[Form]) -> Result<(), Fail> {
     for site in sites {
         for form in forms {
@@ -208,7 +208,7 @@ fn try_forms(alloc: Global, sites: &[Site], forms: &[Form]) -> Result<(), Fail> 
     Ok(())
 }
 
-// Sites, and the forms that can stand there.
+/// Sites, and the forms that can stand there.
 const TABLE: &[(&[Site], &[Form])] = &[
     (STRATEGY_SITES, STRATEGIES),
     (MATCH_SITES, PATTERNS),

@@ -1,11 +1,11 @@
-// Texts put at each place between two tokens of valid files, and at both ends.
+//! Texts put at each place between two tokens of valid files, and at both ends.
 use super::files;
 use super::readings::{Reading, parsed, text};
 use super::words::{Word, words};
 use std::alloc::{AllocError, Global};
 use std::test::Fail;
 
-// After each of these the file is as before.
+/// After each of these the file is as before.
 const GAPS: &[&[u8]] = &[
     b"\r\n",
     b"\t\r",
@@ -14,7 +14,7 @@ const GAPS: &[&[u8]] = &[
     b"/***/",
 ];
 
-// At each of these there is no token, this many bytes after its beginning.
+/// At each of these there is no token, this many bytes after its beginning.
 const FAULTS: &[(&[u8], u64)] = &[
     (b"/* ", 0),
     (b"/*/ ", 0),
@@ -27,10 +27,10 @@ const FAULTS: &[(&[u8], u64)] = &[
     (b"x -9223372036854775809", 2),
 ];
 
-// At each of these there is no token, this many bytes after its beginning, if nothing stands after it.
+/// At each of these there is no token, this many bytes after its beginning, if nothing stands after it.
 const ENDS: &[(&[u8], u64)] = &[(b"/* *", 0), (b"\"a", 0), (b"\"a\\\"", 0), (b"x-1 /", 4)];
 
-// The words of this front, this text, and then the words of this back.
+/// The words of this front, this text, and then the words of this back.
 fn joined(alloc: Global, front: &str, put: &[u8], back: &str) -> Result<Vec<u8>, AllocError> {
     let mut joined = front.as_bytes().to_vec(alloc)?;
     joined.extend_from_slice(put)?;
@@ -39,7 +39,7 @@ fn joined(alloc: Global, front: &str, put: &[u8], back: &str) -> Result<Vec<u8>,
     Ok(joined)
 }
 
-// Fails with the front where the text between is not read so.
+/// Fails with the front where the text between is not read so.
 fn expect(
     alloc: Global,
     front: &str,
@@ -54,7 +54,7 @@ fn expect(
     Ok(())
 }
 
-// Tries all texts between these.
+/// Tries all texts between these.
 fn try_place(alloc: Global, front: &str, back: &str) -> Result<(), Fail> {
     let at = front.len() as u64;
     for put in GAPS {
@@ -71,14 +71,14 @@ fn try_place(alloc: Global, front: &str, back: &str) -> Result<(), Fail> {
     Ok(())
 }
 
-// Tries all texts between these words.
+/// Tries all texts between these words.
 fn try_words(alloc: Global, front: &[Word<'_>], back: &[Word<'_>]) -> Result<(), Fail> {
     let front = text(alloc, front)?;
     let back = text(alloc, back)?;
     try_place(alloc, front.as_str(), back.as_str())
 }
 
-// Tries each place between two of the words, and both ends.
+/// Tries each place between two of the words, and both ends.
 fn try_places(alloc: Global, words: &[Word<'_>]) -> Result<(), Fail> {
     for number in 0..words.len() {
         let (front, back) = words.split_at(number);

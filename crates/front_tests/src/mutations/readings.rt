@@ -1,4 +1,4 @@
-// What a text is read as, by `lex` and `parse`, and what words are by the second reading.
+//! What a text is read as, by `lex` and `parse`, and what words are by the second reading.
 use super::chart::Chart;
 use super::grammar::Grammar;
 use super::words::Word;
@@ -7,7 +7,7 @@ use str_lexer::lex;
 use str_parser::parse;
 use term_model::Fault;
 
-// A file, or the refusal and the byte at which it stands.
+/// A file, or the refusal and the byte at which it stands.
 #[derive(Clone, Copy, PartialEq, Eq)]
 pub(crate) enum Reading {
     File,
@@ -28,7 +28,7 @@ fn refusal(fault: Fault) -> Reading {
     }
 }
 
-// What `lex` and `parse` read the text as.
+/// What `lex` and `parse` read the text as.
 pub(crate) fn parsed(alloc: Global, text: &[u8]) -> Reading {
     let tokens = match lex(alloc, text) {
         Ok(tokens) => tokens,
@@ -40,8 +40,8 @@ pub(crate) fn parsed(alloc: Global, text: &[u8]) -> Reading {
     }
 }
 
-// The words, with a blank after each.
-pub(super) fn text(alloc: Global, words: &[Word<'_>]) -> Result<String, AllocError> {
+/// The words, with a blank after each.
+pub(crate) fn text(alloc: Global, words: &[Word<'_>]) -> Result<String, AllocError> {
     let mut text = String::new(alloc);
     for word in words {
         text.push_str(word.text)?;
@@ -50,7 +50,7 @@ pub(super) fn text(alloc: Global, words: &[Word<'_>]) -> Result<String, AllocErr
     Ok(text)
 }
 
-// Where the word of this number begins in the text of the words; after the last word the text ends.
+/// Where the word of this number begins in the text of the words; after the last word the text ends.
 fn offset(words: &[Word<'_>], number: usize) -> u64 {
     let mut offset = 0u64;
     for word in words.iter().take(number) {
@@ -61,14 +61,14 @@ fn offset(words: &[Word<'_>], number: usize) -> u64 {
     offset
 }
 
-// Where the first of these words begins.
+/// Where the first of these words begins.
 fn first_offset(words: &[Word<'_>], sought: &str) -> Option<u64> {
     let number = words.iter().position(|word| word.text == sought)?;
     Some(offset(words, number))
 }
 
-// What the words are by the second reading: `#` is no token, and `module` a word of a part that is left out.
-pub(super) fn second_reading(
+/// What the words are by the second reading: `#` is no token, and `module` a word of a part that is left out.
+pub(crate) fn second_reading(
     alloc: Global,
     grammar: &Grammar,
     words: &[Word<'_>],

@@ -1,4 +1,4 @@
-// Files of one token, and every two tokens in some places of a file, against the second reading.
+//! Files of one token, and every two tokens in some places of a file, against the second reading.
 use super::compare;
 use super::grammar::{Grammar, tabled};
 use super::readings::{Reading, parsed};
@@ -6,7 +6,7 @@ use super::words::{Word, words};
 use std::alloc::Global;
 use std::test::Fail;
 
-// One token of each kind, but for the words of parts that are left out.
+/// One token of each kind, but for the words of parts that are left out.
 const TOKENS: &str = "
     signature sorts constructors rules strategies id fail where not if then else end all one some rec let in prim
     ( ) [ ] { } | , : ; = ! ? @ * + \\ < > -> => <+
@@ -14,7 +14,7 @@ const TOKENS: &str = "
 
 const LEFT_OUT: &str = "module imports overlays with switch case otherwise external";
 
-// Beginnings of files that any two tokens are put after.
+/// Beginnings of files that any two tokens are put after.
 const FRONTS: &[&str] = &[
     "",
     "signature sorts A",
@@ -28,7 +28,7 @@ const FRONTS: &[&str] = &[
     "strategies main = ! < id > x { 1",
 ];
 
-// What a file of this one token is read as.
+/// What a file of this one token is read as.
 fn reading_of_one(token: &str) -> Reading {
     match token {
         "signature" | "rules" | "strategies" => Reading::File,
@@ -51,7 +51,7 @@ fn files_of_one_token(rt: HostRuntime) -> Result<(), Fail> {
     Ok(())
 }
 
-// Compares the readings of the front with these tokens after it.
+/// Compares the readings of the front with these tokens after it.
 fn compare_pair<'a>(
     alloc: Global,
     grammar: &Grammar,
@@ -63,7 +63,7 @@ fn compare_pair<'a>(
     compare(alloc, grammar, &words)
 }
 
-// Compares the readings of the front with each of the tokens, and another, after it.
+/// Compares the readings of the front with each of the tokens, and another, after it.
 fn compare_pairs<'a>(
     alloc: Global,
     grammar: &Grammar,

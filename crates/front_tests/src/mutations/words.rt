@@ -1,23 +1,23 @@
-// The words of a file, each with its kind.
+//! The words of a file, each with its kind.
 use std::alloc::{AllocError, Global};
 
-// What a word is.
+/// What a word is.
 #[derive(Clone, Copy, PartialEq, Eq)]
-pub(super) enum Kind {
+pub(crate) enum Kind {
     PlainName,
-    // A name with a '.
+    /// A name with a '.
     PrimedName,
     Integer,
     Quoted,
-    // A mark, a keyword, the wildcard or no token.
+    /// A mark, a keyword, the wildcard or no token.
     Other,
 }
 
-// A word of a file.
+/// A word of a file.
 #[derive(Clone, Copy)]
-pub(super) struct Word<'a> {
-    pub(super) kind: Kind,
-    pub(super) text: &'a str,
+pub(crate) struct Word<'a> {
+    pub(crate) kind: Kind,
+    pub(crate) text: &'a str,
 }
 
 const KEYWORDS: [&str; 20] = [
@@ -43,7 +43,7 @@ const KEYWORDS: [&str; 20] = [
     "prim",
 ];
 
-// The kind of a word that begins with a letter or _.
+/// The kind of a word that begins with a letter or _.
 fn kind_of_name(text: &str) -> Kind {
     if text == "_" || KEYWORDS.iter().any(|keyword| *keyword == text) {
         return Kind::Other;
@@ -54,7 +54,7 @@ fn kind_of_name(text: &str) -> Kind {
     Kind::PlainName
 }
 
-// The kind of a word that begins and ends so.
+/// The kind of a word that begins and ends so.
 fn kind_of(first: u8, last: u8, text: &str) -> Kind {
     if first.is_ascii_alphabetic() || first == b'_' {
         return kind_of_name(text);
@@ -68,8 +68,8 @@ fn kind_of(first: u8, last: u8, text: &str) -> Kind {
     Kind::Other
 }
 
-// The word of this text.
-pub(super) fn word_of<'a>(text: &'a str) -> Word<'a> {
+/// The word of this text.
+pub(crate) fn word_of<'a>(text: &'a str) -> Word<'a> {
     let bytes = text.as_bytes();
     let kind = match (bytes.first(), bytes.last()) {
         (Some(first), Some(last)) => kind_of(*first, *last, text),
@@ -78,8 +78,8 @@ pub(super) fn word_of<'a>(text: &'a str) -> Word<'a> {
     Word { kind, text }
 }
 
-// The words of a text, which has blanks between them.
-pub(super) fn words<'a>(alloc: Global, text: &'a str) -> Result<Vec<Word<'a>>, AllocError> {
+/// The words of a text, which has blanks between them.
+pub(crate) fn words<'a>(alloc: Global, text: &'a str) -> Result<Vec<Word<'a>>, AllocError> {
     let mut words = Vec::new(alloc);
     for part in text.split_whitespace() {
         words.push(word_of(part))?;

@@ -2,10 +2,10 @@
 use crate::transform::rows::{Row, TextRow};
 
 /// The constructors of these files.
-pub(super) const CONSTRUCTORS: &str =
+pub(crate) const CONSTRUCTORS: &str =
     "signature constructors A : T B : T F : T -> T G : T * T -> T ";
 
-pub(super) const ANNOTATION_ROWS: &[TextRow] = &[
+pub(crate) const ANNOTATION_ROWS: &[TextRow] = &[
     // alternatives by the root, whatever the annotations
     (
         "rules r : F(x){A()} -> (1,x) r : F(x){} -> (2,x) r : x{y} -> (3,x,y) strategies main = r <+ !4",
@@ -187,7 +187,7 @@ pub(super) const ANNOTATION_ROWS: &[TextRow] = &[
 ];
 
 /// Files that call primitives, where the standard ones are registered.
-pub(super) const ANNOTATED_ARGUMENTS: &[TextRow] = &[
+pub(crate) const ANNOTATED_ARGUMENTS: &[TextRow] = &[
     (
         "strategies main = ?x; prim(\"length\", x{1})",
         "\"abc\"",
@@ -215,7 +215,7 @@ pub(super) const ANNOTATED_ARGUMENTS: &[TextRow] = &[
 ];
 
 /// Builds of large and deep terms. What is dropped again is not judged by its size.
-pub(super) const LARGE_ROWS: &[Row] = &[
+pub(crate) const LARGE_ROWS: &[Row] = &[
     Row {
         defs: &[("strategies main = ?x; !3{x,x}", 1)],
         term: &[("\"", 1), ("a", 8_388_607), ("\"", 1)],

@@ -1,15 +1,15 @@
 //! What can be wrong with a file, the complaint of the least number first.
 
 /// Parts of a file in which something is wrong, and the word of the fault.
-pub(super) struct Part {
-    pub(super) word: &'static str,
-    pub(super) declarations: &'static str,
-    pub(super) definitions: &'static str,
-    pub(super) has_main: bool,
+pub(crate) struct Part {
+    pub(crate) word: &'static str,
+    pub(crate) declarations: &'static str,
+    pub(crate) definitions: &'static str,
+    pub(crate) has_main: bool,
 }
 
 /// Nothing is wrong with the last part.
-pub(super) const PARTS: &[Part] = &[
+pub(crate) const PARTS: &[Part] = &[
     Part {
         word: "DuplicateDeclaration",
         declarations: "C : T C : T ",

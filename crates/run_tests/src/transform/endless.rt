@@ -96,7 +96,7 @@ fn definitions_without_an_end(rt: HostRuntime) -> Result<(), Fail> {
     Ok(())
 }
 
-// Under `rt try`, whose checks make runs slower, this takes minutes.
+/// Under `rt try`, whose checks make runs slower, this takes minutes.
 #[test]
 fn a_term_without_an_end(rt: HostRuntime) -> Result<(), Fail> {
     for (bad, ending) in TERM {

@@ -2,10 +2,10 @@
 use crate::transform::rows::TextRow;
 
 /// The constructors of these files.
-pub(super) const SIGNATURE: &str =
+pub(crate) const SIGNATURE: &str =
     "signature constructors Zero : Exp Succ : Exp -> Exp Plus : Exp * Exp -> Exp strategies ";
 
-pub(super) const FORMS: &[TextRow] = &[
+pub(crate) const FORMS: &[TextRow] = &[
     ("main = id", "7", "7", Some(2)),
     ("main = fail", "7", "#failed", Some(2)),
     ("main = ?Plus(x, x)", "Plus(1,1)", "Plus(1,1)", Some(3)),

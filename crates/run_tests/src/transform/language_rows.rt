@@ -1,7 +1,7 @@
 //! Rows of the whole language: declared constructors, scopes, calls, rules and traversals, and what the checks of a file refuse.
 use crate::transform::rows::TextRow;
 
-pub(super) const LANGUAGE_ROWS: &[TextRow] = &[
+pub(crate) const LANGUAGE_ROWS: &[TextRow] = &[
     // match-build
     (
         "signature constructors F : T -> T strategies main = ?F(x); !x",
@@ -212,7 +212,7 @@ pub(super) const LANGUAGE_ROWS: &[TextRow] = &[
 ];
 
 /// Files just inside or just outside of what the checks refuse.
-pub(super) const CHECK_ROWS: &[TextRow] = &[
+pub(crate) const CHECK_ROWS: &[TextRow] = &[
     // overloads of other numbers of sorts
     (
         "signature constructors F : T F : T -> T strategies main = !F(F())",

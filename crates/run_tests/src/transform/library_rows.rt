@@ -1,7 +1,7 @@
 //! Files that call strategies of the library, or have its names. No primitive is registered.
 use crate::transform::rows::TextRow;
 
-pub(super) const LIBRARY_ROWS: &[TextRow] = &[
+pub(crate) const LIBRARY_ROWS: &[TextRow] = &[
     // a binding persists out of where
     (
         "signature constructors Foo : T -> T strategies main = where(oncetd(?Foo(x))); !x",

@@ -1,7 +1,7 @@
 //! Long runs. A call of `repeat` whose strategy is a rule takes 12 rules for each time that the rule rewrites, and 11 where it fails.
 use crate::transform::rows::Row;
 
-pub(super) const LONG_ROWS: &[Row] = &[
+pub(crate) const LONG_ROWS: &[Row] = &[
     // 1 for the call of main, 12 for each Succ, 11 for Zero
     Row {
         defs: &[(
@@ -64,7 +64,7 @@ pub(super) const LONG_ROWS: &[Row] = &[
 ];
 
 /// Definitions that have no outcome.
-pub(super) const ENDLESS: &[&str] = &[
+pub(crate) const ENDLESS: &[&str] = &[
     "strategies main = rec x(x; id)",
     "strategies f(|x) = f(|x) main = f(|1)",
 ];

@@ -14,15 +14,15 @@ use term_model::Fault;
 
 /// The status of a run, and what was written.
 #[derive(Drop)]
-pub(super) struct Answer {
-    pub(super) status: Status,
-    pub(super) line: Vec<u8>,
+pub(crate) struct Answer {
+    pub(crate) status: Status,
+    pub(crate) line: Vec<u8>,
 }
 
 /// Transforms texts in memory: the line and the status are those of the definitions, the term, the
 /// options and the primitives of the registry.
 #[tactic(auto, using(str_pipeline::proofs::MemoryLaws::written_whole))]
-pub(super) fn transformed<M: PrimMeaning>(
+pub(crate) fn transformed<M: PrimMeaning>(
     alloc: Global,
     defs: &[u8],
     term: &[u8],
@@ -31,7 +31,8 @@ pub(super) fn transformed<M: PrimMeaning>(
 ) -> Result<Answer, Fault>
     requires budget { options.now.budget ≤ max_budget }
     requires honest { IsHonest M.answer registry.now }
-    ensures { IfOk result (λ answer. IsWritten defs.now term.now (setting_of M.answer registry.now options.now) answer.status answer.line.items) }
+    ensures { IfOk result (λ answer. IsWritten defs.now term.now
+        (setting_of M.answer registry.now options.now) answer.status answer.line.items) }
 {
     let mut first = Counted::new(defs);
     let mut second = Counted::new(term);

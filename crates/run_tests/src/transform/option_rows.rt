@@ -1,7 +1,7 @@
 //! Rows with the name of what is applied, with strict mode and with a budget.
 
 /// Definitions and a term; the name, whether the mode is strict, and the budget; the line.
-pub(super) type OptionRow = (
+pub(crate) type OptionRow = (
     &'static str,
     &'static str,
     &'static str,
@@ -14,7 +14,7 @@ const STRICT: bool = true;
 
 const LENIENT: bool = false;
 
-pub(super) const OPTION_ROWS: &[OptionRow] = &[
+pub(crate) const OPTION_ROWS: &[OptionRow] = &[
     ("strategies go = id", "F(1)", "go", LENIENT, 2, "F(1)"),
     ("strategies go = id", "F(1)", "go", LENIENT, 1, "#spent"),
     ("strategies go = id", "F(1)", "go", LENIENT, 0, "#spent"),

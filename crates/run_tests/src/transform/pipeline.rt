@@ -10,8 +10,8 @@ use crate::transform::language_rows::{CHECK_ROWS, LANGUAGE_ROWS};
 use crate::transform::library_rows::LIBRARY_ROWS;
 use crate::transform::long_rows::{ENDLESS, LONG_ROWS};
 use crate::transform::option_rows::{OPTION_ROWS, OptionRow};
-use crate::transform::rows::{JOINED_ROWS, JoinedRow, ROWS, Row, TextRow};
-use crate::transform::term_rows::TERM_ROWS;
+use crate::transform::rows::{JOINED_ROWS, JoinedRow, ROWS, Row, TEXT_ROWS, TextRow};
+use crate::transform::term_rows::{TERM_ROWS, TERM_TEXT_ROWS};
 use prim_registry::{PrimMeaning, Registry, Standard};
 use std::alloc::{AllocError, Global};
 use std::test::Fail;
@@ -21,13 +21,13 @@ use str_pipeline::{
 use term_model::Fault;
 
 /// How much a reader gives and a writer takes in a call.
-pub(super) const PIECE: usize = 65_536;
+pub(crate) const PIECE: usize = 65_536;
 
 /// Room for the longest line.
-pub(super) const ROOM: usize = 32_768;
+pub(crate) const ROOM: usize = 32_768;
 
 /// The pieces, one after the other.
-pub(super) fn text_of(alloc: Global, pieces: &[(&str, usize)]) -> Result<Vec<u8>, AllocError> {
+pub(crate) fn text_of(alloc: Global, pieces: &[(&str, usize)]) -> Result<Vec<u8>, AllocError> {
     let mut text = Vec::new(alloc);
     for (piece, times) in pieces {
         for _ in 0..*times {
@@ -58,7 +58,7 @@ fn fits(status: &Status, line: &[u8]) -> bool {
 }
 
 /// Returns the options for a run of `main` within this budget.
-pub(super) fn plain_options(alloc: Global, budget: u32) -> Result<Options, AllocError>
+pub(crate) fn plain_options(alloc: Global, budget: u32) -> Result<Options, AllocError>
     ensures { IfOk result (λ options. options.budget ≡ budget) }
 {
     Ok(Options {
@@ -242,7 +242,7 @@ fn rows(rt: HostRuntime) -> Result<(), Fail> {
     Ok(())
 }
 
-// Runs of many rules. Under `rt try`, whose checks make runs slower, they take minutes.
+/// Runs of many rules. Under `rt try`, whose checks make runs slower, they take minutes.
 #[test]
 fn long_runs(rt: HostRuntime) -> Result<(), Fail> {
     let registry = Registry::<Standard>::new(rt.alloc());
@@ -260,7 +260,7 @@ fn long_runs(rt: HostRuntime) -> Result<(), Fail> {
 }
 
 /// Checks that the definitions of each row, after this front, and its term do as the row says.
-pub(super) fn check_rows(
+pub(crate) fn check_rows(
     alloc: Global,
     front: &str,
     rows: &[TextRow],
@@ -279,7 +279,13 @@ pub(super) fn check_rows(
 #[test]
 fn text_rows(rt: HostRuntime) -> Result<(), Fail> {
     let registry = Registry::<Standard>::new(rt.alloc());
-    for rows in [LANGUAGE_ROWS, CHECK_ROWS, LIBRARY_ROWS] {
+    for rows in [
+        TEXT_ROWS,
+        TERM_TEXT_ROWS,
+        LANGUAGE_ROWS,
+        CHECK_ROWS,
+        LIBRARY_ROWS,
+    ] {
         check_rows(rt.alloc(), "", rows, &registry)?;
     }
     check_rows(rt.alloc(), CONSTRUCTORS, ANNOTATION_ROWS, &registry)?;

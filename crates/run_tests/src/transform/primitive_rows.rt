@@ -1,7 +1,7 @@
 //! Files that call primitives, where the standard ones are registered.
 use crate::transform::rows::TextRow;
 
-pub(super) const PRIMITIVE_ROWS: &[TextRow] = &[
+pub(crate) const PRIMITIVE_ROWS: &[TextRow] = &[
     (
         "strategies main = ?(x,y); prim(\"add\",x,y)",
         "(2,3)",

@@ -1,119 +1,27 @@
 //! Definitions with what they make of terms.
 
 /// Texts in a row, each repeated its number of times.
-pub(super) type Pieces = &'static [(&'static str, usize)];
+pub(crate) type Pieces = &'static [(&'static str, usize)];
 
 /// Definitions and the text of a term, the line, and the nodes of the derivation where they count.
-pub(super) struct Row {
-    pub(super) defs: Pieces,
-    pub(super) term: Pieces,
-    pub(super) line: Pieces,
-    pub(super) rules: Option<u32>,
+pub(crate) struct Row {
+    pub(crate) defs: Pieces,
+    pub(crate) term: Pieces,
+    pub(crate) line: Pieces,
+    pub(crate) rules: Option<u32>,
 }
 
 /// The same in one text each.
-pub(super) type TextRow = (&'static str, &'static str, &'static str, Option<u32>);
+pub(crate) type TextRow = (&'static str, &'static str, &'static str, Option<u32>);
 
 /// A text of the joined form, and the line.
-pub(super) struct JoinedRow {
-    pub(super) text: Pieces,
-    pub(super) line: Pieces,
+pub(crate) struct JoinedRow {
+    pub(crate) text: Pieces,
+    pub(crate) line: Pieces,
 }
 
-pub(super) const ROWS: &[Row] = &[
-    Row {
-        defs: &[("strategies main = id", 1)],
-        term: &[("F(1)", 1)],
-        line: &[("F(1)", 1)],
-        rules: Some(2),
-    },
-    Row {
-        defs: &[("strategies main = ?(x,_); !x", 1)],
-        term: &[("(7,f(1))", 1)],
-        line: &[("7", 1)],
-        rules: Some(5),
-    },
-    Row {
-        defs: &[("strategies main = id", 1)],
-        term: &[("failed", 1)],
-        line: &[("failed", 1)],
-        rules: Some(2),
-    },
-    Row {
-        defs: &[("strategies main = fail", 1)],
-        term: &[("failed", 1)],
-        line: &[("#failed", 1)],
-        rules: Some(2),
-    },
-    Row {
-        defs: &[("strategies main = id", 1)],
-        term: &[("F(1", 1)],
-        line: &[("#refused TermSyntax", 1)],
-        rules: None,
-    },
-    Row {
-        defs: &[("strategies main = id", 1)],
-        term: &[("1.5", 1)],
-        line: &[("#refused TermSyntax", 1)],
-        rules: None,
-    },
-    Row {
-        defs: &[("strategies main = id", 1)],
-        term: &[("F(1) 2", 1)],
-        line: &[("#refused TermSyntax", 1)],
-        rules: None,
-    },
-    Row {
-        defs: &[("strategies main = id", 1)],
-        term: &[("", 1)],
-        line: &[("#refused TermSyntax", 1)],
-        rules: None,
-    },
-    Row {
-        defs: &[("strategies main = id", 1)],
-        term: &[("t{a}{b}", 1)],
-        line: &[("#refused TermSyntax", 1)],
-        rules: None,
-    },
-    Row {
-        defs: &[("strategies main = id", 1)],
-        term: &[("9223372036854775808", 1)],
-        line: &[("#refused TermSyntax", 1)],
-        rules: None,
-    },
-    Row {
-        defs: &[("strategies main = id", 1)],
-        term: &[("-9223372036854775809", 1)],
-        line: &[("#refused TermSyntax", 1)],
-        rules: None,
-    },
-    Row {
-        defs: &[("strategies main = id", 1)],
-        term: &[("2147483648{-2147483649}", 1)],
-        line: &[("2147483648{-2147483649}", 1)],
-        rules: Some(2),
-    },
-    Row {
-        defs: &[("strategies main = ?9223372036854775808", 1)],
-        term: &[("1", 1)],
-        line: &[("#refused Lexical", 1)],
-        rules: None,
-    },
-    Row {
-        defs: &[("strategies main = ?-9223372036854775809", 1)],
-        term: &[("1", 1)],
-        line: &[("#refused Lexical", 1)],
-        rules: None,
-    },
-    Row {
-        defs: &[(
-            "strategies main = ?9223372036854775807; !-9223372036854775808",
-            1,
-        )],
-        term: &[("9223372036854775807", 1)],
-        line: &[("-9223372036854775808", 1)],
-        rules: Some(4),
-    },
+/// Rows with a text of several pieces, or of one that is repeated.
+pub(crate) const ROWS: &[Row] = &[
     Row {
         defs: &[("strategies main = ?", 1), ("0", 2000), ("7", 1)],
         term: &[("-", 1), ("0", 2000), ("9223372036854775808", 1)],
@@ -125,30 +33,6 @@ pub(super) const ROWS: &[Row] = &[
         term: &[("[-", 1), ("0", 2000), ("9223372036854775808,-0]", 1)],
         line: &[("[-9223372036854775808,0]", 1)],
         rules: Some(2),
-    },
-    Row {
-        defs: &[("strategies main = id", 1)],
-        term: &[("-", 1)],
-        line: &[("#refused TermSyntax", 1)],
-        rules: None,
-    },
-    Row {
-        defs: &[("strategies main = (?(x,1) <+ ?(1,x)); !x", 1)],
-        term: &[("(1,2)", 1)],
-        line: &[("2", 1)],
-        rules: Some(7),
-    },
-    Row {
-        defs: &[("strategies main = ?(x,1); !x", 1)],
-        term: &[("(1,2)", 1)],
-        line: &[("#failed", 1)],
-        rules: Some(4),
-    },
-    Row {
-        defs: &[("strategies main = foo", 1)],
-        term: &[("1", 1)],
-        line: &[("#refused UnknownStrategy", 1)],
-        rules: None,
     },
     Row {
         defs: &[("strategies main = ", 1), ("(", 200), ("id", 1), (")", 200)],
@@ -169,27 +53,9 @@ pub(super) const ROWS: &[Row] = &[
         rules: None,
     },
     Row {
-        defs: &[("strategies main = #", 1)],
-        term: &[("1", 1)],
-        line: &[("#refused Lexical", 1)],
-        rules: None,
-    },
-    Row {
-        defs: &[("strategies main = id;", 1)],
-        term: &[("1", 1)],
-        line: &[("#refused Syntax", 1)],
-        rules: None,
-    },
-    Row {
         defs: &[("strategies main = ", 1), ("(", 199), ("id", 1), (")", 199)],
         term: &[("1", 1)],
         line: &[("1", 1)],
-        rules: None,
-    },
-    Row {
-        defs: &[("strategies main = #", 1)],
-        term: &[("F(1", 1)],
-        line: &[("#refused Lexical", 1)],
         rules: None,
     },
     Row {
@@ -224,24 +90,6 @@ pub(super) const ROWS: &[Row] = &[
         rules: Some(3),
     },
     Row {
-        defs: &[("// swaps\nstrategies main = ?(x,/*,*/y); !(y,x) //", 1)],
-        term: &[("(1,2)", 1)],
-        line: &[("(2,1)", 1)],
-        rules: Some(5),
-    },
-    Row {
-        defs: &[("rules r: x -> x strategies main = !1", 1)],
-        term: &[("2", 1)],
-        line: &[("1", 1)],
-        rules: Some(2),
-    },
-    Row {
-        defs: &[("strategies main = !_", 1)],
-        term: &[("1", 1)],
-        line: &[("#refused NotBuildable", 1)],
-        rules: None,
-    },
-    Row {
         defs: &[("strategies main = ", 1), ("id;", 199), ("id", 1)],
         term: &[("1", 1)],
         line: &[("1", 1)],
@@ -258,18 +106,6 @@ pub(super) const ROWS: &[Row] = &[
         term: &[("()", 1)],
         line: &[("()", 1)],
         rules: Some(2),
-    },
-    Row {
-        defs: &[("module m", 1)],
-        term: &[("1", 1)],
-        line: &[("#refused ReservedWord", 1)],
-        rules: None,
-    },
-    Row {
-        defs: &[("strategies main = id;", 1)],
-        term: &[("F(1", 1)],
-        line: &[("#refused Syntax", 1)],
-        rules: None,
     },
     Row {
         defs: &[("strategies main = id", 1)],
@@ -293,7 +129,93 @@ pub(super) const ROWS: &[Row] = &[
     },
 ];
 
-pub(super) const JOINED_ROWS: &[JoinedRow] = &[
+/// Rows whose texts are each one piece.
+pub(crate) const TEXT_ROWS: &[TextRow] = &[
+    ("strategies main = id", "F(1)", "F(1)", Some(2)),
+    ("strategies main = ?(x,_); !x", "(7,f(1))", "7", Some(5)),
+    ("strategies main = id", "failed", "failed", Some(2)),
+    ("strategies main = fail", "failed", "#failed", Some(2)),
+    ("strategies main = id", "F(1", "#refused TermSyntax", None),
+    ("strategies main = id", "1.5", "#refused TermSyntax", None),
+    (
+        "strategies main = id",
+        "F(1) 2",
+        "#refused TermSyntax",
+        None,
+    ),
+    ("strategies main = id", "", "#refused TermSyntax", None),
+    (
+        "strategies main = id",
+        "t{a}{b}",
+        "#refused TermSyntax",
+        None,
+    ),
+    (
+        "strategies main = id",
+        "9223372036854775808",
+        "#refused TermSyntax",
+        None,
+    ),
+    (
+        "strategies main = id",
+        "-9223372036854775809",
+        "#refused TermSyntax",
+        None,
+    ),
+    (
+        "strategies main = id",
+        "2147483648{-2147483649}",
+        "2147483648{-2147483649}",
+        Some(2),
+    ),
+    (
+        "strategies main = ?9223372036854775808",
+        "1",
+        "#refused Lexical",
+        None,
+    ),
+    (
+        "strategies main = ?-9223372036854775809",
+        "1",
+        "#refused Lexical",
+        None,
+    ),
+    (
+        "strategies main = ?9223372036854775807; !-9223372036854775808",
+        "9223372036854775807",
+        "-9223372036854775808",
+        Some(4),
+    ),
+    ("strategies main = id", "-", "#refused TermSyntax", None),
+    (
+        "strategies main = (?(x,1) <+ ?(1,x)); !x",
+        "(1,2)",
+        "2",
+        Some(7),
+    ),
+    ("strategies main = ?(x,1); !x", "(1,2)", "#failed", Some(4)),
+    (
+        "strategies main = foo",
+        "1",
+        "#refused UnknownStrategy",
+        None,
+    ),
+    ("strategies main = #", "1", "#refused Lexical", None),
+    ("strategies main = id;", "1", "#refused Syntax", None),
+    ("strategies main = #", "F(1", "#refused Lexical", None),
+    (
+        "// swaps\nstrategies main = ?(x,/*,*/y); !(y,x) //",
+        "(1,2)",
+        "(2,1)",
+        Some(5),
+    ),
+    ("rules r: x -> x strategies main = !1", "2", "1", Some(2)),
+    ("strategies main = !_", "1", "#refused NotBuildable", None),
+    ("module m", "1", "#refused ReservedWord", None),
+    ("strategies main = id;", "F(1", "#refused Syntax", None),
+];
+
+pub(crate) const JOINED_ROWS: &[JoinedRow] = &[
     JoinedRow {
         text: &[("strategies main = id", 1)],
         line: &[("#refused TermSyntax", 1)],

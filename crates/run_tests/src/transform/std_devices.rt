@@ -120,7 +120,7 @@ fn fails_to_read<R: Read + Drop>(alloc: Global, device: R) -> bool {
     matches!(read_all(alloc, &mut source, 100), Err(Fault::Read))
 }
 
-// A directory is opened as a file, and each read of it fails.
+/// A directory is opened as a file, and each read of it fails.
 #[test]
 fn a_directory(rt: HostRuntime) -> Result<(), Fail> {
     let folder = File::open(&rt, "/")?;
@@ -133,7 +133,7 @@ fn a_directory(rt: HostRuntime) -> Result<(), Fail> {
     Ok(())
 }
 
-// What does not show its bytes is read all the same, and does not fail.
+/// What does not show its bytes is read all the same, and does not fail.
 #[test]
 fn a_reader_that_shows_nothing(rt: HostRuntime) -> Result<(), Fail> {
     let mut source = Counted::new(repeat(b'h').take(5));

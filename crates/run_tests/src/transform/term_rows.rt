@@ -1,14 +1,8 @@
 //! Rows of the whole term text: what `id` and small programs make of terms.
-use crate::transform::rows::Row;
+use crate::transform::rows::{Row, TextRow};
 
-pub(super) const TERM_ROWS: &[Row] = &[
-    // spelling
-    Row {
-        defs: &[("strategies main = id", 1)],
-        term: &[(" f ( 007 , \"a\\\"b\" , g() ) { x }", 1)],
-        line: &[("f(7,\"a\\\"b\",g){x}", 1)],
-        rules: Some(2),
-    },
+/// Rows with a text of several pieces, or of one that is repeated.
+pub(crate) const TERM_ROWS: &[Row] = &[
     // depth-1000
     Row {
         defs: &[("strategies main = id", 1)],
@@ -44,237 +38,6 @@ pub(super) const TERM_ROWS: &[Row] = &[
         line: &[("#refused TermSyntax", 1)],
         rules: None,
     },
-    // annotations-differ
-    Row {
-        defs: &[("strategies main = ?(x,x)", 1)],
-        term: &[("(1{a},1)", 1)],
-        line: &[("#failed", 1)],
-        rules: Some(3),
-    },
-    // value-keeps-annotations
-    Row {
-        defs: &[("strategies main = ?(x,_); !x", 1)],
-        term: &[("(7{a},1){b}", 1)],
-        line: &[("7{a}", 1)],
-        rules: Some(5),
-    },
-    // prefix-0
-    Row {
-        defs: &[("strategies main = id", 1)],
-        term: &[("", 1)],
-        line: &[("#refused TermSyntax", 1)],
-        rules: None,
-    },
-    // prefix-1
-    Row {
-        defs: &[("strategies main = id", 1)],
-        term: &[("f", 1)],
-        line: &[("f", 1)],
-        rules: None,
-    },
-    // prefix-2
-    Row {
-        defs: &[("strategies main = id", 1)],
-        term: &[("f ", 1)],
-        line: &[("f", 1)],
-        rules: None,
-    },
-    // prefix-3
-    Row {
-        defs: &[("strategies main = id", 1)],
-        term: &[("f (", 1)],
-        line: &[("#refused TermSyntax", 1)],
-        rules: None,
-    },
-    // prefix-4
-    Row {
-        defs: &[("strategies main = id", 1)],
-        term: &[("f ( ", 1)],
-        line: &[("#refused TermSyntax", 1)],
-        rules: None,
-    },
-    // prefix-5
-    Row {
-        defs: &[("strategies main = id", 1)],
-        term: &[("f ( 0", 1)],
-        line: &[("#refused TermSyntax", 1)],
-        rules: None,
-    },
-    // prefix-6
-    Row {
-        defs: &[("strategies main = id", 1)],
-        term: &[("f ( 00", 1)],
-        line: &[("#refused TermSyntax", 1)],
-        rules: None,
-    },
-    // prefix-7
-    Row {
-        defs: &[("strategies main = id", 1)],
-        term: &[("f ( 007", 1)],
-        line: &[("#refused TermSyntax", 1)],
-        rules: None,
-    },
-    // prefix-8
-    Row {
-        defs: &[("strategies main = id", 1)],
-        term: &[("f ( 007 ", 1)],
-        line: &[("#refused TermSyntax", 1)],
-        rules: None,
-    },
-    // prefix-9
-    Row {
-        defs: &[("strategies main = id", 1)],
-        term: &[("f ( 007 ,", 1)],
-        line: &[("#refused TermSyntax", 1)],
-        rules: None,
-    },
-    // prefix-10
-    Row {
-        defs: &[("strategies main = id", 1)],
-        term: &[("f ( 007 , ", 1)],
-        line: &[("#refused TermSyntax", 1)],
-        rules: None,
-    },
-    // prefix-11
-    Row {
-        defs: &[("strategies main = id", 1)],
-        term: &[("f ( 007 , \"", 1)],
-        line: &[("#refused TermSyntax", 1)],
-        rules: None,
-    },
-    // prefix-12
-    Row {
-        defs: &[("strategies main = id", 1)],
-        term: &[("f ( 007 , \"a", 1)],
-        line: &[("#refused TermSyntax", 1)],
-        rules: None,
-    },
-    // prefix-13
-    Row {
-        defs: &[("strategies main = id", 1)],
-        term: &[("f ( 007 , \"a\\", 1)],
-        line: &[("#refused TermSyntax", 1)],
-        rules: None,
-    },
-    // prefix-14
-    Row {
-        defs: &[("strategies main = id", 1)],
-        term: &[("f ( 007 , \"a\\\"", 1)],
-        line: &[("#refused TermSyntax", 1)],
-        rules: None,
-    },
-    // prefix-15
-    Row {
-        defs: &[("strategies main = id", 1)],
-        term: &[("f ( 007 , \"a\\\"b", 1)],
-        line: &[("#refused TermSyntax", 1)],
-        rules: None,
-    },
-    // prefix-16
-    Row {
-        defs: &[("strategies main = id", 1)],
-        term: &[("f ( 007 , \"a\\\"b\"", 1)],
-        line: &[("#refused TermSyntax", 1)],
-        rules: None,
-    },
-    // prefix-17
-    Row {
-        defs: &[("strategies main = id", 1)],
-        term: &[("f ( 007 , \"a\\\"b\" ", 1)],
-        line: &[("#refused TermSyntax", 1)],
-        rules: None,
-    },
-    // prefix-18
-    Row {
-        defs: &[("strategies main = id", 1)],
-        term: &[("f ( 007 , \"a\\\"b\" ,", 1)],
-        line: &[("#refused TermSyntax", 1)],
-        rules: None,
-    },
-    // prefix-19
-    Row {
-        defs: &[("strategies main = id", 1)],
-        term: &[("f ( 007 , \"a\\\"b\" , ", 1)],
-        line: &[("#refused TermSyntax", 1)],
-        rules: None,
-    },
-    // prefix-20
-    Row {
-        defs: &[("strategies main = id", 1)],
-        term: &[("f ( 007 , \"a\\\"b\" , g", 1)],
-        line: &[("#refused TermSyntax", 1)],
-        rules: None,
-    },
-    // prefix-21
-    Row {
-        defs: &[("strategies main = id", 1)],
-        term: &[("f ( 007 , \"a\\\"b\" , g(", 1)],
-        line: &[("#refused TermSyntax", 1)],
-        rules: None,
-    },
-    // prefix-22
-    Row {
-        defs: &[("strategies main = id", 1)],
-        term: &[("f ( 007 , \"a\\\"b\" , g()", 1)],
-        line: &[("#refused TermSyntax", 1)],
-        rules: None,
-    },
-    // prefix-23
-    Row {
-        defs: &[("strategies main = id", 1)],
-        term: &[("f ( 007 , \"a\\\"b\" , g() ", 1)],
-        line: &[("#refused TermSyntax", 1)],
-        rules: None,
-    },
-    // prefix-24
-    Row {
-        defs: &[("strategies main = id", 1)],
-        term: &[("f ( 007 , \"a\\\"b\" , g() )", 1)],
-        line: &[("f(7,\"a\\\"b\",g)", 1)],
-        rules: None,
-    },
-    // prefix-25
-    Row {
-        defs: &[("strategies main = id", 1)],
-        term: &[("f ( 007 , \"a\\\"b\" , g() ) ", 1)],
-        line: &[("f(7,\"a\\\"b\",g)", 1)],
-        rules: None,
-    },
-    // prefix-26
-    Row {
-        defs: &[("strategies main = id", 1)],
-        term: &[("f ( 007 , \"a\\\"b\" , g() ) {", 1)],
-        line: &[("#refused TermSyntax", 1)],
-        rules: None,
-    },
-    // prefix-27
-    Row {
-        defs: &[("strategies main = id", 1)],
-        term: &[("f ( 007 , \"a\\\"b\" , g() ) { ", 1)],
-        line: &[("#refused TermSyntax", 1)],
-        rules: None,
-    },
-    // prefix-28
-    Row {
-        defs: &[("strategies main = id", 1)],
-        term: &[("f ( 007 , \"a\\\"b\" , g() ) { x", 1)],
-        line: &[("#refused TermSyntax", 1)],
-        rules: None,
-    },
-    // prefix-29
-    Row {
-        defs: &[("strategies main = id", 1)],
-        term: &[("f ( 007 , \"a\\\"b\" , g() ) { x ", 1)],
-        line: &[("#refused TermSyntax", 1)],
-        rules: None,
-    },
-    // prefix-30
-    Row {
-        defs: &[("strategies main = id", 1)],
-        term: &[("f ( 007 , \"a\\\"b\" , g() ) { x }", 1)],
-        line: &[("f(7,\"a\\\"b\",g){x}", 1)],
-        rules: None,
-    },
     // depth-1001-applied
     Row {
         defs: &[("strategies main = id", 1)],
@@ -282,4 +45,211 @@ pub(super) const TERM_ROWS: &[Row] = &[
         line: &[("#refused TermOversize", 1)],
         rules: None,
     },
+];
+
+/// Rows whose texts are each one piece.
+pub(crate) const TERM_TEXT_ROWS: &[TextRow] = &[
+    // spelling
+    (
+        "strategies main = id",
+        " f ( 007 , \"a\\\"b\" , g() ) { x }",
+        "f(7,\"a\\\"b\",g){x}",
+        Some(2),
+    ),
+    // annotations-differ
+    ("strategies main = ?(x,x)", "(1{a},1)", "#failed", Some(3)),
+    // value-keeps-annotations
+    (
+        "strategies main = ?(x,_); !x",
+        "(7{a},1){b}",
+        "7{a}",
+        Some(5),
+    ),
+    // prefix-0
+    ("strategies main = id", "", "#refused TermSyntax", None),
+    // prefix-1
+    ("strategies main = id", "f", "f", None),
+    // prefix-2
+    ("strategies main = id", "f ", "f", None),
+    // prefix-3
+    ("strategies main = id", "f (", "#refused TermSyntax", None),
+    // prefix-4
+    ("strategies main = id", "f ( ", "#refused TermSyntax", None),
+    // prefix-5
+    ("strategies main = id", "f ( 0", "#refused TermSyntax", None),
+    // prefix-6
+    (
+        "strategies main = id",
+        "f ( 00",
+        "#refused TermSyntax",
+        None,
+    ),
+    // prefix-7
+    (
+        "strategies main = id",
+        "f ( 007",
+        "#refused TermSyntax",
+        None,
+    ),
+    // prefix-8
+    (
+        "strategies main = id",
+        "f ( 007 ",
+        "#refused TermSyntax",
+        None,
+    ),
+    // prefix-9
+    (
+        "strategies main = id",
+        "f ( 007 ,",
+        "#refused TermSyntax",
+        None,
+    ),
+    // prefix-10
+    (
+        "strategies main = id",
+        "f ( 007 , ",
+        "#refused TermSyntax",
+        None,
+    ),
+    // prefix-11
+    (
+        "strategies main = id",
+        "f ( 007 , \"",
+        "#refused TermSyntax",
+        None,
+    ),
+    // prefix-12
+    (
+        "strategies main = id",
+        "f ( 007 , \"a",
+        "#refused TermSyntax",
+        None,
+    ),
+    // prefix-13
+    (
+        "strategies main = id",
+        "f ( 007 , \"a\\",
+        "#refused TermSyntax",
+        None,
+    ),
+    // prefix-14
+    (
+        "strategies main = id",
+        "f ( 007 , \"a\\\"",
+        "#refused TermSyntax",
+        None,
+    ),
+    // prefix-15
+    (
+        "strategies main = id",
+        "f ( 007 , \"a\\\"b",
+        "#refused TermSyntax",
+        None,
+    ),
+    // prefix-16
+    (
+        "strategies main = id",
+        "f ( 007 , \"a\\\"b\"",
+        "#refused TermSyntax",
+        None,
+    ),
+    // prefix-17
+    (
+        "strategies main = id",
+        "f ( 007 , \"a\\\"b\" ",
+        "#refused TermSyntax",
+        None,
+    ),
+    // prefix-18
+    (
+        "strategies main = id",
+        "f ( 007 , \"a\\\"b\" ,",
+        "#refused TermSyntax",
+        None,
+    ),
+    // prefix-19
+    (
+        "strategies main = id",
+        "f ( 007 , \"a\\\"b\" , ",
+        "#refused TermSyntax",
+        None,
+    ),
+    // prefix-20
+    (
+        "strategies main = id",
+        "f ( 007 , \"a\\\"b\" , g",
+        "#refused TermSyntax",
+        None,
+    ),
+    // prefix-21
+    (
+        "strategies main = id",
+        "f ( 007 , \"a\\\"b\" , g(",
+        "#refused TermSyntax",
+        None,
+    ),
+    // prefix-22
+    (
+        "strategies main = id",
+        "f ( 007 , \"a\\\"b\" , g()",
+        "#refused TermSyntax",
+        None,
+    ),
+    // prefix-23
+    (
+        "strategies main = id",
+        "f ( 007 , \"a\\\"b\" , g() ",
+        "#refused TermSyntax",
+        None,
+    ),
+    // prefix-24
+    (
+        "strategies main = id",
+        "f ( 007 , \"a\\\"b\" , g() )",
+        "f(7,\"a\\\"b\",g)",
+        None,
+    ),
+    // prefix-25
+    (
+        "strategies main = id",
+        "f ( 007 , \"a\\\"b\" , g() ) ",
+        "f(7,\"a\\\"b\",g)",
+        None,
+    ),
+    // prefix-26
+    (
+        "strategies main = id",
+        "f ( 007 , \"a\\\"b\" , g() ) {",
+        "#refused TermSyntax",
+        None,
+    ),
+    // prefix-27
+    (
+        "strategies main = id",
+        "f ( 007 , \"a\\\"b\" , g() ) { ",
+        "#refused TermSyntax",
+        None,
+    ),
+    // prefix-28
+    (
+        "strategies main = id",
+        "f ( 007 , \"a\\\"b\" , g() ) { x",
+        "#refused TermSyntax",
+        None,
+    ),
+    // prefix-29
+    (
+        "strategies main = id",
+        "f ( 007 , \"a\\\"b\" , g() ) { x ",
+        "#refused TermSyntax",
+        None,
+    ),
+    // prefix-30
+    (
+        "strategies main = id",
+        "f ( 007 , \"a\\\"b\" , g() ) { x }",
+        "f(7,\"a\\\"b\",g){x}",
+        None,
+    ),
 ];

@@ -3,4 +3,5 @@ use Rattle.prim_registry.specs.Entries.{Covers}
 use Rattle.run_compare.proofs.runs.run_compiled.Goals as goal
 
 pub run-requires-clause-covers : goal.run-requires-clause-covers
-run-requires-clause-covers g c = subst (λ names. Covers c.args.registry.now names) (sym c.in_ok-code.ensures.prims) c.requires.covers
+run-requires-clause-covers g c =
+    subst (λ names. Covers c.args.registry.now names) (sym c.in_ok-code.ensures.prims) c.requires.covers

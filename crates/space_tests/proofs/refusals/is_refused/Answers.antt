@@ -3,4 +3,5 @@ use Rattle.prim_registry.specs.Entries.{Covers}
 use Rattle.space_tests.proofs.refusals.is_refused.Goals as goal
 
 pub run-run-requires-clause-covers : goal.run-run-requires-clause-covers
-run-run-requires-clause-covers g c = subst (λ names. Covers c.args.registry.now names) c.prims.ensures (c.covers.ensures.0 c.if-not-covers.false)
+run-run-requires-clause-covers g c =
+    subst (λ names. Covers c.args.registry.now names) c.prims.ensures (c.covers.ensures.0 c.if-not-covers.false)

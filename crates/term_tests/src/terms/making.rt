@@ -4,7 +4,7 @@ use std::test::Fail;
 use term_model::{Head, Made, Sym, Term};
 
 /// The term, where it fits.
-pub(super) fn fitting(made: Made<Term>) -> Result<Term, Fail> {
+pub(crate) fn fitting(made: Made<Term>) -> Result<Term, Fail> {
     match made {
         Made::Fits(term) => Ok(term),
         Made::Oversize => Err(Fail::new("oversize")),
@@ -12,7 +12,7 @@ pub(super) fn fitting(made: Made<Term>) -> Result<Term, Fail> {
 }
 
 /// The plain symbol of this name.
-pub(super) fn symbol(alloc: Global, name: &[u8]) -> Result<Sym, Fail> {
+pub(crate) fn symbol(alloc: Global, name: &[u8]) -> Result<Sym, Fail> {
     match Sym::plain(alloc, name)? {
         Some(symbol) => Ok(symbol),
         None => Err(Fail::new("no name")),
@@ -20,7 +20,7 @@ pub(super) fn symbol(alloc: Global, name: &[u8]) -> Result<Sym, Fail> {
 }
 
 /// The string of these bytes.
-pub(super) fn string(alloc: Global, bytes: &[u8]) -> Result<Term, Fail> {
+pub(crate) fn string(alloc: Global, bytes: &[u8]) -> Result<Term, Fail> {
     let symbol = Sym::quoted(alloc, bytes)?;
     fitting(Term::app(alloc, symbol, Vec::new(alloc))?)
 }

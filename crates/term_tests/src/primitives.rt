@@ -429,7 +429,7 @@ fn has_first(registry: &Registry<Standard>, count: usize) -> bool {
     registry.len() == count
 }
 
-// A primitive that cannot be registered since memory is out leaves the registry as it was.
+/// A primitive that cannot be registered since memory is out leaves the registry as it was.
 #[test]
 fn primitives_one_by_one(rt: HostRuntime) -> Result<(), Fail> {
     let alloc = rt.alloc();
@@ -457,7 +457,7 @@ fn primitives_one_by_one(rt: HostRuntime) -> Result<(), Fail> {
     Ok(())
 }
 
-// A primitive that is refused memory makes the call end with the fault `Memory`.
+/// A primitive that is refused memory makes the call end with the fault `Memory`.
 #[test]
 fn a_call_without_memory(rt: HostRuntime) -> Result<(), Fail> {
     let alloc = rt.alloc();

@@ -1,0 +1,7 @@
+use Rattle.std.proofs.Common.{subst}
+use Rattle.prim_registry.specs.Entries.{Covers}
+use Rattle.term_tests.proofs.evaluator.run.Goals as goal
+
+pub eval-requires-clause-covers : goal.eval-requires-clause-covers
+eval-requires-clause-covers g c =
+    subst (λ names. Covers c.args.registry.now names) c.prims.ensures.same (c.covers.ensures.0 c.if-not-covers.false)
