@@ -1,16 +1,22 @@
--- How many parameters a definition has, and how many arguments a call.
-use Rattle.std.specs.Prelude.{ℕ, suc, length}
-use Rattle.str_syntax.specs.Trees.{ParameterTree, absent, strategies_only, with_terms, PatternTrees, no_patterns, more_patterns, StrategyTrees, no_strategies, more_strategies, ArgumentTree, no_arguments, strategy_arguments, all_arguments}
+-- The parameters of a definition, and how many there are; how many arguments a call has.
+use Rattle.std.specs.Prelude.{ℕ, suc, List, [], length}
+use Rattle.str_syntax.specs.Trees.{Bytes, ParameterTree, absent, strategies_only, with_terms, PatternTrees, no_patterns, more_patterns, StrategyTrees, no_strategies, more_strategies, ArgumentTree, no_arguments, strategy_arguments, all_arguments}
+
+abbrev pub strategy_names : ParameterTree → List Bytes
+strategy_names absent = []
+strategy_names (strategies_only fs) = fs
+strategy_names (with_terms fs xs) = fs
+
+abbrev pub term_names : ParameterTree → List Bytes
+term_names absent = []
+term_names (strategies_only fs) = []
+term_names (with_terms fs xs) = xs
 
 abbrev pub strategy_parameters : ParameterTree → ℕ
-strategy_parameters absent = 0
-strategy_parameters (strategies_only fs) = length fs
-strategy_parameters (with_terms fs xs) = length fs
+strategy_parameters ps = length (strategy_names ps)
 
 abbrev pub term_parameters : ParameterTree → ℕ
-term_parameters absent = 0
-term_parameters (strategies_only fs) = 0
-term_parameters (with_terms fs xs) = length xs
+term_parameters ps = length (term_names ps)
 
 abbrev pub number_of_patterns : PatternTrees → ℕ
 number_of_patterns no_patterns = 0

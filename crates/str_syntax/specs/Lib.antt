@@ -3,5 +3,7 @@ pub mod Views
 pub mod Spelling
 pub mod SameName
 pub mod Arity
+pub mod Key
+pub mod SameKey
 pub mod SameSort
 pub mod SortHashing

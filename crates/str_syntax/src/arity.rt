@@ -1,31 +1,46 @@
-//! How many parameters a definition has, and how many arguments a call.
+//! The parameters of a definition, and how many there are; how many arguments a call has.
 ghost use Rattle.std.specs.Prelude.{◌≡◌};
-ghost use Rattle.str_syntax.specs.Arity.{given_strategies, given_terms, strategy_parameters, term_parameters};
+ghost use Rattle.str_syntax.specs.Arity.{given_strategies, given_terms, strategy_names, strategy_parameters, term_names, term_parameters};
 ghost use Rattle.str_syntax.specs.Views.{arguments_of, parameters_of};
 
 use crate::strategy::{Arguments, Parameters};
+use crate::text::Name;
 
 impl Parameters {
+    /// Returns the names of the strategies among the parameters.
+    pub fn strategy_names(&self) -> &[Name]
+        ensures { result.now ≡ strategy_names (parameters_of self.now) }
+    {
+        match self {
+            Parameters::Absent => &[],
+            Parameters::Strategies(fs) => fs,
+            Parameters::WithTerms(fs, _) => fs,
+        }
+    }
+
+    /// Returns the names of the terms among the parameters.
+    pub fn term_names(&self) -> &[Name]
+        ensures { result.now ≡ term_names (parameters_of self.now) }
+    {
+        match self {
+            Parameters::Absent => &[],
+            Parameters::Strategies(_) => &[],
+            Parameters::WithTerms(_, xs) => xs,
+        }
+    }
+
     /// Returns the number of strategies among the parameters.
     pub fn strategies(&self) -> usize
         ensures { result ≡ strategy_parameters (parameters_of self.now) }
     {
-        match self {
-            Parameters::Absent => 0,
-            Parameters::Strategies(fs) => fs.len(),
-            Parameters::WithTerms(fs, _) => fs.len(),
-        }
+        self.strategy_names().len()
     }
 
     /// Returns the number of terms among the parameters.
     pub fn terms(&self) -> usize
         ensures { result ≡ term_parameters (parameters_of self.now) }
     {
-        match self {
-            Parameters::Absent => 0,
-            Parameters::Strategies(_) => 0,
-            Parameters::WithTerms(_, xs) => xs.len(),
-        }
+        self.term_names().len()
     }
 }
 
