@@ -1,47 +1,25 @@
 -- Reading sections and files from tokens: one law for each way that it can go.
 use Rattle.std.proofs.Common.{◌≡◌, ◌↔◌, IsTrue, ℕ, Bool, true, false, List, [], ◌∷◌, length, refl, ap, subst, arith, Err, inr}
-use Rattle.str_parser.specs.declared.refusal.Refusal.{Refusal}
-use Rattle.str_parser.specs.declared.refusal.Refusal.TheVariants as refusals
+use Rattle.str_parser.specs.declared.refusal.ParseRefusal.{ParseRefusal}
+use Rattle.str_parser.specs.declared.refusal.ParseRefusal.TheVariants as refusals
 use Rattle.str_lexer.specs.declared.token.Token.{Token}
 use Rattle.str_lexer.specs.Lexes.{AreSlices}
 use Rattle.str_lexer.specs.declared.token.Keyword.TheVariants as K
-use Rattle.str_syntax.specs.Trees.{FormTree, rule_form, strategy_form, definition, TopTree, SignatureTree, SectionTree, signature, rules, strategies, FileTree, head}
+use Rattle.str_syntax.specs.Trees.{FormTree, rule_form, strategy_form, definition, TopTree, SectionTree, signature, rules, strategies, FileTree, head}
 use Rattle.str_parser.specs.Lexemes.{Lexeme, keyword}
 use Rattle.str_parser.specs.Items.{Item, token, part, no_build, only, whole, too_deep, either, Runs}
 use Rattle.str_parser.specs.Phrases.{form, top_forms, signature_parts, section, sections, Spelled, IsPhrase, OnlyPhrase, TooNested}
-use Rattle.str_parser.specs.Readings.{NotAt, AtMost, Found, Missing, Nested, IsFault}
+use Rattle.str_parser.specs.Readings.{Missing, IsFault}
+use Rattle.str_parser.specs.Refusals.{fault_of}
 use Rattle.str_parser.specs.Runs.{NoneOf, FoundAny}
-use Rattle.str_parser.specs.Parsing.{is_where, is_name, begins_name, EndsRule, EndsForms, EndsSection, AtEnd, one_top, is_inside, fault_of, IsParsing}
+use Rattle.str_parser.specs.Sorts.{signature_goes_on}
+use Rattle.str_parser.specs.Parsing.{is_where, is_name, begins_name, EndsRule, EndsForms, EndsSection, AtEnd, one_top, is_inside, IsParsing}
 use Rattle.str_parser.specs.Within.{AreWithin}
-use Rattle.str_parser.proofs.WayLaws.{deep_either, not_both, not_along}
-use Rattle.str_parser.proofs.SeveralLaws.{several, GoesOn, Follows}
+use Rattle.str_parser.proofs.WayLaws.{deep_either, not_both}
+use Rattle.str_parser.proofs.PhraseLaws.{Made, Makes}
+use Rattle.str_parser.proofs.RunLaws.{several, Row, Lists}
 
 -- ---- rules and definitions
-
-pub tops_written : (ds : List TopTree) (is : List Item) → several one_top ds is ≡ top_forms ds is
-tops_written [] is = refl
-tops_written (d ∷ ds) is = ap (one_top d) (tops_written ds is)
-
-top_at_most : (f : FormTree) (is : List Item) → AtMost 0 (form f is)
-top_at_most (rule_form (head x ps) r) is = omega arith
-top_at_most (strategy_form (definition (head x ps) s)) is = omega arith
-
-top_no_where : (f : FormTree) (is : List Item) → NoneOf is_where (form f is)
-top_no_where (rule_form (head x ps) r) is = λ t rest w. ap is_where w.0
-top_no_where (strategy_form (definition (head x ps) s)) is = λ t rest w. ap is_where w.0
-
--- after one stands another, or what comes after all
-pub tops_follow : Follows one_top EndsRule EndsForms
-tops_follow [] is h = h.0
-tops_follow (d ∷ ds) is h = (
-  top_at_most d.form (several one_top ds is),
-  λ t rest w. top_no_where d.form (several one_top ds is) t rest w.1,
-)
-
--- with a name another one comes
-pub name_goes_on : (rest : List Lexeme) → begins_name rest ≡ true → GoesOn EndsForms rest
-name_goes_on [] e is h w = cc
-name_goes_on (t ∷ ts) e is h w = let f = h.1 t ts w in cc
 
 begins_by_name : (f : FormTree) (is : List Item) (ts : List Lexeme) → Runs either (form f is) ts → begins_name ts ≡ true
 begins_by_name (rule_form (head x ps) r) is [] w = absurd w
@@ -49,133 +27,81 @@ begins_by_name (rule_form (head x ps) r) is (t ∷ ts) w = ap is_name w.0
 begins_by_name (strategy_form (definition (head x ps) s)) is [] w = absurd w
 begins_by_name (strategy_form (definition (head x ps) s)) is (t ∷ ts) w = ap is_name w.0
 
--- with no name none comes
-pub no_top : (rest : List Lexeme) → begins_name rest ≡ false → (u : TopTree) (is : List Item) →
-    Runs either (one_top u is) rest → ⊥
-no_top rest e u is w = let f = begins_by_name u.form is rest w.1 in cc
+-- after a rule another form may come
+form_ends : (f : FormTree) (is : List Item) → EndsRule (form f is)
+form_ends (rule_form (head x ps) r) is = (omega arith, λ t rest w. ap is_where w.0)
+form_ends (strategy_form (definition (head x ps) s)) is = (omega arith, λ t rest w. ap is_where w.0)
+
+tops_follow : (us : List TopTree) (is : List Item) → EndsForms is → EndsRule (several one_top us is)
+tops_follow [] is h = h.0
+tops_follow (d ∷ ds) is h = let e = form_ends d.form (several one_top ds is) in (e.0, λ t rest w. e.1 t rest w.1)
+
+name_goes_on : (rest : List Lexeme) → begins_name rest ≡ true → (is : List Item) → EndsForms is →
+    Runs either is rest → ⊥
+name_goes_on [] e is h w = cc
+name_goes_on (t ∷ ts) e is h w = let f = h.1 t ts w in cc
+
+-- with a name, and no other token, another one comes
+pub tops_row : Row one_top EndsRule EndsForms (λ ts. begins_name ts ≡ true) (λ ts. begins_name ts ≡ false)
+tops_row = record {
+  follows = tops_follow;
+  goes_on = name_goes_on;
+  past = λ rest e u is w. let f = begins_by_name u.form is rest w.1 in cc;
+}
+
+tops_written : (ds : List TopTree) (is : List Item) → several one_top ds is ≡ top_forms ds is
+tops_written [] is = refl
+tops_written (d ∷ ds) is = ap (one_top d) (tops_written ds is)
+
+pub top_lists : Lists (several one_top) top_forms (λ ds. ds)
+top_lists = record { from = λ ds. ds; back = λ ds. refl; written = tops_written }
 
 -- ---- sections
 
 -- a test that no section's keyword passes, nothing after a section passes
-pub inside_only : (test : Lexeme → Bool) → test (keyword K.Signature) ≡ false → test (keyword K.Rules) ≡ false →
+inside_only : (test : Lexeme → Bool) → test (keyword K.Signature) ≡ false → test (keyword K.Rules) ≡ false →
     test (keyword K.Strategies) ≡ false → (t : Lexeme) → is_inside t ≡ false → test t ≡ false
 inside_only test a b c (keyword K.Signature) e = a
 inside_only test a b c (keyword K.Rules) e = b
 inside_only test a b c (keyword K.Strategies) e = c
 inside_only test a b c _ e = cc
 
-pub section_stops : (test : Lexeme → Bool) → test (keyword K.Signature) ≡ false → test (keyword K.Rules) ≡ false →
+section_stops : (test : Lexeme → Bool) → test (keyword K.Signature) ≡ false → test (keyword K.Rules) ≡ false →
     test (keyword K.Strategies) ≡ false → (is : List Item) → EndsSection is → NoneOf test is
 section_stops test a b c is h t rest w = inside_only test a b c t (h.1 t rest w)
 
 forms_end : (is : List Item) → EndsSection is → EndsForms is
 forms_end is h = ((h.0, section_stops is_where refl refl refl is h), section_stops is_name refl refl refl is h)
 
-signature_only : (Stops : List Item → Type 0) (ps : List SignatureTree) (ts rest : List Lexeme) →
-    ((is : List Item) → EndsSection is → Stops is) → FoundAny signature_parts Stops ts ps rest →
-    (u : SectionTree) (is : List Item) → EndsSection is → Runs either (section u is) (keyword K.Signature ∷ ts) →
-    (u ≡ signature ps) × Runs either is rest
-signature_only Stops ps ts rest ends f (signature qs) is h w = let o = f.only_one qs is (ends is h) w.1 in
-    (ap signature o.0, o.1)
-signature_only Stops ps ts rest ends f (rules ds) is h w = let e = w.0 in cc
-signature_only Stops ps ts rest ends f (strategies ds) is h w = let e = w.0 in cc
+module _ {ts : List Lexeme} where
+  signature_only : (u : SectionTree) (is : List Item) → EndsSection is →
+      Runs either (section u is) (keyword K.Signature ∷ ts) →
+      Made signature_parts (NoneOf signature_goes_on) ts signature u is
+  signature_only (signature qs) is h w =
+      record { from = qs; are = refl; ends = section_stops signature_goes_on refl refl refl is h; runs = w.1 }
+  signature_only _ is h w = let e = w.0 in cc
 
-pub signature_found : (Stops : List Item → Type 0) (ps : List SignatureTree) (ts rest : List Lexeme) →
-    ((is : List Item) → EndsSection is → Stops is) → FoundAny signature_parts Stops ts ps rest →
-    Found section EndsSection (keyword K.Signature ∷ ts) (signature ps) rest
-signature_found Stops ps ts rest ends f = record {
-  sound = λ way is w. (refl, f.sound way is w);
-  only_one = signature_only Stops ps ts rest ends f;
-  shorter = let a = f.no_longer in omega arith;
-}
+  pub signature_section : Makes signature_parts (NoneOf signature_goes_on) ts section EndsSection
+      (keyword K.Signature ∷ ts) signature
+  signature_section = record { sound = λ way ps is w. (refl, w); only = signature_only; no_longer = omega arith }
 
-no_signature : (Stops : List Item → Type 0) (ts : List Lexeme) → ((is : List Item) → EndsSection is → Stops is) →
-    Missing signature_parts Stops ts → (u : SectionTree) (is : List Item) → EndsSection is →
-    Runs either (section u is) (keyword K.Signature ∷ ts) → ⊥
-no_signature Stops ts ends m (signature qs) is h w = m.none qs is (ends is h) w.1
-no_signature Stops ts ends m (rules ds) is h w = let e = w.0 in cc
-no_signature Stops ts ends m (strategies ds) is h w = let e = w.0 in cc
+  rules_only : (u : SectionTree) (is : List Item) → EndsSection is →
+      Runs either (section u is) (keyword K.Rules ∷ ts) → Made top_forms EndsForms ts rules u is
+  rules_only (rules ds) is h w = record { from = ds; are = refl; ends = forms_end is h; runs = w.1 }
+  rules_only _ is h w = let e = w.0 in cc
 
-pub signature_missing : (Stops : List Item → Type 0) (ts : List Lexeme) →
-    ((is : List Item) → EndsSection is → Stops is) → Missing signature_parts Stops ts →
-    Missing section EndsSection (keyword K.Signature ∷ ts)
-signature_missing Stops ts ends m = record { none = no_signature Stops ts ends m }
+  pub rules_section : Makes top_forms EndsForms ts section EndsSection (keyword K.Rules ∷ ts) rules
+  rules_section = record { sound = λ way ds is w. (refl, w); only = rules_only; no_longer = omega arith }
 
-pub signature_nested : (ts : List Lexeme) → Nested signature_parts ts → Nested section (keyword K.Signature ∷ ts)
-signature_nested ts n = record { tree = signature n.tree; runs = λ is. (refl, n.runs is) }
+  strategies_only : (u : SectionTree) (is : List Item) → EndsSection is →
+      Runs either (section u is) (keyword K.Strategies ∷ ts) → Made top_forms EndsForms ts strategies u is
+  strategies_only (strategies ds) is h w = record { from = ds; are = refl; ends = forms_end is h; runs = w.1 }
+  strategies_only _ is h w = let e = w.0 in cc
 
-rules_only : (ds : List TopTree) (ts rest : List Lexeme) → FoundAny top_forms EndsForms ts ds rest →
-    (u : SectionTree) (is : List Item) → EndsSection is → Runs either (section u is) (keyword K.Rules ∷ ts) →
-    (u ≡ rules ds) × Runs either is rest
-rules_only ds ts rest f (signature qs) is h w = let e = w.0 in cc
-rules_only ds ts rest f (rules es) is h w = let o = f.only_one es is (forms_end is h) w.1 in (ap rules o.0, o.1)
-rules_only ds ts rest f (strategies es) is h w = let e = w.0 in cc
-
-pub rules_found : (ds : List TopTree) (ts rest : List Lexeme) → FoundAny top_forms EndsForms ts ds rest →
-    Found section EndsSection (keyword K.Rules ∷ ts) (rules ds) rest
-rules_found ds ts rest f = record {
-  sound = λ way is w. (refl, f.sound way is w);
-  only_one = rules_only ds ts rest f;
-  shorter = let a = f.no_longer in omega arith;
-}
-
-no_rules : (ts : List Lexeme) → Missing top_forms EndsForms ts → (u : SectionTree) (is : List Item) → EndsSection is →
-    Runs either (section u is) (keyword K.Rules ∷ ts) → ⊥
-no_rules ts m (signature qs) is h w = let e = w.0 in cc
-no_rules ts m (rules es) is h w = m.none es is (forms_end is h) w.1
-no_rules ts m (strategies es) is h w = let e = w.0 in cc
-
-pub rules_missing : (ts : List Lexeme) → Missing top_forms EndsForms ts →
-    Missing section EndsSection (keyword K.Rules ∷ ts)
-rules_missing ts m = record { none = no_rules ts m }
-
-pub rules_nested : (ts : List Lexeme) → Nested top_forms ts → Nested section (keyword K.Rules ∷ ts)
-rules_nested ts n = record { tree = rules n.tree; runs = λ is. (refl, n.runs is) }
-
-strategies_only : (ds : List TopTree) (ts rest : List Lexeme) → FoundAny top_forms EndsForms ts ds rest →
-    (u : SectionTree) (is : List Item) → EndsSection is → Runs either (section u is) (keyword K.Strategies ∷ ts) →
-    (u ≡ strategies ds) × Runs either is rest
-strategies_only ds ts rest f (signature qs) is h w = let e = w.0 in cc
-strategies_only ds ts rest f (rules es) is h w = let e = w.0 in cc
-strategies_only ds ts rest f (strategies es) is h w = let o = f.only_one es is (forms_end is h) w.1 in
-    (ap strategies o.0, o.1)
-
-pub strategies_found : (ds : List TopTree) (ts rest : List Lexeme) → FoundAny top_forms EndsForms ts ds rest →
-    Found section EndsSection (keyword K.Strategies ∷ ts) (strategies ds) rest
-strategies_found ds ts rest f = record {
-  sound = λ way is w. (refl, f.sound way is w);
-  only_one = strategies_only ds ts rest f;
-  shorter = let a = f.no_longer in omega arith;
-}
-
-no_strategies : (ts : List Lexeme) → Missing top_forms EndsForms ts → (u : SectionTree) (is : List Item) →
-    EndsSection is → Runs either (section u is) (keyword K.Strategies ∷ ts) → ⊥
-no_strategies ts m (signature qs) is h w = let e = w.0 in cc
-no_strategies ts m (rules es) is h w = let e = w.0 in cc
-no_strategies ts m (strategies es) is h w = m.none es is (forms_end is h) w.1
-
-pub strategies_missing : (ts : List Lexeme) → Missing top_forms EndsForms ts →
-    Missing section EndsSection (keyword K.Strategies ∷ ts)
-strategies_missing ts m = record { none = no_strategies ts m }
-
-pub strategies_nested : (ts : List Lexeme) → Nested top_forms ts → Nested section (keyword K.Strategies ∷ ts)
-strategies_nested ts n = record { tree = strategies n.tree; runs = λ is. (refl, n.runs is) }
-
-no_keyword : (ts : List Lexeme) → NotAt (keyword K.Signature) ts → NotAt (keyword K.Rules) ts →
-    NotAt (keyword K.Strategies) ts → (u : SectionTree) (is : List Item) → Runs either (section u is) ts → ⊥
-no_keyword ts a b c (signature ps) is w = not_along (keyword K.Signature) (signature_parts ps is) ts a w
-no_keyword ts a b c (rules ds) is w = not_along (keyword K.Rules) (top_forms ds is) ts b w
-no_keyword ts a b c (strategies ds) is w = not_along (keyword K.Strategies) (top_forms ds is) ts c w
-
-pub section_missing : (ts : List Lexeme) → NotAt (keyword K.Signature) ts → NotAt (keyword K.Rules) ts →
-    NotAt (keyword K.Strategies) ts → Missing section EndsSection ts
-section_missing ts a b c = record { none = λ u is h w. no_keyword ts a b c u is w }
+  pub strategies_section : Makes top_forms EndsForms ts section EndsSection (keyword K.Strategies ∷ ts) strategies
+  strategies_section = record { sound = λ way ds is w. (refl, w); only = strategies_only; no_longer = omega arith }
 
 -- ---- sections up to the end
-
-pub sections_written : (ss : List SectionTree) (is : List Item) → several section ss is ≡ sections ss is
-sections_written [] is = refl
-sections_written (s ∷ ss) is = ap (section s) (sections_written ss is)
 
 nothing_after : EndsSection []
 nothing_after = (omega arith, λ t rest w. let e : t ∷ rest ≡ [] = w in cc)
@@ -185,23 +111,29 @@ section_after (signature ps) is = (omega arith, λ t rest w. ap is_inside w.0)
 section_after (rules ds) is = (omega arith, λ t rest w. ap is_inside w.0)
 section_after (strategies ds) is = (omega arith, λ t rest w. ap is_inside w.0)
 
-pub sections_follow : Follows section EndsSection AtEnd
+sections_follow : (us : List SectionTree) (is : List Item) → AtEnd is → EndsSection (several section us is)
 sections_follow [] is h = rw h nothing_after
 sections_follow (s ∷ ss) is h = section_after s (several section ss is)
-
--- with a token another one comes
-pub token_goes_on : (rest : List Lexeme) → (rest ≡ [] → ⊥) → GoesOn AtEnd rest
-token_goes_on rest n is h w = n (rw h at w)
 
 no_more : (u : SectionTree) (is : List Item) → Runs either (section u is) [] → ⊥
 no_more (signature ps) is w = w
 no_more (rules ds) is w = w
 no_more (strategies ds) is w = w
 
--- with none no other one comes
-pub no_section : (rest : List Lexeme) → rest ≡ [] → (u : SectionTree) (is : List Item) →
-    Runs either (section u is) rest → ⊥
-no_section rest e u is w = no_more u is (rw e at w)
+-- with a token another one comes
+pub sections_row : Row section EndsSection AtEnd (λ ts. ts ≡ [] → ⊥) (λ ts. ts ≡ [])
+sections_row = record {
+  follows = sections_follow;
+  goes_on = λ rest n is h w. n (rw h at w);
+  past = λ rest e u is w. no_more u is (rw e at w);
+}
+
+sections_written : (ss : List SectionTree) (is : List Item) → several section ss is ≡ sections ss is
+sections_written [] is = refl
+sections_written (s ∷ ss) is = ap (section s) (sections_written ss is)
+
+pub section_lists : Lists (several section) sections (λ ss. ss)
+section_lists = record { from = λ ss. ss; back = λ ss. refl; written = sections_written }
 
 pub not_empty : (b : Bool) (rest : List Lexeme) → IsTrue b ↔ (rest ≡ []) → b ≡ false → rest ≡ [] → ⊥
 not_empty true rest i f e = cc
@@ -253,7 +185,7 @@ file_missing ts m = (
   λ d. m.none d.f.sections [] refl (deep_either (sections d.f.sections []) ts d.runs),
 )
 
-pub file_fault : (ts : List Lexeme) (e : Refusal) → IsFault sections AtEnd ts e → IsParsing ts (Err (fault_of e))
+pub file_fault : (ts : List Lexeme) (e : ParseRefusal) → IsFault sections AtEnd ts e → IsParsing ts (Err (fault_of e))
 file_fault ts refusals.Memory h = tt
 file_fault ts (refusals.Syntax _ _) h = file_missing ts h
 file_fault ts (refusals.Nesting _) h = record { f = file_with h.tree; runs = h.runs [] }

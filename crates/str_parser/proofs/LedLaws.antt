@@ -1,13 +1,11 @@
 -- The first token of a pattern, and what comes after it.
-use Rattle.std.proofs.Common.{◌≡◌, inl, inr, ℕ, ℤ, ◌+◌, ◌≤◌, Bool, true, false, List, [], ◌∷◌, refl, sym, subst, arith}
+use Rattle.std.proofs.Common.{◌≡◌, inl, inr, ℕ, ℤ, ◌+◌, Bool, true, false, List, [], ◌∷◌, refl}
 use Rattle.str_lexer.specs.declared.token.Mark.TheVariants as M
 use Rattle.str_syntax.specs.Trees.{Bytes, PatternTree, variable, wildcard, alias, integer, quoted, application, grouped, tuple, list, annotated, applied, applied_to, PatternTrees, StrategyTree, no_pattern, one_pattern}
 use Rattle.str_parser.specs.Lexemes.{Lexeme, Lexeme as L, build_part, first_begins, begins_pattern}
-use Rattle.str_parser.specs.Items.{Item, token, part, no_build, only, either, Runs}
+use Rattle.str_parser.specs.Items.{Item, part, no_build, either, Runs}
 use Rattle.str_parser.specs.Phrases.{sign, is_not, is_constructor, are_parts, any_patterns, pattern_part, pattern, patterns}
-use Rattle.str_parser.specs.Readings.{strength, lexeme_strength}
 use Rattle.str_parser.specs.Begun.{inner_pattern, inner_strategy, is_bare}
-use Rattle.str_parser.proofs.BeginningLaws.{pattern_begins}
 
 -- the tree begins with this token, and these run along the rest of it and the items after it
 pub data Led (m : Bool) (k : ℕ) (ts : List Lexeme) : Lexeme → PatternTree → List Item → Type 0 where
@@ -41,76 +39,55 @@ pub data Led (m : Bool) (k : ℕ) (ts : List Lexeme) : Lexeme → PatternTree �
 -- a bare tree that tokens run along begins with the first of them
 pub led : (m : Bool) (k : ℕ) (t : Lexeme) (ts : List Lexeme) (u : PatternTree) (is : List Item) → is_bare u ≡ true →
     Runs either (pattern m k u is) (t ∷ ts) → Led m k ts t u is
-led m k t ts (variable x) is b r = subst (λ v. Led m k ts v (variable x) is) (sym r.0) (led_variable r.1)
-led m k t ts wildcard is b r = subst (λ v. Led m k ts v wildcard is) (sym r.0) (led_wildcard r.1)
-led m k t ts (alias x p) is b r = subst (λ v. Led m k ts v (alias x p) is) (sym r.0) (led_alias p r.1)
-led m k t ts (integer z) is b r = subst (λ v. Led m k ts v (integer z) is) (sym r.0) (led_integer r.1)
-led m k t ts (quoted text) is b r = subst (λ v. Led m k ts v (quoted text) is) (sym r.0) (led_quoted r.1)
-led m k t ts (application x ps) is b r =
-    subst (λ v. Led m k ts v (application x ps) is) (sym r.1.0) (led_application ps r.0 r.1.1)
-led m k t ts (grouped p) is b r = subst (λ v. Led m k ts v (grouped p) is) (sym r.0) (led_grouped p r.1)
-led m k t ts (tuple ps) is b r = subst (λ v. Led m k ts v (tuple ps) is) (sym r.1.0) (led_tuple ps r.0 r.1.1)
-led m k t ts (list ps no_pattern) is b r = subst (λ v. Led m k ts v (list ps no_pattern) is) (sym r.0) (led_list ps r.1)
-led m k t ts (list ps (one_pattern p)) is b r =
-    subst (λ v. Led m k ts v (list ps (one_pattern p)) is) (sym r.1.0) (led_list_with_tail ps p r.0 r.1.1)
+led m k t ts (variable x) is b r = rw r.0 (led_variable r.1)
+led m k t ts wildcard is b r = rw r.0 (led_wildcard r.1)
+led m k t ts (alias x p) is b r = rw r.0 (led_alias p r.1)
+led m k t ts (integer z) is b r = rw r.0 (led_integer r.1)
+led m k t ts (quoted text) is b r = rw r.0 (led_quoted r.1)
+led m k t ts (application x ps) is b r = rw r.1.0 (led_application ps r.0 r.1.1)
+led m k t ts (grouped p) is b r = rw r.0 (led_grouped p r.1)
+led m k t ts (tuple ps) is b r = rw r.1.0 (led_tuple ps r.0 r.1.1)
+led m k t ts (list ps no_pattern) is b r = rw r.0 (led_list ps r.1)
+led m k t ts (list ps (one_pattern p)) is b r = rw r.1.0 (led_list_with_tail ps p r.0 r.1.1)
 led m k t ts (annotated p qs) is b r = cc
-led m k t ts (applied s) is b r = subst (λ v. Led m k ts v (applied s) is) (sym r.1.0) (led_applied s r.0 r.1.1)
-led m k t ts (applied_to s p) is b r =
-    subst (λ v. Led m k ts v (applied_to s p) is) (sym r.1.0) (led_applied_to s p r.0 r.1.1)
+led m k t ts (applied s) is b r = rw r.1.0 (led_applied s r.0 r.1.1)
+led m k t ts (applied_to s p) is b r = rw r.1.0 (led_applied_to s p r.0 r.1.1)
 
 -- ---- what a pattern begins with
 
-pub part_begins : (m : Bool) (t : Lexeme) (ts : List Lexeme) →
-    first_begins (pattern_part m) (t ∷ ts) ≡ begins_pattern m t
-part_begins true t ts = refl
-part_begins false t ts = refl
-
-pub led_begins : (m : Bool) (k : ℕ) (ts : List Lexeme) (t : Lexeme) (u : PatternTree) (is : List Item) →
-    Led m k ts t u is → begins_pattern m t ≡ true
-led_begins m k ts t u is (led_variable r) = refl
-led_begins m k ts t u is (led_wildcard r) = refl
-led_begins m k ts t u is (led_alias p r) = refl
-led_begins m k ts t u is (led_integer r) = refl
-led_begins m k ts t u is (led_quoted r) = refl
-led_begins m k ts t u is (led_application ps h r) = refl
-led_begins m k ts t u is (led_grouped p r) = refl
-led_begins m k ts t u is (led_tuple ps h r) = refl
-led_begins m k ts t u is (led_list ps r) = refl
-led_begins m k ts t u is (led_list_with_tail ps p h r) = refl
-led_begins true k ts t u is (led_applied s h r) = cc
-led_begins false k ts t u is (led_applied s h r) = refl
-led_begins true k ts t u is (led_applied_to s p h r) = cc
-led_begins false k ts t u is (led_applied_to s p h r) = refl
+pub led_begins : {m : Bool} {k : ℕ} {ts : List Lexeme} {t : Lexeme} {u : PatternTree} {is : List Item} →
+    Led m k ts t u is → first_begins (pattern_part m) (t ∷ ts) ≡ true
+led_begins {m = true} (led_applied s h r) = cc
+led_begins {m = true} (led_applied_to s p h r) = cc
+led_begins {m = true} _ = refl
+led_begins {m = false} (led_variable r) = refl
+led_begins {m = false} _ = refl
 
 pub no_tokens : (m : Bool) (k : ℕ) (u : PatternTree) (is : List Item) → Runs either (pattern m k u is) [] → ⊥
-no_tokens m k (variable x) is r = r
-no_tokens m k wildcard is r = r
-no_tokens m k (alias x p) is r = r
-no_tokens m k (integer z) is r = r
-no_tokens m k (quoted text) is r = r
 no_tokens m k (application x ps) is r = r.1
-no_tokens m k (grouped p) is r = r
 no_tokens m k (tuple ps) is r = r.1
-no_tokens m k (list ps no_pattern) is r = r
 no_tokens m k (list ps (one_pattern p)) is r = r.1
 no_tokens m k (annotated p qs) is r = no_tokens m k p _ r.1
 no_tokens m k (applied s) is r = r.1
 no_tokens m k (applied_to s p) is r = r.1
+no_tokens m k _ is r = r
+
+pub pattern_begins : (m : Bool) (k : ℕ) (u : PatternTree) (is : List Item) (ts : List Lexeme) →
+    Runs either (pattern m k u is) ts → first_begins (pattern_part m) ts ≡ true
+pattern_begins m k u is [] r = absurd (no_tokens m k u is r)
+pattern_begins m k (annotated p qs) is (t ∷ ts) r = pattern_begins m k p _ (t ∷ ts) r.1
+pattern_begins m k u is (t ∷ ts) r = led_begins (led m k t ts u is refl r)
 
 pub inner_begins : (m : Bool) (k : ℕ) (p : PatternTree) (is : List Item) (ts : List Lexeme) →
     Runs either (inner_pattern m k p is) ts → first_begins (pattern_part m) ts ≡ true
 inner_begins m k p is ts (inl b) = b.1
 inner_begins m k p is ts (inr r) = pattern_begins m k p is ts r
 
+pub part_begins : (m : Bool) (t : Lexeme) (ts : List Lexeme) →
+    first_begins (pattern_part m) (t ∷ ts) ≡ begins_pattern m t
+part_begins true t ts = refl
+part_begins false t ts = refl
+
 pub no_inner : (m : Bool) (k : ℕ) (p : PatternTree) (is : List Item) (t : Lexeme) (ts : List Lexeme) →
     begins_pattern m t ≡ false → Runs either (inner_pattern m k p is) (t ∷ ts) → ⊥
 no_inner m k p is t ts e r = let b = inner_begins m k p is (t ∷ ts) r in let f = part_begins m t ts in cc
-
--- the first token binds no stronger than the items
-pub runs_strength : (most : ℕ) → most ≤ 4 → (is : List Item) (t : Lexeme) (ts : List Lexeme) → Runs either is (t ∷ ts) →
-    strength is ≤ most → lexeme_strength t ≤ most
-runs_strength most b [] t ts r h = cc
-runs_strength most b (token u ∷ is) t ts r h = rw r.0 h
-runs_strength most b (part p k ∷ is) t ts r h = absurd (omega arith)
-runs_strength most b (no_build ∷ is) t ts r h = absurd (omega arith)
-runs_strength most b (only c ∷ is) t ts r h = runs_strength most b is t ts r.1 h

@@ -5,7 +5,7 @@ use Rattle.str_syntax.specs.declared.strategy.Pattern.{Pattern}
 use Rattle.str_syntax.specs.declared.strategy.Strategy.{Strategy}
 use Rattle.str_syntax.specs.declared.strategy.StrategyDefinition.{StrategyDefinition}
 use Rattle.str_syntax.specs.Trees.{PatternTree, PatternTrees, no_patterns, more_patterns, StrategyTree, StrategyTrees, no_strategies, more_strategies, DefinitionTree, DefinitionTrees, no_definitions, more_definitions}
-use Rattle.str_syntax.specs.Views.{pattern_of, strategy_of, definition_of, patterns_in, strategies_in, definitions_in, patterns_of, strategies_of, definitions_of}
+use Rattle.str_syntax.specs.Views.{pattern_of, strategy_of, definition_of, patterns_in, strategies_in, definitions_in, patterns_of, strategies_of}
 use Rattle.str_parser.specs.Begun.{strategies_then, patterns_then, definitions_then, strategies_with, patterns_with, definitions_with}
 
 -- ---- a list in the code
@@ -22,93 +22,82 @@ pub some_items : {X : Type 0} (v : Vec X Global) (answer : Bool) → answer ≡ 
     v.items ≡ [] → ⊥
 some_items v answer e f none = let size : length v.items ≡ 0 = ap length none in grind (arith, e, f, v.ok.0, size)
 
--- ---- strategies
+-- ---- trees in the code, and a list of trees that is data
 
-strategies_one_more : (xs : List Strategy) (s : Strategy) (more : StrategyTrees) →
-    strategies_then (map strategy_of (xs ++ (s ∷ []))) more ≡
-    strategies_then (map strategy_of xs) (more_strategies (strategy_of s) more)
-strategies_one_more [] s more = refl
-strategies_one_more (x ∷ xs) s more = ap (more_strategies (strategy_of x)) (strategies_one_more xs s more)
+-- how trees in front of a list of trees, and trees alone, make such a list
+record Grows {T Ts : Type 0} (none : Ts) (more : T → Ts → Ts) (then : List T → Ts → Ts) (only : List T → Ts) :
+    Type 0 where
+  nil : (us : Ts) → then [] us ≡ us
+  cons : (t : T) (ts : List T) (us : Ts) → then (t ∷ ts) us ≡ more t (then ts us)
+  only_nil : none ≡ only []
+  only_cons : (t : T) (ts : List T) → more t (only ts) ≡ only (t ∷ ts)
 
--- after a list to which a strategy was pushed comes what came after the list, with the strategy in front
+module _ {X T Ts : Type 0} {none : Ts} {more : T → Ts → Ts} {then : List T → Ts → Ts} {only : List T → Ts}
+    (g : Grows none more then only) (read : X → T) where
+  one_more : (xs : List X) (x : X) (us : Ts) →
+      then (map read (xs ++ (x ∷ []))) us ≡ then (map read xs) (more (read x) us)
+  one_more [] x us = g.cons (read x) [] us ∙ ap (more (read x)) (g.nil us) ∙
+      sym (g.nil (more (read x) us))
+  one_more (y ∷ xs) x us = g.cons (read y) (map read (xs ++ (x ∷ []))) us ∙ ap (more (read y)) (one_more xs x us) ∙
+      sym (g.cons (read y) (map read xs) (more (read x) us))
+
+  -- in front of others, a pushed tree is the first of them
+  pushed : (done parts : Vec X Global) (x : X) (us : Ts) → parts.items ≡ done.items ++ (x ∷ []) →
+      then (map read parts.items) us ≡ then (map read done.items) (more (read x) us)
+  pushed done parts x us e = ap (λ xs. then (map read xs) us) e ∙ one_more done.items x us
+
+at_end : {T Ts : Type 0} {none : Ts} {more : T → Ts → Ts} {then : List T → Ts → Ts} {only : List T → Ts} →
+    Grows none more then only → (ts : List T) → then ts none ≡ only ts
+at_end {none = none} g [] = g.nil none ∙ g.only_nil
+at_end {none = none} {more = more} g (t ∷ ts) = g.cons t ts none ∙ ap (more t) (at_end g ts) ∙ g.only_cons t ts
+
+-- a list to which the last tree was pushed
+ended : {X T Ts : Type 0} {none : Ts} {more : T → Ts → Ts} {then : List T → Ts → Ts} {only : List T → Ts} →
+    Grows none more then only → (read : X → T) (done parts : Vec X Global) (x : X) →
+    parts.items ≡ done.items ++ (x ∷ []) → then (map read done.items) (more (read x) none) ≡ only (map read parts.items)
+ended {none = none} g read done parts x e = sym (pushed g read done parts x none e) ∙ at_end g (map read parts.items)
+
+-- ---- strategies, patterns and definitions
+
+strategies_grow : Grows no_strategies more_strategies strategies_then strategies_in
+strategies_grow = record { nil = λ us. refl; cons = λ t ts us. refl; only_nil = refl; only_cons = λ t ts. refl }
+
 pub strategies_pushed : (done parts : Vec Strategy Global) (s : Strategy) (t : StrategyTree) (more : StrategyTrees) →
     parts.items ≡ done.items ++ (s ∷ []) →
     strategies_with parts t more ≡ strategies_with done (strategy_of s) (more_strategies t more)
-strategies_pushed done parts s t more e =
-    ap (λ xs. strategies_then (map strategy_of xs) (more_strategies t more)) e ∙
-    strategies_one_more done.items s (more_strategies t more)
+strategies_pushed done parts s t more e = pushed strategies_grow strategy_of done parts s (more_strategies t more) e
 
--- a list of trees, with none after them
-pub strategies_at_end : (xs : List StrategyTree) → strategies_then xs no_strategies ≡ strategies_in xs
-strategies_at_end [] = refl
-strategies_at_end (x ∷ xs) = ap (more_strategies x) (strategies_at_end xs)
-
--- the same of a list to which the last was pushed
-pub strategies_ended : (done parts : Vec Strategy Global) (s : Strategy) →
-    parts.items ≡ done.items ++ (s ∷ []) →
+pub strategies_ended : (done parts : Vec Strategy Global) (s : Strategy) → parts.items ≡ done.items ++ (s ∷ []) →
     strategies_with done (strategy_of s) no_strategies ≡ strategies_of parts.items
-strategies_ended done parts s e =
-    sym (strategies_one_more done.items s no_strategies) ∙
-    ap (λ xs. strategies_then (map strategy_of xs) no_strategies) (sym e)
-    ∙ strategies_at_end (map strategy_of parts.items)
+strategies_ended done parts s e = ended strategies_grow strategy_of done parts s e
 
--- ---- patterns
-
-patterns_one_more : (xs : List Pattern) (p : Pattern) (more : PatternTrees) →
-    patterns_then (map pattern_of (xs ++ (p ∷ []))) more ≡
-    patterns_then (map pattern_of xs) (more_patterns (pattern_of p) more)
-patterns_one_more [] p more = refl
-patterns_one_more (x ∷ xs) p more = ap (more_patterns (pattern_of x)) (patterns_one_more xs p more)
+patterns_grow : Grows no_patterns more_patterns patterns_then patterns_in
+patterns_grow = record { nil = λ us. refl; cons = λ t ts us. refl; only_nil = refl; only_cons = λ t ts. refl }
 
 pub patterns_pushed : (done parts : Vec Pattern Global) (p : Pattern) (q : PatternTree) (more : PatternTrees) →
     parts.items ≡ done.items ++ (p ∷ []) →
     patterns_with parts q more ≡ patterns_with done (pattern_of p) (more_patterns q more)
-patterns_pushed done parts p q more e =
-    ap (λ xs. patterns_then (map pattern_of xs) (more_patterns q more)) e ∙
-    patterns_one_more done.items p (more_patterns q more)
+patterns_pushed done parts p q more e = pushed patterns_grow pattern_of done parts p (more_patterns q more) e
 
-pub patterns_at_end : (xs : List PatternTree) → patterns_then xs no_patterns ≡ patterns_in xs
-patterns_at_end [] = refl
-patterns_at_end (x ∷ xs) = ap (more_patterns x) (patterns_at_end xs)
+pub patterns_ended : (done parts : Vec Pattern Global) (p : Pattern) → parts.items ≡ done.items ++ (p ∷ []) →
+    patterns_with done (pattern_of p) no_patterns ≡ patterns_of parts.items
+patterns_ended done parts p e = ended patterns_grow pattern_of done parts p e
 
-pub patterns_ended : (done parts : Vec Pattern Global) (p : Pattern) →
-    parts.items ≡ done.items ++ (p ∷ []) → patterns_with done (pattern_of p) no_patterns ≡ patterns_of parts.items
-patterns_ended done parts p e =
-    sym (patterns_one_more done.items p no_patterns) ∙ ap (λ xs. patterns_then (map pattern_of xs) no_patterns) (sym e)
-    ∙ patterns_at_end (map pattern_of parts.items)
-
--- ---- definitions
-
-definitions_one_more : (xs : List StrategyDefinition) (d : StrategyDefinition) (more : DefinitionTrees) →
-    definitions_then (map definition_of (xs ++ (d ∷ []))) more ≡
-    definitions_then (map definition_of xs) (more_definitions (definition_of d) more)
-definitions_one_more [] d more = refl
-definitions_one_more (x ∷ xs) d more = ap (more_definitions (definition_of x)) (definitions_one_more xs d more)
+definitions_grow : Grows no_definitions more_definitions definitions_then definitions_in
+definitions_grow = record { nil = λ us. refl; cons = λ t ts us. refl; only_nil = refl; only_cons = λ t ts. refl }
 
 pub definitions_pushed : (done parts : Vec StrategyDefinition Global) (d : StrategyDefinition) (f : DefinitionTree)
-    (more : DefinitionTrees) →
-    parts.items ≡ done.items ++ (d ∷ []) →
+    (more : DefinitionTrees) → parts.items ≡ done.items ++ (d ∷ []) →
     definitions_with parts f more ≡ definitions_with done (definition_of d) (more_definitions f more)
 definitions_pushed done parts d f more e =
-    ap (λ xs. definitions_then (map definition_of xs) (more_definitions f more)) e ∙
-    definitions_one_more done.items d (more_definitions f more)
+    pushed definitions_grow definition_of done parts d (more_definitions f more) e
 
 pub definitions_at_end : (xs : List DefinitionTree) → definitions_then xs no_definitions ≡ definitions_in xs
-definitions_at_end [] = refl
-definitions_at_end (x ∷ xs) = ap (more_definitions x) (definitions_at_end xs)
+definitions_at_end xs = at_end definitions_grow xs
 
-pub definitions_ended : (done parts : Vec StrategyDefinition Global) (d : StrategyDefinition) →
-    parts.items ≡ done.items ++ (d ∷ []) →
-    definitions_with done (definition_of d) no_definitions ≡ definitions_of parts.items
-definitions_ended done parts d e =
-    sym (definitions_one_more done.items d no_definitions) ∙
-    ap (λ xs. definitions_then (map definition_of xs) no_definitions) (sym e)
-    ∙ definitions_at_end (map definition_of parts.items)
-
--- a list to which a definition was pushed, in front of no others: what the body of a let goes on after
+-- in front of no others: what the body of a let goes on after
 pub definitions_last : (done parts : Vec StrategyDefinition Global) (d : StrategyDefinition) →
     parts.items ≡ done.items ++ (d ∷ []) →
     definitions_then (map definition_of parts.items) no_definitions ≡
     definitions_with done (definition_of d) no_definitions
-definitions_last done parts d e = ap (λ xs. definitions_then (map definition_of xs) no_definitions) e ∙
-    definitions_one_more done.items d no_definitions
+definitions_last done parts d e = pushed definitions_grow definition_of done parts d no_definitions e

@@ -19,20 +19,10 @@ pub passed : (p : Part) (k : ℕ) (is : List Item) (ts : List Lexeme) → k ≤ 
 passed p k is ts h (inl b) = absurd (omega (arith, b.0, h))
 passed p k is ts h (inr r) = r
 
-pub passed_deep : (p : Part) (k : ℕ) (is : List Item) (ts : List Lexeme) → k ≤ 200 → Runs too_deep (part p k ∷ is) ts →
-    Runs too_deep is ts
-passed_deep p k is ts h (inl b) = absurd (omega (arith, b.0, h))
-passed_deep p k is ts h (inr r) = r
-
 -- ---- tokens in front of items that stop there
 
 mark_at_most : (m : Mark) → mark_strength m ≤ 5
 mark_at_most M.OpenParenthesis = omega arith
-mark_at_most M.At = omega arith
-mark_at_most M.DoubleArrow = omega arith
-mark_at_most M.Semicolon = omega arith
-mark_at_most M.LeftChoice = omega arith
-mark_at_most M.Less = omega arith
 mark_at_most _ = omega arith
 
 pub lexeme_at_most : (t : Lexeme) → lexeme_strength t ≤ 5

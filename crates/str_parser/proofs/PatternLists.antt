@@ -1,56 +1,31 @@
 -- Lists of patterns that grow at their end.
 use Rattle.std.proofs.Common.{◌≡◌, ℕ, Bool, true, false, ◌<◌, length, arith, List, [], ◌∷◌, ◌++◌, refl, sym, ◌∙◌, ap, map, Vec, Global}
-use Rattle.std.proofs.lemmas.List.{map-append}
 use Rattle.std.specs.Bool.{◌==◌}
 use Rattle.std.specs.Cmp.{unsigned_Decides}
 use Rattle.str_syntax.specs.declared.strategy.Pattern.{Pattern}
 use Rattle.str_syntax.specs.Trees.{PatternTree, grouped, tuple, PatternTrees, no_patterns, more_patterns}
-use Rattle.str_syntax.specs.Views.{pattern_of, patterns_in, patterns_of}
+use Rattle.str_syntax.specs.Views.{pattern_of, patterns_of}
 use Rattle.str_parser.specs.Begun.{patterns_then, patterns_with, patterns_in_parentheses}
-
-patterns_grown : (xs : List PatternTree) (p : PatternTree) (more : PatternTrees) →
-    patterns_then (xs ++ (p ∷ [])) more ≡ patterns_then xs (more_patterns p more)
-patterns_grown [] p more = refl
-patterns_grown (x ∷ xs) p more = ap (more_patterns x) (patterns_grown xs p more)
-
-patterns_ended : (xs : List PatternTree) → patterns_in xs ≡ patterns_then xs no_patterns
-patterns_ended [] = refl
-patterns_ended (x ∷ xs) = ap (more_patterns x) (patterns_ended xs)
-
-pushed_then : (xs grown : List Pattern) (part : Pattern) (more : PatternTrees) → grown ≡ xs ++ (part ∷ []) →
-    patterns_then (map pattern_of grown) more ≡ patterns_then (map pattern_of xs) (more_patterns (pattern_of part) more)
-pushed_then xs grown part more e =
-    ap (λ ps. patterns_then ps more) (ap (map pattern_of) e ∙ map-append pattern_of xs (part ∷ [])) ∙
-    patterns_grown (map pattern_of xs) (pattern_of part) more
+use Rattle.str_parser.proofs.ListLaws.{patterns_pushed, patterns_ended}
 
 -- one more pattern, and more after it
 pub pushed_with : (done grown : Vec Pattern Global) (part : Pattern) → grown.items ≡ done.items ++ (part ∷ []) →
     (q : PatternTree) (more : PatternTrees) →
     patterns_with grown q more ≡ patterns_with done (pattern_of part) (more_patterns q more)
-pushed_with done grown part e q more = pushed_then done.items grown.items part (more_patterns q more) e
+pushed_with done grown part e q more = patterns_pushed done grown part q more e
 
 -- one more pattern, and none after it
 pub pushed_last : (done grown : Vec Pattern Global) (part : Pattern) → grown.items ≡ done.items ++ (part ∷ []) →
     patterns_of grown.items ≡ patterns_with done (pattern_of part) no_patterns
-pushed_last done grown part e =
-    patterns_ended (map pattern_of grown.items) ∙ pushed_then done.items grown.items part no_patterns e
-
-first_of : (xs : List Pattern) (q : PatternTree) (more : PatternTrees) → xs ≡ [] →
-    patterns_then (map pattern_of xs) (more_patterns q more) ≡ more_patterns q more
-first_of [] q more e = refl
-first_of (x ∷ xs) q more e = cc
+pushed_last done grown part e = sym (patterns_ended done grown part e)
 
 -- a pattern after none
 pub first_with : (none : Vec Pattern Global) (q : PatternTree) (more : PatternTrees) → none.items ≡ [] →
     patterns_with none q more ≡ more_patterns q more
-first_with none q more e = first_of none.items q more e
-
-none_in : (xs : List Pattern) → xs ≡ [] → patterns_of xs ≡ no_patterns
-none_in [] e = refl
-none_in (x ∷ xs) e = cc
+first_with none q more e = ap (λ xs. patterns_then (map pattern_of xs) (more_patterns q more)) e
 
 pub no_patterns_of : (none : Vec Pattern Global) → none.items ≡ [] → patterns_of none.items ≡ no_patterns
-no_patterns_of none e = none_in none.items e
+no_patterns_of none e = ap patterns_of e
 
 -- ---- in parentheses
 

@@ -1,253 +1,205 @@
--- Phrases of any length: what has been read of one, and what each way to go on makes of it.
-use Rattle.std.proofs.Common.{◌≡◌, ℕ, ◌+◌, ◌≤◌, Bool, true, false, List, [], ◌∷◌, ◌++◌, length, refl, sym, ◌∙◌, ap, subst, arith, append_assoc}
+-- Trees one after the other: what has been read of them, and what each way to go on makes of it.
+use Rattle.std.proofs.Common.{◌≡◌, ℕ, ◌+◌, ◌≤◌, Bool, true, false, List, [], ◌∷◌, ◌++◌, length, sym, ◌∙◌, ap, subst, arith, append_assoc}
 use Rattle.std.proofs.lemmas.List.{append-nil}
 use Rattle.str_parser.specs.Lexemes.{Lexeme}
-use Rattle.str_parser.specs.Items.{Item, token, only, Way, too_deep, either, Runs}
-use Rattle.str_parser.specs.Readings.{NotAt, Found, Missing, Nested}
+use Rattle.str_parser.specs.Items.{Item, only, Way, too_deep, either, Runs}
+use Rattle.str_parser.specs.Readings.{NotAt, Found, Missing}
 use Rattle.str_parser.specs.Runs.{NoneOf, FoundAny}
 use Rattle.str_parser.specs.Sorts.{first_is}
+use Rattle.str_parser.proofs.WayLaws.{not_along}
+use Rattle.str_parser.proofs.PhraseLaws.{Writes, Ending, Carries, behind, found_some}
 
--- trees, with what leads to one before each
-abbrev pub many : {T : Type 0} → (List Item → List Item) → (T → List Item → List Item) → List T → List Item → List Item
-many lead write [] is = is
-many lead write (x ∷ xs) is = lead (write x (many lead write xs is))
+abbrev pub several : {T : Type 0} → Writes T → List T → List Item → List Item
+several write [] is = is
+several write (x ∷ xs) is = write x (several write xs is)
 
--- the same without it before the first, of which there is one at least
-abbrev pub some : {T : Type 0} → (List Item → List Item) → (T → List Item → List Item) → List T → List Item → List Item
-some lead write [] is = only false ∷ is
-some lead write (x ∷ xs) is = write x (many lead write xs is)
+-- one at least, the first of them written otherwise
+abbrev pub some : {T : Type 0} → Writes T → Writes T → List T → List Item → List Item
+some first write [] is = only false ∷ is
+some first write (x ∷ xs) is = first x (several write xs is)
 
-abbrev pub following : Lexeme → List Item → List Item
-following t is = token t ∷ is
+-- how trees stand in a row: what comes after one ends it; here another one comes; past these there is no other
+pub record Row {T : Type 0} (write : Writes T) (Ends Stops : Ending) (Here Past : List Lexeme → Type 0) : Type 0 where
+  pub follows : (us : List T) (is : List Item) → Stops is → Ends (several write us is)
+  pub goes_on : (rest : List Lexeme) → Here rest → (is : List Item) → Stops is → Runs either is rest → ⊥
+  pub past : (rest : List Lexeme) → Past rest → (u : T) (is : List Item) → Runs either (write u is) rest → ⊥
+
+-- what lists of the trees are, and that they are written so
+pub record Lists {T U : Type 0} (row : Writes (List T)) (whole : Writes U) (to : List T → U) : Type 0 where
+  pub from : U → List T
+  pub back : (u : U) → u ≡ to (from u)
+  pub written : (xs : List T) (is : List Item) → row xs is ≡ whole (to xs) is
 
 -- the first of these trees are all those that have been read
-pub record Left {T : Type 0} (lead : List Item → List Item) (write : T → List Item →
-    List Item) (all us : List T) (is : List Item) (rest : List Lexeme) : Type 0 where
+pub record Left {T U : Type 0} (write : Writes T) (to : List T → U) (all : List T) (u : U) (is : List Item)
+    (rest : List Lexeme) : Type 0 where
   pub more : List T
-  pub are : us ≡ all ++ more
-  pub runs : Runs either (many lead write more is) rest
+  pub are : u ≡ to (all ++ more)
+  pub runs : Runs either (several write more is) rest
 
 -- the tokens begin with all these trees, which are of at least this number of tokens, and with no others
-pub record Partly {T : Type 0} (begin : List T → List Item → List Item) (lead : List Item → List Item) (write : T →
-    List Item → List Item) (these : Lexeme → Bool) (least : ℕ) (all : List T) (ts rest : List Lexeme) : Type 0 where
-  pub splits : (more : List T) (is : List Item) → begin (all ++ more) is ≡ begin all (many lead write more is)
-  pub sound : (way : Way) (is : List Item) → Runs way is rest → Runs way (begin all is) ts
-  pub only_one : (us : List T) (is : List Item) → NoneOf these is → Runs either (begin us is) ts →
-      Left lead write all us is rest
+pub record Partly {T U : Type 0} (write : Writes T) (Stops : Ending) (whole : Writes U) (to : List T → U) (least : ℕ)
+    (all : List T) (ts rest : List Lexeme) : Type 0 where
+  pub sound : (more : List T) (way : Way) (is : List Item) → Runs way (several write more is) rest →
+      Runs way (whole (to (all ++ more)) is) ts
+  pub only_one : (u : U) (is : List Item) → Stops is → Runs either (whole u is) ts → Left write to all u is rest
   pub no_longer : length rest + least ≤ length ts
-
--- one more tree stands before these tokens
-pub record Next {T : Type 0} (lead : List Item → List Item) (write : T → List Item → List Item) (these : Lexeme →
-    Bool) (x : T) (rest after : List Lexeme) : Type 0 where
-  pub sound : (way : Way) (is : List Item) → Runs way is after → Runs way (lead (write x is)) rest
-  pub only_one : (u : T) (us : List T) (is : List Item) → NoneOf these is →
-      Runs either (lead (write u (many lead write us is))) rest → (u ≡ x) × Runs either (many lead write us is) after
-  pub goes_on : (is : List Item) → NoneOf these is → Runs either is rest → ⊥
-  pub no_longer : length after ≤ length rest
-
--- no more trees
-pub record NoMore {T : Type 0} (lead : List Item → List Item) (write : T → List Item → List Item) (these : Lexeme →
-    Bool) (rest : List Lexeme) : Type 0 where
-  pub none : (u : T) (us : List T) (is : List Item) → NoneOf these is →
-      Runs either (lead (write u (many lead write us is))) rest → ⊥
 
 -- ---- a beginning
 
-first_only : {T : Type 0} (lead : List Item → List Item) (write : T → List Item → List Item) (Stops : List Item →
-    Type 0) (these : Lexeme → Bool) (x : T) (ts rest : List Lexeme) →
-    ((us : List T) (is : List Item) → NoneOf these is → Stops (many lead write us is)) → Found write Stops ts x rest →
-    (us : List T) (is : List Item) → NoneOf these is → Runs either (some lead write us is) ts →
-    Left lead write (x ∷ []) us is rest
-first_only lead write Stops these x ts rest follows f [] is h r = let e = r.0 in cc
-first_only lead write Stops these x ts rest follows f (u ∷ us) is h r =
-    let o = f.only_one u (many lead write us is) (follows us is h) r in
-    record { more = us; are = ap (λ v. v ∷ us) o.0; runs = o.1 }
+module _ {T U : Type 0} {row : Writes (List T)} {whole : Writes U} {to : List T → U} (l : Lists row whole to) where
+  as_listed : (u : U) (is : List Item) (ts : List Lexeme) → Runs either (whole u is) ts →
+      Runs either (row (l.from u) is) ts
+  as_listed u is ts r =
+      subst (λ i. Runs either i ts) (ap (λ v. whole v is) (l.back u) ∙ sym (l.written (l.from u) is)) r
 
--- the first tree
-pub partly_first : {T : Type 0} (lead : List Item → List Item) (write : T → List Item → List Item) (Stops : List Item →
-    Type 0) (these : Lexeme → Bool) (x : T) (ts rest : List Lexeme) →
-    ((us : List T) (is : List Item) → NoneOf these is → Stops (many lead write us is)) → Found write Stops ts x rest →
-    Partly (some lead write) lead write these 1 (x ∷ []) ts rest
-partly_first lead write Stops these x ts rest follows f = record {
-  splits = λ more is. refl;
-  sound = f.sound;
-  only_one = first_only lead write Stops these x ts rest follows f;
-  no_longer = omega (arith, f.shorter);
+  pub as_written : (way : Way) (xs : List T) (is : List Item) (ts : List Lexeme) → Runs way (row xs is) ts →
+      Runs way (whole (to xs) is) ts
+  as_written way xs is ts r = subst (λ i. Runs way i ts) (l.written xs is) r
+
+-- no tree yet
+pub partly_none : {T U : Type 0} {write : Writes T} {Stops : Ending} {whole : Writes U} {to : List T → U} →
+    Lists (several write) whole to → (ts : List Lexeme) → Partly write Stops whole to 0 [] ts ts
+partly_none l ts = record {
+  sound = λ more way is r. as_written l way more is ts r;
+  only_one = λ u is h r. record { more = l.from u; are = l.back u; runs = as_listed l u is ts r };
+  no_longer = omega arith;
 }
 
--- ---- one more
+module _ {T U : Type 0} {first write : Writes T} {whole : Writes U} {to : List T → U} {Ends Stops : Ending}
+    {Here Past : List Lexeme → Type 0} (l : Lists (some first write) whole to) (row : Row write Ends Stops Here Past)
+    {ts : List Lexeme} where
+  left_first : {x : T} {rest : List Lexeme} → Found first Ends ts x rest → (u : U) (is : List Item) → Stops is →
+      (us : List T) → u ≡ to us → Runs either (some first write us is) ts → Left write to (x ∷ []) u is rest
+  left_first f u is h [] e r = let n = r.0 in cc
+  left_first f u is h (v ∷ us) e r =
+      let o = f.only_one v (several write us is) (row.follows us is h) r in
+      record { more = us; are = e ∙ ap (λ w. to (w ∷ us)) o.0; runs = o.1 }
 
-left_more : {T : Type 0} (lead : List Item → List Item) (write : T → List Item → List Item) (these : Lexeme →
-    Bool) (all us : List T) (x : T) (is : List Item) (rest after : List Lexeme) →
-    Next lead write these x rest after → NoneOf these is → (more : List T) → us ≡ all ++ more →
-    Runs either (many lead write more is) rest → Left lead write (all ++ (x ∷ [])) us is after
-left_more lead write these all us x is rest after n h [] e r = absurd (n.goes_on is h r)
-left_more lead write these all us x is rest after n h (u ∷ more) e r =
-    let o = n.only_one u more is h r in
-    record { more = more; are = e ∙ ap (λ v. all ++ (v ∷ more)) o.0 ∙ sym (append_assoc all (x ∷ []) more); runs = o.1 }
+  -- the first tree
+  pub partly_first : {x : T} {rest : List Lexeme} → Found first Ends ts x rest →
+      Partly write Stops whole to 1 (x ∷ []) ts rest
+  partly_first {x} f = record {
+    sound = λ more way is r. as_written l way (x ∷ more) is ts (f.sound way (several write more is) r);
+    only_one = λ u is h r. left_first f u is h (l.from u) (l.back u) (as_listed l u is ts r);
+    no_longer = omega (arith, f.shorter);
+  }
 
-pub partly_more : {T : Type 0} (begin : List T → List Item → List Item) (lead : List Item → List Item) (write : T →
-    List Item → List Item) (these : Lexeme → Bool) (least : ℕ) (all : List T) (x : T) (ts rest after : List Lexeme) →
-    Partly begin lead write these least all ts rest → Next lead write these x rest after →
-    Partly begin lead write these least (all ++ (x ∷ [])) ts after
-partly_more begin lead write these least all x ts rest after w n = record {
-  splits = λ more is. ap (λ l. begin l is) (append_assoc all (x ∷ []) more) ∙ w.splits (x ∷ more) is ∙
-      sym (w.splits (x ∷ []) (many lead write more is));
-  sound = λ way is r. subst (λ i. Runs way i ts) (sym (w.splits (x ∷ []) is))
-      (w.sound way (lead (write x is)) (n.sound way is r));
-  only_one = λ us is h r.
-      let l = w.only_one us is h r in
-      left_more lead write these all us x is rest after n h l.more l.are l.runs;
-  no_longer = omega (arith, w.no_longer, n.no_longer);
+  none_first : Missing first Ends ts → (us : List T) (is : List Item) → Stops is →
+      Runs either (some first write us is) ts → ⊥
+  none_first m [] is h r = let n = r.0 in cc
+  none_first m (u ∷ us) is h r = m.none u (several write us is) (row.follows us is h) r
+
+  -- a fault at the first tree
+  pub at_row_first : Carries first Ends ts whole Stops ts
+  at_row_first = record {
+    missing = λ m. record { none = λ u is h r. none_first m (l.from u) is h (as_listed l u is ts r) };
+    nested = λ n. record {
+      tree = to (n.tree ∷ []);
+      runs = λ is. as_written l too_deep (n.tree ∷ []) is ts (n.runs is);
+    };
+  }
+
+-- ---- one more, or no more
+
+module _ {T U : Type 0} {write : Writes T} {Ends Stops : Ending} {Here Past : List Lexeme → Type 0} {whole : Writes U}
+    {to : List T → U} {least : ℕ} {all : List T} {ts rest : List Lexeme} (row : Row write Ends Stops Here Past)
+    (w : Partly write Stops whole to least all ts rest) where
+  left_more : {x : T} {after : List Lexeme} → Here rest → Found write Ends rest x after → (u : U) (is : List Item) →
+      Stops is → (more : List T) → u ≡ to (all ++ more) → Runs either (several write more is) rest →
+      Left write to (all ++ (x ∷ [])) u is after
+  left_more here f u is h [] e r = absurd (row.goes_on rest here is h r)
+  left_more {x} here f u is h (v ∷ more) e r =
+      let o = f.only_one v (several write more is) (row.follows more is h) r in
+      record {
+        more = more;
+        are = e ∙ ap (λ w. to (all ++ (w ∷ more))) o.0 ∙ ap to (sym (append_assoc all (x ∷ []) more));
+        runs = o.1;
+      }
+
+  pub partly_more : {x : T} {after : List Lexeme} → Here rest → Found write Ends rest x after →
+      Partly write Stops whole to least (all ++ (x ∷ [])) ts after
+  partly_more {x} here f = record {
+    sound = λ more way is r. subst (λ us. Runs way (whole (to us) is) ts) (sym (append_assoc all (x ∷ []) more))
+        (w.sound (x ∷ more) way is (f.sound way (several write more is) r));
+    only_one = λ u is h r. let l = w.only_one u is h r in left_more here f u is h l.more l.are l.runs;
+    no_longer = omega (arith, w.no_longer, f.shorter);
+  }
+
+  left_missing : Here rest → Missing write Ends rest → (is : List Item) → Stops is → (more : List T) →
+      Runs either (several write more is) rest → ⊥
+  left_missing here m is h [] r = row.goes_on rest here is h r
+  left_missing here m is h (u ∷ more) r = m.none u (several write more is) (row.follows more is h) r
+
+  -- a fault at the next tree
+  pub at_next : Here rest → Carries write Ends rest whole Stops ts
+  at_next here = record {
+    missing = λ m. record { none = λ u is h r. let l = w.only_one u is h r in left_missing here m is h l.more l.runs };
+    nested = λ n. record {
+      tree = to (all ++ (n.tree ∷ []));
+      runs = λ is. w.sound (n.tree ∷ []) too_deep is (n.runs is);
+    };
+  }
+
+  left_none : Past rest → (u : U) (is : List Item) → (more : List T) → u ≡ to (all ++ more) →
+      Runs either (several write more is) rest → (u ≡ to all) × Runs either is rest
+  left_none past u is [] e r = (e ∙ ap to (append-nil all), r)
+  left_none past u is (v ∷ more) e r = absurd (row.past rest past v (several write more is) r)
+
+  -- the trees are all that the tokens begin with
+  pub partly_any : Past rest → FoundAny whole Stops ts (to all) rest
+  partly_any past = record {
+    sound = λ way is r. subst (λ us. Runs way (whole (to us) is) ts) (append-nil all) (w.sound [] way is r);
+    only_one = λ u is h r. let l = w.only_one u is h r in left_none past u is l.more l.are l.runs;
+    no_longer = omega (arith, w.no_longer);
+  }
+
+pub partly_found : {T U : Type 0} {write : Writes T} {Ends Stops : Ending} {Here Past : List Lexeme → Type 0}
+    {whole : Writes U} {to : List T → U} {all : List T} {ts rest : List Lexeme} → Row write Ends Stops Here Past →
+    Partly write Stops whole to 1 all ts rest → Past rest → Found whole Stops ts (to all) rest
+partly_found row w past = found_some (partly_any row w past) (omega (arith, w.no_longer))
+
+-- ---- a token before each after the first
+
+-- the tokens begin with this one
+abbrev pub At : Lexeme → List Lexeme → Type 0
+At t ts = (ahead : List Lexeme) × (ts ≡ t ∷ ahead)
+
+token_goes_on : (these : Lexeme → Bool) (t : Lexeme) → these t ≡ true → (rest : List Lexeme) → At t rest →
+    (is : List Item) → NoneOf these is → Runs either is rest → ⊥
+token_goes_on these t on rest here is h r = let f = h t here.0 (rw here.1 at r) in cc
+
+pub token_row : {T : Type 0} {write : Writes T} {Ends : Ending} {these : Lexeme → Bool} (t : Lexeme) → these t ≡ true →
+    ((us : List T) (is : List Item) → NoneOf these is → Ends (several (behind t write) us is)) →
+    Row (behind t write) Ends (NoneOf these) (At t) (NotAt t)
+token_row {write} {these} t on follows = record {
+  follows = follows;
+  goes_on = token_goes_on these t on;
+  past = λ rest n u is r. not_along t (write u is) rest n r;
 }
 
--- ---- an end
+-- ---- trees that begin with one of some tokens
 
-left_none : {T : Type 0} (lead : List Item → List Item) (write : T → List Item → List Item) (these : Lexeme →
-    Bool) (all us : List T) (is : List Item) (rest : List Lexeme) →
-    NoMore lead write these rest → NoneOf these is → (more : List T) → us ≡ all ++ more →
-    Runs either (many lead write more is) rest → (us ≡ all) × Runs either is rest
-left_none lead write these all us is rest n h [] e r = (e ∙ append-nil all, r)
-left_none lead write these all us is rest n h (u ∷ more) e r = absurd (n.none u more is h r)
+-- a token with which one begins ends the one before it, and goes on
+pub record Begins {T : Type 0} (write : Writes T) (begins ends these : Lexeme → Bool) : Type 0 where
+  pub starts : (u : T) (is : List Item) (ts : List Lexeme) → Runs either (write u is) ts → first_is begins ts ≡ true
+  pub here : (t : Lexeme) → begins t ≡ true → (ends t ≡ false) × (these t ≡ true)
+  pub fewer : (t : Lexeme) → these t ≡ false → ends t ≡ false
 
--- the trees are all that the tokens begin with
-pub partly_any : {T : Type 0} (begin : List T → List Item → List Item) (lead : List Item → List Item) (write : T →
-    List Item → List Item) (these : Lexeme → Bool) (least : ℕ) (all : List T) (ts rest : List Lexeme) →
-    Partly begin lead write these least all ts rest → NoMore lead write these rest →
-    FoundAny begin (NoneOf these) ts all rest
-partly_any begin lead write these least all ts rest w n = record {
-  sound = w.sound;
-  only_one = λ us is h r.
-      let l = w.only_one us is h r in
-      left_none lead write these all us is rest n h l.more l.are l.runs;
-  no_longer = omega (arith, w.no_longer);
-}
+module _ {T : Type 0} {write : Writes T} {begins ends these : Lexeme → Bool} (b : Begins write begins ends these) where
+  begun_follows : (us : List T) (is : List Item) → NoneOf these is → NoneOf ends (several write us is)
+  begun_follows [] is h = λ t rest r. b.fewer t (h t rest r)
+  begun_follows (u ∷ us) is h = λ t rest r. (b.here t (b.starts u (several write us is) (t ∷ rest) r)).0
 
-pub partly_found : {T : Type 0} (begin : List T → List Item → List Item) (lead : List Item → List Item) (write : T →
-    List Item → List Item) (these : Lexeme → Bool) (all : List T) (ts rest : List Lexeme) →
-    Partly begin lead write these 1 all ts rest → NoMore lead write these rest → Found begin (NoneOf these) ts all rest
-partly_found begin lead write these all ts rest w n =
-    let f = partly_any begin lead write these 1 all ts rest w n in
-    record { sound = f.sound; only_one = f.only_one; shorter = omega (arith, w.no_longer) }
+  begun_goes_on : (rest : List Lexeme) → first_is begins rest ≡ true → (is : List Item) → NoneOf these is →
+      Runs either is rest → ⊥
+  begun_goes_on [] f is h r = cc
+  begun_goes_on (t ∷ rest) f is h r = let e = h t rest r in let g = (b.here t f).1 in cc
 
-left_missing : {T : Type 0} (lead : List Item → List Item) (write : T → List Item → List Item) (these : Lexeme →
-    Bool) (is : List Item) (rest : List Lexeme) →
-    NoMore lead write these rest → ((is : List Item) → NoneOf these is → Runs either is rest → ⊥) → NoneOf these is →
-    (more : List T) → Runs either (many lead write more is) rest → ⊥
-left_missing lead write these is rest n g h [] r = g is h r
-left_missing lead write these is rest n g h (u ∷ more) r = n.none u more is h r
-
--- what is after the trees goes on with one, but holds none
-pub partly_missing : {T : Type 0} (begin : List T → List Item → List Item) (lead : List Item → List Item) (write : T →
-    List Item → List Item) (these : Lexeme → Bool) (least : ℕ) (all : List T) (ts rest : List Lexeme) →
-    Partly begin lead write these least all ts rest → NoMore lead write these rest →
-    ((is : List Item) → NoneOf these is → Runs either is rest → ⊥) → Missing begin (NoneOf these) ts
-partly_missing begin lead write these least all ts rest w n g = record {
-  none = λ us is h r.
-      let l = w.only_one us is h r in
-      left_missing lead write these is rest n g h l.more l.runs;
-}
-
--- one that is too deep
-pub partly_nested : {T : Type 0} (begin : List T → List Item → List Item) (lead : List Item → List Item) (write : T →
-    List Item → List Item) (these : Lexeme → Bool) (least : ℕ) (all : List T) (x : T) (ts rest : List Lexeme) →
-    Partly begin lead write these least all ts rest → ((is : List Item) → Runs too_deep (lead (write x is)) rest) →
-    Nested begin ts
-partly_nested begin lead write these least all x ts rest w d = record {
-  tree = all ++ (x ∷ []);
-  runs = λ is. subst (λ i. Runs too_deep i ts) (sym (w.splits (x ∷ []) is))
-      (w.sound too_deep (lead (write x is)) (d is));
-}
-
--- ---- a token before each
-
-goes_on : (these : Lexeme → Bool) (t : Lexeme) (rest : List Lexeme) → these t ≡ true → (is : List Item) →
-    NoneOf these is → Runs either is (t ∷ rest) → ⊥
-goes_on these t rest e is h r = let f = h t rest r in cc
-
-pub next_after : {T : Type 0} (t : Lexeme) (write : T → List Item → List Item) (Stops : List Item →
-    Type 0) (these : Lexeme → Bool) (x : T) (rest ahead after : List Lexeme) →
-    these t ≡ true → ((us : List T) (is : List Item) → NoneOf these is → Stops (many (following t) write us is)) →
-    rest ≡ t ∷ ahead → Found write Stops ahead x after →
-    Next (following t) write these x rest after
-next_after t write Stops these x rest ahead after on follows e f = rw e (record {
-  sound = λ way is r. (refl, f.sound way is r);
-  only_one = λ u us is h r. f.only_one u (many (following t) write us is) (follows us is h) r.1;
-  goes_on = goes_on these t ahead on;
-  no_longer = omega (arith, f.shorter);
-})
-
-pub none_at : (t : Lexeme) (rest : List Lexeme) (is : List Item) → NotAt t rest → Runs either (token t ∷ is) rest → ⊥
-none_at t [] is n r = absurd r
-none_at t (u ∷ rest) is n r = n rest (ap (λ v. v ∷ rest) r.0)
-
-pub none_after : {T : Type 0} (t : Lexeme) (write : T → List Item → List Item) (these : Lexeme →
-    Bool) (rest : List Lexeme) → NotAt t rest → NoMore (following t) write these rest
-none_after t write these rest n =
-    record { none = λ u us is h r. none_at t rest (write u (many (following t) write us is)) n r }
-
--- after the token is no tree
-pub missing_after : {T : Type 0} (begin : List T → List Item → List Item) (t : Lexeme) (write : T → List Item →
-    List Item) (Stops : List Item → Type 0) (these : Lexeme →
-    Bool) (least : ℕ) (all : List T) (ts rest ahead : List Lexeme) →
-    Partly begin (following t) write these least all ts rest → these t ≡ true →
-    ((us : List T) (is : List Item) → NoneOf these is → Stops (many (following t) write us is)) →
-    rest ≡ t ∷ ahead → Missing write Stops ahead → Missing begin (NoneOf these) ts
-missing_after begin t write Stops these least all ts rest ahead w on follows e m =
-    let w' : Partly begin (following t) write these least all ts (t ∷ ahead) = rw e at w in
-    partly_missing begin (following t) write these least all ts (t ∷ ahead) w'
-    (record { none = λ u us is h r. m.none u (many (following t) write us is) (follows us is h) r.1 })
-    (goes_on these t ahead on)
-
-pub nested_after : {T : Type 0} (begin : List T → List Item → List Item) (t : Lexeme) (write : T → List Item →
-    List Item) (these : Lexeme → Bool) (least : ℕ) (all : List T) (ts rest ahead : List Lexeme) →
-    Partly begin (following t) write these least all ts rest → rest ≡ t ∷ ahead → Nested write ahead → Nested begin ts
-nested_after begin t write these least all ts rest ahead w e d =
-    let w' : Partly begin (following t) write these least all ts (t ∷ ahead) = rw e at w in
-    partly_nested begin (following t) write these least all d.tree ts (t ∷ ahead) w' (λ is. (refl, d.runs is))
-
--- ---- one tree right after the other
-
-abbrev pub at_once : List Item → List Item
-at_once is = is
-
-goes_on_here : (these begins : Lexeme → Bool) (rest : List Lexeme) → ((t : Lexeme) → begins t ≡ true → these t ≡ true) →
-    first_is begins rest ≡ true → (is : List Item) → NoneOf these is → Runs either is rest → ⊥
-goes_on_here these begins [] implied b is h r = cc
-goes_on_here these begins (t ∷ rest) implied b is h r = let e = h t rest r in let f = implied t b in cc
-
-pub next_here : {T : Type 0} (write : T → List Item → List Item) (Stops : List Item → Type 0) (these begins : Lexeme →
-    Bool) (x : T) (rest after : List Lexeme) →
-    ((t : Lexeme) → begins t ≡ true → these t ≡ true) →
-    ((us : List T) (is : List Item) → NoneOf these is → Stops (many at_once write us is)) →
-    first_is begins rest ≡ true → Found write Stops rest x after →
-    Next at_once write these x rest after
-next_here write Stops these begins x rest after implied follows b f = record {
-  sound = f.sound;
-  only_one = λ u us is h r. f.only_one u (many at_once write us is) (follows us is h) r;
-  goes_on = goes_on_here these begins rest implied b;
-  no_longer = omega (arith, f.shorter);
-}
-
-pub none_here : {T : Type 0} (write : T → List Item → List Item) (these begins : Lexeme → Bool) (rest : List Lexeme) →
-    ((u : T) (is : List Item) → Runs either (write u is) rest → first_is begins rest ≡ true) →
-    first_is begins rest ≡ false → NoMore at_once write these rest
-none_here write these begins rest starts b =
-    record { none = λ u us is h r. let e = starts u (many at_once write us is) r in cc }
-
-pub missing_here : {T : Type 0} (begin : List T → List Item → List Item) (write : T → List Item →
-    List Item) (Stops : List Item → Type 0) (these begins : Lexeme →
-    Bool) (least : ℕ) (all : List T) (ts rest : List Lexeme) →
-    Partly begin at_once write these least all ts rest → ((t : Lexeme) → begins t ≡ true → these t ≡ true) →
-    ((us : List T) (is : List Item) → NoneOf these is → Stops (many at_once write us is)) →
-    first_is begins rest ≡ true → Missing write Stops rest → Missing begin (NoneOf these) ts
-missing_here begin write Stops these begins least all ts rest w implied follows b m =
-    partly_missing begin at_once write these least all ts rest w
-    (record { none = λ u us is h r. m.none u (many at_once write us is) (follows us is h) r })
-    (goes_on_here these begins rest implied b)
-
-pub nested_here : {T : Type 0} (begin : List T → List Item → List Item) (write : T → List Item →
-    List Item) (these : Lexeme → Bool) (least : ℕ) (all : List T) (ts rest : List Lexeme) →
-    Partly begin at_once write these least all ts rest → Nested write rest → Nested begin ts
-nested_here begin write these least all ts rest w d =
-    partly_nested begin at_once write these least all d.tree ts rest w d.runs
+  pub begun_row : Row write (NoneOf ends) (NoneOf these) (λ ts. first_is begins ts ≡ true)
+      (λ ts. first_is begins ts ≡ false)
+  begun_row = record {
+    follows = begun_follows;
+    goes_on = begun_goes_on;
+    past = λ rest f u is r. let e = b.starts u is rest r in cc;
+  }

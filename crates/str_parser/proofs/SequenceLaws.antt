@@ -1,13 +1,14 @@
--- Reading sequences and steps: one law for each way that it can go.
-use Rattle.std.proofs.Common.{◌≡◌, inl, inr, ℕ, ◌+◌, ◌≤◌, true, false, List, ◌∷◌, refl, ◌∙◌, ap, arith}
+-- Sequences and steps: how they are made of their parts.
+use Rattle.std.proofs.Common.{◌≡◌, inl, inr, ℕ, ◌+◌, ◌≤◌, true, false, List, ◌∷◌, Option, Some, None, refl, arith}
 use Rattle.str_lexer.specs.declared.token.Mark.TheVariants as M
 use Rattle.str_syntax.specs.Trees.{SequenceTree, last, then, StepTree, plain_step, matching, PrimaryTree, identity, PatternTree}
 use Rattle.str_parser.specs.Lexemes.{Lexeme, mark, strategy_part, first_begins}
-use Rattle.str_parser.specs.Items.{Item, too_deep, either, Runs}
-use Rattle.str_parser.specs.Phrases.{sign, step, primary}
-use Rattle.str_parser.specs.Readings.{NotAt, AtMost, Found, Missing, Nested}
+use Rattle.str_parser.specs.Items.{Item, Way, either, Runs}
+use Rattle.str_parser.specs.Phrases.{sequence, step, primary}
+use Rattle.str_parser.specs.Readings.{AtMost, Found, Missing, Nested}
 use Rattle.str_parser.specs.Begun.{inner_sequence, inner_pattern}
-use Rattle.str_parser.proofs.PartLaws.{passes, passed, binds_less, not_at_runs}
+use Rattle.str_parser.proofs.PartLaws.{binds_less}
+use Rattle.str_parser.proofs.PhraseLaws.{Makes, makes_on, Parts, Pairs, after_first, optional, is_option, is_inside}
 use Rattle.str_parser.proofs.BeginningLaws.{sequence_begins}
 
 -- ---- sequences at level 201
@@ -25,171 +26,70 @@ pub sequence_beyond : (k : ℕ) (ts : List Lexeme) → first_begins strategy_par
     Missing (inner_sequence k) (AtMost 1) ts
 sequence_beyond k ts b = record { none = λ u is h r. not_begun k ts b u is r }
 
--- ---- the step on the left
+-- ---- sequences up to level 200: a step and, after a ;, a sequence
 
-no_step : (k : ℕ) (ts : List Lexeme) → k ≤ 200 → Missing (step k) (AtMost 2) ts → (u : SequenceTree) (is : List Item) →
-    AtMost 1 is → Runs either (inner_sequence k u is) ts → ⊥
-no_step k ts l n (last a) is h r = n.none a is (omega (arith, h)) (passed strategy_part k (step k a is) ts l r)
-no_step k ts l n (then a q) is h r =
-    n.none a (sign M.Semicolon ∷ inner_sequence (k + 1) q is) (omega arith)
-    (passed strategy_part k (step k a (sign M.Semicolon ∷ inner_sequence (k + 1) q is)) ts l r)
+abbrev pub as_sequence : StepTree → Option SequenceTree → SequenceTree
+as_sequence a None = last a
+as_sequence a (Some q) = then a q
 
-pub missing_step : (k : ℕ) (ts : List Lexeme) → k ≤ 200 → Missing (step k) (AtMost 2) ts →
-    Missing (inner_sequence k) (AtMost 1) ts
-missing_step k ts l n = record { none = no_step k ts l n }
+module _ (k : ℕ) where
+  sequence_sound : (way : Way) (a : StepTree) (o : Option SequenceTree) (is : List Item) (ts : List Lexeme) →
+      Runs way (step k a (optional (mark M.Semicolon) (inner_sequence (k + 1)) o is)) ts →
+      Runs way (sequence k (as_sequence a o) is) ts
+  sequence_sound way a None is ts r = r
+  sequence_sound way a (Some q) is ts r = r
 
-pub nested_step : (k : ℕ) (ts : List Lexeme) → k ≤ 200 → Nested (step k) ts → Nested (inner_sequence k) ts
-nested_step k ts l n = record {
-  tree = last n.tree;
-  runs =
-      λ is. passes too_deep strategy_part k (step k n.tree is) ts l (n.runs is);
-}
+  sequence_only : (u : SequenceTree) (is : List Item) (ts : List Lexeme) → AtMost 1 is →
+      Runs either (sequence k u is) ts →
+      Parts (step k) (AtMost 2) (optional (mark M.Semicolon) (inner_sequence (k + 1))) as_sequence u is ts
+  sequence_only (last a) is ts h r =
+      record { one = a; other = None; are = refl; ends = omega (arith, h); runs = r }
+  sequence_only (then a q) is ts h r =
+      record { one = a; other = Some q; are = refl; ends = omega arith; runs = r }
 
--- ---- no ; after it
+  pub sequence_pairs : Pairs (step k) (AtMost 2) (optional (mark M.Semicolon) (inner_sequence (k + 1))) (sequence k)
+      (AtMost 1) as_sequence
+  sequence_pairs = record { sound = sequence_sound; only = sequence_only }
 
-only_last : (k : ℕ) (ts rest : List Lexeme) (a : StepTree) → k ≤ 200 → Found (step k) (AtMost 2) ts a rest →
-    NotAt (mark M.Semicolon) rest →
-    (u : SequenceTree) (is : List Item) → AtMost 1 is → Runs either (inner_sequence k u is) ts → (u ≡ last a) ×
-    Runs either is rest
-only_last k ts rest a l f n (last b) is h r =
-    let e = f.only_one b is (omega (arith, h)) (passed strategy_part k (step k b is) ts l r) in
-    (ap last e.0, e.1)
-only_last k ts rest a l f n (then b q) is h r =
-    let e = f.only_one b (sign M.Semicolon ∷ inner_sequence (k + 1) q is) (omega arith)
-    (passed strategy_part k (step k b (sign M.Semicolon ∷ inner_sequence (k + 1) q is)) ts l r) in
-    absurd (not_at_runs (mark M.Semicolon) (inner_sequence (k + 1) q is) rest n e.1)
+  pub in_sequence : {ts : List Lexeme} → k ≤ 200 →
+      Makes (sequence k) (AtMost 1) ts (inner_sequence k) (AtMost 1) ts (λ q. q)
+  in_sequence h = is_inside strategy_part k (sequence k) h
 
-pub found_last : (k : ℕ) (ts rest : List Lexeme) (a : StepTree) → k ≤ 200 → Found (step k) (AtMost 2) ts a rest →
-    NotAt (mark M.Semicolon) rest →
-    Found (inner_sequence k) (AtMost 1) ts (last a) rest
-found_last k ts rest a l f n = record {
-  sound = λ way is r. passes way strategy_part k (step k a is) ts l (f.sound way is r);
-  only_one = only_last k ts rest a l f n;
-  shorter = f.shorter;
-}
+  pub after_semicolon : {a : StepTree} {ts rest : List Lexeme} → k ≤ 200 →
+      Found (step k) (AtMost 2) ts a (mark M.Semicolon ∷ rest) →
+      Makes (inner_sequence (k + 1)) (AtMost 1) rest (inner_sequence k) (AtMost 1) ts (then a)
+  after_semicolon {rest = rest} l f = makes_on (makes_on
+      (is_option {Stops = AtMost 1} (λ is h. h) (λ is h r. omega (arith, binds_less is (mark M.Semicolon) rest r, h)))
+      (after_first sequence_pairs f)) (in_sequence l)
 
--- ---- ; after it
+-- ---- steps: a primary and, after a =>, a pattern
 
--- a sequence that runs along the tokens has this step first, and goes on with the sequence on its right
-record ToOthers (k : ℕ) (following : List Lexeme) (a : StepTree) (u : SequenceTree) (is : List Item) : Type 0 where
-  others : SequenceTree
-  is_then : u ≡ then a others
-  runs : Runs either (inner_sequence (k + 1) others is) following
+abbrev pub as_step : PrimaryTree → Option PatternTree → StepTree
+as_step a None = plain_step a
+as_step a (Some p) = matching a p
 
-to_others : (k : ℕ) (ts following : List Lexeme) (a : StepTree) → k ≤ 200 →
-    Found (step k) (AtMost 2) ts a (mark M.Semicolon ∷ following) →
-    (u : SequenceTree) (is : List Item) → AtMost 1 is → Runs either (inner_sequence k u is) ts →
-    ToOthers k following a u is
-to_others k ts following a l f (last b) is h r =
-    let e = f.only_one b is (omega (arith, h)) (passed strategy_part k (step k b is) ts l r) in
-    absurd (omega (arith, binds_less is (mark M.Semicolon) following e.1, h))
-to_others k ts following a l f (then b q) is h r =
-    let e = f.only_one b (sign M.Semicolon ∷ inner_sequence (k + 1) q is) (omega arith)
-    (passed strategy_part k (step k b (sign M.Semicolon ∷ inner_sequence (k + 1) q is)) ts l r) in
-    record { others = q; is_then = ap (λ x. then x q) e.0; runs = e.1.1 }
+module _ (k : ℕ) where
+  step_sound : (way : Way) (a : PrimaryTree) (o : Option PatternTree) (is : List Item) (ts : List Lexeme) →
+      Runs way (primary k a (optional (mark M.DoubleArrow) (inner_pattern true (k + 1)) o is)) ts →
+      Runs way (step k (as_step a o) is) ts
+  step_sound way a None is ts r = r
+  step_sound way a (Some p) is ts r = r
 
-pub missing_others : (k : ℕ) (ts following : List Lexeme) (a : StepTree) → k ≤ 200 →
-    Found (step k) (AtMost 2) ts a (mark M.Semicolon ∷ following) →
-    Missing (inner_sequence (k + 1)) (AtMost 1) following → Missing (inner_sequence k) (AtMost 1) ts
-missing_others k ts following a l f n = record {
-  none = λ u is h r. let t = to_others k ts following a l f u is h r in n.none t.others is h t.runs;
-}
+  step_only : (u : StepTree) (is : List Item) (ts : List Lexeme) → AtMost 2 is → Runs either (step k u is) ts →
+      Parts (primary k) (AtMost 3) (optional (mark M.DoubleArrow) (inner_pattern true (k + 1))) as_step u is ts
+  step_only (plain_step a) is ts h r =
+      record { one = a; other = None; are = refl; ends = omega (arith, h); runs = r }
+  step_only (matching a p) is ts h r =
+      record { one = a; other = Some p; are = refl; ends = omega arith; runs = r }
 
-pub nested_others : (k : ℕ) (ts following : List Lexeme) (a : StepTree) → k ≤ 200 →
-    Found (step k) (AtMost 2) ts a (mark M.Semicolon ∷ following) →
-    Nested (inner_sequence (k + 1)) following → Nested (inner_sequence k) ts
-nested_others k ts following a l f n = record {
-  tree = then a n.tree;
-  runs = λ is. passes too_deep strategy_part k (step k a (sign M.Semicolon ∷ inner_sequence (k + 1) n.tree is))
-      ts l (f.sound too_deep (sign M.Semicolon ∷ inner_sequence (k + 1) n.tree is) (refl, n.runs is));
-}
+  pub step_pairs : Pairs (primary k) (AtMost 3) (optional (mark M.DoubleArrow) (inner_pattern true (k + 1))) (step k)
+      (AtMost 2) as_step
+  step_pairs = record { sound = step_sound; only = step_only }
 
-pub found_then : (k : ℕ) (ts following rest : List Lexeme) (a : StepTree) (q : SequenceTree) → k ≤ 200 →
-    Found (step k) (AtMost 2) ts a (mark M.Semicolon ∷ following) →
-    Found (inner_sequence (k + 1)) (AtMost 1) following q rest → Found (inner_sequence k) (AtMost 1) ts (then a q) rest
-found_then k ts following rest a q l f g = record {
-  sound = λ way is r. passes way strategy_part k (step k a (sign M.Semicolon ∷ inner_sequence (k + 1) q is))
-      ts l (f.sound way (sign M.Semicolon ∷ inner_sequence (k + 1) q is) (refl, g.sound way is r));
-  only_one = λ u is h r.
-      let t = to_others k ts following a l f u is h r in
-      let e = g.only_one t.others is h t.runs in
-      (t.is_then ∙ ap (then a) e.0, e.1);
-  shorter = omega (arith, f.shorter, g.shorter);
-}
-
--- ---- steps
-
-no_primary : (k : ℕ) (ts : List Lexeme) → Missing (primary k) (AtMost 3) ts → (u : StepTree) (is : List Item) →
-    AtMost 2 is → Runs either (step k u is) ts → ⊥
-no_primary k ts n (plain_step a) is h r = n.none a is (omega (arith, h)) r
-no_primary k ts n (matching a p) is h r =
-    n.none a (sign M.DoubleArrow ∷ inner_pattern true (k + 1) p is) (omega arith) r
-
-pub missing_primary : (k : ℕ) (ts : List Lexeme) → Missing (primary k) (AtMost 3) ts → Missing (step k) (AtMost 2) ts
-missing_primary k ts n = record { none = no_primary k ts n }
-
-pub nested_primary : (k : ℕ) (ts : List Lexeme) → Nested (primary k) ts → Nested (step k) ts
-nested_primary k ts n = record { tree = plain_step n.tree; runs = n.runs }
-
-only_plain : (k : ℕ) (ts rest : List Lexeme) (a : PrimaryTree) → Found (primary k) (AtMost 3) ts a rest →
-    NotAt (mark M.DoubleArrow) rest →
-    (u : StepTree) (is : List Item) → AtMost 2 is → Runs either (step k u is) ts → (u ≡ plain_step a) ×
-    Runs either is rest
-only_plain k ts rest a f n (plain_step b) is h r =
-    let e = f.only_one b is (omega (arith, h)) r in
-    (ap plain_step e.0, e.1)
-only_plain k ts rest a f n (matching b p) is h r =
-    absurd (not_at_runs (mark M.DoubleArrow) (inner_pattern true (k + 1) p is)
-    rest n (f.only_one b (sign M.DoubleArrow ∷ inner_pattern true (k + 1) p is) (omega arith) r).1)
-
-pub found_plain_step : (k : ℕ) (ts rest : List Lexeme) (a : PrimaryTree) → Found (primary k) (AtMost 3) ts a rest →
-    NotAt (mark M.DoubleArrow) rest →
-    Found (step k) (AtMost 2) ts (plain_step a) rest
-found_plain_step k ts rest a f n = record {
-  sound = f.sound;
-  only_one = only_plain k ts rest a f n;
-  shorter = f.shorter;
-}
-
--- a step that runs along the tokens is this primary with => and the pattern on its right
-record ToPattern (k : ℕ) (following : List Lexeme) (a : PrimaryTree) (u : StepTree) (is : List Item) : Type 0 where
-  right : PatternTree
-  is_matching : u ≡ matching a right
-  runs : Runs either (inner_pattern true (k + 1) right is) following
-
-to_pattern : (k : ℕ) (ts following : List Lexeme) (a : PrimaryTree) →
-    Found (primary k) (AtMost 3) ts a (mark M.DoubleArrow ∷ following) →
-    (u : StepTree) (is : List Item) → AtMost 2 is → Runs either (step k u is) ts → ToPattern k following a u is
-to_pattern k ts following a f (plain_step b) is h r =
-    let e = f.only_one b is (omega (arith, h)) r in
-    absurd (omega (arith, binds_less is (mark M.DoubleArrow) following e.1, h))
-to_pattern k ts following a f (matching b p) is h r =
-    let e = f.only_one b (sign M.DoubleArrow ∷ inner_pattern true (k + 1) p is) (omega arith) r in
-    record { right = p; is_matching = ap (λ x. matching x p) e.0; runs = e.1.1 }
-
-pub missing_matched : (k : ℕ) (ts following : List Lexeme) (a : PrimaryTree) →
-    Found (primary k) (AtMost 3) ts a (mark M.DoubleArrow ∷ following) →
-    Missing (inner_pattern true (k + 1)) (AtMost 3) following → Missing (step k) (AtMost 2) ts
-missing_matched k ts following a f n = record {
-  none = λ u is h r. let t = to_pattern k ts following a f u is h r in n.none t.right is (omega (arith, h)) t.runs;
-}
-
-pub nested_matched : (k : ℕ) (ts following : List Lexeme) (a : PrimaryTree) →
-    Found (primary k) (AtMost 3) ts a (mark M.DoubleArrow ∷ following) →
-    Nested (inner_pattern true (k + 1)) following → Nested (step k) ts
-nested_matched k ts following a f n = record {
-  tree = matching a n.tree;
-  runs = λ is. f.sound too_deep (sign M.DoubleArrow ∷ inner_pattern true (k + 1) n.tree is) (refl, n.runs is);
-}
-
-pub found_matching : (k : ℕ) (ts following rest : List Lexeme) (a : PrimaryTree) (p : PatternTree) →
-    Found (primary k) (AtMost 3) ts a (mark M.DoubleArrow ∷ following) →
-    Found (inner_pattern true (k + 1)) (AtMost 3) following p rest → Found (step k) (AtMost 2) ts (matching a p) rest
-found_matching k ts following rest a p f g = record {
-  sound = λ way is r. f.sound way (sign M.DoubleArrow ∷ inner_pattern true (k + 1) p is) (refl, g.sound way is r);
-  only_one = λ u is h r.
-      let t = to_pattern k ts following a f u is h r in
-      let e = g.only_one t.right is (omega (arith, h)) t.runs in
-      (t.is_matching ∙ ap (matching a) e.0, e.1);
-  shorter = omega (arith, f.shorter, g.shorter);
-}
+  pub after_double_arrow : {a : PrimaryTree} {ts rest : List Lexeme} →
+      Found (primary k) (AtMost 3) ts a (mark M.DoubleArrow ∷ rest) →
+      Makes (inner_pattern true (k + 1)) (AtMost 3) rest (step k) (AtMost 2) ts (matching a)
+  after_double_arrow {rest = rest} f = makes_on
+      (is_option {Ends = AtMost 3} {Stops = AtMost 2} (λ is h. omega (arith, h))
+      (λ is h r. omega (arith, binds_less is (mark M.DoubleArrow) rest r, h)))
+      (after_first step_pairs f)

@@ -1,18 +1,10 @@
 -- How tokens run along items.
 use Rattle.std.proofs.Common.{List, [], ◌∷◌, inl, inr, ap, arith}
-use Rattle.str_parser.specs.declared.refusal.Refusal.{Refusal}
-use Rattle.str_parser.specs.declared.refusal.Refusal.TheVariants as refusals
+use Rattle.str_parser.specs.declared.refusal.ParseRefusal.{ParseRefusal}
+use Rattle.str_parser.specs.declared.refusal.ParseRefusal.TheVariants as refusals
 use Rattle.str_parser.specs.Lexemes.{Lexeme}
 use Rattle.str_parser.specs.Items.{Item, token, part, no_build, only, whole, too_deep, either, Runs}
 use Rattle.str_parser.specs.Readings.{NotAt, Missing, Nested, IsFault, IsSyntax}
-
-pub whole_either : (is : List Item) (ts : List Lexeme) → Runs whole is ts → Runs either is ts
-whole_either [] ts r = r
-whole_either (token u ∷ is) [] r = absurd r
-whole_either (token u ∷ is) (t ∷ ts) r = (r.0, whole_either is ts r.1)
-whole_either (part p k ∷ is) ts r = inr (whole_either is ts r.1)
-whole_either (no_build ∷ is) ts r = (r.0, whole_either is ts r.1)
-whole_either (only b ∷ is) ts r = (r.0, whole_either is ts r.1)
 
 pub deep_either : (is : List Item) (ts : List Lexeme) → Runs too_deep is ts → Runs either is ts
 deep_either [] ts r = absurd r
@@ -40,7 +32,7 @@ not_along t is (u ∷ us) n r = n us (ap (λ x. x ∷ us) r.0)
 
 -- one fault means the other
 pub fault_along : {T U : Type 0} {write : T → List Item → List Item} {Stops : List Item → Type 0} {ts : List Lexeme}
-    {outer : U → List Item → List Item} {Ends : List Item → Type 0} {us : List Lexeme} (e : Refusal) →
+    {outer : U → List Item → List Item} {Ends : List Item → Type 0} {us : List Lexeme} (e : ParseRefusal) →
     (Missing write Stops ts → Missing outer Ends us) → (Nested write ts → Nested outer us) →
     IsFault write Stops ts e → IsFault outer Ends us e
 fault_along refusals.Memory f g h = tt
@@ -49,7 +41,7 @@ fault_along (refusals.Nesting _) f g h = g h
 
 -- a fault that says Syntax says that there is no tree
 pub syntax_fault : {T : Type 0} {write : T → List Item → List Item} {Stops : List Item →
-    Type 0} {ts : List Lexeme} (e : Refusal) →
+    Type 0} {ts : List Lexeme} (e : ParseRefusal) →
     IsSyntax e → Missing write Stops ts → IsFault write Stops ts e
 syntax_fault (refusals.Syntax _ _) s m = m
 syntax_fault _ s m = absurd s

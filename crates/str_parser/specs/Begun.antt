@@ -3,8 +3,8 @@
 use Rattle.std.specs.Prelude.{◌≡◌, ℕ, ◌+◌, ◌≤◌, length, map, if◌then◌else◌, Bool, true, false, List, [], ◌∷◌, Result, Ok, Err, Box}
 use Rattle.std.specs.declared.vec.Vec.{Vec}
 use Rattle.std.specs.declared.alloc.Global.{Global}
-use Rattle.str_parser.specs.declared.refusal.Refusal.{Refusal}
-use Rattle.str_parser.specs.declared.refusal.Refusal.TheVariants as refusals
+use Rattle.str_parser.specs.declared.refusal.ParseRefusal.{ParseRefusal}
+use Rattle.str_parser.specs.declared.refusal.ParseRefusal.TheVariants as refusals
 use Rattle.str_lexer.specs.declared.token.Mark.TheVariants as M
 use Rattle.str_lexer.specs.declared.token.Keyword.TheVariants as K
 use Rattle.str_syntax.specs.declared.strategy.Operator.{Operator}
@@ -207,19 +207,20 @@ following (states.ToStrategy _ rest) = rest
 following (states.ToPattern _ rest) = rest
 
 -- the primary goes on, at every level, as what has been read says; or it does not go on so
-abbrev pub IsNext : (ℕ → PrimaryTree → List Item → List Item → Type 0) → List Lexeme → Result Begun Refusal → Type 0
+abbrev pub IsNext : (ℕ → PrimaryTree → List Item → List Item → Type 0) → List Lexeme → Result Begun ParseRefusal →
+    Type 0
 IsNext Rest ts (Ok b) = (k : ℕ) → Leads (Rest k) (Continues k b) ts (following b)
 IsNext Rest ts (Err refusals.Memory) = Unit {0}
 IsNext Rest ts (Err (refusals.Syntax _ _)) = (k : ℕ) → NoRun (Rest k) ts
 IsNext Rest ts (Err _) = ⊥
 
 -- what has been read of a primary leads here, or is a fault of it
-abbrev pub Stands : ℕ → List Lexeme → Result Begun Refusal → Type 0
+abbrev pub Stands : ℕ → List Lexeme → Result Begun ParseRefusal → Type 0
 Stands k ts (Ok b) = Leads (Written k) (Continues k b) ts (following b)
 Stands k ts (Err e) = IsFault (primary k) (AtMost 3) ts e
 
 -- one more than the tokens that are left, or nothing at a fault
-abbrev pub left_in : Result Begun Refusal → ℕ
+abbrev pub left_in : Result Begun ParseRefusal → ℕ
 left_in (Ok b) = length (following b) + 1
 left_in (Err e) = 0
 
@@ -232,7 +233,7 @@ HasPattern before p k = GoesBy k before p
 
 -- the same after a part in it was read, or refused
 abbrev pub IsNextAfter : {T X : Type 0} → (T → ℕ → PrimaryTree → List Item → List Item → Type 0) → (X → T) →
-    Result (X × List Lexeme) Refusal → Result Begun Refusal → Type 0
+    Result (X × List Lexeme) ParseRefusal → Result Begun ParseRefusal → Type 0
 IsNextAfter Has tree_of (Ok (x, rest)) begun = IsNext (Has (tree_of x)) rest begun
 IsNextAfter Has tree_of (Err e) begun = begun ≡ Err e
 
@@ -328,7 +329,7 @@ pub record NoPattern (Rest : PatternTree → List Item → List Item → Type 0)
 
 -- the pattern goes on, at every level, as what has been read says; or it does not go on so
 abbrev pub IsNextPattern : (Bool → ℕ → PatternTree → List Item → List Item → Type 0) → Bool → List Lexeme →
-    Result BegunPattern Refusal → Type 0
+    Result BegunPattern ParseRefusal → Type 0
 IsNextPattern Rest in_match ts (Ok b) = (k : ℕ) →
     LeadsPattern (Rest in_match k) (ContinuesPattern in_match k b) ts (after_pattern b)
 IsNextPattern Rest in_match ts (Err refusals.Memory) = Unit {0}
@@ -344,7 +345,7 @@ abbrev pub boxed_primary_of : Box Primary Global → PrimaryTree
 boxed_primary_of t = primary_of t.value
 
 -- a primary that has been read whole
-abbrev pub IsWhole : PrimaryTree → List Lexeme → Result Begun Refusal → Type 0
+abbrev pub IsWhole : PrimaryTree → List Lexeme → Result Begun ParseRefusal → Type 0
 IsWhole u ts (Ok (states.Whole t rest)) = (primary_of t.value ≡ u) × (rest ≡ ts)
 IsWhole u ts (Ok _) = ⊥
 IsWhole u ts (Err refusals.Memory) = Unit {0}

@@ -2,6 +2,7 @@ pub mod Lexemes
 pub mod Items
 pub mod Phrases
 pub mod Within
+pub mod Refusals
 pub mod Readings
 pub mod Begun
 pub mod Beyond

@@ -3,8 +3,7 @@
 use Rattle.std.specs.Prelude.{◌≡◌, Bool, true, false, map, if◌then◌else◌, List, [], ◌∷◌, Result, Ok, Err}
 use Rattle.std.specs.declared.vec.Vec.{Vec}
 use Rattle.std.specs.declared.alloc.Global.{Global}
-use Rattle.str_parser.specs.declared.refusal.Refusal.{Refusal}
-use Rattle.str_parser.specs.declared.refusal.Refusal.TheVariants as refusals
+use Rattle.str_parser.specs.declared.refusal.ParseRefusal.{ParseRefusal}
 use Rattle.term_model.specs.declared.fault.Fault.{Fault}
 use Rattle.term_model.specs.declared.fault.Fault.TheVariants as faults
 use Rattle.str_lexer.specs.declared.token.Keyword.{Keyword}
@@ -64,7 +63,7 @@ AtEnd is = is ≡ []
 -- ---- all of the tokens
 
 -- the tree that all of the tokens are, or a fault
-abbrev pub IsReadingAll : {T X : Type 0} → (T → List Item → List Item) → (X → T) → List Lexeme → Result X Refusal →
+abbrev pub IsReadingAll : {T X : Type 0} → (T → List Item → List Item) → (X → T) → List Lexeme → Result X ParseRefusal →
     Type 0
 IsReadingAll write tree_of ts (Ok x) = FoundAny write AtEnd ts (tree_of x) []
 IsReadingAll write tree_of ts (Err e) = IsFault write AtEnd ts e
@@ -82,12 +81,6 @@ abbrev pub sections_of : Vec Section Global → List SectionTree
 sections_of parts = map section_of parts.items
 
 -- ---- files
-
--- the fault that a refusal is
-abbrev pub fault_of : Refusal → Fault
-fault_of refusals.Memory = faults.Memory
-fault_of (refusals.Syntax at _) = faults.Syntax at
-fault_of (refusals.Nesting at) = faults.Nesting at
 
 -- What reading a file returns: the file; Syntax where the tokens are no phrase, and none up to a part at level 201;
 -- Nesting where they are one up to such a part.

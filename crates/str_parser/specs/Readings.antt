@@ -6,8 +6,8 @@ use Rattle.std.specs.declared.alloc.Global.{Global}
 use Rattle.str_lexer.specs.declared.token.Mark.{Mark}
 use Rattle.str_lexer.specs.declared.token.Mark.TheVariants as M
 use Rattle.str_lexer.specs.declared.token.Keyword.{Keyword}
-use Rattle.str_parser.specs.declared.refusal.Refusal.{Refusal}
-use Rattle.str_parser.specs.declared.refusal.Refusal.TheVariants as refusals
+use Rattle.str_parser.specs.declared.refusal.ParseRefusal.{ParseRefusal}
+use Rattle.str_parser.specs.declared.refusal.ParseRefusal.TheVariants as refusals
 use Rattle.str_parser.specs.Lexemes.{Lexeme, name, wildcard, integer, quoted, mark, keyword, left_out}
 use Rattle.str_parser.specs.Items.{Item, token, part, no_build, only, Way, too_deep, either, Runs}
 use Rattle.str_parser.specs.declared.input.Lexeme.{Lexeme as CodeLexeme}
@@ -45,7 +45,7 @@ IsAfter m = IsBehind (mark m)
 abbrev pub IsAfterKeyword : Keyword → List Lexeme → Option (List Lexeme) → Type 0
 IsAfterKeyword k = IsBehind (keyword k)
 
-abbrev pub IsSyntax : Refusal → Type 0
+abbrev pub IsSyntax : ParseRefusal → Type 0
 IsSyntax (refusals.Syntax _ _) = Unit {0}
 IsSyntax _ = ⊥
 
@@ -98,14 +98,15 @@ pub record Nested {T : Type 0} (write : T → List Item → List Item) (ts : Lis
   pub runs : (is : List Item) → Runs too_deep (write tree is) ts
 
 -- a fault: Syntax where there is no tree, Nesting where one is too deep
-abbrev pub IsFault : {T : Type 0} → (T → List Item → List Item) → (List Item → Type 0) → List Lexeme → Refusal → Type 0
+abbrev pub IsFault : {T : Type 0} → (T → List Item → List Item) → (List Item → Type 0) → List Lexeme → ParseRefusal →
+    Type 0
 IsFault write Stops ts refusals.Memory = Unit {0}
 IsFault write Stops ts (refusals.Syntax _ _) = Missing write Stops ts
 IsFault write Stops ts (refusals.Nesting _) = Nested write ts
 
 -- the tree and the rest, or a fault
 abbrev pub IsReading : {T X : Type 0} → (T → List Item → List Item) → (List Item → Type 0) → (X → T) → List Lexeme →
-    Result (X × List Lexeme) Refusal → Type 0
+    Result (X × List Lexeme) ParseRefusal → Type 0
 IsReading write Stops tree_of ts (Ok (x, rest)) = Found write Stops ts (tree_of x) rest
 IsReading write Stops tree_of ts (Err e) = IsFault write Stops ts e
 

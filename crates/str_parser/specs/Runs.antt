@@ -2,7 +2,7 @@
 -- Phrases of any length: where they end, and what reading them returns.
 use Rattle.std.specs.Prelude.{◌≡◌, ◌≤◌, Bool, true, false, length, List, ◌∷◌, Result, Ok, Err}
 use Rattle.str_lexer.specs.declared.token.Mark.TheVariants as M
-use Rattle.str_parser.specs.declared.refusal.Refusal.{Refusal}
+use Rattle.str_parser.specs.declared.refusal.ParseRefusal.{ParseRefusal}
 use Rattle.str_parser.specs.Lexemes.{Lexeme, name, mark}
 use Rattle.str_parser.specs.Items.{Item, Way, either, Runs}
 use Rattle.str_parser.specs.Readings.{IsFault}
@@ -21,7 +21,7 @@ pub record FoundAny {T : Type 0} (write : T → List Item → List Item) (Stops 
 
 -- the tree, which may be of no token, and the rest, or a fault
 abbrev pub IsReadingAny : {T X : Type 0} → (T → List Item → List Item) → (List Item → Type 0) → (X → T) → List Lexeme →
-    Result (X × List Lexeme) Refusal → Type 0
+    Result (X × List Lexeme) ParseRefusal → Type 0
 IsReadingAny write Stops tree_of ts (Ok (x, rest)) = FoundAny write Stops ts (tree_of x) rest
 IsReadingAny write Stops tree_of ts (Err e) = IsFault write Stops ts e
 

@@ -11,22 +11,22 @@ ghost use Rattle.str_parser.specs.declared.begun.Begun.TheVariants as states;
 ghost use Rattle.str_parser.specs.Beyond.{IsBeyondFault};
 
 use crate::begun::{BeforePattern, Begun, BegunPattern};
-use crate::expected::Expected;
+use crate::expected::Candidate;
 use crate::file::MAX_LEVEL;
 use crate::input::{Input, Lexeme};
 use crate::pattern_part::{begin_annotations, begins_pattern, build_application};
-use crate::refusal::Refusal;
+use crate::refusal::ParseRefusal;
 use crate::{pattern_begin, primary_begin};
 use std::alloc::Global;
 use str_lexer::{Keyword, Mark};
 use str_syntax::{Pattern, Primary, Sequence, Step, Strategy, build};
 
 /// The fault where a part would stand beyond the greatest level: whether the tokens can begin it decides.
-fn beyond(input: &Input<'_>, begins: bool, expected: Expected) -> Refusal
+fn beyond(input: &Input<'_>, begins: bool, expected: &'static [Candidate]) -> ParseRefusal
     ensures { IsBeyondFault begins result }
 {
     if begins {
-        return Refusal::Nesting { at: input.at() };
+        return ParseRefusal::Nesting { at: input.at() };
     }
     input.syntax(expected)
 }
@@ -74,12 +74,12 @@ pub(crate) fn strategy<'a>(
     alloc: Global,
     input: Input<'a>,
     level: u32,
-) -> Result<(Strategy, Input<'a>), Refusal>
+) -> Result<(Strategy, Input<'a>), ParseRefusal>
     requires { level ≤ max_level + 1 }
     ensures { IsReading (inner_strategy level) (AtMost 0) strategy_of input.entry result }
 {
     if level > MAX_LEVEL {
-        return Err(beyond(&input, begins_strategy(&input), Expected::Strategy));
+        return Err(beyond(&input, begins_strategy(&input), &[Candidate::Strategy]));
     }
     let (first, rest) = sequence(alloc, input, level)?;
     if let Some(following) = rest.after(Mark::LeftChoice) {
@@ -99,7 +99,7 @@ fn left_choice<'a>(
     first: Sequence,
     input: Input<'a>,
     level: u32,
-) -> Result<(Strategy, Input<'a>), Refusal>
+) -> Result<(Strategy, Input<'a>), ParseRefusal>
     requires { level ≤ max_level }
     ensures { (ts : List L) → Found (inner_sequence level) (AtMost 1) ts (sequence_of first)
         (mark M.LeftChoice ∷ input.entry) →
@@ -117,7 +117,7 @@ fn guarded_choice<'a>(
     first: Sequence,
     input: Input<'a>,
     level: u32,
-) -> Result<(Strategy, Input<'a>), Refusal>
+) -> Result<(Strategy, Input<'a>), ParseRefusal>
     requires { level ≤ max_level }
     ensures { (ts : List L) → Found (inner_sequence level) (AtMost 1) ts (sequence_of first)
         (mark M.Less ∷ input.entry) →
@@ -125,7 +125,7 @@ fn guarded_choice<'a>(
 {
     let (then, rest) = strategy(alloc, input, level + 1)?;
     let Some(following) = rest.after(Mark::Plus) else {
-        return Err(rest.syntax(Expected::Plus));
+        return Err(rest.syntax(&[Candidate::Plus]));
     };
     let (other, rest) = strategy(alloc, following, level + 1)?;
     let made = build::guarded_choice(alloc, first, then, other)?;
@@ -138,12 +138,12 @@ fn sequence<'a>(
     alloc: Global,
     input: Input<'a>,
     level: u32,
-) -> Result<(Sequence, Input<'a>), Refusal>
+) -> Result<(Sequence, Input<'a>), ParseRefusal>
     requires { level ≤ max_level + 1 }
     ensures { IsReading (inner_sequence level) (AtMost 1) sequence_of input.entry result }
 {
     if level > MAX_LEVEL {
-        return Err(beyond(&input, begins_strategy(&input), Expected::Strategy));
+        return Err(beyond(&input, begins_strategy(&input), &[Candidate::Strategy]));
     }
     let (first, rest) = step(alloc, input, level)?;
     let Some(following) = rest.after(Mark::Semicolon) else {
@@ -160,7 +160,7 @@ fn then<'a>(
     first: Step,
     input: Input<'a>,
     level: u32,
-) -> Result<(Sequence, Input<'a>), Refusal>
+) -> Result<(Sequence, Input<'a>), ParseRefusal>
     requires { level ≤ max_level }
     ensures { (ts : List L) → Found (step level) (AtMost 2) ts (step_of first)
         (mark M.Semicolon ∷ input.entry) →
@@ -172,7 +172,7 @@ fn then<'a>(
 
 /// Reads the step at this level that the tokens begin with; also returns the tokens after it.
 #[cycle(phrase)]
-fn step<'a>(alloc: Global, input: Input<'a>, level: u32) -> Result<(Step, Input<'a>), Refusal>
+fn step<'a>(alloc: Global, input: Input<'a>, level: u32) -> Result<(Step, Input<'a>), ParseRefusal>
     requires { level ≤ max_level }
     ensures { IsReading (step level) (AtMost 2) step_of input.entry result }
 {
@@ -194,7 +194,7 @@ fn matching<'a>(
     first: Box<Primary>,
     input: Input<'a>,
     level: u32,
-) -> Result<(Step, Input<'a>), Refusal>
+) -> Result<(Step, Input<'a>), ParseRefusal>
     requires { level ≤ max_level }
     ensures { (ts : List L) → Found (primary level) (AtMost 3) ts (boxed_primary_of first)
         (mark M.DoubleArrow ∷ input.entry) → IsReading (step level) (AtMost 2) step_of ts result }
@@ -213,7 +213,7 @@ fn primary<'a>(
     alloc: Global,
     input: Input<'a>,
     level: u32,
-) -> Result<(Box<Primary>, Input<'a>), Refusal>
+) -> Result<(Box<Primary>, Input<'a>), ParseRefusal>
     requires { level ≤ max_level }
     ensures { IsReading (primary level) (AtMost 3) boxed_primary_of input.entry result }
 {
@@ -239,7 +239,7 @@ fn with_pattern<'a>(
     before: BeforePattern,
     input: Input<'a>,
     level: u32,
-) -> Result<Begun<'a>, Refusal>
+) -> Result<Begun<'a>, ParseRefusal>
     requires { level ≤ max_level }
     ensures stands { (ts : List L) →
         Leads (Written level) (Continues level (states.ToPattern before input.entry))
@@ -257,12 +257,16 @@ pub(crate) fn pattern<'a>(
     input: Input<'a>,
     in_match: bool,
     level: u32,
-) -> Result<(Pattern, Input<'a>), Refusal>
+) -> Result<(Pattern, Input<'a>), ParseRefusal>
     requires { level ≤ max_level + 1 }
     ensures { IsReading (inner_pattern in_match level) (AtMost 3) pattern_of input.entry result }
 {
     if level > MAX_LEVEL {
-        return Err(beyond(&input, begins_pattern(&input, in_match), Expected::Pattern));
+        return Err(beyond(
+            &input,
+            begins_pattern(&input, in_match),
+            &[Candidate::Pattern],
+        ));
     }
     let mut begun = pattern_begin::begin(alloc, input, in_match)?;
     loop {

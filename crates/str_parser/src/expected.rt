@@ -1,128 +1,180 @@
-//! What would go on at the place of a fault of syntax, for a person. No contract of the parser speaks of it.
+//! Why no phrase goes on with a token, for a person. No contract of the parser speaks of it.
 
+use std::fmt;
 use str_syntax::{Declaration, Definition, DefinitionForm, Section, SignaturePart};
 
-/// What could stand where the tokens of definitions are no phrase: that with which the innermost part goes on or ends that is open there.
-/// An operator may be possible as well.
+/// Why no phrase goes on with a token.
 #[derive(Clone, Copy, Debug, PartialEq, Eq)]
-pub enum Expected {
-    /// The keyword of a section.
-    Section,
-    /// After the word `signature`.
-    PartOrSection,
-    /// After the sorts of a signature.
-    SortOrSection,
-    /// After a declaration.
-    DeclarationOrSection,
-    /// After a declaration that has one sort as yet.
-    ArgumentOrDeclaration,
-    /// After the word `rules` or `strategies`.
-    DefinitionOrSection,
-    /// After a rule without a condition.
-    WhereOrDefinition,
-    /// After a strategy with which a definition may end.
-    OperatorOrDefinition,
-    Sort,
-    Constructor,
-    Name,
-    /// The definition of a `let` after the first, or the end of its definitions.
-    NameOrIn,
-    /// Where parameters begin.
-    NameBarOrParenthesis,
-    /// Where term parameters begin.
-    NameOrParenthesis,
-    Strategy,
-    Pattern,
-    QuotedText,
-    OpenParenthesis,
-    CloseParenthesis,
-    CloseBracket,
-    CloseBrace,
-    Greater,
-    Plus,
-    Colon,
-    Equals,
-    Arrow,
-    Backslash,
-    Then,
-    End,
-    ColonOrEquals,
-    CommaOrColon,
-    StarOrArrow,
-    WhereOrBackslash,
-    ElseOrEnd,
-    CommaOrParenthesis,
-    /// After a part of a call or of parameters, where terms may come after a bar.
-    CommaBarOrParenthesis,
-    CommaBarOrBracket,
-    /// After an annotation of a pattern.
-    CommaOrBrace,
+pub enum SyntaxReason {
+    /// Something else could stand there.
+    Expected(Expected),
     /// No `{`: the pattern has annotations already.
     OneListOfAnnotations,
     /// No `{`: it would follow `<s>`, which has no annotations without parentheses around it.
     ParenthesesAroundApplied,
 }
 
+/// What could stand there, as `expected ',' or ')'`, or the rule that the token breaks.
+impl fmt::Display for SyntaxReason {
+    fn fmt<W: fmt::Write>(&self, f: &mut fmt::Formatter<W>) -> fmt::Result {
+        match self {
+            SyntaxReason::Expected(expected) => write!(f, "expected {expected}"),
+            SyntaxReason::OneListOfAnnotations => {
+                f.write_str("a pattern has one list of annotations")
+            }
+            SyntaxReason::ParenthesesAroundApplied => {
+                f.write_str("'<..>' takes annotations only in parentheses")
+            }
+        }
+    }
+}
+
+/// The most things that are expected at a place.
+const MOST: usize = 4;
+
+/// What could stand at a place, each thing once: that with which the innermost part goes on or ends that is open there. An operator may be
+/// possible as well.
+#[derive(Clone, Copy, Debug, PartialEq, Eq)]
+pub struct Expected {
+    /// The first of these, as many as `count` says.
+    candidates: [Candidate; MOST],
+    count: u8,
+}
+
 impl Expected {
-    /// Tells whether the words are a rule that the token breaks, and no list of what could stand there.
-    pub fn is_rule(&self) -> bool {
-        matches!(
-            self,
-            Expected::OneListOfAnnotations | Expected::ParenthesesAroundApplied
-        )
+    /// Any of the first four of these.
+    #[inline(never)]
+    pub(crate) fn any_of(candidates: &[Candidate]) -> Expected {
+        let mut expected = Expected {
+            candidates: [Candidate::Name; MOST],
+            count: 0,
+        };
+        for (place, candidate) in expected.candidates.iter_mut().zip(candidates) {
+            *place = *candidate;
+            expected.count = expected.count.saturating_add(1);
+        }
+        expected
     }
 
-    /// What could stand there, as a list: `',' or ')'`. Or the rule that the token breaks: `a pattern has one list of annotations`.
-    pub fn words(&self) -> &'static str {
+    /// Tells whether this could stand there.
+    pub fn has(&self, candidate: Candidate) -> bool {
+        self.candidates
+            .iter()
+            .take(usize::from(self.count))
+            .any(|other| *other == candidate)
+    }
+
+    /// Tells whether this could stand there, and nothing else.
+    pub fn is_only(&self, candidate: Candidate) -> bool {
+        self.count == 1 && self.has(candidate)
+    }
+}
+
+/// The list of what could stand there: `',', '|' or ')'`.
+impl fmt::Display for Expected {
+    fn fmt<W: fmt::Write>(&self, f: &mut fmt::Formatter<W>) -> fmt::Result {
+        let count = usize::from(self.count);
+        for (index, candidate) in self.candidates.iter().take(count).enumerate() {
+            f.write_str(match index {
+                0 => "",
+                _ if index.saturating_add(1) == count => " or ",
+                _ => ", ",
+            })?;
+            f.write_str(candidate.words())?;
+        }
+        Ok(())
+    }
+}
+
+/// One thing that could stand at a place.
+#[derive(Clone, Copy, Debug, PartialEq, Eq)]
+pub enum Candidate {
+    Arrow,
+    Backslash,
+    Bar,
+    CloseBrace,
+    CloseBracket,
+    CloseParenthesis,
+    Colon,
+    Comma,
+    Equals,
+    Greater,
+    OpenParenthesis,
+    Plus,
+    Star,
+    ConstructorsKeyword,
+    ElseKeyword,
+    EndKeyword,
+    InKeyword,
+    RulesKeyword,
+    SignatureKeyword,
+    SortsKeyword,
+    StrategiesKeyword,
+    ThenKeyword,
+    WhereKeyword,
+    Name,
+    /// The name of a constructor.
+    Constructor,
+    Sort,
+    Strategy,
+    Pattern,
+    QuotedText,
+    Declaration,
+    /// A rule or the definition of a strategy.
+    Definition,
+    Section,
+    Operator,
+}
+
+impl Candidate {
+    /// A mark or a keyword between quotes, or the name of a part: `a pattern`.
+    fn words(self) -> &'static str {
         match self {
-            Expected::Section => "'signature', 'rules' or 'strategies'",
-            Expected::PartOrSection => "'sorts', 'constructors' or a section",
-            Expected::SortOrSection => "a sort, 'constructors' or a section",
-            Expected::DeclarationOrSection => "a declaration or a section",
-            Expected::ArgumentOrDeclaration => "'*', '->', a declaration or a section",
-            Expected::DefinitionOrSection => "a definition or a section",
-            Expected::WhereOrDefinition => "'where', a definition or a section",
-            Expected::OperatorOrDefinition => "an operator, a definition or a section",
-            Expected::Sort => "a sort",
-            Expected::Constructor => "the name of a constructor",
-            Expected::Name => "a name",
-            Expected::NameOrIn => "a name or 'in'",
-            Expected::NameBarOrParenthesis => "a name, '|' or ')'",
-            Expected::NameOrParenthesis => "a name or ')'",
-            Expected::Strategy => "a strategy",
-            Expected::Pattern => "a pattern",
-            Expected::QuotedText => "a quoted text",
-            Expected::OpenParenthesis => "'('",
-            Expected::CloseParenthesis => "')'",
-            Expected::CloseBracket => "']'",
-            Expected::CloseBrace => "'}'",
-            Expected::Greater => "'>'",
-            Expected::Plus => "'+'",
-            Expected::Colon => "':'",
-            Expected::Equals => "'='",
-            Expected::Arrow => "'->'",
-            Expected::Backslash => "'\\'",
-            Expected::Then => "'then'",
-            Expected::End => "'end'",
-            Expected::ColonOrEquals => "':' or '='",
-            Expected::CommaOrColon => "',' or ':'",
-            Expected::StarOrArrow => "'*' or '->'",
-            Expected::WhereOrBackslash => "'where' or '\\'",
-            Expected::ElseOrEnd => "'else' or 'end'",
-            Expected::CommaOrParenthesis => "',' or ')'",
-            Expected::CommaBarOrParenthesis => "',', '|' or ')'",
-            Expected::CommaBarOrBracket => "',', '|' or ']'",
-            Expected::CommaOrBrace => "',' or '}'",
-            Expected::OneListOfAnnotations => "a pattern has one list of annotations",
-            Expected::ParenthesesAroundApplied => "'<..>' takes annotations only in parentheses",
+            Candidate::Arrow => "'->'",
+            Candidate::Backslash => "'\\'",
+            Candidate::Bar => "'|'",
+            Candidate::CloseBrace => "'}'",
+            Candidate::CloseBracket => "']'",
+            Candidate::CloseParenthesis => "')'",
+            Candidate::Colon => "':'",
+            Candidate::Comma => "','",
+            Candidate::Equals => "'='",
+            Candidate::Greater => "'>'",
+            Candidate::OpenParenthesis => "'('",
+            Candidate::Plus => "'+'",
+            Candidate::Star => "'*'",
+            Candidate::ConstructorsKeyword => "'constructors'",
+            Candidate::ElseKeyword => "'else'",
+            Candidate::EndKeyword => "'end'",
+            Candidate::InKeyword => "'in'",
+            Candidate::RulesKeyword => "'rules'",
+            Candidate::SignatureKeyword => "'signature'",
+            Candidate::SortsKeyword => "'sorts'",
+            Candidate::StrategiesKeyword => "'strategies'",
+            Candidate::ThenKeyword => "'then'",
+            Candidate::WhereKeyword => "'where'",
+            Candidate::Name => "a name",
+            Candidate::Constructor => "the name of a constructor",
+            Candidate::Sort => "a sort",
+            Candidate::Strategy => "a strategy",
+            Candidate::Pattern => "a pattern",
+            Candidate::QuotedText => "a quoted text",
+            Candidate::Declaration => "a declaration",
+            Candidate::Definition => "a definition",
+            Candidate::Section => "a section",
+            Candidate::Operator => "an operator",
         }
     }
 }
 
 /// Returns what could stand after these sections.
-pub(crate) fn after_sections(sections: &[Section]) -> Expected {
+pub(crate) fn after_sections(sections: &[Section]) -> &'static [Candidate] {
     match sections.last() {
-        None => Expected::Section,
+        None => &[
+            Candidate::SignatureKeyword,
+            Candidate::RulesKeyword,
+            Candidate::StrategiesKeyword,
+        ],
         Some(Section::Signature(parts)) => after_parts(parts),
         Some(Section::Rules(definitions)) => after_definitions(definitions),
         Some(Section::Strategies(definitions)) => after_definitions(definitions),
@@ -130,26 +182,45 @@ pub(crate) fn after_sections(sections: &[Section]) -> Expected {
 }
 
 /// Returns what could stand after these parts of a signature.
-fn after_parts(parts: &[SignaturePart]) -> Expected {
+fn after_parts(parts: &[SignaturePart]) -> &'static [Candidate] {
     match parts.last() {
-        None => Expected::PartOrSection,
-        Some(SignaturePart::Sorts(_)) => Expected::SortOrSection,
+        None => &[
+            Candidate::SortsKeyword,
+            Candidate::ConstructorsKeyword,
+            Candidate::Section,
+        ],
+        Some(SignaturePart::Sorts(_)) => &[
+            Candidate::Sort,
+            Candidate::ConstructorsKeyword,
+            Candidate::Section,
+        ],
         Some(SignaturePart::Constructors(declarations)) => match declarations.last() {
-            Some(Declaration::Constant(_, _)) => Expected::ArgumentOrDeclaration,
-            _ => Expected::DeclarationOrSection,
+            Some(Declaration::Constant(_, _)) => &[
+                Candidate::Star,
+                Candidate::Arrow,
+                Candidate::Declaration,
+                Candidate::Section,
+            ],
+            _ => &[Candidate::Declaration, Candidate::Section],
         },
     }
 }
 
 /// Returns what could stand after these rules and definitions.
-fn after_definitions(definitions: &[Definition]) -> Expected {
+fn after_definitions(definitions: &[Definition]) -> &'static [Candidate] {
     let Some(last) = definitions.last() else {
-        return Expected::DefinitionOrSection;
+        return &[Candidate::Definition, Candidate::Section];
     };
     match &last.form {
-        DefinitionForm::Rule(defined) if defined.rule.condition.is_none() => {
-            Expected::WhereOrDefinition
-        }
-        _ => Expected::OperatorOrDefinition,
+        DefinitionForm::Rule(defined) if defined.rule.condition.is_none() => &[
+            Candidate::WhereKeyword,
+            Candidate::Definition,
+            Candidate::Section,
+        ],
+        _ => &[
+            Candidate::Operator,
+            Candidate::Definition,
+            Candidate::Section,
+        ],
     }
 }

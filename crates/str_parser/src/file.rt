@@ -6,11 +6,12 @@ ghost use Rattle.str_parser.specs.Lexemes.{lexemes};
 ghost use Rattle.str_parser.specs.Phrases;
 ghost use Rattle.str_parser.specs.Readings.{IsReading};
 ghost use Rattle.str_parser.specs.Parsing.{EndsSection, AtEnd, IsReadingAll, sections_of, IsParsing};
+ghost use Rattle.str_parser.specs.Refusals.{fault_of, map_err};
 
-use crate::expected::{Expected, after_sections};
+use crate::expected::{Candidate, after_sections};
 use crate::form::definitions;
 use crate::input::Input;
-use crate::refusal::Refusal;
+use crate::refusal::ParseRefusal;
 use crate::sorts::signature_parts;
 use std::alloc::Global;
 use str_lexer::{Keyword, Token};
@@ -21,8 +22,8 @@ use term_model::Fault;
 fn section<'a>(
     alloc: Global,
     input: Input<'a>,
-    expected: Expected,
-) -> Result<(Section, Input<'a>), Refusal>
+    expected: &'static [Candidate],
+) -> Result<(Section, Input<'a>), ParseRefusal>
     ensures { IsReading Phrases.section EndsSection section_of input.entry result }
 {
     if let Some(following) = input.after_keyword(Keyword::Signature) {
@@ -41,7 +42,7 @@ fn section<'a>(
 }
 
 /// The sections that the tokens are.
-fn sections<'a>(alloc: Global, input: Input<'a>) -> Result<Vec<Section>, Refusal>
+fn sections<'a>(alloc: Global, input: Input<'a>) -> Result<Vec<Section>, ParseRefusal>
     ensures { IsReadingAll Phrases.sections sections_of input.entry result }
 {
     let mut sections = Vec::new(alloc);
@@ -67,26 +68,15 @@ pub fn parse(alloc: Global, text: &[u8], tokens: &[Token]) -> Result<File, Fault
     requires { AreSlices text.now 0 tokens.now }
     ensures { IsParsing (lexemes text.now tokens.now) result }
 {
-    let mut expected = None;
-    parse_with_notes(alloc, text, tokens, &mut expected)
+    let file = parse_file(alloc, text, tokens)?;
+    Ok(file)
 }
 
-/// The same, with what could stand at the place of a fault: `Some` exactly where the fault is `Syntax`.
-pub fn parse_with_notes(
-    alloc: Global,
-    text: &[u8],
-    tokens: &[Token],
-    expected: &mut Option<Expected>,
-) -> Result<File, Fault>
+/// Returns the file as `parse` does. The error is the fault of `parse`, and of `Syntax` also the reason.
+pub fn parse_file(alloc: Global, text: &[u8], tokens: &[Token]) -> Result<File, ParseRefusal>
     requires { AreSlices text.now 0 tokens.now }
-    ensures { IsParsing (lexemes text.now tokens.now) result }
+    ensures { IsParsing (lexemes text.now tokens.now) (map_err fault_of result) }
 {
-    *expected = None;
-    match sections(alloc, Input::new(text, tokens)) {
-        Ok(sections) => Ok(File { sections }),
-        Err(refusal) => {
-            *expected = refusal.expected();
-            Err(refusal.fault())
-        }
-    }
+    let sections = sections(alloc, Input::new(text, tokens))?;
+    Ok(File { sections })
 }

@@ -7,21 +7,21 @@ ghost use Rattle.str_parser.specs.Runs.{IsReadingAny};
 ghost use Rattle.str_parser.specs.Parsing.{EndsRule, EndsForms, one_top, tops_of, begins_name};
 
 use crate::descent::{pattern, strategy};
-use crate::expected::Expected;
+use crate::expected::Candidate;
 use crate::input::{Input, Lexeme};
 use crate::names::{name, parameters};
-use crate::refusal::Refusal;
+use crate::refusal::ParseRefusal;
 use std::alloc::Global;
 use str_lexer::{Keyword, Mark};
 use str_syntax::{Definition, DefinitionForm, DefinitionHead, Origin, Rule, RuleDefinition, build};
 
 /// Reads the rule that the tokens begin with; also returns the tokens after it.
-fn rule<'a>(alloc: Global, input: Input<'a>) -> Result<(Rule, Input<'a>), Refusal>
+fn rule<'a>(alloc: Global, input: Input<'a>) -> Result<(Rule, Input<'a>), ParseRefusal>
     ensures { IsReading (Phrases.rule 1) EndsRule rule_of input.entry result }
 {
     let (left, rest) = pattern(alloc, input, true, 1)?;
     let Some(following) = rest.after(Mark::Arrow) else {
-        return Err(rest.syntax(Expected::Arrow));
+        return Err(rest.syntax(&[Candidate::Arrow]));
     };
     let (right, rest) = pattern(alloc, following, false, 1)?;
     let Some(following) = rest.after_keyword(Keyword::Where) else {
@@ -35,16 +35,16 @@ fn rule<'a>(alloc: Global, input: Input<'a>) -> Result<(Rule, Input<'a>), Refusa
 }
 
 /// Reads the name and the parameters that the tokens begin with; also returns the tokens after them.
-fn head<'a>(alloc: Global, input: Input<'a>) -> Result<(DefinitionHead, Input<'a>), Refusal>
+fn head<'a>(alloc: Global, input: Input<'a>) -> Result<(DefinitionHead, Input<'a>), ParseRefusal>
     ensures { IsReading Phrases.headed (AtMost 3) head_of input.entry result }
 {
-    let (name, rest) = name(alloc, input, Expected::Name)?;
+    let (name, rest) = name(alloc, input, &[Candidate::Name])?;
     let (parameters, rest) = parameters(alloc, rest)?;
     Ok((DefinitionHead { name, parameters }, rest))
 }
 
 /// Reads the rule or the definition that the tokens begin with; also returns the tokens after it.
-fn form<'a>(alloc: Global, input: Input<'a>) -> Result<(DefinitionForm, Input<'a>), Refusal>
+fn form<'a>(alloc: Global, input: Input<'a>) -> Result<(DefinitionForm, Input<'a>), ParseRefusal>
     ensures { IsReading Phrases.form EndsRule form_of input.entry result }
 {
     let (head, rest) = head(alloc, input)?;
@@ -54,7 +54,7 @@ fn form<'a>(alloc: Global, input: Input<'a>) -> Result<(DefinitionForm, Input<'a
         return Ok((DefinitionForm::Rule(definition), rest));
     }
     let Some(following) = rest.after(Mark::Equals) else {
-        return Err(rest.syntax(Expected::ColonOrEquals));
+        return Err(rest.syntax(&[Candidate::Colon, Candidate::Equals]));
     };
     let (body, rest) = strategy(alloc, following, 1)?;
     let definition = build::definition(alloc, head, body)?;
@@ -62,7 +62,7 @@ fn form<'a>(alloc: Global, input: Input<'a>) -> Result<(DefinitionForm, Input<'a
 }
 
 /// The same, as a definition of the file.
-fn definition<'a>(alloc: Global, input: Input<'a>) -> Result<(Definition, Input<'a>), Refusal>
+fn definition<'a>(alloc: Global, input: Input<'a>) -> Result<(Definition, Input<'a>), ParseRefusal>
     ensures { IsReading one_top EndsRule top_of input.entry result }
 {
     let (form, rest) = form(alloc, input)?;
@@ -81,7 +81,7 @@ fn begins_form(input: &Input<'_>) -> bool
 pub(crate) fn definitions<'a>(
     alloc: Global,
     input: Input<'a>,
-) -> Result<(Vec<Definition>, Input<'a>), Refusal>
+) -> Result<(Vec<Definition>, Input<'a>), ParseRefusal>
     ensures { IsReadingAny Phrases.top_forms EndsForms tops_of input.entry result }
 {
     let mut definitions = Vec::new(alloc);

@@ -4,8 +4,8 @@ ghost use Rattle.str_parser.specs.Lexemes.{lexemes, lexeme_of};
 ghost use Rattle.str_parser.specs.Within.{AreWithin};
 ghost use Rattle.str_parser.specs.Readings.{lexeme_in, IsFirst, IsAfter, IsAfterKeyword, IsSyntax};
 
-use crate::expected::Expected;
-use crate::refusal::Refusal;
+use crate::expected::{Candidate, Expected, SyntaxReason};
+use crate::refusal::ParseRefusal;
 use std::marker::Model;
 use str_lexer::{Keyword, Mark, Token, TokenKind};
 
@@ -107,12 +107,20 @@ impl<'a> Input<'a> {
         }
     }
 
-    /// The refusal of the first token, in the place of which something else was expected.
-    pub(crate) fn syntax(&self, expected: Expected) -> Refusal
+    /// The refusal of the first token, in the place of which one of these was expected.
+    #[inline(never)]
+    pub(crate) fn syntax(&self, expected: &'static [Candidate]) -> ParseRefusal
+        ensures { IsSyntax result }
+    {
+        self.refusal(SyntaxReason::Expected(Expected::any_of(expected)))
+    }
+
+    /// The refusal of the first token, for this reason.
+    pub(crate) fn refusal(&self, reason: SyntaxReason) -> ParseRefusal
         ensures { IsSyntax result }
     {
         let at = self.at();
-        Refusal::Syntax { at, expected }
+        ParseRefusal::Syntax { at, reason }
     }
 
     /// Tells whether there is no token.

@@ -15,8 +15,9 @@ mod primary_let;
 mod primary_pattern;
 mod primary_rule;
 mod primary_strategy;
-mod refusal;
+pub mod refusal;
 mod sorts;
 
-pub use expected::Expected;
-pub use file::{MAX_LEVEL, parse, parse_with_notes};
+pub use expected::{Candidate, Expected, SyntaxReason};
+pub use file::{MAX_LEVEL, parse, parse_file};
+pub use refusal::ParseRefusal;

@@ -4,9 +4,9 @@ ghost use Rattle.str_parser.specs.Phrases.{some_names, names as any_names, param
 ghost use Rattle.str_parser.specs.Readings.{IsReading, AtMost, one_name, itself, names_of};
 ghost use Rattle.str_parser.specs.Runs.{IsReadingAny, NoneOf, names_go_on, any_names_go_on};
 
-use crate::expected::Expected;
+use crate::expected::Candidate;
 use crate::input::{Input, Lexeme};
-use crate::refusal::Refusal;
+use crate::refusal::ParseRefusal;
 use std::alloc::Global;
 use str_lexer::Mark;
 use str_syntax::{Name, Parameters};
@@ -15,8 +15,8 @@ use str_syntax::{Name, Parameters};
 pub(crate) fn name<'a>(
     alloc: Global,
     input: Input<'a>,
-    expected: Expected,
-) -> Result<(Name, Input<'a>), Refusal>
+    expected: &'static [Candidate],
+) -> Result<(Name, Input<'a>), ParseRefusal>
     ensures { IsReading one_name (AtMost 5) itself input.entry result }
 {
     let Some((Lexeme::Name(bytes), rest)) = input.first() else {
@@ -26,14 +26,17 @@ pub(crate) fn name<'a>(
 }
 
 /// Reads the names with commas between that the tokens begin with, one at least; also returns the tokens after them.
-pub(crate) fn names<'a>(alloc: Global, input: Input<'a>) -> Result<(Vec<Name>, Input<'a>), Refusal>
+pub(crate) fn names<'a>(
+    alloc: Global,
+    input: Input<'a>,
+) -> Result<(Vec<Name>, Input<'a>), ParseRefusal>
     ensures { IsReading some_names (NoneOf names_go_on) names_of input.entry result }
 {
-    let (first, mut rest) = name(alloc, input, Expected::Name)?;
+    let (first, mut rest) = name(alloc, input, &[Candidate::Name])?;
     let mut found = Vec::with_capacity(alloc, 1)?;
     found.push(first)?;
     while let Some(following) = rest.after(Mark::Comma) {
-        let (other, following) = name(alloc, following, Expected::Name)?;
+        let (other, following) = name(alloc, following, &[Candidate::Name])?;
         found.push(other)?;
         rest = following;
     }
@@ -41,7 +44,7 @@ pub(crate) fn names<'a>(alloc: Global, input: Input<'a>) -> Result<(Vec<Name>, I
 }
 
 /// Reads the names with commas between that the tokens begin with, if any; also returns the tokens after them.
-fn names_up_to<'a>(alloc: Global, input: Input<'a>) -> Result<(Vec<Name>, Input<'a>), Refusal>
+fn names_up_to<'a>(alloc: Global, input: Input<'a>) -> Result<(Vec<Name>, Input<'a>), ParseRefusal>
     ensures { IsReadingAny any_names (NoneOf any_names_go_on) names_of input.entry result }
 {
     match input.first() {
@@ -51,26 +54,30 @@ fn names_up_to<'a>(alloc: Global, input: Input<'a>) -> Result<(Vec<Name>, Input<
 }
 
 /// Returns what could stand after these strategy parameters.
-fn after_strategies(names: &[Name]) -> Expected {
+fn after_strategies(names: &[Name]) -> &'static [Candidate] {
     if names.is_empty() {
-        return Expected::NameBarOrParenthesis;
+        return &[Candidate::Name, Candidate::Bar, Candidate::CloseParenthesis];
     }
-    Expected::CommaBarOrParenthesis
+    &[
+        Candidate::Comma,
+        Candidate::Bar,
+        Candidate::CloseParenthesis,
+    ]
 }
 
 /// Returns what could stand after these term parameters.
-fn after_terms(names: &[Name]) -> Expected {
+fn after_terms(names: &[Name]) -> &'static [Candidate] {
     if names.is_empty() {
-        return Expected::NameOrParenthesis;
+        return &[Candidate::Name, Candidate::CloseParenthesis];
     }
-    Expected::CommaOrParenthesis
+    &[Candidate::Comma, Candidate::CloseParenthesis]
 }
 
 /// Reads the parameters that the tokens begin with; also returns the tokens after them.
 pub(crate) fn parameters<'a>(
     alloc: Global,
     input: Input<'a>,
-) -> Result<(Parameters, Input<'a>), Refusal>
+) -> Result<(Parameters, Input<'a>), ParseRefusal>
     ensures { IsReadingAny written_parameters (AtMost 3) parameters_of input.entry result }
 {
     let Some(following) = input.after(Mark::OpenParenthesis) else {

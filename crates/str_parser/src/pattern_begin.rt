@@ -6,9 +6,9 @@ ghost use Rattle.str_parser.specs.Phrases.{is_constructor as has_no_quote};
 ghost use Rattle.str_parser.specs.Begun.{IsNextPattern, WrittenPattern};
 
 use crate::begun::{BeforeInner, BegunPattern};
-use crate::expected::Expected;
+use crate::expected::{Candidate, Expected, SyntaxReason};
 use crate::input::{Input, Lexeme};
-use crate::refusal::Refusal;
+use crate::refusal::ParseRefusal;
 use std::alloc::Global;
 use str_lexer::Mark;
 use str_syntax::{Name, Pattern, Text};
@@ -18,11 +18,11 @@ pub(crate) fn begin<'a>(
     alloc: Global,
     input: Input<'a>,
     in_match: bool,
-) -> Result<BegunPattern<'a>, Refusal>
+) -> Result<BegunPattern<'a>, ParseRefusal>
     ensures { IsNextPattern WrittenPattern in_match input.entry result }
 {
     let Some((first, rest)) = input.first() else {
-        return Err(input.syntax(Expected::Pattern));
+        return Err(input.syntax(&[Candidate::Pattern]));
     };
     match first {
         Lexeme::Name(name) => begin_name(alloc, name, input.at(), rest),
@@ -33,8 +33,8 @@ pub(crate) fn begin<'a>(
             Ok(BegunPattern::Whole(Pattern::Quoted(text), rest))
         }
         Lexeme::Mark(mark) => begin_mark(alloc, mark, input.at(), rest, in_match),
-        Lexeme::Keyword(_) => Err(input.syntax(Expected::Pattern)),
-        Lexeme::LeftOut => Err(input.syntax(Expected::Pattern)),
+        Lexeme::Keyword(_) => Err(input.syntax(&[Candidate::Pattern])),
+        Lexeme::LeftOut => Err(input.syntax(&[Candidate::Pattern])),
     }
 }
 
@@ -45,7 +45,7 @@ fn begin_mark<'a>(
     at: u64,
     input: Input<'a>,
     in_match: bool,
-) -> Result<BegunPattern<'a>, Refusal>
+) -> Result<BegunPattern<'a>, ParseRefusal>
     ensures { IsNextPattern WrittenPattern in_match (mark_lexeme mark ∷ input.entry) result }
 {
     match mark {
@@ -53,8 +53,8 @@ fn begin_mark<'a>(
         Mark::OpenBracket => Ok(begin_bracketed(alloc, input)),
         Mark::Less if !in_match => Ok(BegunPattern::ToStrategy(input)),
         _ => {
-            let expected = Expected::Pattern;
-            Err(Refusal::Syntax { at, expected })
+            let reason = SyntaxReason::Expected(Expected::any_of(&[Candidate::Pattern]));
+            Err(ParseRefusal::Syntax { at, reason })
         }
     }
 }
@@ -101,7 +101,7 @@ fn begin_name<'a>(
     bytes: &'a [u8],
     at: u64,
     input: Input<'a>,
-) -> Result<BegunPattern<'a>, Refusal>
+) -> Result<BegunPattern<'a>, ParseRefusal>
     ensures { (in_match : Bool) →
         IsNextPattern WrittenPattern in_match (name bytes.now ∷ input.entry) result }
 {

@@ -6,9 +6,9 @@ ghost use Rattle.str_parser.specs.Phrases.{pattern_part, takes_annotations as ma
 ghost use Rattle.str_parser.specs.Begun.{IsNextPattern, HasInner, GoesApplied, GoesAnnotated};
 
 use crate::begun::{BeforeInner, BegunPattern};
-use crate::expected::Expected;
+use crate::expected::{Candidate, SyntaxReason};
 use crate::input::{Input, Lexeme};
-use crate::refusal::Refusal;
+use crate::refusal::ParseRefusal;
 use std::alloc::Global;
 use str_lexer::Mark;
 use str_syntax::{Name, Pattern, Strategy};
@@ -21,7 +21,7 @@ impl BeforeInner {
         alloc: Global,
         part: Pattern,
         input: Input<'a>,
-    ) -> Result<BegunPattern<'a>, Refusal>
+    ) -> Result<BegunPattern<'a>, ParseRefusal>
         ensures { (in_match : Bool) →
             IsNextPattern (HasInner self (pattern_of part)) in_match input.entry result }
     {
@@ -42,7 +42,7 @@ fn alias<'a>(
     name: Name,
     part: Pattern,
     input: Input<'a>,
-) -> Result<BegunPattern<'a>, Refusal>
+) -> Result<BegunPattern<'a>, ParseRefusal>
     ensures { (in_match : Bool) →
         IsNextPattern (HasInner (BeforeInner.Alias name) (pattern_of part))
         in_match input.entry result }
@@ -56,7 +56,7 @@ fn application<'a>(
     done: Vec<Pattern>,
     part: Pattern,
     input: Input<'a>,
-) -> Result<BegunPattern<'a>, Refusal>
+) -> Result<BegunPattern<'a>, ParseRefusal>
     ensures { (in_match : Bool) →
         IsNextPattern (HasInner (BeforeInner.Application name done) (pattern_of part))
         in_match input.entry result }
@@ -67,7 +67,7 @@ fn application<'a>(
         return Ok(BegunPattern::ToPattern(BeforeInner::Application(name, parts), following));
     }
     let Some(rest) = input.after(Mark::CloseParenthesis) else {
-        return Err(input.syntax(Expected::CommaOrParenthesis));
+        return Err(input.syntax(&[Candidate::Comma, Candidate::CloseParenthesis]));
     };
     Ok(BegunPattern::Whole(Pattern::Application(name, parts), rest))
 }
@@ -77,7 +77,7 @@ fn in_parentheses<'a>(
     done: Vec<Pattern>,
     part: Pattern,
     input: Input<'a>,
-) -> Result<BegunPattern<'a>, Refusal>
+) -> Result<BegunPattern<'a>, ParseRefusal>
     ensures { (in_match : Bool) →
         IsNextPattern (HasInner (BeforeInner.Parenthesized done) (pattern_of part))
         in_match input.entry result }
@@ -88,7 +88,7 @@ fn in_parentheses<'a>(
         return Ok(BegunPattern::ToPattern(BeforeInner::Parenthesized(parts), following));
     }
     let Some(rest) = input.after(Mark::CloseParenthesis) else {
-        return Err(input.syntax(Expected::CommaOrParenthesis));
+        return Err(input.syntax(&[Candidate::Comma, Candidate::CloseParenthesis]));
     };
     if parts.is_empty() {
         return Ok(BegunPattern::Whole(Pattern::Parenthesized(Box::new(alloc, part)?), rest));
@@ -101,7 +101,7 @@ fn in_brackets<'a>(
     done: Vec<Pattern>,
     part: Pattern,
     input: Input<'a>,
-) -> Result<BegunPattern<'a>, Refusal>
+) -> Result<BegunPattern<'a>, ParseRefusal>
     ensures { (in_match : Bool) →
         IsNextPattern (HasInner (BeforeInner.Bracketed done) (pattern_of part))
         in_match input.entry result }
@@ -115,7 +115,7 @@ fn in_brackets<'a>(
         return Ok(BegunPattern::ToPattern(BeforeInner::Tail(parts), following));
     }
     let Some(rest) = input.after(Mark::CloseBracket) else {
-        return Err(input.syntax(Expected::CommaBarOrBracket));
+        return Err(input.syntax(&[Candidate::Comma, Candidate::Bar, Candidate::CloseBracket]));
     };
     Ok(BegunPattern::Whole(Pattern::List(parts, None), rest))
 }
@@ -125,13 +125,13 @@ fn tail<'a>(
     parts: Vec<Pattern>,
     part: Pattern,
     input: Input<'a>,
-) -> Result<BegunPattern<'a>, Refusal>
+) -> Result<BegunPattern<'a>, ParseRefusal>
     ensures { (in_match : Bool) →
         IsNextPattern (HasInner (BeforeInner.Tail parts) (pattern_of part))
         in_match input.entry result }
 {
     let Some(rest) = input.after(Mark::CloseBracket) else {
-        return Err(input.syntax(Expected::CloseBracket));
+        return Err(input.syntax(&[Candidate::CloseBracket]));
     };
     let made = Pattern::List(parts, Some(Box::new(alloc, part)?));
     Ok(BegunPattern::Whole(made, rest))
@@ -142,7 +142,7 @@ fn applied_to<'a>(
     applied: Box<Strategy>,
     part: Pattern,
     input: Input<'a>,
-) -> Result<BegunPattern<'a>, Refusal>
+) -> Result<BegunPattern<'a>, ParseRefusal>
     ensures { (in_match : Bool) →
         IsNextPattern (HasInner (BeforeInner.AppliedTo applied) (pattern_of part))
         in_match input.entry result }
@@ -165,10 +165,10 @@ fn takes_annotations(pattern: &Pattern) -> bool
 }
 
 /// Why no annotations may follow the pattern.
-fn no_annotations(pattern: &Pattern) -> Expected {
+fn no_annotations(pattern: &Pattern) -> SyntaxReason {
     match pattern {
-        Pattern::Applied(_) => Expected::ParenthesesAroundApplied,
-        _ => Expected::OneListOfAnnotations,
+        Pattern::Applied(_) => SyntaxReason::ParenthesesAroundApplied,
+        _ => SyntaxReason::OneListOfAnnotations,
     }
 }
 
@@ -178,12 +178,12 @@ pub(crate) fn begin_annotations<'a>(
     bare: Pattern,
     brace: &Input<'a>,
     input: Input<'a>,
-) -> Result<BegunPattern<'a>, Refusal>
+) -> Result<BegunPattern<'a>, ParseRefusal>
     ensures { (in_match : Bool) →
         IsNextPattern (GoesAnnotated (pattern_of bare)) in_match input.entry result }
 {
     if !takes_annotations(&bare) {
-        return Err(brace.syntax(no_annotations(&bare)));
+        return Err(brace.refusal(no_annotations(&bare)));
     }
     let bare = Box::new(alloc, bare)?;
     if let Some(rest) = input.after(Mark::CloseBrace) {
@@ -197,7 +197,7 @@ fn with_annotations<'a>(
     done: Vec<Pattern>,
     part: Pattern,
     input: Input<'a>,
-) -> Result<BegunPattern<'a>, Refusal>
+) -> Result<BegunPattern<'a>, ParseRefusal>
     ensures { (in_match : Bool) →
         IsNextPattern (HasInner (BeforeInner.Annotated bare done) (pattern_of part))
         in_match input.entry result }
@@ -208,7 +208,7 @@ fn with_annotations<'a>(
         return Ok(BegunPattern::ToPattern(BeforeInner::Annotated(bare, parts), following));
     }
     let Some(rest) = input.after(Mark::CloseBrace) else {
-        return Err(input.syntax(Expected::CommaOrBrace));
+        return Err(input.syntax(&[Candidate::Comma, Candidate::CloseBrace]));
     };
     Ok(BegunPattern::Whole(Pattern::Annotated(bare, parts), rest))
 }
@@ -218,12 +218,12 @@ pub(crate) fn build_application<'a>(
     alloc: Global,
     applied: Strategy,
     input: Input<'a>,
-) -> Result<BegunPattern<'a>, Refusal>
+) -> Result<BegunPattern<'a>, ParseRefusal>
     ensures { (in_match : Bool) →
         IsNextPattern (GoesApplied (strategy_of applied)) in_match input.entry result }
 {
     let Some(rest) = input.after(Mark::Greater) else {
-        return Err(input.syntax(Expected::Greater));
+        return Err(input.syntax(&[Candidate::Greater]));
     };
     let applied = Box::new(alloc, applied)?;
     if begins_pattern(&rest, false) {

@@ -6,11 +6,11 @@ ghost use Rattle.str_parser.specs.Phrases.{keyword_of};
 ghost use Rattle.str_parser.specs.Begun.{IsWhole, IsNext, Written, GoesBehindBar};
 
 use crate::begun::{BeforePattern, BeforeStrategy, Begun};
-use crate::expected::Expected;
+use crate::expected::{Candidate, Expected, SyntaxReason};
 use crate::input::{Input, Lexeme};
 use crate::names::{name, names};
 use crate::primary_let::begin_definition;
-use crate::refusal::Refusal;
+use crate::refusal::ParseRefusal;
 use std::alloc::Global;
 use str_lexer::{Keyword, Mark};
 use str_syntax::{Arguments, Name, Operator, Pattern, Primary, Strategy, Text};
@@ -20,7 +20,7 @@ pub(crate) fn whole<'a>(
     alloc: Global,
     made: Primary,
     input: Input<'a>,
-) -> Result<Begun<'a>, Refusal>
+) -> Result<Begun<'a>, ParseRefusal>
     ensures { IsWhole (primary_of made) input.entry result }
 {
     Ok(Begun::Whole(Box::new(alloc, made)?, input))
@@ -28,17 +28,17 @@ pub(crate) fn whole<'a>(
 
 /// The primary that the tokens begin with, up to its first part.
 #[inline(never)]
-pub(crate) fn begin<'a>(alloc: Global, input: Input<'a>) -> Result<Begun<'a>, Refusal>
+pub(crate) fn begin<'a>(alloc: Global, input: Input<'a>) -> Result<Begun<'a>, ParseRefusal>
     ensures { IsNext Written input.entry result }
 {
     let Some((first, rest)) = input.first() else {
-        return Err(input.syntax(Expected::Strategy));
+        return Err(input.syntax(&[Candidate::Strategy]));
     };
     match first {
         Lexeme::Name(name) => begin_name(alloc, name, input.at(), rest),
         Lexeme::Mark(mark) => begin_mark(alloc, mark, input.at(), rest),
         Lexeme::Keyword(keyword) => begin_keyword(alloc, keyword, input.at(), rest),
-        _ => Err(input.syntax(Expected::Strategy)),
+        _ => Err(input.syntax(&[Candidate::Strategy])),
     }
 }
 
@@ -48,7 +48,7 @@ fn begin_mark<'a>(
     mark: Mark,
     at: u64,
     input: Input<'a>,
-) -> Result<Begun<'a>, Refusal>
+) -> Result<Begun<'a>, ParseRefusal>
     ensures { IsNext Written (L.mark mark ∷ input.entry) result }
 {
     match mark {
@@ -60,14 +60,14 @@ fn begin_mark<'a>(
         Mark::OpenBracket => begin_bracketed(alloc, input),
         Mark::OpenBrace => begin_scope(alloc, input),
         _ => {
-            let expected = Expected::Strategy;
-            Err(Refusal::Syntax { at, expected })
+            let reason = SyntaxReason::Expected(Expected::any_of(&[Candidate::Strategy]));
+            Err(ParseRefusal::Syntax { at, reason })
         }
     }
 }
 
 /// The congruence or strategy whose `(` stands before the tokens.
-fn begin_parenthesized<'a>(alloc: Global, input: Input<'a>) -> Result<Begun<'a>, Refusal>
+fn begin_parenthesized<'a>(alloc: Global, input: Input<'a>) -> Result<Begun<'a>, ParseRefusal>
     ensures { IsNext Written (L.mark Mark.OpenParenthesis ∷ input.entry) result }
 {
     if let Some(rest) = input.after(Mark::CloseParenthesis) {
@@ -77,7 +77,7 @@ fn begin_parenthesized<'a>(alloc: Global, input: Input<'a>) -> Result<Begun<'a>,
 }
 
 /// The congruence whose `[` stands before the tokens.
-fn begin_bracketed<'a>(alloc: Global, input: Input<'a>) -> Result<Begun<'a>, Refusal>
+fn begin_bracketed<'a>(alloc: Global, input: Input<'a>) -> Result<Begun<'a>, ParseRefusal>
     ensures { IsNext Written (L.mark Mark.OpenBracket ∷ input.entry) result }
 {
     if let Some(rest) = input.after(Mark::CloseBracket) {
@@ -87,12 +87,12 @@ fn begin_bracketed<'a>(alloc: Global, input: Input<'a>) -> Result<Begun<'a>, Ref
 }
 
 /// The scope whose `{` stands before the tokens.
-fn begin_scope<'a>(alloc: Global, input: Input<'a>) -> Result<Begun<'a>, Refusal>
+fn begin_scope<'a>(alloc: Global, input: Input<'a>) -> Result<Begun<'a>, ParseRefusal>
     ensures { IsNext Written (L.mark Mark.OpenBrace ∷ input.entry) result }
 {
     let (variables, rest) = names(alloc, input)?;
     let Some(following) = rest.after(Mark::Colon) else {
-        return Err(rest.syntax(Expected::CommaOrColon));
+        return Err(rest.syntax(&[Candidate::Comma, Candidate::Colon]));
     };
     Ok(Begun::ToStrategy(BeforeStrategy::Scope(variables), following))
 }
@@ -103,7 +103,7 @@ fn begin_keyword<'a>(
     keyword: Keyword,
     at: u64,
     input: Input<'a>,
-) -> Result<Begun<'a>, Refusal>
+) -> Result<Begun<'a>, ParseRefusal>
     ensures { IsNext Written (L.keyword keyword ∷ input.entry) result }
 {
     match keyword {
@@ -116,55 +116,55 @@ fn begin_keyword<'a>(
         Keyword::Some => begin_operator(Operator::Some, input),
         Keyword::If => Ok(Begun::ToStrategy(BeforeStrategy::Condition, input)),
         Keyword::Rec => begin_recursive(alloc, input),
-        Keyword::Let => begin_definition(alloc, Vec::new(alloc), input, Expected::Name),
+        Keyword::Let => begin_definition(alloc, Vec::new(alloc), input, &[Candidate::Name]),
         Keyword::Prim => begin_primitive(alloc, input),
         _ => {
-            let expected = Expected::Strategy;
-            Err(Refusal::Syntax { at, expected })
+            let reason = SyntaxReason::Expected(Expected::any_of(&[Candidate::Strategy]));
+            Err(ParseRefusal::Syntax { at, reason })
         }
     }
 }
 
 /// The operator whose keyword stands before the tokens.
-fn begin_operator<'a>(operator: Operator, input: Input<'a>) -> Result<Begun<'a>, Refusal>
+fn begin_operator<'a>(operator: Operator, input: Input<'a>) -> Result<Begun<'a>, ParseRefusal>
     ensures { IsNext Written (L.keyword (keyword_of operator) ∷ input.entry) result }
 {
     let Some(following) = input.after(Mark::OpenParenthesis) else {
-        return Err(input.syntax(Expected::OpenParenthesis));
+        return Err(input.syntax(&[Candidate::OpenParenthesis]));
     };
     Ok(Begun::ToStrategy(BeforeStrategy::Operator(operator), following))
 }
 
 /// The recursive strategy whose `rec` stands before the tokens.
-fn begin_recursive<'a>(alloc: Global, input: Input<'a>) -> Result<Begun<'a>, Refusal>
+fn begin_recursive<'a>(alloc: Global, input: Input<'a>) -> Result<Begun<'a>, ParseRefusal>
     ensures { IsNext Written (L.keyword Keyword.Rec ∷ input.entry) result }
 {
-    let (recursive, rest) = name(alloc, input, Expected::Name)?;
+    let (recursive, rest) = name(alloc, input, &[Candidate::Name])?;
     let Some(following) = rest.after(Mark::OpenParenthesis) else {
-        return Err(rest.syntax(Expected::OpenParenthesis));
+        return Err(rest.syntax(&[Candidate::OpenParenthesis]));
     };
     Ok(Begun::ToStrategy(BeforeStrategy::Recursive(recursive), following))
 }
 
 /// The primitive whose `prim` stands before the tokens.
-fn begin_primitive<'a>(alloc: Global, input: Input<'a>) -> Result<Begun<'a>, Refusal>
+fn begin_primitive<'a>(alloc: Global, input: Input<'a>) -> Result<Begun<'a>, ParseRefusal>
     ensures { IsNext Written (L.keyword Keyword.Prim ∷ input.entry) result }
 {
     let Some(following) = input.after(Mark::OpenParenthesis) else {
-        return Err(input.syntax(Expected::OpenParenthesis));
+        return Err(input.syntax(&[Candidate::OpenParenthesis]));
     };
     let Some((first, rest)) = following.first() else {
-        return Err(following.syntax(Expected::QuotedText));
+        return Err(following.syntax(&[Candidate::QuotedText]));
     };
     let Lexeme::Quoted(text) = first else {
-        return Err(following.syntax(Expected::QuotedText));
+        return Err(following.syntax(&[Candidate::QuotedText]));
     };
     let text = Text::new(alloc, text)?;
     if let Some(rest) = rest.after(Mark::CloseParenthesis) {
         return whole(alloc, Primary::Primitive(text, Vec::new(alloc)), rest);
     }
     let Some(following) = rest.after(Mark::Comma) else {
-        return Err(rest.syntax(Expected::CommaOrParenthesis));
+        return Err(rest.syntax(&[Candidate::Comma, Candidate::CloseParenthesis]));
     };
     let before = BeforePattern::Primitive(text, Vec::new(alloc));
     Ok(Begun::ToPattern(before, following))
@@ -176,7 +176,7 @@ fn begin_name<'a>(
     called: &'a [u8],
     at: u64,
     input: Input<'a>,
-) -> Result<Begun<'a>, Refusal>
+) -> Result<Begun<'a>, ParseRefusal>
     ensures { IsNext Written (L.name called.now ∷ input.entry) result }
 {
     let called = Name::new(alloc, called, at)?;
@@ -201,7 +201,7 @@ pub(crate) fn begin_terms<'a>(
     called: Name,
     strategies: Vec<Strategy>,
     input: Input<'a>,
-) -> Result<Begun<'a>, Refusal>
+) -> Result<Begun<'a>, ParseRefusal>
     ensures { IsNext (GoesBehindBar called strategies) input.entry result }
 {
     let terms: Box<Vec<Pattern>> = Box::new(alloc, Vec::new(alloc))?;

@@ -3,11 +3,11 @@ ghost use Rattle.str_syntax.specs.Views.{strategy_of};
 ghost use Rattle.str_parser.specs.Begun.{IsNext, HasStrategy, GoesToDefinition};
 
 use crate::begun::{BeforeStrategy, Begun};
-use crate::expected::Expected;
+use crate::expected::Candidate;
 use crate::input::Input;
 use crate::names::{name, parameters};
 use crate::primary_begin::whole;
-use crate::refusal::Refusal;
+use crate::refusal::ParseRefusal;
 use std::alloc::Global;
 use str_lexer::{Keyword, Mark};
 use str_syntax::{DefinitionHead, Primary, Strategy, StrategyDefinition};
@@ -17,14 +17,14 @@ pub(crate) fn begin_definition<'a>(
     alloc: Global,
     done: Vec<StrategyDefinition>,
     input: Input<'a>,
-    expected: Expected,
-) -> Result<Begun<'a>, Refusal>
+    expected: &'static [Candidate],
+) -> Result<Begun<'a>, ParseRefusal>
     ensures { IsNext (GoesToDefinition done) input.entry result }
 {
     let (name, rest) = name(alloc, input, expected)?;
     let (parameters, rest) = parameters(alloc, rest)?;
     let Some(following) = rest.after(Mark::Equals) else {
-        return Err(rest.syntax(Expected::Equals));
+        return Err(rest.syntax(&[Candidate::Equals]));
     };
     let head = Box::new(alloc, DefinitionHead { name, parameters })?;
     let before = BeforeStrategy::Definition(done, head);
@@ -38,7 +38,7 @@ pub(crate) fn definition<'a>(
     head: Box<DefinitionHead>,
     body: Strategy,
     input: Input<'a>,
-) -> Result<Begun<'a>, Refusal>
+) -> Result<Begun<'a>, ParseRefusal>
     ensures { IsNext (HasStrategy (BeforeStrategy.Definition done head) (strategy_of body))
         input.entry result }
 {
@@ -49,7 +49,12 @@ pub(crate) fn definition<'a>(
     if let Some(following) = input.after_keyword(Keyword::In) {
         return Ok(Begun::ToStrategy(BeforeStrategy::LetBody(definitions), following));
     }
-    begin_definition(alloc, definitions, input, Expected::NameOrIn)
+    begin_definition(
+        alloc,
+        definitions,
+        input,
+        &[Candidate::Name, Candidate::InKeyword],
+    )
 }
 
 /// The let after what its definitions scope over.
@@ -58,12 +63,12 @@ pub(crate) fn let_body<'a>(
     definitions: Vec<StrategyDefinition>,
     part: Strategy,
     input: Input<'a>,
-) -> Result<Begun<'a>, Refusal>
+) -> Result<Begun<'a>, ParseRefusal>
     ensures { IsNext (HasStrategy (BeforeStrategy.LetBody definitions) (strategy_of part))
         input.entry result }
 {
     let Some(rest) = input.after_keyword(Keyword::End) else {
-        return Err(input.syntax(Expected::End));
+        return Err(input.syntax(&[Candidate::EndKeyword]));
     };
     let body = Box::new(alloc, part)?;
     whole(alloc, Primary::Let(definitions, body), rest)

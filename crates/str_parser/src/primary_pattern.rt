@@ -4,11 +4,11 @@ ghost use Rattle.str_syntax.specs.Views.{pattern_of, primary_of};
 ghost use Rattle.str_parser.specs.Begun.{IsNext, IsNextAfter, HasPattern, wants_match};
 
 use crate::begun::{BeforePattern, Begun};
-use crate::expected::Expected;
+use crate::expected::Candidate;
 use crate::input::Input;
 use crate::primary_begin::whole;
 use crate::primary_rule::{rule_left, rule_right};
-use crate::refusal::Refusal;
+use crate::refusal::ParseRefusal;
 use std::alloc::Global;
 use str_lexer::Mark;
 use str_syntax::{Arguments, Name, Pattern, Primary, Strategy, Text};
@@ -26,8 +26,8 @@ impl BeforePattern {
     pub(crate) fn after<'a>(
         self,
         alloc: Global,
-        read: Result<(Pattern, Input<'a>), Refusal>,
-    ) -> Result<Begun<'a>, Refusal>
+        read: Result<(Pattern, Input<'a>), ParseRefusal>,
+    ) -> Result<Begun<'a>, ParseRefusal>
         ensures { IsNextAfter (HasPattern self) pattern_of read.entry result }
     {
         match read {
@@ -38,7 +38,12 @@ impl BeforePattern {
 
     /// The primary with this pattern after what has been read, up to its next part.
     #[inline(always)]
-    fn with<'a>(self, alloc: Global, part: Pattern, input: Input<'a>) -> Result<Begun<'a>, Refusal>
+    fn with<'a>(
+        self,
+        alloc: Global,
+        part: Pattern,
+        input: Input<'a>,
+    ) -> Result<Begun<'a>, ParseRefusal>
         ensures { IsNext (HasPattern self (pattern_of part)) input.entry result }
     {
         match self {
@@ -60,7 +65,7 @@ fn apply_to<'a>(
     applied: Box<Strategy>,
     part: Pattern,
     input: Input<'a>,
-) -> Result<Begun<'a>, Refusal>
+) -> Result<Begun<'a>, ParseRefusal>
     ensures { IsNext (HasPattern (BeforePattern.ApplyTo applied) (pattern_of part))
         input.entry result }
 {
@@ -75,7 +80,7 @@ fn terms<'a>(
     done: Box<Vec<Pattern>>,
     part: Pattern,
     input: Input<'a>,
-) -> Result<Begun<'a>, Refusal>
+) -> Result<Begun<'a>, ParseRefusal>
     ensures { IsNext (HasPattern (BeforePattern.Terms called strategies done) (pattern_of part))
         input.entry result }
 {
@@ -86,7 +91,7 @@ fn terms<'a>(
         return Ok(Begun::ToPattern(before, following));
     }
     let Some(rest) = input.after(Mark::CloseParenthesis) else {
-        return Err(input.syntax(Expected::CommaOrParenthesis));
+        return Err(input.syntax(&[Candidate::Comma, Candidate::CloseParenthesis]));
     };
     let arguments = Arguments::WithTerms(strategies, parts);
     let made = Primary::Call(called, arguments);
@@ -99,7 +104,7 @@ fn primitive<'a>(
     done: Vec<Pattern>,
     part: Pattern,
     input: Input<'a>,
-) -> Result<Begun<'a>, Refusal>
+) -> Result<Begun<'a>, ParseRefusal>
     ensures { IsNext (HasPattern (BeforePattern.Primitive text done) (pattern_of part))
         input.entry result }
 {
@@ -109,7 +114,7 @@ fn primitive<'a>(
         return Ok(Begun::ToPattern(BeforePattern::Primitive(text, parts), following));
     }
     let Some(rest) = input.after(Mark::CloseParenthesis) else {
-        return Err(input.syntax(Expected::CommaOrParenthesis));
+        return Err(input.syntax(&[Candidate::Comma, Candidate::CloseParenthesis]));
     };
     whole(alloc, Primary::Primitive(text, parts), rest)
 }

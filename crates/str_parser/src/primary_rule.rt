@@ -5,10 +5,10 @@ ghost use Rattle.str_syntax.specs.Views.{pattern_of, primary_of, rule_of, strate
 ghost use Rattle.str_parser.specs.Begun.{IsNext, HasStrategy, HasPattern};
 
 use crate::begun::{BeforePattern, BeforeStrategy, Begun};
-use crate::expected::Expected;
+use crate::expected::Candidate;
 use crate::input::Input;
 use crate::primary_begin::whole;
-use crate::refusal::Refusal;
+use crate::refusal::ParseRefusal;
 use std::alloc::{AllocError, Global};
 use str_lexer::{Keyword, Mark};
 use str_syntax::{Pattern, Primary, Rule, Strategy};
@@ -18,11 +18,11 @@ pub(crate) fn rule_left<'a>(
     alloc: Global,
     left: Pattern,
     input: Input<'a>,
-) -> Result<Begun<'a>, Refusal>
+) -> Result<Begun<'a>, ParseRefusal>
     ensures { IsNext (HasPattern BeforePattern.RuleLeft (pattern_of left)) input.entry result }
 {
     let Some(following) = input.after(Mark::Arrow) else {
-        return Err(input.syntax(Expected::Arrow));
+        return Err(input.syntax(&[Candidate::Arrow]));
     };
     let before = BeforePattern::RuleRight(Box::new(alloc, left)?);
     Ok(Begun::ToPattern(before, following))
@@ -34,7 +34,7 @@ pub(crate) fn rule_right<'a>(
     left: Box<Pattern>,
     right: Pattern,
     input: Input<'a>,
-) -> Result<Begun<'a>, Refusal>
+) -> Result<Begun<'a>, ParseRefusal>
     ensures { IsNext (HasPattern (BeforePattern.RuleRight left) (pattern_of right))
         input.entry result }
 {
@@ -44,7 +44,7 @@ pub(crate) fn rule_right<'a>(
         return Ok(Begun::ToStrategy(before, following));
     }
     let Some(rest) = input.after(Mark::Backslash) else {
-        return Err(input.syntax(Expected::WhereOrBackslash));
+        return Err(input.syntax(&[Candidate::WhereKeyword, Candidate::Backslash]));
     };
     let rule = Rule {
         left,
@@ -62,12 +62,12 @@ pub(crate) fn rule_condition<'a>(
     right: Box<Pattern>,
     part: Strategy,
     input: Input<'a>,
-) -> Result<Begun<'a>, Refusal>
+) -> Result<Begun<'a>, ParseRefusal>
     ensures { IsNext (HasStrategy (BeforeStrategy.RuleCondition left right) (strategy_of part))
         input.entry result }
 {
     let Some(rest) = input.after(Mark::Backslash) else {
-        return Err(input.syntax(Expected::Backslash));
+        return Err(input.syntax(&[Candidate::Backslash]));
     };
     let condition = Some(Box::new(alloc, part)?);
     let rule = Rule {

@@ -3,12 +3,12 @@ ghost use Rattle.str_syntax.specs.Views.{strategy_of};
 ghost use Rattle.str_parser.specs.Begun.{IsNext, IsNextAfter, HasStrategy};
 
 use crate::begun::{BeforePattern, BeforeStrategy, Begun};
-use crate::expected::Expected;
+use crate::expected::Candidate;
 use crate::input::Input;
 use crate::primary_begin::{begin_terms, whole};
 use crate::primary_let::{definition, let_body};
 use crate::primary_rule::rule_condition;
-use crate::refusal::Refusal;
+use crate::refusal::ParseRefusal;
 use std::alloc::Global;
 use str_lexer::{Keyword, Mark};
 use str_syntax::{Arguments, Name, Operator, Primary, Strategy};
@@ -19,8 +19,8 @@ impl BeforeStrategy {
     pub(crate) fn after<'a>(
         self,
         alloc: Global,
-        read: Result<(Strategy, Input<'a>), Refusal>,
-    ) -> Result<Begun<'a>, Refusal>
+        read: Result<(Strategy, Input<'a>), ParseRefusal>,
+    ) -> Result<Begun<'a>, ParseRefusal>
         ensures { IsNextAfter (HasStrategy self) strategy_of read.entry result }
     {
         match read {
@@ -31,7 +31,12 @@ impl BeforeStrategy {
 
     /// The primary with this strategy after what has been read, up to its next part.
     #[inline(always)]
-    fn with<'a>(self, alloc: Global, part: Strategy, input: Input<'a>) -> Result<Begun<'a>, Refusal>
+    fn with<'a>(
+        self,
+        alloc: Global,
+        part: Strategy,
+        input: Input<'a>,
+    ) -> Result<Begun<'a>, ParseRefusal>
         ensures { IsNext (HasStrategy self (strategy_of part)) input.entry result }
     {
         match self {
@@ -57,11 +62,11 @@ impl BeforeStrategy {
     }
 }
 
-fn apply<'a>(alloc: Global, applied: Strategy, input: Input<'a>) -> Result<Begun<'a>, Refusal>
+fn apply<'a>(alloc: Global, applied: Strategy, input: Input<'a>) -> Result<Begun<'a>, ParseRefusal>
     ensures { IsNext (HasStrategy BeforeStrategy.Apply (strategy_of applied)) input.entry result }
 {
     let Some(following) = input.after(Mark::Greater) else {
-        return Err(input.syntax(Expected::Greater));
+        return Err(input.syntax(&[Candidate::Greater]));
     };
     let before = BeforePattern::ApplyTo(Box::new(alloc, applied)?);
     Ok(Begun::ToPattern(before, following))
@@ -72,7 +77,7 @@ fn in_parentheses<'a>(
     done: Vec<Strategy>,
     part: Strategy,
     input: Input<'a>,
-) -> Result<Begun<'a>, Refusal>
+) -> Result<Begun<'a>, ParseRefusal>
     ensures { IsNext (HasStrategy (BeforeStrategy.Parenthesized done) (strategy_of part))
         input.entry result }
 {
@@ -82,7 +87,7 @@ fn in_parentheses<'a>(
         return Ok(Begun::ToStrategy(BeforeStrategy::Parenthesized(parts), following));
     }
     let Some(rest) = input.after(Mark::CloseParenthesis) else {
-        return Err(input.syntax(Expected::CommaOrParenthesis));
+        return Err(input.syntax(&[Candidate::Comma, Candidate::CloseParenthesis]));
     };
     if parts.is_empty() {
         return whole(alloc, Primary::Parenthesized(Box::new(alloc, part)?), rest);
@@ -96,7 +101,7 @@ fn in_brackets<'a>(
     done: Vec<Strategy>,
     part: Strategy,
     input: Input<'a>,
-) -> Result<Begun<'a>, Refusal>
+) -> Result<Begun<'a>, ParseRefusal>
     ensures { IsNext (HasStrategy (BeforeStrategy.Bracketed done) (strategy_of part))
         input.entry result }
 {
@@ -109,7 +114,7 @@ fn in_brackets<'a>(
         return Ok(Begun::ToStrategy(BeforeStrategy::Tail(parts), following));
     }
     let Some(rest) = input.after(Mark::CloseBracket) else {
-        return Err(input.syntax(Expected::CommaBarOrBracket));
+        return Err(input.syntax(&[Candidate::Comma, Candidate::Bar, Candidate::CloseBracket]));
     };
     whole(alloc, Primary::ListCongruence(parts, None), rest)
 }
@@ -119,12 +124,12 @@ fn tail<'a>(
     parts: Vec<Strategy>,
     part: Strategy,
     input: Input<'a>,
-) -> Result<Begun<'a>, Refusal>
+) -> Result<Begun<'a>, ParseRefusal>
     ensures { IsNext (HasStrategy (BeforeStrategy.Tail parts) (strategy_of part))
         input.entry result }
 {
     let Some(rest) = input.after(Mark::CloseBracket) else {
-        return Err(input.syntax(Expected::CloseBracket));
+        return Err(input.syntax(&[Candidate::CloseBracket]));
     };
     let made = Primary::ListCongruence(parts, Some(Box::new(alloc, part)?));
     whole(alloc, made, rest)
@@ -136,7 +141,7 @@ fn arguments<'a>(
     done: Vec<Strategy>,
     part: Strategy,
     input: Input<'a>,
-) -> Result<Begun<'a>, Refusal>
+) -> Result<Begun<'a>, ParseRefusal>
     ensures { IsNext (HasStrategy (BeforeStrategy.Arguments called done) (strategy_of part))
         input.entry result }
 {
@@ -149,7 +154,11 @@ fn arguments<'a>(
         return begin_terms(alloc, called, parts, following);
     }
     let Some(rest) = input.after(Mark::CloseParenthesis) else {
-        return Err(input.syntax(Expected::CommaBarOrParenthesis));
+        return Err(input.syntax(&[
+            Candidate::Comma,
+            Candidate::Bar,
+            Candidate::CloseParenthesis,
+        ]));
     };
     let made = Primary::Call(called, Arguments::Strategies(parts));
     whole(alloc, made, rest)
@@ -160,12 +169,12 @@ fn scope<'a>(
     variables: Vec<Name>,
     part: Strategy,
     input: Input<'a>,
-) -> Result<Begun<'a>, Refusal>
+) -> Result<Begun<'a>, ParseRefusal>
     ensures { IsNext (HasStrategy (BeforeStrategy.Scope variables) (strategy_of part))
         input.entry result }
 {
     let Some(rest) = input.after(Mark::CloseBrace) else {
-        return Err(input.syntax(Expected::CloseBrace));
+        return Err(input.syntax(&[Candidate::CloseBrace]));
     };
     let made = Primary::Scope(variables, Box::new(alloc, part)?);
     whole(alloc, made, rest)
@@ -176,12 +185,12 @@ fn operator_call<'a>(
     operator: Operator,
     part: Strategy,
     input: Input<'a>,
-) -> Result<Begun<'a>, Refusal>
+) -> Result<Begun<'a>, ParseRefusal>
     ensures { IsNext (HasStrategy (BeforeStrategy.Operator operator) (strategy_of part))
         input.entry result }
 {
     let Some(rest) = input.after(Mark::CloseParenthesis) else {
-        return Err(input.syntax(Expected::CloseParenthesis));
+        return Err(input.syntax(&[Candidate::CloseParenthesis]));
     };
     let made = Primary::Operator(operator, Box::new(alloc, part)?);
     whole(alloc, made, rest)
@@ -192,22 +201,22 @@ fn recursive<'a>(
     name: Name,
     part: Strategy,
     input: Input<'a>,
-) -> Result<Begun<'a>, Refusal>
+) -> Result<Begun<'a>, ParseRefusal>
     ensures { IsNext (HasStrategy (BeforeStrategy.Recursive name) (strategy_of part))
         input.entry result }
 {
     let Some(rest) = input.after(Mark::CloseParenthesis) else {
-        return Err(input.syntax(Expected::CloseParenthesis));
+        return Err(input.syntax(&[Candidate::CloseParenthesis]));
     };
     let made = Primary::Recursive(name, Box::new(alloc, part)?);
     whole(alloc, made, rest)
 }
 
-fn condition<'a>(alloc: Global, part: Strategy, input: Input<'a>) -> Result<Begun<'a>, Refusal>
+fn condition<'a>(alloc: Global, part: Strategy, input: Input<'a>) -> Result<Begun<'a>, ParseRefusal>
     ensures { IsNext (HasStrategy BeforeStrategy.Condition (strategy_of part)) input.entry result }
 {
     let Some(following) = input.after_keyword(Keyword::Then) else {
-        return Err(input.syntax(Expected::Then));
+        return Err(input.syntax(&[Candidate::ThenKeyword]));
     };
     let before = BeforeStrategy::Consequence(Box::new(alloc, part)?);
     Ok(Begun::ToStrategy(before, following))
@@ -218,7 +227,7 @@ fn consequence<'a>(
     condition: Box<Strategy>,
     part: Strategy,
     input: Input<'a>,
-) -> Result<Begun<'a>, Refusal>
+) -> Result<Begun<'a>, ParseRefusal>
     ensures { IsNext (HasStrategy (BeforeStrategy.Consequence condition) (strategy_of part))
         input.entry result }
 {
@@ -228,7 +237,7 @@ fn consequence<'a>(
         return Ok(Begun::ToStrategy(before, following));
     }
     let Some(rest) = input.after_keyword(Keyword::End) else {
-        return Err(input.syntax(Expected::ElseOrEnd));
+        return Err(input.syntax(&[Candidate::ElseKeyword, Candidate::EndKeyword]));
     };
     let made = Primary::If(condition, part, None);
     whole(alloc, made, rest)
@@ -240,12 +249,12 @@ fn alternative<'a>(
     then: Box<Strategy>,
     part: Strategy,
     input: Input<'a>,
-) -> Result<Begun<'a>, Refusal>
+) -> Result<Begun<'a>, ParseRefusal>
     ensures { IsNext (HasStrategy (BeforeStrategy.Alternative condition then) (strategy_of part))
         input.entry result }
 {
     let Some(rest) = input.after_keyword(Keyword::End) else {
-        return Err(input.syntax(Expected::End));
+        return Err(input.syntax(&[Candidate::EndKeyword]));
     };
     let made = Primary::If(condition, then, Some(Box::new(alloc, part)?));
     whole(alloc, made, rest)

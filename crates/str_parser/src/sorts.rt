@@ -8,11 +8,11 @@ ghost use Rattle.str_parser.specs.Readings.{IsReading};
 ghost use Rattle.str_parser.specs.Runs.{IsReadingAny, NoneOf};
 ghost use Rattle.str_parser.specs.Sorts.{inner_sort, some_sorts, some_factors, typed, type_of, sorts_from, declarations_from, signatures_from, IsSole, first_is, IsFirstName, begins_declaration, begins_signature_part, sort_goes_on, sort_list_goes_on, sort_run_goes_on, factors_go_on, declaration_goes_on, signature_part_goes_on, signature_goes_on};
 
-use crate::expected::Expected;
+use crate::expected::Candidate;
 use crate::file::MAX_LEVEL;
 use crate::input::{Input, Lexeme};
 use crate::pattern_begin::is_constructor;
-use crate::refusal::Refusal;
+use crate::refusal::ParseRefusal;
 use std::alloc::Global;
 use str_lexer::{Keyword, Mark};
 use str_syntax::{Declaration, Name, SignaturePart, Sort};
@@ -80,15 +80,15 @@ fn at_sort(input: &Input) -> bool
 
 /// Reads the sort at this level that the tokens begin with; also returns the tokens after it.
 #[cycle(sort)]
-fn sort<'a>(alloc: Global, input: Input<'a>, level: u32) -> Result<(Sort, Input<'a>), Refusal>
+fn sort<'a>(alloc: Global, input: Input<'a>, level: u32) -> Result<(Sort, Input<'a>), ParseRefusal>
     requires { level ≤ max_level + 1 }
     ensures { IsReading (inner_sort level) (NoneOf sort_goes_on) sort_tree_of input.entry result }
 {
     let Some((bytes, following)) = first_name(&input) else {
-        return Err(input.syntax(Expected::Sort));
+        return Err(input.syntax(&[Candidate::Sort]));
     };
     if level > MAX_LEVEL {
-        return Err(Refusal::Nesting { at: input.at() });
+        return Err(ParseRefusal::Nesting { at: input.at() });
     }
     let name = Name::new(alloc, bytes, input.at())?;
     let Some(inner) = following.after(Mark::OpenParenthesis) else {
@@ -96,7 +96,7 @@ fn sort<'a>(alloc: Global, input: Input<'a>, level: u32) -> Result<(Sort, Input<
     };
     let (parts, rest) = sort_list(alloc, inner, level + 1)?;
     let Some(rest) = rest.after(Mark::CloseParenthesis) else {
-        return Err(rest.syntax(Expected::CommaOrParenthesis));
+        return Err(rest.syntax(&[Candidate::Comma, Candidate::CloseParenthesis]));
     };
     Ok((Sort::Applied(name, parts), rest))
 }
@@ -107,7 +107,7 @@ fn sort_list<'a>(
     alloc: Global,
     input: Input<'a>,
     level: u32,
-) -> Result<(Vec<Sort>, Input<'a>), Refusal>
+) -> Result<(Vec<Sort>, Input<'a>), ParseRefusal>
     requires { level ≤ max_level + 1 }
     ensures { IsReading (some_sorts level) (NoneOf sort_list_goes_on)
         sorts_from input.entry result }
@@ -124,7 +124,7 @@ fn sort_list<'a>(
 }
 
 /// Reads the sorts that the tokens begin with, one after the other; also returns the tokens after them.
-fn sort_run<'a>(alloc: Global, input: Input<'a>) -> Result<(Vec<Sort>, Input<'a>), Refusal>
+fn sort_run<'a>(alloc: Global, input: Input<'a>) -> Result<(Vec<Sort>, Input<'a>), ParseRefusal>
     ensures { IsReadingAny written_run (NoneOf sort_run_goes_on) sorts_from input.entry result }
 {
     let mut found = Vec::new(alloc);
@@ -138,7 +138,7 @@ fn sort_run<'a>(alloc: Global, input: Input<'a>) -> Result<(Vec<Sort>, Input<'a>
 }
 
 /// Reads the sorts with * between that the tokens begin with, one at least; also returns the tokens after them.
-fn factors<'a>(alloc: Global, input: Input<'a>) -> Result<(Vec<Sort>, Input<'a>), Refusal>
+fn factors<'a>(alloc: Global, input: Input<'a>) -> Result<(Vec<Sort>, Input<'a>), ParseRefusal>
     ensures { IsReading some_factors (NoneOf factors_go_on) sorts_from input.entry result }
 {
     let (first, mut rest) = sort(alloc, input, 1)?;
@@ -164,7 +164,7 @@ fn sole(parts: Vec<Sort>) -> Option<Sort>
 }
 
 /// What the tokens after the colon of a declaration begin with, and the tokens after that.
-fn sort_type<'a>(alloc: Global, input: Input<'a>) -> Result<(SortType, Input<'a>), Refusal>
+fn sort_type<'a>(alloc: Global, input: Input<'a>) -> Result<(SortType, Input<'a>), ParseRefusal>
     ensures { IsReading typed (NoneOf declaration_goes_on) type_of input.entry result }
 {
     let (parts, rest) = factors(alloc, input)?;
@@ -173,25 +173,28 @@ fn sort_type<'a>(alloc: Global, input: Input<'a>) -> Result<(SortType, Input<'a>
         return Ok((SortType::Mapping(parts, made), rest));
     }
     let Some(made) = sole(parts) else {
-        return Err(rest.syntax(Expected::StarOrArrow));
+        return Err(rest.syntax(&[Candidate::Star, Candidate::Arrow]));
     };
     Ok((SortType::Plain(made), rest))
 }
 
 /// Reads the injection whose colon stands before the tokens; also returns the tokens after it.
-fn injection<'a>(alloc: Global, input: Input<'a>) -> Result<(Declaration, Input<'a>), Refusal>
+fn injection<'a>(alloc: Global, input: Input<'a>) -> Result<(Declaration, Input<'a>), ParseRefusal>
     ensures { IsReading written_declaration (NoneOf declaration_goes_on)
         declaration_of (mark Mark.Colon ∷ input.entry) result }
 {
     let (found, rest) = sort_type(alloc, input)?;
     match found {
-        SortType::Plain(_) => Err(rest.syntax(Expected::StarOrArrow)),
+        SortType::Plain(_) => Err(rest.syntax(&[Candidate::Star, Candidate::Arrow])),
         SortType::Mapping(parts, made) => Ok((Declaration::Injection(parts, made), rest)),
     }
 }
 
 /// Reads the declaration that the tokens begin with; also returns the tokens after it.
-fn declaration<'a>(alloc: Global, input: Input<'a>) -> Result<(Declaration, Input<'a>), Refusal>
+fn declaration<'a>(
+    alloc: Global,
+    input: Input<'a>,
+) -> Result<(Declaration, Input<'a>), ParseRefusal>
     ensures { IsReading written_declaration (NoneOf declaration_goes_on)
         declaration_of input.entry result }
 {
@@ -199,13 +202,13 @@ fn declaration<'a>(alloc: Global, input: Input<'a>) -> Result<(Declaration, Inpu
         return injection(alloc, following);
     }
     let Some((bytes, following)) = first_name(&input) else {
-        return Err(input.syntax(Expected::Constructor));
+        return Err(input.syntax(&[Candidate::Constructor]));
     };
     if !is_constructor(bytes) {
-        return Err(input.syntax(Expected::Constructor));
+        return Err(input.syntax(&[Candidate::Constructor]));
     }
     let Some(following) = following.after(Mark::Colon) else {
-        return Err(following.syntax(Expected::Colon));
+        return Err(following.syntax(&[Candidate::Colon]));
     };
     let name = Name::new(alloc, bytes, input.at())?;
     let (found, rest) = sort_type(alloc, following)?;
@@ -219,7 +222,7 @@ fn declaration<'a>(alloc: Global, input: Input<'a>) -> Result<(Declaration, Inpu
 fn declarations<'a>(
     alloc: Global,
     input: Input<'a>,
-) -> Result<(Vec<Declaration>, Input<'a>), Refusal>
+) -> Result<(Vec<Declaration>, Input<'a>), ParseRefusal>
     ensures { IsReadingAny written_declarations (NoneOf signature_part_goes_on)
         declarations_from input.entry result }
 {
@@ -237,7 +240,7 @@ fn declarations<'a>(
 fn signature_part<'a>(
     alloc: Global,
     input: Input<'a>,
-) -> Result<(SignaturePart, Input<'a>), Refusal>
+) -> Result<(SignaturePart, Input<'a>), ParseRefusal>
     ensures { IsReading written_part (NoneOf signature_part_goes_on)
         signature_of input.entry result }
 {
@@ -246,7 +249,11 @@ fn signature_part<'a>(
         return Ok((SignaturePart::Sorts(found), rest));
     }
     let Some(following) = input.after_keyword(Keyword::Constructors) else {
-        return Err(input.syntax(Expected::PartOrSection));
+        return Err(input.syntax(&[
+            Candidate::SortsKeyword,
+            Candidate::ConstructorsKeyword,
+            Candidate::Section,
+        ]));
     };
     let (found, rest) = declarations(alloc, following)?;
     Ok((SignaturePart::Constructors(found), rest))
@@ -256,7 +263,7 @@ fn signature_part<'a>(
 pub(crate) fn signature_parts<'a>(
     alloc: Global,
     input: Input<'a>,
-) -> Result<(Vec<SignaturePart>, Input<'a>), Refusal>
+) -> Result<(Vec<SignaturePart>, Input<'a>), ParseRefusal>
     ensures { IsReadingAny written_parts (NoneOf signature_goes_on)
         signatures_from input.entry result }
 {

@@ -1,15 +1,15 @@
 -- Each way that reading can go is a law.
-use Rattle.std.proofs.Common.{◌+◌, arith, sym, ◌∙◌, true}
+use Rattle.std.proofs.Common.{arith, sym, ◌∙◌, None}
 use Rattle.str_syntax.proofs.ReadLaws.{reads_plain_sequence, reads_left_choice, reads_last, reads_then, reads_plain_step, reads_matching}
 use Rattle.std.proofs.lemmas.Result.{err_from_is_err_and}
 use Rattle.str_syntax.specs.Views.{strategy_of, pattern_of}
-use Rattle.str_parser.specs.Phrases.{step, primary}
 use Rattle.str_parser.specs.Readings.{AtMost}
 use Rattle.str_parser.specs.Begun.{inner_strategy, inner_sequence, inner_pattern, WrittenPattern, HasInner, GoesApplied, GoesAnnotated}
-use Rattle.str_parser.proofs.FaultLaws.{fault_means}
-use Rattle.str_parser.proofs.DescentFaults.{beyond_fault, syntax_fault, next_pattern_fault}
+use Rattle.str_parser.proofs.WayLaws.{fault_along, syntax_fault}
+use Rattle.str_parser.proofs.DescentFaults.{beyond_fault, next_pattern_fault}
 use Rattle.str_parser.proofs.ChoiceLaws.{strategy_nested, strategy_beyond, missing_sequence, nested_sequence, found_plain, missing_right, nested_right, found_choice, missing_first, nested_first, missing_plus, missing_second, nested_second, found_guarded}
-use Rattle.str_parser.proofs.SequenceLaws.{sequence_nested, sequence_beyond, missing_step, nested_step, found_last, missing_others, nested_others, found_then, missing_primary, nested_primary, found_plain_step, missing_matched, nested_matched, found_matching}
+use Rattle.str_parser.proofs.PhraseLaws.{carried, carries_on, made, at_made, no_option, at_first, pair}
+use Rattle.str_parser.proofs.SequenceLaws.{sequence_nested, sequence_beyond, sequence_pairs, in_sequence, after_semicolon, step_pairs, after_double_arrow}
 use Rattle.str_parser.proofs.LoopLaws.{leads_on, found_whole}
 use Rattle.str_parser.proofs.StandingLaws.{begun_stands, strategy_stands, strategy_left, pattern_stands, pattern_left}
 use Rattle.str_parser.proofs.AnnotationLaws.{leads_in_braces, leads_annotated}
@@ -57,8 +57,7 @@ pattern-returns-in_err-part-in-ToStrategy t c =
     let i = rw c.in-ToStrategy.is at c.loop-begun.invariant in
     let p = err_from_is_err_and c.from_residual-in_err-part-in-ToStrategy.result
     c.from_residual-in_err-part-in-ToStrategy.ensures.1 in
-    rw (p.1, p.2) (fault_means (inner_strategy (c.args.level + 1)) (AtMost 0)
-    c.in-ToStrategy.rest (inner_pattern c.args.in_match c.args.level) (AtMost 3) c.args.input _
+    rw (p.1, p.2) (fault_along _
     (missing_applied _ _ _ _ (omega arith) i) (nested_applied _ _ _ _ (omega arith) i)
     c.in_err-part-in-ToStrategy.ensures)
 
@@ -79,8 +78,7 @@ pattern-returns-in_err-part-in-ToPattern t c =
     let i = rw c.in-ToPattern.is at c.loop-begun.invariant in
     let p = err_from_is_err_and c.from_residual-in_err-part-in-ToPattern.result
     c.from_residual-in_err-part-in-ToPattern.ensures.1 in
-    rw (p.1, p.2) (fault_means (inner_pattern c.args.in_match (c.args.level + 1)) (AtMost 3)
-    c.in-ToPattern.rest (inner_pattern c.args.in_match c.args.level) (AtMost 3) c.args.input _
+    rw (p.1, p.2) (fault_along _
     (missing_inner _ _ c.in-ToPattern.before _ _ (omega arith) i)
     (nested_inner _ _ c.in-ToPattern.before _ _ (omega arith) i) c.in_err-part-in-ToPattern.ensures)
 
@@ -174,12 +172,12 @@ sequence-returns-then-level-gt-MAX_LEVEL t c =
 pub sequence-returns-in_err-first : goal.sequence-returns-in_err-first
 sequence-returns-in_err-first t c =
     let p = err_from_is_err_and c.from_residual.result c.from_residual.ensures.1 in
-    rw (p.1, p.2) (fault_means (step c.args.level) (AtMost 2) c.args.input (inner_sequence c.args.level) (AtMost 1)
-    c.args.input _ (missing_step _ _ (omega arith)) (nested_step _ _ (omega arith)) c.in_err-first.ensures)
+    rw (p.1, p.2) (carried (carries_on (at_first (sequence_pairs c.args.level) None)
+    (at_made (in_sequence c.args.level (omega arith)))) _ c.in_err-first.ensures)
 
 pub sequence-returns-in_default : goal.sequence-returns-in_default
-sequence-returns-in_default t c =
-    rw reads_last (found_last _ _ _ _ (omega arith) c.in_ok-first.ensures c.in_default.ensures)
+sequence-returns-in_default t c = rw reads_last (made (in_sequence c.args.level (omega arith))
+    (pair (sequence_pairs c.args.level) c.in_ok-first.ensures (no_option c.in_default.ensures)))
 
 pub sequence-returns : goal.sequence-returns
 sequence-returns t c = c.then.ensures _ (rw c.in-Some.ensures at c.in_ok-first.ensures)
@@ -187,25 +185,22 @@ sequence-returns t c = c.then.ensures _ (rw c.in-Some.ensures at c.in_ok-first.e
 pub then-returns-in_err-others : goal.then-returns-in_err-others
 then-returns-in_err-others t c =
     let p = err_from_is_err_and c.from_residual.result c.from_residual.ensures.1 in
-    rw (p.1, p.2) (λ ts f. fault_means (inner_sequence (c.args.level + 1)) (AtMost 1)
-    c.args.input (inner_sequence c.args.level) (AtMost 1) ts _ (missing_others _ _ _ _ (omega arith) f)
-    (nested_others _ _ _ _ (omega arith) f) c.in_err-others.ensures)
+    rw (p.1, p.2) (λ ts f. carried (at_made (after_semicolon c.args.level (omega arith) f)) _ c.in_err-others.ensures)
 
 pub then-returns : goal.then-returns
-then-returns t c =
-    λ ts f. rw (reads_then, c.in_ok-new.ensures.ok) (found_then _ _ _ _ _ _ (omega arith) f c.in_ok-others.ensures)
+then-returns t c = λ ts f. rw (reads_then, c.in_ok-new.ensures.ok)
+    (made (after_semicolon c.args.level (omega arith) f) c.in_ok-others.ensures)
 
 -- ---- steps
 
 pub step-returns-in_err-first : goal.step-returns-in_err-first
 step-returns-in_err-first t c =
     let p = err_from_is_err_and c.from_residual.result c.from_residual.ensures.1 in
-    rw (p.1, p.2) (fault_means (primary c.args.level) (AtMost 3) c.args.input (step c.args.level) (AtMost 2)
-    c.args.input _ (missing_primary _ _) (nested_primary _ _) c.in_err-first.ensures)
+    rw (p.1, p.2) (carried (at_first (step_pairs c.args.level) None) _ c.in_err-first.ensures)
 
 pub step-returns-in_default : goal.step-returns-in_default
-step-returns-in_default t c =
-    rw reads_plain_step (found_plain_step _ _ _ _ c.in_ok-first.ensures c.in_default.ensures)
+step-returns-in_default t c = rw reads_plain_step
+    (pair (step_pairs c.args.level) c.in_ok-first.ensures (no_option c.in_default.ensures))
 
 pub step-returns : goal.step-returns
 step-returns t c = c.matching.ensures _ (rw c.in-Some.ensures at c.in_ok-first.ensures)
@@ -213,13 +208,11 @@ step-returns t c = c.matching.ensures _ (rw c.in-Some.ensures at c.in_ok-first.e
 pub matching-returns-in_err-matched : goal.matching-returns-in_err-matched
 matching-returns-in_err-matched t c =
     let p = err_from_is_err_and c.from_residual.result c.from_residual.ensures.1 in
-    rw (p.1, p.2) (λ ts f. fault_means (inner_pattern true (c.args.level + 1)) (AtMost 3)
-    c.args.input (step c.args.level) (AtMost 2) ts _ (missing_matched _ _ _ _ f) (nested_matched _ _ _ _ f)
-    c.in_err-matched.ensures)
+    rw (p.1, p.2) (λ ts f. carried (at_made (after_double_arrow c.args.level f)) _ c.in_err-matched.ensures)
 
 pub matching-returns : goal.matching-returns
-matching-returns t c =
-    λ ts f. rw (reads_matching, c.in_ok-new.ensures.ok) (found_matching _ _ _ _ _ _ f c.in_ok-matched.ensures)
+matching-returns t c = λ ts f. rw (reads_matching, c.in_ok-new.ensures.ok)
+    (made (after_double_arrow c.args.level f) c.in_ok-matched.ensures)
 
 -- ---- strategies
 
@@ -232,8 +225,7 @@ strategy-returns-then-level-gt-MAX_LEVEL t c =
 pub strategy-returns-in_err-first : goal.strategy-returns-in_err-first
 strategy-returns-in_err-first t c =
     let p = err_from_is_err_and c.from_residual.result c.from_residual.ensures.1 in
-    rw (p.1, p.2) (fault_means (inner_sequence c.args.level) (AtMost 1) c.args.input (inner_strategy c.args.level)
-    (AtMost 0) c.args.input _ (missing_sequence _ _) (nested_sequence _ _) c.in_err-first.ensures)
+    rw (p.1, p.2) (fault_along _ (missing_sequence _ _) (nested_sequence _ _) c.in_err-first.ensures)
 
 pub strategy-returns-in-Some : goal.strategy-returns-in-Some
 strategy-returns-in-Some t c = c.left_choice.ensures _ (rw c.in-Some.ensures at c.in_ok-first.ensures)
@@ -250,37 +242,34 @@ strategy-returns t c = c.guarded_choice.ensures _ (rw c.in-Some-after.ensures at
 pub left_choice-returns-in_err-other : goal.left_choice-returns-in_err-other
 left_choice-returns-in_err-other t c =
     let p = err_from_is_err_and c.from_residual.result c.from_residual.ensures.1 in
-    rw (p.1, p.2) (λ ts f. fault_means (inner_strategy (c.args.level + 1)) (AtMost 0)
-    c.args.input (inner_strategy c.args.level) (AtMost 0) ts _ (missing_right _ _ _ _ f) (nested_right _ _ _ _ f)
+    rw (p.1, p.2) (λ ts f. fault_along _ (missing_right _ _ _ _ f) (nested_right _ _ _ _ f)
     c.in_err-other.ensures)
 
 pub left_choice-returns : goal.left_choice-returns
 left_choice-returns t c =
-    λ ts f. rw (reads_left_choice, c.in_ok-new.ensures.ok) (found_choice _ _ _ _ _ _ f c.in_ok-other.ensures)
+    λ ts f. rw (reads_left_choice, c.in_ok-new.ensures.ok) (found_choice _ _ _ _ f _ _ c.in_ok-other.ensures)
 
 -- ---- guarded choices
 
 pub guarded_choice-returns-in_err-then : goal.guarded_choice-returns-in_err-then
 guarded_choice-returns-in_err-then t c =
     let p = err_from_is_err_and c.from_residual.result c.from_residual.ensures.1 in
-    rw (p.1, p.2) (λ ts f. fault_means (inner_strategy (c.args.level + 1)) (AtMost 0)
-    c.args.input (inner_strategy c.args.level) (AtMost 0) ts _ (missing_first _ _ _ _ f) (nested_first _ _ _ _ f)
+    rw (p.1, p.2) (λ ts f. fault_along _ (missing_first _ _ _ _ f) (nested_first _ _ _ _ f)
     c.in_err-then.ensures)
 
 pub guarded_choice-returns-in_default : goal.guarded_choice-returns-in_default
 guarded_choice-returns-in_default t c =
-    λ ts f. syntax_fault (inner_strategy c.args.level) (AtMost 0)
-    ts c.syntax.result (missing_plus _ _ _ _ _ _ f c.in_ok-then.ensures c.in_default.ensures) c.syntax.ensures
+    λ ts f. syntax_fault _ c.syntax.ensures
+    (missing_plus _ _ _ _ f _ _ c.in_ok-then.ensures c.in_default.ensures)
 
 pub guarded_choice-returns-in_err-other : goal.guarded_choice-returns-in_err-other
 guarded_choice-returns-in_err-other t c =
     let p = err_from_is_err_and c.from_residual-in_err-other.result c.from_residual-in_err-other.ensures.1 in
     let g = rw c.in-Some.ensures at c.in_ok-then.ensures in
-    rw (p.1, p.2) (λ ts f. fault_means (inner_strategy (c.args.level + 1)) (AtMost 0)
-    c.in-Some.following (inner_strategy c.args.level) (AtMost 0) ts _ (missing_second _ _ _ _ _ _ f g)
-    (nested_second _ _ _ _ _ _ f g) c.in_err-other.ensures)
+    rw (p.1, p.2) (λ ts f. fault_along _ (missing_second _ _ _ _ f _ _ g)
+    (nested_second _ _ _ _ f _ _ g) c.in_err-other.ensures)
 
 pub guarded_choice-returns : goal.guarded_choice-returns
 guarded_choice-returns t c =
     let g = rw c.in-Some.ensures at c.in_ok-then.ensures in
-    λ ts f. rw (c.in_ok-made.ensures) (found_guarded _ _ _ _ _ _ _ _ f g c.in_ok-other.ensures)
+    λ ts f. rw (c.in_ok-made.ensures) (found_guarded _ _ _ _ f _ _ g _ _ c.in_ok-other.ensures)

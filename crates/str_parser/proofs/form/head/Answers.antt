@@ -1,19 +1,15 @@
--- Each way that reading a name with parameters can go is a law.
-use Rattle.std.proofs.lemmas.Result.{err_from_is_err_and}
-use Rattle.str_parser.proofs.WayLaws.{fault_along}
-use Rattle.str_parser.proofs.FormLaws.{name_missing, name_nested, parameters_missing, parameters_nested, head_found}
+-- Each way that reading a name with parameters can go.
+use Rattle.str_syntax.specs.Trees.{absent}
+use Rattle.str_parser.proofs.PhraseLaws.{refused, at_made, at_first, after_first, pair}
+use Rattle.str_parser.proofs.FormLaws.{head_pairs}
 use Rattle.str_parser.proofs.form.head.Goals as goal
 
 pub returns-in_err-name : goal.returns-in_err-name
-returns-in_err-name c =
-    let p = err_from_is_err_and c.from_residual.result c.from_residual.ensures.1 in
-    rw (p.1, p.2) (fault_along _ (name_missing _) (name_nested _) c.in_err-name.ensures)
+returns-in_err-name c = refused (at_first head_pairs absent) _ _ _ c.from_residual.ensures.1 c.in_err-name.ensures
 
 pub returns-in_err-parameters : goal.returns-in_err-parameters
-returns-in_err-parameters c =
-    let p = err_from_is_err_and c.from_residual-in_err-parameters.result c.from_residual-in_err-parameters.ensures.1 in
-    rw (p.1, p.2) (fault_along _ (parameters_missing _ _ _ c.in_ok-name.ensures)
-    (parameters_nested _ _ _ c.in_ok-name.ensures) c.in_err-parameters.ensures)
+returns-in_err-parameters c = refused (at_made (after_first head_pairs c.in_ok-name.ensures))
+    _ _ _ c.from_residual-in_err-parameters.ensures.1 c.in_err-parameters.ensures
 
 pub returns : goal.returns
-returns c = head_found _ _ _ _ _ c.in_ok-name.ensures c.in_ok-parameters.ensures
+returns c = pair head_pairs c.in_ok-name.ensures c.in_ok-parameters.ensures

@@ -1,24 +1,24 @@
 use Rattle.std.proofs.Common.{ap, ◌∙◌}
 use Rattle.str_syntax.specs.Trees.{annotated}
 use Rattle.str_syntax.proofs.ReadLaws.{reads_annotated}
-use Rattle.str_parser.proofs.PatternLists.{pushed_last}
-use Rattle.str_parser.proofs.InnerLaws.{annotation_more, annotation_end}
-use Rattle.str_parser.proofs.PartFaults.{syntax_inner, no_annotation}
+use Rattle.str_parser.proofs.PatternLists.{pushed_with, pushed_last}
+use Rattle.str_parser.proofs.PatternSteps.{annotations_go_on, annotations_end, pattern_step, no_pattern_in, syntax_pattern}
 use Rattle.str_parser.specs.declared.begun.BeforeInner.TheVariants as I
 use Rattle.str_parser.specs.Begun.{HasInner}
 use Rattle.str_syntax.specs.Views.{pattern_of}
 use Rattle.str_parser.proofs.pattern_part.with_annotations.Goals as goal
 
 pub returns-in-Some : goal.returns-in-Some
-returns-in-Some c = λ m k. rw c.in-Some.ensures (annotation_more m k _ _ _ _ _ c.in_ok-push.ensures.items)
+returns-in-Some c = λ m k. rw c.in-Some.ensures
+    (pattern_step m k _ (annotations_go_on
+    (pushed_with c.args.done c.push.new.self c.args.part c.in_ok-push.ensures.items)))
 
 pub returns-in_default-after : goal.returns-in_default-after
-returns-in_default-after c = λ m. syntax_inner (HasInner (I.Annotated c.args.bare c.args.done) (pattern_of c.args.part))
-    m _ _ c.syntax.ensures
-    (λ k. no_annotation m k c.args.bare c.args.done (pattern_of c.args.part)
-    _ c.in_default.ensures c.in_default-after.ensures)
+returns-in_default-after c = λ m. syntax_pattern
+    (HasInner (I.Annotated c.args.bare c.args.done) (pattern_of c.args.part)) m _ _ c.syntax.ensures
+    (λ k. no_pattern_in m k _ _ _ (c.in_default.ensures, c.in_default-after.ensures))
 
 pub returns : goal.returns
-returns c = λ m k. rw c.in-Some-after.ensures (annotation_end m k _ _ _ _ _ (reads_annotated _ _
+returns c = λ m k. rw c.in-Some-after.ensures (pattern_step m k _ (annotations_end (reads_annotated _ _
     ∙ ap (annotated (pattern_of c.args.bare.value))
-    (pushed_last c.args.done c.push.new.self c.args.part c.in_ok-push.ensures.items)))
+    (pushed_last c.args.done c.push.new.self c.args.part c.in_ok-push.ensures.items))))

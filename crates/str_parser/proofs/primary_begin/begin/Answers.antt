@@ -1,7 +1,7 @@
 use Rattle.str_parser.specs.Begun.{Written}
 use Rattle.str_parser.proofs.BeginFaults.{syntax_at}
 use Rattle.str_parser.proofs.PrimaryLeads.{tokens_left}
-use Rattle.str_parser.proofs.PrimaryBegins.{no_tokens, begins_no_primary}
+use Rattle.str_parser.proofs.PrimaryBeginLaws.{begins_none, no_primary, no_tokens}
 use Rattle.str_parser.proofs.primary_begin.begin.Goals as goal
 
 pub returns-in_default : goal.returns-in_default
@@ -10,6 +10,6 @@ returns-in_default c = syntax_at Written _ _ _ c.syntax.ensures c.in_default.ens
 pub returns-in_default-first : goal.returns-in_default-first
 returns-in_default-first c =
     syntax_at Written _ _ _ c.syntax-in_default-first.ensures c.in-Some.ensures
-    (λ k. begins_no_primary k _ _
+    (λ k. no_primary k (begins_none
     (tokens_left _ (λ x f. c.in_default-first.not-Name x f) (λ x f. c.in_default-first.not-Mark x f)
-    (λ x f. c.in_default-first.not-Keyword x f)))
+    (λ x f. c.in_default-first.not-Keyword x f))))

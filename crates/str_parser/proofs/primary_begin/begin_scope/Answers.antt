@@ -3,18 +3,18 @@ use Rattle.str_parser.specs.Runs.{NoneOf, names_go_on}
 use Rattle.str_parser.specs.Begun.{Written}
 use Rattle.str_parser.proofs.WholeLaws.{syntax_next}
 use Rattle.str_parser.proofs.BeginFaults.{names_fault}
-use Rattle.str_parser.proofs.PrimaryBeginLaws.{scope_leads, scope_no_names, scope_no_colon}
+use Rattle.str_parser.proofs.PrimaryBeginLaws.{scope_begins, primary_begin, no_names, no_colon, no_primary}
 use Rattle.str_parser.proofs.primary_begin.begin_scope.Goals as goal
 
 pub returns-in_err-variables : goal.returns-in_err-variables
 returns-in_err-variables c =
     let p = err_from_is_err_and c.from_residual.result c.from_residual.ensures.1 in
-    rw (p.1, p.2) (names_fault Written (NoneOf names_go_on) _ _ _ (λ m k. scope_no_names k _ m)
+    rw (p.1, p.2) (names_fault Written (NoneOf names_go_on) _ _ _ (λ m k. no_primary k (no_names m))
     c.in_err-variables.ensures)
 
 pub returns-in_default : goal.returns-in_default
 returns-in_default c = syntax_next _ _ _ c.syntax.ensures
-    (λ k. scope_no_colon k _ _ _ c.in_ok-variables.ensures c.in_default.ensures)
+    (λ k. no_primary k (no_colon c.in_ok-variables.ensures c.in_default.ensures))
 
 pub returns : goal.returns
-returns c = λ k. scope_leads k _ _ _ (rw c.in-Some.ensures at c.in_ok-variables.ensures)
+returns c = λ k. primary_begin k _ (scope_begins (rw c.in-Some.ensures at c.in_ok-variables.ensures))

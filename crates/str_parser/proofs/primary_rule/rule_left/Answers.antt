@@ -1,11 +1,10 @@
 use Rattle.std.proofs.Common.{sym}
-use Rattle.str_parser.proofs.RuleParts.{rule_left_leads}
+use Rattle.str_parser.proofs.PrimarySteps.{rule_left_goes_on, primary_step, no_primary_behind}
 use Rattle.str_parser.proofs.WholeLaws.{syntax_next}
-use Rattle.str_parser.proofs.PatternFaults.{no_rule_left}
 use Rattle.str_parser.proofs.primary_rule.rule_left.Goals as goal
 
 pub returns-in_default : goal.returns-in_default
-returns-in_default c = syntax_next _ _ _ c.syntax.ensures (λ k. no_rule_left k _ _ c.in_default.ensures)
+returns-in_default c = syntax_next _ _ _ c.syntax.ensures (λ k. no_primary_behind k _ _ _ c.in_default.ensures)
 
 pub returns : goal.returns
-returns c = λ k. rw (c.in-Some.ensures, sym c.in_ok-new.ensures.ok) (rule_left_leads k _ _)
+returns c = λ k. rw (c.in-Some.ensures, sym c.in_ok-new.ensures.ok) (primary_step k _ rule_left_goes_on)

@@ -1,30 +1,27 @@
 use Rattle.std.proofs.lemmas.List.{map-append}
-use Rattle.std.proofs.lemmas.Result.{err_from_is_err_and}
-use Rattle.str_parser.proofs.FaultLaws.{fault_means}
-use Rattle.str_parser.proofs.SortLists.{factors_first, factors_more, factors_found, factors_missing, factors_nested, factors_none, factors_deep}
+use Rattle.str_parser.proofs.PhraseLaws.{refused, carries_on, made, at_made, is_behind}
+use Rattle.str_parser.proofs.RunLaws.{partly_first, at_row_first, partly_more, at_next, partly_found}
+use Rattle.str_parser.proofs.SortLists.{factors_row, factor_lists}
 use Rattle.str_parser.proofs.sorts.factors.Goals as goal
 
 pub returns-in_err-first : goal.returns-in_err-first
 returns-in_err-first c =
-    let p = err_from_is_err_and c.from_residual.result c.from_residual.ensures.1 in
-    rw (p.1, p.2) (fault_means _ _ _ _ _ _ _ (factors_none _) (factors_deep _) c.in_err-first.ensures)
+    refused (at_row_first factor_lists factors_row) _ _ _ c.from_residual.ensures.1 c.in_err-first.ensures
 
 pub loop-following-init : goal.loop-following-init
 loop-following-init c = rw (c.in_ok-push.ensures.items, c.new-parts.ensures.items)
-    (factors_first _ _ _ c.in_ok-first.ensures)
+    (partly_first factor_lists factors_row c.in_ok-first.ensures)
 
 pub returns-in_err-other : goal.returns-in_err-other
 returns-in_err-other c =
-    let p = err_from_is_err_and c.from_residual-in_err-other.result c.from_residual-in_err-other.ensures.1 in
-    rw (p.1, p.2) (fault_means _ _ _ _ _ _ _
-    (factors_missing _ _ _ _ c.loop-following.invariant c.in-Some.ensures)
-    (factors_nested _ _ _ _ c.loop-following.invariant c.in-Some.ensures)
-    c.in_err-other.ensures)
+    refused (carries_on (at_made (is_behind c.in-Some.ensures))
+    (at_next factors_row c.loop-following.invariant (_, c.in-Some.ensures)))
+    _ _ _ c.from_residual-in_err-other.ensures.1 c.in_err-other.ensures
 
 pub loop-following-preserved : goal.loop-following-preserved
-loop-following-preserved c =
-    rw (c.in_ok-push-2.ensures.items, map-append)
-    (factors_more _ _ _ _ _ _ c.loop-following.invariant c.in-Some.ensures c.in_ok-other.ensures)
+loop-following-preserved c = rw (c.in_ok-push-2.ensures.items, map-append)
+    (partly_more factors_row c.loop-following.invariant (_, c.in-Some.ensures)
+    (made (is_behind c.in-Some.ensures) c.in_ok-other.ensures))
 
 pub returns : goal.returns
-returns c = factors_found _ _ _ c.loop-following.invariant c.in_default.ensures
+returns c = partly_found factors_row c.loop-following.invariant c.in_default.ensures

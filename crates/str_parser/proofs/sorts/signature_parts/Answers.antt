@@ -1,21 +1,20 @@
 use Rattle.std.proofs.Common.{sym}
 use Rattle.std.proofs.lemmas.List.{map-append}
-use Rattle.std.proofs.lemmas.Result.{err_from_is_err_and}
-use Rattle.str_parser.proofs.FaultLaws.{fault_means}
-use Rattle.str_parser.proofs.DeclarationLists.{parts_more, parts_found, parts_missing, parts_nested}
+use Rattle.str_parser.proofs.PhraseLaws.{refused_any}
+use Rattle.str_parser.proofs.RunLaws.{partly_none, partly_more, at_next, partly_any}
+use Rattle.str_parser.proofs.DeclarationLists.{parts_row, part_lists}
 use Rattle.str_parser.proofs.sorts.signature_parts.Goals as goal
 
+pub parts-init : goal.parts-init
+parts-init c = rw c.new-found.ensures.items (partly_none part_lists _)
+
 pub returns-in_err-other : goal.returns-in_err-other
-returns-in_err-other c =
-    let p = err_from_is_err_and c.from_residual.result c.from_residual.ensures.1 in
-    rw (p.1, p.2) (fault_means _ _ _ _ _ _ _
-    (parts_missing _ _ _ c.parts.invariant (sym c.parts-test.ensures))
-    (parts_nested _ _ _ c.parts.invariant)
-    c.in_err-other.ensures)
+returns-in_err-other c = refused_any (at_next parts_row c.parts.invariant (sym c.parts-test.ensures))
+    _ _ _ c.from_residual.ensures.1 c.in_err-other.ensures
 
 pub parts-preserved : goal.parts-preserved
 parts-preserved c = rw (c.in_ok-push.ensures.items, map-append)
-    (parts_more _ _ _ _ _ c.parts.invariant (sym c.parts-test.ensures) c.in_ok-other.ensures)
+    (partly_more parts_row c.parts.invariant (sym c.parts-test.ensures) c.in_ok-other.ensures)
 
 pub returns : goal.returns
-returns c = parts_found _ _ _ c.parts.invariant (sym c.parts-test.ensures)
+returns c = partly_any parts_row c.parts.invariant (sym c.parts-test.ensures)
