@@ -1,6 +1,6 @@
 -- Heads that are put into groups one after another: one of them may not stand in its group exactly where parameters
 -- differ or a key has too many heads.
-use Rattle.std.proofs.Common.{◌≡◌, ◌∙◌, ℕ, ◌+◌, ◌<◌, ◌≤◌, Bool, true, false, cond, not, ◌||◌, ◌&&◌, List, [], ◌∷◌, ◌++◌, Option, None, Some, is_some, take, drop, length, get_or, sym, refl, ap, arith}
+use Rattle.std.proofs.Common.{◌≡◌, ◌∙◌, ◌⊎◌, inl, inr, ℕ, ◌+◌, ◌<◌, ◌≤◌, Bool, true, false, cond, not, ◌||◌, ◌&&◌, List, [], ◌∷◌, ◌++◌, Option, None, Some, is_some, take, drop, length, get_or, sym, refl, ap, arith}
 use Rattle.std.proofs.lemmas.Bool.Decides.{nat_tests, Decides-and}
 use Rattle.std.proofs.lemmas.List.{append_assoc, append-nil, drop_all, drop_more, map_more}
 use Rattle.std.proofs.lemmas.List.Folds.{list_any-append}
@@ -17,11 +17,13 @@ use Rattle.str_syntax.specs.SameName.{same_name-Decides}
 use Rattle.str_syntax.specs.Trees.{Bytes, HeadTree, head}
 use Rattle.str_syntax.specs.Views.{head_of}
 use Rattle.str_syntax.specs.declared.strategy.DefinitionHead.{DefinitionHead}
-use Rattle.scope_check.specs.Complaint.{alternatives, differs, same_names, same_parameters, some_differ, too_many}
+use Rattle.scope_check.specs.Complaint.{alternatives, bad_parameters, differs, same_names, same_parameters, some_differ, too_many}
+use Rattle.scope_check.specs.Found.{Found, found_if, joined}
 use Rattle.scope_check.specs.Groups.{Group, with_head}
-use Rattle.scope_check.specs.SameKey.{same_key-Decides, same_key-refl, same_key-true}
+use Rattle.str_syntax.specs.SameKey.{same_key-Decides, same_key-refl, same_key-true}
 use Rattle.scope_check.specs.Seen.{Key, key_of, same_key, strategy_names, term_names}
 use Rattle.scope_check.specs.Tables.{heads_of}
+use Rattle.scope_check.proofs.FoundLaws.{joined-assoc, nothing_more}
 use Rattle.scope_check.proofs.NameLaws.{test-sym, swapped}
 
 abbrev pub is_bad_group : List HeadTree → Bool
@@ -367,20 +369,20 @@ module _ {S : Type 0} (hs : List (Bor DefinitionHead)) (i : ℕ) (h : Bor Defini
   abbrev key : Key
   key = key_of (head_of h.now)
 
-  abbrev joined : Option Group
-  joined = with_head (head_of h.now) (get same_key table key)
+  abbrev entered : Option Group
+  entered = with_head (head_of h.now) (get same_key table key)
 
   dropped : heads_of (drop i hs) ≡ head_of h.now ∷ heads_of (drop (i + 1) hs)
   dropped = ap heads_of (drop_more hs i h within ∙ ap (λ y. y ∷ drop (i + 1) hs) (sym is))
 
-  pub grouping_refused : is_some joined ≡ false → is_bad_group (heads_of hs) ≡ true
+  pub grouping_refused : is_some entered ≡ false → is_bad_group (heads_of hs) ≡ true
   grouping_refused refused =
       sym before.rest ∙ ap (some_refused (heads_of (take i hs))) dropped ∙
       ap (λ b. b || some_refused (heads_of (take i hs) ++ head_of h.now ∷ []) (heads_of (drop (i + 1) hs)))
       (ap (λ r. not (is_some (with_head (head_of h.now) r))) (sym (before.groups key)) ∙ ap not refused)
 
-  pub grouping_goes : (new : IndexMap Key Group S) → is_some joined ≡ true →
-      ((k : Key) → get same_key new k ≡ cond (same_key key k) joined (get same_key table k)) → Grouping hs (i + 1) new
+  pub grouping_goes : (new : IndexMap Key Group S) → is_some entered ≡ true →
+      ((k : Key) → get same_key new k ≡ cond (same_key key k) entered (get same_key table k)) → Grouping hs (i + 1) new
   grouping_goes new fits put = record {
     groups = λ k. put k ∙ at k (same_key key k) refl ∙ sym (group-more (heads_of (take i hs)) (head_of h.now) k) ∙
         ap (λ gs. group_in gs k) (sym taken);
@@ -395,7 +397,7 @@ module _ {S : Type 0} (hs : List (Bor DefinitionHead)) (i : ℕ) (h : Bor Defini
           ap (λ (y : Bor DefinitionHead). heads_of (take i hs) ++ head_of y.now ∷ []) (sym is)
 
       at : (k : Key) (b : Bool) → same_key key k ≡ b →
-          cond b joined (get same_key table k) ≡
+          cond b entered (get same_key table k) ≡
           cond (same_key k key) (Some (grown (head_of h.now) (group_in (heads_of (take i hs)) k)))
           (group_in (heads_of (take i hs)) k)
       at k true e =
@@ -409,3 +411,55 @@ pub grouping_ends : {S : Type 0} (hs : List (Bor DefinitionHead)) (i : ℕ) (tab
     length hs ≤ i → Grouping hs i table → is_bad_group (heads_of hs) ≡ false
 grouping_ends hs i table past at =
     sym at.rest ∙ ap (λ xs. some_refused (heads_of (take i hs)) (heads_of xs)) (drop_all i hs past)
+
+-- no head up to a place was refused, and nothing was found, or the heads are bad together, and this was found
+abbrev pub Judging : {S : Type 0} → List (Bor DefinitionHead) → ℕ → IndexMap Key Group S → Option (Bor DefinitionHead) →
+    Found → Found → Type 0
+Judging hs i table refused before now =
+    ((is_some refused ≡ false) × (Grouping hs i table × (now ≡ before))) ⊎
+    ((is_bad_group (heads_of hs) ≡ true) × (now ≡ joined before (found_if bad_parameters true)))
+
+pub judging_begins : {S : Type 0} (hs : List (Bor DefinitionHead)) (table : IndexMap Key Group S) (before : Found) →
+    table.entries ≡ [] → Judging hs 0 table None before before
+judging_begins hs table before empty = inl (refl, (grouping_begins hs table empty, refl))
+
+pub judging_ends : {S : Type 0} (hs : List (Bor DefinitionHead)) (i : ℕ) (table : IndexMap Key Group S)
+    (refused : Option (Bor DefinitionHead)) (before now : Found) → length hs ≤ i →
+    Judging hs i table refused before now →
+    now ≡ joined before (found_if bad_parameters (is_bad_group (heads_of hs)))
+judging_ends hs i table refused before now past (inl at) =
+    at.1.1 ∙ nothing_more before ∙
+    ap (λ b. joined before (found_if bad_parameters b)) (sym (grouping_ends hs i table past at.1.0))
+judging_ends hs i table refused before now past (inr at) =
+    at.1 ∙ ap (λ b. joined before (found_if bad_parameters b)) (sym at.0)
+
+-- a head that is refused is found, unless one like it was
+found_again : (before now new : Found) → now ≡ joined before (found_if bad_parameters true) →
+    new ≡ joined now (found_if bad_parameters true) → new ≡ joined before (found_if bad_parameters true)
+found_again before now new is more =
+    more ∙ ap (λ f. joined f (found_if bad_parameters true)) is ∙
+    joined-assoc before (found_if bad_parameters true) (found_if bad_parameters true)
+
+module _ {S : Type 0} (hs : List (Bor DefinitionHead)) (i : ℕ) (h : Bor DefinitionHead) (table : IndexMap Key Group S)
+    (within : i < length hs) (is : h ≡ get_or hs i h) (refused : Option (Bor DefinitionHead)) (before now : Found) where
+  pub judging_goes : Judging hs i table refused before now → (new : IndexMap Key Group S) →
+      is_some (with_head (head_of h.now) (get same_key table (key_of (head_of h.now)))) ≡ true →
+      ((k : Key) → get same_key new k ≡ cond (same_key (key_of (head_of h.now)) k)
+      (with_head (head_of h.now) (get same_key table (key_of (head_of h.now)))) (get same_key table k)) →
+      Judging hs (i + 1) new refused before now
+  judging_goes (inl at) new fits put = inl (at.0, (grouping_goes hs i h table within is at.1.0 new fits put, at.1.1))
+  judging_goes (inr at) new fits put = inr at
+
+  pub judging_refused : Judging hs i table refused before now → (table' : IndexMap Key Group S)
+      (refused' : Option (Bor DefinitionHead)) (new : Found) →
+      is_some (with_head (head_of h.now) (get same_key table (key_of (head_of h.now)))) ≡ false →
+      (is_some refused ≡ false → new ≡ joined now (found_if bad_parameters true)) →
+      (new ≡ now) ⊎ (new ≡ joined now (found_if bad_parameters true)) → Judging hs (i + 1) table' refused' before new
+  judging_refused (inl at) table' refused' new not_fits first others =
+      inr (
+        grouping_refused hs i h table within is at.1.0 not_fits,
+        first at.0 ∙ ap (λ f. joined f (found_if bad_parameters true)) at.1.1,
+      )
+  judging_refused (inr at) table' refused' new not_fits first (inl same) = inr (at.0, same ∙ at.1)
+  judging_refused (inr at) table' refused' new not_fits first (inr more) =
+      inr (at.0, found_again before now new at.1 more)

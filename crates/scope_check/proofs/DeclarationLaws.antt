@@ -1,16 +1,18 @@
 -- Declarations that are made one after another.
-use Rattle.std.proofs.Common.{◌≡◌, ◌∙◌, inl, inr, ℕ, ◌+◌, ◌<◌, ◌≤◌, Bool, true, false, ◌||◌, List, [], ◌∷◌, ◌++◌, drop, length, get_or, sym, refl, ap, subst, append-nil}
+use Rattle.std.proofs.Common.{◌≡◌, ◌∙◌, ℕ, ◌+◌, ◌<◌, ◌≤◌, Bool, true, false, ◌||◌, List, [], ◌∷◌, ◌++◌, drop, length, get_or, sym, refl, ap, subst, append-nil}
+use Rattle.std.proofs.lemmas.Bool.{or_parts}
 use Rattle.std.proofs.lemmas.List.{append_assoc, drop_all, drop_more}
 use Rattle.std.proofs.lemmas.List.Folds.{list_any-append}
 use Rattle.std.proofs.Math.Bool.{or-false, or_assoc}
 use Rattle.std.specs.List.{list_any}
-use Rattle.term_model.specs.declared.fault.Fault.{Fault}
 use Rattle.signature_core.specs.Signature.{Declared, is_declared, same_declaration}
 use Rattle.signature_core.specs.SameDeclaration.{same_declaration-Decides}
 use Rattle.str_syntax.specs.Trees.{SignatureTree, SectionTree, sorts, constructors, signature, rules, strategies}
 use Rattle.signature_core.specs.Signature.{declarations_of_signature, declarations_of_sections}
-use Rattle.scope_check.specs.Complaint.{repeats_declaration}
-use Rattle.scope_check.specs.Tables.{declares_again, AreDeclared, IsRefusal, declared_in, declared_by}
+use Rattle.scope_check.specs.Complaint.{duplicate_declaration, repeats_declaration}
+use Rattle.scope_check.specs.Found.{Found, found_if, joined}
+use Rattle.scope_check.specs.Tables.{declares_again, Declares, declared_in, declared_by}
+use Rattle.scope_check.proofs.FoundLaws.{joined-assoc, nothing_more}
 use Rattle.scope_check.proofs.NameLaws.{test-sym, swapped}
 
 same_declaration-sym : (d e : Declared) → same_declaration d e ≡ same_declaration e d
@@ -55,38 +57,69 @@ again-none ds = again-is [] ds ∙ ap (λ b. b || repeats_declaration ds) (none 
     none [] = refl
     none (e ∷ es) = none es
 
-pub none_declared : (old : List Declared) → AreDeclared old [] old
-none_declared old = record { all = sym (append-nil old); each_new = refl }
+-- nothing is declared
+pub none_declared : (old : List Declared) (before : Found) → Declares old [] old before before
+none_declared old before = record { found = nothing_more before; all = λ _. sym (append-nil old) }
 
--- what is declared now, and what is to be declared after it, come to the whole
-pub record Declaring (old ds now rest : List Declared) : Type 0 where
-  pub all : now ++ rest ≡ old ++ ds
-  pub again : declares_again now rest ≡ declares_again old ds
+again-one : (old : List Declared) (d : Declared) (b : Bool) → is_declared old d ≡ b → declares_again old (d ∷ []) ≡ b
+again-one old d b is = or-false (is_declared old d) ∙ is
 
-pub declaring_begins : (old ds : List Declared) → Declaring old ds old ds
-declaring_begins old ds = record { all = refl; again = refl }
-
-declaring_goes : (old ds now xs next rest : List Declared) → AreDeclared now xs next →
-    Declaring old ds now (xs ++ rest) → Declaring old ds next rest
-declaring_goes old ds now xs next rest more before = record {
-  all = ap (λ es. es ++ rest) more.all ∙ append_assoc now xs rest ∙ before.all;
-  again = ap (λ es. declares_again es rest) more.all ∙
-      ap (λ b. b || declares_again (now ++ xs) rest) (sym more.each_new) ∙ sym (again-append now xs rest) ∙
-      before.again;
+-- one declaration, which is new or stands again
+pub one_declared : (old new : List Declared) (d : Declared) (before : Found) → is_declared old d ≡ false →
+    new ≡ old ++ d ∷ [] → Declares old (d ∷ []) new before before
+one_declared old new d before is_new is = record {
+  found = nothing_more before ∙
+      ap (λ b. joined before (found_if duplicate_declaration b)) (sym (again-one old d false is_new));
+  all = λ _. is;
 }
 
-declaring_ends : (old ds now : List Declared) → Declaring old ds now [] → AreDeclared old ds now
-declaring_ends old ds now at = record { all = sym (append-nil now) ∙ at.all; each_new = sym at.again }
+pub one_again : (old new : List Declared) (d : Declared) (before after : Found) → is_declared old d ≡ true →
+    after ≡ joined before (found_if duplicate_declaration true) → Declares old (d ∷ []) new before after
+one_again old new d before after is_old is = record {
+  found = is ∙ ap (λ b. joined before (found_if duplicate_declaration b)) (sym (again-one old d true is_old));
+  all = λ none. let e : true ≡ false = sym (again-one old d true is_old) ∙ none in absurd (cc);
+}
 
-declaring_stops : (old ds now xs rest : List Declared) (fault : Fault) → IsRefusal now xs fault →
-    Declaring old ds now (xs ++ rest) → IsRefusal old ds fault
-declaring_stops old ds now xs rest fault (inl memory) before = inl memory
-declaring_stops old ds now xs rest fault (inr refused) before =
-    inr (
-      refused.0,
-      sym before.again ∙ again-append now xs rest ∙
-          ap (λ b. b || declares_again (now ++ xs) rest) refused.1,
-    )
+-- what was found, with what is to be found in the rest, comes to the whole, and so do the declarations if none stands
+-- again
+pub record Declaring (old ds now rest : List Declared) (before at : Found) : Type 0 where
+  pub found : joined at (found_if duplicate_declaration (declares_again now rest)) ≡
+      joined before (found_if duplicate_declaration (declares_again old ds))
+  pub all : declares_again old ds ≡ false → (now ++ rest ≡ old ++ ds) × (declares_again now rest ≡ false)
+
+pub declaring_begins : (old ds : List Declared) (before : Found) → Declaring old ds old ds before before
+declaring_begins old ds before = record { found = refl; all = λ e. (refl, e) }
+
+declaring_goes : (old ds now xs next rest : List Declared) (before at after : Found) → Declares now xs next at after →
+    Declaring old ds now (xs ++ rest) before at → Declaring old ds next rest before after
+declaring_goes old ds now xs next rest before at after more done = record {
+  found = ap (λ f. joined f (found_if duplicate_declaration (declares_again next rest))) more.found ∙
+      joined-assoc at (found_if duplicate_declaration (declares_again now xs))
+      (found_if duplicate_declaration (declares_again next rest)) ∙
+      ap (λ b. joined at (found_if duplicate_declaration b)) (either (declares_again now xs) refl ∙
+      sym (again-append now xs rest)) ∙
+      done.found;
+  all = λ e. let before_rest = done.all e in
+      let parts = or_parts (declares_again now xs) (declares_again (now ++ xs) rest)
+      (sym (again-append now xs rest) ∙ before_rest.1) in
+      let is = more.all parts.0 in (
+        ap (λ es. es ++ rest) is ∙ append_assoc now xs rest ∙ before_rest.0,
+        ap (λ es. declares_again es rest) is ∙ parts.1,
+      );
+}
+  where
+    either : (b : Bool) → declares_again now xs ≡ b →
+        (declares_again now xs || declares_again next rest) ≡
+        (declares_again now xs || declares_again (now ++ xs) rest)
+    either true e = rw e refl
+    either false e = ap (λ es. declares_again now xs || declares_again es rest) (more.all e)
+
+declaring_ends : (old ds now : List Declared) (before at : Found) → Declaring old ds now [] before at →
+    Declares old ds now before at
+declaring_ends old ds now before at done = record {
+  found = nothing_more at ∙ done.found;
+  all = λ e. sym (append-nil now) ∙ (done.all e).0;
+}
 
 -- a list of trees, each of which declares something
 module _ {X : Type 0} (one : X → List Declared) (every : List X → List Declared) where
@@ -96,25 +129,18 @@ module _ {X : Type 0} (one : X → List Declared) (every : List X → List Decla
       split x (drop (i + 1) xs)
 
   pub next_declared : ((x : X) (xs : List X) → every (x ∷ xs) ≡ one x ++ every xs) →
-      (xs : List X) (i : ℕ) (x : X) (old ds now next : List Declared)
-      → i < length xs → x ≡ get_or xs i x → AreDeclared now (one x) next → Declaring old ds now (every (drop i xs)) →
-      Declaring old ds next (every (drop (i + 1) xs))
-  next_declared split xs i x old ds now next within is more before =
-      declaring_goes old ds now (one x) next (every (drop (i + 1) xs))
-      more (subst (λ es. Declaring old ds now es) (unfolded split xs i x within is) before)
+      (xs : List X) (i : ℕ) (x : X) (old ds now next : List Declared) (before at after : Found)
+      → i < length xs → x ≡ get_or xs i x → Declares now (one x) next at after →
+      Declaring old ds now (every (drop i xs)) before at → Declaring old ds next (every (drop (i + 1) xs)) before after
+  next_declared split xs i x old ds now next before at after within is more done =
+      declaring_goes old ds now (one x) next (every (drop (i + 1) xs)) before at after
+      more (subst (λ es. Declaring old ds now es before at) (unfolded split xs i x within is) done)
 
-  pub next_refused : ((x : X) (xs : List X) → every (x ∷ xs) ≡ one x ++ every xs) →
-      (xs : List X) (i : ℕ) (x : X) (old ds now : List Declared) (fault : Fault)
-      → i < length xs → x ≡ get_or xs i x → IsRefusal now (one x) fault → Declaring old ds now (every (drop i xs)) →
-      IsRefusal old ds fault
-  next_refused split xs i x old ds now fault within is refused before =
-      declaring_stops old ds now (one x) (every (drop (i + 1) xs))
-      fault refused (subst (λ es. Declaring old ds now es) (unfolded split xs i x within is) before)
-
-  pub all_declared : every [] ≡ [] → (xs : List X) (i : ℕ) (old ds now : List Declared) → length xs ≤ i →
-      Declaring old ds now (every (drop i xs)) → AreDeclared old ds now
-  all_declared empty xs i old ds now past before =
-      declaring_ends old ds now (subst (λ es. Declaring old ds now es) (ap every (drop_all i xs past) ∙ empty) before)
+  pub all_declared : every [] ≡ [] → (xs : List X) (i : ℕ) (old ds now : List Declared) (before at : Found) →
+      length xs ≤ i → Declaring old ds now (every (drop i xs)) before at → Declares old ds now before at
+  all_declared empty xs i old ds now before at past done =
+      declaring_ends old ds now before at
+      (subst (λ es. Declaring old ds now es before at) (ap every (drop_all i xs past) ∙ empty) done)
 
 pub more_sections : (s : SectionTree) (ss : List SectionTree) →
     declarations_of_sections (s ∷ ss) ≡ declared_in s ++ declarations_of_sections ss

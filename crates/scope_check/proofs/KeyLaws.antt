@@ -5,7 +5,7 @@ use Rattle.std.proofs.lemmas.List.Folds.{list_any-append}
 use Rattle.std.proofs.Math.Bool.{or-false}
 use Rattle.indexmap.specs.IndexSet.{insert_key}
 use Rattle.scope_check.specs.Seen.{Key, among, same_key}
-use Rattle.scope_check.specs.SameKey.{same_key-true}
+use Rattle.str_syntax.specs.SameKey.{same_key-true}
 
 absorbed : (a b : Bool) → (b ≡ true → a ≡ true) → a ≡ (a || b)
 absorbed true b holds = refl

@@ -1,3 +1,4 @@
+pub mod FoundLaws
 pub mod NameLaws
 pub mod GroupLaws
 pub mod AlternativeLaws

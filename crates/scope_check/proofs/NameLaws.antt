@@ -1,16 +1,18 @@
 -- Names that stand again after themselves, found by noting one after another.
-use Rattle.std.proofs.Common.{◌≡◌, ◌∙◌, ℕ, ◌+◌, ◌<◌, ◌≤◌, Bool, true, false, ◌||◌, not, List, [], ◌∷◌, ◌++◌, map, take, drop, length, get_or, sym, refl, ap}
+use Rattle.std.proofs.Common.{◌≡◌, ◌∙◌, ℕ, ◌+◌, ◌<◌, ◌≤◌, Bool, true, false, ◌||◌, List, [], ◌∷◌, ◌++◌, map, take, drop, length, get_or, sym, refl, ap}
 use Rattle.std.proofs.lemmas.Bool.Decides.{same_from_decides, Decides-like}
 use Rattle.std.proofs.lemmas.List.{drop_all, drop_more, map_more, take_all}
 use Rattle.std.proofs.lemmas.List.Folds.{list_any-append}
-use Rattle.std.proofs.Math.Bool.{and-true, not-not, or-false, or_assoc}
+use Rattle.std.proofs.Math.Bool.{and-true, or-false, or_assoc}
 use Rattle.std.specs.Bool.{Decides}
 use Rattle.std.specs.List.{list_any}
 use Rattle.str_syntax.specs.SameName.{same_name, same_name-Decides}
 use Rattle.str_syntax.specs.Trees.{Bytes}
-use Rattle.scope_check.specs.Complaint.{repeats}
+use Rattle.scope_check.specs.Complaint.{bad_parameters, repeats}
+use Rattle.scope_check.specs.Found.{Found, found_if, joined}
 use Rattle.scope_check.specs.Seen.{Key, same_key, Seen, among, plain_key}
 use Rattle.scope_check.specs.Tables.{repeats_after, AreWith}
+use Rattle.scope_check.proofs.FoundLaws.{joined-assoc, joined-none}
 
 -- predicates that agree everywhere are one
 pub extensional : (A B : Seen) → ((k : Key) → A k ≡ B k) → A ≡ B
@@ -67,34 +69,36 @@ repeats_after-is L (x ∷ xs) =
     last false true c d = refl
     last false false c d = refl
 
--- the names up to a place are noted in keys after others, and whether one of them was there or stands again
-pub record Noting (old : List Key) (names : List Bytes) (i : ℕ) (keys : List Key) (repeated : Bool) : Type 0 where
+-- the names up to a place are in keys after others, and what was found, with what is found in the rest, is the whole
+pub record Noting (old : List Key) (names : List Bytes) (i : ℕ) (keys : List Key) (before now : Found) : Type 0 where
   pub added : AreWith old (map plain_key (take i names)) keys
-  pub rest : (repeated || repeats_after (among keys) (drop i names)) ≡ repeats_after (among old) names
+  pub rest : joined now (found_if bad_parameters (repeats_after (among keys) (drop i names))) ≡
+      joined before (found_if bad_parameters (repeats_after (among old) names))
 
-pub noting_begins : (old : List Key) (names : List Bytes) → Noting old names 0 old false
-noting_begins old names = record { added = λ k. sym (or-false (among old k)); rest = refl }
+pub noting_begins : (old : List Key) (names : List Bytes) (before : Found) → Noting old names 0 old before before
+noting_begins old names before = record { added = λ k. sym (or-false (among old k)); rest = refl }
 
 -- one name more at the end
 among-push : (ks : List Key) (x k : Key) → among (ks ++ x ∷ []) k ≡ (among ks k || same_key k x)
 among-push ks x k = list_any-append (same_key k) ks (x ∷ []) ∙ ap (λ b. among ks k || b) (or-false (same_key k x))
 
-pub noting_goes : (old : List Key) (names : List Bytes) (i : ℕ) (keys : List Key) (repeated : Bool) (x : Bytes)
-    (keys' : List Key) (new : Bool)
-    → i < length names → x ≡ get_or names i x → Noting old names i keys repeated → new ≡ not (among keys (plain_key x))
+pub noting_goes : (old : List Key) (names : List Bytes) (i : ℕ) (keys : List Key) (before now : Found) (x : Bytes)
+    (keys' : List Key) (new : Found)
+    → i < length names → x ≡ get_or names i x → Noting old names i keys before now →
+    new ≡ joined now (found_if bad_parameters (among keys (plain_key x)))
     → ((k : Key) → among keys' k ≡ (among keys k || same_key k (plain_key x))) →
-    Noting old names (i + 1) keys' (repeated || not new)
-noting_goes old names i keys repeated x keys' new within is before fresh put = record {
-  added = λ k. put k ∙ ap (λ b. b || same_key k (plain_key x)) (before.added k) ∙
+    Noting old names (i + 1) keys' before new
+noting_goes old names i keys before now x keys' new within is noting found put = record {
+  added = λ k. put k ∙ ap (λ b. b || same_key k (plain_key x)) (noting.added k) ∙
       or_assoc (among old k) (among (map plain_key (take i names)) k) (same_key k (plain_key x)) ∙
       ap (λ b. among old k || b) (sym (among-push (map plain_key (take i names)) (plain_key x) k) ∙
       ap (λ ks. among ks k) (sym taken));
-  rest = ap (λ b. b || repeats_after (among keys') (drop (i + 1) names)) (ap (λ b. repeated || not b) fresh ∙
-      ap (λ b. repeated || b) (not-not (among keys (plain_key x)))) ∙
-      or_assoc repeated (among keys (plain_key x)) (repeats_after (among keys') (drop (i + 1) names)) ∙
-      ap (λ L. repeated || (among keys (plain_key x) || repeats_after L (drop (i + 1) names)))
+  rest = ap (λ f. joined f (found_if bad_parameters (repeats_after (among keys') (drop (i + 1) names)))) found ∙
+      joined-assoc now (found_if bad_parameters (among keys (plain_key x)))
+      (found_if bad_parameters (repeats_after (among keys') (drop (i + 1) names))) ∙
+      ap (λ L. joined now (found_if bad_parameters (among keys (plain_key x) || repeats_after L (drop (i + 1) names))))
       (extensional (among keys') (λ k. among keys k || same_key k (plain_key x)) put) ∙
-      ap (λ xs. repeated || repeats_after (among keys) xs) (sym dropped) ∙ before.rest;
+      ap (λ xs. joined now (found_if bad_parameters (repeats_after (among keys) xs))) (sym dropped) ∙ noting.rest;
 }
   where
     taken : map plain_key (take (i + 1) names) ≡ map plain_key (take i names) ++ plain_key x ∷ []
@@ -103,12 +107,14 @@ noting_goes old names i keys repeated x keys' new within is before fresh put = r
     dropped : drop i names ≡ x ∷ drop (i + 1) names
     dropped = drop_more names i x within ∙ ap (λ y. y ∷ drop (i + 1) names) (sym is)
 
-pub noting_ends : (old : List Key) (names : List Bytes) (i : ℕ) (keys : List Key) (repeated : Bool) → length names ≤ i →
-    Noting old names i keys repeated
-    → AreWith old (map plain_key names) keys × (repeated ≡ repeats_after (among old) names)
-noting_ends old names i keys repeated past noting = (
+pub noting_ends : (old : List Key) (names : List Bytes) (i : ℕ) (keys : List Key) (before now : Found) →
+    length names ≤ i → Noting old names i keys before now
+    → AreWith old (map plain_key names) keys ×
+    (now ≡ joined before (found_if bad_parameters (repeats_after (among old) names)))
+noting_ends old names i keys before now past noting = (
   λ k. noting.added k ∙ ap (λ xs. among old k || among (map plain_key xs) k) (take_all i names past),
-  sym (or-false repeated) ∙ ap (λ xs. repeated || repeats_after (among keys) xs) (sym (drop_all i names past)) ∙
+  sym (joined-none now) ∙
+      ap (λ xs. joined now (found_if bad_parameters (repeats_after (among keys) xs))) (sym (drop_all i names past)) ∙
       noting.rest,
 )
 
@@ -143,21 +149,15 @@ together (x ∷ xs) ys =
         rw (test, also zs) (swapped (same_name x z) (among (map plain_key xs) (plain_key z)) (list_any (same_name x) zs)
         (list_any (λ y. among (map plain_key xs) (plain_key y)) zs))
 
-pub repeats_together : (xs ys : List Bytes) (ks : List Key) (first second : Bool) →
-    first ≡ repeats_after (among []) xs → AreWith [] (map plain_key xs) ks → second ≡ repeats_after (among ks) ys
-    → (first || second) ≡ repeats (xs ++ ys)
-repeats_together xs ys ks first second is_first noted is_second =
-    ap (λ b. b || second) (is_first ∙ repeats_after-is (among []) xs ∙ ap (λ b. b || repeats xs) (none_seen xs)) ∙
-    ap (λ b. repeats xs || b) (is_second ∙
-    ap (λ L. repeats_after L ys) (extensional (among ks) (among (map plain_key xs)) noted) ∙
-    repeats_after-is (among (map plain_key xs)) ys) ∙
+pub repeats_together : (xs ys : List Bytes) (ks : List Key) → AreWith [] (map plain_key xs) ks
+    → (repeats_after (among []) xs || repeats_after (among ks) ys) ≡ repeats (xs ++ ys)
+repeats_together xs ys ks noted =
+    ap (λ b. b || repeats_after (among ks) ys) (repeats_after-is (among []) xs ∙
+    ap (λ b. b || repeats xs) (none_seen xs)) ∙
+    ap (λ b. repeats xs || b) (ap (λ L. repeats_after L ys)
+    (extensional (among ks) (among (map plain_key xs)) noted) ∙ repeats_after-is (among (map plain_key xs)) ys) ∙
     sym (together xs ys)
   where
     none_seen : (zs : List Bytes) → list_any (λ y. false) zs ≡ false
     none_seen [] = refl
     none_seen (z ∷ zs) = none_seen zs
-
--- the keys that were noted after none are these
-pub all_noted : (names : List Bytes) (ks : List Key) → AreWith [] (map plain_key names) ks →
-    among ks ≡ among (map plain_key names)
-all_noted names ks noted = extensional (among ks) (among (map plain_key names)) noted

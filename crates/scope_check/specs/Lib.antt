@@ -1,5 +1,4 @@
 pub mod Seen
-pub mod SameKey
 pub mod Somewhere
 pub mod Complaint
 pub mod Primitives

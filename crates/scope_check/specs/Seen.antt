@@ -1,20 +1,11 @@
 -- What a call can be of: keys, and which of them are seen at a place of a file.
-use Rattle.std.specs.Prelude.{ℕ, Bool, true, false, not, ◌&&◌, ◌||◌, ◌==◌, List, [], ◌∷◌, ◌++◌, map, if◌then◌else◌}
+use Rattle.std.specs.Prelude.{Bool, true, false, not, ◌||◌, List, [], ◌∷◌, ◌++◌, map, if◌then◌else◌}
 use Rattle.std.specs.List.{list_any}
-use Rattle.str_syntax.specs.Arity.{strategy_parameters, term_parameters}
-use Rattle.str_syntax.specs.SameName.{same_name}
+pub use Rattle.str_syntax.specs.Arity.{strategy_names, term_names}
+pub use Rattle.str_syntax.specs.Key.{Key, same_key, plain_key, key_of}
 use Rattle.str_syntax.specs.declared.definition.Origin.{Origin}
 use Rattle.str_syntax.specs.declared.definition.Origin.TheVariants as origins
-use Rattle.str_syntax.specs.Trees.{Bytes, ParameterTree, absent, strategies_only, with_terms, HeadTree, head, definition, DefinitionTrees, no_definitions, more_definitions, FormTree, rule_form, strategy_form, TopTree, SectionTree, signature, rules, strategies, FileTree}
-
--- a name with numbers of strategies and of terms
-pub record Key : Type 0 where
-  pub name : Bytes
-  pub strategies : ℕ
-  pub terms : ℕ
-
-abbrev pub same_key : Key → Key → Bool
-same_key k l = same_name k.name l.name && (k.strategies == l.strategies && k.terms == l.terms)
+use Rattle.str_syntax.specs.Trees.{Bytes, HeadTree, head, definition, DefinitionTrees, no_definitions, more_definitions, FormTree, rule_form, strategy_form, TopTree, SectionTree, signature, rules, strategies, FileTree}
 
 -- which keys a call at a place can be of
 abbrev pub Seen : Type 0
@@ -31,24 +22,6 @@ nothing k = false
 -- what is seen further in and what is seen further out
 abbrev pub inner : Seen → Seen → Seen
 inner A B k = A k || B k
-
--- the key of a strategy parameter or a rec: it is called without arguments
-abbrev pub plain_key : Bytes → Key
-plain_key f = record { name = f; strategies = 0; terms = 0 }
-
-abbrev pub strategy_names : ParameterTree → List Bytes
-strategy_names absent = []
-strategy_names (strategies_only fs) = fs
-strategy_names (with_terms fs xs) = fs
-
-abbrev pub term_names : ParameterTree → List Bytes
-term_names absent = []
-term_names (strategies_only fs) = []
-term_names (with_terms fs xs) = xs
-
--- the key of a rule or a definition
-abbrev pub key_of : HeadTree → Key
-key_of (head f ps) = record { name = f; strategies = strategy_parameters ps; terms = term_parameters ps }
 
 -- the keys of its strategy parameters
 abbrev pub parameter_keys : HeadTree → List Key

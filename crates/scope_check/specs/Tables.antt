@@ -1,20 +1,17 @@
 -- The headline does not rest on this file.
 -- What the tables and the layers of the walk over a file hold.
-use Rattle.std.specs.Prelude.{◌≡◌, ◌⊎◌, ◌||◌, ◌++◌, Bool, true, false, List, [], ◌∷◌, map, Result}
+use Rattle.std.specs.Prelude.{◌≡◌, ◌||◌, ◌++◌, Bool, false, List, [], ◌∷◌, map, Result, OnOk}
 use Rattle.std.specs.Borrow.{Bor}
 use Rattle.str_syntax.specs.declared.strategy.DefinitionHead.{DefinitionHead}
 use Rattle.str_syntax.specs.Views.{head_of}
 use Rattle.str_syntax.specs.Trees.{Bytes, HeadTree, SectionTree, signature, rules, strategies, SignatureTree, sorts, constructors}
 use Rattle.signature_core.specs.Signature.{Declared, is_declared, declarations_of_signature, declarations_of_parts}
-use Rattle.term_model.specs.declared.fault.Fault.{Fault}
-use Rattle.term_model.specs.declared.fault.Fault.TheVariants.{Memory, DuplicateDeclaration}
-use Rattle.term_model.specs.Results.{Returns}
-use Rattle.scope_check.specs.declared.findings.Findings.{Findings}
 use Rattle.scope_check.specs.declared.layers.Layers.{Layers}
 use Rattle.scope_check.specs.declared.layers.Layers.TheOpen.{Layers-F, Outermost, Inner, Recursive}
 use Rattle.scope_check.specs.declared.layers.Layers.TheFolds.{fold-Layers}
 use Rattle.scope_check.specs.declared.known.Known as declared
-use Rattle.scope_check.specs.Complaint.{Known}
+use Rattle.scope_check.specs.Complaint.{Known, duplicate_declaration}
+use Rattle.scope_check.specs.Found.{Found, found_if, joined}
 use Rattle.scope_check.specs.Primitives.{holds}
 use Rattle.scope_check.specs.Seen.{Key, same_key, Seen, nothing, among, inner, plain_key, in_rec}
 
@@ -40,10 +37,15 @@ layers_step (Recursive f up) = in_rec f.now up.now
 abbrev pub layers_of : Layers → Seen
 layers_of = fold-Layers Seen layers_step
 
--- the call returns what is found in a part, where this is known and seen, unless it fails
-abbrev pub Finds : {A E : Type 0} → Result Findings E → (Known → Seen → A → Findings) → declared.Known → Layers → A →
-    Type 0
-Finds result find known layers part = Returns result (find (known_of known) (layers_of layers) part)
+-- this is found in the call, with what was found before it, unless it fails
+abbrev pub Adds : {A E : Type 0} → Result A E → Found → Found → Found → Type 0
+Adds result before found after = OnOk result (after ≡ joined before found)
+
+-- what is found in a part, where this is known and seen
+abbrev pub Finds : {A B E : Type 0} → Result B E → (Known → Seen → A → Found) → declared.Known → Layers → A → Found →
+    Found → Type 0
+Finds result find known layers part before after =
+    Adds result before (find (known_of known) (layers_of layers) part) after
 
 -- the heads that are pointed at
 abbrev pub heads_of : List (Bor DefinitionHead) → List HeadTree
@@ -65,11 +67,7 @@ abbrev pub declares_again : List Declared → List Declared → Bool
 declares_again old [] = false
 declares_again old (d ∷ ds) = is_declared old d || declares_again (old ++ d ∷ []) ds
 
--- all were declared, and each was new
-pub record AreDeclared (old ds new : List Declared) : Type 0 where
-  pub all : new ≡ old ++ ds
-  pub each_new : declares_again old ds ≡ false
-
--- why not all were declared
-abbrev pub IsRefusal : List Declared → List Declared → Fault → Type 0
-IsRefusal old ds fault = (fault ≡ Memory) ⊎ ((fault ≡ DuplicateDeclaration) × (declares_again old ds ≡ true))
+-- these are declared after others, but for those that stand again, which are found
+pub record Declares (old ds new : List Declared) (before after : Found) : Type 0 where
+  pub found : after ≡ joined before (found_if duplicate_declaration (declares_again old ds))
+  pub all : declares_again old ds ≡ false → new ≡ old ++ ds

@@ -1,20 +1,21 @@
 //! Alternatives: heads of one key.
-ghost use Rattle.std.specs.Prelude.{◌≡◌, ◌||◌, Bool, [], cond, is_some, not, true, IfOk, OnOk};
+ghost use Rattle.std.specs.Prelude.{◌≡◌, ◌⊎◌, Bool, [], cond, is_some, true, IfOk, IsNone};
 ghost use Rattle.indexmap.specs.IndexMap.{get};
-ghost use Rattle.scope_check.specs.Complaint.{same_parameters, some_differ, too_many};
+ghost use Rattle.scope_check.specs.Complaint.{bad_parameters, same_parameters};
+ghost use Rattle.scope_check.specs.Found.{found_group, found_if, joined};
 ghost use Rattle.scope_check.specs.Groups.{with_head};
 ghost use Rattle.scope_check.specs.Seen as spec;
 ghost use Rattle.scope_check.specs.Seen.{key_of, same_key};
-ghost use Rattle.scope_check.specs.Tables.{heads_of};
+ghost use Rattle.scope_check.specs.Tables.{Adds, heads_of};
 ghost use Rattle.str_syntax.specs.Views.{head_of};
 
-use crate::heads::{key_of, strategy_names, term_names};
-use crate::keys::Key;
-use crate::notes::{Detail, Notes, place_of};
+use crate::detail::Detail;
+use crate::findings::Findings;
+use crate::note::place_of;
 use indexmap::IndexMap;
 use std::alloc::{AllocError, Global};
 use std::marker::Model;
-use str_syntax::DefinitionHead;
+use str_syntax::{DefinitionHead, DefinitionKey, Name};
 
 /// The most heads of one key.
 const MOST: usize = 1000;
@@ -38,7 +39,7 @@ impl<'a> Model for Group<'a> {
 /// The groups of heads, by their keys.
 #[derive(Drop)]
 pub(crate) struct Groups<'a> {
-    by_key: IndexMap<Key<'a>, Group<'a>>,
+    by_key: IndexMap<DefinitionKey<'a>, Group<'a>>,
 }
 
 impl<'a> Groups<'a> {
@@ -56,7 +57,7 @@ impl<'a> Groups<'a> {
         ensures { result ≡ with_head (head_of head.now)
             (get same_key self.now.by_key (key_of (head_of head.now))) }
     {
-        let Some(group) = self.by_key.get(&key_of(head)) else {
+        let Some(group) = self.by_key.get(&head.key()) else {
             let number = 1;
             return Some(Group {
                 first: head,
@@ -71,27 +72,44 @@ impl<'a> Groups<'a> {
         Some(Group { first, number })
     }
 
-    /// Notes why the head may not stand in its group. A head of the library has no place in the file, but the first of its group may
-    /// have one.
-    fn note_refusal(&self, head: &DefinitionHead, notes: &mut Notes) {
-        let Some(group) = self.by_key.get(&key_of(head)) else {
-            return;
-        };
-        let detail = if group.number < MOST {
-            Detail::OtherParameters
+    /// Notes why the head may not stand in its group, unless that is what was wrong with the last that was refused: both are too many of
+    /// their key. A head of the library has no place in the file, but the first of its group may have one.
+    fn note_refusal(
+        &self,
+        head: &'a DefinitionHead,
+        last: Option<&DefinitionHead>,
+        findings: &mut Findings,
+    )
+        ensures first { IsNone last.entry →
+            findings.new ≡ joined findings.old (found_if bad_parameters true) }
+        ensures others { (findings.new ≡ findings.old) ⊎
+            (findings.new ≡ joined findings.old (found_if bad_parameters true)) }
+    {
+        let has_room = self.has_room(head);
+        if let Some(last) = last {
+            if !has_room && last.key() == head.key() {
+                return;
+            }
+        }
+        let name = self.name_to_note(head);
+        if has_room {
+            findings.note(name, Detail::OtherParameters);
         } else {
-            Detail::ManyAlternatives
-        };
-        if place_of(&head.name).is_some() {
-            notes.at(&head.name, detail);
-        } else {
-            notes.at(&group.first.name, detail);
+            findings.note(name, Detail::ManyAlternatives);
         }
     }
 
-    /// Whether the group of the key may have more heads.
-    fn has_room(&self, key: &Key<'a>) -> bool {
-        match self.by_key.get(key) {
+    /// The name of the head or, where that is of the library, of the first of its group.
+    fn name_to_note(&self, head: &'a DefinitionHead) -> &'a Name {
+        match self.by_key.get(&head.key()) {
+            Some(group) if place_of(&head.name).is_none() => &group.first.name,
+            _ => &head.name,
+        }
+    }
+
+    /// Whether the group of the head may have more heads.
+    fn has_room(&self, head: &DefinitionHead) -> bool {
+        match self.by_key.get(&head.key()) {
             Some(group) => group.number < MOST,
             None => true,
         }
@@ -112,49 +130,29 @@ impl<'a> Groups<'a> {
         let Some(group) = self.with(head) else {
             return Ok(false);
         };
-        self.by_key.insert(key_of(head), group)?;
+        self.by_key.insert(head.key(), group)?;
         Ok(true)
     }
 }
 
-/// Whether two heads of one key have different parameters, or a key has too many heads. `AllocError` where a growth is refused.
-pub(crate) fn is_bad_group(
+/// Finds that two heads of one key have different parameters, and that a key has too many heads: each head that has other parameters is
+/// noted, and the first of those that are too many. `AllocError` where a growth is refused.
+pub(crate) fn find_in_group(
     alloc: Global,
     heads: &[&DefinitionHead],
-    notes: &mut Notes,
-) -> Result<bool, AllocError>
-    ensures { IfOk result (λ bad. bad ≡
-        (some_differ (heads_of heads.now) || too_many (heads_of heads.now))) }
+    findings: &mut Findings,
+) -> Result<(), AllocError>
+    ensures { Adds result findings.old (found_group (heads_of heads.now)) findings.new }
 {
     let mut groups = Groups::new(alloc);
+    let mut refused = None;
     for head in heads {
         let fits = groups.add(head)?;
-        if !fits {
-            let _ = note_refusals(alloc, heads, notes);
-            return Ok(true);
-        }
-    }
-    Ok(false)
-}
-
-/// Notes the heads that may not stand in their groups: each that has other parameters, and the first of those that are too many.
-fn note_refusals(
-    alloc: Global,
-    heads: &[&DefinitionHead],
-    notes: &mut Notes,
-) -> Result<(), AllocError> {
-    let mut groups = Groups::new(alloc);
-    let mut last = None;
-    for head in heads {
-        if groups.add(head)? {
+        if fits {
             continue;
         }
-        let key = key_of(head);
-        let is_told = last.as_ref().is_some_and(|other| *other == key);
-        if !is_told || groups.has_room(&key) {
-            groups.note_refusal(head, notes);
-        }
-        last = Some(key);
+        groups.note_refusal(head, refused, findings);
+        refused = Some(*head);
     }
     Ok(())
 }
@@ -162,6 +160,6 @@ fn note_refusals(
 fn same_parameters(head: &DefinitionHead, other: &DefinitionHead) -> bool
     ensures { result ≡ same_parameters (head_of head.now) (head_of other.now) }
 {
-    strategy_names(&head.parameters) == strategy_names(&other.parameters)
-        && term_names(&head.parameters) == term_names(&other.parameters)
+    head.parameters.strategy_names() == other.parameters.strategy_names()
+        && head.parameters.term_names() == other.parameters.term_names()
 }

@@ -1,48 +1,53 @@
 //! What a call is.
-ghost use Rattle.std.specs.Prelude.{◌≡◌, ◌||◌};
-ghost use Rattle.scope_check.specs.Complaint.{called, is_congruence};
+ghost use Rattle.std.specs.Prelude.{◌≡◌, ◌||◌, not};
+ghost use Rattle.scope_check.specs.Complaint.{called, is_congruence, unknown_strategy};
+ghost use Rattle.scope_check.specs.Found.{found_if, joined};
 ghost use Rattle.scope_check.specs.Tables.{layers_of};
 ghost use Rattle.str_syntax.specs.Views.{arguments_of};
 
-use crate::keys::Key;
+use crate::detail::Detail;
+use crate::findings::Findings;
 use crate::layers::{Layers, is_seen, numbers_seen};
-use crate::notes::{Detail, Notes};
 use signature_core::Signature;
-use str_syntax::{Arguments, Name};
-use term_model::Fault;
+use str_syntax::{Arguments, DefinitionKey, Name};
 
-/// Whether the call is a congruence, or what it calls is seen.
-pub(crate) fn is_known<'t>(
+/// Finds that the call is no congruence, and that what it calls is not seen.
+#[tactic(auto, using(crate::proofs::FoundLaws::nothing_more))]
+pub(crate) fn find_unknown_strategy<'t>(
     signature: &Signature,
     layers: &Layers<'_, 't>,
     name: &'t Name,
     given: &Arguments,
-    notes: &mut Notes,
-) -> bool
-    ensures { result ≡ (is_congruence signature.now name.now (arguments_of given.now) ||
-        layers_of layers.now (called name.now (arguments_of given.now))) }
+    findings: &mut Findings,
+)
+    ensures { findings.new ≡ joined findings.old (found_if unknown_strategy
+        (not (is_congruence signature.now name.now (arguments_of given.now) ||
+        layers_of layers.now (called name.now (arguments_of given.now))))) }
 {
     if is_congruence(signature, name, given) {
-        return true;
+        return;
     }
     let strategies = given.strategies();
     let terms = given.terms();
-    if is_seen(layers, &Key::new(name.bytes(), strategies, terms)) {
-        return true;
+    if is_seen(layers, &DefinitionKey::new(name.bytes(), strategies, terms)) {
+        return;
     }
-    let seen = numbers_to_note(layers, name, notes);
+    let seen = numbers_to_note(layers, name, findings);
     let detail = Detail::UnknownStrategy {
         strategies,
         terms,
         seen,
     };
-    notes.at(name, detail);
-    false
+    findings.note(name, detail);
 }
 
 /// The numbers with which the name is seen, if a note of an unknown strategy there would be kept.
-fn numbers_to_note(layers: &Layers<'_, '_>, name: &Name, notes: &Notes) -> Option<(usize, usize)> {
-    if notes.wants(&Fault::UnknownStrategy, name) {
+fn numbers_to_note(
+    layers: &Layers<'_, '_>,
+    name: &Name,
+    findings: &Findings,
+) -> Option<(usize, usize)> {
+    if findings.wants_unknown(name) {
         return numbers_seen(layers, name.bytes());
     }
     None

@@ -1,53 +1,81 @@
-//! Where constructors are declared whose names are those of definitions of the library. Nothing here has a contract: it only notes.
+//! Where constructors are declared whose names are those of definitions of the library.
+ghost use Rattle.std.specs.Prelude.{◌≡◌, OnOk};
 
+use crate::detail::Detail;
 use crate::findings::Findings;
-use crate::notes::{Detail, Notes, place_of};
+use crate::note::place_of;
+use std::alloc::{AllocError, Global};
 use str_syntax::{Declaration, DefinitionHead, Name, Section, SignaturePart};
 
-/// Notes each declaration of a constructor whose name is that of a definition of the library, if a clash was found. The definition
-/// itself has no place in the file.
-pub(crate) fn note_clashes(
-    found: &Findings,
+/// Notes each declaration of a constructor whose name is that of a definition of the library, if a clash was found: the definition
+/// itself has no place in the file. `AllocError` where a growth is refused.
+pub(crate) fn place_clashes(
+    alloc: Global,
     sections: &[Section],
     heads: &[&DefinitionHead],
-    notes: &mut Notes,
-) {
-    if !found.clash {
-        return;
+    findings: &mut Findings,
+) -> Result<(), AllocError>
+    ensures { OnOk result (findings.new ≡ findings.old) }
+{
+    if !findings.has_clash() {
+        return Ok(());
     }
+    let names = declared_names(alloc, sections, heads)?;
+    for name in &names {
+        findings.note(name, Detail::Clash);
+    }
+    Ok(())
+}
+
+/// The names of constructors, where they are declared, that are names of definitions of the library among the heads.
+fn declared_names<'t>(
+    alloc: Global,
+    sections: &'t [Section],
+    heads: &[&DefinitionHead],
+) -> Result<Vec<&'t Name>, AllocError> {
+    let mut names = Vec::new(alloc);
     for section in sections {
         if let Section::Signature(parts) = section {
-            note_in_parts(parts, heads, notes);
+            add_parts(&mut names, parts, heads)?;
         }
     }
+    Ok(names)
 }
 
-/// Notes those in the parts of a signature.
-fn note_in_parts(parts: &[SignaturePart], heads: &[&DefinitionHead], notes: &mut Notes) {
+/// Adds those in the parts of a signature.
+fn add_parts<'t>(
+    names: &mut Vec<&'t Name>,
+    parts: &'t [SignaturePart],
+    heads: &[&DefinitionHead],
+) -> Result<(), AllocError> {
     for part in parts {
         if let SignaturePart::Constructors(all) = part {
-            note_declarations(all, heads, notes);
+            add_declarations(names, all, heads)?;
         }
     }
+    Ok(())
 }
 
-/// Notes those among the declarations.
-fn note_declarations(all: &[Declaration], heads: &[&DefinitionHead], notes: &mut Notes) {
+/// Adds those among the declarations.
+fn add_declarations<'t>(
+    names: &mut Vec<&'t Name>,
+    all: &'t [Declaration],
+    heads: &[&DefinitionHead],
+) -> Result<(), AllocError> {
     for one in all {
         match one {
-            Declaration::Constant(name, _) => note_declaration(name, heads, notes),
-            Declaration::Constructor(name, _, _) => note_declaration(name, heads, notes),
+            Declaration::Constant(name, _) | Declaration::Constructor(name, _, _) => {
+                if is_of_library(heads, name) {
+                    names.push(name)?;
+                }
+            }
             Declaration::Injection(_, _) => {}
         }
     }
+    Ok(())
 }
 
-/// Notes the declaration of the constructor, if a definition of the library has its name.
-fn note_declaration(name: &Name, heads: &[&DefinitionHead], notes: &mut Notes) {
-    for head in heads {
-        if place_of(&head.name).is_none() && head.name.bytes() == name.bytes() {
-            notes.at(name, Detail::Clash);
-            return;
-        }
-    }
+/// Whether a definition of the library has the name.
+fn is_of_library(heads: &[&DefinitionHead], name: &Name) -> bool {
+    heads.iter().any(|head| place_of(&head.name).is_none() && head.name.bytes() == name.bytes())
 }

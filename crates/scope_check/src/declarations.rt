@@ -1,81 +1,29 @@
 //! The signature of a file.
-ghost use Rattle.std.specs.Prelude.{◌≡◌, ◌∷◌, [], map, IfErr, IfOk, OnOk};
-ghost use Rattle.scope_check.specs.Tables.{AreDeclared, IsRefusal, declared_by, declared_in};
+ghost use Rattle.std.specs.Prelude.{◌≡◌, ◌∷◌, [], map, IfOk, OnOk};
+ghost use Rattle.scope_check.specs.Tables.{Declares, declared_by, declared_in};
 ghost use Rattle.signature_core.specs.Signature.{declarations_of, declarations_of_part, declarations_of_parts, declarations_of_sections, declarations_of_signature};
 ghost use Rattle.signature_core.specs.Views.{declaration};
-ghost use Rattle.term_model.specs.declared.fault.Fault.TheVariants.{Memory};
 ghost use Rattle.str_syntax.specs.Views.{declaration_of, file_of, section_of, signature_of, sort_tree_of};
 
-use crate::notes::{Detail, Notes};
+use crate::detail::Detail;
+use crate::findings::Findings;
 use signature_core::Signature;
 use std::alloc::{AllocError, Global};
 use str_syntax::{Declaration, File, Name, Section, SignaturePart, Sort};
 use term_model::Fault;
 
-/// The signature of the file. `DuplicateDeclaration` where a declaration stands twice, `Memory` where a growth is refused.
+/// The signature of the file, in which each declaration that stands again is left out and found. `AllocError` where a growth is refused.
 pub(crate) fn signature_of(
     alloc: Global,
     file: &File,
-    notes: &mut Notes,
-) -> Result<Signature, Fault>
-    ensures declared { IfOk result
-        (λ made. AreDeclared [] (declarations_of (file_of file.now)) made) }
-    ensures refused { IfErr result (IsRefusal [] (declarations_of (file_of file.now))) }
+    findings: &mut Findings,
+) -> Result<Signature, AllocError>
+    ensures { IfOk result (λ made.
+        Declares [] (declarations_of (file_of file.now)) made findings.old findings.new) }
 {
     let mut signature = Signature::new(alloc);
-    declare_sections(alloc, &mut signature, &file.sections, notes)?;
+    declare_sections(alloc, &mut signature, &file.sections, findings)?;
     Ok(signature)
-}
-
-/// The signature of the file without the declarations that stand again, each of which is noted. `Memory` where a growth is refused.
-pub(crate) fn distinct_signature(
-    alloc: Global,
-    file: &File,
-    notes: &mut Notes,
-) -> Result<Signature, Fault>
-    ensures { IfErr result (λ fault. fault ≡ Memory) }
-{
-    let mut signature = Signature::new(alloc);
-    for section in &file.sections {
-        if let Section::Signature(parts) = section {
-            declare_distinct(alloc, &mut signature, parts, notes)?;
-        }
-    }
-    Ok(signature)
-}
-
-/// Declares what the parts of a signature declare, but for what is declared.
-fn declare_distinct(
-    alloc: Global,
-    signature: &mut Signature,
-    parts: &[SignaturePart],
-    notes: &mut Notes,
-) -> Result<(), Fault>
-    ensures { IfErr result (λ fault. fault ≡ Memory) }
-{
-    for part in parts {
-        if let SignaturePart::Constructors(all) = part {
-            for one in all {
-                declare_new(alloc, signature, one, notes)?;
-            }
-        }
-    }
-    Ok(())
-}
-
-/// Declares the constructor, if the declaration is of one that is not declared.
-fn declare_new(
-    alloc: Global,
-    signature: &mut Signature,
-    one: &Declaration,
-    notes: &mut Notes,
-) -> Result<(), Fault>
-    ensures { IfErr result (λ fault. fault ≡ Memory) }
-{
-    match declare(alloc, signature, one, notes) {
-        Err(Fault::Memory) => Err(Fault::Memory),
-        Ok(()) | Err(_) => Ok(()),
-    }
 }
 
 /// Declares what the sections declare, one after another.
@@ -83,16 +31,14 @@ fn declare_sections(
     alloc: Global,
     signature: &mut Signature,
     sections: &[Section],
-    notes: &mut Notes,
-) -> Result<(), Fault>
-    ensures declared { OnOk result
-        (AreDeclared signature.old (declarations_of_sections (map section_of sections.now))
-        signature.new) }
-    ensures refused { IfErr result
-        (IsRefusal signature.old (declarations_of_sections (map section_of sections.now))) }
+    findings: &mut Findings,
+) -> Result<(), AllocError>
+    ensures { OnOk result (Declares signature.old
+        (declarations_of_sections (map section_of sections.now))
+        signature.new findings.old findings.new) }
 {
     for section in sections {
-        declare_section(alloc, signature, section, notes)?;
+        declare_section(alloc, signature, section, findings)?;
     }
     Ok(())
 }
@@ -102,17 +48,15 @@ fn declare_section(
     alloc: Global,
     signature: &mut Signature,
     section: &Section,
-    notes: &mut Notes,
-) -> Result<(), Fault>
-    ensures declared { OnOk result
-        (AreDeclared signature.old (declared_in (section_of section.now)) signature.new) }
-    ensures refused { IfErr result (IsRefusal signature.old (declared_in
-        (section_of section.now))) }
+    findings: &mut Findings,
+) -> Result<(), AllocError>
+    ensures { OnOk result (Declares signature.old
+        (declared_in (section_of section.now))
+        signature.new findings.old findings.new) }
 {
     match section {
-        Section::Signature(parts) => declare_parts(alloc, signature, parts, notes),
-        Section::Rules(_) => Ok(()),
-        Section::Strategies(_) => Ok(()),
+        Section::Signature(parts) => declare_parts(alloc, signature, parts, findings),
+        Section::Rules(_) | Section::Strategies(_) => Ok(()),
     }
 }
 
@@ -121,16 +65,14 @@ fn declare_parts(
     alloc: Global,
     signature: &mut Signature,
     parts: &[SignaturePart],
-    notes: &mut Notes,
-) -> Result<(), Fault>
-    ensures declared { OnOk result
-        (AreDeclared signature.old (declarations_of_signature (map signature_of parts.now))
-        signature.new) }
-    ensures refused { IfErr result
-        (IsRefusal signature.old (declarations_of_signature (map signature_of parts.now))) }
+    findings: &mut Findings,
+) -> Result<(), AllocError>
+    ensures { OnOk result (Declares signature.old
+        (declarations_of_signature (map signature_of parts.now))
+        signature.new findings.old findings.new) }
 {
     for part in parts {
-        declare_part(alloc, signature, part, notes)?;
+        declare_part(alloc, signature, part, findings)?;
     }
     Ok(())
 }
@@ -140,15 +82,15 @@ fn declare_part(
     alloc: Global,
     signature: &mut Signature,
     part: &SignaturePart,
-    notes: &mut Notes,
-) -> Result<(), Fault>
-    ensures declared { OnOk result
-        (AreDeclared signature.old (declared_by (signature_of part.now)) signature.new) }
-    ensures refused { IfErr result (IsRefusal signature.old (declared_by (signature_of part.now))) }
+    findings: &mut Findings,
+) -> Result<(), AllocError>
+    ensures { OnOk result (Declares signature.old
+        (declared_by (signature_of part.now))
+        signature.new findings.old findings.new) }
 {
     match part {
         SignaturePart::Sorts(_) => Ok(()),
-        SignaturePart::Constructors(all) => declare_all(alloc, signature, all, notes),
+        SignaturePart::Constructors(all) => declare_all(alloc, signature, all, findings),
     }
 }
 
@@ -157,16 +99,14 @@ fn declare_all(
     alloc: Global,
     signature: &mut Signature,
     all: &[Declaration],
-    notes: &mut Notes,
-) -> Result<(), Fault>
-    ensures declared { OnOk result
-        (AreDeclared signature.old (declarations_of_parts (map declaration_of all.now))
-        signature.new) }
-    ensures refused { IfErr result
-        (IsRefusal signature.old (declarations_of_parts (map declaration_of all.now))) }
+    findings: &mut Findings,
+) -> Result<(), AllocError>
+    ensures { OnOk result (Declares signature.old
+        (declarations_of_parts (map declaration_of all.now))
+        signature.new findings.old findings.new) }
 {
     for one in all {
-        declare(alloc, signature, one, notes)?;
+        declare(alloc, signature, one, findings)?;
     }
     Ok(())
 }
@@ -176,44 +116,45 @@ fn declare(
     alloc: Global,
     signature: &mut Signature,
     one: &Declaration,
-    notes: &mut Notes,
-) -> Result<(), Fault>
-    ensures declared { OnOk result
-        (AreDeclared signature.old (declarations_of_part (declaration_of one.now)) signature.new) }
-    ensures refused { IfErr result
-        (IsRefusal signature.old (declarations_of_part (declaration_of one.now))) }
+    findings: &mut Findings,
+) -> Result<(), AllocError>
+    ensures { OnOk result (Declares signature.old
+        (declarations_of_part (declaration_of one.now))
+        signature.new findings.old findings.new) }
 {
     match one {
-        Declaration::Constant(c, a) => declare_constructor(alloc, signature, c, &[], a, notes),
+        Declaration::Constant(c, a) => declare_constructor(alloc, signature, c, &[], a, findings),
         Declaration::Constructor(c, parts, a) => declare_constructor(
-            alloc, signature, c, parts, a, notes,
+            alloc, signature, c, parts, a, findings,
         ),
         Declaration::Injection(_, _) => Ok(()),
     }
 }
 
-/// Declares the constructor of copies of the name and the sorts.
+/// Declares the constructor of copies of the name and the sorts, or finds that it is declared.
 fn declare_constructor(
     alloc: Global,
     signature: &mut Signature,
     name: &Name,
     arguments: &[Sort],
     to: &Sort,
-    notes: &mut Notes,
-) -> Result<(), Fault>
-    ensures declared { OnOk result
-        (AreDeclared signature.old (declaration name.now arguments.now to.now ∷ []) signature.new) }
-    ensures refused { IfErr result
-        (IsRefusal signature.old (declaration name.now arguments.now to.now ∷ [])) }
+    findings: &mut Findings,
+) -> Result<(), AllocError>
+    ensures { OnOk result (Declares signature.old
+        (declaration name.now arguments.now to.now ∷ [])
+        signature.new findings.old findings.new) }
 {
     let copied = name.copy(alloc)?;
     let arguments = copy_sorts(alloc, arguments)?;
     let to = to.copy(alloc)?;
-    let declared = signature.declare(copied, arguments, to);
-    if declared.is_err() {
-        notes.at(name, Detail::DeclaredAgain);
+    match signature.declare(copied, arguments, to) {
+        Ok(()) => Ok(()),
+        Err(Fault::DuplicateDeclaration) => {
+            findings.note(name, Detail::DeclaredAgain);
+            Ok(())
+        }
+        Err(_) => Err(AllocError),
     }
-    declared
 }
 
 fn copy_sorts(alloc: Global, source: &[Sort]) -> Result<Vec<Sort>, AllocError>

@@ -1,27 +1,18 @@
 //! The judgement of a file.
-ghost use Rattle.std.specs.Prelude.{◌≡◌, ◌⊎◌, None, Some, map, IfErr, IfOk};
+ghost use Rattle.std.specs.Prelude.{◌≡◌, ◌⊎◌, None, Some, IfErr, IfOk};
 ghost use Rattle.scope_check.specs.Checked.{IsChecked};
-ghost use Rattle.scope_check.specs.Complaint.{complaints, first_fault, first_of};
-ghost use Rattle.scope_check.specs.Found.{found_in_file, occurring};
+ghost use Rattle.scope_check.specs.Complaint.{first_fault};
 ghost use Rattle.scope_check.specs.Primitives.{holds};
-ghost use Rattle.scope_check.specs.Seen.{among, at_top, key_of, plain_key};
-ghost use Rattle.scope_check.specs.Tables.{heads_of, known_of};
 ghost use Rattle.str_syntax.specs.Views.{file_of};
 ghost use Rattle.term_model.specs.declared.fault.Fault.TheVariants.{Memory};
 
-use crate::clashes::note_clashes;
-use crate::declarations::{distinct_signature, signature_of};
-use crate::file::with_heads;
+use crate::file::find_in_file;
 use crate::findings::Findings;
-use crate::groups::has_plain;
-use crate::known::Known;
-use crate::library::redefinition;
-use crate::notes::{Detail, Notes};
-use crate::top_heads::heads_in_sections;
+use crate::refusal::CheckRefusal;
 use signature_core::Signature;
-use std::alloc::{AllocError, Global};
+use std::alloc::Global;
 use std::marker::Model;
-use str_syntax::{DefinitionHead, File};
+use str_syntax::File;
 use term_model::{Fault, PrimNames};
 
 /// A file without a fault, its signature, and the name of its main definition.
@@ -105,18 +96,18 @@ pub fn check(
     ensures fault { IfErr result (λ fault. (fault ≡ Memory) ⊎
         (first_fault (holds primitives.now) (file_of file) main.now ≡ Some fault)) }
 {
-    let mut notes = Notes::none();
-    check_with_notes(alloc, file, primitives, main, &mut notes)
+    let checked = judge(alloc, file, primitives, main)?;
+    Ok(checked)
 }
 
-/// Judges the file as `check` does, and notes where it is at fault. What was noted before is dropped.
-pub fn check_with_notes(
+/// Judges the file as `check` does. Where it is refused for a fault, the refusal has the note of the first place in the text that has
+/// this fault.
+pub fn judge(
     alloc: Global,
     file: File,
     primitives: &PrimNames,
     main: &[u8],
-    notes: &mut Notes,
-) -> Result<Checked, Fault>
+) -> Result<Checked, CheckRefusal>
     ensures file { IfOk result (λ checked. checked.file ≡ file) }
     ensures main { IfOk result (λ checked. checked.main ≡ main.now) }
     ensures checked { IfOk result
@@ -126,14 +117,10 @@ pub fn check_with_notes(
     ensures fault { IfErr result (λ fault. (fault ≡ Memory) ⊎
         (first_fault (holds primitives.now) (file_of file) main.now ≡ Some fault)) }
 {
-    notes.begin();
-    let signature = signature_of(alloc, &file, notes)?;
-    let known = Known {
-        signature: &signature,
-        primitives,
-    };
-    if let Some(fault) = fault_found(alloc, &known, &file, main, notes)? {
-        return Err(fault);
+    let mut findings = Findings::none();
+    let signature = find_in_file(alloc, &file, primitives, main, &mut findings)?;
+    if let Some(note) = findings.least() {
+        return Err(CheckRefusal::of(note));
     }
     let main = Vec::from_slice(alloc, main)?;
     Ok(Checked {
@@ -141,85 +128,4 @@ pub fn check_with_notes(
         signature,
         main,
     })
-}
-
-/// Notes where the file is at fault, as `check_with_notes` does, and goes on after a declaration that stands twice. What was noted before
-/// is dropped. Returns the signature of the file, without declarations that stand again. `Memory` where a growth is refused.
-pub fn note_faults(
-    alloc: Global,
-    file: &File,
-    primitives: &PrimNames,
-    main: &[u8],
-    notes: &mut Notes,
-) -> Result<Signature, Fault>
-    ensures { IfErr result (λ fault. fault ≡ Memory) }
-{
-    notes.begin();
-    let signature = distinct_signature(alloc, file, notes)?;
-    let known = Known {
-        signature: &signature,
-        primitives,
-    };
-    let _ = fault_found(alloc, &known, file, main, notes)?;
-    Ok(signature)
-}
-
-/// The fault of the least number in a file that is judged by this, where no declaration stands twice.
-fn fault_found(
-    alloc: Global,
-    known: &Known<'_>,
-    file: &File,
-    main: &[u8],
-    notes: &mut Notes,
-) -> Result<Option<Fault>, AllocError>
-    ensures { IfOk result (λ fault. fault ≡
-        first_of (occurring (found_in_file (known_of known.now) (file_of file.now))
-        (at_top (file_of file.now) (plain_key main.now))) complaints) }
-{
-    let heads = heads_in_sections(alloc, &file.sections)?;
-    let has_main = has_main(&heads, main, notes);
-    let redefined = redefinition(alloc, file, notes)?;
-    let inside = with_heads(alloc, known, &heads, &file.sections, notes)?;
-    let found = redefined.or(inside);
-    note_clashes(&found, &file.sections, &heads, notes);
-    Ok(least_fault(found, has_main))
-}
-
-/// Whether one of the heads has the name of main and no parameters.
-fn has_main(heads: &[&DefinitionHead], main: &[u8], notes: &mut Notes) -> bool
-    ensures { result ≡ among (map key_of (heads_of heads.now)) (plain_key main.now) }
-{
-    if has_plain(heads, main) {
-        return true;
-    }
-    notes.anywhere(main, Detail::NoMain);
-    false
-}
-
-/// The fault of the least number among those that were found.
-fn least_fault(found: Findings, has_main: bool) -> Option<Fault>
-    ensures { result ≡ first_of (occurring found has_main) complaints }
-{
-    if found.undeclared {
-        return Some(Fault::Undeclared);
-    }
-    if found.bad_parameters {
-        return Some(Fault::Parameters);
-    }
-    if found.clash {
-        return Some(Fault::Clash);
-    }
-    if found.unknown_strategy {
-        return Some(Fault::UnknownStrategy);
-    }
-    if found.not_buildable {
-        return Some(Fault::NotBuildable);
-    }
-    if found.unknown_primitive {
-        return Some(Fault::UnknownPrimitive);
-    }
-    if !has_main {
-        return Some(Fault::NoMain);
-    }
-    None
 }

@@ -2,8 +2,8 @@
 ghost use Rattle.std.specs.Prelude.{◌≡◌};
 ghost use Rattle.scope_check.specs.Tables.{layers_of};
 
-use crate::keys::{Key, Keys};
-use str_syntax::Name;
+use crate::keys::Keys;
+use str_syntax::{DefinitionKey, Name};
 
 /// What is seen at a place, innermost first. The names stand in trees, and the layers on the stack.
 #[derive(Clone, Copy)]
@@ -23,13 +23,15 @@ pub(crate) enum Layers<'a, 't> {
 }
 
 /// Whether the key is seen.
-pub(crate) fn is_seen<'t>(layers: &Layers<'_, 't>, key: &Key<'t>) -> bool
+pub(crate) fn is_seen<'t>(layers: &Layers<'_, 't>, key: &DefinitionKey<'t>) -> bool
     ensures { result ≡ layers_of layers.now key.now }
 {
     match layers {
         Layers::Outermost => false,
         Layers::Inner { keys, outer } => keys.has(&*key) || is_seen(outer, &*key),
-        Layers::Recursive { name, outer } => key.is_plain(name.bytes()) || is_seen(outer, &*key),
+        Layers::Recursive { name, outer } => {
+            *key == DefinitionKey::plain(name.bytes()) || is_seen(outer, &*key)
+        }
     }
 }
 

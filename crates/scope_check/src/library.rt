@@ -1,17 +1,16 @@
 //! Definitions of the file that have the key of one of the library's.
 ghost use Rattle.std.specs.Prelude.{◌≡◌, ◌++◌, ◌∷◌, [], map, IfOk, OnOk};
 ghost use Rattle.std.specs.List.{list_any};
-ghost use Rattle.scope_check.specs.Found.{found_redefinition, tops_of};
+ghost use Rattle.scope_check.specs.Complaint.{clash, redefines_library};
+ghost use Rattle.scope_check.specs.Found.{found_if, joined, tops_of};
 ghost use Rattle.scope_check.specs.Seen.{among, heads_from, is_from, is_own, key_of, tops_in};
-ghost use Rattle.scope_check.specs.Tables.{heads_of};
-ghost use Rattle.str_syntax.specs.Views.{file_of, section_of, top_of};
-ghost use Rattle.term_model.specs.Results.{Returns};
+ghost use Rattle.scope_check.specs.Tables.{Adds, heads_of};
+ghost use Rattle.str_syntax.specs.Views.{file_of, head_of, section_of, top_of};
 
+use crate::detail::Detail;
 use crate::findings::Findings;
 use crate::groups::keys_of;
-use crate::heads::key_of;
 use crate::keys::Keys;
-use crate::notes::{Detail, Notes};
 use crate::top_heads::head_of;
 use std::alloc::{AllocError, Global};
 use str_syntax::{Definition, DefinitionHead, File, Origin, Section};
@@ -26,42 +25,40 @@ pub(crate) fn is_own(origin: Origin) -> bool
     }
 }
 
-/// What is found about definitions of the file that have the key of one of the library's. `AllocError` where a growth is refused.
-pub(crate) fn redefinition(
+/// Finds the definitions of the file that have the key of one of the library's. `AllocError` where a growth is refused.
+pub(crate) fn find_redefinitions(
     alloc: Global,
     file: &File,
-    notes: &mut Notes,
-) -> Result<Findings, AllocError>
-    ensures { Returns result (found_redefinition (file_of file.now)) }
+    findings: &mut Findings,
+) -> Result<(), AllocError>
+    ensures { Adds result findings.old
+        (found_if clash (redefines_library (file_of file.now))) findings.new }
 {
     let library = heads_from(alloc, Origin::Library, &file.sections)?;
     let keys = keys_of(alloc, &library)?;
     let own = heads_from(alloc, Origin::File, &file.sections)?;
-    Ok(Findings {
-        clash: any_among(&keys, &own, notes),
-        ..Findings::none()
-    })
+    find_among(&keys, &own, findings);
+    Ok(())
 }
 
-/// Whether one of the heads has one of the keys.
-fn any_among<'t>(keys: &Keys<'t>, heads: &[&'t DefinitionHead], notes: &mut Notes) -> bool
-    ensures { result ≡ list_any (λ h. among keys.now (key_of h)) (heads_of heads.now) }
+/// Finds the heads that have one of the keys.
+fn find_among<'t>(keys: &Keys<'t>, heads: &[&'t DefinitionHead], findings: &mut Findings)
+    ensures { findings.new ≡ joined findings.old
+        (found_if clash (list_any (λ h. among keys.now (key_of h)) (heads_of heads.now))) }
 {
     for head in heads {
-        if keys.has(&key_of(head)) {
-            note_among(keys, heads, notes);
-            return true;
-        }
+        find_redefinition(keys, head, findings);
     }
-    false
 }
 
-/// Notes each head that has one of the keys.
-fn note_among<'t>(keys: &Keys<'t>, heads: &[&'t DefinitionHead], notes: &mut Notes) {
-    for head in heads {
-        if keys.has(&key_of(head)) {
-            notes.at(&head.name, Detail::OfLibrary);
-        }
+/// Finds that the head has one of the keys.
+#[tactic(auto, using(crate::proofs::FoundLaws::nothing_more))]
+fn find_redefinition<'t>(keys: &Keys<'t>, head: &'t DefinitionHead, findings: &mut Findings)
+    ensures { findings.new ≡ joined findings.old
+        (found_if clash (among keys.now (key_of (head_of head.now)))) }
+{
+    if keys.has(&head.key()) {
+        findings.note(&head.name, Detail::OfLibrary);
     }
 }
 

@@ -1,89 +1,78 @@
-//! What is wrong with one node, which is noted.
+//! What is wrong with one node.
 ghost use Rattle.std.specs.Prelude.{◌≡◌, not};
-ghost use Rattle.scope_check.specs.Found.{found_not_buildable, found_primitive};
+ghost use Rattle.scope_check.specs.Complaint.{clash, is_built, not_buildable, undeclared, unknown_primitive};
+ghost use Rattle.scope_check.specs.Found.{found_if, joined};
 ghost use Rattle.scope_check.specs.Primitives.{holds};
 ghost use Rattle.signature_core.specs.Signature.{arity_known, is_declared_name};
 
+use crate::detail::Detail;
 use crate::findings::Findings;
 use crate::known::Known;
-use crate::notes::{Detail, Notes};
 use crate::side::Side;
 use signature_core::Signature;
 use str_syntax::{Name, Text};
 
-/// Whether the constructor is not declared with this number of parts.
-pub(crate) fn is_undeclared(
+/// Finds that the constructor is not declared with this number of parts.
+#[tactic(auto, using(crate::proofs::FoundLaws::nothing_more))]
+pub(crate) fn find_undeclared(
     signature: &Signature,
     name: &Name,
     parts: usize,
-    notes: &mut Notes,
-) -> bool
-    ensures { result ≡ not (arity_known signature.now name.now parts) }
+    findings: &mut Findings,
+)
+    ensures { findings.new ≡ joined findings.old
+        (found_if undeclared (not (arity_known signature.now name.now parts))) }
 {
     if signature.arity_known(name.bytes(), parts) {
-        return false;
+        return;
     }
     let declared = signature.first_arity(name.bytes());
-    notes.at(name, Detail::Undeclared { parts, declared });
-    true
+    findings.note(name, Detail::Undeclared { parts, declared });
 }
 
-/// Whether the name of a strategy is that of a declared constructor.
-pub(crate) fn is_clash(signature: &Signature, name: &Name, notes: &mut Notes) -> bool
-    ensures { result ≡ is_declared_name signature.now name.now }
+/// Finds that the name of a strategy is that of a declared constructor.
+#[tactic(auto, using(crate::proofs::FoundLaws::nothing_more))]
+pub(crate) fn find_clash(signature: &Signature, name: &Name, findings: &mut Findings)
+    ensures { findings.new ≡ joined findings.old
+        (found_if clash (is_declared_name signature.now name.now)) }
 {
-    if !signature.is_declared_name(name.bytes()) {
-        return false;
+    if signature.is_declared_name(name.bytes()) {
+        findings.note(name, Detail::Clash);
     }
-    notes.at(name, Detail::Clash);
-    true
 }
 
-/// What is found about a wildcard that stands at the offset.
-pub(crate) fn wildcard(side: Side, offset: u64, notes: &mut Notes) -> Findings
-    ensures { result ≡ found_not_buildable side }
-{
-    if side.is_built() {
-        notes.built_wildcard(offset);
-    }
-    in_build(side)
-}
-
-/// What is found about a pattern with `@` after the name.
-pub(crate) fn alias(side: Side, name: &Name, notes: &mut Notes) -> Findings
-    ensures { result ≡ found_not_buildable side }
+/// Finds that a wildcard that stands at the offset is built.
+#[tactic(auto, using(crate::proofs::FoundLaws::nothing_more))]
+pub(crate) fn find_built_wildcard(side: Side, offset: u64, findings: &mut Findings)
+    ensures { findings.new ≡ joined findings.old (found_if not_buildable (is_built side)) }
 {
     if side.is_built() {
-        notes.at(name, Detail::BuiltAlias);
+        findings.note_wildcard(offset);
     }
-    in_build(side)
 }
 
-/// What is found about a pattern that cannot be built.
-fn in_build(side: Side) -> Findings
-    ensures { result ≡ found_not_buildable side }
+/// Finds that a pattern with `@` after the name is built.
+#[tactic(auto, using(crate::proofs::FoundLaws::nothing_more))]
+pub(crate) fn find_built_alias(side: Side, name: &Name, findings: &mut Findings)
+    ensures { findings.new ≡ joined findings.old (found_if not_buildable (is_built side)) }
 {
-    Findings {
-        not_buildable: side.is_built(),
-        ..Findings::none()
+    if side.is_built() {
+        findings.note(name, Detail::BuiltAlias);
     }
 }
 
-/// What is found about a primitive that is called with this number of terms.
-pub(crate) fn unknown_primitive(
+/// Finds that there is no primitive of this name with this number of terms.
+#[tactic(auto, using(crate::proofs::FoundLaws::nothing_more))]
+pub(crate) fn find_unknown_primitive(
     known: &Known<'_>,
     name: &Text,
     terms: usize,
-    notes: &mut Notes,
-) -> Findings
-    ensures { result ≡ found_primitive (holds known.now.primitives.now name.now terms) }
+    findings: &mut Findings,
+)
+    ensures { findings.new ≡ joined findings.old
+        (found_if unknown_primitive (not (holds known.now.primitives.now name.now terms))) }
 {
-    if known.has_primitive(name.bytes(), terms) {
-        return Findings::none();
-    }
-    notes.anywhere(name.bytes(), Detail::UnknownPrimitive { terms });
-    Findings {
-        unknown_primitive: true,
-        ..Findings::none()
+    if !known.has_primitive(name.bytes(), terms) {
+        findings.note_anywhere(name.bytes(), Detail::UnknownPrimitive { terms });
     }
 }

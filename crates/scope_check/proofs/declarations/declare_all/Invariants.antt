@@ -7,3 +7,4 @@ use Rattle.scope_check.proofs.declarations.declare_all.Given as goal
 abbrev pub invariant-loop-one : goal.invariant-loop-one
 invariant-loop-one l = Declaring l.initial.signature (declarations_of_parts (map declaration_of l.all))
     l.signature (declarations_of_parts (map declaration_of (drop l.one-index l.all)))
+    l.initial.findings l.findings

@@ -14,7 +14,7 @@ among_heads k (h ∷ hs) = ap (λ b. same_key k (key_of h) || b) (among_heads k 
 pub returns-then-eq : goal.returns-then-eq
 returns-then-eq c =
     let test = ap (λ k. same_key k (key_of (head_of c.head-item.result.now))) (sym c.plain-plain.ensures) ∙
-    ap (λ k. same_key c.plain-plain.result k) (sym c.key_of.ensures) ∙ sym c.eq.ensures ∙ c.if-eq.true in
+    ap (λ k. same_key c.plain-plain.result k) (sym c.key.ensures) ∙ sym c.eq.ensures ∙ c.if-eq.true in
     sym (among_heads (plain_key c.args.name.now) (heads_of c.args.heads.now) ∙
     one_head (λ h. same_key (plain_key c.args.name.now) (key_of h))
     c.args.heads.now c.loop-head.head-index c.head-item.result c.loop-head-test.true c.head-item.is test)

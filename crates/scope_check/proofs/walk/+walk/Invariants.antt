@@ -4,20 +4,20 @@ use Rattle.scope_check.specs.Found.{joined, found_in_definitions, found_in_patte
 use Rattle.scope_check.specs.Tables.{layers_of, known_of}
 use Rattle.scope_check.proofs.walk.+walk.Given as goal
 
-abbrev pub invariant-patterns-loop-tree : goal.invariant-patterns-loop-tree
-invariant-patterns-loop-tree l =
-    joined l.found (found_in_patterns (known_of l.known) l.side (layers_of l.layers)
+abbrev pub invariant-find_in_patterns-loop-tree : goal.invariant-find_in_patterns-loop-tree
+invariant-find_in_patterns-loop-tree l =
+    joined l.findings (found_in_patterns (known_of l.known) l.side (layers_of l.layers)
     (patterns_of (drop l.tree-index l.trees))) ≡
-    found_in_patterns (known_of l.known) l.side (layers_of l.layers) (patterns_of l.trees)
+    joined l.initial.findings (found_in_patterns (known_of l.known) l.side (layers_of l.layers) (patterns_of l.trees))
 
-abbrev pub invariant-strategies-loop-tree : goal.invariant-strategies-loop-tree
-invariant-strategies-loop-tree l =
-    joined l.found (found_in_strategies (known_of l.known) (layers_of l.layers)
+abbrev pub invariant-find_in_strategies-loop-tree : goal.invariant-find_in_strategies-loop-tree
+invariant-find_in_strategies-loop-tree l =
+    joined l.findings (found_in_strategies (known_of l.known) (layers_of l.layers)
     (strategies_of (drop l.tree-index l.trees))) ≡
-    found_in_strategies (known_of l.known) (layers_of l.layers) (strategies_of l.trees)
+    joined l.initial.findings (found_in_strategies (known_of l.known) (layers_of l.layers) (strategies_of l.trees))
 
-abbrev pub invariant-definitions-loop-tree : goal.invariant-definitions-loop-tree
-invariant-definitions-loop-tree l =
-    joined l.found (found_in_definitions (known_of l.known) (layers_of l.layers)
+abbrev pub invariant-find_in_definitions-loop-tree : goal.invariant-find_in_definitions-loop-tree
+invariant-find_in_definitions-loop-tree l =
+    joined l.findings (found_in_definitions (known_of l.known) (layers_of l.layers)
     (definitions_of (drop l.tree-index l.trees))) ≡
-    found_in_definitions (known_of l.known) (layers_of l.layers) (definitions_of l.trees)
+    joined l.initial.findings (found_in_definitions (known_of l.known) (layers_of l.layers) (definitions_of l.trees))
