@@ -1,7 +1,7 @@
 -- What the equations put together, over coordinates.
 use Rattle.std.proofs.Common.{◌≡◌, ℕ, zero, suc, ◌+◌, List, [], ◌∷◌, ◌++◌, refl, ◌∙◌, ap, ap₂}
 use Rattle.core_lang.specs.Named.{NamedStrategy, Name}
-use Rattle.core_lang.specs.Program.{Pattern, Strategy, seq, scope}
+use Rattle.core_lang.specs.Program.{Pattern, seq, scope}
 use Rattle.core_lang.specs.Views.{chain}
 use Rattle.str_desugar.specs.Assembled.{keeping_here, where_here, congruence_here}
 use Rattle.str_desugar.specs.Equations.{in_turn, keeping, where_core, build_after, call_after, congruence_of}

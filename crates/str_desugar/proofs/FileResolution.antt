@@ -18,11 +18,12 @@ use Rattle.str_desugar.specs.FileProgram.{program_of_file}
 use Rattle.str_desugar.specs.Alternatives.{Alternative}
 use Rattle.str_desugar.specs.Equations.{rule_core, strategy_core, top_core, forms_among}
 use Rattle.str_desugar.specs.Frames.{outermost, of_definitions, keys_of, key_position, definitions_at}
-use Rattle.str_desugar.specs.Variables.{each_once, without, free_in, free_in_rule, strategy_names, term_names}
+use Rattle.str_desugar.specs.Variables.{each_once, without, free_in, free_in_rule}
+use Rattle.str_syntax.specs.Arity.{strategy_names, term_names}
 use Rattle.str_desugar.proofs.BoundLaws.{bound_in_names, same_position}
 use Rattle.str_desugar.proofs.FormLaws.{within, scoped_resolved, bound_in_scope, sees_in_scope}
 use Rattle.str_desugar.proofs.GroupLaws.{AlternativeResolved, AlternativesResolved, definitions_resolved, no_definition}
-use Rattle.str_desugar.proofs.HeadLaws.{AreOf, IsOfHead, same_strategy_names, same_term_names, same_keys, agree_from_heads}
+use Rattle.str_desugar.proofs.HeadLaws.{AreOf, IsOfHead, same_keys, agree_from_heads}
 use Rattle.str_desugar.proofs.NameLists.{AreBound, in_without, in_once, not_in}
 use Rattle.str_desugar.proofs.PartLaws.{Neither, neither_first, neither_rest, sees_body}
 use Rattle.str_desugar.proofs.SeenLaws.{Sees, sees_own, Covers}
@@ -137,9 +138,9 @@ module _ (ds : List Declared) where
 
   form_of_head : (form : FormTree) → IsOfHead (top_core declared form) (head_of_form form)
   form_of_head (rule_form (head f ps) r) =
-      record { name = refl; strategies = same_strategy_names ps; terms = same_term_names ps }
+      record { name = refl; strategies = refl; terms = refl }
   form_of_head (strategy_form (definition (head f ps) s)) =
-      record { name = refl; strategies = same_strategy_names ps; terms = same_term_names ps }
+      record { name = refl; strategies = refl; terms = refl }
 
   forms_of_heads : (forms : List FormTree) → AreOf (map (top_core declared) forms) (map head_of_form forms)
   forms_of_heads [] = tt

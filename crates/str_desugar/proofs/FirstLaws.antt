@@ -1,16 +1,16 @@
 -- The first heads of definitions: which they are, and that they are apart.
-use Rattle.std.proofs.Common.{◌≡◌, ◌∙◌, ℕ, zero, suc, Bool, true, false, ◌||◌, not, List, [], ◌∷◌, ◌++◌, map, filter, sym, refl, ap, ap₂, subst, cond, Option, Some, None, true≢false, arith, length, get_or, ◌<◌}
+use Rattle.std.proofs.Common.{◌≡◌, ◌∙◌, ℕ, zero, suc, Bool, true, false, ◌||◌, not, List, [], ◌∷◌, ◌++◌, map, filter, sym, refl, ap, subst, cond, Option, Some, None, true≢false, arith, length, get_or, ◌<◌}
 use Rattle.std.specs.Prelude.{if◌then◌else◌}
-use Rattle.std.specs.Cmp.{IsEquivalence}
+use Rattle.std.specs.Cmp.{IsEquivalence, on_equiv}
 use Rattle.std.specs.List.{find, list_any, position_or_len}
 use Rattle.std.proofs.lemmas.List.Elements.{filter-append}
 use Rattle.indexmap.specs.IndexSet.{insert_key}
-use Rattle.str_desugar.specs.Alternatives.{Alternative, same_key, firsts}
-use Rattle.str_desugar.specs.Groups.{Head, head_in, same_definition, first_heads, first_for}
-use Rattle.str_desugar.specs.SameDefinition.{same_definition_equiv}
+use Rattle.str_syntax.specs.SameKey.{same_key_equiv}
+use Rattle.str_desugar.specs.Alternatives.{Alternative, of_one_definition, firsts}
+use Rattle.str_desugar.specs.Groups.{Head, head_in, head_key, same_definition, first_heads, first_for}
 
 laws : IsEquivalence same_definition
-laws = same_definition_equiv
+laws = on_equiv head_key same_key_equiv
 
 -- those of another definition
 abbrev pub others_than : Head → List Head → List Head
@@ -111,18 +111,6 @@ position_within test (k ∷ ks) e = by (position_within test ks) (test k) refl
     by rest true f = rw f (omega arith)
     by rest false f =
         let later : position_or_len test ks < length ks = rest (sym (ap (λ b. b || list_any test ks) f) ∙ e) in
-        rw f (omega (arith, later))
-
-pub position_past : (test : Head → Bool) (ks : List Head) → list_any test ks ≡ false →
-    length ks ≡ position_or_len test ks
-position_past test [] e = refl
-position_past test (k ∷ ks) e = by (position_past test ks) (test k) refl
-  where
-    by : (list_any test ks ≡ false → length ks ≡ position_or_len test ks) → (b : Bool) → test k ≡ b →
-        length (k ∷ ks) ≡ position_or_len test (k ∷ ks)
-    by rest true f = absurd (true≢false (sym (ap (λ b. b || list_any test ks) f) ∙ e))
-    by rest false f =
-        let later : length ks ≡ position_or_len test ks = rest (sym (ap (λ b. b || list_any test ks) f) ∙ e) in
         rw f (omega (arith, later))
 
 -- ---- first heads are of definitions apart
@@ -235,7 +223,7 @@ first_among_firsts (k ∷ hs) h = by (first_among_firsts hs h) (same_definition 
         first_among_others h k (first_heads hs) f ∙ rest ∙
         sym (ap (λ c. if c then k else first_for hs h) f)
 
-abbrev or_itself : Head → Option Head → Head
+abbrev pub or_itself : Head → Option Head → Head
 or_itself h (Some k) = k
 or_itself h None = h
 
@@ -250,33 +238,31 @@ first_found (k ∷ ks) h = by (first_found ks h) (same_definition h k) refl
     by rest false f = ap (λ c. or_itself h (cond c (Some k) (find (same_definition h) ks))) f ∙ rest ∙
         sym (ap (λ c. if c then k else first_for ks h) f)
 
-pub first_in_table : (hs ks : List Head) (h q : Head) (o : Option Head) → ks ≡ first_heads hs → q ≡ h →
-    o ≡ find (same_definition q) ks → or_itself h o ≡ first_for hs h
-first_in_table hs ks h q o table is found =
-    ap (λ r. or_itself h r) (found ∙ ap₂ (λ l ls. find (same_definition l) ls) is table) ∙
-    first_found (first_heads hs) h ∙ first_among_firsts hs h
+pub first_in_table : (hs : List Head) (h : Head) →
+    or_itself h (find (same_definition h) (first_heads hs)) ≡ first_for hs h
+first_in_table hs h = first_found (first_heads hs) h ∙ first_among_firsts hs h
 
 -- ---- and of alternatives
 
 filter_heads : (a : Alternative) (all : List Alternative) →
-    others_than (head_in a) (map head_in all) ≡ map head_in (filter (λ b. not (same_key a b)) all)
+    others_than (head_in a) (map head_in all) ≡ map head_in (filter (λ b. not (of_one_definition a b)) all)
 filter_heads a [] = refl
-filter_heads a (b ∷ all) = by (filter_heads a all) (same_key a b) refl
+filter_heads a (b ∷ all) = by (filter_heads a all) (of_one_definition a b) refl
   where
-    by : others_than (head_in a) (map head_in all) ≡ map head_in (filter (λ d. not (same_key a d)) all) → (c : Bool) →
-        same_key a b ≡ c → others_than (head_in a) (map head_in (b ∷ all)) ≡
-        map head_in (filter (λ d. not (same_key a d)) (b ∷ all))
+    by : others_than (head_in a) (map head_in all) ≡ map head_in (filter (λ d. not (of_one_definition a d)) all) →
+        (c : Bool) → of_one_definition a b ≡ c → others_than (head_in a) (map head_in (b ∷ all)) ≡
+        map head_in (filter (λ d. not (of_one_definition a d)) (b ∷ all))
     by rest true e =
         ap (λ c. if not c then head_in b ∷ others_than (head_in a) (map head_in all)
         else others_than (head_in a) (map head_in all)) e ∙ rest ∙
-        sym (ap (λ c. map head_in (if not c then b ∷ filter (λ d. not (same_key a d)) all
-        else filter (λ d. not (same_key a d)) all)) e)
+        sym (ap (λ c. map head_in (if not c then b ∷ filter (λ d. not (of_one_definition a d)) all
+        else filter (λ d. not (of_one_definition a d)) all)) e)
     by rest false e =
         ap (λ c. if not c then head_in b ∷ others_than (head_in a) (map head_in all)
         else others_than (head_in a) (map head_in all)) e ∙
         ap (λ l. head_in b ∷ l) rest ∙
-        sym (ap (λ c. map head_in (if not c then b ∷ filter (λ d. not (same_key a d)) all
-        else filter (λ d. not (same_key a d)) all)) e)
+        sym (ap (λ c. map head_in (if not c then b ∷ filter (λ d. not (of_one_definition a d)) all
+        else filter (λ d. not (of_one_definition a d)) all)) e)
 
 pub first_heads_of : (all : List Alternative) → first_heads (map head_in all) ≡ map head_in (firsts all)
 first_heads_of [] = refl

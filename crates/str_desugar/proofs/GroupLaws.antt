@@ -1,19 +1,18 @@
 -- Definitions that are made from alternatives are resolved where each alternative is, and have each key that an
 -- alternative has.
-use Rattle.std.proofs.Common.{◌≡◌, suc, Some, None, List, [], ◌∷◌, map, length, refl, sym, ◌∙◌, ap, ap₂, subst}
+use Rattle.std.proofs.Common.{◌≡◌, suc, Some, None, List, [], ◌∷◌, map, refl, sym, ◌∙◌, ap, ap₂, subst}
 use Rattle.std.specs.Prelude.{Bool, true, false, not, ◌||◌, ◌&&◌, ◌==◌, filter, if◌then◌else◌}
 use Rattle.std.specs.List.{list_any}
 use Rattle.std.specs.Option.{option_map}
 use Rattle.std.specs.Str.{bytes_eq}
-use Rattle.std.specs.Cmp.{unsigned_Decides}
-use Rattle.std.proofs.lemmas.Bool.{not_from_false, and_parts, and_from}
+use Rattle.std.proofs.lemmas.Bool.{not_from_false}
 use Rattle.std.proofs.lemmas.List.{length-map}
 use Rattle.std.proofs.lemmas.Map.Views.{any-filter_same}
-use Rattle.std.proofs.lemmas.Slice.Eq.{bytes_eq-Decides}
 use Rattle.core_lang.specs.Named.{written, definition_position}
 use Rattle.core_lang.specs.Resolution.{Scopes, names, ResolvesDefinitions, to_no_definitions, to_more_definitions}
-use Rattle.scope_check.specs.Seen.{Key}
-use Rattle.str_desugar.specs.Alternatives.{Alternative, same_key, firsts, definitions_among, definitions_of_all}
+use Rattle.str_syntax.specs.Key.{Key, same_key}
+use Rattle.str_syntax.specs.SameKey.{same_key-true}
+use Rattle.str_desugar.specs.Alternatives.{Alternative, alternative_key, of_one_definition, firsts, definitions_among, definitions_of_all}
 use Rattle.str_desugar.specs.Frames.{frames_of, definitions_at}
 use Rattle.str_desugar.proofs.FormLaws.{IsResolved, AllResolved, first_success_resolved}
 use Rattle.str_desugar.proofs.NameLists.{not_found}
@@ -22,7 +21,7 @@ use Rattle.str_desugar.proofs.NameLists.{not_found}
 
 -- the key is that of the alternative
 abbrev pub is_key : Key → Alternative → Bool
-is_key k a = bytes_eq k.name a.name && ((k.strategies == length a.strategies) && (k.terms == length a.terms))
+is_key k a = same_key k (alternative_key a)
 
 no_first : (k : Key) (all others : List Alternative) →
     definition_position (definitions_among all others) (written k.name) k.strategies k.terms ≡ None →
@@ -38,36 +37,20 @@ no_first k all (a ∷ others) e =
     (λ h. no_first k all others h)
 
 -- alternatives of one definition have the same key
-key_of_same : (k : Key) (a b : Alternative) → is_key k b ≡ true → same_key a b ≡ true → is_key k a ≡ true
-key_of_same k a b is same =
-    let is_parts = and_parts (bytes_eq k.name b.name) _ is in
-    let is_numbers = and_parts (k.strategies == length b.strategies) _ is_parts.1 in
-    let same_parts = and_parts (bytes_eq a.name b.name) _ same in
-    let same_numbers = and_parts (length a.strategies == length b.strategies) _ same_parts.1 in
-    let name : k.name ≡ a.name =
-    (bytes_eq-Decides k.name b.name).0 is_parts.0 ∙ sym ((bytes_eq-Decides a.name b.name).0 same_parts.0) in
-    let strategies : k.strategies ≡ length a.strategies =
-    (unsigned_Decides k.strategies (length b.strategies)).0 is_numbers.0 ∙
-    sym ((unsigned_Decides (length a.strategies) (length b.strategies)).0 same_numbers.0) in
-    let terms : k.terms ≡ length a.terms =
-    (unsigned_Decides k.terms (length b.terms)).0 is_numbers.1 ∙
-    sym ((unsigned_Decides (length a.terms) (length b.terms)).0 same_numbers.1) in
-    and_from (bytes_eq k.name a.name) _ ((bytes_eq-Decides k.name a.name).1 name)
-    (and_from (k.strategies == length a.strategies)
-    _ ((unsigned_Decides k.strategies (length a.strategies)).1 strategies)
-    ((unsigned_Decides k.terms (length a.terms)).1 terms))
+key_of_same : (k : Key) (a b : Alternative) → is_key k b ≡ true → of_one_definition a b ≡ true → is_key k a ≡ true
+key_of_same k a b is same = ap (same_key k) (same_key-true (alternative_key a) (alternative_key b) same) ∙ is
 
 not_both : (b c : Bool) → (b ≡ true → c ≡ true) → c ≡ false → b ≡ false
 not_both true c h e = sym (h refl) ∙ e
 not_both false c h e = refl
 
 key_kept : (k : Key) (a : Alternative) (others : List Alternative) (b : Bool) → is_key k a ≡ b →
-    (b || list_any (is_key k) (filter (λ c. not (same_key a c)) others)) ≡ (b || list_any (is_key k) others)
+    (b || list_any (is_key k) (filter (λ c. not (of_one_definition a c)) others)) ≡ (b || list_any (is_key k) others)
 key_kept k a others true e = refl
 key_kept k a others false e =
-    any-filter_same (is_key k) (λ c. not (same_key a c)) true
-    (λ c is. not_from_false (same_key a c) (not_both (same_key a c) (is_key k a) (λ same. key_of_same k a c is same) e))
-    others
+    any-filter_same (is_key k) (λ c. not (of_one_definition a c)) true
+    (λ c is. not_from_false (of_one_definition a c)
+    (not_both (of_one_definition a c) (is_key k a) (λ same. key_of_same k a c is same) e)) others
 
 keys_of_firsts : (k : Key) (all : List Alternative) → list_any (is_key k) (firsts all) ≡ list_any (is_key k) all
 keys_of_firsts k [] = refl
@@ -92,7 +75,7 @@ AlternativesResolved S (a ∷ others) = AlternativeResolved S a × AlternativesR
 
 -- alternatives of one definition give their parameters the same names
 abbrev pub SameParameters : Alternative → Alternative → Type 0
-SameParameters a b = same_key a b ≡ true → (a.strategies ≡ b.strategies) × (a.terms ≡ b.terms)
+SameParameters a b = of_one_definition a b ≡ true → (a.strategies ≡ b.strategies) × (a.terms ≡ b.terms)
 
 abbrev pub AgreesWith : Alternative → List Alternative → Type 0
 AgreesWith a [] = Unit {0}
@@ -116,7 +99,7 @@ agree_kept all (a ∷ others) keep agree =
 firsts_agree : (all others : List Alternative) → AllAgree all others → AllAgree all (firsts others)
 firsts_agree all [] agree = agree
 firsts_agree all (a ∷ others) agree =
-    (agree.0, agree_kept all (firsts others) (λ b. not (same_key a b)) (firsts_agree all others agree.1))
+    (agree.0, agree_kept all (firsts others) (λ b. not (of_one_definition a b)) (firsts_agree all others agree.1))
 
 -- a body in the layer of another alternative's parameters
 moved : (S : Scopes) (a b : Alternative) → (a.strategies ≡ b.strategies) × (a.terms ≡ b.terms) →
@@ -133,11 +116,12 @@ bodies_cons T b others false r rest = rest
 
 bodies_resolved : (S : Scopes) (a : Alternative) (all : List Alternative) → AgreesWith a all →
     AlternativesResolved S all →
-    AllResolved (names (map written a.strategies) (map written a.terms) S) (map (λ b. b.body) (filter (same_key a) all))
+    AllResolved (names (map written a.strategies) (map written a.terms) S)
+    (map (λ b. b.body) (filter (of_one_definition a) all))
 bodies_resolved S a [] agree r = tt
 bodies_resolved S a (b ∷ others) agree r =
-    bodies_cons (names (map written a.strategies) (map written a.terms) S) b (filter (same_key a) others) (same_key a b)
-    (λ same. moved S a b (agree.0 same) r.0)
+    bodies_cons (names (map written a.strategies) (map written a.terms) S) b (filter (of_one_definition a) others)
+    (of_one_definition a b) (λ same. moved S a b (agree.0 same) r.0)
     (bodies_resolved S a others agree.1 r.1)
 
 among_resolved : (S : Scopes) (all others : List Alternative) → AlternativesResolved S all → AllAgree all others →
@@ -146,7 +130,7 @@ among_resolved S all [] r agree = to_no_definitions
 among_resolved S all (a ∷ others) r agree =
     to_more_definitions refl refl
     (first_success_resolved (names (map written a.strategies) (map written a.terms) S)
-    (map (λ b. b.body) (filter (same_key a) all)) (bodies_resolved S a all agree.0 r))
+    (map (λ b. b.body) (filter (of_one_definition a) all)) (bodies_resolved S a all agree.0 r))
     (among_resolved S all others r agree.1)
 
 pub definitions_resolved : (S : Scopes) (all : List Alternative) → AlternativesResolved S all → AllAgree all all →

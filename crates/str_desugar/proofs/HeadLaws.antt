@@ -1,40 +1,18 @@
 -- Alternatives and the heads that they are made from: the same keys, and the same parameters where the heads of one key
 -- agree.
 use Rattle.std.proofs.Common.{◌≡◌, List, [], ◌∷◌, map, length, refl, sym, ◌∙◌, ap, ap₂}
-use Rattle.std.specs.Prelude.{Bool, true, false, not, ◌||◌, ◌&&◌, ◌==◌}
+use Rattle.std.specs.Prelude.{Bool, true, false, not, ◌||◌, ◌&&◌}
 use Rattle.std.specs.List.{list_any}
 use Rattle.std.specs.Str.{bytes_eq}
 use Rattle.std.proofs.lemmas.Bool.{or_parts, and_parts}
 use Rattle.std.proofs.lemmas.Slice.Eq.{bytes_eq-Decides}
-use Rattle.str_syntax.specs.Arity.{strategy_parameters, term_parameters}
-use Rattle.str_syntax.specs.Trees.{Bytes, ParameterTree, absent, strategies_only, with_terms, HeadTree, head}
-use Rattle.scope_check.specs.Seen.{Key, among, strategy_names, term_names, key_of}
-use Rattle.scope_check.specs.Seen as seen
+use Rattle.str_syntax.specs.Arity.{strategy_names, term_names}
+use Rattle.str_syntax.specs.Key.{Key, key_of, same_key}
+use Rattle.str_syntax.specs.Trees.{Bytes, ParameterTree, HeadTree, head}
+use Rattle.scope_check.specs.Seen.{among}
 use Rattle.scope_check.specs.Complaint.{same_names, same_parameters, differs, some_differ}
-use Rattle.str_desugar.specs.Alternatives.{Alternative}
-use Rattle.str_desugar.specs.Variables as variables
+use Rattle.str_desugar.specs.Alternatives.{Alternative, alternative_key}
 use Rattle.str_desugar.proofs.GroupLaws.{is_key, SameParameters, AgreesWith, AllAgree}
-
--- both definitions of a parameter list's names are one
-pub same_strategy_names : (ps : ParameterTree) → variables.strategy_names ps ≡ strategy_names ps
-same_strategy_names absent = refl
-same_strategy_names (strategies_only fs) = refl
-same_strategy_names (with_terms fs xs) = refl
-
-pub same_term_names : (ps : ParameterTree) → variables.term_names ps ≡ term_names ps
-same_term_names absent = refl
-same_term_names (strategies_only fs) = refl
-same_term_names (with_terms fs xs) = refl
-
-number_of_strategy_names : (ps : ParameterTree) → length (strategy_names ps) ≡ strategy_parameters ps
-number_of_strategy_names absent = refl
-number_of_strategy_names (strategies_only fs) = refl
-number_of_strategy_names (with_terms fs xs) = refl
-
-number_of_term_names : (ps : ParameterTree) → length (term_names ps) ≡ term_parameters ps
-number_of_term_names absent = refl
-number_of_term_names (strategies_only fs) = refl
-number_of_term_names (with_terms fs xs) = refl
 
 -- the alternative has the name and the parameters of the head
 pub record IsOf (a : Alternative) (f : Bytes) (ps : ParameterTree) : Type 0 where
@@ -53,20 +31,18 @@ AreOf (a ∷ others) (h ∷ hs) = IsOfHead a h × AreOf others hs
 
 -- ---- keys
 
-same_test : (a : Alternative) (h : HeadTree) (k : Key) → IsOfHead a h → is_key k a ≡ seen.same_key k (key_of h)
-same_test a (head f ps) k is =
-    let strategies : length a.strategies ≡ strategy_parameters ps =
-    ap length is.strategies ∙ number_of_strategy_names ps in
-    let terms : length a.terms ≡ term_parameters ps = ap length is.terms ∙ number_of_term_names ps in
-    ap (λ x. bytes_eq k.name x && ((k.strategies == length a.strategies) && (k.terms == length a.terms))) is.name
-    ∙ ap₂ (λ m n. bytes_eq k.name f && ((k.strategies == m) && (k.terms == n))) strategies terms
+-- its key is that of the head
+its_key : (a : Alternative) (h : HeadTree) → IsOfHead a h → alternative_key a ≡ key_of h
+its_key a (head f ps) is =
+    λ i. record { name = is.name i; strategies = length (is.strategies i); terms = length (is.terms i) }
 
 pub same_keys : (all : List Alternative) (hs : List HeadTree) → AreOf all hs → (k : Key) →
     list_any (is_key k) all ≡ among (map key_of hs) k
 same_keys [] [] are k = refl
 same_keys [] (h ∷ hs) are k = absurd are
 same_keys (a ∷ others) [] are k = absurd are
-same_keys (a ∷ others) (h ∷ hs) are k = ap₂ (λ b c. b || c) (same_test a h k are.0) (same_keys others hs are.1 k)
+same_keys (a ∷ others) (h ∷ hs) are k =
+    ap₂ (λ b c. b || c) (ap (same_key k) (its_key a h are.0)) (same_keys others hs are.1 k)
 
 -- ---- parameters
 
@@ -87,19 +63,11 @@ both_hold false c e h = absurd (cc)
 same_parameters_of : (a b : Alternative) (h g : HeadTree) → IsOfHead a h → IsOfHead b g → differs h g ≡ false →
     SameParameters a b
 same_parameters_of a b (head f ps) (head g qs) is of agree = λ same.
-    let test : (bytes_eq f g &&
-    ((strategy_parameters ps == strategy_parameters qs) && (term_parameters ps == term_parameters qs))) ≡ true =
-    sym (ap₂ (λ x y. bytes_eq x y &&
-    ((strategy_parameters ps == strategy_parameters qs) && (term_parameters ps == term_parameters qs)))
-    is.name of.name)
-    ∙ sym (ap₂ (λ m n. bytes_eq a.name b.name && ((m == n) && (term_parameters ps == term_parameters qs)))
-    (ap length is.strategies ∙ number_of_strategy_names ps) (ap length of.strategies ∙ number_of_strategy_names qs))
-    ∙ sym (ap₂ (λ m n. bytes_eq a.name b.name && ((length a.strategies == length b.strategies) && (m == n)))
-    (ap length is.terms ∙ number_of_term_names ps) (ap length of.terms ∙ number_of_term_names qs))
-    ∙ same in
+    let test : same_key (key_of (head f ps)) (key_of (head g qs)) ≡ true =
+    sym (ap₂ same_key (its_key a (head f ps) is) (its_key b (head g qs) of)) ∙ same in
     let equal : (same_names (strategy_names ps) (strategy_names qs) && same_names (term_names ps) (term_names qs)) ≡
     true =
-    both_hold (seen.same_key (key_of (head f ps)) (key_of (head g qs))) (same_parameters (head f ps) (head g qs))
+    both_hold (same_key (key_of (head f ps)) (key_of (head g qs))) (same_parameters (head f ps) (head g qs))
     agree test in
     let parts = and_parts (same_names (strategy_names ps) (strategy_names qs))
     (same_names (term_names ps) (term_names qs)) equal in (

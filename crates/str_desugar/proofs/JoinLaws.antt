@@ -9,9 +9,11 @@ use Rattle.core_lang.specs.Program.{id, choice, more_definitions}
 use Rattle.core_lang.specs.Resolved.{ResolvedStrategy, here}
 use Rattle.core_lang.specs.Views.{definitions_in, first_of}
 use Rattle.str_syntax.specs.Trees.{Bytes}
-use Rattle.str_desugar.specs.Alternatives.{Alternative, same_key, firsts, first_success, definitions_among, definitions_of_all}
+use Rattle.str_desugar.specs.Alternatives.{Alternative, of_one_definition, firsts, first_success, definitions_among, definitions_of_all}
 use Rattle.str_desugar.specs.Frames.{Frames, outermost, strategy_at, definitions_at, keys_of}
-use Rattle.str_desugar.specs.Groups.{Head, head_in, same_definition, first_heads, first_for, head_key, under_head, bodies_at, first_success_of, bodies_for, Gathered, gathered_for, with_body, plain_arm, joined}
+use Rattle.str_syntax.specs.Key.{Key}
+use Rattle.str_desugar.specs.Keys.{named_key}
+use Rattle.str_desugar.specs.Groups.{AreGrouped, Head, head_in, same_definition, first_heads, first_for, head_key, under_head, bodies_at, first_success_of, bodies_for, Gathered, gathered_for, with_body, plain_arm, joined}
 use Rattle.str_desugar.proofs.FirstLaws.{found_first, position_within, AreApart, AreFirst, IsFirst, turned, alike, first_heads_apart, first_heads_first, first_heads_of}
 
 -- ---- one more body
@@ -120,26 +122,26 @@ module _ (F : Frames) (heads : List Head) where
   -- the bodies of one definition, each under its first head
   bodies_of : (a : Alternative) → IsFirst heads (head_in a) → (all : List Alternative) →
       bodies_for (head_in a) (map head_in all) (map body_under all) ≡
-      map (strategy_at (under_head F (head_in a))) (map (λ b. b.body) (filter (same_key a) all))
+      map (strategy_at (under_head F (head_in a))) (map (λ b. b.body) (filter (of_one_definition a) all))
   bodies_of a first [] = refl
-  bodies_of a first (b ∷ all) = by (bodies_of a first all) (same_key a b) refl
+  bodies_of a first (b ∷ all) = by (bodies_of a first all) (of_one_definition a b) refl
     where
       these : List ResolvedStrategy
       these = bodies_for (head_in a) (map head_in all) (map body_under all)
 
-      by : these ≡ map (strategy_at (under_head F (head_in a))) (map (λ d. d.body) (filter (same_key a) all)) →
-          (c : Bool) → same_key a b ≡ c →
+      by : these ≡ map (strategy_at (under_head F (head_in a))) (map (λ d. d.body) (filter (of_one_definition a) all)) →
+          (c : Bool) → of_one_definition a b ≡ c →
           bodies_for (head_in a) (map head_in (b ∷ all)) (map body_under (b ∷ all)) ≡
-          map (strategy_at (under_head F (head_in a))) (map (λ d. d.body) (filter (same_key a) (b ∷ all)))
+          map (strategy_at (under_head F (head_in a))) (map (λ d. d.body) (filter (of_one_definition a) (b ∷ all)))
       by rest true e =
           ap (λ c. if c then body_under b ∷ these else these) e ∙
           ap₂ (λ d l. strategy_at (under_head F d) b.body ∷ l) (first (head_in b) e) rest ∙
           sym (ap (λ c. map (strategy_at (under_head F (head_in a)))
-          (map (λ d. d.body) (if c then b ∷ filter (same_key a) all else filter (same_key a) all))) e)
+          (map (λ d. d.body) (if c then b ∷ filter (of_one_definition a) all else filter (of_one_definition a) all))) e)
       by rest false e =
           ap (λ c. if c then body_under b ∷ these else these) e ∙ rest ∙
           sym (ap (λ c. map (strategy_at (under_head F (head_in a)))
-          (map (λ d. d.body) (if c then b ∷ filter (same_key a) all else filter (same_key a) all))) e)
+          (map (λ d. d.body) (if c then b ∷ filter (of_one_definition a) all else filter (of_one_definition a) all))) e)
 
 length_written : (xs : List Bytes) → length (map written xs) ≡ length xs
 length_written [] = refl
@@ -157,10 +159,11 @@ module _ (F : Frames) (all : List Alternative) where
   joined_among (a ∷ some) e =
       λ i. more_definitions (here 0) (sym (length_written a.strategies) i) (sym (length_written a.terms) i)
       ((ap first_success_of (bodies_of F their_heads a e.0 all) ∙
-      first_success_at (under_head F (head_in a)) (map (λ b. b.body) (filter (same_key a) all))) i)
+      first_success_at (under_head F (head_in a)) (map (λ b. b.body) (filter (of_one_definition a) all))) i)
       (joined_among some e.1 i)
 
-  keys_among : (some : List Alternative) → map head_key (map head_in some) ≡ keys_of (definitions_among all some)
+  keys_among : (some : List Alternative) →
+      map named_key (map head_key (map head_in some)) ≡ keys_of (definitions_among all some)
   keys_among [] = refl
   keys_among (a ∷ some) =
       λ i. record {
@@ -176,8 +179,8 @@ module _ (F : Frames) (all : List Alternative) where
       ap (λ ds. definitions_in (map joined (gathered_for ds their_heads (bodies_at F all)))) (first_heads_of all) ∙
       joined_among (firsts all) (subst (AreFirst their_heads) (first_heads_of all) (first_heads_first their_heads))
 
-  keys_firsts : map head_key (first_heads their_heads) ≡ keys_of (definitions_of_all all)
-  keys_firsts = ap (λ ds. map head_key ds) (first_heads_of all) ∙ keys_among (firsts all)
+  keys_firsts : map named_key (map head_key (first_heads their_heads)) ≡ keys_of (definitions_of_all all)
+  keys_firsts = ap (λ ds. map named_key (map head_key ds)) (first_heads_of all) ∙ keys_among (firsts all)
 
 -- the definitions of the groups with these bodies
 pub joined_all : (F : Frames) (all : List Alternative) (hs : List Head) (ss : List ResolvedStrategy) →
@@ -186,9 +189,11 @@ pub joined_all : (F : Frames) (all : List Alternative) (hs : List Head) (ss : Li
 joined_all F all hs ss e f =
     ap₂ (λ ks ts. definitions_in (map joined (gathered_for (first_heads ks) ks ts))) (sym e) f ∙ joined_firsts F all
 
-pub keys_all : (all : List Alternative) (hs : List Head) → map head_in all ≡ hs →
-    map head_key (first_heads hs) ≡ keys_of (definitions_of_all all)
-keys_all all hs e = ap (λ ks. map head_key (first_heads ks)) (sym e) ∙ keys_firsts outermost all
+pub keys_all : (all : List Alternative) (hs fs : List Head) (keys : List Key) → AreGrouped hs fs keys →
+    map head_in all ≡ hs → map named_key keys ≡ keys_of (definitions_of_all all)
+keys_all all hs fs keys grouped e =
+    ap (λ ks. map named_key ks) (grouped.keyed ∙ ap (λ ks. map head_key ks) (grouped.first ∙ ap first_heads (sym e))) ∙
+    keys_firsts outermost all
 
 -- one more body, at the position of its group
 pub body_placed : (h : Head) (all hs : List Head) (s : ResolvedStrategy) (ss : List ResolvedStrategy) →

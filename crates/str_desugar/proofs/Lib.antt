@@ -21,7 +21,6 @@ pub mod PatternResolution
 pub mod PrimitivesInFiles
 pub mod ReadHeadLaws
 pub mod ScopeLaws
-pub mod SearchLaws
 pub mod SeenLaws
 pub mod SlotLaws
 pub mod StrategyResolution

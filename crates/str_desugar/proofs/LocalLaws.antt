@@ -11,6 +11,7 @@ use Rattle.core_lang.specs.Resolved.{ResolvedStrategy, ResolvedDefinitions, here
 use Rattle.str_syntax.specs.declared.strategy.DefinitionHead.{DefinitionHead}
 use Rattle.str_syntax.specs.declared.strategy.StrategyDefinition.{StrategyDefinition}
 use Rattle.str_syntax.specs.declared.strategy.Arguments.TheViews.{out-StrategyDefinition}
+use Rattle.str_syntax.specs.Key.{Key}
 use Rattle.str_syntax.specs.Trees.{Bytes, DefinitionTree, definition, head}
 use Rattle.str_syntax.specs.Views.{definition_of, definitions_of, parameters_of, strategy_of}
 use Rattle.str_desugar.specs.declared.scopes.Scopes.{Scopes}
@@ -22,8 +23,9 @@ use Rattle.str_desugar.specs.Equations.{alternative_core, alternatives, strategy
 use Rattle.str_desugar.specs.Frames.{Frames, NamedKey, of_names, of_definitions, keys_of, callee_at, strategy_at, definitions_at}
 use Rattle.str_desugar.specs.Groups.{Head, written_head, head_in, first_for, under_head, body_among, bodies_at, within}
 use Rattle.str_desugar.specs.Heads.{read_head}
+use Rattle.str_desugar.specs.Keys.{named_key}
 use Rattle.str_desugar.specs.Layers.{layers_of, scopes_step}
-use Rattle.str_desugar.specs.Variables.{strategy_names, term_names}
+use Rattle.str_syntax.specs.Arity.{strategy_names, term_names}
 use Rattle.str_desugar.proofs.GatheredSteps.{reads_definition}
 use Rattle.str_desugar.proofs.ScopeLaws.{reads_parameters}
 
@@ -81,8 +83,8 @@ reads_recursive : (f : Bor Bytes) (up : Bor Scopes) →
 reads_recursive f up = ap layers_of (sym (code.rolls-Recursive f up)) ∙
     fold-roll-Scopes Frames scopes_step (forms.Recursive f up)
 
-pub reads_defined : (ds : Bor (List NamedKey)) (up : Bor Scopes) →
-    layers_of (code.Defined ds up) ≡ of_definitions ds.now (layers_of up.now)
+pub reads_defined : (ds : Bor (List Key)) (up : Bor Scopes) →
+    layers_of (code.Defined ds up) ≡ of_definitions (map named_key ds.now) (layers_of up.now)
 reads_defined ds up = ap layers_of (sym (code.rolls-Defined ds up)) ∙
     fold-roll-Scopes Frames scopes_step (forms.Defined ds up)
 
@@ -106,8 +108,8 @@ recursive_made f up fs xs layer s body made is no_strategy no_term e h =
     ap (λ G. strategy_at G s) inner) (ap (λ G. callee_at G (written f.now) 0 0) same)
 
 -- the definitions of all alternatives, and what is in them
-module _ (ds : Bor (List NamedKey)) (up : Bor Scopes) (all : List Alternative)
-    (keys : ds.now ≡ keys_of (definitions_of_all all)) where
+module _ (ds : Bor (List Key)) (up : Bor Scopes) (all : List Alternative)
+    (keys : map named_key ds.now ≡ keys_of (definitions_of_all all)) where
   inside_let : layers_of (code.Defined ds up) ≡ within all (layers_of up.now)
   inside_let = reads_defined ds up ∙ ap (λ ks. of_definitions ks (layers_of up.now)) keys
 

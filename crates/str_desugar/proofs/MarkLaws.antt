@@ -1,21 +1,23 @@
 -- Marks: which stay, and that a name whose mark is not set is not among names that are marked.
-use Rattle.std.proofs.Common.{⊎_elim, w64, ◌≡◌, ℕ, suc, ◌*◌, ◌/◌, ◌%◌, ◌^◌, ◌<◌, Bool, true, false, Some, None, List, [], ◌∷◌, ◌++◌, length, map, set, get_or, refl, sym, ◌∙◌, ap, arith}
+use Rattle.std.proofs.Common.{⊎_elim, w64, ◌≡◌, ℕ, suc, ◌*◌, ◌/◌, ◌%◌, ◌^◌, ◌<◌, Bool, true, false, Some, None, List, [], ◌∷◌, ◌++◌, length, map, set, get_or, refl, sym, ◌∙◌, ap, subst, arith}
 use Rattle.std.specs.Prelude.{◌==◌, ◌&&◌, if◌then◌else◌}
 use Rattle.std.specs.Int.{bit_at}
 use Rattle.std.specs.Int.Bits.{bit_or}
+use Rattle.std.specs.List.{list_any}
 use Rattle.std.specs.Option.{option_map}
 use Rattle.std.specs.Cmp.{unsigned_Decides}
 use Rattle.std.specs.Str.{bytes_eq}
-use Rattle.std.proofs.lemmas.List.{get_or-set_same, get_or-set_other}
+use Rattle.std.proofs.lemmas.List.{get_or-set_same, get_or-set_other, map-append}
 use Rattle.std.proofs.lemmas.Bool.{cases_eq}
 use Rattle.std.proofs.lemmas.Nat.Bits.{bit_at_or, bit_at_set_same, bit_at-lt}
 use Rattle.core_lang.specs.Named.{written, position_of}
+use Rattle.indexmap.specs.IndexSet.{insert_key}
+use Rattle.str_syntax.specs.Key.{Key, same_key}
 use Rattle.str_syntax.specs.SameName.{same_name-Decides}
 use Rattle.str_syntax.specs.Trees.{Bytes}
 use Rattle.str_desugar.specs.Frames.{key_position}
 use Rattle.str_desugar.specs.Keys.{named_key, AreKeysMarked}
 use Rattle.str_desugar.specs.Marks.{mark_of, has_mark, AreMarked, AreKept}
-use Rattle.str_desugar.specs.SameDefinition.{HeadKey}
 
 pub mark_below : (x : Bytes) → mark_of x < 512
 unfolding mark_of
@@ -53,7 +55,7 @@ unmarked_name words x (y ∷ xs) m e = by (bytes_eq x y) refl (unmarked_name wor
         ap (option_map (λ i. suc i)) rest
 
 -- nor has a key with its name
-pub unmarked_key : (words : List ℕ) (x : Bytes) (n k : ℕ) (ks : List HeadKey) → AreKeysMarked words ks →
+pub unmarked_key : (words : List ℕ) (x : Bytes) (n k : ℕ) (ks : List Key) → AreKeysMarked words ks →
     has_mark words (mark_of x) ≡ false → key_position (map named_key ks) (written x) n k ≡ None
 unmarked_key words x n k [] m e = refl
 unmarked_key words x n k (d ∷ ks) m e = by (bytes_eq x d.name) refl (unmarked_key words x n k ks m.1 e)
@@ -99,24 +101,16 @@ module _ (words : List ℕ) (set_one : ℕ) (within : set_one / 64 < length word
 
 -- ---- the same of keys
 
-pub keys_marked_on : (old new : List ℕ) → AreKept old new → (ks : List HeadKey) → AreKeysMarked old ks →
+pub keys_marked_on : (old new : List ℕ) → AreKept old new → (ks : List Key) → AreKeysMarked old ks →
     AreKeysMarked new ks
 keys_marked_on old new kept ks m = marked_on old new kept (map (λ k. k.name) ks) m
 
--- and with one more, after all of them and after the first ones
-pub keys_marked_more : (words : List ℕ) (ks ls : List HeadKey) (k : HeadKey) → AreKeysMarked words (ks ++ ls) →
-    has_mark words (mark_of k.name) ≡ true → AreKeysMarked words (ks ++ (ls ++ k ∷ []))
-keys_marked_more words [] [] k m e = (e, tt)
-keys_marked_more words [] (l ∷ ls) k m e = (m.0, keys_marked_more words [] ls k m.1 e)
-keys_marked_more words (d ∷ ks) ls k m e = (m.0, keys_marked_more words ks ls k m.1 e)
-
-pub keys_marked_between : (words : List ℕ) (ks ls : List HeadKey) (k : HeadKey) → AreKeysMarked words (ks ++ ls) →
-    has_mark words (mark_of k.name) ≡ true → AreKeysMarked words ((ks ++ k ∷ []) ++ ls)
-keys_marked_between words [] ls k m e = (e, m)
-keys_marked_between words (d ∷ ks) ls k m e = (m.0, keys_marked_between words ks ls k m.1 e)
-
-pub keys_marked_inserted : (words : List ℕ) (ks ls : List HeadKey) (k : HeadKey) (there : Bool) →
-    AreKeysMarked words (ks ++ ls) → has_mark words (mark_of k.name) ≡ true →
-    AreKeysMarked words ((if there then ks else ks ++ k ∷ []) ++ ls)
-keys_marked_inserted words ks ls k true m e = m
-keys_marked_inserted words ks ls k false m e = keys_marked_between words ks ls k m e
+-- and with one more, where it is new
+pub keys_marked_inserted : (words : List ℕ) (ks : List Key) (k : Key) → AreKeysMarked words ks →
+    has_mark words (mark_of k.name) ≡ true → AreKeysMarked words (insert_key same_key ks k)
+keys_marked_inserted words ks k m e = by (list_any (same_key k) ks)
+  where
+    by : (there : Bool) → AreKeysMarked words (if there then ks else ks ++ k ∷ [])
+    by true = m
+    by false = subst (AreMarked words) (sym (map-append (λ l. l.name) ks (k ∷ [])))
+        (marked_more words (map (λ l. l.name) ks) k.name m e)

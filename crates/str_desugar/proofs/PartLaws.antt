@@ -1,22 +1,19 @@
 -- What the induction over strategies cites: facts of parts, and scopes around what has items in front of it.
-use Rattle.std.proofs.Common.{◌≡◌, ℕ, ◌+◌, List, [], ◌∷◌, map, refl, sym, ◌∙◌, ap, subst, arith}
+use Rattle.std.proofs.Common.{◌≡◌, ℕ, ◌+◌, List, [], ◌∷◌, map, refl, sym, ◌∙◌, ap, arith}
 use Rattle.std.specs.Prelude.{Bool, true, false, not, ◌||◌, cond}
 use Rattle.std.proofs.lemmas.Bool.{or_parts}
 use Rattle.core_lang.specs.Named.{NamedStrategy, NamedDefinitions, Name, written}
 use Rattle.core_lang.specs.Program.{strategies_count, patterns_count}
 use Rattle.core_lang.specs.Resolution.{Scopes, names, defined}
 use Rattle.scope_check.specs.Seen.{Seen, among, inner, plain_key, in_body}
-use Rattle.scope_check.specs.Seen as seen
-use Rattle.str_syntax.specs.Arity.{number_of_patterns, number_of_strategies}
+use Rattle.str_syntax.specs.Arity.{number_of_patterns, number_of_strategies, strategy_names}
 use Rattle.str_syntax.specs.Trees.{Bytes, ParameterTree, head, PatternTree, PatternTrees, no_patterns, more_patterns, StrategyTrees, no_strategies, more_strategies}
 use Rattle.str_desugar.specs.Brought.{kept}
 use Rattle.str_desugar.specs.Equations.{applications, applications_among, built, built_parts, results, results_among, build_after, call_after, strategies_core}
 use Rattle.str_desugar.specs.Variables.{each_once, without, names_of, names_among}
-use Rattle.str_desugar.specs.Variables as variables
 use Rattle.str_desugar.proofs.BoundLaws.{IsBound, bound_in_definitions}
 use Rattle.str_desugar.proofs.BroughtNames.{BringsResults}
 use Rattle.str_desugar.proofs.FormLaws.{IsResolved, AllResolved, within, bound_in_scope, keeps, results_brought, bound_kept, sees_kept, build_resolved, call_resolved}
-use Rattle.str_desugar.proofs.HeadLaws.{same_strategy_names}
 use Rattle.str_desugar.proofs.NameLists.{AreBound, in_without, in_once, same_self}
 use Rattle.str_desugar.proofs.PatternResolution.{built_resolved}
 use Rattle.str_desugar.proofs.SeenLaws.{Sees, sees_parameters}
@@ -56,11 +53,8 @@ bound_once S zs xs bound = λ y e. bound_in_scope S (each_once zs)
     y (λ none. bound y (in_without y zs xs e (sym (in_once y zs) ∙ none)))
 
 pub sees_body : (S : Scopes) (f : Bytes) (ps : ParameterTree) (xs : List Name) (L : Seen) → Sees S L →
-    Sees (names (map written (variables.strategy_names ps)) xs S) (in_body (head f ps) L)
-sees_body S f ps xs L sees =
-    subst (λ fs. Sees (names (map written fs) xs S) (inner (among (map plain_key (seen.strategy_names ps))) L))
-    (sym (same_strategy_names ps))
-    (sees_parameters S (seen.strategy_names ps) xs L sees)
+    Sees (names (map written (strategy_names ps)) xs S) (in_body (head f ps) L)
+sees_body S f ps xs L sees = sees_parameters S (strategy_names ps) xs L sees
 
 pub seen_first : (f : Bytes) (L : Seen) → inner (among (plain_key f ∷ [])) L (plain_key f) ≡ true
 seen_first f L = rw (same_self f) refl

@@ -21,11 +21,12 @@ use Rattle.str_syntax.specs.declared.definition.Origin.{Origin}
 use Rattle.str_syntax.specs.declared.strategy.Operator.TheVariants as operators
 use Rattle.str_syntax.specs.Trees.{Bytes, head, PatternTree, variable, wildcard, alias, integer, quoted, application, grouped, tuple, list, annotated, applied, applied_to, PatternTrees, no_patterns, more_patterns, OptionalPattern, no_pattern, one_pattern, StrategyTree, plain_sequence, left_choice, guarded_choice, StrategyTrees, no_strategies, more_strategies, OptionalStrategy, no_strategy, one_strategy, SequenceTree, last, StepTree, plain_step, matching, PrimaryTree, identity, failure, match, build, apply, parenthesized, scope, operator, conditional, recursive, let_in, primitive, lambda, call, tuple_congruence, list_congruence, no_arguments, strategy_arguments, all_arguments, RuleTree, rewrites, definition, DefinitionTrees, no_definitions, more_definitions, FormTree, rule_form, strategy_form, TopTree, FileTree}
 use Rattle.str_syntax.specs.Trees as trees
-use Rattle.str_desugar.specs.Alternatives.{Alternative, same_key, firsts, first_success, definitions_among, definitions_of_all}
+use Rattle.str_desugar.specs.Alternatives.{Alternative, of_one_definition, firsts, first_success, definitions_among, definitions_of_all}
 use Rattle.str_desugar.specs.Brought.{kept, patterns_from, elements_from, elements_and_rest_from}
 use Rattle.str_desugar.specs.Equations.{in_turn, scoped, keeping, where_core, constructor_symbol, applications, applications_among, result_name, built, built_parts, build_after, call_after, congruence_of, symbol_congruence, elements_congruence, rest_congruence, part_of, result_of, strategy_core, sequence_core, step_core, primary_core, strategies_core, otherwise_core, rule_core, parts, results, results_among, results_of_rest, alternatives, top_core, forms_among}
 use Rattle.str_desugar.specs.FileProgram.{program_of_file}
-use Rattle.str_desugar.specs.Variables.{each_once, without, term_names, free_in, free_in_rule, left_names}
+use Rattle.str_desugar.specs.Variables.{each_once, without, free_in, free_in_rule, left_names}
+use Rattle.str_syntax.specs.Arity.{term_names}
 use Rattle.str_desugar.proofs.FileResolution.{none_holds, forms_in, same_forms}
 use Rattle.str_desugar.proofs.OccurrenceTransport.{definitions_named}
 use Rattle.str_desugar.proofs.PartLaws.{as_many_patterns}
@@ -156,7 +157,8 @@ module _ (has : Bytes → ℕ → Bool) (name : Bytes) (k : ℕ) where
       IsKnown (OccursInDefinitions name k (definitions_among all others))
   among_known all [] fine = nowhere
   among_known all (a ∷ others) fine =
-      either (first_success_known (map (λ d. d.body) (filter (same_key a) all)) (bodies_known (same_key a) all fine))
+      either (first_success_known (map (λ d. d.body) (filter (of_one_definition a) all))
+      (bodies_known (of_one_definition a) all fine))
       (among_known all others fine)
 
   definitions_known : (all : List Alternative) → InAlternatives all →

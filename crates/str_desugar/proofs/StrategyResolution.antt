@@ -20,12 +20,12 @@ use Rattle.str_desugar.specs.Alternatives.{definitions_of_all}
 use Rattle.str_desugar.specs.Brought.{first_names, kept}
 use Rattle.str_desugar.specs.Equations.{constructor_symbol, applications, applications_among, applications_of_rest, built, built_parts, build_after, symbol_congruence, part_of, strategy_core, sequence_core, step_core, primary_core, strategies_core, otherwise_core, rule_core, parts, results, results_among, results_of_rest, alternatives, alternative_core}
 use Rattle.str_desugar.specs.Variables.{each_once, names_of, names_among, names_of_rest, free_in, free_among, free_in_optional, free_in_sequence, free_in_step, free_in_primary, free_in_rule, left_names, free_in_definition, free_in_definitions}
-use Rattle.str_desugar.specs.Variables as variables
+use Rattle.str_syntax.specs.Arity.{strategy_names, term_names}
 use Rattle.str_desugar.proofs.BoundLaws.{IsBound}
 use Rattle.str_desugar.proofs.BroughtNames.{Brings, BringsResults, brings}
 use Rattle.str_desugar.proofs.FormLaws.{IsResolved, StrategiesResolved, AllResolved, all_and, within, scoped_resolved, sees_in_scope, keeps, results_brought, bound_kept, sees_kept, where_resolved, result_resolved, part_resolved, congruent, symbol_resolved, list_resolved, rest_resolved, called_resolved}
 use Rattle.str_desugar.proofs.GroupLaws.{AlternativeResolved, AlternativesResolved, AllAgree, definitions_resolved, no_definition}
-use Rattle.str_desugar.proofs.HeadLaws.{AreOf, same_strategy_names, same_term_names, same_keys, agree_from_heads}
+use Rattle.str_desugar.proofs.HeadLaws.{AreOf, same_keys, agree_from_heads}
 use Rattle.str_desugar.proofs.NameLists.{AreBound, bound_left, bound_right, bound_further, bound_within}
 use Rattle.str_desugar.proofs.PartLaws.{Neither, neither_first, neither_rest, is_known, either_resolved, bound_past, bound_once, sees_body, seen_first, as_many_strategies, as_many_patterns, built_by, called_by}
 use Rattle.str_desugar.proofs.PatternResolution.{matched_resolved, patterns_resolved, built_parts_resolved}
@@ -79,7 +79,7 @@ module _ (ds : List Declared) where
   alternatives_of : (d : DefinitionTrees) → AreOf (alternatives declared d) (heads_in d)
   alternatives_of no_definitions = tt
   alternatives_of (more_definitions (definition (head f ps) s) d) =
-      (record { name = refl; strategies = same_strategy_names ps; terms = same_term_names ps }, alternatives_of d)
+      (record { name = refl; strategies = refl; terms = refl }, alternatives_of d)
 
   covers_let : (d : DefinitionTrees) →
       Covers (definitions_of_all (alternatives declared d)) (among (map key_of (heads_in d)))
@@ -463,7 +463,7 @@ module _ (ds : List Declared) where
         AreBound S (free_in_definition d) → Sees S L →
         AlternativeResolved S (alternative_core declared d)
     alternative_resolved S L (definition (head f ps) s) fine bound sees =
-        strategy_resolved (names (map written (variables.strategy_names ps)) (map written (variables.term_names ps)) S)
+        strategy_resolved (names (map written (strategy_names ps)) (map written (term_names ps)) S)
         (in_body (head f ps) L) s (fine_body L f ps s fine)
-        (bound_within S (map written (variables.strategy_names ps)) (variables.term_names ps) (free_in s) bound)
-        (sees_body S f ps (map written (variables.term_names ps)) L sees)
+        (bound_within S (map written (strategy_names ps)) (term_names ps) (free_in s) bound)
+        (sees_body S f ps (map written (term_names ps)) L sees)

@@ -14,6 +14,7 @@ use Rattle.scope_check.specs.Complaint.{first_fault}
 use Rattle.scope_check.specs.Seen.{head_of_form}
 use Rattle.str_syntax.specs.declared.definition.DefinitionForm.{DefinitionForm}
 use Rattle.str_syntax.specs.declared.strategy.DefinitionHead.{DefinitionHead}
+use Rattle.str_syntax.specs.Key.{Key, plain_key}
 use Rattle.str_syntax.specs.Trees.{Bytes, FileTree, FormTree, head, rule_form, strategy_form, definition}
 use Rattle.str_syntax.specs.Views.{parameters_of}
 use Rattle.str_desugar.specs.declared.scopes.Scopes.{Scopes}
@@ -25,11 +26,12 @@ use Rattle.str_desugar.specs.Alternatives.{Alternative, definitions_of_all}
 use Rattle.str_desugar.specs.Equations.{forms_among, top_core}
 use Rattle.str_desugar.specs.FileProgram.{program_of_file}
 use Rattle.str_desugar.specs.Forms.{read_forms, tops_at}
-use Rattle.str_desugar.specs.Frames.{Frames, NamedKey, outermost, of_names, of_definitions, keys_of, key_position, definitions_at, strategy_at}
-use Rattle.str_desugar.specs.Groups.{Head, written_head, head_in, first_for, under_head, body_among, bodies_at}
+use Rattle.str_desugar.specs.Frames.{Frames, outermost, of_names, of_definitions, keys_of, key_position, definitions_at, strategy_at}
+use Rattle.str_desugar.specs.Groups.{Head, written_head, head_in, first_for, under_head, body_among, bodies_at, within}
 use Rattle.str_desugar.specs.Heads.{read_head}
+use Rattle.str_desugar.specs.Keys.{named_key}
 use Rattle.str_desugar.specs.Layers.{layers_of, scopes_step}
-use Rattle.str_desugar.specs.Variables.{strategy_names, term_names}
+use Rattle.str_syntax.specs.Arity.{strategy_names, term_names}
 use Rattle.str_desugar.proofs.FileResolution.{checked_main, checked_resolved}
 use Rattle.str_desugar.proofs.LocalLaws.{reads_defined}
 use Rattle.str_desugar.proofs.ScopeLaws.{reads_parameters}
@@ -92,55 +94,52 @@ alternative_made fs xs F first hs a made is strategies terms e =
 reads_outermost : layers_of variants.Outermost ≡ outermost
 reads_outermost = ap layers_of (sym variants.rolls-Outermost) ∙ fold-roll-Scopes Frames scopes_step forms.Outermost
 
-pub definitions_made : (ks : Bor (List NamedKey)) (up : Bor Scopes) (all : List Alternative)
-    (made : ResolvedDefinitions) → up.now ≡ variants.Outermost →
+pub definitions_made : (ks : Bor (List Key)) (up : Bor Scopes) (all : List Alternative)
+    (made : ResolvedDefinitions) → map named_key ks.now ≡ keys_of (definitions_of_all all) →
+    up.now ≡ variants.Outermost →
     made ≡ definitions_at (layers_of (code.Defined ks up)) (definitions_of_all all) →
-    made ≡ definitions_at (of_definitions ks.now outermost) (definitions_of_all all)
-definitions_made ks up all made is e =
+    made ≡ definitions_at (within all outermost) (definitions_of_all all)
+definitions_made ks up all made keys is e =
     e ∙ ap (λ F. definitions_at F (definitions_of_all all)) (reads_defined ks up ∙
-    ap (λ F. of_definitions ks.now F) (ap layers_of is ∙ reads_outermost))
+    ap₂ of_definitions keys (ap layers_of is ∙ reads_outermost))
 
 -- ---- the program of a file
 
--- the alternatives and their keys are those of a file without a fault, and main is looked up among the keys
-pub record Reduces (f : FileTree) (main : Bytes) (all : List Alternative) (keys : List NamedKey)
-    (found : Option ℕ) : Type 0 where
+-- the alternatives are those of a file without a fault, and main is looked up among their keys
+pub record Reduces (f : FileTree) (main : Bytes) (all : List Alternative) (found : Option ℕ) : Type 0 where
   pub has_primitive : Bytes → ℕ → Bool
   pub faultless : first_fault has_primitive f main ≡ None
   pub program : definitions_of_all all ≡ program_of_file f
-  pub keyed : keys ≡ keys_of (definitions_of_all all)
-  pub looked_up : found ≡ key_position keys (written main) 0 0
+  pub looked_up : found ≡ key_position (keys_of (definitions_of_all all)) (written main) 0 0
 
 pub reduced : (f : FileTree) (main name : Bytes) (declarations ds : List Declared) (forms : List FormTree)
-    (keys : List NamedKey) (found : Option ℕ) → IsChecked f declarations main →
-    ds ≡ declarations → forms ≡ forms_among f.sections → name ≡ main →
-    keys ≡ keys_of (definitions_of_all (tops_at (arity_known ds) forms)) →
-    found ≡ key_position keys (written name) 0 0 → Reduces f main (tops_at (arity_known ds) forms) keys found
-reduced f main name declarations ds forms keys found checked declared all named keyed looked_up = record {
+    (keys : List Key) (key : Key) (found : Option ℕ) → IsChecked f declarations main → ds ≡ declarations →
+    forms ≡ forms_among f.sections → name ≡ main → key ≡ plain_key name →
+    map named_key keys ≡ keys_of (definitions_of_all (tops_at (arity_known ds) forms)) →
+    found ≡ key_position (map named_key keys) (written key.name) key.strategies key.terms →
+    Reduces f main (tops_at (arity_known ds) forms) found
+reduced f main name declarations ds forms keys key found checked declared all named plain keyed looked_up = record {
   has_primitive = checked.has_primitive;
   faultless = checked.faultless;
   program = ap₂ (λ es fs. definitions_of_all (tops_at (arity_known es) fs)) (declared ∙ checked.declared) all;
-  keyed = keyed;
-  looked_up = looked_up ∙ ap (λ n. key_position keys (written n) 0 0) named;
+  looked_up = looked_up ∙
+      ap₂ (λ ks k. key_position ks (written k.name) k.strategies k.terms) keyed (plain ∙ ap plain_key named);
 }
 
-module _ (f : FileTree) (main : Bytes) (all : List Alternative) (keys : List NamedKey) (found : Option ℕ)
-    (reduces : Reduces f main all keys found) where
-  same_keys : keys ≡ keys_of (program_of_file f)
-  same_keys = reduces.keyed ∙ ap keys_of reduces.program
-
+module _ (f : FileTree) (main : Bytes) (all : List Alternative) (found : Option ℕ)
+    (reduces : Reduces f main all found) where
   same_position : found ≡ key_position (keys_of (program_of_file f)) (written main) 0 0
-  same_position = reduces.looked_up ∙ ap (λ ks. key_position ks (written main) 0 0) same_keys
+  same_position = reduces.looked_up ∙ ap (λ ds. key_position (keys_of ds) (written main) 0 0) reduces.program
 
   pub main_found : IsSome found
   main_found = ap is_some (same_position ∙ (checked_main reduces.has_primitive f main reduces.faultless).1)
 
   module _ (i : ℕ) (made : ResolvedDefinitions) (at : found ≡ Some i)
-      (is : made ≡ definitions_at (of_definitions keys outermost) (definitions_of_all all)) where
+      (is : made ≡ definitions_at (within all outermost) (definitions_of_all all)) where
     pub program_resolved : ResolvesProgram (program_of_file f) (written main) made i
     program_resolved =
         let P : ResolvedDefinitions → Type 0 = λ ds. ResolvesProgram (program_of_file f) (written main) ds i in
-        subst P (sym (is ∙ ap₂ (λ ks ds. definitions_at (of_definitions ks outermost) ds) same_keys reduces.program))
+        subst P (sym (is ∙ ap (λ ds. definitions_at (of_definitions (keys_of ds) outermost) ds) reduces.program))
         (checked_resolved reduces.has_primitive f main i reduces.faultless (sym same_position ∙ at))
 
     pub program_in_range : InRange made i

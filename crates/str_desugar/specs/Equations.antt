@@ -3,12 +3,13 @@
 use Rattle.std.specs.Prelude.{ℕ, zero, suc, ◌+◌, Bool, List, [], ◌∷◌, ◌++◌, map, cond}
 use Rattle.term_model.specs.Symbol.{Symbol, Plain, Quoted, Tuple, is_name}
 use Rattle.core_lang.specs.Named.{NamedStrategy, NamedStrategies, NamedDefinitions, Name, written, brought}
-use Rattle.core_lang.specs.Program.{Pattern, Patterns, Elements, Strategy, Strategies, Definitions}
+use Rattle.core_lang.specs.Program.{Pattern, Patterns, Elements}
 use Rattle.core_lang.specs.Program as core
 use Rattle.str_syntax.specs.Trees.{Bytes, head, PatternTree, variable, wildcard, alias, integer, quoted, application, grouped, tuple, list, annotated, applied, applied_to, PatternTrees, no_patterns, more_patterns, OptionalPattern, no_pattern, one_pattern, StrategyTree, plain_sequence, left_choice, guarded_choice, StrategyTrees, no_strategies, more_strategies, OptionalStrategy, no_strategy, one_strategy, SequenceTree, last, then, StepTree, plain_step, matching, PrimaryTree, identity, failure, match, build, apply, parenthesized, scope, operator, conditional, recursive, let_in, primitive, lambda, call, tuple_congruence, list_congruence, no_arguments, strategy_arguments, all_arguments, RuleTree, rewrites, DefinitionTree, definition, DefinitionTrees, no_definitions, more_definitions, FormTree, rule_form, strategy_form, SectionTree, signature, rules, strategies, FileTree}
 use Rattle.str_syntax.specs.declared.strategy.Operator.TheVariants as operators
 use Rattle.str_syntax.specs.Arity.{number_of_strategies}
-use Rattle.str_desugar.specs.Variables.{each_once, without, strategy_names, term_names, free_in, free_in_rule, left_names}
+use Rattle.str_desugar.specs.Variables.{each_once, without, free_in, free_in_rule, left_names}
+use Rattle.str_syntax.specs.Arity.{strategy_names, term_names}
 use Rattle.str_desugar.specs.Brought.{first_names, kept, patterns_from, elements_from, elements_and_rest_from}
 use Rattle.str_desugar.specs.Alternatives.{Alternative, definitions_of_all}
 

@@ -1,15 +1,15 @@
 -- The headline does not rest on this file.
 -- Alternatives in groups, one for each definition, where their heads are known apart from their bodies.
-use Rattle.std.specs.Prelude.{ℕ, zero, suc, Bool, not, ◌&&◌, ◌==◌, List, [], ◌∷◌, ◌++◌, length, map, filter, if◌then◌else◌}
-use Rattle.std.specs.Str.{bytes_eq}
+use Rattle.std.specs.Prelude.{◌≡◌, ℕ, zero, suc, Bool, not, List, [], ◌∷◌, ◌++◌, length, map, filter, if◌then◌else◌}
+use Rattle.str_syntax.specs.Key.{Key, same_key}
 use Rattle.str_syntax.specs.Trees.{Bytes, HeadTree, head}
 use Rattle.core_lang.specs.Named.{written}
 use Rattle.core_lang.specs.Program.{id, fail, choice}
 use Rattle.core_lang.specs.Resolved.{ResolvedStrategy}
 use Rattle.core_lang.specs.Views.{Arm, Def}
 use Rattle.str_desugar.specs.Alternatives.{Alternative, definitions_of_all}
-use Rattle.str_desugar.specs.Frames.{Frames, of_names, of_definitions, keys_of, NamedKey, strategy_at}
-use Rattle.str_desugar.specs.Variables.{strategy_names, term_names}
+use Rattle.str_desugar.specs.Frames.{Frames, of_names, of_definitions, keys_of, strategy_at}
+use Rattle.str_syntax.specs.Arity.{strategy_names, term_names}
 
 -- the name of an alternative, and its parameters
 pub record Head : Type 0 where
@@ -24,10 +24,12 @@ written_head (head f parameters) =
 abbrev pub head_in : Alternative → Head
 head_in a = record { name = a.name; strategies = a.strategies; terms = a.terms }
 
+abbrev pub head_key : Head → Key
+head_key h = record { name = h.name; strategies = length h.strategies; terms = length h.terms }
+
 -- alternatives with these heads are of one definition
 abbrev pub same_definition : Head → Head → Bool
-same_definition h k = bytes_eq h.name k.name &&
-    ((length h.strategies == length k.strategies) && (length h.terms == length k.terms))
+same_definition h k = same_key (head_key h) (head_key k)
 
 -- the first head of each definition, in the order of the text
 abbrev pub first_heads : List Head → List Head
@@ -39,8 +41,10 @@ abbrev pub first_for : List Head → Head → Head
 first_for [] h = h
 first_for (k ∷ ks) h = if same_definition h k then k else first_for ks h
 
-abbrev pub head_key : Head → NamedKey
-head_key h = record { name = written h.name; strategies = length h.strategies; terms = length h.terms }
+-- these are the first heads of the definitions, and these are their keys
+pub record AreGrouped (heads firsts : List Head) (keys : List Key) : Type 0 where
+  pub first : firsts ≡ first_heads heads
+  pub keyed : keys ≡ map head_key firsts
 
 -- the layer of the parameters, with the names that this head gives them
 abbrev pub under_head : Frames → Head → Frames

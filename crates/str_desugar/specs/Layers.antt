@@ -9,6 +9,7 @@ use Rattle.str_desugar.specs.Equations.{built, matched}
 use Rattle.core_lang.specs.Named.{NamedStrategy, brought, written}
 use Rattle.str_desugar.specs.Brought.{first_names}
 use Rattle.str_desugar.specs.Frames.{Frames, outermost, of_names, of_definitions, pattern_at, strategy_at, variable_at}
+use Rattle.str_desugar.specs.Keys.{named_key}
 use Rattle.str_desugar.specs.declared.scopes.Scopes.{Scopes}
 use Rattle.str_desugar.specs.declared.scopes.Scopes.TheOpen.{Scopes-F, Outermost, Brought, Variables, Parameters, Recursive, Defined}
 use Rattle.str_desugar.specs.declared.scopes.Scopes.TheFolds.{fold-Scopes}
@@ -19,7 +20,7 @@ scopes_step (Brought k up) = of_names [] (first_names k) up.now
 scopes_step (Variables xs up) = of_names [] (map written xs.now) up.now
 scopes_step (Parameters fs xs up) = of_names (map written fs.now) (map written xs.now) up.now
 scopes_step (Recursive f up) = of_definitions (record { name = written f.now; strategies = 0; terms = 0 } ∷ []) up.now
-scopes_step (Defined ds up) = of_definitions ds.now up.now
+scopes_step (Defined ds up) = of_definitions (map named_key ds.now) up.now
 
 abbrev pub layers_of : Scopes → Frames
 layers_of = fold-Scopes Frames scopes_step

@@ -13,6 +13,5 @@ pub mod HeldNames
 pub mod Keys
 pub mod Layers
 pub mod Marks
-pub mod SameDefinition
 pub mod Variables
 pub mod Results

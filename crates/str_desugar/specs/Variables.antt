@@ -3,7 +3,8 @@
 use Rattle.std.specs.Prelude.{not, List, [], ◌∷◌, ◌++◌, filter}
 use Rattle.std.specs.List.{list_any}
 use Rattle.std.specs.Str.{bytes_eq}
-use Rattle.str_syntax.specs.Trees.{Bytes, ParameterTree, absent, strategies_only, with_terms, head, PatternTree, variable, wildcard, alias, integer, quoted, application, grouped, tuple, list, annotated, applied, applied_to, PatternTrees, no_patterns, more_patterns, OptionalPattern, no_pattern, one_pattern, StrategyTree, plain_sequence, left_choice, guarded_choice, StrategyTrees, no_strategies, more_strategies, OptionalStrategy, no_strategy, one_strategy, SequenceTree, last, then, StepTree, plain_step, matching, PrimaryTree, identity, failure, match, build, apply, parenthesized, scope, operator, conditional, recursive, let_in, primitive, lambda, call, tuple_congruence, list_congruence, ArgumentTree, no_arguments, strategy_arguments, all_arguments, RuleTree, rewrites, DefinitionTree, definition, DefinitionTrees, no_definitions, more_definitions}
+use Rattle.str_syntax.specs.Arity.{term_names}
+use Rattle.str_syntax.specs.Trees.{Bytes, head, PatternTree, variable, wildcard, alias, integer, quoted, application, grouped, tuple, list, annotated, applied, applied_to, PatternTrees, no_patterns, more_patterns, OptionalPattern, no_pattern, one_pattern, StrategyTree, plain_sequence, left_choice, guarded_choice, StrategyTrees, no_strategies, more_strategies, OptionalStrategy, no_strategy, one_strategy, SequenceTree, last, then, StepTree, plain_step, matching, PrimaryTree, identity, failure, match, build, apply, parenthesized, scope, operator, conditional, recursive, let_in, primitive, lambda, call, tuple_congruence, list_congruence, ArgumentTree, no_arguments, strategy_arguments, all_arguments, RuleTree, rewrites, DefinitionTree, definition, DefinitionTrees, no_definitions, more_definitions}
 
 -- each of the names once, in the order of first occurrences
 abbrev pub each_once : List Bytes → List Bytes
@@ -13,16 +14,6 @@ each_once (x ∷ xs) = x ∷ filter (λ y. not (bytes_eq x y)) (each_once xs)
 -- the names of the second list that are not in the first
 abbrev pub without : List Bytes → List Bytes → List Bytes
 without bound xs = filter (λ x. not (list_any (bytes_eq x) bound)) xs
-
-abbrev pub strategy_names : ParameterTree → List Bytes
-strategy_names absent = []
-strategy_names (strategies_only fs) = fs
-strategy_names (with_terms fs xs) = fs
-
-abbrev pub term_names : ParameterTree → List Bytes
-term_names absent = []
-term_names (strategies_only fs) = []
-term_names (with_terms fs xs) = xs
 
 abbrev mutual
   -- the names of a pattern, in the order of the text

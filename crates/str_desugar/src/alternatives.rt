@@ -1,104 +1,20 @@
 //! Alternatives of definitions: those with one name and as many parameters are joined to one definition.
-ghost use Rattle.std.specs.Prelude.{◌≡◌, ◌<◌, List, [], ◌∷◌, length, map, IfOk, OnOk};
+ghost use Rattle.std.specs.Prelude.{◌≡◌, ◌<◌, List, [], ◌∷◌, ◌++◌, length, map, IfOk, OnOk};
 ghost use Rattle.std.specs.List.{position_or_len};
 ghost use Rattle.core_lang.specs.Views as views;
 ghost use Rattle.str_desugar.specs.Alternatives.{Alternative, definitions_of_all};
 ghost use Rattle.str_desugar.specs.Frames.{Frames, definitions_at, keys_of};
 ghost use Rattle.str_desugar.specs.GroupViews.{gathered_in};
-ghost use Rattle.str_desugar.specs.Groups.{bodies_at, first_for, first_heads, first_success_of, gathered_for, head_in, head_key, joined, plain_arm, same_definition, with_body};
+ghost use Rattle.str_desugar.specs.Groups.{AreGrouped, Head, bodies_at, first_for, first_heads, first_success_of, gathered_for, head_in, joined, plain_arm, same_definition, with_body};
 ghost use Rattle.str_desugar.specs.Heads.{read_head, read_heads};
 ghost use Rattle.str_desugar.specs.Keys.{named_key};
 ghost use Rattle.term_model.specs.Results.{Returns};
 
-use crate::keys::{Key, Keys};
-use crate::names::same;
+use crate::keys::Keys;
 use core_lang::{CoreArm, CoreDef, CoreStrategy};
-use indexmap::IndexSet;
 use std::alloc::{AllocError, Global};
-use std::hash::{Hash, Hasher};
 use std::marker::Model;
 use str_syntax::DefinitionHead;
-
-/// A head, as its definition is looked up: by the name and the numbers of parameters.
-#[derive(Drop)]
-struct Keyed<'a> {
-    head: &'a DefinitionHead,
-}
-
-impl<'a> Model for Keyed<'a> {
-    ghost use Rattle.str_desugar.specs.Groups.{Head};
-    ghost use Rattle.str_desugar.specs.Heads.{read_head};
-
-    ghost Value = { Head };
-
-    ghost view = { λ keyed. read_head keyed.head.now };
-}
-
-impl<'a> Keyed<'a> {
-    fn new(head: &'a DefinitionHead) -> Keyed<'a>
-        ensures { result ≡ read_head head.now }
-    {
-        Keyed { head }
-    }
-
-    /// How many strategy parameters it has.
-    #[tactic(auto, using(crate::proofs::ReadHeadLaws::counted))]
-    fn strategies(&self) -> usize
-        ensures { result ≡ length self.now.strategies }
-    {
-        self.head.parameters.strategies()
-    }
-
-    /// How many term parameters it has.
-    #[tactic(auto, using(crate::proofs::ReadHeadLaws::counted))]
-    fn terms(&self) -> usize
-        ensures { result ≡ length self.now.terms }
-    {
-        self.head.parameters.terms()
-    }
-
-    /// The name and the numbers.
-    fn key(&self, alloc: Global) -> Result<Key, AllocError>
-        ensures { IfOk result (λ made. named_key made ≡ head_key self.now) }
-    {
-        let name = self.head.name.copy(alloc)?;
-        Ok(Key::new(name, self.strategies(), self.terms()))
-    }
-}
-
-impl<'a> PartialEq for Keyed<'a> {
-    ghost use Rattle.str_desugar.specs.Groups.{same_definition};
-    ghost use Rattle.str_desugar.specs.SameDefinition.{same_definition_partial_equiv};
-
-    ghost eq = { same_definition };
-
-    ghost laws = { same_definition_partial_equiv };
-
-    fn eq(&self, other: &Keyed<'a>) -> bool {
-        same(&self.head.name, &other.head.name)
-            && (self.strategies() == other.strategies() && self.terms() == other.terms())
-    }
-}
-
-impl<'a> Eq for Keyed<'a> {
-    ghost use Rattle.str_desugar.specs.SameDefinition.{same_definition_equiv};
-
-    ghost laws = { same_definition_equiv };
-}
-
-impl<'a> Hash for Keyed<'a> {
-    ghost use Rattle.str_desugar.specs.SameDefinition.{head_writes, head_writes-same};
-
-    ghost hash_input = { head_writes };
-
-    ghost respects_eq = { head_writes-same };
-
-    fn hash<H: Hasher>(&self, state: &mut H) {
-        self.head.name.bytes().hash(state);
-        self.strategies().hash(state);
-        self.terms().hash(state);
-    }
-}
 
 /// The first head of a definition, and the bodies of its alternatives so far.
 #[derive(Drop)]
@@ -109,56 +25,62 @@ struct Group<'a> {
 
 /// The heads of alternatives that stand together, in groups, one for each definition. A look-up does not walk them.
 #[derive(Drop)]
-pub(crate) struct Groups<'a> {
-    heads: Vec<&'a DefinitionHead>,
-    firsts: IndexSet<Keyed<'a>>,
+pub(crate) struct Groups<'t> {
+    heads: Vec<&'t DefinitionHead>,
+    /// The first head of each definition.
+    firsts: Vec<&'t DefinitionHead>,
+    /// The keys of these.
+    keys: Box<Keys<'t>>,
 }
 
 /// All heads, in the order of the text.
-impl<'a> Model for Groups<'a> {
-    ghost use Rattle.std.specs.Prelude.{◌≡◌, List};
-    ghost use Rattle.str_desugar.specs.Groups.{Head, first_heads};
+impl<'t> Model for Groups<'t> {
+    ghost use Rattle.std.specs.Prelude.{List};
+    ghost use Rattle.str_desugar.specs.Groups.{AreGrouped, Head};
     ghost use Rattle.str_desugar.specs.Heads.{read_heads};
 
     ghost Value = { List Head };
 
     ghost view = { λ groups. read_heads groups.heads.items };
 
-    ghost invariant = { λ groups. groups.firsts.keys ≡
-        first_heads (read_heads groups.heads.items) };
+    ghost invariant = { λ groups. AreGrouped (read_heads groups.heads.items)
+        (read_heads groups.firsts.items) groups.keys.value };
 }
 
-impl<'a> Groups<'a> {
+impl<'t> Groups<'t> {
     /// The groups of alternatives with these heads. `AllocError` where a growth is refused.
     pub(crate) fn new(
         alloc: Global,
-        heads: Vec<&'a DefinitionHead>,
-    ) -> Result<Groups<'a>, AllocError>
+        heads: Vec<&'t DefinitionHead>,
+    ) -> Result<Groups<'t>, AllocError>
         ensures { Returns result (read_heads heads.entry.items) }
     {
-        let firsts = firsts_of(alloc, &heads)?;
-        Ok(Groups { heads, firsts })
+        let mut keys = Keys::new(alloc);
+        let firsts = firsts_of(alloc, &heads, &mut keys)?;
+        let keys = Box::new(alloc, keys)?;
+        Ok(Groups {
+            heads,
+            firsts,
+            keys,
+        })
     }
 
     /// The first head of the definition that has an alternative with this head.
-    pub(crate) fn first_of(&self, head: &'a DefinitionHead) -> &'a DefinitionHead
+    pub(crate) fn first_of(&self, head: &'t DefinitionHead) -> &'t DefinitionHead
         ensures { read_head result.now ≡ first_for self.now (read_head head.now) }
     {
-        match self.firsts.get(&Keyed::new(head)) {
-            Some(first) => first.head,
+        match self.firsts.get(self.number_of(head)) {
+            Some(first) => *first,
             None => head,
         }
     }
 
-    /// The keys of the definitions, in the order of their first alternatives. `AllocError` where a growth is refused.
-    #[inline(never)]
-    pub(crate) fn keys(&self, alloc: Global) -> Result<Box<Keys>, AllocError>
-        ensures { IfOk result (λ made. (all : List Alternative) → map head_in all ≡ self.now →
-            made.value ≡ keys_of (definitions_of_all all)) }
+    /// The keys of the definitions, in the order of their first alternatives.
+    pub(crate) fn keys(&self) -> &Keys<'t>
+        ensures { (all : List Alternative) → map head_in all ≡ self.now →
+            map named_key result.now ≡ keys_of (definitions_of_all all) }
     {
-        let keys = self.keys_of_firsts(alloc)?;
-        let made = Box::new(alloc, keys)?;
-        Ok(made)
+        &self.keys
     }
 
     /// Where the names of the definitions stand in the file, in the order of their first alternatives. `AllocError` where a growth is
@@ -166,7 +88,7 @@ impl<'a> Groups<'a> {
     pub(crate) fn offsets(&self, alloc: Global) -> Result<Vec<u64>, AllocError> {
         let mut offsets = Vec::with_capacity(alloc, self.firsts.len())?;
         for first in &self.firsts {
-            offsets.push(first.head.name.offset())?;
+            offsets.push(first.name.offset())?;
         }
         Ok(offsets)
     }
@@ -189,50 +111,24 @@ impl<'a> Groups<'a> {
         Ok(made)
     }
 
-    /// The keys of the first heads.
-    fn keys_of_firsts(&self, alloc: Global) -> Result<Keys, AllocError>
-        ensures { Returns result (map head_key (first_heads self.now)) }
-    {
-        let mut keys = Keys::new(alloc);
-        for first in &self.firsts {
-            keys.push(first.key(alloc)?)?;
-        }
-        Ok(keys)
-    }
-
-    /// The groups without bodies.
-    fn empty(&self, alloc: Global) -> Result<Vec<Group<'a>>, AllocError>
-        ensures { IfOk result (λ made. map gathered_in made.items ≡
-            gathered_for (first_heads self.now) [] []) }
-    {
-        let mut groups = Vec::new(alloc);
-        for first in &self.firsts {
-            groups.push(Group {
-                first: first.head,
-                bodies: Vec::new(alloc),
-            })?;
-        }
-        Ok(groups)
-    }
-
     /// The position of the group of an alternative with this head, or how many groups there are.
     fn number_of(&self, head: &DefinitionHead) -> usize
         ensures { result ≡ position_or_len (same_definition (read_head head.now))
             (first_heads self.now) }
     {
-        match self.firsts.get_index_of(&Keyed::new(head)) {
+        match self.keys.position_of(&head.key()) {
             Some(number) => number,
             None => self.firsts.len(),
         }
     }
 
     /// The groups with these bodies.
-    fn gather(&self, alloc: Global, bodies: Vec<CoreStrategy>) -> Result<Vec<Group<'a>>, AllocError>
+    fn gather(&self, alloc: Global, bodies: Vec<CoreStrategy>) -> Result<Vec<Group<'t>>, AllocError>
         requires { length bodies.items ≡ length self.now }
         ensures { IfOk result (λ made. map gathered_in made.items ≡
             gathered_for (first_heads self.now) self.now (map views.strategy_of bodies.items)) }
     {
-        let mut groups = self.empty(alloc)?;
+        let mut groups = empty_groups(alloc, &self.firsts)?;
         let mut index = 0usize;
         for body in bodies {
             let number = self.number_of(self.heads[index]);
@@ -243,18 +139,57 @@ impl<'a> Groups<'a> {
     }
 }
 
-/// The first head of each definition.
-fn firsts_of<'a>(
+/// The first head of each definition, whose keys are put into the table. `AllocError` where a growth is refused.
+fn firsts_of<'t>(
     alloc: Global,
-    heads: &[&'a DefinitionHead],
-) -> Result<IndexSet<Keyed<'a>>, AllocError>
-    ensures { IfOk result (λ made. made.keys ≡ first_heads (read_heads heads.now)) }
+    heads: &[&'t DefinitionHead],
+    keys: &mut Keys<'t>,
+) -> Result<Vec<&'t DefinitionHead>, AllocError>
+    requires { keys.old ≡ [] }
+    ensures { IfOk result (λ made.
+        AreGrouped (read_heads heads.now) (read_heads made.items) keys.new) }
 {
-    let mut firsts = IndexSet::new(alloc);
+    let mut firsts = Vec::new(alloc);
     for head in heads {
-        firsts.insert(Keyed::new(head))?;
+        add_first(&mut firsts, keys, *head)?;
     }
     Ok(firsts)
+}
+
+/// Adds the head where its key is new.
+fn add_first<'t>(
+    firsts: &mut Vec<&'t DefinitionHead>,
+    keys: &mut Keys<'t>,
+    head: &'t DefinitionHead,
+) -> Result<(), AllocError>
+    ensures { OnOk result ((heads : List Head) →
+        AreGrouped heads (read_heads firsts.old.items) keys.old →
+        AreGrouped (heads ++ read_head head.now ∷ []) (read_heads firsts.new.items) keys.new) }
+{
+    let is_new = keys.insert(head.key())?;
+    if !is_new {
+        return Ok(());
+    }
+    firsts.push(head)?;
+    Ok(())
+}
+
+/// Groups without bodies, of definitions with these first heads. `AllocError` where a growth is refused.
+fn empty_groups<'t>(
+    alloc: Global,
+    firsts: &[&'t DefinitionHead],
+) -> Result<Vec<Group<'t>>, AllocError>
+    ensures { IfOk result (λ made. map gathered_in made.items ≡
+        gathered_for (read_heads firsts.now) [] []) }
+{
+    let mut groups = Vec::with_capacity(alloc, firsts.len())?;
+    for first in firsts {
+        groups.push(Group {
+            first: *first,
+            bodies: Vec::new(alloc),
+        })?;
+    }
+    Ok(groups)
 }
 
 /// Puts the body after those of the group at this position.
@@ -273,11 +208,11 @@ impl<'a> Group<'a> {
     fn definition(self, alloc: Global) -> Result<CoreDef, AllocError>
         ensures { IfOk result (λ made. views.def_of made ≡ joined (gathered_in self.entry)) }
     {
-        let head = Keyed::new(self.first);
+        let parameters = &self.first.parameters;
         let body = first_success(alloc, self.bodies)?;
         Ok(CoreDef {
-            strats: head.strategies(),
-            terms: head.terms(),
+            strats: parameters.strategies(),
+            terms: parameters.terms(),
             body,
         })
     }

@@ -11,7 +11,7 @@ ghost use Rattle.str_desugar.specs.Layers.{items_at, layers_of};
 ghost use Rattle.signature_core.specs.Signature.{arity_known};
 ghost use Rattle.str_desugar.specs.Results.{ReturnsCore};
 
-use crate::built::{applications, core_of_build};
+use crate::build_patterns::{applications, core_of_build};
 use crate::items::{build_after, put_result, put_result_of};
 use crate::offsets::{offset_of, place_before};
 use crate::parts::successor;
@@ -36,17 +36,16 @@ fn build_of(
     let mut next = 0;
     let pattern = core_of_build(context.alloc, source, scopes, symbols, &mut next)?;
     let pattern = SourcePattern::new(pattern, offset_of(context, source));
-    let made = Box::new(context.alloc, CoreStrategy::Build(pattern))?;
-    Ok(made)
+    Ok(Box::new(context.alloc, CoreStrategy::Build(pattern))?)
 }
 
 /// The core of a build.
 #[cycle(walk)]
 #[inline(never)]
-pub(crate) fn build(
+pub(crate) fn build<'t>(
     context: &Context,
-    source: &Pattern,
-    scopes: &Scopes,
+    source: &'t Pattern,
+    scopes: &Scopes<'_, 't>,
     symbols: &mut Symbols,
 ) -> Result<Box<CoreStrategy>, AllocError>
     ensures { ReturnsCore result (strategy_at (layers_of scopes.now)
@@ -74,10 +73,10 @@ pub(crate) fn build(
 /// Puts the items that give the results of the outermost `<..>` after the others.
 #[cycle(walk)]
 #[inline(never)]
-fn results_of(
+fn results_of<'t>(
     context: &Context,
-    source: &Pattern,
-    scopes: &Scopes,
+    source: &'t Pattern,
+    scopes: &Scopes<'_, 't>,
     symbols: &mut Symbols,
     next: &mut usize,
     items: &mut Vec<CoreStrategy>,
@@ -125,10 +124,10 @@ fn results_of(
 /// Puts the items that give the results of the outermost `<..>` in patterns after the others.
 #[cycle(walk)]
 #[inline(never)]
-pub(crate) fn results_in(
+pub(crate) fn results_in<'t>(
     context: &Context,
-    sources: &[Pattern],
-    scopes: &Scopes,
+    sources: &'t [Pattern],
+    scopes: &Scopes<'_, 't>,
     symbols: &mut Symbols,
     next: &mut usize,
     items: &mut Vec<CoreStrategy>,

@@ -13,7 +13,7 @@ ghost use Rattle.signature_core.specs.Signature.{arity_known};
 ghost use Rattle.str_desugar.specs.Results.{ReturnsCore};
 
 use crate::build::results_in;
-use crate::built::{applications_among, built_parts};
+use crate::build_patterns::{applications_among, built_parts};
 use crate::congruence::{number_of, symbol_congruence};
 use crate::items::{call_after, put};
 use crate::parts::successor;
@@ -58,17 +58,16 @@ pub(crate) fn plain_call(
     let at = scopes.callee(name, 0, 0)?;
     let target = CallTarget::new(at, Some(name.offset()));
     let call = CoreStrategy::Call(target, Vec::new(alloc), Vec::new(alloc));
-    let made = Box::new(alloc, call)?;
-    Ok(made)
+    Ok(Box::new(alloc, call)?)
 }
 
 /// The strategies that a call hands on.
 #[cycle(walk)]
 #[inline(never)]
-fn strategy_arguments(
+fn strategy_arguments<'t>(
     context: &Context,
-    sources: &[Strategy],
-    scopes: &Scopes,
+    sources: &'t [Strategy],
+    scopes: &Scopes<'_, 't>,
     symbols: &mut Symbols,
 ) -> Result<Vec<CoreStrategy>, AllocError>
     ensures { IfOk result (λ made. views.strategies_of made.items ≡
@@ -86,12 +85,12 @@ fn strategy_arguments(
 /// The call itself, in the layers that have the results for its arguments.
 #[cycle(walk)]
 #[inline(never)]
-fn call_with_results(
+fn call_with_results<'t>(
     context: &Context,
     name: &Name,
-    sources: &[Strategy],
-    terms: &[Pattern],
-    scopes: &Scopes,
+    sources: &'t [Strategy],
+    terms: &'t [Pattern],
+    scopes: &Scopes<'_, 't>,
     symbols: &mut Symbols,
 ) -> Result<Box<CoreStrategy>, AllocError>
     ensures { ReturnsCore result (strategy_at (layers_of scopes.now)
@@ -110,11 +109,11 @@ fn call_with_results(
 /// as many sorts.
 #[cycle(walk)]
 #[inline(never)]
-pub(crate) fn call(
+pub(crate) fn call<'t>(
     context: &Context,
     name: &Name,
-    source: &Arguments,
-    scopes: &Scopes,
+    source: &'t Arguments,
+    scopes: &Scopes<'_, 't>,
     symbols: &mut Symbols,
 ) -> Result<Box<CoreStrategy>, AllocError>
     ensures { ReturnsCore result (strategy_at (layers_of scopes.now)
@@ -148,11 +147,11 @@ pub(crate) fn call(
 /// A call that has no terms, or a congruence.
 #[cycle(walk)]
 #[inline(never)]
-fn called_with(
+fn called_with<'t>(
     context: &Context,
     name: &Name,
-    sources: &[Strategy],
-    scopes: &Scopes,
+    sources: &'t [Strategy],
+    scopes: &Scopes<'_, 't>,
     symbols: &mut Symbols,
 ) -> Result<Box<CoreStrategy>, AllocError>
     ensures { ReturnsCore result (strategy_at (layers_of scopes.now)

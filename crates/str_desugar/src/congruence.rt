@@ -40,8 +40,7 @@ fn match_symbol(alloc: Global, offset: u64, symbol: Sym) -> Result<Box<CoreStrat
 {
     let pattern = CorePattern::Applied(symbol, Vec::new(alloc));
     let pattern = SourcePattern::new(pattern, Some(offset));
-    let made = Box::new(alloc, CoreStrategy::Match(pattern))?;
-    Ok(made)
+    Ok(Box::new(alloc, CoreStrategy::Match(pattern))?)
 }
 
 /// The match of the list without elements.
@@ -51,8 +50,7 @@ fn match_no_elements(alloc: Global, offset: u64) -> Result<Box<CoreStrategy>, Al
 {
     let pattern = CorePattern::List(Vec::new(alloc), None);
     let pattern = SourcePattern::new(pattern, Some(offset));
-    let made = Box::new(alloc, CoreStrategy::Match(pattern))?;
-    Ok(made)
+    Ok(Box::new(alloc, CoreStrategy::Match(pattern))?)
 }
 
 /// The congruence of a symbol with this number of parts, where these are their items.
@@ -116,12 +114,12 @@ fn of_rest(
 /// The congruence of a symbol with these parts. It stands at this offset.
 #[cycle(walk)]
 #[inline(never)]
-pub(crate) fn symbol_congruence(
+pub(crate) fn symbol_congruence<'t>(
     context: &Context,
     offset: u64,
     symbol: Sym,
-    sources: &[Strategy],
-    scopes: &Scopes,
+    sources: &'t [Strategy],
+    scopes: &Scopes<'_, 't>,
     symbols: &mut Symbols,
 ) -> Result<Box<CoreStrategy>, AllocError>
     ensures { ReturnsCore result (strategy_at (layers_of scopes.now)
@@ -148,10 +146,10 @@ pub(crate) fn symbol_congruence(
 /// The congruence of a list of these elements.
 #[cycle(walk)]
 #[inline(never)]
-pub(crate) fn elements_congruence(
+pub(crate) fn elements_congruence<'t>(
     context: &Context,
-    sources: &[Strategy],
-    scopes: &Scopes,
+    sources: &'t [Strategy],
+    scopes: &Scopes<'_, 't>,
     symbols: &mut Symbols,
 ) -> Result<Box<CoreStrategy>, AllocError>
     ensures { ReturnsCore result (strategy_at (layers_of scopes.now)
@@ -178,10 +176,10 @@ pub(crate) fn elements_congruence(
 /// The items of the elements that stand before the rest of a list.
 #[cycle(walk)]
 #[inline(never)]
-pub(crate) fn items_before_rest(
+pub(crate) fn items_before_rest<'t>(
     context: &Context,
-    sources: &[Strategy],
-    scopes: &Scopes,
+    sources: &'t [Strategy],
+    scopes: &Scopes<'_, 't>,
     symbols: &mut Symbols,
 ) -> Result<Vec<CoreStrategy>, AllocError>
     ensures { IfOk result (λ made. map views.strategy_of made.items ≡
@@ -203,12 +201,12 @@ pub(crate) fn items_before_rest(
 /// The congruence of a list of n elements, of which these are the items, and this rest.
 #[cycle(walk)]
 #[inline(never)]
-pub(crate) fn rest_congruence(
+pub(crate) fn rest_congruence<'t>(
     context: &Context,
-    source: &Strategy,
+    source: &'t Strategy,
     elements: usize,
     mut items: Vec<CoreStrategy>,
-    scopes: &Scopes,
+    scopes: &Scopes<'_, 't>,
     symbols: &mut Symbols,
 ) -> Result<Box<CoreStrategy>, AllocError>
     ensures { IfOk result (λ made. (each : List NamedStrategy) →
@@ -235,11 +233,11 @@ pub(crate) fn rest_congruence(
 /// The items of the parts, of this number in all.
 #[cycle(walk)]
 #[inline(never)]
-fn items_of(
+fn items_of<'t>(
     context: &Context,
-    sources: &[Strategy],
+    sources: &'t [Strategy],
     count: usize,
-    scopes: &Scopes,
+    scopes: &Scopes<'_, 't>,
     symbols: &mut Symbols,
 ) -> Result<Vec<CoreStrategy>, AllocError>
     ensures { IfOk result (λ made. map views.strategy_of made.items ≡

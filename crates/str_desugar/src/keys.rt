@@ -1,243 +1,82 @@
-//! Keys of definitions: their names, and how many strategy and term parameters they have.
-ghost use Rattle.std.specs.Prelude.{◌≡◌, [], ◌∷◌, ◌++◌, OnOk, map};
+//! The keys of definitions that stand together.
+ghost use Rattle.std.specs.Prelude.{◌≡◌, [], map, not, OnOk};
+ghost use Rattle.std.specs.List.{list_any, position};
 ghost use Rattle.core_lang.specs.Named.{written};
+ghost use Rattle.indexmap.specs.IndexSet.{insert_key};
 ghost use Rattle.str_desugar.specs.Frames.{key_position};
 ghost use Rattle.str_desugar.specs.Keys.{named_key};
+ghost use Rattle.str_syntax.specs.Key.{same_key};
+ghost use Rattle.term_model.specs.Results.{Returns};
 
 use crate::marks::{Marks, Wanted};
-use crate::names::same;
-use indexmap::{Equivalent, IndexSet};
+use indexmap::IndexSet;
 use std::alloc::{AllocError, Global};
-use std::hash::{Hash, Hasher};
 use std::marker::Model;
-use str_syntax::Name;
+use str_syntax::DefinitionKey;
 
-/// A key whose name stands elsewhere.
+/// Keys, each once, in the order in which they were added. A look-up of a name whose mark is not set ends there, and another one does
+/// not walk the keys.
 #[derive(Drop)]
-struct Called<'a> {
-    name: &'a Name,
-    strategies: usize,
-    terms: usize,
-}
-
-impl<'a> Model for Called<'a> {
-    ghost use Rattle.str_desugar.specs.SameDefinition.{HeadKey};
-
-    ghost Value = { HeadKey };
-
-    ghost view = { λ k. record { name = k.name.now; strategies = k.strategies; terms = k.terms } };
-}
-
-impl<'a> Called<'a> {
-    fn new(name: &'a Name, strategies: usize, terms: usize) -> Called<'a>
-        ensures { result ≡ record { name = name.now; strategies = strategies; terms = terms } }
-    {
-        Called {
-            name,
-            strategies,
-            terms,
-        }
-    }
-}
-
-impl<'a> PartialEq for Called<'a> {
-    ghost use Rattle.str_desugar.specs.SameDefinition.{same_numbers, same_numbers_partial_equiv};
-
-    ghost eq = { same_numbers };
-
-    ghost laws = { same_numbers_partial_equiv };
-
-    fn eq(&self, other: &Called<'a>) -> bool {
-        same(self.name, other.name)
-            && (self.strategies == other.strategies && self.terms == other.terms)
-    }
-}
-
-impl<'a> Eq for Called<'a> {
-    ghost use Rattle.str_desugar.specs.SameDefinition.{same_numbers_equiv};
-
-    ghost laws = { same_numbers_equiv };
-}
-
-impl<'a> Hash for Called<'a> {
-    ghost use Rattle.str_desugar.specs.SameDefinition.{key_writes, key_writes-same};
-
-    ghost hash_input = { key_writes };
-
-    ghost respects_eq = { key_writes-same };
-
-    fn hash<H: Hasher>(&self, state: &mut H) {
-        self.name.bytes().hash(state);
-        self.strategies.hash(state);
-        self.terms.hash(state);
-    }
-}
-
-/// The name of a definition, and how many strategy and term parameters it has.
-#[derive(Drop)]
-pub(crate) struct Key {
-    name: Name,
-    strategies: usize,
-    terms: usize,
-}
-
-impl Model for Key {
-    ghost use Rattle.str_desugar.specs.SameDefinition.{HeadKey};
-
-    ghost Value = { HeadKey };
-
-    ghost view = { λ k. record { name = k.name; strategies = k.strategies; terms = k.terms } };
-}
-
-impl Key {
-    pub(crate) fn new(name: Name, strategies: usize, terms: usize) -> Key
-        ensures { result ≡ record { name = name; strategies = strategies; terms = terms } }
-    {
-        Key {
-            name,
-            strategies,
-            terms,
-        }
-    }
-
-    /// The same key.
-    fn called(&self) -> Called<'_>
-        ensures { result ≡ self.now }
-    {
-        Called::new(&self.name, self.strategies, self.terms)
-    }
-}
-
-impl PartialEq for Key {
-    ghost use Rattle.str_desugar.specs.SameDefinition.{same_numbers, same_numbers_partial_equiv};
-
-    ghost eq = { same_numbers };
-
-    ghost laws = { same_numbers_partial_equiv };
-
-    fn eq(&self, other: &Key) -> bool {
-        self.called() == other.called()
-    }
-}
-
-impl Eq for Key {
-    ghost use Rattle.str_desugar.specs.SameDefinition.{same_numbers_equiv};
-
-    ghost laws = { same_numbers_equiv };
-}
-
-impl Hash for Key {
-    ghost use Rattle.str_desugar.specs.SameDefinition.{key_writes, key_writes-same};
-
-    ghost hash_input = { key_writes };
-
-    ghost respects_eq = { key_writes-same };
-
-    fn hash<H: Hasher>(&self, state: &mut H) {
-        self.called().hash(state);
-    }
-}
-
-impl<'a> Equivalent<Key> for &Called<'a> {
-    ghost use Rattle.str_desugar.specs.SameDefinition.{same_numbers, same_numbers_equiv, key_writes-same};
-
-    ghost equivalent = { λ q. same_numbers q.now };
-
-    ghost respects_hash = { λ q. key_writes-same q.now };
-
-    ghost respects_eq = { λ q. same_numbers_equiv.congr q.now };
-
-    fn equivalent(&self, key: &Key) -> bool {
-        **self == key.called()
-    }
-}
-
-/// Keys in the order of their definitions. A look-up of a name whose mark is not set ends there, and another one does not walk the
-/// keys, as long as no key is a repeated one; those of definitions that stand together are distinct.
-#[derive(Drop)]
-pub(crate) struct Keys {
-    /// The keys in front of the first one that repeats another.
-    distinct: IndexSet<Key>,
-    /// The keys from there on.
-    others: Vec<Key>,
+pub(crate) struct Keys<'t> {
+    table: IndexSet<DefinitionKey<'t>>,
     /// The marks of their names.
     marks: Marks,
 }
 
-impl Model for Keys {
-    ghost use Rattle.std.specs.Prelude.{◌++◌, List, map};
-    ghost use Rattle.str_desugar.specs.Frames.{NamedKey};
-    ghost use Rattle.str_desugar.specs.Keys.{named_key};
+impl<'t> Model for Keys<'t> {
+    ghost use Rattle.std.specs.Prelude.{List};
+    ghost use Rattle.str_syntax.specs.Key.{Key};
 
-    ghost Value = { List NamedKey };
+    ghost Value = { List Key };
 
-    ghost view = { λ keys. map named_key (keys.distinct.keys ++ keys.others.items) };
+    ghost view = { λ keys. keys.table.keys };
 
     ghost use Rattle.str_desugar.specs.Keys.{AreKeysMarked};
 
-    ghost invariant = { λ keys. AreKeysMarked keys.marks.words (keys.distinct.keys ++
-        keys.others.items) };
+    ghost invariant = { λ keys. AreKeysMarked keys.marks.words keys.table.keys };
 }
 
-impl Keys {
+impl<'t> Keys<'t> {
     /// No keys.
-    pub(crate) fn new(alloc: Global) -> Keys
+    pub(crate) fn new(alloc: Global) -> Keys<'t>
         ensures { result ≡ [] }
     {
         Keys {
-            distinct: IndexSet::new(alloc),
-            others: Vec::new(alloc),
+            table: IndexSet::new(alloc),
             marks: Marks::new(),
         }
     }
 
-    /// Puts the key after the others.
-    pub(crate) fn push(&mut self, key: Key) -> Result<(), AllocError>
-        ensures { OnOk result (self.new ≡ self.old ++ named_key key ∷ []) }
+    /// Puts the key after the others where it is new, and returns whether it is. `AllocError` where the memory for it is refused.
+    pub(crate) fn insert(&mut self, key: DefinitionKey<'t>) -> Result<bool, AllocError>
+        ensures inserted { OnOk result (self.new ≡ insert_key same_key self.old key.entry) }
+        ensures new { Returns result (not (list_any (same_key key.entry) self.old)) }
     {
-        self.marks.set(&key.name);
-        if !self.others.is_empty() || self.distinct.contains(&key) {
-            self.others.push(key)?;
-            return Ok(());
-        }
-        self.distinct.insert(key)?;
-        Ok(())
+        self.marks.set(key.name());
+        Ok(self.table.insert(key)?)
     }
 
     /// The position of the definition that is called by this name with these numbers of strategies and terms.
     #[inline(always)]
     pub(crate) fn position(&self, wanted: &Wanted, strategies: usize, terms: usize) -> Option<usize>
-        ensures { result ≡ key_position self.now (written wanted.now) strategies terms }
+        ensures { result ≡
+            key_position (map named_key self.now) (written wanted.now) strategies terms }
     {
         if !self.marks.has(&*wanted) {
             return None;
         }
-        self.position_of(wanted.name(), strategies, terms)
+        let key = DefinitionKey::new(wanted.name().bytes(), strategies, terms);
+        self.position_of(&key)
     }
 
-    /// The same, whatever the mark of the name.
+    /// The position of the key, whatever the mark of its name.
     #[inline(never)]
-    fn position_of(&self, name: &Name, strategies: usize, terms: usize) -> Option<usize>
-        ensures { result ≡ key_position self.now (written name.now) strategies terms }
+    #[tactic(auto, using(crate::proofs::SlotLaws::positions))]
+    pub(crate) fn position_of(&self, key: &DefinitionKey) -> Option<usize>
+        ensures first { result ≡ position (same_key key.now) self.now }
+        ensures called { result ≡ key_position (map named_key self.now)
+            (written key.now.name) key.now.strategies key.now.terms }
     {
-        let called = Called::new(name, strategies, terms);
-        if let Some(slot) = self.distinct.get_index_of(&called) {
-            return Some(slot);
-        }
-        let slot = position_among(&self.others, &called)?;
-        Some(self.distinct.len() + slot)
+        self.table.get_index_of(&*key)
     }
-}
-
-/// The position of the first of these keys that is the same.
-fn position_among(keys: &[Key], called: &Called) -> Option<usize>
-    ensures { result ≡ key_position (map named_key keys.now) (written called.now.name)
-        called.now.strategies called.now.terms }
-{
-    for (slot, key) in keys.iter().enumerate() {
-        if *called == key.called() {
-            return Some(slot);
-        }
-    }
-    None
 }

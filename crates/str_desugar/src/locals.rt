@@ -5,16 +5,14 @@ ghost use Rattle.core_lang.specs.Program as core;
 ghost use Rattle.core_lang.specs.Resolved.{here};
 ghost use Rattle.core_lang.specs.Views as views;
 ghost use Rattle.str_syntax.specs.Trees as trees;
-ghost use Rattle.str_syntax.specs.Views.{definition_of, definitions_of, parameters_of, strategy_of};
+ghost use Rattle.str_syntax.specs.Views.{definition_of, definitions_of, strategy_of};
 ghost use Rattle.str_desugar.specs.Alternatives.{Alternative, definitions_of_all};
 ghost use Rattle.str_desugar.specs.Equations.{alternative_core, alternatives, primary_core, strategy_core};
 ghost use Rattle.str_desugar.specs.Frames.{callee_at, definitions_at, strategy_at};
 ghost use Rattle.str_desugar.specs.Groups.{bodies_at, body_among, head_in, within};
 ghost use Rattle.str_desugar.specs.Layers.{layers_of};
 ghost use Rattle.signature_core.specs.Signature.{arity_known};
-ghost use Rattle.str_desugar.specs.Variables.{strategy_names, term_names};
 ghost use Rattle.str_syntax.specs.Trees.{Bytes};
-ghost use Rattle.term_model.specs.Results.{Returns};
 ghost use Rattle.str_desugar.specs.Results.{ReturnsCore};
 
 use crate::alternatives::Groups;
@@ -26,7 +24,7 @@ use crate::strategy::{Context, strategy};
 use crate::symbols::Symbols;
 use core_lang::{CoreDef, CoreStrategy};
 use std::alloc::{AllocError, Global};
-use str_syntax::{Name, Parameters, Strategy, StrategyDefinition};
+use str_syntax::{Name, Strategy, StrategyDefinition};
 
 /// The definition of this body without parameters, and a call of it.
 #[inline(never)]
@@ -54,11 +52,11 @@ fn called_at_once(
 /// The core of a `rec`: a definition, and a call of it.
 #[cycle(walk)]
 #[inline(never)]
-pub(crate) fn recursive(
+pub(crate) fn recursive<'t>(
     context: &Context,
     name: &Name,
-    source: &Strategy,
-    scopes: &Scopes,
+    source: &'t Strategy,
+    scopes: &Scopes<'_, 't>,
     symbols: &mut Symbols,
 ) -> Result<Box<CoreStrategy>, AllocError>
     ensures { ReturnsCore result (strategy_at (layers_of scopes.now)
@@ -80,36 +78,12 @@ pub(crate) fn recursive(
     Ok(made)
 }
 
-/// The names of the strategy parameters.
-#[inline(never)]
-fn strategies_of(alloc: Global, parameters: &Parameters) -> Result<Names, AllocError>
-    ensures { Returns result (strategy_names (parameters_of parameters.now)) }
-{
-    match parameters {
-        Parameters::Absent => Ok(Names::new()),
-        Parameters::Strategies(names) => names_in(alloc, names),
-        Parameters::WithTerms(names, _) => names_in(alloc, names),
-    }
-}
-
-/// The names of the term parameters.
-#[inline(never)]
-fn terms_of(alloc: Global, parameters: &Parameters) -> Result<Names, AllocError>
-    ensures { Returns result (term_names (parameters_of parameters.now)) }
-{
-    match parameters {
-        Parameters::Absent => Ok(Names::new()),
-        Parameters::Strategies(_) => Ok(Names::new()),
-        Parameters::WithTerms(_, names) => names_in(alloc, names),
-    }
-}
-
 /// The alternatives of a `let`, in groups.
 #[inline(never)]
-pub(crate) fn groups_of<'a>(
+pub(crate) fn groups_of(
     alloc: Global,
-    sources: &'a [StrategyDefinition],
-) -> Result<Groups<'a>, AllocError>
+    sources: &[StrategyDefinition],
+) -> Result<Groups<'_>, AllocError>
     ensures { IfOk result (λ made. (declared : Bytes → ℕ → Bool) →
         made ≡ map head_in (alternatives declared (definitions_of sources.now))) }
 {
@@ -124,11 +98,11 @@ pub(crate) fn groups_of<'a>(
 /// The definitions of a `let`, where these are the groups of its alternatives.
 #[cycle(walk)]
 #[inline(never)]
-pub(crate) fn let_definitions<'a>(
+pub(crate) fn let_definitions<'t>(
     context: &Context,
-    sources: &'a [StrategyDefinition],
-    groups: &Groups<'a>,
-    scopes: &Scopes,
+    sources: &'t [StrategyDefinition],
+    groups: &Groups<'t>,
+    scopes: &Scopes<'_, 't>,
     symbols: &mut Symbols,
 ) -> Result<Vec<CoreDef>, AllocError>
     requires { groups.now ≡ map head_in
@@ -139,9 +113,8 @@ pub(crate) fn let_definitions<'a>(
         (definitions_of_all (alternatives (arity_known context.now.signature.now)
         (definitions_of sources.now)))) }
 {
-    let keys = groups.keys(context.alloc)?;
     let inner = Scopes::Defined {
-        keys: &keys,
+        keys: groups.keys(),
         outer: &*scopes,
     };
     let each = bodies(context, sources, groups, &inner, symbols)?;
@@ -152,11 +125,11 @@ pub(crate) fn let_definitions<'a>(
 /// The body of a `let`, where these are the groups of its alternatives.
 #[cycle(walk)]
 #[inline(never)]
-pub(crate) fn let_body<'a>(
+pub(crate) fn let_body<'t>(
     context: &Context,
-    source: &Strategy,
-    groups: &Groups<'a>,
-    scopes: &Scopes,
+    source: &'t Strategy,
+    groups: &Groups<'t>,
+    scopes: &Scopes<'_, 't>,
     symbols: &mut Symbols,
 ) -> Result<Box<CoreStrategy>, AllocError>
     ensures { IfOk result (λ made. (all : List Alternative) → map head_in all ≡ groups.now →
@@ -164,9 +137,8 @@ pub(crate) fn let_body<'a>(
         strategy_at (within all (layers_of scopes.now))
         (strategy_core (arity_known context.now.signature.now) (strategy_of source.now))) }
 {
-    let keys = groups.keys(context.alloc)?;
     let inner = Scopes::Defined {
-        keys: &keys,
+        keys: groups.keys(),
         outer: &*scopes,
     };
     let made = strategy(context, source, &inner, symbols)?;
@@ -183,18 +155,17 @@ pub(crate) fn let_in(
     ensures { ReturnsCore result (core.with_definitions (views.definitions_of definitions.items)
         (views.strategy_of body.value)) }
 {
-    let made = Box::new(alloc, CoreStrategy::LetIn(definitions, body))?;
-    Ok(made)
+    Ok(Box::new(alloc, CoreStrategy::LetIn(definitions, body))?)
 }
 
 /// The bodies of the alternatives of a `let`, each with the parameters of the first of its definition.
 #[cycle(walk)]
 #[inline(never)]
-fn bodies<'a>(
+fn bodies<'t>(
     context: &Context,
-    sources: &'a [StrategyDefinition],
-    groups: &Groups<'a>,
-    scopes: &Scopes,
+    sources: &'t [StrategyDefinition],
+    groups: &Groups<'t>,
+    scopes: &Scopes<'_, 't>,
     symbols: &mut Symbols,
 ) -> Result<Vec<CoreStrategy>, AllocError>
     requires { groups.now ≡ map head_in
@@ -214,11 +185,11 @@ fn bodies<'a>(
 /// The body of an alternative.
 #[cycle(walk)]
 #[inline(never)]
-fn alternative<'a>(
+fn alternative<'t>(
     context: &Context,
-    source: &'a StrategyDefinition,
-    groups: &Groups<'a>,
-    scopes: &Scopes,
+    source: &'t StrategyDefinition,
+    groups: &Groups<'t>,
+    scopes: &Scopes<'_, 't>,
     symbols: &mut Symbols,
 ) -> Result<Box<CoreStrategy>, AllocError>
     ensures { ReturnsCore result (body_among (layers_of scopes.now)
@@ -226,8 +197,8 @@ fn alternative<'a>(
         (definition_of source.now))) }
 {
     let first = groups.first_of(&source.head);
-    let strategies = strategies_of(context.alloc, &first.parameters)?;
-    let terms = terms_of(context.alloc, &first.parameters)?;
+    let strategies = names_in(context.alloc, first.parameters.strategy_names())?;
+    let terms = names_in(context.alloc, first.parameters.term_names())?;
     let inner = Scopes::Parameters {
         strategies: &strategies,
         terms: &terms,

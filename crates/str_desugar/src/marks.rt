@@ -7,12 +7,12 @@ use std::marker::Model;
 use str_syntax::Name;
 
 /// The mark of a name.
-fn mark_of(name: &Name) -> usize
+fn mark_of(name: &[u8]) -> usize
     ensures mark { result ≡ mark_of name.now }
     ensures small { result < 512 }
 {
     let mut hasher = FoldHasher::default();
-    hasher.write(name.bytes());
+    hasher.write(name);
     let hash = hasher.finish();
     (hash % 512) as usize
 }
@@ -41,7 +41,7 @@ impl<'a> Wanted<'a> {
     pub(crate) fn new(name: &'a Name) -> Wanted<'a>
         ensures { result ≡ name.now }
     {
-        let mark = mark_of(name);
+        let mark = mark_of(name.bytes());
         Wanted { name, mark }
     }
 
@@ -75,7 +75,7 @@ impl Marks {
     }
 
     /// Sets the mark of the name.
-    pub(crate) fn set(&mut self, name: &Name)
+    pub(crate) fn set(&mut self, name: &[u8])
         ensures added { has_mark self.new.words (mark_of name.now) ≡ true }
         ensures kept { AreKept self.old.words self.new.words }
     {

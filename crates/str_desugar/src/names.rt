@@ -1,5 +1,6 @@
 //! Names that a layer gives slots to.
 ghost use Rattle.std.specs.Prelude.{◌≡◌, [], ◌∷◌, ◌++◌, length, map, IfOk, OnOk, OnErr};
+ghost use Rattle.std.specs.List.{position};
 ghost use Rattle.std.specs.Str.{bytes_eq};
 ghost use Rattle.core_lang.specs.Named.{position_of, written};
 ghost use Rattle.str_desugar.specs.Gathered.{has_name, with_new};
@@ -69,7 +70,7 @@ impl Hashed {
 
     /// The slot of the first name that is the same.
     fn position(&self, name: &Name) -> Option<usize>
-        ensures { result ≡ position_of (written name.now) (map written self.now) }
+        ensures { result ≡ position (bytes_eq name.now) self.now }
     {
         if let Some(slot) = self.distinct.get_index_of(&*name) {
             return Some(slot);
@@ -110,7 +111,7 @@ impl Held {
     /// The slot of the first name that is the same.
     #[inline(never)]
     fn position(&self, name: &Name) -> Option<usize>
-        ensures { result ≡ position_of (written name.now) (map written (held_names self.now)) }
+        ensures { result ≡ position (bytes_eq name.now) (held_names self.now) }
     {
         match self {
             Held::Few(names) => position_among(names, name),
@@ -167,13 +168,14 @@ impl Table {
         ensures { OnOk result (self.new ≡ self.old ++ name.now ∷ []) }
     {
         let copy = name.copy(alloc)?;
-        self.marks.set(name);
+        self.marks.set(name.bytes());
         self.held.push(alloc, copy)?;
         Ok(())
     }
 
     /// The slot of the first name that is the same.
     #[inline(always)]
+    #[tactic(auto, using(crate::proofs::SlotLaws::positions))]
     fn position(&self, wanted: &Wanted) -> Option<usize>
         ensures { result ≡ position_of (written wanted.now) (map written self.now) }
     {
@@ -271,14 +273,9 @@ impl Names {
 
 /// The position of the first of these names that is the same.
 fn position_among(names: &[Name], name: &Name) -> Option<usize>
-    ensures { result ≡ position_of (written name.now) (map written names.now) }
+    ensures { result ≡ position (bytes_eq name.now) names.now }
 {
-    for (slot, other) in names.iter().enumerate() {
-        if same(name, other) {
-            return Some(slot);
-        }
-    }
-    None
+    names.iter().position(|other| same(name, other))
 }
 
 /// Whether two names are the same.
@@ -289,6 +286,7 @@ pub(crate) fn same(name: &Name, other: &Name) -> bool
 }
 
 /// The names of a list, in order. `AllocError` where the memory for them is refused.
+#[inline(never)]
 pub(crate) fn names_in(alloc: Global, source: &[Name]) -> Result<Names, AllocError>
     ensures { Returns result source.now }
 {

@@ -10,7 +10,7 @@ ghost use Rattle.signature_core.specs.Signature.{arity_known};
 ghost use Rattle.str_desugar.specs.Results.{ReturnsCore};
 
 use crate::build::results_in;
-use crate::built::{applications_among, built_parts};
+use crate::build_patterns::{applications_among, built_parts};
 use crate::items::call_after;
 use crate::parts::successor;
 use crate::scopes::Scopes;
@@ -35,18 +35,17 @@ fn call_with_results(
     let mut next = 0;
     let terms = built_parts(context.alloc, terms, scopes, symbols, &mut next)?;
     let name = Vec::from_slice(context.alloc, name.bytes())?;
-    let made = Box::new(context.alloc, CoreStrategy::Primitive(name, terms))?;
-    Ok(made)
+    Ok(Box::new(context.alloc, CoreStrategy::Primitive(name, terms))?)
 }
 
 /// The core of a call of a primitive.
 #[cycle(walk)]
 #[inline(never)]
-pub(crate) fn primitive(
+pub(crate) fn primitive<'t>(
     context: &Context,
     name: &Text,
-    terms: &[Pattern],
-    scopes: &Scopes,
+    terms: &'t [Pattern],
+    scopes: &Scopes<'_, 't>,
     symbols: &mut Symbols,
 ) -> Result<Box<CoreStrategy>, AllocError>
     ensures { ReturnsCore result (strategy_at (layers_of scopes.now)

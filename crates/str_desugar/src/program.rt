@@ -10,20 +10,16 @@ ghost use Rattle.str_desugar.specs.Alternatives.{definitions_of_all};
 ghost use Rattle.str_desugar.specs.Equations.{forms_among, scoped, strategy_core, top_core};
 ghost use Rattle.str_desugar.specs.FileProgram.{program_of_file};
 ghost use Rattle.str_desugar.specs.Forms.{read_forms, tops_at};
-ghost use Rattle.str_desugar.specs.Frames.{definitions_at, key_position, keys_of, of_definitions, of_names, outermost, strategy_at};
-ghost use Rattle.str_desugar.specs.Groups.{bodies_at, body_among, head_in};
+ghost use Rattle.str_desugar.specs.Frames.{definitions_at, of_names, outermost, strategy_at};
+ghost use Rattle.str_desugar.specs.Groups.{bodies_at, body_among, head_in, within};
 ghost use Rattle.str_desugar.specs.Layers.{layers_of};
-ghost use Rattle.term_model.specs.Results.{Returns};
 ghost use Rattle.str_desugar.specs.Results.{ReturnsCore};
 
 use crate::alternatives::Groups;
 use crate::assembly::scope_of;
 use crate::forms::{forms_in, groups_of, head_of};
 use crate::items::put;
-use crate::keys::Keys;
-use crate::marks::Wanted;
 use crate::names::{Names, names_in};
-use crate::parameters::{strategy_names, term_names};
 use crate::rules::scoped_rule;
 use crate::scopes::Scopes;
 use crate::strategy::{Context, strategy};
@@ -32,7 +28,7 @@ use crate::variables::{free_of_rule, free_of_strategy};
 use core_lang::{Core, CoreDef, CoreStrategy};
 use scope_check::Checked;
 use std::alloc::{AllocError, Global};
-use str_syntax::{DefinitionForm, Name, Strategy};
+use str_syntax::{DefinitionForm, DefinitionKey, Name, Strategy};
 
 /// Reduces a checked file to its core program, in which each identifier is resolved. `AllocError` where the memory for it is refused.
 pub fn to_core(alloc: Global, checked: &Checked) -> Result<Core, AllocError>
@@ -56,11 +52,11 @@ fn core_of(alloc: Global, checked: &Checked, forms: &[&DefinitionForm]) -> Resul
 }
 
 /// The core program, whose rules and definitions have these heads.
-fn core_among<'a>(
+fn core_among<'t>(
     alloc: Global,
     checked: &Checked,
-    forms: &[&'a DefinitionForm],
-    groups: &Groups<'a>,
+    forms: &[&'t DefinitionForm],
+    groups: &Groups<'t>,
 ) -> Result<Core, AllocError>
     requires forms { read_forms forms.now ≡ forms_among (file_of checked.now.file).sections }
     requires heads { groups.now ≡
@@ -73,42 +69,31 @@ fn core_among<'a>(
         signature: checked.signature(),
         place: 0,
     };
-    let keys = groups.keys(alloc)?;
-    let found = plain_position(alloc, &keys, checked.main())?;
+    let key = DefinitionKey::plain(checked.main());
+    let found = groups.keys().position_of(&key);
     let main = found.unwrap();
-    let defs = definitions(&context, forms, groups, &keys)?;
+    let defs = definitions(&context, forms, groups)?;
     let core = Core::new(context.alloc, defs, main)?;
     Ok(core)
 }
 
-/// The position of the definition of this name that has no parameters.
-fn plain_position(alloc: Global, keys: &Keys, name: &[u8]) -> Result<Option<usize>, AllocError>
-    ensures { Returns result (key_position keys.now (written name.now) 0 0) }
-{
-    let name = Name::new(alloc, name, 0)?;
-    Ok(keys.position(&Wanted::new(&name), 0, 0))
-}
-
 /// The definitions of these groups, in the layer that has their keys.
-fn definitions<'a>(
+fn definitions<'t>(
     context: &Context,
-    forms: &[&'a DefinitionForm],
-    groups: &Groups<'a>,
-    keys: &Keys,
+    forms: &[&'t DefinitionForm],
+    groups: &Groups<'t>,
 ) -> Result<Vec<CoreDef>, AllocError>
-    requires heads { groups.now ≡
+    requires { groups.now ≡
         map head_in (tops_at (arity_known context.now.signature.now) (read_forms forms.now)) }
-    requires keys { keys.now ≡ keys_of
-        (definitions_of_all (tops_at (arity_known context.now.signature.now)
-        (read_forms forms.now))) }
     ensures { IfOk result (λ made. views.definitions_of made.items ≡
-        definitions_at (of_definitions keys.now outermost)
+        definitions_at (within (tops_at (arity_known context.now.signature.now)
+        (read_forms forms.now)) outermost)
         (definitions_of_all (tops_at (arity_known context.now.signature.now)
         (read_forms forms.now)))) }
 {
     let outer = Scopes::Outermost;
     let scopes = Scopes::Defined {
-        keys: &*keys,
+        keys: groups.keys(),
         outer: &outer,
     };
     let mut symbols = Symbols::new(context.alloc);
@@ -118,11 +103,11 @@ fn definitions<'a>(
 }
 
 /// The bodies of the rules and definitions, each with the parameters of the first of its group.
-fn bodies<'a>(
+fn bodies<'t>(
     context: &Context,
-    forms: &[&'a DefinitionForm],
-    groups: &Groups<'a>,
-    scopes: &Scopes,
+    forms: &[&'t DefinitionForm],
+    groups: &Groups<'t>,
+    scopes: &Scopes<'_, 't>,
     symbols: &mut Symbols,
 ) -> Result<Vec<CoreStrategy>, AllocError>
     requires { groups.now ≡ map head_in
@@ -140,19 +125,19 @@ fn bodies<'a>(
 }
 
 /// The body of a rule or a definition, with the parameters of the first of its group.
-fn alternative<'a>(
+fn alternative<'t>(
     context: &Context,
-    form: &'a DefinitionForm,
-    groups: &Groups<'a>,
-    scopes: &Scopes,
+    form: &'t DefinitionForm,
+    groups: &Groups<'t>,
+    scopes: &Scopes<'_, 't>,
     symbols: &mut Symbols,
 ) -> Result<Box<CoreStrategy>, AllocError>
     ensures { ReturnsCore result (body_among (layers_of scopes.now)
         groups.now (top_core (arity_known context.now.signature.now) (form_of form.now))) }
 {
     let first = groups.first_of(head_of(form));
-    let strategies = names_in(context.alloc, strategy_names(&first.parameters))?;
-    let terms = term_names(&first.parameters);
+    let strategies = names_in(context.alloc, first.parameters.strategy_names())?;
+    let terms = first.parameters.term_names();
     let inner = Context {
         place: head_of(form).name.offset(),
         ..*context
@@ -162,12 +147,12 @@ fn alternative<'a>(
 }
 
 /// The body under these parameters.
-fn under_parameters(
+fn under_parameters<'t>(
     context: &Context,
-    form: &DefinitionForm,
+    form: &'t DefinitionForm,
     strategies: &Names,
     terms: &[Name],
-    scopes: &Scopes,
+    scopes: &Scopes<'_, 't>,
     symbols: &mut Symbols,
 ) -> Result<Box<CoreStrategy>, AllocError>
     ensures { ReturnsCore result (strategy_at (of_names (map written strategies.now)
@@ -186,10 +171,10 @@ fn under_parameters(
 }
 
 /// The body in a scope of its variables but its term parameters.
-fn body(
+fn body<'t>(
     context: &Context,
-    form: &DefinitionForm,
-    scopes: &Scopes,
+    form: &'t DefinitionForm,
+    scopes: &Scopes<'_, 't>,
     symbols: &mut Symbols,
 ) -> Result<Box<CoreStrategy>, AllocError>
     ensures { ReturnsCore result (strategy_at (layers_of scopes.now)
@@ -197,12 +182,12 @@ fn body(
 {
     match form {
         DefinitionForm::Rule(source) => {
-            let terms = term_names(&source.head.parameters);
+            let terms = source.head.parameters.term_names();
             let names = free_of_rule(context.alloc, &source.rule, terms)?;
             scoped_rule(context, &names, &source.rule, scopes, symbols)
         }
         DefinitionForm::Strategy(source) => {
-            let terms = term_names(&source.head.parameters);
+            let terms = source.head.parameters.term_names();
             let names = free_of_strategy(context.alloc, &source.body, terms)?;
             scoped_strategy(context, &names, &source.body, scopes, symbols)
         }
@@ -210,11 +195,11 @@ fn body(
 }
 
 /// The core of a strategy in a scope of these variables, if there are any.
-fn scoped_strategy(
+fn scoped_strategy<'t>(
     context: &Context,
     names: &Names,
-    source: &Strategy,
-    scopes: &Scopes,
+    source: &'t Strategy,
+    scopes: &Scopes<'_, 't>,
     symbols: &mut Symbols,
 ) -> Result<Box<CoreStrategy>, AllocError>
     ensures { ReturnsCore result (strategy_at (layers_of scopes.now)

@@ -22,10 +22,10 @@ use str_syntax::Rule;
 /// The core of a rule, whose variables stand in the layers around it.
 #[cycle(walk)]
 #[inline(never)]
-fn rule(
+fn rule<'t>(
     context: &Context,
-    source: &Rule,
-    scopes: &Scopes,
+    source: &'t Rule,
+    scopes: &Scopes<'_, 't>,
     symbols: &mut Symbols,
 ) -> Result<Box<CoreStrategy>, AllocError>
     ensures { ReturnsCore result (strategy_at (layers_of scopes.now)
@@ -51,11 +51,11 @@ fn rule(
 /// The core of a rule in a scope of these variables, if there are any.
 #[cycle(walk)]
 #[inline(never)]
-pub(crate) fn scoped_rule(
+pub(crate) fn scoped_rule<'t>(
     context: &Context,
     names: &Names,
-    source: &Rule,
-    scopes: &Scopes,
+    source: &'t Rule,
+    scopes: &Scopes<'_, 't>,
     symbols: &mut Symbols,
 ) -> Result<Box<CoreStrategy>, AllocError>
     ensures { ReturnsCore result (strategy_at (layers_of scopes.now)
@@ -79,10 +79,10 @@ pub(crate) fn scoped_rule(
 /// The core of a rule in backslashes, which binds the variables of its left side.
 #[cycle(walk)]
 #[inline(never)]
-pub(crate) fn lambda(
+pub(crate) fn lambda<'t>(
     context: &Context,
-    source: &Rule,
-    scopes: &Scopes,
+    source: &'t Rule,
+    scopes: &Scopes<'_, 't>,
     symbols: &mut Symbols,
 ) -> Result<Box<CoreStrategy>, AllocError>
     ensures { ReturnsCore result (strategy_at (layers_of scopes.now)

@@ -15,36 +15,36 @@ use core_lang::Coordinate;
 use std::alloc::AllocError;
 use str_syntax::Name;
 
-/// The layers around a part of a file, innermost first.
+/// The layers around a part of a file, innermost first. Keys stand in the tree of the file, and layers on the stack.
 #[derive(Clone, Copy)]
-pub(crate) enum Scopes<'a> {
+pub(crate) enum Scopes<'a, 't> {
     /// No layer.
     Outermost,
     /// So many names that the equations bring.
     Brought {
         count: usize,
-        outer: &'a Scopes<'a>,
+        outer: &'a Scopes<'a, 't>,
     },
     /// The variables of a scope.
     Variables {
         names: &'a Names,
-        outer: &'a Scopes<'a>,
+        outer: &'a Scopes<'a, 't>,
     },
     /// The strategy and term parameters of a definition.
     Parameters {
         strategies: &'a Names,
         terms: &'a Names,
-        outer: &'a Scopes<'a>,
+        outer: &'a Scopes<'a, 't>,
     },
     /// The one definition of a `rec`.
     Recursive {
         name: &'a Name,
-        outer: &'a Scopes<'a>,
+        outer: &'a Scopes<'a, 't>,
     },
     /// The definitions of the file or of a `let`.
     Defined {
-        keys: &'a Keys,
-        outer: &'a Scopes<'a>,
+        keys: &'a Keys<'t>,
+        outer: &'a Scopes<'a, 't>,
     },
 }
 
@@ -83,9 +83,9 @@ fn only_definition(
     None
 }
 
-impl<'a> Scopes<'a> {
+impl<'a, 't> Scopes<'a, 't> {
     /// The layers around the innermost one. `None` where there is no layer.
-    fn outer(&self) -> Option<&'a Scopes<'a>>
+    fn outer(&self) -> Option<&'a Scopes<'a, 't>>
         ensures layers { option_map (λ s. layers_of s.now) result ≡ around (layers_of self.now) }
         ensures fewer { IfSome result (λ outer. size-Scopes outer.now < size-Scopes self.now) }
     {

@@ -22,7 +22,7 @@ use crate::congruence::{
     elements_congruence, items_before_rest, number_of, rest_congruence, symbol_congruence,
 };
 use crate::locals::{groups_of, let_body, let_definitions, let_in, recursive};
-use crate::matched::core_of_match;
+use crate::match_patterns::core_of_match;
 use crate::names::names_in;
 use crate::offsets::offset_of;
 use crate::primitive::primitive;
@@ -55,10 +55,10 @@ impl<'a> Context<'a> {
 
 /// The core of a strategy.
 #[cycle(walk)]
-pub(crate) fn strategy(
+pub(crate) fn strategy<'t>(
     context: &Context,
-    source: &Strategy,
-    scopes: &Scopes,
+    source: &'t Strategy,
+    scopes: &Scopes<'_, 't>,
     symbols: &mut Symbols,
 ) -> Result<Box<CoreStrategy>, AllocError>
     ensures { ReturnsCore result (strategy_at (layers_of scopes.now)
@@ -82,10 +82,10 @@ pub(crate) fn strategy(
 
 #[cycle(walk)]
 #[inline(never)]
-fn sequence(
+fn sequence<'t>(
     context: &Context,
-    source: &Sequence,
-    scopes: &Scopes,
+    source: &'t Sequence,
+    scopes: &Scopes<'_, 't>,
     symbols: &mut Symbols,
 ) -> Result<Box<CoreStrategy>, AllocError>
     ensures { ReturnsCore result (strategy_at (layers_of scopes.now)
@@ -103,10 +103,10 @@ fn sequence(
 
 #[cycle(walk)]
 #[inline(never)]
-fn step(
+fn step<'t>(
     context: &Context,
-    source: &Step,
-    scopes: &Scopes,
+    source: &'t Step,
+    scopes: &Scopes<'_, 't>,
     symbols: &mut Symbols,
 ) -> Result<Box<CoreStrategy>, AllocError>
     ensures { ReturnsCore result (strategy_at (layers_of scopes.now)
@@ -135,16 +135,15 @@ pub(crate) fn match_of(
 {
     let pattern = core_of_match(context.alloc, source, scopes, symbols)?;
     let pattern = SourcePattern::new(pattern, offset_of(context, source));
-    let made = Box::new(context.alloc, CoreStrategy::Match(pattern))?;
-    Ok(made)
+    Ok(Box::new(context.alloc, CoreStrategy::Match(pattern))?)
 }
 
 #[cycle(walk)]
 #[inline(never)]
-fn primary(
+fn primary<'t>(
     context: &Context,
-    source: &Primary,
-    scopes: &Scopes,
+    source: &'t Primary,
+    scopes: &Scopes<'_, 't>,
     symbols: &mut Symbols,
 ) -> Result<Box<CoreStrategy>, AllocError>
     ensures { ReturnsCore result (strategy_at (layers_of scopes.now)
@@ -196,11 +195,11 @@ fn primary(
 
 #[cycle(walk)]
 #[inline(never)]
-fn scope(
+fn scope<'t>(
     context: &Context,
     names: &[Name],
-    source: &Strategy,
-    scopes: &Scopes,
+    source: &'t Strategy,
+    scopes: &Scopes<'_, 't>,
     symbols: &mut Symbols,
 ) -> Result<Box<CoreStrategy>, AllocError>
     ensures { ReturnsCore result (strategy_at (layers_of scopes.now)
@@ -220,11 +219,11 @@ fn scope(
 
 #[cycle(walk)]
 #[inline(never)]
-fn operator(
+fn operator<'t>(
     context: &Context,
     kind: Operator,
-    source: &Strategy,
-    scopes: &Scopes,
+    source: &'t Strategy,
+    scopes: &Scopes<'_, 't>,
     symbols: &mut Symbols,
 ) -> Result<Box<CoreStrategy>, AllocError>
     ensures { ReturnsCore result (strategy_at (layers_of scopes.now)
@@ -248,10 +247,10 @@ fn operator(
 /// The strategy on the current term, which it leaves as it is.
 #[cycle(walk)]
 #[inline(never)]
-pub(crate) fn where_at(
+pub(crate) fn where_at<'t>(
     context: &Context,
-    source: &Strategy,
-    scopes: &Scopes,
+    source: &'t Strategy,
+    scopes: &Scopes<'_, 't>,
     symbols: &mut Symbols,
 ) -> Result<Box<CoreStrategy>, AllocError>
     ensures { ReturnsCore result (strategy_at (layers_of scopes.now)
@@ -267,10 +266,10 @@ pub(crate) fn where_at(
 }
 
 #[cycle(walk)]
-fn otherwise_of(
+fn otherwise_of<'t>(
     context: &Context,
-    source: &Option<Box<Strategy>>,
-    scopes: &Scopes,
+    source: &'t Option<Box<Strategy>>,
+    scopes: &Scopes<'_, 't>,
     symbols: &mut Symbols,
 ) -> Result<Box<CoreStrategy>, AllocError>
     ensures { ReturnsCore result (strategy_at (layers_of scopes.now)

@@ -209,12 +209,11 @@ locals::let_definitions-join-requires t c = bodies_counted _ _ _ _ c.requires c.
 pub locals::let_definitions-returns : goal.locals::let_definitions-returns
 locals::let_definitions-returns t c =
     let all = alternatives (arity_known c.args.context.now.signature.now) (definitions_of c.args.sources.now) in
-    definitions_made _ _ all (c.deref.ensures ∙
-    c.in_ok-keys.ensures all (sym c.requires)) _ (c.in_ok-made.ensures _ all (sym c.requires) c.in_ok-each.ensures)
+    definitions_made _ _ all (c.keys.ensures all (sym c.requires)) _
+    (c.in_ok-made.ensures _ all (sym c.requires) c.in_ok-each.ensures)
 
 pub locals::let_body-returns : goal.locals::let_body-returns
-locals::let_body-returns t c = λ all heads. body_made _ _ all (c.deref.ensures ∙
-    c.in_ok-keys.ensures all heads) _ _ c.in_ok-made.ensures
+locals::let_body-returns t c = λ all heads. body_made _ _ all (c.keys.ensures all heads) _ _ c.in_ok-made.ensures
 
 pub locals::bodies-returns : goal.locals::bodies-returns
 locals::bodies-returns t c =

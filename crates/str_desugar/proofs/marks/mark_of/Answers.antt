@@ -8,5 +8,4 @@ unfolding mark_of
 returns-clause-mark c =
     ap (λ n. n % 512) (c.finish-hash.ensures ∙
     ap folding.finish (c.write.ensures ∙
-    ap (λ hasher. folding.write hasher c.bytes.result.now) c.default-hasher.ensures ∙
-    ap (folding.write folding.initial) c.bytes.ensures))
+    ap (λ hasher. folding.write hasher c.args.name.now) c.default-hasher.ensures))

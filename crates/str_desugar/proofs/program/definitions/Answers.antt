@@ -7,4 +7,5 @@ use Rattle.str_desugar.proofs.program.definitions.Goals as goal
 pub returns : goal.returns
 returns c =
     let all = tops_at (arity_known c.args.context.now.signature.now) (read_forms c.args.forms.now) in
-    definitions_made _ _ all _ refl (c.in_ok-made.ensures _ all (sym c.requires.heads) c.in_ok-each.ensures)
+    definitions_made _ _ all _ (c.keys.ensures all (sym c.requires)) refl
+    (c.in_ok-made.ensures _ all (sym c.requires) c.in_ok-each.ensures)

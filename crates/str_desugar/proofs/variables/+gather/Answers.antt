@@ -2,7 +2,8 @@ use Rattle.std.proofs.Common.{◌≡◌, ◌++◌, [], refl, ap, ◌∙◌}
 use Rattle.str_syntax.proofs.ReadLaws as reads
 use Rattle.str_syntax.specs.Views.{arguments_of, definition_of, definitions_of, optional_pattern_of, optional_strategy_of, parameters_of, pattern_of, patterns_of, primary_of, rule_of, sequence_of, step_of, strategies_of, strategy_of}
 use Rattle.str_desugar.specs.Gathered.{bound_names}
-use Rattle.str_desugar.specs.Variables.{free_among, free_in, free_in_arguments, free_in_definition, free_in_definitions, free_in_optional, free_in_primary, free_in_rule, free_in_sequence, free_in_step, left_names, names_among, names_of, names_of_rest, term_names, without}
+use Rattle.str_desugar.specs.Variables.{free_among, free_in, free_in_arguments, free_in_definition, free_in_definitions, free_in_optional, free_in_primary, free_in_rule, free_in_sequence, free_in_step, left_names, names_among, names_of, names_of_rest, without}
+use Rattle.str_syntax.specs.Arity.{term_names}
 use Rattle.str_desugar.proofs.GatheredSteps.{next_pattern, next_strategy, next_definition, then_ok, scope_ok, lambda_ok, plain_ok, left_all, reads_rule, reads_definition}
 use Rattle.str_desugar.proofs.variables.+gather.Goals as goal
 

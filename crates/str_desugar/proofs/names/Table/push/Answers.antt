@@ -15,7 +15,8 @@ pub invariant_of-self-2 : goal.invariant_of-self-2
 invariant_of-self-2 c =
     let words = c.set.new.self.words in
     let P : List _ → Type 0 = λ l. AreMarked words l in
-    let marked = ap (λ n. has_mark words (mark_of n)) c.in_ok-copy.ensures ∙ c.set.ensures.added in
+    let named = c.in_ok-copy.ensures ∙ sym c.bytes.ensures in
+    let marked = ap (λ n. has_mark words (mark_of n)) named ∙ c.set.ensures.added in
     let before = marked_on c.self.inside.marks.words words c.set.ensures.kept (held_names c.self.inside.held)
     c.self.invariant in
     subst P (sym c.in_ok-push.ensures.pushed)

@@ -66,7 +66,7 @@ fn applications_of_rest(source: &Option<Box<Pattern>>) -> Result<usize, AllocErr
 }
 
 /// The core of what is built, where this number of results comes before its own.
-#[cycle(built)]
+#[cycle(build_patterns)]
 pub(crate) fn core_of_build(
     alloc: Global,
     source: &Pattern,
@@ -126,7 +126,7 @@ fn result(scopes: &Scopes, next: &mut usize) -> Result<CorePattern, AllocError>
 }
 
 /// The core of each of what is built.
-#[cycle(built)]
+#[cycle(build_patterns)]
 pub(crate) fn built_parts(
     alloc: Global,
     sources: &[Pattern],
@@ -148,7 +148,7 @@ pub(crate) fn built_parts(
     Ok(made)
 }
 
-#[cycle(built)]
+#[cycle(build_patterns)]
 fn built_rest(
     alloc: Global,
     source: &Option<Box<Pattern>>,

@@ -3,7 +3,7 @@ use Rattle.core_lang.specs.Views as views
 use Rattle.str_syntax.specs.Views.{patterns_of}
 use Rattle.str_desugar.specs.Layers.{layers_of}
 use Rattle.str_desugar.proofs.PatternLaws.{Builds}
-use Rattle.str_desugar.proofs.built.+built.Given as goal
+use Rattle.str_desugar.proofs.build_patterns.+build_patterns.Given as goal
 
 abbrev pub invariant-built_parts-loop-source : goal.invariant-built_parts-loop-source
 invariant-built_parts-loop-source l =

@@ -1,7 +1,7 @@
 use Rattle.std.proofs.Common.{◌≡◌, ◌+◌, drop}
 use Rattle.str_syntax.specs.Views.{patterns_of}
 use Rattle.str_desugar.specs.Equations.{applications_among}
-use Rattle.str_desugar.proofs.built.+applications.Given as goal
+use Rattle.str_desugar.proofs.build_patterns.+applications.Given as goal
 
 abbrev pub invariant-applications_among-loop-source : goal.invariant-applications_among-loop-source
 invariant-applications_among-loop-source l =

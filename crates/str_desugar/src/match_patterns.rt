@@ -14,7 +14,7 @@ use str_syntax::Pattern;
 use term_model::Sym;
 
 /// The core of a pattern that is matched.
-#[cycle(matched)]
+#[cycle(match_patterns)]
 pub(crate) fn core_of_match(
     alloc: Global,
     source: &Pattern,
@@ -61,7 +61,7 @@ pub(crate) fn core_of_match(
     }
 }
 
-#[cycle(matched)]
+#[cycle(match_patterns)]
 fn matched_parts(
     alloc: Global,
     sources: &[Pattern],
@@ -79,7 +79,7 @@ fn matched_parts(
     Ok(made)
 }
 
-#[cycle(matched)]
+#[cycle(match_patterns)]
 fn matched_rest(
     alloc: Global,
     source: &Option<Box<Pattern>>,

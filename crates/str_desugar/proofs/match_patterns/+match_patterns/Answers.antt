@@ -10,7 +10,7 @@ use Rattle.str_desugar.specs.Equations.{matched, matched_parts, matched_rest}
 use Rattle.str_desugar.specs.Frames.{pattern_at}
 use Rattle.str_desugar.specs.Layers.{layers_of}
 use Rattle.str_desugar.proofs.PatternLaws.{Matches, one_more_match, no_more_match, next_pattern, elements_made, rest_matched}
-use Rattle.str_desugar.proofs.matched.+matched.Goals as goal
+use Rattle.str_desugar.proofs.match_patterns.+match_patterns.Goals as goal
 
 pub core_of_match-returns-in_ok-rest-in-List : goal.core_of_match-returns-in_ok-rest-in-List
 core_of_match-returns-in_ok-rest-in-List t c =

@@ -10,7 +10,7 @@ use Rattle.str_desugar.specs.Equations.{built, built_parts, built_rest, applicat
 use Rattle.str_desugar.specs.Frames.{pattern_at}
 use Rattle.str_desugar.specs.Layers.{layers_of, built_rest_at}
 use Rattle.str_desugar.proofs.PatternLaws.{Builds, one_more_build, no_more_build, next_pattern, elements_made, rest_built}
-use Rattle.str_desugar.proofs.built.+built.Goals as goal
+use Rattle.str_desugar.proofs.build_patterns.+build_patterns.Goals as goal
 
 pub core_of_build-returns-in_ok-rest-in-List-clause-made : goal.core_of_build-returns-in_ok-rest-in-List-clause-made
 core_of_build-returns-in_ok-rest-in-List-clause-made t c =
