@@ -31,18 +31,14 @@ pub(crate) fn instance(
 {
     match p {
         CorePattern::Anything | CorePattern::Alias(_, _) => Ok(None),
-        CorePattern::Variable(x) => {
-            let made = variable(alloc, *x, other, frame, places)?;
-            Ok(made)
-        }
+        CorePattern::Variable(x) => { variable(alloc, *x, other, frame, places) }
         CorePattern::Integer(number) => {
             let made = integer(alloc, *number, other)?;
             Ok(Some(made))
         }
         CorePattern::Applied(symbol, parts) => {
             let terms = instances(alloc, parts.as_slice(), frame, places)?;
-            let made = application(alloc, symbol, terms, other)?;
-            Ok(made)
+            application(alloc, symbol, terms, other)
         }
         CorePattern::List(first, rest) => {
             let terms = instances(alloc, first.as_slice(), frame, places)?;
@@ -59,8 +55,7 @@ pub(crate) fn instance(
         },
         CorePattern::Annotated(part, annotations) => {
             let annos = instances(alloc, annotations.as_slice(), frame, places)?;
-            let made = annotated_instance(alloc, part, annos, other, frame, places)?;
-            Ok(made)
+            annotated_instance(alloc, part, annos, other, frame, places)
         }
     }
 }
@@ -85,14 +80,8 @@ fn annotated_instance(
         return Ok(None);
     };
     match other {
-        None => {
-            let made = with_annotations(alloc, p, annos, frame, places)?;
-            Ok(made)
-        }
-        Some(_) => {
-            let made = instance(alloc, p, other, frame, places)?;
-            Ok(made)
-        }
+        None => { with_annotations(alloc, p, annos, frame, places) }
+        Some(_) => { instance(alloc, p, other, frame, places) }
     }
 }
 
@@ -124,10 +113,7 @@ fn holder(alloc: Global, annos: Made<Vec<Term>>) -> Result<Made<Term>, AllocErro
         made ≡ made_of (node Head.List end us)) }
 {
     match annos {
-        Made::Fits(annos) => {
-            let made = Term::new(alloc, Head::List, Vec::new(alloc), annos)?;
-            Ok(made)
-        }
+        Made::Fits(annos) => { Term::new(alloc, Head::List, Vec::new(alloc), annos) }
         Made::Oversize => Ok(Made::Oversize),
     }
 }
@@ -225,18 +211,14 @@ fn elements(
             Ok(all)
         }
         CorePattern::Like(part, x) => match value(frame, *x, places) {
-            Some(_) => {
-                let made = elements(alloc, part, frame, places)?;
-                Ok(made)
-            }
+            Some(_) => { elements(alloc, part, frame, places) }
             None => Ok(None),
         },
         CorePattern::Annotated(part, annotations) => {
             let Some(_) = instances(alloc, annotations.as_slice(), frame, places)? else {
                 return Ok(None);
             };
-            let made = elements(alloc, part, frame, places)?;
-            Ok(made)
+            elements(alloc, part, frame, places)
         }
         CorePattern::Anything => Ok(None),
         CorePattern::Alias(_, _) => Ok(None),

@@ -142,8 +142,7 @@ fn rest_matches(
         }
         Some(p) => {
             let others = list_after(alloc, t, from)?;
-            let yes = matches(alloc, p, frame, &others, places)?;
-            Ok(yes)
+            matches(alloc, p, frame, &others, places)
         }
     }
 }
@@ -184,10 +183,7 @@ fn bind_variable(
         yes places.new.items) }
 {
     match position(frame, x, places.len()) {
-        Some(at) => {
-            let yes = bind(places, at, t)?;
-            Ok(yes)
-        }
+        Some(at) => { bind(places, at, t) }
         None => Ok(false),
     }
 }
