@@ -6,26 +6,43 @@ use crate::phrases::{is_name, next_is};
 use crate::pieces::piece;
 use crate::syntax_hints::Site;
 use str_lexer::{Keyword, Mark, Token, TokenKind};
-use str_parser::Expected;
+use str_parser::Candidate;
 
 /// What to write in place of the comparison at the site, if one stands there.
 pub(crate) fn comparison(site: &Site<'_>) -> Option<Advice> {
     let last = site.index.checked_sub(1)?;
     let context = context_at(site.tokens, site.index)?;
+    let sign = site.mark_at(site.index);
+    if site.expects(Candidate::Colon) {
+        return None;
+    }
+    if site.expects(Candidate::Plus) {
+        return variable_comparison(site, last);
+    }
+    if site.expects(Candidate::Strategy) {
+        return match sign {
+            Some(Mark::Equals) => condition_at(site, last),
+            _ => integer_comparison(site, last),
+        };
+    }
     let is_part_of_build = context.is_part && context.role == Role::Build;
-    match (site.expected, site.mark_at(site.index)) {
-        (Some(Expected::Colon | Expected::CommaOrColon | Expected::ColonOrEquals), _) => None,
-        (Some(Expected::Plus), _) => variable_comparison(site, last),
-        (Some(Expected::Strategy), Some(Mark::Equals)) => condition_at(site, last),
-        (Some(Expected::Strategy), _) => integer_comparison(site, last),
-        (_, Some(Mark::Equals | Mark::Exclamation)) => comparison_at(site, site.index),
-        (Some(Expected::WhereOrDefinition), Some(Mark::Less | Mark::Greater)) => built_at(site),
-        (Some(Expected::OperatorOrDefinition | Expected::Then), Some(Mark::Greater)) => {
-            greater_comparison(site, last)
-        }
-        (_, Some(Mark::Less)) if is_part_of_build => built_at(site),
+    match sign? {
+        Mark::Equals | Mark::Exclamation => comparison_at(site, site.index),
+        Mark::Less | Mark::Greater if ends_rule(site) => built_at(site),
+        Mark::Greater if ends_operand(site) => greater_comparison(site, last),
+        Mark::Less if is_part_of_build => built_at(site),
         _ => None,
     }
+}
+
+/// Whether a rule without a condition could end at the site.
+fn ends_rule(site: &Site<'_>) -> bool {
+    site.expects(Candidate::WhereKeyword) && site.expects(Candidate::Definition)
+}
+
+/// Whether a definition of a strategy or the condition of an `if` could end at the site.
+fn ends_operand(site: &Site<'_>) -> bool {
+    site.expects(Candidate::Operator) || site.expects(Candidate::ThenKeyword)
 }
 
 /// The comparison whose sign begins at the site, in a build, if there are blanks around the sign.

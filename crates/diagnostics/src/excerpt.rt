@@ -30,7 +30,7 @@ fn first_line(text: &[u8]) -> &[u8] {
     }
 }
 
-/// Returns the number of line line_feeds.
+/// Returns how many line feeds the text has.
 pub fn line_feeds(text: &[u8]) -> usize {
     let mut count: usize = 0;
     for byte in text {

@@ -8,16 +8,17 @@ use crate::pieces::piece;
 use crate::reason::{
     Reason, Wanted, left_out_reason, no_token_reason, syntax_reason, term_syntax_reason,
 };
+use crate::refusal::Refusal;
 use crate::shown::Shown;
 use crate::syntax_hints::syntax_hint;
 use crate::text_hints::{left_out_hint, lexical_hint, term_hint};
 use crate::undeclared::undeclared_application;
 use core_lang::Outcome;
-use scope_check::{Detail, Note, Notes};
+use scope_check::{Detail, Note};
 use signature_core::Signature;
 use std::alloc::Global;
 use str_lexer::lex;
-use str_parser::Expected;
+use str_parser::ParseRefusal;
 use term_model::bytes::{is_blank_byte, is_digit_byte};
 use term_model::{Fault, PrimNames};
 use term_store::OversizeTerm;
@@ -56,24 +57,6 @@ pub struct RunNotes {
     /// How many bytes of the definitions, from the first on, are a library.
     library: usize,
     explanation: Option<Explanation>,
-}
-
-/// What was found in definitions while a program was made of them.
-#[derive(Drop)]
-pub struct Found {
-    /// What could stand at the place of a fault of syntax.
-    pub expected: Option<Expected>,
-    pub checks: Notes,
-}
-
-impl Found {
-    /// Nothing was found.
-    pub fn none() -> Found {
-        Found {
-            expected: None,
-            checks: Notes::none(),
-        }
-    }
 }
 
 impl RunNotes {
@@ -213,10 +196,32 @@ impl RunNotes {
         &mut self,
         alloc: Global,
         text: &[u8],
-        fault: &Fault,
-        found: &Found,
+        refusal: &Refusal,
         primitives: &PrimNames,
     ) {
+        match refusal {
+            Refusal::Fault(fault) => self.note_tokens(alloc, text, fault, primitives),
+            Refusal::Parse(ParseRefusal::Memory) => {}
+            Refusal::Parse(ParseRefusal::Syntax { at, reason }) => {
+                let rest = text_after(text, *at);
+                let wanted = Wanted::InDefinitions(*reason);
+                self.keep(text, *at, syntax_reason(Subject::Definitions, rest, wanted));
+                let hint = syntax_hint(alloc, text, index_of(*at), *reason);
+                self.hint = usable_hint(hint, primitives);
+            }
+            Refusal::Parse(ParseRefusal::Nesting { at }) => {
+                self.keep(text, *at, Reason::NestedTooDeeply);
+            }
+            Refusal::Check(refusal) => {
+                if let Some(note) = refusal.note() {
+                    self.note_check(alloc, text, note, primitives);
+                }
+            }
+        }
+    }
+
+    /// Notes why this text is no list of tokens, if the fault is of that.
+    fn note_tokens(&mut self, alloc: Global, text: &[u8], fault: &Fault, primitives: &PrimNames) {
         match fault {
             Fault::Lexical { at } => {
                 let (before, after) = (text_before(text, *at), text_after(text, *at));
@@ -228,35 +233,12 @@ impl RunNotes {
                 self.keep(text, *at, left_out_reason(after));
                 self.hint = left_out_hint(after);
             }
-            Fault::Syntax { at } => {
-                let wanted = found.expected.map(Wanted::InDefinitions);
-                let rest = text_after(text, *at);
-                self.keep(text, *at, syntax_reason(Subject::Definitions, rest, wanted));
-                let hint = syntax_hint(alloc, text, index_of(*at), found.expected);
-                self.hint = usable_hint(hint, primitives);
-            }
-            Fault::Nesting { at } => {
-                self.keep(text, *at, Reason::NestedTooDeeply);
-            }
-            _ => self.note_checks(alloc, text, fault, &found.checks, primitives),
+            _ => {}
         }
     }
 
-    /// Notes what the checks noted of this fault.
-    fn note_checks(
-        &mut self,
-        alloc: Global,
-        text: &[u8],
-        fault: &Fault,
-        checks: &Notes,
-        primitives: &PrimNames,
-    ) {
-        let Some(note) = checks.first() else {
-            return;
-        };
-        if note.detail().fault() != *fault {
-            return;
-        }
+    /// Notes what the checks found.
+    fn note_check(&mut self, alloc: Global, text: &[u8], note: &Note, primitives: &PrimNames) {
         self.hint = name_hint(alloc, text, note, primitives);
         let place = match note.offset() {
             Some(at) => Some(at),

@@ -6,8 +6,8 @@ use crate::hint::Hint;
 use crate::pieces::piece;
 use crate::syntax_hints::Site;
 use std::alloc::Global;
-use str_lexer::{Mark, Token, TokenKind, lex};
-use str_parser::{Expected, parse};
+use str_lexer::{Keyword, Mark, Token, TokenKind, lex};
+use str_parser::{Candidate, parse};
 use term_model::Fault;
 use term_model::bytes::is_blank_byte;
 
@@ -48,10 +48,7 @@ impl Operation {
 /// What was probably meant by a `+` at the site: a choice of strategies, or a sum or concatenation of terms.
 pub(crate) fn plus_hint(site: &Site<'_>) -> Option<Hint> {
     let context = context_at(site.tokens, site.index)?;
-    let is_rule = matches!(
-        site.expected,
-        Some(Expected::Arrow | Expected::WhereOrDefinition | Expected::WhereOrBackslash)
-    );
+    let is_rule = site.expects_only(Candidate::Arrow) || site.expects(Candidate::WhereKeyword);
     let next = site.index.saturating_add(1);
     let is_in_pattern = context.role != Role::Strategy && (context.is_part || is_rule);
     if !is_in_pattern && !is_literal(site.tokens, next) {

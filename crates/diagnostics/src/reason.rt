@@ -5,31 +5,23 @@ use crate::shown::Shown;
 use crate::term_gap::{TermExpected, TermGap};
 use scope_check::Note;
 use std::fmt;
-use str_parser::Expected;
+use str_parser::SyntaxReason;
 use term_model::bytes::{is_digit_byte, is_octal_byte, unescaped};
 use term_model::symbol::continues;
 
-/// What could stand at the place of a refusal instead.
+/// What could stand at the place of a refusal instead, or which rule is broken there.
 #[derive(Clone, Copy, Debug, PartialEq, Eq)]
 pub enum Wanted {
-    InDefinitions(Expected),
+    InDefinitions(SyntaxReason),
     InTerm(TermExpected),
 }
 
-impl Wanted {
-    /// What could stand there, as a list, or the rule that the token breaks.
-    fn words(&self) -> &'static str {
+/// As `expected ',' or ')'`, or the rule.
+impl fmt::Display for Wanted {
+    fn fmt<W: fmt::Write>(&self, f: &mut fmt::Formatter<W>) -> fmt::Result {
         match self {
-            Wanted::InDefinitions(expected) => expected.words(),
-            Wanted::InTerm(expected) => expected.words(),
-        }
-    }
-
-    /// Whether that is a rule.
-    fn is_rule(&self) -> bool {
-        match self {
-            Wanted::InDefinitions(expected) => expected.is_rule(),
-            Wanted::InTerm(_) => false,
+            Wanted::InDefinitions(reason) => write!(f, "{reason}"),
+            Wanted::InTerm(expected) => write!(f, "expected {}", expected.words()),
         }
     }
 }
@@ -53,11 +45,11 @@ pub enum Reason {
     /// No phrase goes on with this token.
     Misplaced {
         token: Shown,
-        wanted: Option<Wanted>,
+        wanted: Wanted,
     },
     /// The text ends where it would have to go on.
     EndsEarly {
-        wanted: Option<Wanted>,
+        wanted: Wanted,
     },
     /// Definitions are nested deeper than 200 levels.
     NestedTooDeeply,
@@ -88,15 +80,6 @@ fn write_token<W: fmt::Write>(token: &Shown, f: &mut fmt::Formatter<W>) -> fmt::
     }
 }
 
-/// Writes what could stand at a place, or which rule is broken there, where that is known.
-fn write_wanted<W: fmt::Write>(wanted: Option<Wanted>, f: &mut fmt::Formatter<W>) -> fmt::Result {
-    match wanted {
-        Some(wanted) if wanted.is_rule() => write!(f, ": {}", wanted.words()),
-        Some(wanted) => write!(f, ": expected {}", wanted.words()),
-        None => Ok(()),
-    }
-}
-
 /// Writes that an application with this number of parts is not declared, and with which number its name is.
 fn write_undeclared<W: fmt::Write>(
     name: &Shown,
@@ -124,12 +107,9 @@ impl fmt::Display for Reason {
             Reason::Misplaced { token, wanted } => {
                 f.write_str("unexpected ")?;
                 write_token(token, f)?;
-                write_wanted(*wanted, f)
+                write!(f, ": {wanted}")
             }
-            Reason::EndsEarly { wanted } => {
-                f.write_str("unexpected end of file")?;
-                write_wanted(*wanted, f)
-            }
+            Reason::EndsEarly { wanted } => write!(f, "unexpected end of file: {wanted}"),
             Reason::UndeclaredApplication {
                 name,
                 parts,
@@ -273,7 +253,7 @@ pub(crate) fn left_out_reason(text: &[u8]) -> Reason {
 }
 
 /// Returns why no phrase goes on with this rest of a text, where something else is wanted.
-pub(crate) fn syntax_reason(subject: Subject, text: &[u8], wanted: Option<Wanted>) -> Reason {
+pub(crate) fn syntax_reason(subject: Subject, text: &[u8], wanted: Wanted) -> Reason {
     if text.is_empty() {
         return Reason::EndsEarly { wanted };
     }
@@ -298,7 +278,7 @@ pub(crate) fn term_syntax_reason(text: &[u8], before: &[u8], after: &[u8]) -> Re
     match gap.quote() {
         Some(quote) => quoted_text_reason(text.get(quote..).unwrap_or(after)),
         None => {
-            let wanted = Some(Wanted::InTerm(gap.expected()));
+            let wanted = Wanted::InTerm(gap.expected());
             syntax_reason(Subject::Term, after, wanted)
         }
     }

@@ -4,21 +4,21 @@ use crate::advice::Advice;
 use crate::comparisons::comparison;
 use crate::context::{Role, closes, context_at, opens};
 use crate::hint::Hint;
+use crate::misplacement::{is_compared, is_in_rule, is_in_strategy, misplacement_advice};
 use crate::operations::{Operation, infix_hint, negative_hint, plus_hint};
 use crate::phrases::{is_keyword, is_mark, is_name};
 use crate::pieces::{piece, position_in};
-use crate::placement::{is_compared, is_in_rule, is_in_strategy, placement_advice};
 use crate::shown::Shown;
 use std::alloc::{AllocError, Global};
 use str_lexer::{Keyword, Mark, Token, TokenKind, lex};
-use str_parser::Expected;
+use str_parser::{Candidate, SyntaxReason};
 
-/// What was probably meant where the tokens of the text are no phrase from this byte on, and this would go on there.
+/// What was probably meant where the tokens of the text are no phrase from this byte on, for this reason.
 pub(crate) fn syntax_hint(
     alloc: Global,
     text: &[u8],
     at: usize,
-    expected: Option<Expected>,
+    reason: SyntaxReason,
 ) -> Option<Hint> {
     let tokens = lex(alloc, text).ok()?;
     let index = tokens.partition_point(|token| token.from < at);
@@ -26,7 +26,7 @@ pub(crate) fn syntax_hint(
         text,
         tokens: &tokens,
         index,
-        expected,
+        reason,
     };
     if let Some(advice) = comparison(&site) {
         return Some(Hint::Advice(advice));
@@ -37,23 +37,33 @@ pub(crate) fn syntax_hint(
     }
 }
 
-/// The tokens of a text, the index of the first one with which no phrase goes on, and what would go on there.
+/// The tokens of a text, the index of the first one with which no phrase goes on, and why none does.
 #[derive(Clone, Copy)]
 pub(crate) struct Site<'a> {
     pub(crate) text: &'a [u8],
     pub(crate) tokens: &'a [Token],
     pub(crate) index: usize,
-    pub(crate) expected: Option<Expected>,
+    reason: SyntaxReason,
 }
 
 impl<'a> Site<'a> {
+    /// Whether this could stand in place of the token at fault.
+    pub(crate) fn expects(&self, candidate: Candidate) -> bool {
+        matches!(self.reason, SyntaxReason::Expected(expected) if expected.has(candidate))
+    }
+
+    /// Whether nothing else could stand there.
+    pub(crate) fn expects_only(&self, candidate: Candidate) -> bool {
+        matches!(self.reason, SyntaxReason::Expected(expected) if expected.is_only(candidate))
+    }
+
     /// What the token at fault and those beside it tell.
     fn token_hint(&self) -> Option<Hint> {
         let token = self.tokens.get(self.index)?;
         match &token.kind {
             TokenKind::Keyword(keyword) => self.keyword_hint(*keyword),
             TokenKind::Mark(mark) => self.mark_hint(*mark),
-            TokenKind::Wildcard if self.expected == Some(Expected::Strategy) => {
+            TokenKind::Wildcard if self.expects(Candidate::Strategy) => {
                 Some(Hint::Advice(Advice::WildcardAsStrategy))
             }
             TokenKind::Name if self.index == 0 && self.is_head(0) => {
@@ -67,7 +77,7 @@ impl<'a> Site<'a> {
 
     /// What an integer or a text at fault tells.
     fn literal_hint(&self) -> Option<Hint> {
-        if self.expected == Some(Expected::Strategy) {
+        if self.expects(Candidate::Strategy) {
             self.bar_hint()
         } else {
             negative_hint(self)
@@ -151,11 +161,11 @@ impl<'a> Site<'a> {
             Mark::Bar if self.touches(self.index, Mark::OpenBracket) => {
                 Some(Hint::Advice(Advice::ConcreteSyntax))
             }
-            Mark::Less if self.expected == Some(Expected::Pattern) => {
+            Mark::Less if self.expects(Candidate::Pattern) => {
                 Some(Hint::Advice(Advice::AppliedInMatch))
             }
             Mark::DoubleArrow
-                if self.expected == Some(Expected::Pattern) && self.is_behind(Mark::Greater) => {
+                if self.expects(Candidate::Pattern) && self.is_behind(Mark::Greater) => {
                 Some(Hint::Advice(Advice::MissingOperand))
             }
             Mark::OpenBrace if self.touches_before() => {
@@ -167,19 +177,11 @@ impl<'a> Site<'a> {
 
     /// What a keyword at fault tells.
     fn keyword_hint(&self, keyword: Keyword) -> Option<Hint> {
-        let is_wanted = matches!(
-            self.expected,
-            Some(
-                Expected::Name
-                    | Expected::NameOrIn
-                    | Expected::NameBarOrParenthesis
-                    | Expected::NameOrParenthesis
-                    | Expected::Constructor
-                    | Expected::Sort
-                    | Expected::Pattern
-            )
-        );
-        if let Some(advice) = placement_advice(self, keyword) {
+        let is_wanted = self.expects(Candidate::Name)
+            || self.expects(Candidate::Constructor)
+            || self.expects_only(Candidate::Sort)
+            || self.expects(Candidate::Pattern);
+        if let Some(advice) = misplacement_advice(self, keyword) {
             return Some(Hint::Advice(advice));
         }
         let next = self.tokens.get(self.index.saturating_add(1));
@@ -202,7 +204,7 @@ impl<'a> Site<'a> {
     fn is_in_build(&self) -> bool {
         let context = context_at(self.tokens, self.index);
         let is_built = context.is_some_and(|context| context.role == Role::Build);
-        is_built && self.expected == Some(Expected::Pattern)
+        is_built && self.expects(Candidate::Pattern)
     }
 
     /// What the call of a primitive tells, of which the token at fault is the first.

@@ -1,37 +1,34 @@
 //! The judgement of small files with ample memory; what is expected was worked out by hand.
 use crate::front::{checked, read};
-use scope_check::{Checked, Notes, check_with_notes};
+use scope_check::{CheckRefusal, Checked, find_faults, judge};
 use std::alloc::{AllocError, Global};
+use std::str;
 use std::test::Fail;
 use str_syntax::File;
 use strategy_lib::with_library;
 use term_model::PrimNames;
 
-/// The word of the fault that the file has, where `add` with two terms is the one primitive, or nothing.
-fn judged(alloc: Global, file: File, notes: &mut Notes) -> Result<&'static str, AllocError> {
+/// Why the file is refused, where `add` with two terms is the one primitive, if it is.
+fn refusal(alloc: Global, file: File) -> Result<Option<CheckRefusal>, AllocError> {
     let mut primitives = PrimNames::new(alloc);
     primitives.insert(b"add", 2)?;
-    match check_with_notes(alloc, file, &primitives, b"main", notes) {
-        Ok(_) => Ok(""),
-        Err(fault) => Ok(fault.word()),
-    }
+    Ok(judge(alloc, file, &primitives, b"main").err())
 }
 
 /// The word of the fault that the file has and what is noted of it, or nothing.
-fn refusal(alloc: Global, file: File) -> Result<String, Fail> {
-    let mut notes = Notes::none();
-    let word = judged(alloc, file, &mut notes)?;
-    if word.is_empty() {
+fn refusal_text(alloc: Global, file: File) -> Result<String, Fail> {
+    let Some(refusal) = refusal(alloc, file)? else {
         return Ok(String::new(alloc));
-    }
-    let note = notes.first().ok_or("nothing is noted")?;
+    };
+    let word = refusal.fault().word();
+    let note = refusal.note().ok_or("nothing is noted")?;
     Ok(format!(in alloc; "{word}: {note}")?)
 }
 
 /// Whether this is the refusal of the file.
 pub(crate) fn is_refused_so(alloc: Global, file: File, expected: &str) -> Result<bool, Fail> {
-    let refusal = refusal(alloc, file)?;
-    Ok(refusal.as_str() == expected)
+    let text = refusal_text(alloc, file)?;
+    Ok(text.as_str() == expected)
 }
 
 /// A line of a table: definitions, and the refusal after a `#`; without it they have no fault.
@@ -225,12 +222,12 @@ const PLACES: &[(&str, &str, &str, &str)] = &[
     ),
 ];
 
-/// Whether this name is noted at this place, with this fault.
-fn is_noted_at(notes: &Notes, word: &str, name: &str, at: Option<usize>) -> bool {
-    let Some(note) = notes.first() else {
+/// Whether the refusal is for this fault, and notes this name at this place.
+fn is_noted_at(refusal: &CheckRefusal, word: &str, name: &str, at: Option<usize>) -> bool {
+    let Some(note) = refusal.note() else {
         return false;
     };
-    note.detail().fault().word() == word
+    refusal.fault().word() == word
         && note.name() == name.as_bytes()
         && note.offset() == at.map(|at| at as u64)
 }
@@ -239,9 +236,53 @@ fn is_noted_at(notes: &Notes, word: &str, name: &str, at: Option<usize>) -> bool
 fn places(rt: HostRuntime) -> Result<(), Fail> {
     for (text, word, name, piece) in PLACES {
         let file = with_library(rt.alloc(), read(rt.alloc(), text)?)?;
-        let mut notes = Notes::none();
-        let found = judged(rt.alloc(), file, &mut notes)?;
-        if found != *word || !is_noted_at(&notes, word, name, text.find(*piece)) {
+        let refusal = refusal(rt.alloc(), file)?.ok_or("no refusal")?;
+        if !is_noted_at(&refusal, word, name, text.find(*piece)) {
+            return Err(Fail::new(text));
+        }
+    }
+    Ok(())
+}
+
+/// Definitions, and the names that are noted in them, in the order of the text.
+const ALL_FAULTS: &[(&str, &str)] = &[
+    ("strategies main = id", ""),
+    // After a declaration that stands again, the rest is still judged.
+    (
+        "signature constructors C : A -> A C : A -> A strategies f = ?C(x, y) main = g",
+        "C C g",
+    ),
+    // Each head with other parameters, and a name that stands again.
+    (
+        "strategies f(s) = id f(t) = id f(u) = id g(a, a) = id main = !_",
+        "f f a _",
+    ),
+    // Of a definition of the library nothing is noted but the constructor of its name.
+    (
+        "signature constructors map : A -> A strategies try(s) = id",
+        "map try main",
+    ),
+];
+
+/// The names that are noted in the file, with a space between each two, where there are no primitives.
+fn names_noted(alloc: Global, file: &File) -> Result<String, Fail> {
+    let primitives = PrimNames::new(alloc);
+    let faults = find_faults(alloc, file, &primitives, b"main")?;
+    let mut names = String::new(alloc);
+    for note in faults.notes() {
+        if !names.is_empty() {
+            names.push_str(" ")?;
+        }
+        names.push_str(str::from_utf8(note.name()).unwrap_or("?"))?;
+    }
+    Ok(names)
+}
+
+#[test]
+fn all_faults(rt: HostRuntime) -> Result<(), Fail> {
+    for (text, expected) in ALL_FAULTS {
+        let file = with_library(rt.alloc(), read(rt.alloc(), text)?)?;
+        if names_noted(rt.alloc(), &file)?.as_str() != *expected {
             return Err(Fail::new(text));
         }
     }

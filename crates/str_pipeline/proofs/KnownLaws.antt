@@ -1,5 +1,5 @@
 -- Which primitives there are, by the names of a registry and by the definitions that passed the checks.
-use Rattle.std.proofs.Common.{◌≡◌, ◌<◌, ◌↔◌, ℕ, true, List, [], Contains, length}
+use Rattle.std.proofs.Common.{◌≡◌, ◌<◌, ◌↔◌, ℕ, true, List, [], Contains, Result, length, subst}
 use Rattle.std.proofs.lemmas.List.{get_or_default}
 use Rattle.std.specs.Prelude.{None}
 use Rattle.term_model.specs.Flat.{Meaning}
@@ -16,7 +16,10 @@ use Rattle.scope_check.proofs.PrimitiveLaws.{holds-contains, is_holds}
 use Rattle.str_desugar.specs.FileProgram.{program_of_file}
 use Rattle.str_desugar.proofs.PrimitivesInFiles.{known_primitives}
 use Rattle.str_pipeline.specs.declared.status.Options.{Options}
-use Rattle.str_pipeline.specs.Setting.{setting_with}
+use Rattle.str_pipeline.specs.declared.program.Program.{Program}
+use Rattle.str_pipeline.specs.Setting.{Setting, setting_with}
+use Rattle.str_pipeline.specs.Steps.{IsProgram}
+use Rattle.term_model.specs.declared.fault.Fault.{Fault}
 
 module _ (xs ys : List NameKey) (same : HaveSame xs ys) where
   held_alike : (f : Bytes) (n : ℕ) → holds xs f n ≡ holds ys f n
@@ -25,8 +28,13 @@ module _ (xs ys : List NameKey) (same : HaveSame xs ys) where
       is_holds (holds xs f n) ys f n (λ yes. (same (f, n)).0 (held.0 yes), λ there. held.1 ((same (f, n)).1 there))
 
   -- lists of the same names make one setting
-  pub same_setting : (M : Meaning) (options : Options) → setting_with M xs options ≡ setting_with M ys options
+  same_setting : (M : Meaning) (options : Options) → setting_with M xs options ≡ setting_with M ys options
   same_setting M options = λ i. record { options = options; has_primitive = λ f n. held_alike f n i; meaning = M }
+
+  -- and one program
+  pub program_alike : (M : Meaning) (options : Options) (text : List ℕ) (made : Result Program Fault) →
+      IsProgram (setting_with M xs options) text made → IsProgram (setting_with M ys options) text made
+  program_alike M options text made = subst (λ (S : Setting). IsProgram S text made) (same_setting M options)
 
 -- a registry of these names has each of those that are among them
 pub covered : (prims names entries : List NameKey) → HaveSame names entries →

@@ -12,6 +12,9 @@ use Rattle.str_syntax.specs.Trees.{Bytes, FileTree}
 use Rattle.str_syntax.specs.Views.{file_of}
 use Rattle.str_parser.specs.Lexemes.{lexemes}
 use Rattle.str_parser.specs.Parsing.{IsParsing}
+use Rattle.str_parser.specs.Refusals.{fault_of}
+use Rattle.str_parser.specs.declared.refusal.ParseRefusal.{ParseRefusal}
+use Rattle.str_parser.specs.declared.refusal.ParseRefusal.TheVariants as refusals
 use Rattle.scope_check.specs.Complaint.{first_fault}
 use Rattle.str_desugar.specs.FileProgram.{program_of_file}
 use Rattle.strategy_lib.specs.Library.{with_library}
@@ -34,6 +37,22 @@ read_file text ts file lexed parsed = record {
   not_nested = parsed.1;
   only_phrase = parsed.0;
 }
+
+-- bytes that are no tokens, or hold a word of a part that is left out
+pub no_tokens : (S : Setting) (text : List ℕ) (fault : Fault) → IsLexing text (Err fault) → IsProgram S text (Err fault)
+no_tokens S text faults.Memory lexed = tt
+no_tokens S text (faults.Lexical at) lexed = lexed
+no_tokens S text (faults.ReservedWord at) lexed = lexed
+no_tokens S text _ lexed = absurd lexed
+
+-- tokens that are no file
+pub no_file : (S : Setting) (text : List ℕ) (ts : Vec Token Global) (refusal : ParseRefusal) → IsLexing text (Ok ts) →
+    IsParsing (lexemes text ts.items) (Err (fault_of refusal)) → IsProgram S text (Err (fault_of refusal))
+no_file S text ts refusals.Memory lexed parsed = tt
+no_file S text ts (refusals.Syntax at _) lexed parsed =
+    record { tokens = ts.items; are_tokens = read_tokens text ts lexed; not_nested = parsed.1; none = parsed.0 }
+no_file S text ts (refusals.Nesting at) lexed parsed =
+    record { tokens = ts.items; are_tokens = read_tokens text ts lexed; nested = parsed }
 
 -- a file in which something is wrong with the library after it
 fails : (S : Setting) (text : List ℕ) (file whole : File) (fault : Fault) → IsFile text (file_of file) →

@@ -6,7 +6,7 @@ ghost use Rattle.str_pipeline.specs.Judged.{IsVerdict};
 ghost use Rattle.str_pipeline.specs.Faults.{IsReadingFault, is_read_fault};
 
 use crate::answer::MAX_DEFINITIONS;
-use crate::program::{Program, noted_program};
+use crate::program::{Program, program_to_run};
 use crate::progress::library_bytes;
 use crate::source::{Source, read_all};
 use crate::status::Options;
@@ -15,7 +15,7 @@ use diagnostics::{
     position_in, primitive_place, whole_file,
 };
 use prim_registry::{PrimMeaning, Registry};
-use scope_check::{Detail, Note, Notes, note_faults};
+use scope_check::{Detail, FileFaults, Note, find_faults};
 use std::alloc::{AllocError, Global};
 use str_lexer::{Token, lex};
 use str_syntax::File;
@@ -53,12 +53,12 @@ pub fn check_definitions<D: Source, M: PrimMeaning>(
         return Ok(Some(Fault::DefsTooLong));
     };
     notes.note_library(library_bytes(definitions.files()));
-    judge(alloc, &text, options, registry, notes)
+    verdict_on(alloc, &text, options, registry, notes)
 }
 
 /// Judges these definitions. The fault is `Memory`.
 #[tactic(auto, using(crate::proofs::FaultLaws::program_refused, crate::proofs::FaultLaws::program_stops, crate::proofs::FaultLaws::is_reading, crate::proofs::FaultLaws::program_no_read))]
-fn judge<M: PrimMeaning>(
+fn verdict_on<M: PrimMeaning>(
     alloc: Global,
     text: &[u8],
     options: &Options,
@@ -71,7 +71,7 @@ fn judge<M: PrimMeaning>(
     ensures kinds { IfErr result IsReadingFault }
     ensures read { is_read_fault result ≡ false }
 {
-    match noted_program(alloc, text, options, registry, notes) {
+    match program_to_run(alloc, text, options, registry, notes) {
         Ok(program) => {
             note_warnings(alloc, text, &program, notes);
             Ok(None)
@@ -119,35 +119,34 @@ pub(crate) fn findings_in<M: PrimMeaning>(
 ) -> Result<Explanation, Fault> {
     let file = whole_file(alloc, text)?;
     let primitives = registry.names(alloc)?;
-    let mut found = Notes::collecting(alloc);
-    let signature = note_faults(alloc, &file, &primitives, &options.main, &mut found)?;
-    if found.first().is_some() && found.collected().is_empty() {
+    let faults = find_faults(alloc, &file, &primitives, &options.main)?;
+    if !faults.is_sound() && faults.notes().is_empty() {
         return Err(Fault::Memory);
     }
     let mut remarks = Vec::new(alloc);
-    add_faults(alloc, text, &file, &found, &primitives, &mut remarks)?;
+    add_faults(alloc, text, &file, &faults, &primitives, &mut remarks)?;
     let definitions = Definitions {
         text,
         library,
         file: &file,
-        signature: &signature,
+        signature: faults.signature(),
         main: &options.main,
-        is_sound: found.first().is_none(),
+        is_sound: faults.is_sound(),
     };
     add_warnings(alloc, &definitions, &mut remarks)?;
     Ok(Explanation::new(remarks))
 }
 
-/// Adds what was found in the file of this text as remarks, each with a hint if there is one.
+/// Adds the faults of the file of this text as remarks, each with a hint if there is one.
 fn add_faults(
     alloc: Global,
     text: &[u8],
     file: &File,
-    found: &Notes,
+    faults: &FileFaults,
     primitives: &PrimNames,
     remarks: &mut Vec<Remark>,
 ) -> Result<(), Fault> {
-    let notes = found.collected();
+    let notes = faults.notes();
     if notes.is_empty() {
         return Ok(());
     }
@@ -166,7 +165,7 @@ fn add_faults(
             })?;
         }
     }
-    add_count(alloc, found.count(), b" faults", remarks)?;
+    add_count(alloc, faults.count(), b" faults", remarks)?;
     Ok(())
 }
 

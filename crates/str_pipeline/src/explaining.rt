@@ -12,7 +12,7 @@ use crate::status::{Options, Status};
 use crate::usage::usage_line;
 use aterm_text::{read_in, write_term};
 use diagnostics::{
-    Definitions, Explanation, Found, Listing, MOST_OF_NAME, Phrase, Remark, RunNotes, add_warnings,
+    Definitions, Explanation, Listing, MOST_OF_NAME, Phrase, Remark, RunNotes, add_warnings,
     push_cut, push_number,
 };
 use prim_registry::{PrimMeaning, Registry};
@@ -90,9 +90,7 @@ fn explanation_of<M: PrimMeaning>(
 ) -> Result<Explanation, Fault>
     requires honest { IsHonest M.answer registry.now }
 {
-    let mut found = Found::none();
-    let purpose = Purpose::Explanation;
-    let program = program_of(alloc, definitions, options, registry, purpose, &mut found)?;
+    let program = program_of(alloc, definitions, options, registry, Purpose::Explanation)?;
     let budget = options.budget.min(MOST_RULES);
     let run = run_again(alloc, &program.code, term, budget, registry)?;
     let listing = Listing::new(alloc, definitions)?;

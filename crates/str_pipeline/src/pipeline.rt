@@ -16,7 +16,7 @@ ghost use Rattle.str_pipeline.specs.Faults.{HoldsRefusal, IsRefusal, IsTransferF
 use crate::answer::{MAX_DEFINITIONS, MAX_TERM, outcome_of, write_outcome, write_refusal};
 use crate::explaining::note_explanation;
 use crate::joined::read_front;
-use crate::program::noted_program;
+use crate::program::program_to_run;
 use crate::progress::library_bytes;
 use crate::sink::Sink;
 use crate::source::{Source, read_all};
@@ -57,7 +57,7 @@ fn outcome_apart<D: Source, T: Source, M: PrimMeaning>(
     let Some(text) = read_all(alloc, defs, MAX_DEFINITIONS)? else {
         return Err(Fault::DefsTooLong);
     };
-    let program = noted_program(alloc, &text, options, registry, notes)?;
+    let program = program_to_run(alloc, &text, options, registry, notes)?;
     notes.keep_definitions(text);
     let Some(text) = read_all(alloc, term, MAX_TERM)? else {
         return Err(Fault::TermTooLong);
@@ -101,7 +101,7 @@ fn outcome_joined<S: Source, M: PrimMeaning>(
     let Some(front) = read_front(alloc, input, MAX_DEFINITIONS)? else {
         return Err(Fault::DefsTooLong);
     };
-    let program = noted_program(alloc, front.definitions(), options, registry, notes)?;
+    let program = program_to_run(alloc, front.definitions(), options, registry, notes)?;
     front.note_end(notes);
     let Some(text) = front.read_term(alloc, input, MAX_TERM)? else {
         return Err(Fault::TermTooLong);

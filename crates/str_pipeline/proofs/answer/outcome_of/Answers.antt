@@ -1,4 +1,4 @@
-use Rattle.std.proofs.Common.{◌≤◌, ℕ, Err, length, subst}
+use Rattle.std.proofs.Common.{◌≤◌, ℕ, length, subst}
 use Rattle.str_pipeline.specs.Limits.{max_term}
 use Rattle.str_pipeline.specs.Setting.{Setting, setting_of}
 use Rattle.str_pipeline.proofs.WrittenLaws.{passed, run_result, term_fault}

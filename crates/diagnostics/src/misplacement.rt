@@ -5,7 +5,7 @@ use crate::phrases::{is_keyword, is_mark, is_name, is_of_scope};
 use crate::pieces::position_in;
 use crate::syntax_hints::Site;
 use str_lexer::{Keyword, Mark};
-use str_parser::Expected;
+use str_parser::Candidate;
 
 /// Whether the token at fault is in the definition of a strategy, which has a `=` after its name.
 pub(crate) fn is_in_strategy(site: &Site<'_>) -> bool {
@@ -36,7 +36,7 @@ pub(crate) fn is_compared(site: &Site<'_>) -> bool {
 }
 
 /// The advice on this keyword, which is the token at fault, if it seems to belong to another place.
-pub(crate) fn placement_advice(site: &Site<'_>, keyword: Keyword) -> Option<Advice> {
+pub(crate) fn misplacement_advice(site: &Site<'_>, keyword: Keyword) -> Option<Advice> {
     let sign = sign_before(site)?;
     if site.mark_at(sign) != Some(Mark::Colon) {
         return None;
@@ -48,7 +48,7 @@ pub(crate) fn placement_advice(site: &Site<'_>, keyword: Keyword) -> Option<Advi
     }
     let mut between = sign..site.index;
     let has_arrow = between.any(|index| site.mark_at(index) == Some(Mark::Arrow));
-    if site.expected == Some(Expected::Pattern) && !has_arrow && begins_strategy(keyword) {
+    if site.expects(Candidate::Pattern) && !has_arrow && begins_strategy(keyword) {
         return Some(Advice::StrategyAfterColon);
     }
     None
