@@ -1,32 +1,10 @@
-//! The program: a definition file and a term, from files or from standard input, and the answer to
-//! standard output.
+//! The program: the words of the command line, the files of the system and the standard streams, given to `run_standard`.
 #![tactic(auto)]
 
-mod checking;
-mod definition_files;
-mod ending;
-mod failure;
-mod formed;
-mod open_streams;
-mod opening;
-mod paths;
-mod pretty;
-mod primitives;
-mod program;
-mod raw;
-mod report;
-mod request;
-mod stopping;
-#[cfg(test)]
-mod tests;
-mod words;
-
-use paths::Files;
-use primitives::run_standard;
 use std::io;
 use std::process::ExitCode;
 use str_pipeline::Counted;
-use words::words_of;
+use strc_command::{Files, run_standard, words_of};
 
 fn main(rt: HostRuntime) -> ExitCode {
     let stdout = rt.stdout();

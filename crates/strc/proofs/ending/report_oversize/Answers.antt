@@ -1,8 +1,0 @@
-use Rattle.std.proofs.Common.{◌||◌}
-use Rattle.strc.proofs.PrefixLaws.{asked_after}
-use Rattle.strc.proofs.ending.report_oversize.Goals as goal
-
-pub returns : goal.returns
-returns g c =
-    asked_after (c.args.reporting.has_stats ||
-    c.args.reporting.explains) _ _ _ c.write_oversize.ensures c.report_asked.ensures

@@ -1,6 +1,0 @@
-use Rattle.std.proofs.Common.{take}
-use Rattle.strc.proofs.PrettyLaws.{Lays}
-use Rattle.strc.proofs.pretty.laid_out.Given as goal
-
-abbrev pub invariant-loop-index : goal.invariant-loop-index
-invariant-loop-index l = Lays l.layout (take l.index l.line)

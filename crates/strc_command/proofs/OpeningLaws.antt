@@ -1,0 +1,38 @@
+-- Laws of files that are opened one after another.
+use Rattle.std.proofs.Common.{◌≡◌, ◌∙◌, ◌<◌, ◌≤◌, ◌+◌, ◌∷◌, ◌++◌, [], ap, refl, ℕ, List, length, map, take, slice_index_or, Bool, false, Result, Ok, Err, is_err}
+use Rattle.std.specs.Prelude.{if◌then◌else◌, is_ok}
+use Rattle.std.proofs.lemmas.List.{map-append, take_more, take_all}
+
+-- one more is opened
+pub one_more : {A B C : Type 0} (f : A → C) (g : B → C) (xs ys : List A) (x : A) (bs : List B) (b : B) (i : ℕ) →
+    i < length bs
+    → map f xs ≡ map g (take i bs) → ys ≡ xs ++ x ∷ [] → f x ≡ g (slice_index_or bs i b) →
+    map f ys ≡ map g (take (i + 1) bs)
+one_more f g xs ys x bs b i below so added same =
+    rw (
+      added,
+      map-append f xs (x ∷ []),
+      so,
+      same,
+      take_more bs i b below,
+      map-append g (take i bs) (slice_index_or bs i b ∷ []),
+    ) refl
+
+-- all are opened
+pub all_opened : {A B C : Type 0} (f : A → C) (g : B → C) (xs : List A) (bs : List B) (i : ℕ) → length bs ≤ i
+    → map f xs ≡ map g (take i bs) → map f xs ≡ map g bs
+all_opened f g xs bs i end so = so ∙ ap (map g) (take_all i bs end)
+
+-- a push that did not fail added the value
+pub pushed : {A E : Type 0} (result : Result (Unit {0}) E) (failed : Bool) (new old : List A) (x : A)
+    → new ≡ (if is_ok result then old ++ x ∷ [] else old) → failed ≡ is_err result → failed ≡ false →
+    new ≡ old ++ x ∷ []
+pushed (Ok done) failed new old x given told none = given
+pushed (Err e) failed new old x given told none = cc
+
+-- the texts of readers and of one more after them
+pub with_last : {R A : Type 0} (coming : R → A) (files readers : List R) (last : R) (texts : List A) (between text : A)
+    → files ≡ readers ++ last ∷ [] → map coming readers ≡ texts → coming last ≡ between → between ≡ text →
+    map coming files ≡ texts ++ text ∷ []
+with_last coming files readers last texts between text whole so is same =
+    rw (whole, map-append coming readers (last ∷ []), so, is, same) refl

@@ -1,0 +1,107 @@
+-- What a writer has gained after several writes in a row.
+use Rattle.std.proofs.Common.{◌≡◌, ◌+◌, ◌≤◌, ℕ, Bool, List, [], ◌++◌, length, take, Option, None, Some, refl, sym, arith, false, true, true≢false, length-append, subst}
+use Rattle.std.proofs.lemmas.List.{append-nil, take-append-le, take_at, drop_at}
+use Rattle.std.proofs.Math.Seq.{take-add, take-length}
+use Rattle.std.specs.Prelude.{Result, Ok, Err, OnOk, is_err, if◌then◌else◌}
+use Rattle.term_model.specs.declared.fault.Fault.{Fault}
+use Rattle.str_pipeline.specs.Device.{Gains, GainsPrefix}
+use Rattle.str_pipeline.proofs.DeviceLemmas.{Gains-append}
+use Rattle.strc_command.specs.Report.{diagnostic, Tells, TellsMore, TellsText, TellsIfAsked}
+
+-- a beginning of the first text
+pub begins_first : (a b : Option (List ℕ)) (xs ys : List ℕ) → GainsPrefix a b xs → GainsPrefix a b (xs ++ ys)
+begins_first a b xs ys (k, within, gained) =
+    let long : k ≤ length (xs ++ ys) = rw length-append (omega arith) in
+    (k, long, rw (take-append-le k xs ys within) gained)
+
+-- the first text, and a beginning of the second
+pub begins_second : (a b c : Option (List ℕ)) (xs ys : List ℕ) → Gains a b xs → GainsPrefix b c ys →
+    GainsPrefix a c (xs ++ ys)
+begins_second a b c xs ys first (k, within, gained) =
+    let long : length xs + k ≤ length (xs ++ ys) = rw length-append (omega arith) in
+    let front : take (length xs + k) (xs ++ ys) ≡ xs ++ take k ys =
+    rw (take-add, take_at xs ys (length xs) refl, drop_at xs ys (length xs) refl) in
+    (length xs + k, long, rw front (Gains-append a b c xs (take k ys) first gained))
+
+-- a report that was written as far as its result says
+pub tells : {A : Type 0} (r : Result A Fault) (fault : Fault) (before after : ℕ) (old new : Option (List ℕ)) →
+    OnOk r (Gains old new (diagnostic fault)) → GainsPrefix old new (diagnostic fault) →
+    after ≡ before + (if is_err r then 1 else 0) →
+    Tells fault before after old new
+tells (Ok v) fault before after old new gained begun failed = record { beginning = begun; whole = λ _. gained }
+tells (Err e) fault before after old new gained begun failed =
+    record { beginning = begun; whole = λ same. absurd (omega arith) }
+
+-- a whole report, and a text after it that was written as far as its result says
+pub tells_both : {A : Type 0} (r : Result A Fault) (fault : Fault) (more : List ℕ) (before after : ℕ)
+    (old middle new : Option (List ℕ)) →
+    Gains old middle (diagnostic fault) → OnOk r (Gains middle new more) → GainsPrefix middle new more →
+    after ≡ before + (if is_err r then 1 else 0) → TellsMore fault before after old new
+tells_both (Ok v) fault more before after old middle new first gained begun failed =
+    record {
+      more = more;
+      beginning = begins_second old middle new (diagnostic fault) more first begun;
+      whole =
+          λ _. Gains-append old middle new (diagnostic fault) more first gained;
+    }
+tells_both (Err e) fault more before after old middle new first gained begun failed =
+    record {
+      more = more;
+      beginning = begins_second old middle new (diagnostic fault) more first begun;
+      whole =
+          λ same. absurd (omega arith);
+    }
+
+-- a report that was written, and a text after it that was written as far as its result says
+pub tells_after : {A B : Type 0} (r : Result A Fault) (w : Result B Fault) (fault : Fault) (more : List ℕ)
+    (before between after : ℕ) (old middle new : Option (List ℕ)) →
+    is_err r ≡ false → OnOk r (Gains old middle (diagnostic fault)) → between ≡ before + (if is_err r then 1 else 0) →
+    OnOk w (Gains middle new more) → GainsPrefix middle new more → after ≡ between + (if is_err w then 1 else 0) →
+    TellsMore fault before after old new
+tells_after {A} {B} (Ok v) (Ok u) fault more before between after old middle new good first still gained begun failed =
+    tells_both {A = B} (Ok u) fault more before after old middle new first gained begun (omega arith)
+tells_after {A} {B} (Ok v) (Err e) fault more before between after old middle new good first still gained begun failed =
+    tells_both {A = B} (Err e) fault more before after old middle new first gained begun (omega arith)
+tells_after (Err e) w fault more before between after old middle new good first still gained begun failed =
+    absurd (true≢false good)
+
+gains_all : (a b : Option (List ℕ)) (xs : List ℕ) → Gains a b xs → GainsPrefix a b xs
+gains_all a b xs gained = (length xs, omega arith, rw (take-length xs) gained)
+
+-- a report that was written, and a text for a person after it
+pub text_follows : {A : Type 0} (r : Result A Fault) (fault : Fault) (before after : ℕ)
+    (old middle new : Option (List ℕ)) →
+    is_err r ≡ false → OnOk r (Gains old middle (diagnostic fault)) → TellsText middle new →
+    TellsMore fault before after old new
+text_follows (Ok v) fault before after old middle new good first (text, (k, within, gained)) =
+    let both = Gains-append old middle new (diagnostic fault) (take k text) first gained in
+    record {
+      more = take k text;
+      beginning = gains_all old new (diagnostic fault ++ take k text) both;
+      whole =
+          λ _. both;
+    }
+text_follows (Err e) fault before after old middle new good first told = absurd (true≢false good)
+
+gains_nothing : (a : Option (List ℕ)) → GainsPrefix a a []
+gains_nothing None = (0, omega arith, tt)
+gains_nothing (Some xs) = (0, omega arith, rw append-nil refl)
+
+-- no text at all
+pub no_text : (a : Option (List ℕ)) → TellsText a a
+no_text a = ([], gains_nothing a)
+
+-- a text, and another one after it
+pub text_after : (a b c : Option (List ℕ)) → TellsText a b → TellsText b c → TellsText a c
+text_after a b c (text, (k, within, first)) (more, second) =
+    (take k text ++ more, begins_second a b c (take k text) more first second)
+
+-- a text, and one after it where that is asked for
+pub asked_after : (asked : Bool) (a b c : Option (List ℕ)) → TellsText a b → TellsIfAsked asked b c → TellsText a c
+asked_after true a b c first text = text_after a b c first text
+asked_after false a b c first same = subst (λ d. TellsText a d) (sym same) first
+
+-- a text that is asked for
+pub text_as_asked : (asked : Bool) (a b : Option (List ℕ)) → asked ≡ true → TellsText a b → TellsIfAsked asked a b
+text_as_asked true a b is text = text
+text_as_asked false a b is text = absurd (true≢false (sym is))

@@ -1,0 +1,39 @@
+-- The headline does not rest on this file.
+-- The text of definitions that come from several files.
+use Rattle.std.specs.Prelude.{ℕ, List, [], ◌∷◌, ◌++◌, map, Option, None, Some}
+use Rattle.strc_command.specs.declared.definition_files.DefinitionFiles.{DefinitionFiles}
+use Rattle.strc_command.specs.declared.opening.Library.{Library}
+
+-- a text, a line feed, and what comes next; nothing where one of the two is not known
+abbrev pub with_next : Option (List ℕ) → Option (List ℕ) → Option (List ℕ)
+with_next (Some text) (Some next) = Some (text ++ 10 ∷ next)
+with_next text next = None
+
+-- the texts of files one after another, each but the last followed by a line feed; nothing where one of them is not
+-- known
+abbrev pub whole_text : List (Option (List ℕ)) → Option (List ℕ)
+whole_text [] = Some []
+whole_text (text ∷ []) = text
+whole_text (text ∷ next ∷ rest) = with_next text (whole_text (next ∷ rest))
+
+-- the readers of the files that are not read to their ends
+abbrev pub readers_of : {R : Type 0} → DefinitionFiles R → List R
+readers_of f = f.current ∷ f.waiting.items
+
+-- its calls
+abbrev pub calls_of : {R : Type 0} → DefinitionFiles R → ℕ
+calls_of f = f.calls.number
+
+-- those of them that failed
+abbrev pub failures_of : {R : Type 0} → DefinitionFiles R → ℕ
+failures_of f = f.failed.number
+
+-- the path of a file in front of the definitions
+abbrev pub path_of : Library → List ℕ
+path_of library = library.path.bytes.items
+
+-- the texts at the paths of the libraries, and then that at the path of the definitions, where a path leads to such a
+-- text
+abbrev pub texts_at : (List ℕ → Option (List ℕ)) → List Library → List ℕ → List (Option (List ℕ))
+texts_at text_at libraries definitions =
+    map (λ library. text_at (path_of library)) libraries ++ text_at definitions ∷ []

@@ -1,0 +1,157 @@
+//! The check of definitions without a term.
+ghost use Rattle.std.specs.Prelude.{◌≡◌, ◌+◌, ◌<◌, ◌≤◌, Option, IfSome};
+ghost use Rattle.term_model.specs.declared.fault.Fault.{Fault};
+ghost use Rattle.str_pipeline.specs.Setting.{setting_of};
+ghost use Rattle.str_pipeline.specs.Judged.{IsVerdict};
+ghost use Rattle.str_pipeline.specs.Limits.{max_definitions};
+ghost use Rattle.strc_command.specs.Files.{texts_at, whole_text};
+ghost use Rattle.strc_command.specs.Report.{exit_of_verdict, IsUnread, TellsVerdict};
+ghost use Rattle.strc_command.specs.declared.request.Texts.TheVariants.{Joined};
+ghost use Rattle.strc_command.specs.Runs.{Told};
+
+use crate::ending::{report_findings, write_remarks};
+use crate::failure::Failure;
+use crate::opening::{find_libraries, open_definitions};
+use crate::paths::Paths;
+use crate::report::{INPUT, Reporting};
+use crate::request::{Request, Texts};
+use crate::stopping::stop_reading;
+use prim_registry::{PrimMeaning, Registry};
+use std::alloc::Global;
+use str_pipeline::{Options, RunNotes, Sink, Source, check_definitions};
+use term_model::Fault;
+
+/// Reports what was judged of definitions, and returns the exit status: 0, or 2 if they are refused.
+fn conclude_check<E: Sink>(
+    alloc: Global,
+    verdict: Option<Fault>,
+    reporting: Reporting<'_>,
+    notes: &RunNotes,
+    diagnostics: &mut E,
+) -> u8
+    ensures status { (exit_of_verdict verdict ≡ result) × (result ≤ 2) }
+    ensures told { Told E.writer diagnostics.old diagnostics.new (TellsVerdict verdict) }
+{
+    match verdict {
+        Some(fault) => {
+            report_findings(alloc, &fault, reporting, notes, diagnostics);
+            2
+        }
+        None => {
+            let _ = write_remarks(reporting, notes, diagnostics);
+            0
+        }
+    }
+}
+
+/// Checks the definitions of the reader, reports what is found, and returns the exit status: 0 if nothing is wrong in them, 2 if they are
+/// refused, and 4 if reading or memory failed.
+fn check_reader<D: Source, E: Sink, M: PrimMeaning>(
+    alloc: Global,
+    definitions: &mut D,
+    reporting: Reporting<'_>,
+    options: &Options,
+    registry: &Registry<M>,
+    diagnostics: &mut E,
+) -> u8
+    ensures status { result ≤ 4 }
+    ensures judged { result < 4 → (verdict : Option Fault) × (exit_of_verdict verdict ≡ result)
+        × IfSome (D.reader.coming definitions.old)
+        (λ d. IsVerdict (setting_of M.answer registry.now options.now) d verdict)
+        × Told E.writer diagnostics.old diagnostics.new (TellsVerdict verdict) }
+    ensures stopped { result ≡ 4 →
+        Told E.writer diagnostics.old diagnostics.new IsUnread }
+    ensures bounded { D.reader.reads definitions.new ≤ D.reader.reads definitions.old +
+        max_definitions + 1 }
+{
+    let mut notes = RunNotes::none();
+    match check_definitions(alloc, definitions, options, registry, &mut notes) {
+        Ok(verdict) => {
+            let reporting = Reporting {
+                files: definitions.files(),
+                ..reporting
+            };
+            conclude_check(alloc, verdict, reporting, &notes, diagnostics)
+        }
+        Err(fault) => {
+            let reporting = Reporting {
+                files: definitions.files(),
+                ..reporting
+            };
+            let reading = Failure::of_reading(reporting, definitions.failure(), None);
+            stop_reading(alloc, &fault, reading, diagnostics)
+        }
+    }
+}
+
+/// Checks the definitions of the files that the report names, which are read as one text. As `check_reader`; a file that cannot be opened is a
+/// fault of reading.
+fn check_files<P: Paths, E: Sink, M: PrimMeaning>(
+    alloc: Global,
+    paths: &mut P,
+    reporting: Reporting<'_>,
+    options: &Options,
+    registry: &Registry<M>,
+    diagnostics: &mut E,
+) -> u8
+    ensures status { result ≤ 4 }
+    ensures judged { result < 4 → (verdict : Option Fault) × (exit_of_verdict verdict ≡ result)
+        × IfSome (whole_text (texts_at (P.text_at paths.old)
+        reporting.entry.libraries.now reporting.entry.definitions.now))
+        (λ d. IsVerdict (setting_of M.answer registry.now options.now) d verdict)
+        × Told E.writer diagnostics.old diagnostics.new (TellsVerdict verdict) }
+    ensures stopped { result ≡ 4 →
+        Told E.writer diagnostics.old diagnostics.new IsUnread }
+{
+    let (libraries, path) = (reporting.libraries, reporting.definitions);
+    let mut definitions = match open_definitions(alloc, paths, libraries, path, diagnostics) {
+        Ok(files) => files,
+        Err(status) => return status,
+    };
+    check_reader(
+        alloc,
+        &mut definitions,
+        reporting,
+        options,
+        registry,
+        diagnostics,
+    )
+}
+
+/// Checks the definitions that the request names: those of its files, as one text, and else of `input`, which has nothing but them. As
+/// `check_reader`; a file that cannot be opened is a fault of reading.
+pub(crate) fn run_check<P: Paths, I: Source, E: Sink, M: PrimMeaning>(
+    alloc: Global,
+    request: &Request<'_>,
+    paths: &mut P,
+    input: &mut I,
+    options: &Options,
+    registry: &Registry<M>,
+    diagnostics: &mut E,
+) -> u8
+    ensures status { result ≤ 4 }
+    ensures input_judged { request.now.texts ≡ Joined → result < 4 → (verdict : Option Fault) ×
+        (exit_of_verdict verdict ≡ result)
+        × IfSome (I.reader.coming input.old)
+        (λ d. IsVerdict (setting_of M.answer registry.now options.now) d verdict)
+        × Told E.writer diagnostics.old diagnostics.new (TellsVerdict verdict) }
+    ensures told { result < 4 → (verdict : Option Fault) × (exit_of_verdict verdict ≡ result)
+        × Told E.writer diagnostics.old diagnostics.new (TellsVerdict verdict) }
+    ensures stopped { result ≡ 4 →
+        Told E.writer diagnostics.old diagnostics.new IsUnread }
+    ensures bounded { I.reader.reads input.new ≤ I.reader.reads input.old + max_definitions + 1 }
+{
+    let path = match request.texts {
+        Texts::Joined => {
+            let reporting = Reporting::new(request, &[], INPUT, INPUT);
+            return check_reader(alloc, input, reporting, options, registry, diagnostics);
+        }
+        Texts::Definitions(path) | Texts::Both(path, _) => path,
+    };
+    let libraries = match find_libraries(alloc, paths, &request.libraries, diagnostics) {
+        Ok(libraries) => libraries,
+        Err(status) => return status,
+    };
+    let reporting = Reporting::new(request, &libraries, path, INPUT);
+    check_files(alloc, paths, reporting, options, registry, diagnostics)
+}

@@ -1,0 +1,262 @@
+//! Reports of how a transformation ended.
+ghost use Rattle.std.specs.Prelude.{◌||◌};
+ghost use Rattle.strc_command.specs.Report.{IsReportedWith, TellsIfAsked, TellsMore, TellsText};
+ghost use Rattle.strc_command.specs.Runs.{Told};
+
+use crate::report::{FileLine, Reporting, report, report_numbers, report_refusal};
+use itoa::Buffer;
+use std::alloc::Global;
+use str_pipeline::{NamedLine, OversizeTerm, Position, Remark, RunNotes, Sink, Status, write_all};
+use term_model::Fault;
+use term_model::term::{MAX_DEPTH, MAX_WEIGHT};
+
+/// Returns notes for a run that is reported so: they ask for an explanation where the report has one.
+pub(crate) fn notes_for(reporting: Reporting<'_>) -> RunNotes {
+    if reporting.explains {
+        RunNotes::explaining()
+    } else {
+        RunNotes::none()
+    }
+}
+
+/// Writes the pieces of a text, up to the first one that cannot be written.
+fn write_pieces<E: Sink>(pieces: &[&[u8]], diagnostics: &mut E) -> Result<(), Fault>
+    ensures { TellsText (E.writer.written diagnostics.old) (E.writer.written diagnostics.new) }
+{
+    for piece in pieces {
+        write_all(diagnostics, piece)?;
+    }
+    Ok(())
+}
+
+/// Writes that the budget is spent.
+fn write_spent<E: Sink>(budget: u32, diagnostics: &mut E) -> Result<(), Fault>
+    ensures { TellsText (E.writer.written diagnostics.old) (E.writer.written diagnostics.new) }
+{
+    let mut digits = Buffer::new();
+    let pieces = [
+        b"strc: the budget of ".as_slice(),
+        digits.format(budget).as_bytes(),
+        b" rules is spent; --rules sets another\n",
+    ];
+    write_pieces(&pieces, diagnostics)
+}
+
+/// What of a term is too large.
+#[derive(Clone, Copy)]
+struct Excess {
+    measure: &'static str,
+    size: u32,
+    most: u32,
+}
+
+/// Returns the size of a term that did not fit which is reported: its depth where that is too great, and else its weight. Where the weight is
+/// too great, not all parts of the term may have been added up, so that it has at least these sizes.
+fn excess_of(size: &OversizeTerm) -> Excess {
+    let OversizeTerm { weight, depth } = *size;
+    if depth <= MAX_DEPTH {
+        return Excess {
+            measure: "weight at least",
+            size: weight,
+            most: MAX_WEIGHT,
+        };
+    }
+    let is_exact = weight <= MAX_WEIGHT;
+    Excess {
+        measure: if is_exact { "depth" } else { "depth at least" },
+        size: depth,
+        most: MAX_DEPTH,
+    }
+}
+
+/// Writes how large a term was that did not fit.
+pub(crate) fn write_excess<E: Sink>(size: &OversizeTerm, diagnostics: &mut E) -> Result<(), Fault>
+    ensures { TellsText (E.writer.written diagnostics.old) (E.writer.written diagnostics.new) }
+{
+    let excess = excess_of(size);
+    let (mut size_digits, mut most_digits) = (Buffer::new(), Buffer::new());
+    let pieces = [
+        b"strc: a term of ".as_slice(),
+        excess.measure.as_bytes(),
+        b" ",
+        size_digits.format(excess.size).as_bytes(),
+        b" would be made; the most is ",
+        most_digits.format(excess.most).as_bytes(),
+        b"\n",
+    ];
+    write_pieces(&pieces, diagnostics)
+}
+
+/// Writes how large the term was that did not fit, where that is known.
+fn write_oversize<E: Sink>(notes: &RunNotes, diagnostics: &mut E) -> Result<(), Fault>
+    ensures { TellsText (E.writer.written diagnostics.old) (E.writer.written diagnostics.new) }
+{
+    match notes.oversize_term() {
+        Some(size) => write_excess(size, diagnostics),
+        None => Ok(()),
+    }
+}
+
+/// Writes the end of a remark on a place in this file: the other line of all definitions that it is about, if there is one, and a line feed.
+fn write_mention<E: Sink>(
+    reporting: Reporting<'_>,
+    on_line: Option<usize>,
+    beside: &str,
+    diagnostics: &mut E,
+) -> Result<(), Fault>
+    ensures { TellsText (E.writer.written diagnostics.old) (E.writer.written diagnostics.new) }
+{
+    let Some(other) = on_line else {
+        return write_pieces(&[b"\n".as_slice()], diagnostics);
+    };
+    let NamedLine { line, text_name } = reporting.named_line(other, beside);
+    let of = if text_name.is_some() { " of " } else { "" };
+    let name = text_name.unwrap_or("");
+    let mut digits = Buffer::new();
+    let pieces = [
+        b" on line ".as_slice(),
+        digits.format(line).as_bytes(),
+        of.as_bytes(),
+        name.as_bytes(),
+        b"\n",
+    ];
+    write_pieces(&pieces, diagnostics)
+}
+
+/// Writes the line of a remark: the file and the place in it at which it stands, or two blanks; its text; and the other line that it is about,
+/// if there is one.
+pub(crate) fn write_remark<E: Sink>(
+    reporting: Reporting<'_>,
+    remark: &Remark,
+    diagnostics: &mut E,
+) -> Result<(), Fault>
+    ensures { TellsText (E.writer.written diagnostics.old) (E.writer.written diagnostics.new) }
+{
+    let text = remark.text.as_slice();
+    let Some(Position { line, column }) = remark.position else {
+        return write_pieces(&[b"  ".as_slice(), text, b"\n"], diagnostics);
+    };
+    let FileLine { name, line } = reporting.file_line(line);
+    let (mut line_digits, mut column_digits) = (Buffer::new(), Buffer::new());
+    let pieces = [
+        name.as_bytes(),
+        b":",
+        line_digits.format(line).as_bytes(),
+        b":",
+        column_digits.format(column).as_bytes(),
+        b": ",
+        text,
+    ];
+    write_pieces(&pieces, diagnostics)?;
+    write_mention(reporting, remark.on_line, name, diagnostics)
+}
+
+/// Writes why a run has no result or what a check found, where that is known: a line for each remark.
+pub(crate) fn write_remarks<E: Sink>(
+    reporting: Reporting<'_>,
+    notes: &RunNotes,
+    diagnostics: &mut E,
+) -> Result<(), Fault>
+    ensures { TellsText (E.writer.written diagnostics.old) (E.writer.written diagnostics.new) }
+{
+    let Some(explanation) = notes.explanation() else {
+        return Ok(());
+    };
+    for remark in explanation.remarks() {
+        write_remark(reporting, remark, diagnostics)?;
+    }
+    Ok(())
+}
+
+/// Writes what is asked for of a run: why it has no result, warnings, and then what it used. Where a write fails, nothing more is written.
+fn report_asked<E: Sink>(
+    alloc: Global,
+    reporting: Reporting<'_>,
+    notes: &RunNotes,
+    diagnostics: &mut E,
+)
+    ensures { TellsIfAsked (reporting.entry.has_stats || reporting.entry.explains)
+        (E.writer.written diagnostics.old) (E.writer.written diagnostics.new) }
+{
+    if !reporting.reports_runs() {
+        return;
+    }
+    if write_remarks(reporting, notes, diagnostics).is_err() {
+        return;
+    }
+    report_numbers(alloc, reporting.has_stats, notes, diagnostics);
+}
+
+/// Writes the diagnostic line of a refusal of definitions that are checked, and then a line for each remark or, if there are none, what
+/// `report_refusal` writes.
+pub(crate) fn report_findings<E: Sink>(
+    alloc: Global,
+    fault: &Fault,
+    reporting: Reporting<'_>,
+    notes: &RunNotes,
+    diagnostics: &mut E,
+)
+    ensures { Told E.writer diagnostics.old diagnostics.new (TellsMore fault.now) }
+{
+    if notes.explanation().is_none() {
+        report_refusal(alloc, fault, reporting, notes, diagnostics);
+        return;
+    }
+    if report(fault, diagnostics).is_err() {
+        return;
+    }
+    let _ = write_remarks(reporting, notes, diagnostics);
+}
+
+/// Writes that a term did not fit and, where that is asked for, more of the run.
+fn report_oversize<E: Sink>(
+    alloc: Global,
+    reporting: Reporting<'_>,
+    notes: &RunNotes,
+    diagnostics: &mut E,
+)
+    ensures { TellsText (E.writer.written diagnostics.old) (E.writer.written diagnostics.new) }
+{
+    if write_oversize(notes, diagnostics).is_err() {
+        return;
+    }
+    report_asked(alloc, reporting, notes, diagnostics);
+}
+
+/// Writes that the budget is spent and, where that is asked for, more of the run.
+fn report_spent<E: Sink>(
+    alloc: Global,
+    budget: u32,
+    reporting: Reporting<'_>,
+    notes: &RunNotes,
+    diagnostics: &mut E,
+)
+    ensures { TellsText (E.writer.written diagnostics.old) (E.writer.written diagnostics.new) }
+{
+    if write_spent(budget, diagnostics).is_err() {
+        return;
+    }
+    report_asked(alloc, reporting, notes, diagnostics);
+}
+
+/// Writes how a transformation with this budget ended: of a refusal the diagnostic line and lines that say more, of a spent budget and of a
+/// term that did not fit one line, and then what is asked for. Results and failures are reported only where more is asked for.
+pub(crate) fn report_end<E: Sink>(
+    alloc: Global,
+    status: &Status,
+    budget: u32,
+    reporting: Reporting<'_>,
+    notes: &RunNotes,
+    diagnostics: &mut E,
+)
+    ensures { Told E.writer diagnostics.old diagnostics.new
+        (IsReportedWith reporting.entry.has_stats reporting.entry.explains status.now) }
+{
+    match status {
+        Status::Rewritten => report_asked(alloc, reporting, notes, diagnostics),
+        Status::Failed => report_asked(alloc, reporting, notes, diagnostics),
+        Status::Refused(fault) => report_refusal(alloc, fault, reporting, notes, diagnostics),
+        Status::Oversize => report_oversize(alloc, reporting, notes, diagnostics),
+        Status::Spent => report_spent(alloc, budget, reporting, notes, diagnostics),
+    }
+}

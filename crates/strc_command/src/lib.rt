@@ -1,0 +1,27 @@
+//! The program as a library: the words of the command line, the files that they name, the run over them and over any streams, and what is
+//! reported of it.
+#![tactic(auto)]
+
+mod checking;
+mod definition_files;
+mod ending;
+mod failure;
+mod formed;
+mod open_streams;
+mod opening;
+mod paths;
+mod pretty;
+mod primitives;
+mod program;
+mod raw;
+mod report;
+mod request;
+mod stopping;
+mod words;
+
+pub use paths::{Files, Paths};
+pub use primitives::run_standard;
+pub use program::run;
+pub use raw::without_quotes;
+pub use request::{Form, Request, Texts, request_of};
+pub use words::words_of;

@@ -1,0 +1,188 @@
+//! Where the files that a request names are opened.
+ghost use Rattle.std.specs.Prelude.{◌≡◌, map, ℕ, List, IfErr, IfOk};
+ghost use Rattle.str_pipeline.specs.Faults.{IsReadingFault};
+ghost use Rattle.strc_command.specs.Files.{path_of, readers_of, texts_at};
+ghost use Rattle.strc_command.specs.Report.{IsUnread};
+ghost use Rattle.strc_command.specs.Runs.{Told};
+
+use crate::definition_files::DefinitionFiles;
+use crate::failure::Failure;
+use crate::paths::{Paths, prelude_beside};
+use crate::stopping::{stop, stop_reading};
+use std::alloc::{AllocError, Global};
+use std::collections::VecDeque;
+use str_pipeline::{Sink, Source};
+use term_model::Fault;
+
+/// The word of `--with` for the prelude that is installed with the program.
+pub(crate) const PRELUDE: &str = "prelude";
+
+/// A file that is read in front of the definitions.
+#[derive(Drop)]
+pub(crate) struct Library {
+    pub(crate) path: String,
+    /// Whether it is the installed prelude.
+    pub(crate) is_prelude: bool,
+}
+
+/// A file that is not open: with which fault, and what a person is told of it.
+#[derive(Drop)]
+pub(crate) struct Unopened<'a> {
+    pub(crate) fault: Fault,
+    pub(crate) failure: Failure<'a>,
+}
+
+impl<'a> Unopened<'a> {
+    fn new(fault: Fault, failure: Failure<'a>) -> Unopened<'a>
+        ensures { result.fault ≡ fault }
+    {
+        Unopened { fault, failure }
+    }
+}
+
+/// Returns the path of the prelude that is installed with the program, whether or not a file is there; nothing where the place of the program is
+/// not known. The error is one of memory.
+fn installed_prelude<P: Paths>(alloc: Global, paths: &P) -> Result<Option<String>, AllocError> {
+    match paths.program(alloc)? {
+        Some(program) => prelude_beside(alloc, program.as_str()),
+        None => Ok(None),
+    }
+}
+
+/// Returns the file that a word of `--with` names. The fault is `Read` if the place of the installed prelude is not known, or `Memory`.
+fn library_of<P: Paths>(alloc: Global, paths: &mut P, word: &str) -> Result<Library, Fault>
+    ensures fault { IfErr result IsReadingFault }
+    ensures kept { (other : List ℕ) → P.text_at paths.new other ≡ P.text_at paths.old other }
+{
+    if word != PRELUDE {
+        return Ok(Library {
+            path: String::from_str(alloc, word)?,
+            is_prelude: false,
+        });
+    }
+    match installed_prelude(alloc, paths)? {
+        Some(path) => Ok(Library {
+            path,
+            is_prelude: true,
+        }),
+        None => Err(Fault::Read),
+    }
+}
+
+/// Returns the files that the words of `--with` name, in their order. The fault is `Read` if the place of the installed prelude is not known,
+/// or `Memory`.
+fn libraries_of<P: Paths>(
+    alloc: Global,
+    paths: &mut P,
+    words: &[&str],
+) -> Result<Vec<Library>, Fault>
+    ensures fault { IfErr result IsReadingFault }
+{
+    let mut libraries = Vec::new(alloc);
+    for word in words {
+        libraries.push(library_of(alloc, paths, word)?)?;
+    }
+    Ok(libraries)
+}
+
+/// Returns the files that the words of `--with` name, in their order. If the place of the installed prelude is not known or memory is refused,
+/// reports that, and returns 4 as the error.
+pub(crate) fn find_libraries<P: Paths, E: Sink>(
+    alloc: Global,
+    paths: &mut P,
+    words: &[&str],
+    diagnostics: &mut E,
+) -> Result<Vec<Library>, u8>
+    ensures found { IfOk result (λ libraries. diagnostics.new ≡ diagnostics.old) }
+    ensures stopped { IfErr result (λ status. (status ≡ 4) ×
+        Told E.writer diagnostics.old diagnostics.new IsUnread) }
+{
+    match libraries_of(alloc, paths, words) {
+        Ok(libraries) => Ok(libraries),
+        Err(fault) => Err(stop_reading(alloc, &fault, Failure::of_prelude(), diagnostics)),
+    }
+}
+
+/// Opens these files, in their order. An error says which one could not be opened, and why; the fault is `Read`, or `Memory`.
+fn open_libraries<'a, P: Paths>(
+    alloc: Global,
+    paths: &mut P,
+    libraries: &'a [Library],
+) -> Result<VecDeque<P::Reader>, Unopened<'a>>
+    ensures fault { IfErr result (λ unopened. IsReadingFault unopened.fault) }
+    ensures texts { IfOk result (λ readers. map P.Reader.reader.coming readers.items
+        ≡ map (λ library. P.text_at paths.old (path_of library)) libraries.now) }
+    ensures kept { (other : List ℕ) → P.text_at paths.new other ≡ P.text_at paths.old other }
+{
+    let mut readers = VecDeque::new(alloc);
+    for library in libraries {
+        let path = library.path.as_str();
+        match paths.open(path) {
+            Ok(reader) => {
+                if readers.push_back(reader).is_err() {
+                    let failure = Failure::of_opening(path, None);
+                    return Err(Unopened::new(Fault::Memory, failure));
+                }
+            }
+            Err(fault) => {
+                let failure = Failure::of_library(path, paths.failure(), library.is_prelude);
+                return Err(Unopened::new(fault, failure));
+            }
+        }
+    }
+    Ok(readers)
+}
+
+/// Opens the file at this path. If it cannot be opened, reports why, and returns 4 as the error.
+pub(crate) fn open_reader<P: Paths, E: Sink>(
+    alloc: Global,
+    paths: &mut P,
+    path: &str,
+    diagnostics: &mut E,
+) -> Result<P::Reader, u8>
+    ensures opened { IfOk result (λ reader. diagnostics.new ≡ diagnostics.old) }
+    ensures text { IfOk result (λ reader. P.Reader.reader.coming reader ≡
+        P.text_at paths.old path.now) }
+    ensures stopped { IfErr result (λ status. (status ≡ 4) ×
+        Told E.writer diagnostics.old diagnostics.new IsUnread) }
+    ensures kept { (other : List ℕ) → P.text_at paths.new other ≡ P.text_at paths.old other }
+{
+    match paths.open(path) {
+        Ok(reader) => Ok(reader),
+        Err(fault) => {
+            let failure = Failure::of_opening(path, paths.failure());
+            Err(stop_reading(alloc, &fault, failure, diagnostics))
+        }
+    }
+}
+
+/// Opens the files of libraries, in their order, and then that of the definitions. If one cannot be opened, reports why, and returns 4 as
+/// the error; those after it are not opened.
+#[tactic(auto, using(crate::proofs::CauseLaws::alone_told))]
+pub(crate) fn open_definitions<P: Paths, E: Sink>(
+    alloc: Global,
+    paths: &mut P,
+    libraries: &[Library],
+    definitions: &str,
+    diagnostics: &mut E,
+) -> Result<DefinitionFiles<P::Reader>, u8>
+    ensures opened { IfOk result (λ files. diagnostics.new ≡ diagnostics.old) }
+    ensures texts { IfOk result (λ files. map P.Reader.reader.coming (readers_of files)
+        ≡ texts_at (P.text_at paths.old) libraries.now definitions.now) }
+    ensures stopped { IfErr result (λ status. (status ≡ 4) ×
+        Told E.writer diagnostics.old diagnostics.new IsUnread) }
+    ensures kept { (other : List ℕ) → P.text_at paths.new other ≡ P.text_at paths.old other }
+{
+    let readers = match open_libraries(alloc, paths, libraries) {
+        Ok(readers) => readers,
+        Err(unopened) => {
+            let Unopened { fault, failure } = unopened;
+            return Err(stop_reading(alloc, &fault, failure, diagnostics));
+        }
+    };
+    let last = open_reader(alloc, paths, definitions, diagnostics)?;
+    match DefinitionFiles::new(alloc, readers, last) {
+        Ok(files) => Ok(files),
+        Err(_) => Err(stop(&Fault::Memory, diagnostics)),
+    }
+}

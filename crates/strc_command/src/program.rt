@@ -1,0 +1,283 @@
+//! The work of the program, over any streams and files.
+ghost use Rattle.std.specs.Prelude.{◌≡◌, ◌+◌, ◌<◌, ◌≤◌, length};
+ghost use Rattle.term_model.specs.Limits.{max_budget};
+ghost use Rattle.str_pipeline.specs.declared.status.Status.{Status};
+ghost use Rattle.prim_registry.specs.Entries.{IsHonest};
+ghost use Rattle.str_pipeline.specs.Setting.{setting_of};
+ghost use Rattle.str_pipeline.specs.Faults.{HoldsRefusal};
+ghost use Rattle.str_pipeline.specs.Limits.{max_definitions, max_term};
+ghost use Rattle.strc_command.specs.Files.{texts_at, whole_text};
+ghost use Rattle.strc_command.specs.Report.{exit_of, IsReportedWith};
+ghost use Rattle.strc_command.specs.declared.request.Texts.TheVariants.{Joined};
+ghost use Rattle.str_pipeline.specs.Joined.{OfJoined};
+ghost use Rattle.str_pipeline.specs.Transformation.{OfTwo};
+ghost use Rattle.strc_command.specs.Runs.{IsAnswered, Runs, RunsPlain, Stops, Told, reads_of};
+
+use crate::checking::run_check;
+use crate::open_streams::{run_apart, run_joined};
+use crate::opening::{find_libraries, open_definitions, open_reader};
+use crate::paths::Paths;
+use crate::report::{INPUT, Reporting};
+use crate::request::{Request, Texts, misuse_of, options_of, request_of};
+use crate::stopping::{stop, stop_writing};
+use clap::Error;
+use clap::error::ErrorKind;
+use prim_registry::{PrimMeaning, Registry};
+use std::alloc::Global;
+use str_pipeline::{Options, Sink, Source, Status, write_all};
+use term_model::Fault;
+
+/// Does the work with the files of definitions that the report names, which are read as one text, and the term of `input`. A file that cannot
+/// be opened is a fault before anything is read.
+#[tactic(auto, using(crate::proofs::CauseLaws::of_transfer, crate::proofs::CauseLaws::of_reading, crate::proofs::CauseLaws::fault_told))]
+fn run_definitions<P: Paths, I: Source, W: Sink, E: Sink, M: PrimMeaning>(
+    alloc: Global,
+    paths: &mut P,
+    input: &mut I,
+    reporting: Reporting<'_>,
+    options: &Options,
+    registry: &Registry<M>,
+    out: &mut W,
+    diagnostics: &mut E,
+) -> u8
+    requires budget { options.now.budget ≤ max_budget }
+    requires honest { IsHonest M.answer registry.now }
+    ensures status { result ≤ 4 }
+    ensures ended { result < 4 → IsAnswered
+        (OfTwo (whole_text (texts_at (P.text_at paths.old) reporting.entry.libraries.now
+        reporting.entry.definitions.now)) (I.reader.coming input.old))
+        W.writer E.writer reporting.entry.form reporting.entry.has_stats reporting.entry.explains
+        (setting_of M.answer registry.now options.now)
+        out.old out.new diagnostics.old diagnostics.new result }
+    ensures stops { Stops W.writer E.writer out.old out.new diagnostics.old diagnostics.new result }
+    ensures bounded { I.reader.reads input.new ≤ I.reader.reads input.old + max_term + 1 }
+{
+    let (libraries, path) = (reporting.libraries, reporting.definitions);
+    let mut definitions = match open_definitions(alloc, paths, libraries, path, diagnostics) {
+        Ok(files) => files,
+        Err(status) => return status,
+    };
+    run_apart(
+        alloc,
+        &mut definitions,
+        input,
+        reporting,
+        options,
+        registry,
+        out,
+        diagnostics,
+    )
+}
+
+/// Does the same with the file of the term that the report names, which is opened last.
+#[tactic(auto, using(crate::proofs::CauseLaws::of_transfer, crate::proofs::CauseLaws::of_reading, crate::proofs::CauseLaws::fault_told))]
+fn run_files<P: Paths, W: Sink, E: Sink, M: PrimMeaning>(
+    alloc: Global,
+    paths: &mut P,
+    reporting: Reporting<'_>,
+    options: &Options,
+    registry: &Registry<M>,
+    out: &mut W,
+    diagnostics: &mut E,
+) -> u8
+    requires budget { options.now.budget ≤ max_budget }
+    requires honest { IsHonest M.answer registry.now }
+    ensures status { result ≤ 4 }
+    ensures ended { result < 4 → IsAnswered
+        (OfTwo (whole_text (texts_at (P.text_at paths.old) reporting.entry.libraries.now
+        reporting.entry.definitions.now)) (P.text_at paths.old reporting.entry.term.now))
+        W.writer E.writer reporting.entry.form reporting.entry.has_stats reporting.entry.explains
+        (setting_of M.answer registry.now options.now)
+        out.old out.new diagnostics.old diagnostics.new result }
+    ensures stops { Stops W.writer E.writer out.old out.new diagnostics.old diagnostics.new result }
+{
+    let (libraries, path) = (reporting.libraries, reporting.definitions);
+    let mut definitions = match open_definitions(alloc, paths, libraries, path, diagnostics) {
+        Ok(files) => files,
+        Err(status) => return status,
+    };
+    let mut term = match open_reader(alloc, paths, reporting.term, diagnostics) {
+        Ok(reader) => reader,
+        Err(status) => return status,
+    };
+    run_apart(
+        alloc,
+        &mut definitions,
+        &mut term,
+        reporting,
+        options,
+        registry,
+        out,
+        diagnostics,
+    )
+}
+
+/// Does the work with the texts that the request names. A file that cannot be opened is a fault before anything is read.
+#[tactic(auto, using(crate::proofs::CauseLaws::of_transfer, crate::proofs::CauseLaws::of_reading, crate::proofs::CauseLaws::fault_told))]
+fn run_texts<P: Paths, I: Source, W: Sink, E: Sink, M: PrimMeaning>(
+    alloc: Global,
+    request: &Request<'_>,
+    paths: &mut P,
+    input: &mut I,
+    options: &Options,
+    registry: &Registry<M>,
+    out: &mut W,
+    diagnostics: &mut E,
+) -> u8
+    requires budget { options.now.budget ≤ max_budget }
+    requires honest { IsHonest M.answer registry.now }
+    ensures status { result ≤ 4 }
+    ensures joined { request.now.texts ≡ Joined → Runs (OfJoined (I.reader.coming input.old))
+        (reads_of I.reader input.old input.new) W.writer E.writer
+        request.now.form request.now.has_stats request.now.explains
+        (setting_of M.answer registry.now options.now)
+        out.old out.new diagnostics.old diagnostics.new result }
+    ensures ended { result < 4 → (status : Status) × (exit_of status ≡ result) × HoldsRefusal status
+        × Told E.writer diagnostics.old diagnostics.new
+        (IsReportedWith request.now.has_stats request.now.explains status) }
+    ensures stops { Stops W.writer E.writer out.old out.new diagnostics.old diagnostics.new result }
+    ensures bounded { I.reader.reads input.new ≤ I.reader.reads input.old + max_definitions + 7 +
+        max_term + 1 }
+{
+    match request.texts {
+        Texts::Joined => {
+            let reporting = Reporting::new(request, &[], INPUT, INPUT);
+            run_joined(alloc, input, reporting, options, registry, out, diagnostics)
+        }
+        Texts::Definitions(path) => {
+            let libraries = match find_libraries(alloc, paths, &request.libraries, diagnostics) {
+                Ok(libraries) => libraries,
+                Err(status) => return status,
+            };
+            let reporting = Reporting::new(request, &libraries, path, INPUT);
+            run_definitions(
+                alloc,
+                paths,
+                input,
+                reporting,
+                options,
+                registry,
+                out,
+                diagnostics,
+            )
+        }
+        Texts::Both(path, term) => {
+            let libraries = match find_libraries(alloc, paths, &request.libraries, diagnostics) {
+                Ok(libraries) => libraries,
+                Err(status) => return status,
+            };
+            let reporting = Reporting::new(request, &libraries, path, term);
+            run_files(alloc, paths, reporting, options, registry, out, diagnostics)
+        }
+    }
+}
+
+/// Tells what is wrong with the words on `diagnostics`, and returns 5; or writes the help text or the version to `out`, as was asked, and
+/// returns 0.
+#[tactic(auto, using(crate::proofs::CauseLaws::line_told))]
+fn explain<W: Sink, E: Sink>(alloc: Global, error: &Error, out: &mut W, diagnostics: &mut E) -> u8
+    ensures status { result ≤ 5 }
+    ensures usage { result ≡ 5 → out.new ≡ out.old }
+    ensures stops { Stops W.writer E.writer out.old out.new diagnostics.old diagnostics.new result }
+{
+    if error.kind() == ErrorKind::OutOfMemory {
+        return stop(&Fault::Memory, diagnostics);
+    }
+    let Ok(text) = format!(in alloc; "{error}") else {
+        return stop(&Fault::Memory, diagnostics);
+    };
+    if error.use_stderr() {
+        let _ = write_all(diagnostics, text.as_bytes());
+        let _ = write_all(diagnostics, range_of(error.kind()).as_bytes());
+        return 5;
+    }
+    if write_all(out, text.as_bytes()).is_err() {
+        return stop_writing(alloc, out, diagnostics);
+    }
+    0
+}
+
+/// Returns the line that says what `--rules` takes where a value is wrong: it is the only option with a number. Nothing for other errors.
+fn range_of(kind: ErrorKind) -> &'static str {
+    if kind == ErrorKind::ValueValidation {
+        "hint: --rules takes a number from 0 to 1000000000\n"
+    } else {
+        ""
+    }
+}
+
+/// Does what the words of the command line ask for, of which the first is the name of the program: `[--rules N] [--main NAME] [--strict]
+/// [--stats] [--explain] [--raw | --pretty] [--check] [--with FILE].. [DEFS [TERM]]`. It transforms the definitions of the file DEFS and the
+/// term of the file TERM; without TERM the term comes from `input`, and without both paths the joined form does. The definitions are one text
+/// (`whole_text`): the bytes of each file of `--with`, a line feed after each, and those of DEFS. Definitions may call the primitives of the
+/// registry and the strategies of the library. The line of the answer goes to `out`; with `--raw` a string as its bytes, and with `--pretty`
+/// a result in several lines. Files are opened before anything is read: those of `--with` in their order, DEFS and TERM. With `--check` it
+/// judges the definitions alone, those of the files and else of `input`: `diagnostics` gets all faults and warnings, and `out` nothing.
+///
+/// Returns the exit status: 0 where the term was rewritten, and for the help text and the version, which go to `out`; 1 where the strategy
+/// failed, 2 where the definitions or the term were refused, 3 where the budget was spent or a term was too large, 4 where memory, opening,
+/// reading or writing failed, and 5 where the words are wrong, and then nothing is read or written to `out`.
+///
+/// For 2 and 4 a line on `diagnostics` reports the fault. In the joined form and for 4 that is `Read` exactly where a read of `input`
+/// failed, `Write` exactly where a write to `out` failed, and `Memory` else. For 2 lines for a person come after it: the name of the
+/// text, the line and the column, what is wrong, and the line with a mark under the place. For 4 one line for a person comes after `Read`
+/// and `Write`: what could not be opened, read or written and, where that is known, why. These lines are left out where memory for them is
+/// refused. Of a broken pipe, to which `out` writes, nothing is reported. For 3 a line says how large the budget was that was spent, or
+/// how large the term was, if that is known. Where the words ask why there is no result, lines say it next for 1 and 3, if memory for that
+/// was there. Where they ask for the numbers of the run, a line with them comes last for 0, 1 and 3. For 5 `diagnostics` tells what
+/// is wrong with the words and how the help text is had. A write to `diagnostics` that fails changes nothing.
+#[tactic(auto, using(crate::proofs::CauseLaws::line_told, crate::proofs::CauseLaws::of_reading, crate::proofs::CauseLaws::fault_told))]
+pub fn run<P: Paths, I: Source, W: Sink, E: Sink, M: PrimMeaning>(
+    alloc: Global,
+    words: &[String],
+    registry: &Registry<M>,
+    paths: &mut P,
+    input: &mut I,
+    out: &mut W,
+    diagnostics: &mut E,
+) -> u8
+    requires honest { IsHonest M.answer registry.now }
+    ensures status { result ≤ 5 }
+    ensures usage { result ≡ 5 → (out.new ≡ out.old) × (input.new ≡ input.old) }
+    ensures stops { Stops W.writer E.writer out.old out.new diagnostics.old diagnostics.new result }
+    ensures bounded { I.reader.reads input.new ≤ I.reader.reads input.old + max_definitions + 7 +
+        max_term + 1 }
+    ensures plain { length words.now ≤ 1 → RunsPlain I.reader W.writer E.writer
+        (setting_of M.answer registry.now)
+        input.old input.new out.old out.new diagnostics.old diagnostics.new result }
+{
+    let request = match request_of(alloc, words) {
+        Ok(request) => request,
+        Err(error) => return explain(alloc, &error, out, diagnostics),
+    };
+    let Ok(options) = options_of(alloc, &request) else {
+        return stop(&Fault::Memory, diagnostics);
+    };
+    if words.len() > 1 {
+        if let Some(text) = misuse_of(&request) {
+            let _ = write_all(diagnostics, text.as_bytes());
+            return 5;
+        }
+        if request.checks {
+            return run_check(
+                alloc,
+                &request,
+                paths,
+                input,
+                &options,
+                registry,
+                diagnostics,
+            );
+        }
+    }
+    run_texts(
+        alloc,
+        &request,
+        paths,
+        input,
+        &options,
+        registry,
+        out,
+        diagnostics,
+    )
+}
