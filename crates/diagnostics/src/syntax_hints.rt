@@ -49,12 +49,12 @@ pub(crate) struct Site<'a> {
 impl<'a> Site<'a> {
     /// Whether this could stand in place of the token at fault.
     pub(crate) fn expects(&self, candidate: Candidate) -> bool {
-        matches!(self.reason, SyntaxReason::Expected(expected) if expected.has(candidate))
+        self.reason.expected().has(candidate)
     }
 
     /// Whether nothing else could stand there.
     pub(crate) fn expects_only(&self, candidate: Candidate) -> bool {
-        matches!(self.reason, SyntaxReason::Expected(expected) if expected.is_only(candidate))
+        self.reason.expected().is_only(candidate)
     }
 
     /// What the token at fault and those beside it tell.

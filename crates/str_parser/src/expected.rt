@@ -3,26 +3,57 @@
 use std::fmt;
 use str_syntax::{Declaration, Definition, DefinitionForm, Section, SignaturePart};
 
-/// Why no phrase goes on with a token.
+/// Why no phrase goes on with a token: the rule that it breaks, and what could stand there. It has eight bytes and no gap between them, since
+/// each result of the parser has room for it.
 #[derive(Clone, Copy, Debug, PartialEq, Eq)]
-pub enum SyntaxReason {
-    /// Something else could stand there.
-    Expected(Expected),
+pub struct SyntaxReason {
+    rule: SyntaxRule,
+    expected: Expected,
+}
+
+/// The rule that a token breaks.
+#[derive(Clone, Copy, Debug, PartialEq, Eq)]
+pub(crate) enum SyntaxRule {
+    /// Only what is expected can stand there.
+    Expected,
     /// No `{`: the pattern has annotations already.
     OneListOfAnnotations,
     /// No `{`: it would follow `<s>`, which has no annotations without parentheses around it.
     ParenthesesAroundApplied,
 }
 
+impl SyntaxReason {
+    /// One of these could stand there.
+    pub(crate) fn any_of(candidates: &[Candidate]) -> SyntaxReason {
+        SyntaxReason {
+            rule: SyntaxRule::Expected,
+            expected: Expected::any_of(candidates),
+        }
+    }
+
+    /// The token breaks this rule about annotations.
+    pub(crate) fn of_rule(rule: SyntaxRule) -> SyntaxReason {
+        SyntaxReason {
+            rule,
+            expected: Expected::any_of(&[]),
+        }
+    }
+
+    /// Returns what could stand there, which is nothing where another rule is broken.
+    pub fn expected(&self) -> Expected {
+        self.expected
+    }
+}
+
 /// What could stand there, as `expected ',' or ')'`, or the rule that the token breaks.
 impl fmt::Display for SyntaxReason {
     fn fmt<W: fmt::Write>(&self, f: &mut fmt::Formatter<W>) -> fmt::Result {
-        match self {
-            SyntaxReason::Expected(expected) => write!(f, "expected {expected}"),
-            SyntaxReason::OneListOfAnnotations => {
-                f.write_str("a pattern has one list of annotations")
-            }
-            SyntaxReason::ParenthesesAroundApplied => {
+        match self.rule {
+            SyntaxRule::Expected => write!(f, "expected {}", self.expected),
+            SyntaxRule::OneListOfAnnotations => f.write_str(
+                "a pattern has one list of annotations",
+            ),
+            SyntaxRule::ParenthesesAroundApplied => {
                 f.write_str("'<..>' takes annotations only in parentheses")
             }
         }
@@ -30,7 +61,7 @@ impl fmt::Display for SyntaxReason {
 }
 
 /// The most things that are expected at a place.
-const MOST: usize = 4;
+const MOST: usize = 6;
 
 /// What could stand at a place, each thing once: that with which the innermost part goes on or ends that is open there. An operator may be
 /// possible as well.
@@ -42,16 +73,19 @@ pub struct Expected {
 }
 
 impl Expected {
-    /// Any of the first four of these.
+    /// Any of the first six of these.
     #[inline(never)]
-    pub(crate) fn any_of(candidates: &[Candidate]) -> Expected {
+    fn any_of(candidates: &[Candidate]) -> Expected {
         let mut expected = Expected {
             candidates: [Candidate::Name; MOST],
             count: 0,
         };
-        for (place, candidate) in expected.candidates.iter_mut().zip(candidates) {
-            *place = *candidate;
-            expected.count = expected.count.saturating_add(1);
+        for candidate in candidates {
+            let at = usize::from(expected.count);
+            if let Some(place) = expected.candidates.get_mut(at) {
+                *place = *candidate;
+                expected.count = expected.count.saturating_add(1);
+            }
         }
         expected
     }

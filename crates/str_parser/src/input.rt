@@ -4,7 +4,7 @@ ghost use Rattle.str_parser.specs.Lexemes.{lexemes, lexeme_of};
 ghost use Rattle.str_parser.specs.Within.{AreWithin};
 ghost use Rattle.str_parser.specs.Readings.{lexeme_in, IsFirst, IsAfter, IsAfterKeyword, IsSyntax};
 
-use crate::expected::{Candidate, Expected, SyntaxReason};
+use crate::expected::{Candidate, SyntaxReason};
 use crate::refusal::ParseRefusal;
 use std::marker::Model;
 use str_lexer::{Keyword, Mark, Token, TokenKind};
@@ -112,7 +112,7 @@ impl<'a> Input<'a> {
     pub(crate) fn syntax(&self, expected: &'static [Candidate]) -> ParseRefusal
         ensures { IsSyntax result }
     {
-        self.refusal(SyntaxReason::Expected(Expected::any_of(expected)))
+        self.refusal(SyntaxReason::any_of(expected))
     }
 
     /// The refusal of the first token, for this reason.

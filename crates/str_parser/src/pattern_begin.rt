@@ -6,7 +6,7 @@ ghost use Rattle.str_parser.specs.Phrases.{is_constructor as has_no_quote};
 ghost use Rattle.str_parser.specs.Begun.{IsNextPattern, WrittenPattern};
 
 use crate::begun::{BeforeInner, BegunPattern};
-use crate::expected::{Candidate, Expected, SyntaxReason};
+use crate::expected::{Candidate, SyntaxReason};
 use crate::input::{Input, Lexeme};
 use crate::refusal::ParseRefusal;
 use std::alloc::Global;
@@ -53,7 +53,7 @@ fn begin_mark<'a>(
         Mark::OpenBracket => Ok(begin_bracketed(alloc, input)),
         Mark::Less if !in_match => Ok(BegunPattern::ToStrategy(input)),
         _ => {
-            let reason = SyntaxReason::Expected(Expected::any_of(&[Candidate::Pattern]));
+            let reason = SyntaxReason::any_of(&[Candidate::Pattern]);
             Err(ParseRefusal::Syntax { at, reason })
         }
     }

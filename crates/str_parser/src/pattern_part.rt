@@ -6,7 +6,7 @@ ghost use Rattle.str_parser.specs.Phrases.{pattern_part, takes_annotations as ma
 ghost use Rattle.str_parser.specs.Begun.{IsNextPattern, HasInner, GoesApplied, GoesAnnotated};
 
 use crate::begun::{BeforeInner, BegunPattern};
-use crate::expected::{Candidate, SyntaxReason};
+use crate::expected::{Candidate, SyntaxReason, SyntaxRule};
 use crate::input::{Input, Lexeme};
 use crate::refusal::ParseRefusal;
 use std::alloc::Global;
@@ -165,10 +165,10 @@ fn takes_annotations(pattern: &Pattern) -> bool
 }
 
 /// Why no annotations may follow the pattern.
-fn no_annotations(pattern: &Pattern) -> SyntaxReason {
+fn no_annotations(pattern: &Pattern) -> SyntaxRule {
     match pattern {
-        Pattern::Applied(_) => SyntaxReason::ParenthesesAroundApplied,
-        _ => SyntaxReason::OneListOfAnnotations,
+        Pattern::Applied(_) => SyntaxRule::ParenthesesAroundApplied,
+        _ => SyntaxRule::OneListOfAnnotations,
     }
 }
 
@@ -183,7 +183,7 @@ pub(crate) fn begin_annotations<'a>(
         IsNextPattern (GoesAnnotated (pattern_of bare)) in_match input.entry result }
 {
     if !takes_annotations(&bare) {
-        return Err(brace.refusal(no_annotations(&bare)));
+        return Err(brace.refusal(SyntaxReason::of_rule(no_annotations(&bare))));
     }
     let bare = Box::new(alloc, bare)?;
     if let Some(rest) = input.after(Mark::CloseBrace) {

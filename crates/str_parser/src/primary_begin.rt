@@ -6,7 +6,7 @@ ghost use Rattle.str_parser.specs.Phrases.{keyword_of};
 ghost use Rattle.str_parser.specs.Begun.{IsWhole, IsNext, Written, GoesBehindBar};
 
 use crate::begun::{BeforePattern, BeforeStrategy, Begun};
-use crate::expected::{Candidate, Expected, SyntaxReason};
+use crate::expected::{Candidate, SyntaxReason};
 use crate::input::{Input, Lexeme};
 use crate::names::{name, names};
 use crate::primary_let::begin_definition;
@@ -60,7 +60,7 @@ fn begin_mark<'a>(
         Mark::OpenBracket => begin_bracketed(alloc, input),
         Mark::OpenBrace => begin_scope(alloc, input),
         _ => {
-            let reason = SyntaxReason::Expected(Expected::any_of(&[Candidate::Strategy]));
+            let reason = SyntaxReason::any_of(&[Candidate::Strategy]);
             Err(ParseRefusal::Syntax { at, reason })
         }
     }
@@ -119,7 +119,7 @@ fn begin_keyword<'a>(
         Keyword::Let => begin_definition(alloc, Vec::new(alloc), input, &[Candidate::Name]),
         Keyword::Prim => begin_primitive(alloc, input),
         _ => {
-            let reason = SyntaxReason::Expected(Expected::any_of(&[Candidate::Strategy]));
+            let reason = SyntaxReason::any_of(&[Candidate::Strategy]);
             Err(ParseRefusal::Syntax { at, reason })
         }
     }
