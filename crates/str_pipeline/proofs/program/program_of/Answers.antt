@@ -18,7 +18,8 @@ pub returns-in_err-file-clause-program : goal.returns-in_err-file-clause-program
 returns-in_err-file-clause-program g c =
     let p = err_from_is_err_and c.from_residual-in_err-file.result c.from_residual-in_err-file.ensures.1 in
     rw (p.1, p.2)
-    (no_file _ _ _ _ c.in_ok-tokens.ensures.exact (rw c.deref.ensures.value at c.in_err-file.ensures))
+    (no_file _ _ c.in_ok-tokens.tokens _ c.in_ok-tokens.ensures.exact
+    (rw c.deref.ensures.value at c.in_err-file.ensures))
 
 pub returns-in_err-checked-clause-program : goal.returns-in_err-checked-clause-program
 returns-in_err-checked-clause-program g c =
