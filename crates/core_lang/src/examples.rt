@@ -114,7 +114,8 @@ pub fn more_programs()
 
 /// A program over coordinates that a program over names is resolved to, which does the same with as many nodes.
 pub fn small_program_resolved()
-    ensures resolves { ResolvesProgram worked.passes_pair worked.main worked.passes_pair_resolved 1 }
+    ensures resolves { ResolvesProgram worked.passes_pair worked.main
+        worked.passes_pair_resolved 1 }
     ensures same { (M : Meaning) →
         RewritesByCoordinates
         M

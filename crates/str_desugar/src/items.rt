@@ -71,7 +71,8 @@ fn put_next(
 ) -> Result<(), AllocError>
     ensures items { OnOk result (map views.strategy_of items.new.items ≡
         map views.strategy_of items.old.items ++
-        core.match (core.variable (variable_at (layers_of scopes.now) (result_name next.old))) ∷ []) }
+        core.match (core.variable
+        (variable_at (layers_of scopes.now) (result_name next.old))) ∷ []) }
     ensures next { OnOk result (next.new ≡ next.old + 1) }
 {
     *next = successor(*next)?;

@@ -116,7 +116,8 @@ fn in_optional_pattern(
     found: &mut Names,
 ) -> Result<(), AllocError>
     ensures { OnOk result (found.new ≡
-        gathered (bound_names bound.now) found.old (names_of_rest (optional_pattern_of source.now))) }
+        gathered (bound_names bound.now) found.old
+        (names_of_rest (optional_pattern_of source.now))) }
 {
     match source {
         None => Ok(()),
@@ -336,7 +337,8 @@ fn in_definition(
     found: &mut Names,
 ) -> Result<(), AllocError>
     ensures { OnOk result (found.new ≡
-        gathered (bound_names bound.now) found.old (free_in_definition (definition_of source.now))) }
+        gathered (bound_names bound.now) found.old
+        (free_in_definition (definition_of source.now))) }
 {
     match &source.head.parameters {
         Parameters::WithTerms(_, terms) => in_scope(alloc, terms, &source.body, bound, found),

@@ -138,7 +138,8 @@ impl Hash for Name {
 
     ghost hash_input = { λ name. fed.slice fed.u8 name };
 
-    ghost respects_eq = { λ x y same. ap (λ name. fed.slice fed.u8 name) (same_name-true x y same) };
+    ghost respects_eq = { λ x y same. ap (λ name. fed.slice fed.u8 name)
+        (same_name-true x y same) };
 
     fn hash<H: Hasher>(&self, state: &mut H) {
         self.bytes().hash(state);

@@ -136,7 +136,8 @@ fn stand_at<S: TermSpace>(
     code: &Code,
     progress: &Progress<S::Ref>,
 ) -> Result<Option<Stand>, AllocError>
-    requires { Holds S.space space.now (state_of progress.now.next progress.now.position stacks.now) }
+    requires { Holds S.space space.now
+        (state_of progress.now.next progress.now.position stacks.now) }
 {
     if progress.next != Next::Running {
         return Ok(None);

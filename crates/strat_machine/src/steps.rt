@@ -104,7 +104,8 @@ pub(crate) fn leave_argument<S: TermSpace>(
     position: &mut Position<S::Ref>,
 ) -> Next
     ensures { (M : Meaning) (w : S) (i : ℕ) →
-        Performs S.space M end_argument i position.old w stacks.old w result position.new stacks.new }
+        Performs S.space M end_argument i position.old w stacks.old w
+        result position.new stacks.new }
 {
     let Some((next_address, frame)) = stacks.records.pop_call() else {
         return Next::Stuck;
