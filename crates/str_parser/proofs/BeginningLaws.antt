@@ -4,7 +4,7 @@ use Rattle.str_syntax.specs.Trees.{StrategyTree, plain_sequence, left_choice, gu
 use Rattle.str_parser.specs.Lexemes.{Lexeme, strategy_part, first_begins}
 use Rattle.str_parser.specs.Items.{Item, either, Runs}
 use Rattle.str_parser.specs.Phrases.{strategy, sequence, step, primary}
-use Rattle.str_parser.specs.Begun.{inner_strategy}
+use Rattle.str_parser.specs.Parts.{inner_strategy}
 use Rattle.str_parser.proofs.PrimaryLeads.{led, none_led, led_begins}
 
 primary_begins : (k : ℕ) (u : PrimaryTree) (is : List Item) (ts : List Lexeme) → Runs either (primary k u is) ts →

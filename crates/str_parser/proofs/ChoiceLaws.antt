@@ -6,7 +6,7 @@ use Rattle.str_parser.specs.Lexemes.{Lexeme, mark, strategy_part, first_begins}
 use Rattle.str_parser.specs.Items.{Item, too_deep, either, Runs}
 use Rattle.str_parser.specs.Phrases.{sign}
 use Rattle.str_parser.specs.Readings.{NotAt, lexeme_strength, AtMost, Found, Missing, Nested}
-use Rattle.str_parser.specs.Begun.{inner_strategy, inner_sequence}
+use Rattle.str_parser.specs.Parts.{inner_strategy, inner_sequence}
 use Rattle.str_parser.proofs.PartLaws.{binds_less, not_at_runs}
 use Rattle.str_parser.proofs.BeginningLaws.{inner_strategy_begins}
 

@@ -1,72 +1,71 @@
 -- Rules and definitions: how they are made of their parts.
-use Rattle.std.proofs.Common.{◌≡◌, ◌⊎◌, inl, inr, true, false, List, ◌∷◌, Option, Some, None, refl, arith}
+use Rattle.std.proofs.Common.{◌≡◌, ℕ, ◌⊎◌, inl, inr, true, false, List, ◌∷◌, refl, arith}
 use Rattle.str_lexer.specs.declared.token.Mark.TheVariants as M
 use Rattle.str_lexer.specs.declared.token.Keyword.TheVariants as K
-use Rattle.str_syntax.specs.Trees.{HeadTree, head, PatternTree, StrategyTree, no_strategy, one_strategy, RuleTree, rewrites, definition, FormTree, rule_form, strategy_form, TopTree}
+use Rattle.str_syntax.specs.Trees.{HeadTree, head, PatternTree, StrategyTree, OptionalStrategy, no_strategy, one_strategy, RuleTree, rewrites, definition, FormTree, rule_form, strategy_form, TopTree}
 use Rattle.str_syntax.specs.declared.definition.Origin.{Origin}
 use Rattle.str_syntax.specs.declared.definition.Origin.TheVariants as origins
 use Rattle.str_parser.specs.Lexemes.{Lexeme, mark, keyword}
 use Rattle.str_parser.specs.Items.{Item, Way, either, Runs}
-use Rattle.str_parser.specs.Phrases.{sign, parameters, headed, rule, form, from_file}
+use Rattle.str_parser.specs.Phrases.{sign, parameters, headed, led_by, rule, form, from_file}
 use Rattle.str_parser.specs.Readings.{NotAt, AtMost, Found, Missing, one_name}
-use Rattle.str_parser.specs.Begun.{inner_strategy, inner_pattern}
+use Rattle.str_parser.specs.Parts.{inner_strategy, inner_pattern}
+use Rattle.str_parser.specs.Runs.{FoundAny}
 use Rattle.str_parser.specs.Parsing.{EndsRule, one_top}
 use Rattle.str_parser.proofs.WayLaws.{not_along}
-use Rattle.str_parser.proofs.PhraseLaws.{Made, Makes, makes_on, Parts, Pairs, after_first, behind, is_behind, optional, is_option}
+use Rattle.str_parser.proofs.PhraseLaws.{Made, Makes, makes_on, Parts, Pairs, after_first, behind, is_behind, both, both_pairs}
 use Rattle.str_parser.proofs.NameLaws.{at_most_five}
 
 -- ---- rules
 
--- the right side and the condition
-abbrev pub right_side : PatternTree × Option StrategyTree → List Item → List Item
-right_side b is = inner_pattern false 1 b.0 (optional (keyword K.Where) (inner_strategy 1) b.1 is)
+abbrev pub as_rule : PatternTree → PatternTree × OptionalStrategy → RuleTree
+as_rule l b = rewrites l b.0 b.1
 
-abbrev pub as_rule : PatternTree → PatternTree × Option StrategyTree → RuleTree
-as_rule l (r, None) = rewrites l r no_strategy
-as_rule l (r, Some s) = rewrites l r (one_strategy s)
+module _ (k : ℕ) where
+  -- the right side and the condition
+  abbrev pub right_side : PatternTree × OptionalStrategy → List Item → List Item
+  right_side = both (inner_pattern false k) (led_by K.Where k)
 
-rule_sound : (way : Way) (l : PatternTree) (b : PatternTree × Option StrategyTree) (is : List Item)
-    (ts : List Lexeme) → Runs way (inner_pattern true 1 l (behind (mark M.Arrow) right_side b is)) ts →
-    Runs way (rule 1 (as_rule l b) is) ts
-rule_sound way l (q, None) is ts r = r
-rule_sound way l (q, Some s) is ts r = r
+  rule_only : (u : RuleTree) (is : List Item) (ts : List Lexeme) → Runs either (rule k u is) ts →
+      Parts (inner_pattern true k) (AtMost 3) (behind (mark M.Arrow) right_side) as_rule u is ts
+  rule_only (rewrites l q o) is ts r =
+      record { one = l; other = (q, o); are = refl; ends = omega arith; runs = r }
 
-rule_only : (u : RuleTree) (is : List Item) (ts : List Lexeme) → Runs either (rule 1 u is) ts →
-    Parts (inner_pattern true 1) (AtMost 3) (behind (mark M.Arrow) right_side) as_rule u is ts
-rule_only (rewrites l q no_strategy) is ts r =
-    record { one = l; other = (q, None); are = refl; ends = omega arith; runs = r }
-rule_only (rewrites l q (one_strategy s)) is ts r =
-    record { one = l; other = (q, Some s); are = refl; ends = omega arith; runs = r }
+  pub rule_pairs : Pairs (inner_pattern true k) (AtMost 3) (behind (mark M.Arrow) right_side) (rule k) EndsRule as_rule
+  rule_pairs = record { sound = λ way l b is ts r. r; only = λ u is ts h r. rule_only u is ts r }
 
-pub rule_pairs : Pairs (inner_pattern true 1) (AtMost 3) (behind (mark M.Arrow) right_side) (rule 1) EndsRule as_rule
-rule_pairs = record { sound = rule_sound; only = λ u is ts h r. rule_only u is ts r }
+  condition_at_most : (o : OptionalStrategy) (is : List Item) → EndsRule is → AtMost 3 (led_by K.Where k o is)
+  condition_at_most no_strategy is h = omega (arith, h.0)
+  condition_at_most (one_strategy s) is h = omega arith
 
-condition_at_most : (o : Option StrategyTree) (is : List Item) → EndsRule is →
-    AtMost 3 (optional (keyword K.Where) (inner_strategy 1) o is)
-condition_at_most None is h = omega (arith, h.0)
-condition_at_most (Some s) is h = omega arith
+  pub side_pairs : Pairs (inner_pattern false k) (AtMost 3) (led_by K.Where k) right_side EndsRule (λ r o. (r, o))
+  side_pairs = both_pairs condition_at_most
 
-pub side_pairs : Pairs (inner_pattern false 1) (AtMost 3) (optional (keyword K.Where) (inner_strategy 1)) right_side
-    EndsRule (λ r o. (r, o))
-side_pairs = record {
-  sound = λ way q o is ts r. r;
-  only = λ u is ts h r. record { one = u.0; other = u.1; are = refl; ends = condition_at_most u.1 is h; runs = r };
-}
-
-module _ {l : PatternTree} {ts ahead : List Lexeme}
-    (f : Found (inner_pattern true 1) (AtMost 3) ts l (mark M.Arrow ∷ ahead)) where
-  -- what comes after the arrow
-  pub after_left : Makes right_side EndsRule ahead (rule 1) EndsRule ts (as_rule l)
-  after_left = makes_on (is_behind refl) (after_first rule_pairs f)
+  -- what comes after the left side and the arrow
+  pub after_left : {l : PatternTree} {ts ahead : List Lexeme} →
+      Found (inner_pattern true k) (AtMost 3) ts l (mark M.Arrow ∷ ahead) →
+      Makes right_side EndsRule ahead (rule k) EndsRule ts (as_rule l)
+  after_left f = makes_on (is_behind refl) (after_first rule_pairs f)
 
   -- what comes after where
-  pub after_where : {q : PatternTree} {rest : List Lexeme} →
-      Found (inner_pattern false 1) (AtMost 3) ahead q (keyword K.Where ∷ rest) →
-      Makes (inner_strategy 1) (AtMost 0) rest (rule 1) EndsRule ts (λ s. as_rule l (q, Some s))
-  after_where {rest = rest} g = makes_on (makes_on
-      (is_option {Ends = AtMost 0} {Stops = EndsRule} (λ is h. h.0)
-      (λ is h r. let e : true ≡ false = h.1 (keyword K.Where) rest r in cc))
-      (after_first side_pairs g)) after_left
+  condition_only : {ts : List Lexeme} (o : OptionalStrategy) (is : List Item) → EndsRule is →
+      Runs either (led_by K.Where k o is) (keyword K.Where ∷ ts) →
+      Made (inner_strategy k) (AtMost 0) ts one_strategy o is
+  condition_only {ts} no_strategy is h r = let e : true ≡ false = h.1 (keyword K.Where) ts r in cc
+  condition_only (one_strategy s) is h r = record { from = s; are = refl; ends = h.0; runs = r.1 }
+
+  pub after_where : {ts : List Lexeme} → Makes (inner_strategy k) (AtMost 0) ts (led_by K.Where k) EndsRule
+      (keyword K.Where ∷ ts) one_strategy
+  after_where = record { sound = λ way s is r. (refl, r); only = condition_only; no_longer = omega arith }
+
+  no_where_only : {ts : List Lexeme} → NotAt (keyword K.Where) ts → (o : OptionalStrategy) (is : List Item) →
+      Runs either (led_by K.Where k o is) ts → (o ≡ no_strategy) × Runs either is ts
+  no_where_only n no_strategy is r = (refl, r)
+  no_where_only {ts} n (one_strategy s) is r = absurd (not_along (keyword K.Where) (inner_strategy k s is) ts n r)
+
+  pub no_where : {ts : List Lexeme} → NotAt (keyword K.Where) ts →
+      FoundAny (led_by K.Where k) EndsRule ts no_strategy ts
+  no_where n = record { sound = λ way is r. r; only_one = λ o is h r. no_where_only n o is r; no_longer = omega arith }
 
 -- ---- names with parameters
 

@@ -4,8 +4,13 @@ use Rattle.str_lexer.specs.declared.token.Mark.TheVariants as M
 use Rattle.str_syntax.specs.Trees.{Bytes, PatternTree, variable, wildcard, alias, integer, quoted, application, grouped, tuple, list, annotated, applied, applied_to, PatternTrees, StrategyTree, no_pattern, one_pattern}
 use Rattle.str_parser.specs.Lexemes.{Lexeme, Lexeme as L, build_part, first_begins, begins_pattern}
 use Rattle.str_parser.specs.Items.{Item, part, no_build, either, Runs}
-use Rattle.str_parser.specs.Phrases.{sign, is_not, is_constructor, are_parts, any_patterns, pattern_part, pattern, patterns}
-use Rattle.str_parser.specs.Begun.{inner_pattern, inner_strategy, is_bare}
+use Rattle.str_parser.specs.Phrases.{sign, is_not, is_constructor, are_parts, any_patterns, pattern_part, takes_annotations, pattern, patterns}
+use Rattle.str_parser.specs.Parts.{inner_pattern, inner_strategy}
+
+-- the pattern does not end with annotations of the whole
+abbrev pub is_bare : PatternTree → Bool
+is_bare (annotated p qs) = false
+is_bare _ = true
 
 -- the tree begins with this token, and these run along the rest of it and the items after it
 pub data Led (m : Bool) (k : ℕ) (ts : List Lexeme) : Lexeme → PatternTree → List Item → Type 0 where
@@ -35,6 +40,10 @@ pub data Led (m : Bool) (k : ℕ) (ts : List Lexeme) : Lexeme → PatternTree �
   led_applied_to : (s : StrategyTree) (p : PatternTree) {is : List Item} → is_not m ≡ true →
       Runs either (inner_strategy (k + 1) s (sign M.Greater ∷ part build_part (k + 1) ∷ pattern m (k + 1) p is)) ts →
       Led m k ts (L.mark M.Less) (applied_to s p) is
+
+pub takes_bare : (p : PatternTree) → takes_annotations p ≡ true → is_bare p ≡ true
+takes_bare (annotated p qs) a = cc
+takes_bare _ a = refl
 
 -- a bare tree that tokens run along begins with the first of them
 pub led : (m : Bool) (k : ℕ) (t : Lexeme) (ts : List Lexeme) (u : PatternTree) (is : List Item) → is_bare u ≡ true →

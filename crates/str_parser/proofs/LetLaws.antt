@@ -1,79 +1,122 @@
--- The head of a definition in a let.
-use Rattle.std.proofs.Common.{◌≡◌, ℕ, ◌+◌, ◌≤◌, List, ◌∷◌, refl, ◌∙◌, arith, Box, Vec, Global}
+-- Local definitions: how they are made of their parts, and rows of them.
+use Rattle.std.proofs.Common.{◌≡◌, ℕ, ◌+◌, true, false, List, [], ◌∷◌, refl, ap, arith}
 use Rattle.str_lexer.specs.declared.token.Mark.TheVariants as M
 use Rattle.str_lexer.specs.declared.token.Keyword.TheVariants as K
-use Rattle.str_syntax.specs.Trees.{Bytes, ParameterTree, absent, strategies_only, with_terms, StrategyTree, PrimaryTree, let_in, definition, DefinitionTrees, head}
-use Rattle.str_syntax.specs.declared.strategy.DefinitionHead.{DefinitionHead}
-use Rattle.str_syntax.specs.declared.strategy.StrategyDefinition.{StrategyDefinition}
-use Rattle.str_syntax.specs.Views.{head_of, parameters_of}
-use Rattle.str_parser.specs.Lexemes.{Lexeme, mark}
-use Rattle.str_parser.specs.Items.{Item, either, Runs}
-use Rattle.str_parser.specs.Phrases.{sign, word, parameters, definitions}
-use Rattle.str_parser.specs.Readings.{Leads, NoRun, NotAt, strength, AtMost, Found, Missing, one_name}
-use Rattle.str_parser.specs.Runs.{FoundAny}
-use Rattle.str_parser.specs.Begun.{goes_definition, GoesToDefinition, goes_to_definition, Continues, at_strategy, definitions_with, inner_strategy}
-use Rattle.str_parser.specs.declared.begun.BeforeStrategy.TheVariants as B
-use Rattle.str_parser.specs.declared.begun.Begun.TheVariants as states
-use Rattle.str_parser.proofs.PartLaws.{not_at_runs}
-use Rattle.str_parser.proofs.StepLaws.{run, Sound, Complete, leads}
+use Rattle.str_syntax.specs.Trees.{HeadTree, head, StrategyTree, PrimaryTree, let_in, DefinitionTree, definition, DefinitionTrees, no_definitions, more_definitions}
+use Rattle.str_syntax.specs.Views.{definitions_in}
+use Rattle.str_parser.specs.Lexemes.{Lexeme, mark, keyword}
+use Rattle.str_parser.specs.Items.{Item, Way, either, Runs}
+use Rattle.str_parser.specs.Phrases.{word, primary, headed, defined, definitions}
+use Rattle.str_parser.specs.Readings.{AtMost, Found}
+use Rattle.str_parser.specs.Parsing.{is_name, begins_name}
+use Rattle.str_parser.specs.Parts.{inner_strategy, closed_strategy, some_definitions, EndsDefinitions, Anything}
+use Rattle.str_parser.proofs.PhraseLaws.{Made, Makes, makes_on, Parts, Pairs, after_first, behind, is_behind, closed}
+use Rattle.str_parser.proofs.RunLaws.{several, some, Row, Lists, Partly}
+use Rattle.str_parser.proofs.PrimaryLeads.{Led, led_let, led}
 
--- parameters in front of = bind a name no stronger than a (
-parameters_at_most : (qs : ParameterTree) (is : List Item) → strength (parameters qs (sign M.Equals ∷ is)) ≤ 5
-parameters_at_most absent is = omega arith
-parameters_at_most (strategies_only fs) is = omega arith
-parameters_at_most (with_terms fs xs) is = omega arith
+-- ---- one definition
 
--- the definition of this name with these parameters
-renamed : (done : Vec StrategyDefinition Global) (x y : Bytes) (qs ps : ParameterTree) (s t : StrategyTree)
-    (ds : DefinitionTrees) → y ≡ x → qs ≡ ps →
-    let_in (definitions_with done (definition (head y qs) s) ds) t ≡
-    let_in (definitions_with done (definition (head x ps) s) ds) t
-renamed done x y qs ps s t ds a b = rw (a, b) refl
+definition_only : (k : ℕ) (u : DefinitionTree) (is : List Item) (ts : List Lexeme) → Runs either (defined k u is) ts →
+    Parts headed (AtMost 3) (behind (mark M.Equals) (inner_strategy k)) definition u is ts
+definition_only k (definition h s) is ts r =
+    record { one = h; other = s; are = refl; ends = omega arith; runs = r }
 
-module _ (done : Vec StrategyDefinition Global) (k : ℕ) (ts : List Lexeme) where
-  no_name : {u : PrimaryTree} {is left : List Item} → Missing one_name (AtMost 5) ts →
-      GoesToDefinition done k u is left → Runs either left ts → ⊥
-  no_name m (goes_to_definition (definition (head y qs) s) ds t g) r = m.none y _ (parameters_at_most qs _) r
+pub definition_pairs : (k : ℕ) → Pairs headed (AtMost 3) (behind (mark M.Equals) (inner_strategy k)) (defined k)
+    (AtMost 0) definition
+definition_pairs k = record { sound = λ way h s is ts r. r; only = λ u is ts h r. definition_only k u is ts r }
 
-  pub name_no_run : Missing one_name (AtMost 5) ts → NoRun (GoesToDefinition done k) ts
-  name_no_run m = record { none = λ u is h r. no_name m r.goes r.runs }
+-- what comes after the head and the equals sign
+pub after_head : (k : ℕ) {h : HeadTree} {ts ahead : List Lexeme} →
+    Found headed (AtMost 3) ts h (mark M.Equals ∷ ahead) →
+    Makes (inner_strategy k) (AtMost 0) ahead (defined k) (AtMost 0) ts (definition h)
+after_head k f = makes_on (is_behind refl) (after_first (definition_pairs k) f)
 
-  module _ (rest : List Lexeme) (x : Bytes) (n : Found one_name (AtMost 5) ts x rest) where
-    no_parameters : {u : PrimaryTree} {is left : List Item} → Missing parameters (AtMost 3) rest →
-        GoesToDefinition done k u is left → Runs either left ts → ⊥
-    no_parameters m (goes_to_definition (definition (head y qs) s) ds t g) r =
-        m.none qs _ (omega arith) (n.only_one y _ (parameters_at_most qs _) r).1
+-- ---- definitions as a list
 
-    pub parameters_no_run : Missing parameters (AtMost 3) rest → NoRun (GoesToDefinition done k) ts
-    parameters_no_run m = record { none = λ u is h r. no_parameters m r.goes r.runs }
+listed : DefinitionTrees → List DefinitionTree
+listed no_definitions = []
+listed (more_definitions d ds) = d ∷ listed ds
 
-    no_equals : {more : List Lexeme} {qs : ParameterTree} {u : PrimaryTree} {is left : List Item} →
-        FoundAny parameters (AtMost 3) rest qs more → NotAt (mark M.Equals) more →
-        GoesToDefinition done k u is left → Runs either left ts → ⊥
-    no_equals {is = is} q a (goes_to_definition (definition (head y ps) s) ds t g) r =
-        let body = inner_strategy (k + 1)
-        s (definitions (k + 1) ds (word K.In ∷ inner_strategy (k + 1) t (word K.End ∷ is))) in
-        not_at_runs _ body _ a (q.only_one ps (sign M.Equals ∷ body) (omega arith)
-        (n.only_one y _ (parameters_at_most ps _) r).1).1
+in_listed : (ds : DefinitionTrees) → ds ≡ definitions_in (listed ds)
+unfolding listed
+in_listed no_definitions = refl
+in_listed (more_definitions d ds) = ap (more_definitions d) (in_listed ds)
 
-    pub equals_no_run : (more : List Lexeme) (qs : ParameterTree) → FoundAny parameters (AtMost 3) rest qs more →
-        NotAt (mark M.Equals) more → NoRun (GoesToDefinition done k) ts
-    equals_no_run more qs q a = record { none = λ u is h r. no_equals q a r.goes r.runs }
+-- ---- one after the other
 
-  pub definition_leads : (rest more : List Lexeme) (hd : Box DefinitionHead Global) →
-      Found one_name (AtMost 5) ts hd.value.name rest →
-      FoundAny parameters (AtMost 3) rest (parameters_of hd.value.parameters) (mark M.Equals ∷ more) →
-      Leads (GoesToDefinition done k) (Continues k (states.ToStrategy (B.Definition done hd) more)) ts more
-  definition_leads rest more hd n q = leads sound all (omega (arith, n.shorter, q.no_longer))
-    where
-      sound : Sound (GoesToDefinition done k) (Continues k (states.ToStrategy (B.Definition done hd) more)) ts more
-      sound way u is left (at_strategy s (goes_definition t ds g)) r =
-          run _ (goes_to_definition (definition (head_of hd.value) s) ds t g) (n.sound way _ (q.sound way _ (refl, r)))
+defined_begins : (k : ℕ) (u : DefinitionTree) (is : List Item) (ts : List Lexeme) → Runs either (defined k u is) ts →
+    begins_name ts ≡ true
+defined_begins k (definition (head x ps) s) is [] r = absurd r
+defined_begins k (definition (head x ps) s) is (t ∷ ts) r = ap is_name r.0
 
-      all : Complete (λ u. 3) (GoesToDefinition done k)
-          (Continues k (states.ToStrategy (B.Definition done hd) more)) ts more
-      all u is left h (goes_to_definition (definition (head y qs) s) ds t g) r =
-          let a = n.only_one y _ (parameters_at_most qs _) r in
-          let b = q.only_one qs _ (omega arith) a.1 in
-          run _ (at_strategy s (goes_definition t
-          ds (g ∙ renamed done hd.value.name y qs (parameters_of hd.value.parameters) s t ds a.0 b.0))) b.1.1
+definitions_follow : (k : ℕ) (us : List DefinitionTree) (is : List Item) → EndsDefinitions is →
+    AtMost 0 (several (defined k) us is)
+definitions_follow k [] is h = h.0
+definitions_follow k (definition (head x ps) s ∷ us) is h = omega arith
+
+name_goes_on : (rest : List Lexeme) → begins_name rest ≡ true → (is : List Item) → EndsDefinitions is →
+    Runs either is rest → ⊥
+name_goes_on [] e is h r = cc
+name_goes_on (t ∷ ts) e is h r = let f = h.1 t ts r in cc
+
+-- with a name, and no other token, another one comes
+pub definitions_row : (k : ℕ) →
+    Row (defined k) (AtMost 0) EndsDefinitions (λ ts. begins_name ts ≡ true) (λ ts. begins_name ts ≡ false)
+definitions_row k = record {
+  follows = definitions_follow k;
+  goes_on = name_goes_on;
+  past = λ rest e u is r. let f = defined_begins k u is rest r in cc;
+}
+
+definitions_are : (k : ℕ) (ds : List DefinitionTree) (is : List Item) →
+    several (defined k) ds is ≡ definitions k (definitions_in ds) is
+definitions_are k [] is = refl
+definitions_are k (d ∷ ds) is = ap (defined k d) (definitions_are k ds is)
+
+some_definitions_are : (k : ℕ) (ds : List DefinitionTree) (is : List Item) →
+    some (defined k) (defined k) ds is ≡ some_definitions k (definitions_in ds) is
+some_definitions_are k [] is = refl
+some_definitions_are k (d ∷ ds) is = ap (defined k d) (definitions_are k ds is)
+
+pub definition_lists : (k : ℕ) → Lists (some (defined k) (defined k)) (some_definitions k) definitions_in
+definition_lists k = record { from = listed; back = in_listed; written = some_definitions_are k }
+
+abbrev pub PartlyDefinitions : ℕ → List DefinitionTree → List Lexeme → List Lexeme → Type 0
+PartlyDefinitions k = Partly (defined k) EndsDefinitions (some_definitions k) definitions_in 1
+
+-- ---- definitions and a strategy
+
+-- in ends definitions
+pub definitions_end : (is : List Item) → EndsDefinitions (word K.In ∷ is)
+definitions_end is = (omega arith, λ t rest r. ap is_name r.0)
+
+abbrev pub let_inside : ℕ → DefinitionTrees × StrategyTree → List Item → List Item
+let_inside k b is = closed (keyword K.In) (some_definitions k) b.0 (closed_strategy (keyword K.End) k b.1 is)
+
+abbrev pub as_let : DefinitionTrees × StrategyTree → PrimaryTree
+as_let b = let_in b.0 b.1
+
+pub let_pairs : (k : ℕ) → Pairs (closed (keyword K.In) (some_definitions k)) Anything
+    (closed_strategy (keyword K.End) k) (let_inside k) Anything (λ ds s. (ds, s))
+let_pairs k = record {
+  sound = λ way ds s is ts r. r;
+  only = λ u is ts h r. record { one = u.0; other = u.1; are = refl; ends = tt; runs = r };
+}
+
+module _ (k : ℕ) (ts : List Lexeme) where
+  let_sound : (way : Way) (b : DefinitionTrees × StrategyTree) (is : List Item) →
+      Runs way (let_inside (k + 1) b is) ts → Runs way (primary k (as_let b) is) (keyword K.Let ∷ ts)
+  let_sound way (no_definitions, s) is r = let e = r.0 in cc
+  let_sound way (more_definitions d ds, s) is r = (refl, r)
+
+  let_only : (u : PrimaryTree) (is : List Item) → Led (keyword K.Let) u →
+      Runs either (primary k u is) (keyword K.Let ∷ ts) → Made (let_inside (k + 1)) Anything ts as_let u is
+  let_only u is (led_let {d = d} {ds = ds} {s = s}) r =
+      record { from = (more_definitions d ds, s); are = refl; ends = tt; runs = r.1 }
+
+  pub made_let : Makes (let_inside (k + 1)) Anything ts (primary k) (AtMost 3) (keyword K.Let ∷ ts) as_let
+  made_let = record {
+    sound = let_sound;
+    only = λ u is h r. let_only u is (led either k u is _ _ r) r;
+    no_longer = omega arith;
+  }

@@ -10,7 +10,7 @@ use Rattle.str_parser.specs.Readings.{NotAt, AtMost, one_name, names_of, Found, 
 use Rattle.str_parser.specs.Runs.{NoneOf, FoundAny, IsReadingAny, names_go_on, any_names_go_on}
 use Rattle.str_parser.proofs.PartLaws.{lexeme_at_most, binds_less}
 use Rattle.str_parser.proofs.WayLaws.{not_along}
-use Rattle.str_parser.proofs.PhraseLaws.{Made, Makes, made_any, at_made, carried, Pairs, behind, closed, found_any}
+use Rattle.str_parser.proofs.PhraseLaws.{Made, Makes, made_any, at_made, carried, Pairs, behind, closed, found_any, both, both_pairs}
 use Rattle.str_parser.proofs.RunLaws.{several, some, Row, Lists, Partly, At, token_row}
 
 -- nothing binds stronger than this
@@ -96,7 +96,7 @@ end_parameters (Some xs) is = sign M.Bar ∷ names xs (sign M.CloseParenthesis �
 
 -- what comes after the opening parenthesis
 abbrev pub in_parentheses : List (List ℕ) × Option (List (List ℕ)) → List Item → List Item
-in_parentheses ps is = names ps.0 (end_parameters ps.1 is)
+in_parentheses = both names end_parameters
 
 abbrev pub parameters_in : List (List ℕ) × Option (List (List ℕ)) → ParameterTree
 parameters_in (fs, None) = strategies_only fs
@@ -110,10 +110,7 @@ end_stops None is = names_closed is
 end_stops (Some xs) is = λ t rest r. ap any_names_go_on r.0
 
 pub parameter_pairs : Pairs names (NoneOf any_names_go_on) end_parameters in_parentheses (AtMost 3) (λ fs o. (fs, o))
-parameter_pairs = record {
-  sound = λ way fs o is ts r. r;
-  only = λ u is ts h r. record { one = u.0; other = u.1; are = refl; ends = end_stops u.1 is; runs = r };
-}
+parameter_pairs = both_pairs (λ o is h. end_stops o is)
 
 opened_sound : (way : Way) (ps : List (List ℕ) × Option (List (List ℕ))) (is : List Item) (ts : List Lexeme) →
     Runs way (in_parentheses ps is) ts → Runs way (parameters (parameters_in ps) is) (mark M.OpenParenthesis ∷ ts)

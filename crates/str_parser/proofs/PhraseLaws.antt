@@ -113,6 +113,14 @@ module _ {T U : Type 0} {write : Writes T} {Ends : Ending} {ts : List Lexeme} {w
     nested = λ n. record { tree = to n.tree; runs = λ is. l.sound too_deep n.tree is (n.runs is) };
   }
 
+-- what reads the tree reads the whole that it makes
+pub reads_whole : {T U X : Type 0} {write : Writes T} {Ends : Ending} {ts : List Lexeme} {whole : Writes U}
+    {Stops : Ending} {us : List Lexeme} {to : T → U} → Makes write Ends ts whole Stops us to → (tree_of : X → T)
+    (r : Result (X × List Lexeme) ParseRefusal) → IsReading write Ends tree_of ts r →
+    IsReading whole Stops (λ x. to (tree_of x)) us r
+reads_whole l tree_of (Ok (x, rest)) f = made l f
+reads_whole l tree_of (Err e) f = carried (at_made l) e f
+
 -- the same, with a token before it
 pub led : {T U : Type 0} {write : Writes T} {Ends : Ending} {t : Lexeme} {ts rest : List Lexeme} {whole : Writes U}
     {Stops : Ending} {to : T → U} {x : T} → Makes write Ends ts whole Stops (t ∷ ts) to →
@@ -261,3 +269,15 @@ module _ {A B U : Type 0} {first : Writes A} {Ends : Ending} {second : Writes B}
   pub pair : {a : A} {b : B} {mid rest : List Lexeme} → Found first Ends ts a mid →
       FoundAny second Stops mid b rest → Found whole Stops ts (to a b) rest
   pair f g = found_some (made_any (after_first f) g) (omega (arith, f.shorter, g.no_longer))
+
+-- both trees as one
+abbrev pub both : {A B : Type 0} → Writes A → Writes B → A × B → List Item → List Item
+both first second q is = first q.0 (second q.1 is)
+
+pub both_pairs : {A B : Type 0} {first : Writes A} {second : Writes B} {Ends Stops : Ending} →
+    ((b : B) (is : List Item) → Stops is → Ends (second b is)) →
+    Pairs first Ends second (both first second) Stops (λ a b. (a, b))
+both_pairs ends = record {
+  sound = λ way a b is ts r. r;
+  only = λ u is ts h r. record { one = u.0; other = u.1; are = refl; ends = ends u.1 is h; runs = r };
+}

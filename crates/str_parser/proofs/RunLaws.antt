@@ -165,7 +165,7 @@ partly_found row w past = found_some (partly_any row w past) (omega (arith, w.no
 abbrev pub At : Lexeme → List Lexeme → Type 0
 At t ts = (ahead : List Lexeme) × (ts ≡ t ∷ ahead)
 
-token_goes_on : (these : Lexeme → Bool) (t : Lexeme) → these t ≡ true → (rest : List Lexeme) → At t rest →
+pub token_goes_on : (these : Lexeme → Bool) (t : Lexeme) → these t ≡ true → (rest : List Lexeme) → At t rest →
     (is : List Item) → NoneOf these is → Runs either is rest → ⊥
 token_goes_on these t on rest here is h r = let f = h t here.0 (rw here.1 at r) in cc
 

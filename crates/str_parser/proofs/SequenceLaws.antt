@@ -6,7 +6,7 @@ use Rattle.str_parser.specs.Lexemes.{Lexeme, mark, strategy_part, first_begins}
 use Rattle.str_parser.specs.Items.{Item, Way, either, Runs}
 use Rattle.str_parser.specs.Phrases.{sequence, step, primary}
 use Rattle.str_parser.specs.Readings.{AtMost, Found, Missing, Nested}
-use Rattle.str_parser.specs.Begun.{inner_sequence, inner_pattern}
+use Rattle.str_parser.specs.Parts.{inner_sequence, inner_pattern}
 use Rattle.str_parser.proofs.PartLaws.{binds_less}
 use Rattle.str_parser.proofs.PhraseLaws.{Makes, makes_on, Parts, Pairs, after_first, optional, is_option, is_inside}
 use Rattle.str_parser.proofs.BeginningLaws.{sequence_begins}

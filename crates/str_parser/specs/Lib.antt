@@ -4,8 +4,8 @@ pub mod Phrases
 pub mod Within
 pub mod Refusals
 pub mod Readings
-pub mod Begun
 pub mod Beyond
 pub mod Runs
 pub mod Sorts
 pub mod Parsing
+pub mod Parts

@@ -110,25 +110,6 @@ abbrev pub IsReading : {T X : Type 0} → (T → List Item → List Item) → (L
 IsReading write Stops tree_of ts (Ok (x, rest)) = Found write Stops ts (tree_of x) rest
 IsReading write Stops tree_of ts (Err e) = IsFault write Stops ts e
 
--- ---- trees that have been begun
-
--- a way to go on from the tree and the items after it, and tokens that run so
-pub record Run {T : Type 0} (Rest : T → List Item → List Item →
-    Type 0) (way : Way) (u : T) (is : List Item) (ts : List Lexeme) : Type 0 where
-  pub left : List Item
-  pub goes : Rest u is left
-  pub runs : Runs way left ts
-
--- Where these tokens run along the second rest of a tree, those run along the first; and the other way round.
-pub record Leads {T : Type 0} (First Second : T → List Item → List Item → Type 0) (ts rest : List Lexeme) : Type 0 where
-  pub sound : (way : Way) (u : T) (is : List Item) → Run Second way u is rest → Run First way u is ts
-  pub all : (u : T) (is : List Item) → strength is ≤ 3 → Run First either u is ts → Run Second either u is rest
-  pub no_longer : length rest ≤ length ts
-
--- these tokens run along no rest of a tree
-pub record NoRun {T : Type 0} (Rest : T → List Item → List Item → Type 0) (ts : List Lexeme) : Type 0 where
-  pub none : (u : T) (is : List Item) → strength is ≤ 3 → Run Rest either u is ts → ⊥
-
 -- ---- names
 
 abbrev pub one_name : List ℕ → List Item → List Item

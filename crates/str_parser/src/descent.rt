@@ -1,28 +1,30 @@
-//! Strategies and patterns from tokens, by recursive descent with one token of look-ahead.
-ghost use Rattle.std.specs.Prelude.{◌≡◌, ◌+◌, ◌≤◌, Bool, true, false, List, ◌∷◌, length};
+//! Strategies from tokens, by recursive descent with one token of look-ahead.
+ghost use Rattle.std.specs.Prelude.{◌≡◌, ◌+◌, ◌≤◌, List, ◌∷◌};
 ghost use Rattle.str_lexer.specs.declared.token.Mark.TheVariants as M;
-ghost use Rattle.str_syntax.specs.Views.{pattern_of, sequence_of, step_of, strategy_of};
+ghost use Rattle.str_syntax.specs.Views.{sequence_of, step_of, strategy_of};
 ghost use Rattle.str_parser.specs.Items.{max_level};
-ghost use Rattle.str_parser.specs.Lexemes.{Lexeme as L, mark, strategy_part, first_begins};
+ghost use Rattle.str_parser.specs.Lexemes.{Lexeme as L, mark, keyword as keyword_lexeme, strategy_part, first_begins};
 ghost use Rattle.str_parser.specs.Phrases.{step, primary};
-ghost use Rattle.str_parser.specs.Readings.{AtMost, Found, IsReading, Leads};
-ghost use Rattle.str_parser.specs.Begun.{inner_strategy, inner_sequence, inner_pattern, boxed_primary_of, Written, Continues, Stands, left_in};
-ghost use Rattle.str_parser.specs.declared.begun.Begun.TheVariants as states;
+ghost use Rattle.str_parser.specs.Readings.{AtMost, Found, IsReading, mark_strength};
+ghost use Rattle.str_parser.specs.Parts.{inner_strategy, inner_sequence, boxed_primary_of, boxed_strategy_of, strategies_from, Anything, closed_strategy, some_strategies, EndsStrategies};
 ghost use Rattle.str_parser.specs.Beyond.{IsBeyondFault};
 
-use crate::begun::{BeforePattern, Begun, BegunPattern};
 use crate::expected::Candidate;
 use crate::file::MAX_LEVEL;
 use crate::input::{Input, Lexeme};
-use crate::pattern_part::{begin_annotations, begins_pattern, build_application};
+use crate::pattern::pattern;
+use crate::primary::primary;
 use crate::refusal::ParseRefusal;
-use crate::{pattern_begin, primary_begin};
 use std::alloc::Global;
 use str_lexer::{Keyword, Mark};
-use str_syntax::{Pattern, Primary, Sequence, Step, Strategy, build};
+use str_syntax::{Primary, Sequence, Step, Strategy, build};
 
 /// The fault where a part would stand beyond the greatest level: whether the tokens can begin it decides.
-fn beyond(input: &Input<'_>, begins: bool, expected: &'static [Candidate]) -> ParseRefusal
+pub(crate) fn beyond(
+    input: &Input<'_>,
+    begins: bool,
+    expected: &'static [Candidate],
+) -> ParseRefusal
     ensures { IsBeyondFault begins result }
 {
     if begins {
@@ -207,84 +209,65 @@ fn matching<'a>(
     ))
 }
 
-/// Reads the primary at this level that the tokens begin with; also returns the tokens after it.
+/// Reads the strategy at this level and this mark after it that the tokens begin with; also returns the tokens after the mark. Where
+/// another token stands there, that is what was expected.
 #[cycle(phrase)]
-fn primary<'a>(
+pub(crate) fn strategy_before<'a>(
     alloc: Global,
     input: Input<'a>,
     level: u32,
-) -> Result<(Box<Primary>, Input<'a>), ParseRefusal>
-    requires { level ≤ max_level }
-    ensures { IsReading (primary level) (AtMost 3) boxed_primary_of input.entry result }
+    closing: Mark,
+    expected: &'static [Candidate],
+) -> Result<(Box<Strategy>, Input<'a>), ParseRefusal>
+    requires within { level ≤ max_level + 1 }
+    requires weak { mark_strength closing ≡ 0 }
+    ensures { IsReading (closed_strategy (mark closing) level) Anything boxed_strategy_of
+        input.entry result }
 {
-    let mut begun = primary_begin::begin(alloc, input);
-    loop {
-        begun = match begun {
-            Ok(Begun::Whole(made, rest)) => return Ok((made, rest)),
-            Ok(Begun::ToStrategy(before, rest)) => {
-                let part = strategy(alloc, rest, level + 1);
-                before.after(alloc, part)
-            }
-            Ok(Begun::ToPattern(before, rest)) => with_pattern(alloc, before, rest, level),
-            Err(refusal) => return Err(refusal),
-        };
-    }
+    let (part, rest) = strategy(alloc, input, level)?;
+    let Some(rest) = rest.after(closing) else {
+        return Err(rest.syntax(expected));
+    };
+    Ok((Box::new(alloc, part)?, rest))
 }
 
-/// Reads the pattern that comes next in the primary at this level, which has been read up to there, and goes on to its next part.
+/// The same with a keyword after the strategy.
 #[cycle(phrase)]
-#[inline(never)]
-fn with_pattern<'a>(
-    alloc: Global,
-    before: BeforePattern,
-    input: Input<'a>,
-    level: u32,
-) -> Result<Begun<'a>, ParseRefusal>
-    requires { level ≤ max_level }
-    ensures stands { (ts : List L) →
-        Leads (Written level) (Continues level (states.ToPattern before input.entry))
-        ts input.entry → Stands level ts result }
-    ensures fewer { left_in result ≤ length input.entry }
-{
-    let part = pattern(alloc, input, before.in_match(), level + 1);
-    before.after(alloc, part)
-}
-
-/// Reads the pattern at this level that the tokens begin with, in a match or in a build; also returns the tokens after it.
-#[cycle(phrase)]
-pub(crate) fn pattern<'a>(
+pub(crate) fn strategy_before_keyword<'a>(
     alloc: Global,
     input: Input<'a>,
-    in_match: bool,
     level: u32,
-) -> Result<(Pattern, Input<'a>), ParseRefusal>
+    closing: Keyword,
+    expected: &'static [Candidate],
+) -> Result<(Box<Strategy>, Input<'a>), ParseRefusal>
     requires { level ≤ max_level + 1 }
-    ensures { IsReading (inner_pattern in_match level) (AtMost 3) pattern_of input.entry result }
+    ensures { IsReading (closed_strategy (keyword_lexeme closing) level) Anything
+        boxed_strategy_of input.entry result }
 {
-    if level > MAX_LEVEL {
-        return Err(beyond(
-            &input,
-            begins_pattern(&input, in_match),
-            &[Candidate::Pattern],
-        ));
+    let (part, rest) = strategy(alloc, input, level)?;
+    let Some(rest) = rest.after_keyword(closing) else {
+        return Err(rest.syntax(expected));
+    };
+    Ok((Box::new(alloc, part)?, rest))
+}
+
+/// Reads the strategies at this level with commas between that the tokens begin with, one at least; also returns the tokens after them.
+#[cycle(phrase)]
+pub(crate) fn strategies<'a>(
+    alloc: Global,
+    input: Input<'a>,
+    level: u32,
+) -> Result<(Vec<Strategy>, Input<'a>), ParseRefusal>
+    requires { level ≤ max_level + 1 }
+    ensures { IsReading (some_strategies level) EndsStrategies strategies_from input.entry result }
+{
+    let (first, mut rest) = strategy(alloc, input, level)?;
+    let mut parts = Vec::with_capacity(alloc, 1)?;
+    parts.push(first)?;
+    while let Some(following) = rest.after(Mark::Comma) {
+        let (other, following) = strategy(alloc, following, level)?;
+        parts.push(other)?;
+        rest = following;
     }
-    let mut begun = pattern_begin::begin(alloc, input, in_match)?;
-    loop {
-        begun = match begun {
-            BegunPattern::Whole(made, rest) => {
-                let Some(following) = rest.after(Mark::OpenBrace) else {
-                    return Ok((made, rest));
-                };
-                begin_annotations(alloc, made, &rest, following)?
-            }
-            BegunPattern::ToStrategy(rest) => {
-                let (part, rest) = strategy(alloc, rest, level + 1)?;
-                build_application(alloc, part, rest)?
-            }
-            BegunPattern::ToPattern(before, rest) => {
-                let (part, rest) = pattern(alloc, rest, in_match, level + 1)?;
-                before.with(alloc, part, rest)?
-            }
-        };
-    }
+    Ok((parts, rest))
 }

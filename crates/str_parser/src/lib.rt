@@ -1,21 +1,19 @@
 //! The trees of definition files from their tokens. The crate `front_tests` has the tests.
 #![tactic(auto)]
 
-mod begun;
+mod call;
+mod congruence;
 mod descent;
 pub mod expected;
 pub mod file;
 mod form;
 mod input;
+mod let_in;
 mod names;
-mod pattern_begin;
-mod pattern_part;
-mod primary_begin;
-mod primary_let;
-mod primary_pattern;
-mod primary_rule;
-mod primary_strategy;
+mod pattern;
+mod primary;
 pub mod refusal;
+mod rule;
 mod sorts;
 
 pub use expected::{Candidate, Expected, SyntaxReason};

@@ -1,15 +1,17 @@
 //! Names and parameters from tokens.
-ghost use Rattle.str_syntax.specs.Views.{parameters_of};
-ghost use Rattle.str_parser.specs.Phrases.{some_names, names as any_names, parameters as written_parameters};
+ghost use Rattle.std.specs.Prelude.{◌≡◌};
+ghost use Rattle.str_syntax.specs.Views.{parameters_of, head_of};
+ghost use Rattle.str_parser.specs.Phrases.{some_names, names as any_names, parameters as written_parameters, headed};
 ghost use Rattle.str_parser.specs.Readings.{IsReading, AtMost, one_name, itself, names_of};
 ghost use Rattle.str_parser.specs.Runs.{IsReadingAny, NoneOf, names_go_on, any_names_go_on};
+ghost use Rattle.str_parser.specs.Parsing.{begins_name as first_is_name};
 
 use crate::expected::Candidate;
 use crate::input::{Input, Lexeme};
 use crate::refusal::ParseRefusal;
 use std::alloc::Global;
 use str_lexer::Mark;
-use str_syntax::{Name, Parameters};
+use str_syntax::{DefinitionHead, Name, Parameters};
 
 /// Reads the name that the tokens begin with; also returns the tokens after it. Where there is none, that is what was expected.
 pub(crate) fn name<'a>(
@@ -95,4 +97,23 @@ pub(crate) fn parameters<'a>(
         return Err(rest.syntax(after_terms(&terms)));
     };
     Ok((Parameters::WithTerms(strategies, terms), rest))
+}
+
+/// Reads the name and the parameters that the tokens begin with; also returns the tokens after them.
+pub(crate) fn head<'a>(
+    alloc: Global,
+    input: Input<'a>,
+) -> Result<(DefinitionHead, Input<'a>), ParseRefusal>
+    ensures { IsReading headed (AtMost 3) head_of input.entry result }
+{
+    let (name, rest) = name(alloc, input, &[Candidate::Name])?;
+    let (parameters, rest) = parameters(alloc, rest)?;
+    Ok((DefinitionHead { name, parameters }, rest))
+}
+
+/// Tells whether the first token is a name, as each rule and definition begins.
+pub(crate) fn begins_name(input: &Input<'_>) -> bool
+    ensures { result ≡ first_is_name input.now }
+{
+    matches!(input.first(), Some((Lexeme::Name(_), _)))
 }

@@ -11,7 +11,7 @@ ghost use Rattle.str_parser.specs.Sorts.{inner_sort, some_sorts, some_factors, t
 use crate::expected::Candidate;
 use crate::file::MAX_LEVEL;
 use crate::input::{Input, Lexeme};
-use crate::pattern_begin::is_constructor;
+use crate::pattern::is_constructor;
 use crate::refusal::ParseRefusal;
 use std::alloc::Global;
 use str_lexer::{Keyword, Mark};
