@@ -5,12 +5,12 @@ use Rattle.str_parser.specs.Lexemes.{Lexeme, strategy_part, first_begins}
 use Rattle.str_parser.specs.Items.{Item, either, Runs}
 use Rattle.str_parser.specs.Phrases.{strategy, sequence, step, primary}
 use Rattle.str_parser.specs.Parts.{inner_strategy}
-use Rattle.str_parser.proofs.PrimaryLeads.{led, none_led, led_begins}
+use Rattle.str_parser.proofs.PrimaryLeads.{primary_led, none_led, led_begins}
 
 primary_begins : (k : ℕ) (u : PrimaryTree) (is : List Item) (ts : List Lexeme) → Runs either (primary k u is) ts →
     first_begins strategy_part ts ≡ true
 primary_begins k u is [] r = absurd (none_led either k u is r)
-primary_begins k u is (t ∷ ts) r = led_begins (led either k u is t ts r)
+primary_begins k u is (t ∷ ts) r = led_begins (primary_led either k u is t ts r)
 
 step_begins : (k : ℕ) (u : StepTree) (is : List Item) (ts : List Lexeme) → Runs either (step k u is) ts →
     first_begins strategy_part ts ≡ true

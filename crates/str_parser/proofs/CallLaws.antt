@@ -8,12 +8,12 @@ use Rattle.str_parser.specs.Lexemes.{Lexeme, name, mark, keyword, begins_strateg
 use Rattle.str_parser.specs.Items.{Item, Way, either, Runs}
 use Rattle.str_parser.specs.Phrases.{sign, strategy_list, patterns, other_patterns, primary, arguments}
 use Rattle.str_parser.specs.Readings.{NotAt, AtMost, Found, Missing, IsReading}
-use Rattle.str_parser.specs.Runs.{FoundAny, IsReadingAny, names_go_on}
+use Rattle.str_parser.specs.Runs.{FoundAny, IsReadingAny, is_comma}
 use Rattle.str_parser.specs.Parts.{inner_pattern, closed_patterns, some_patterns, some_strategies, primitive_name, primitive_patterns, arguments_inside, first_ends_strategies, ends_strategies, EndsPatterns, EndsStrategies, EndsArguments, Anything}
 use Rattle.str_parser.proofs.PartLaws.{binds_less}
 use Rattle.str_parser.proofs.WayLaws.{not_along}
 use Rattle.str_parser.proofs.PhraseLaws.{Writes, Ending, Made, Makes, made_any, at_made, carried, found_any, Parts, Pairs, closed}
-use Rattle.str_parser.proofs.PrimaryLeads.{Led, led_primitive, led_call, led_call_with, led_call_with_terms, led}
+use Rattle.str_parser.proofs.PrimaryLeads.{LedPrimary, led_primitive, led_call, led_call_with, led_call_with_terms, primary_led}
 use Rattle.str_parser.proofs.StrategyLists.{no_strategy_at, strategies_end}
 
 -- what reads the one tree reads the other, which may be of no token and is the same
@@ -26,7 +26,7 @@ read_any m tree_of (Err e) f = carried (at_made m) e f
 -- ---- a name and its arguments
 
 module _ (k : ℕ) (x : Bytes) (ts : List Lexeme) where
-  call_only : (u : PrimaryTree) (is : List Item) → AtMost 3 is → Led (name x) u →
+  call_only : (u : PrimaryTree) (is : List Item) → AtMost 3 is → LedPrimary (name x) u →
       Runs either (primary k u is) (name x ∷ ts) → Made (arguments (k + 1)) (AtMost 3) ts (call x) u is
   call_only u is h led_call r = record { from = no_arguments; are = refl; ends = h; runs = r.1 }
   call_only u is h (led_call_with {ss = ss}) r =
@@ -37,7 +37,7 @@ module _ (k : ℕ) (x : Bytes) (ts : List Lexeme) where
   pub made_call : Makes (arguments (k + 1)) (AtMost 3) ts (primary k) (AtMost 3) (name x ∷ ts) (call x)
   made_call = record {
     sound = λ way a is r. (refl, r);
-    only = λ u is h r. call_only u is h (led either k u is _ _ r) r;
+    only = λ u is h r. call_only u is h (primary_led either k u is _ _ r) r;
     no_longer = omega arith;
   }
 
@@ -240,7 +240,7 @@ module _ (k : ℕ) (ts : List Lexeme) where
   primitive_end_missing n m = record { none = λ ps is h r. no_comma n m ps is r }
 
 pub primitive_ends : (is : List Item) → EndsPatterns (sign M.CloseParenthesis ∷ is)
-primitive_ends is = (omega arith, λ t rest r. ap names_go_on r.0)
+primitive_ends is = (omega arith, λ t rest r. ap is_comma r.0)
 
 -- the name and the patterns
 abbrev pub primitive_inside : ℕ → Bytes × PatternTrees → List Item → List Item
@@ -257,7 +257,7 @@ primitive_pairs k = record {
 }
 
 module _ (k : ℕ) (ts : List Lexeme) where
-  primitive_only : (u : PrimaryTree) (is : List Item) → Led (keyword K.Prim) u →
+  primitive_only : (u : PrimaryTree) (is : List Item) → LedPrimary (keyword K.Prim) u →
       Runs either (primary k u is) (keyword K.Prim ∷ ts) →
       Made (primitive_inside (k + 1)) Anything ts as_primitive u is
   primitive_only u is (led_primitive {text = x} {ps = ps}) r =
@@ -267,6 +267,6 @@ module _ (k : ℕ) (ts : List Lexeme) where
       as_primitive
   made_primitive = record {
     sound = λ way b is r. (refl, r);
-    only = λ u is h r. primitive_only u is (led either k u is _ _ r) r;
+    only = λ u is h r. primitive_only u is (primary_led either k u is _ _ r) r;
     no_longer = omega arith;
   }

@@ -11,7 +11,7 @@ use Rattle.str_parser.specs.Readings.{NotAt, AtMost, Found, Missing}
 use Rattle.str_parser.specs.Parts.{inner_strategy, closed_strategy, some_strategies, in_parentheses, strategy_list_end, EndsStrategies, Anything}
 use Rattle.str_parser.proofs.WayLaws.{not_along}
 use Rattle.str_parser.proofs.PhraseLaws.{Made, Makes, Pairs, closed}
-use Rattle.str_parser.proofs.PrimaryLeads.{Led, led_parenthesized, led_tuple, led_list, led_list_with_tail, led}
+use Rattle.str_parser.proofs.PrimaryLeads.{LedPrimary, led_parenthesized, led_tuple, led_list, led_list_with_tail, primary_led}
 use Rattle.str_parser.proofs.StrategyLists.{no_strategy_at, strategies_end}
 
 -- ---- in parentheses
@@ -25,7 +25,7 @@ not_sole (s ∷ t ∷ ss) n = refl
 
 -- no strategies
 module _ (k : ℕ) (ts : List Lexeme) where
-  empty_tuple_only : (u : PrimaryTree) (is : List Item) → Led (mark M.OpenParenthesis) u →
+  empty_tuple_only : (u : PrimaryTree) (is : List Item) → LedPrimary (mark M.OpenParenthesis) u →
       Runs either (primary k u is) (mark M.OpenParenthesis ∷ mark M.CloseParenthesis ∷ ts) →
       (u ≡ tuple_congruence no_strategies) × Runs either is ts
   empty_tuple_only u is (led_parenthesized {s = s}) r = absurd (no_strategy_at (k + 1) s _ _ ts refl r.1)
@@ -37,7 +37,7 @@ module _ (k : ℕ) (ts : List Lexeme) where
       (tuple_congruence no_strategies) ts
   empty_tuple = record {
     sound = λ way is r. (refl, (refl, (refl, r)));
-    only_one = λ u is h r. empty_tuple_only u is (led either k u is _ _ r) r;
+    only_one = λ u is h r. empty_tuple_only u is (primary_led either k u is _ _ r) r;
     shorter = omega arith;
   }
 
@@ -51,7 +51,7 @@ module _ (k : ℕ) (ts : List Lexeme) where
   tuple_sound way (more_strategies s (more_strategies t ss)) is r = (refl, (refl, r))
 
   tuple_only : NotAt (mark M.CloseParenthesis) ts → (u : PrimaryTree) (is : List Item) →
-      Led (mark M.OpenParenthesis) u → Runs either (primary k u is) (mark M.OpenParenthesis ∷ ts) →
+      LedPrimary (mark M.OpenParenthesis) u → Runs either (primary k u is) (mark M.OpenParenthesis ∷ ts) →
       Made (closed (mark M.CloseParenthesis) (some_strategies (k + 1))) Anything ts in_parentheses u is
   tuple_only n u is (led_parenthesized {s = s}) r =
       record { from = more_strategies s no_strategies; are = refl; ends = tt; runs = r.1 }
@@ -65,7 +65,7 @@ module _ (k : ℕ) (ts : List Lexeme) where
       (mark M.OpenParenthesis ∷ ts) in_parentheses
   made_tuple n = record {
     sound = tuple_sound;
-    only = λ u is h r. tuple_only n u is (led either k u is _ _ r) r;
+    only = λ u is h r. tuple_only n u is (primary_led either k u is _ _ r) r;
     no_longer = omega arith;
   }
 
@@ -76,7 +76,7 @@ tuple_ends = strategies_end M.CloseParenthesis refl refl
 
 -- no strategies
 module _ (k : ℕ) (ts : List Lexeme) where
-  empty_list_only : (u : PrimaryTree) (is : List Item) → Led (mark M.OpenBracket) u →
+  empty_list_only : (u : PrimaryTree) (is : List Item) → LedPrimary (mark M.OpenBracket) u →
       Runs either (primary k u is) (mark M.OpenBracket ∷ mark M.CloseBracket ∷ ts) →
       (u ≡ list_congruence no_strategies no_strategy) × Runs either is ts
   empty_list_only u is (led_list {ss = no_strategies}) r = (refl, r.1.1)
@@ -89,7 +89,7 @@ module _ (k : ℕ) (ts : List Lexeme) where
       (list_congruence no_strategies no_strategy) ts
   empty_list = record {
     sound = λ way is r. (refl, (refl, r));
-    only_one = λ u is h r. empty_list_only u is (led either k u is _ _ r) r;
+    only_one = λ u is h r. empty_list_only u is (primary_led either k u is _ _ r) r;
     shorter = omega arith;
   }
 
@@ -156,7 +156,7 @@ module _ (k : ℕ) (ts : List Lexeme) where
   list_sound way (more_strategies s ss, no_strategy) is r = (refl, r)
   list_sound way (more_strategies s ss, one_strategy t) is r = (refl, (refl, r))
 
-  list_only : NotAt (mark M.CloseBracket) ts → (u : PrimaryTree) (is : List Item) → Led (mark M.OpenBracket) u →
+  list_only : NotAt (mark M.CloseBracket) ts → (u : PrimaryTree) (is : List Item) → LedPrimary (mark M.OpenBracket) u →
       Runs either (primary k u is) (mark M.OpenBracket ∷ ts) →
       Made (list_inside (k + 1)) Anything ts as_list u is
   list_only n u is (led_list {ss = no_strategies}) r = absurd (not_along _ is ts n r.1)
@@ -170,6 +170,6 @@ module _ (k : ℕ) (ts : List Lexeme) where
       Makes (list_inside (k + 1)) Anything ts (primary k) (AtMost 3) (mark M.OpenBracket ∷ ts) as_list
   made_list n = record {
     sound = list_sound;
-    only = λ u is h r. list_only n u is (led either k u is _ _ r) r;
+    only = λ u is h r. list_only n u is (primary_led either k u is _ _ r) r;
     no_longer = omega arith;
   }

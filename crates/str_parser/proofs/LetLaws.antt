@@ -12,7 +12,7 @@ use Rattle.str_parser.specs.Parsing.{is_name, begins_name}
 use Rattle.str_parser.specs.Parts.{inner_strategy, closed_strategy, some_definitions, EndsDefinitions, Anything}
 use Rattle.str_parser.proofs.PhraseLaws.{Made, Makes, makes_on, Parts, Pairs, after_first, behind, is_behind, closed}
 use Rattle.str_parser.proofs.RunLaws.{several, some, Row, Lists, Partly}
-use Rattle.str_parser.proofs.PrimaryLeads.{Led, led_let, led}
+use Rattle.str_parser.proofs.PrimaryLeads.{LedPrimary, led_let, primary_led}
 
 -- ---- one definition
 
@@ -109,7 +109,7 @@ module _ (k : ℕ) (ts : List Lexeme) where
   let_sound way (no_definitions, s) is r = let e = r.0 in cc
   let_sound way (more_definitions d ds, s) is r = (refl, r)
 
-  let_only : (u : PrimaryTree) (is : List Item) → Led (keyword K.Let) u →
+  let_only : (u : PrimaryTree) (is : List Item) → LedPrimary (keyword K.Let) u →
       Runs either (primary k u is) (keyword K.Let ∷ ts) → Made (let_inside (k + 1)) Anything ts as_let u is
   let_only u is (led_let {d = d} {ds = ds} {s = s}) r =
       record { from = (more_definitions d ds, s); are = refl; ends = tt; runs = r.1 }
@@ -117,6 +117,6 @@ module _ (k : ℕ) (ts : List Lexeme) where
   pub made_let : Makes (let_inside (k + 1)) Anything ts (primary k) (AtMost 3) (keyword K.Let ∷ ts) as_let
   made_let = record {
     sound = let_sound;
-    only = λ u is h r. let_only u is (led either k u is _ _ r) r;
+    only = λ u is h r. let_only u is (primary_led either k u is _ _ r) r;
     no_longer = omega arith;
   }

@@ -7,7 +7,7 @@ pub mod DeclarationLists
 pub mod DescentFaults
 pub mod FileLaws
 pub mod FormLaws
-pub mod LedLaws
+pub mod PatternLeads
 pub mod LetLaws
 pub mod NameLaws
 pub mod PartLaws

@@ -7,7 +7,7 @@ use Rattle.str_parser.specs.Lexemes.{Lexeme, name, mark}
 use Rattle.str_parser.specs.Items.{Item, token, part, no_build, only, Way, either, Runs}
 use Rattle.str_parser.specs.Phrases.{named, sign, other_names, names, some_names, parameters}
 use Rattle.str_parser.specs.Readings.{NotAt, AtMost, one_name, names_of, Found, Missing, IsReading}
-use Rattle.str_parser.specs.Runs.{NoneOf, FoundAny, IsReadingAny, names_go_on, any_names_go_on}
+use Rattle.str_parser.specs.Runs.{NoneOf, FoundAny, IsReadingAny, is_comma, is_comma_or_name}
 use Rattle.str_parser.proofs.PartLaws.{lexeme_at_most, binds_less}
 use Rattle.str_parser.proofs.WayLaws.{not_along}
 use Rattle.str_parser.proofs.PhraseLaws.{Made, Makes, made_any, at_made, carried, Pairs, behind, closed, found_any, both, both_pairs}
@@ -30,7 +30,7 @@ name_at = record {
   shorter = omega arith;
 }
 
-pub names_row : Row (behind (mark M.Comma) one_name) (AtMost 5) (NoneOf names_go_on) (At (mark M.Comma))
+pub names_row : Row (behind (mark M.Comma) one_name) (AtMost 5) (NoneOf is_comma) (At (mark M.Comma))
     (NotAt (mark M.Comma))
 names_row = token_row (mark M.Comma) refl (λ us is h. at_most_five (several (behind (mark M.Comma) one_name) us is))
 
@@ -48,12 +48,12 @@ pub name_lists : Lists (some one_name (behind (mark M.Comma) one_name)) some_nam
 name_lists = record { from = λ xs. xs; back = λ xs. refl; written = some_names_are }
 
 abbrev pub PartlyNames : List (List ℕ) → List Lexeme → List Lexeme → Type 0
-PartlyNames = Partly (behind (mark M.Comma) one_name) (NoneOf names_go_on) some_names (λ xs. xs) 1
+PartlyNames = Partly (behind (mark M.Comma) one_name) (NoneOf is_comma) some_names (λ xs. xs) 1
 
 -- ---- names, or none
 
 -- what stops names or none stops some
-fewer_go_on : (t : Lexeme) → any_names_go_on t ≡ false → names_go_on t ≡ false
+fewer_go_on : (t : Lexeme) → is_comma_or_name t ≡ false → is_comma t ≡ false
 fewer_go_on (mark M.Comma) e = e
 fewer_go_on _ e = refl
 
@@ -63,28 +63,28 @@ module _ (x : List ℕ) (ahead : List Lexeme) where
   names_sound way [] is r = let e = r.0 in cc
   names_sound way (y ∷ xs) is r = r
 
-  names_only : (us : List (List ℕ)) (is : List Item) → NoneOf any_names_go_on is →
+  names_only : (us : List (List ℕ)) (is : List Item) → NoneOf is_comma_or_name is →
       Runs either (names us is) (name x ∷ ahead) →
-      Made some_names (NoneOf names_go_on) (name x ∷ ahead) (λ xs. xs) us is
+      Made some_names (NoneOf is_comma) (name x ∷ ahead) (λ xs. xs) us is
   names_only [] is h r = let g = h (name x) ahead r in cc
   names_only (u ∷ us) is h r =
       record { from = u ∷ us; are = refl; ends = λ t rest s. fewer_go_on t (h t rest s); runs = r }
 
   -- at a name, names or none are some
-  names_at_name : Makes some_names (NoneOf names_go_on) (name x ∷ ahead) names (NoneOf any_names_go_on)
+  names_at_name : Makes some_names (NoneOf is_comma) (name x ∷ ahead) names (NoneOf is_comma_or_name)
       (name x ∷ ahead) (λ xs. xs)
   names_at_name = record { sound = names_sound; only = names_only; no_longer = omega arith }
 
   at_name : (r : Result (Vec (List ℕ) Global × List Lexeme) ParseRefusal) →
-      IsReading some_names (NoneOf names_go_on) names_of (name x ∷ ahead) r →
-      IsReadingAny names (NoneOf any_names_go_on) names_of (name x ∷ ahead) r
+      IsReading some_names (NoneOf is_comma) names_of (name x ∷ ahead) r →
+      IsReadingAny names (NoneOf is_comma_or_name) names_of (name x ∷ ahead) r
   at_name (Ok (xs, rest)) f = made_any names_at_name (found_any f)
   at_name (Err e) f = carried (at_made names_at_name) e f
 
 -- what reads some names reads names or none there
 pub any_at_name : (x : List ℕ) (ts ahead : List Lexeme) (r : Result (Vec (List ℕ) Global × List Lexeme) ParseRefusal) →
     ts ≡ name x ∷ ahead →
-    IsReading some_names (NoneOf names_go_on) names_of ts r → IsReadingAny names (NoneOf any_names_go_on) names_of ts r
+    IsReading some_names (NoneOf is_comma) names_of ts r → IsReadingAny names (NoneOf is_comma_or_name) names_of ts r
 any_at_name x ts ahead r e f = rw e (at_name x ahead r (rw e at f))
 
 -- ---- parameters
@@ -102,14 +102,14 @@ abbrev pub parameters_in : List (List ℕ) × Option (List (List ℕ)) → Param
 parameters_in (fs, None) = strategies_only fs
 parameters_in (fs, Some xs) = with_terms fs xs
 
-pub names_closed : (is : List Item) → NoneOf any_names_go_on (sign M.CloseParenthesis ∷ is)
-names_closed is = λ t rest r. ap any_names_go_on r.0
+pub names_closed : (is : List Item) → NoneOf is_comma_or_name (sign M.CloseParenthesis ∷ is)
+names_closed is = λ t rest r. ap is_comma_or_name r.0
 
-end_stops : (o : Option (List (List ℕ))) (is : List Item) → NoneOf any_names_go_on (end_parameters o is)
+end_stops : (o : Option (List (List ℕ))) (is : List Item) → NoneOf is_comma_or_name (end_parameters o is)
 end_stops None is = names_closed is
-end_stops (Some xs) is = λ t rest r. ap any_names_go_on r.0
+end_stops (Some xs) is = λ t rest r. ap is_comma_or_name r.0
 
-pub parameter_pairs : Pairs names (NoneOf any_names_go_on) end_parameters in_parentheses (AtMost 3) (λ fs o. (fs, o))
+pub parameter_pairs : Pairs names (NoneOf is_comma_or_name) end_parameters in_parentheses (AtMost 3) (λ fs o. (fs, o))
 parameter_pairs = both_pairs (λ o is h. end_stops o is)
 
 opened_sound : (way : Way) (ps : List (List ℕ) × Option (List (List ℕ))) (is : List Item) (ts : List Lexeme) →

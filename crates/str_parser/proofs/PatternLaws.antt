@@ -13,12 +13,12 @@ use Rattle.str_parser.specs.Phrases.{sign, is_not, is_constructor, are_parts, pa
 use Rattle.str_parser.specs.declared.input.Lexeme.{Lexeme as CodeLexeme}
 use Rattle.str_parser.specs.declared.input.Lexeme.TheVariants as C
 use Rattle.str_parser.specs.Readings.{lexeme_in, NotAt, IsAfter, AtMost, Found, Missing, Nested}
-use Rattle.str_parser.specs.Runs.{FoundAny, names_go_on}
+use Rattle.str_parser.specs.Runs.{FoundAny, is_comma}
 use Rattle.str_parser.specs.Parts.{inner_pattern, inner_strategy, plain_pattern, IsOther, Anything, closed_strategy, some_patterns, EndsPatterns, patterns_in_parentheses, pattern_list_end, closed_patterns}
 use Rattle.str_parser.proofs.PartLaws.{passes, passed, binds_less}
 use Rattle.str_parser.proofs.WayLaws.{not_along}
 use Rattle.str_parser.proofs.PhraseLaws.{Made, Makes, makes_on, made, Carries, carries_on, at_made, Pairs, at_first, after_first, pair, both, both_pairs}
-use Rattle.str_parser.proofs.LedLaws.{pattern_begins, Led, led_variable, led_wildcard, led_alias, led_integer, led_quoted, led_application, led_grouped, led_tuple, led_list, led_list_with_tail, led_applied, led_applied_to, takes_bare, led, inner_begins, no_inner}
+use Rattle.str_parser.proofs.PatternLeads.{pattern_begins, LedPattern, led_variable, led_wildcard, led_alias, led_integer, led_quoted, led_application, led_grouped, led_tuple, led_list, led_list_with_tail, led_applied, led_applied_to, takes_bare, pattern_led, inner_begins, no_inner}
 
 -- ---- at level 201
 
@@ -34,24 +34,24 @@ pattern_beyond m k ts b = record { none = λ u is h r. let e = inner_begins m k 
 
 -- one along which tokens run begins with the first of them
 plain_led : (m : Bool) (k : ℕ) (t : Lexeme) (ts : List Lexeme) (u : PatternTree) (is : List Item) →
-    Runs either (plain_pattern m k u is) (t ∷ ts) → Led m k ts t u is
-plain_led m k t ts u is r = led m k t ts u is (takes_bare u r.0) r.1
+    Runs either (plain_pattern m k u is) (t ∷ ts) → LedPattern m k ts t u is
+plain_led m k t ts u is r = pattern_led m k t ts u is (takes_bare u r.0) r.1
 
 no_alias : (m : Bool) (k : ℕ) {x : Bytes} {ts : List Lexeme} {u : PatternTree} {is : List Item} →
-    takes_annotations u ≡ true → AtMost 4 is → Led m k (mark M.At ∷ ts) (L.name x) u is → ⊥
+    takes_annotations u ≡ true → AtMost 4 is → LedPattern m k (mark M.At ∷ ts) (L.name x) u is → ⊥
 no_alias m k {ts = ts} {is = is} takes h (led_variable r) = omega (arith, h, binds_less is (mark M.At) ts r)
 no_alias m k takes h (led_alias p r) = cc
 no_alias m k takes h (led_application ps c r) = let e = r.0 in cc
 
 no_applied : (m : Bool) (k : ℕ) {ts : List Lexeme} {u : PatternTree} {is : List Item} →
-    takes_annotations u ≡ true → Led m k ts (L.mark M.Less) u is → ⊥
+    takes_annotations u ≡ true → LedPattern m k ts (L.mark M.Less) u is → ⊥
 no_applied m k takes (led_applied s h r) = cc
 no_applied m k takes (led_applied_to s p h r) = cc
 
 -- ---- aliases
 
 module _ (m : Bool) (k : ℕ) (x : Bytes) (ts : List Lexeme) where
-  alias_led : {u : PatternTree} {is : List Item} → AtMost 3 is → Led m k (mark M.At ∷ ts) (L.name x) u is →
+  alias_led : {u : PatternTree} {is : List Item} → AtMost 3 is → LedPattern m k (mark M.At ∷ ts) (L.name x) u is →
       Made (inner_pattern m (k + 1)) (AtMost 3) ts (alias x) u is
   alias_led {is = is} h (led_variable r) = absurd (omega (arith, h, binds_less is (mark M.At) ts r))
   alias_led h (led_alias p r) = record { from = p; are = refl; ends = h; runs = r.1 }
@@ -62,7 +62,7 @@ module _ (m : Bool) (k : ℕ) (x : Bytes) (ts : List Lexeme) where
       Made (inner_pattern m (k + 1)) (AtMost 3) ts (alias x) u is
   alias_only (annotated p qs) is h r =
       absurd (no_alias m k r.0 (omega arith) (plain_led m k _ (mark M.At ∷ ts) p _ r))
-  alias_only u is h r = alias_led h (led m k _ (mark M.At ∷ ts) u is refl r)
+  alias_only u is h r = alias_led h (pattern_led m k _ (mark M.At ∷ ts) u is refl r)
 
 -- the pattern after the name and @
 pub alias_part : (m : Bool) (k : ℕ) {x : Bytes} {ts : List Lexeme} → k ≤ 200 →
@@ -98,7 +98,7 @@ module _ (k : ℕ) where
   applied_sound way (s, one_pattern p) is ts r = (refl, (refl, r))
 
   applied_led : {ts : List Lexeme} {u : PatternTree} {is : List Item} → AtMost 3 is →
-      Led false k ts (L.mark M.Less) u is → Made (application_rest k) (AtMost 3) ts as_applied u is
+      LedPattern false k ts (L.mark M.Less) u is → Made (application_rest k) (AtMost 3) ts as_applied u is
   applied_led h (led_applied s b r) = record { from = (s, no_pattern); are = refl; ends = h; runs = r }
   applied_led h (led_applied_to s p b r) = record { from = (s, one_pattern p); are = refl; ends = h; runs = r }
 
@@ -106,7 +106,7 @@ module _ (k : ℕ) where
       Runs either (pattern false k u is) (mark M.Less ∷ ts) →
       Made (application_rest k) (AtMost 3) ts as_applied u is
   applied_only {ts} (annotated p qs) is h r = absurd (no_applied false k r.0 (plain_led false k _ ts p _ r))
-  applied_only {ts} u is h r = applied_led h (led false k _ ts u is refl r)
+  applied_only {ts} u is h r = applied_led h (pattern_led false k _ ts u is refl r)
 
   application_made : {ts : List Lexeme} → k ≤ 200 → Makes (application_rest k) (AtMost 3) ts (inner_pattern false k)
       (AtMost 3) (mark M.Less ∷ ts) as_applied
@@ -243,7 +243,7 @@ module _ (m : Bool) (k : ℕ) {ts : List Lexeme} (o : IsOther m ts) where
 -- ---- patterns of one token
 
 module _ (m : Bool) (k : ℕ) {rest : List Lexeme} where
-  wildcard_led : {u : PatternTree} {is : List Item} → Led m k rest L.wildcard u is →
+  wildcard_led : {u : PatternTree} {is : List Item} → LedPattern m k rest L.wildcard u is →
       (u ≡ wildcard) × Runs either is rest
   wildcard_led (led_wildcard r) = (refl, r)
 
@@ -254,7 +254,7 @@ module _ (m : Bool) (k : ℕ) {rest : List Lexeme} where
     shorter = omega arith;
   }
 
-  integer_led : {z : ℤ} {u : PatternTree} {is : List Item} → Led m k rest (L.integer z) u is →
+  integer_led : {z : ℤ} {u : PatternTree} {is : List Item} → LedPattern m k rest (L.integer z) u is →
       (u ≡ integer z) × Runs either is rest
   integer_led (led_integer r) = (refl, r)
 
@@ -265,7 +265,7 @@ module _ (m : Bool) (k : ℕ) {rest : List Lexeme} where
     shorter = omega arith;
   }
 
-  quoted_led : {text : Bytes} {u : PatternTree} {is : List Item} → Led m k rest (L.quoted text) u is →
+  quoted_led : {text : Bytes} {u : PatternTree} {is : List Item} → LedPattern m k rest (L.quoted text) u is →
       (u ≡ quoted text) × Runs either is rest
   quoted_led (led_quoted r) = (refl, r)
 
@@ -279,7 +279,7 @@ module _ (m : Bool) (k : ℕ) {rest : List Lexeme} where
   -- ---- variables
 
   variable_led : {x : Bytes} {u : PatternTree} {is : List Item} → takes_annotations u ≡ true →
-      (is_constructor x ≡ true → NotAt (mark M.OpenParenthesis) rest) → Led m k rest (L.name x) u is →
+      (is_constructor x ≡ true → NotAt (mark M.OpenParenthesis) rest) → LedPattern m k rest (L.name x) u is →
       (u ≡ variable x) × Runs either is rest
   variable_led takes n (led_variable r) = (refl, r)
   variable_led takes n (led_alias p r) = cc
@@ -298,7 +298,7 @@ module _ (m : Bool) (k : ℕ) {rest : List Lexeme} where
 
 module _ (m : Bool) (k : ℕ) (ts : List Lexeme) where
   application_led : {x : Bytes} {u : PatternTree} {is : List Item} → takes_annotations u ≡ true → AtMost 4 is →
-      Led m k (mark M.OpenParenthesis ∷ ts) (L.name x) u is →
+      LedPattern m k (mark M.OpenParenthesis ∷ ts) (L.name x) u is →
       Made (closed_patterns M.CloseParenthesis m (k + 1)) Anything ts (application x) u is
   application_led {is = is} takes h (led_variable r) =
       absurd (omega (arith, h, binds_less is (mark M.OpenParenthesis) ts r))
@@ -331,7 +331,7 @@ module _ (m : Bool) (k : ℕ) (ts : List Lexeme) where
   tuple_only (more_patterns p (more_patterns q ps)) is h r =
       record { from = more_patterns p (more_patterns q ps); are = refl; ends = tt; runs = r }
 
-  parenthesized_led : {u : PatternTree} {is : List Item} → Led m k ts (L.mark M.OpenParenthesis) u is →
+  parenthesized_led : {u : PatternTree} {is : List Item} → LedPattern m k ts (L.mark M.OpenParenthesis) u is →
       Made (closed_patterns M.CloseParenthesis m (k + 1)) Anything ts patterns_in_parentheses u is
   parenthesized_led (led_grouped p r) =
       record { from = more_patterns p no_patterns; are = refl; ends = tt; runs = r }
@@ -360,7 +360,7 @@ as_list a = list a.0 a.1
 
 module _ (m : Bool) (k : ℕ) where
   empty_led : {rest : List Lexeme} {u : PatternTree} {is : List Item} →
-      Led m k (mark M.CloseBracket ∷ rest) (L.mark M.OpenBracket) u is →
+      LedPattern m k (mark M.CloseBracket ∷ rest) (L.mark M.OpenBracket) u is →
       (u ≡ list no_patterns no_pattern) × Runs either is rest
   empty_led (led_list no_patterns r) = (refl, r.1)
   empty_led (led_list (more_patterns p ps) r) = absurd (no_inner m (k + 1) p _ _ _ (no_close_bracket m) r)
@@ -377,8 +377,8 @@ module _ (m : Bool) (k : ℕ) where
   }
 
   list_end_stops : (o : OptionalPattern) (is : List Item) → EndsPatterns (pattern_list_end m (k + 1) o is)
-  list_end_stops no_pattern is = (omega arith, λ t rest r. ap names_go_on r.0)
-  list_end_stops (one_pattern p) is = (omega arith, λ t rest r. ap names_go_on r.0)
+  list_end_stops no_pattern is = (omega arith, λ t rest r. ap is_comma r.0)
+  list_end_stops (one_pattern p) is = (omega arith, λ t rest r. ap is_comma r.0)
 
   pub pattern_list_pairs : Pairs (some_patterns m (k + 1)) EndsPatterns (pattern_list_end m (k + 1)) (list_inside m k)
       Anything (λ ps o. (ps, o))
@@ -391,7 +391,7 @@ module _ (m : Bool) (k : ℕ) where
   list_sound way (more_patterns p ps, one_pattern q) is ts r = (refl, (refl, (refl, r)))
 
   list_led : {ts : List Lexeme} {u : PatternTree} {is : List Item} → NotAt (mark M.CloseBracket) ts →
-      Led m k ts (L.mark M.OpenBracket) u is → Made (list_inside m k) Anything ts as_list u is
+      LedPattern m k ts (L.mark M.OpenBracket) u is → Made (list_inside m k) Anything ts as_list u is
   list_led {ts} {is = is} n (led_list no_patterns r) = absurd (not_along (mark M.CloseBracket) is ts n r)
   list_led n (led_list (more_patterns p ps) r) =
       record { from = (more_patterns p ps, no_pattern); are = refl; ends = tt; runs = r }

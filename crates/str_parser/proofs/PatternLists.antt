@@ -7,14 +7,14 @@ use Rattle.str_parser.specs.Lexemes.{Lexeme, mark, begins_pattern}
 use Rattle.str_parser.specs.Items.{Item, Way, either, Runs}
 use Rattle.str_parser.specs.Phrases.{sign, other_patterns}
 use Rattle.str_parser.specs.Readings.{NotAt, AtMost, Found, Missing}
-use Rattle.str_parser.specs.Runs.{names_go_on}
+use Rattle.str_parser.specs.Runs.{is_comma}
 use Rattle.str_parser.specs.Parts.{inner_pattern, Anything, some_patterns, EndsPatterns, pattern_list_end, closing_mark, closed_patterns}
 use Rattle.str_parser.specs.declared.pattern.Closing.{Closing}
 use Rattle.str_parser.specs.declared.pattern.Closing.TheVariants as closings
 use Rattle.str_parser.proofs.WayLaws.{not_along}
 use Rattle.str_parser.proofs.PhraseLaws.{Made, Makes, behind, closed}
 use Rattle.str_parser.proofs.RunLaws.{several, some, Row, Lists, Partly, At, token_goes_on}
-use Rattle.str_parser.proofs.LedLaws.{no_inner}
+use Rattle.str_parser.proofs.PatternLeads.{no_inner}
 
 -- ---- patterns as a list
 
@@ -37,7 +37,7 @@ module _ (m : Bool) (k : ℕ) where
       (NotAt (mark M.Comma))
   patterns_row = record {
     follows = comma_follows;
-    goes_on = λ rest here is h r. token_goes_on names_go_on (mark M.Comma) refl rest here is h.1 r;
+    goes_on = λ rest here is h r. token_goes_on is_comma (mark M.Comma) refl rest here is h.1 r;
     past = λ rest n u is r. not_along (mark M.Comma) (inner_pattern m k u is) rest n r;
   }
 
@@ -68,8 +68,8 @@ closing_begins false closings.Parenthesis = refl
 closing_begins false closings.Brace = refl
 
 pub closing_ends : (c : Closing) (is : List Item) → EndsPatterns (sign (closing_mark c) ∷ is)
-closing_ends closings.Parenthesis is = (omega arith, λ t rest r. ap names_go_on r.0)
-closing_ends closings.Brace is = (omega arith, λ t rest r. ap names_go_on r.0)
+closing_ends closings.Parenthesis is = (omega arith, λ t rest r. ap is_comma r.0)
+closing_ends closings.Brace is = (omega arith, λ t rest r. ap is_comma r.0)
 
 module _ (m : Bool) (k : ℕ) (c : Closing) where
   none_only : (ps : PatternTrees) (is : List Item) (rest : List Lexeme) →

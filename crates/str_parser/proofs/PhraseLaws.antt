@@ -122,10 +122,10 @@ reads_whole l tree_of (Ok (x, rest)) f = made l f
 reads_whole l tree_of (Err e) f = carried (at_made l) e f
 
 -- the same, with a token before it
-pub led : {T U : Type 0} {write : Writes T} {Ends : Ending} {t : Lexeme} {ts rest : List Lexeme} {whole : Writes U}
-    {Stops : Ending} {to : T → U} {x : T} → Makes write Ends ts whole Stops (t ∷ ts) to →
+pub made_behind : {T U : Type 0} {write : Writes T} {Ends : Ending} {t : Lexeme} {ts rest : List Lexeme}
+    {whole : Writes U} {Stops : Ending} {to : T → U} {x : T} → Makes write Ends ts whole Stops (t ∷ ts) to →
     FoundAny write Ends ts x rest → Found whole Stops (t ∷ ts) (to x) rest
-led l f = found_some (made_any l f) (omega (arith, f.no_longer))
+made_behind l f = found_some (made_any l f) (omega (arith, f.no_longer))
 
 -- ---- a part at a level
 

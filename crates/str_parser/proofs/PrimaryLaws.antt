@@ -9,13 +9,13 @@ use Rattle.str_parser.specs.Lexemes.{Lexeme, mark, keyword, begins_strategy}
 use Rattle.str_parser.specs.Items.{Item, either, Runs}
 use Rattle.str_parser.specs.Phrases.{sign, keyword_of, some_names, primary, rule}
 use Rattle.str_parser.specs.Readings.{NotAt, AtMost, Found, Missing, one_name}
-use Rattle.str_parser.specs.Runs.{NoneOf, names_go_on}
+use Rattle.str_parser.specs.Runs.{NoneOf, is_comma}
 use Rattle.str_parser.specs.Parsing.{EndsRule, is_where}
 use Rattle.str_parser.specs.Parts.{inner_strategy, inner_pattern, Anything, closed_strategy, written_operand, conditional_end}
 use Rattle.str_parser.proofs.WayLaws.{not_along}
 use Rattle.str_parser.proofs.PhraseLaws.{Made, Makes, Pairs, both, both_pairs, behind, is_behind, no_token, closed}
 use Rattle.str_parser.proofs.NameLaws.{at_most_five}
-use Rattle.str_parser.proofs.PrimaryLeads.{Led, led_identity, led_failure, led_match, led_build, led_apply, led_scope, led_where, led_not, led_all, led_one, led_some, led_conditional, led_conditional_else, led_recursive, led_lambda, led, none_led, not_led}
+use Rattle.str_parser.proofs.PrimaryLeads.{LedPrimary, led_identity, led_failure, led_match, led_build, led_apply, led_scope, led_where, led_not, led_all, led_one, led_some, led_conditional, led_conditional_else, led_recursive, led_lambda, primary_led, none_led, not_led}
 
 -- ---- tokens with which no primary begins
 
@@ -25,30 +25,30 @@ module _ (k : ℕ) where
 
   pub primary_missing : (t : Lexeme) (ts : List Lexeme) → begins_strategy t ≡ false →
       Missing (primary k) (AtMost 3) (t ∷ ts)
-  primary_missing t ts e = record { none = λ u is h r. not_led t e u (led either k u is t ts r) }
+  primary_missing t ts e = record { none = λ u is h r. not_led t e u (primary_led either k u is t ts r) }
 
 -- ---- id and fail
 
 module _ (k : ℕ) (ts : List Lexeme) where
   identity_only : (u : PrimaryTree) (is : List Item) → Runs either (primary k u is) (keyword K.Id ∷ ts) →
-      Led (keyword K.Id) u → (u ≡ identity) × Runs either is ts
+      LedPrimary (keyword K.Id) u → (u ≡ identity) × Runs either is ts
   identity_only u is r led_identity = (refl, r.1)
 
   pub identity_found : Found (primary k) (AtMost 3) (keyword K.Id ∷ ts) identity ts
   identity_found = record {
     sound = λ way is r. (refl, r);
-    only_one = λ u is h r. identity_only u is r (led either k u is (keyword K.Id) ts r);
+    only_one = λ u is h r. identity_only u is r (primary_led either k u is (keyword K.Id) ts r);
     shorter = omega arith;
   }
 
   failure_only : (u : PrimaryTree) (is : List Item) → Runs either (primary k u is) (keyword K.Fail ∷ ts) →
-      Led (keyword K.Fail) u → (u ≡ failure) × Runs either is ts
+      LedPrimary (keyword K.Fail) u → (u ≡ failure) × Runs either is ts
   failure_only u is r led_failure = (refl, r.1)
 
   pub failure_found : Found (primary k) (AtMost 3) (keyword K.Fail ∷ ts) failure ts
   failure_found = record {
     sound = λ way is r. (refl, r);
-    only_one = λ u is h r. failure_only u is r (led either k u is (keyword K.Fail) ts r);
+    only_one = λ u is h r. failure_only u is r (primary_led either k u is (keyword K.Fail) ts r);
     shorter = omega arith;
   }
 
@@ -56,19 +56,19 @@ module _ (k : ℕ) (ts : List Lexeme) where
 
 module _ (k : ℕ) {ts : List Lexeme} where
   match_only : (u : PrimaryTree) (is : List Item) → AtMost 3 is →
-      Runs either (primary k u is) (mark M.Question ∷ ts) → Led (mark M.Question) u →
+      Runs either (primary k u is) (mark M.Question ∷ ts) → LedPrimary (mark M.Question) u →
       Made (inner_pattern true (k + 1)) (AtMost 3) ts match u is
   match_only u is h r led_match = record { from = _; are = refl; ends = h; runs = r.1 }
 
   pub is_match : Makes (inner_pattern true (k + 1)) (AtMost 3) ts (primary k) (AtMost 3) (mark M.Question ∷ ts) match
   is_match = record {
     sound = λ way p is r. (refl, r);
-    only = λ u is h r. match_only u is h r (led either k u is (mark M.Question) ts r);
+    only = λ u is h r. match_only u is h r (primary_led either k u is (mark M.Question) ts r);
     no_longer = omega arith;
   }
 
   build_only : (u : PrimaryTree) (is : List Item) → AtMost 3 is →
-      Runs either (primary k u is) (mark M.Exclamation ∷ ts) → Led (mark M.Exclamation) u →
+      Runs either (primary k u is) (mark M.Exclamation ∷ ts) → LedPrimary (mark M.Exclamation) u →
       Made (inner_pattern false (k + 1)) (AtMost 3) ts build u is
   build_only u is h r led_build = record { from = _; are = refl; ends = h; runs = r.1 }
 
@@ -76,33 +76,33 @@ module _ (k : ℕ) {ts : List Lexeme} where
       build
   is_build = record {
     sound = λ way p is r. (refl, r);
-    only = λ u is h r. build_only u is h r (led either k u is (mark M.Exclamation) ts r);
+    only = λ u is h r. build_only u is h r (primary_led either k u is (mark M.Exclamation) ts r);
     no_longer = omega arith;
   }
 
 -- ---- a strategy that is applied to a pattern
 
 -- the strategy with its > and the pattern
-abbrev pub application : ℕ → StrategyTree × PatternTree → List Item → List Item
-application k = both (closed_strategy (mark M.Greater) k) (inner_pattern false k)
+abbrev pub applied_to_pattern : ℕ → StrategyTree × PatternTree → List Item → List Item
+applied_to_pattern k = both (closed_strategy (mark M.Greater) k) (inner_pattern false k)
 
 abbrev pub as_apply : StrategyTree × PatternTree → PrimaryTree
 as_apply q = apply q.0 q.1
 
 pub application_pairs : (k : ℕ) →
-    Pairs (closed_strategy (mark M.Greater) k) Anything (inner_pattern false k) (application k) (AtMost 3)
+    Pairs (closed_strategy (mark M.Greater) k) Anything (inner_pattern false k) (applied_to_pattern k) (AtMost 3)
     (λ s p. (s, p))
 application_pairs k = both_pairs (λ p is h. tt)
 
 module _ (k : ℕ) {ts : List Lexeme} where
   apply_only : (u : PrimaryTree) (is : List Item) → AtMost 3 is → Runs either (primary k u is) (mark M.Less ∷ ts) →
-      Led (mark M.Less) u → Made (application (k + 1)) (AtMost 3) ts as_apply u is
+      LedPrimary (mark M.Less) u → Made (applied_to_pattern (k + 1)) (AtMost 3) ts as_apply u is
   apply_only u is h r (led_apply {s} {p}) = record { from = (s, p); are = refl; ends = h; runs = r.1 }
 
-  pub is_apply : Makes (application (k + 1)) (AtMost 3) ts (primary k) (AtMost 3) (mark M.Less ∷ ts) as_apply
+  pub is_apply : Makes (applied_to_pattern (k + 1)) (AtMost 3) ts (primary k) (AtMost 3) (mark M.Less ∷ ts) as_apply
   is_apply = record {
     sound = λ way q is r. (refl, r);
-    only = λ u is h r. apply_only u is h r (led either k u is (mark M.Less) ts r);
+    only = λ u is h r. apply_only u is h r (primary_led either k u is (mark M.Less) ts r);
     no_longer = omega arith;
   }
 
@@ -120,18 +120,18 @@ abbrev pub as_scope : List Bytes × StrategyTree → PrimaryTree
 as_scope q = scope q.0 q.1
 
 pub scope_pairs : (k : ℕ) →
-    Pairs some_names (NoneOf names_go_on) (scope_body k) (scope_parts k) Anything (λ xs s. (xs, s))
-scope_pairs k = both_pairs (λ s is h t rest r. ap names_go_on r.0)
+    Pairs some_names (NoneOf is_comma) (scope_body k) (scope_parts k) Anything (λ xs s. (xs, s))
+scope_pairs k = both_pairs (λ s is h t rest r. ap is_comma r.0)
 
 module _ (k : ℕ) {ts : List Lexeme} where
   scope_only : (u : PrimaryTree) (is : List Item) → Runs either (primary k u is) (mark M.OpenBrace ∷ ts) →
-      Led (mark M.OpenBrace) u → Made (scope_parts (k + 1)) Anything ts as_scope u is
+      LedPrimary (mark M.OpenBrace) u → Made (scope_parts (k + 1)) Anything ts as_scope u is
   scope_only u is r (led_scope {xs} {s}) = record { from = (xs, s); are = refl; ends = tt; runs = r.1 }
 
   pub is_scope : Makes (scope_parts (k + 1)) Anything ts (primary k) (AtMost 3) (mark M.OpenBrace ∷ ts) as_scope
   is_scope = record {
     sound = λ way q is r. (refl, r);
-    only = λ u is h r. scope_only u is r (led either k u is (mark M.OpenBrace) ts r);
+    only = λ u is h r. scope_only u is r (primary_led either k u is (mark M.OpenBrace) ts r);
     no_longer = omega arith;
   }
 
@@ -159,7 +159,7 @@ recursive_pairs k = both_pairs (λ s is h. at_most_five (written_operand k s is)
 
 module _ (k : ℕ) {ts : List Lexeme} where
   operator_only : (o : Operator) (u : PrimaryTree) (is : List Item) →
-      Runs either (primary k u is) (keyword (keyword_of o) ∷ ts) → Led (keyword (keyword_of o)) u →
+      Runs either (primary k u is) (keyword (keyword_of o) ∷ ts) → LedPrimary (keyword (keyword_of o)) u →
       Made (written_operand (k + 1)) Anything ts (operator o) u is
   operator_only O.Where u is r led_where = record { from = _; are = refl; ends = tt; runs = r.1 }
   operator_only O.Not u is r led_not = record { from = _; are = refl; ends = tt; runs = r.1 }
@@ -171,19 +171,19 @@ module _ (k : ℕ) {ts : List Lexeme} where
       Makes (written_operand (k + 1)) Anything ts (primary k) (AtMost 3) (keyword (keyword_of o) ∷ ts) (operator o)
   is_operator o = record {
     sound = λ way s is r. (refl, r);
-    only = λ u is h r. operator_only o u is r (led either k u is (keyword (keyword_of o)) ts r);
+    only = λ u is h r. operator_only o u is r (primary_led either k u is (keyword (keyword_of o)) ts r);
     no_longer = omega arith;
   }
 
   recursive_only : (u : PrimaryTree) (is : List Item) → Runs either (primary k u is) (keyword K.Rec ∷ ts) →
-      Led (keyword K.Rec) u → Made (recursive_parts (k + 1)) Anything ts as_recursive u is
+      LedPrimary (keyword K.Rec) u → Made (recursive_parts (k + 1)) Anything ts as_recursive u is
   recursive_only u is r (led_recursive {x} {s}) = record { from = (x, s); are = refl; ends = tt; runs = r.1 }
 
   pub is_recursive :
       Makes (recursive_parts (k + 1)) Anything ts (primary k) (AtMost 3) (keyword K.Rec ∷ ts) as_recursive
   is_recursive = record {
     sound = λ way q is r. (refl, r);
-    only = λ u is h r. recursive_only u is r (led either k u is (keyword K.Rec) ts r);
+    only = λ u is h r. recursive_only u is r (primary_led either k u is (keyword K.Rec) ts r);
     no_longer = omega arith;
   }
 
@@ -215,7 +215,7 @@ module _ (k : ℕ) where
 
 module _ (k : ℕ) {ts : List Lexeme} where
   conditional_only : (u : PrimaryTree) (is : List Item) → Runs either (primary k u is) (keyword K.If ∷ ts) →
-      Led (keyword K.If) u → Made (conditional_parts (k + 1)) Anything ts as_conditional u is
+      LedPrimary (keyword K.If) u → Made (conditional_parts (k + 1)) Anything ts as_conditional u is
   conditional_only u is r (led_conditional {c} {s}) =
       record { from = (c, (s, no_strategy)); are = refl; ends = tt; runs = r.1 }
   conditional_only u is r (led_conditional_else {c} {s} {t}) =
@@ -225,7 +225,7 @@ module _ (k : ℕ) {ts : List Lexeme} where
       Makes (conditional_parts (k + 1)) Anything ts (primary k) (AtMost 3) (keyword K.If ∷ ts) as_conditional
   is_conditional = record {
     sound = λ way q is r. (refl, r);
-    only = λ u is h r. conditional_only u is r (led either k u is (keyword K.If) ts r);
+    only = λ u is h r. conditional_only u is r (primary_led either k u is (keyword K.If) ts r);
     no_longer = omega arith;
   }
 
@@ -275,13 +275,13 @@ backslash_ends is = (omega arith, λ t rest r. ap is_where r.0)
 
 module _ (k : ℕ) {ts : List Lexeme} where
   lambda_only : (u : PrimaryTree) (is : List Item) → Runs either (primary k u is) (mark M.Backslash ∷ ts) →
-      Led (mark M.Backslash) u → Made (closed (mark M.Backslash) (rule (k + 1))) Anything ts lambda u is
+      LedPrimary (mark M.Backslash) u → Made (closed (mark M.Backslash) (rule (k + 1))) Anything ts lambda u is
   lambda_only u is r led_lambda = record { from = _; are = refl; ends = tt; runs = r.1 }
 
   pub is_lambda : Makes (closed (mark M.Backslash) (rule (k + 1))) Anything ts (primary k) (AtMost 3)
       (mark M.Backslash ∷ ts) lambda
   is_lambda = record {
     sound = λ way x is r. (refl, r);
-    only = λ u is h r. lambda_only u is r (led either k u is (mark M.Backslash) ts r);
+    only = λ u is h r. lambda_only u is r (primary_led either k u is (mark M.Backslash) ts r);
     no_longer = omega arith;
   }

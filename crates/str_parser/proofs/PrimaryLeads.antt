@@ -16,36 +16,36 @@ use Rattle.str_parser.specs.Phrases.{keyword_of, are_operands, any_strategies, p
 use Rattle.str_parser.specs.Readings.{lexeme_in, NotAt}
 
 -- the primaries that begin with this token
-pub data Led : Lexeme → PrimaryTree → Type 0 where
-  led_identity : Led (keyword K.Id) identity
-  led_failure : Led (keyword K.Fail) failure
-  led_match : {p : PatternTree} → Led (mark M.Question) (match p)
-  led_build : {p : PatternTree} → Led (mark M.Exclamation) (build p)
-  led_apply : {s : StrategyTree} {p : PatternTree} → Led (mark M.Less) (apply s p)
-  led_parenthesized : {s : StrategyTree} → Led (mark M.OpenParenthesis) (parenthesized s)
-  led_scope : {xs : List Bytes} {s : StrategyTree} → Led (mark M.OpenBrace) (scope xs s)
-  led_where : {s : StrategyTree} → Led (keyword K.Where) (operator O.Where s)
-  led_not : {s : StrategyTree} → Led (keyword K.Not) (operator O.Not s)
-  led_all : {s : StrategyTree} → Led (keyword K.All) (operator O.All s)
-  led_one : {s : StrategyTree} → Led (keyword K.One) (operator O.One s)
-  led_some : {s : StrategyTree} → Led (keyword K.Some) (operator O.Some s)
-  led_conditional : {c s : StrategyTree} → Led (keyword K.If) (conditional c s no_strategy)
-  led_conditional_else : {c s t : StrategyTree} → Led (keyword K.If) (conditional c s (one_strategy t))
-  led_recursive : {x : Bytes} {s : StrategyTree} → Led (keyword K.Rec) (recursive x s)
+pub data LedPrimary : Lexeme → PrimaryTree → Type 0 where
+  led_identity : LedPrimary (keyword K.Id) identity
+  led_failure : LedPrimary (keyword K.Fail) failure
+  led_match : {p : PatternTree} → LedPrimary (mark M.Question) (match p)
+  led_build : {p : PatternTree} → LedPrimary (mark M.Exclamation) (build p)
+  led_apply : {s : StrategyTree} {p : PatternTree} → LedPrimary (mark M.Less) (apply s p)
+  led_parenthesized : {s : StrategyTree} → LedPrimary (mark M.OpenParenthesis) (parenthesized s)
+  led_scope : {xs : List Bytes} {s : StrategyTree} → LedPrimary (mark M.OpenBrace) (scope xs s)
+  led_where : {s : StrategyTree} → LedPrimary (keyword K.Where) (operator O.Where s)
+  led_not : {s : StrategyTree} → LedPrimary (keyword K.Not) (operator O.Not s)
+  led_all : {s : StrategyTree} → LedPrimary (keyword K.All) (operator O.All s)
+  led_one : {s : StrategyTree} → LedPrimary (keyword K.One) (operator O.One s)
+  led_some : {s : StrategyTree} → LedPrimary (keyword K.Some) (operator O.Some s)
+  led_conditional : {c s : StrategyTree} → LedPrimary (keyword K.If) (conditional c s no_strategy)
+  led_conditional_else : {c s t : StrategyTree} → LedPrimary (keyword K.If) (conditional c s (one_strategy t))
+  led_recursive : {x : Bytes} {s : StrategyTree} → LedPrimary (keyword K.Rec) (recursive x s)
   led_let : {d : DefinitionTree} {ds : DefinitionTrees} {s : StrategyTree} →
-      Led (keyword K.Let) (let_in (more_definitions d ds) s)
-  led_primitive : {text : Bytes} {ps : PatternTrees} → Led (keyword K.Prim) (primitive text ps)
-  led_lambda : {r : RuleTree} → Led (mark M.Backslash) (lambda r)
-  led_call : {x : Bytes} → Led (name x) (call x no_arguments)
-  led_call_with : {x : Bytes} {ss : StrategyTrees} → Led (name x) (call x (strategy_arguments ss))
+      LedPrimary (keyword K.Let) (let_in (more_definitions d ds) s)
+  led_primitive : {text : Bytes} {ps : PatternTrees} → LedPrimary (keyword K.Prim) (primitive text ps)
+  led_lambda : {r : RuleTree} → LedPrimary (mark M.Backslash) (lambda r)
+  led_call : {x : Bytes} → LedPrimary (name x) (call x no_arguments)
+  led_call_with : {x : Bytes} {ss : StrategyTrees} → LedPrimary (name x) (call x (strategy_arguments ss))
   led_call_with_terms : {x : Bytes} {ss : StrategyTrees} {ps : PatternTrees} →
-      Led (name x) (call x (all_arguments ss ps))
-  led_tuple : {ss : StrategyTrees} → are_operands ss ≡ true → Led (mark M.OpenParenthesis) (tuple_congruence ss)
-  led_list : {ss : StrategyTrees} → Led (mark M.OpenBracket) (list_congruence ss no_strategy)
+      LedPrimary (name x) (call x (all_arguments ss ps))
+  led_tuple : {ss : StrategyTrees} → are_operands ss ≡ true → LedPrimary (mark M.OpenParenthesis) (tuple_congruence ss)
+  led_list : {ss : StrategyTrees} → LedPrimary (mark M.OpenBracket) (list_congruence ss no_strategy)
   led_list_with_tail : {ss : StrategyTrees} {s : StrategyTree} → any_strategies ss ≡ true →
-      Led (mark M.OpenBracket) (list_congruence ss (one_strategy s))
+      LedPrimary (mark M.OpenBracket) (list_congruence ss (one_strategy s))
 
-operator_led : (t : Lexeme) (o : Operator) (s : StrategyTree) → t ≡ keyword (keyword_of o) → Led t (operator o s)
+operator_led : (t : Lexeme) (o : Operator) (s : StrategyTree) → t ≡ keyword (keyword_of o) → LedPrimary t (operator o s)
 operator_led t O.Where s e = rw e led_where
 operator_led t O.Not s e = rw e led_not
 operator_led t O.All s e = rw e led_all
@@ -53,29 +53,29 @@ operator_led t O.One s e = rw e led_one
 operator_led t O.Some s e = rw e led_some
 
 -- a primary that tokens run along begins with the first of them
-pub led : (way : Way) (k : ℕ) (u : PrimaryTree) (is : List Item) (t : Lexeme) (ts : List Lexeme) →
-    Runs way (primary k u is) (t ∷ ts) → Led t u
-led way k identity is t ts r = rw r.0 led_identity
-led way k failure is t ts r = rw r.0 led_failure
-led way k (match p) is t ts r = rw r.0 led_match
-led way k (build p) is t ts r = rw r.0 led_build
-led way k (apply s p) is t ts r = rw r.0 led_apply
-led way k (parenthesized s) is t ts r = rw r.0 led_parenthesized
-led way k (scope xs s) is t ts r = rw r.0 led_scope
-led way k (operator o s) is t ts r = operator_led t o s r.0
-led way k (conditional c s no_strategy) is t ts r = rw r.0 led_conditional
-led way k (conditional c s (one_strategy u)) is t ts r = rw r.0 led_conditional_else
-led way k (recursive x s) is t ts r = rw r.0 led_recursive
-led way k (let_in no_definitions s) is t ts r = let e = r.0 in cc
-led way k (let_in (more_definitions d ds) s) is t ts r = rw r.0 led_let
-led way k (primitive text ps) is t ts r = rw r.0 led_primitive
-led way k (lambda x) is t ts r = rw r.0 led_lambda
-led way k (call x no_arguments) is t ts r = rw r.0 led_call
-led way k (call x (strategy_arguments ss)) is t ts r = rw r.0 led_call_with
-led way k (call x (all_arguments ss ps)) is t ts r = rw r.0 led_call_with_terms
-led way k (tuple_congruence ss) is t ts r = rw r.1.0 (led_tuple r.0)
-led way k (list_congruence ss no_strategy) is t ts r = rw r.0 led_list
-led way k (list_congruence ss (one_strategy s)) is t ts r = rw r.1.0 (led_list_with_tail r.0)
+pub primary_led : (way : Way) (k : ℕ) (u : PrimaryTree) (is : List Item) (t : Lexeme) (ts : List Lexeme) →
+    Runs way (primary k u is) (t ∷ ts) → LedPrimary t u
+primary_led way k identity is t ts r = rw r.0 led_identity
+primary_led way k failure is t ts r = rw r.0 led_failure
+primary_led way k (match p) is t ts r = rw r.0 led_match
+primary_led way k (build p) is t ts r = rw r.0 led_build
+primary_led way k (apply s p) is t ts r = rw r.0 led_apply
+primary_led way k (parenthesized s) is t ts r = rw r.0 led_parenthesized
+primary_led way k (scope xs s) is t ts r = rw r.0 led_scope
+primary_led way k (operator o s) is t ts r = operator_led t o s r.0
+primary_led way k (conditional c s no_strategy) is t ts r = rw r.0 led_conditional
+primary_led way k (conditional c s (one_strategy u)) is t ts r = rw r.0 led_conditional_else
+primary_led way k (recursive x s) is t ts r = rw r.0 led_recursive
+primary_led way k (let_in no_definitions s) is t ts r = let e = r.0 in cc
+primary_led way k (let_in (more_definitions d ds) s) is t ts r = rw r.0 led_let
+primary_led way k (primitive text ps) is t ts r = rw r.0 led_primitive
+primary_led way k (lambda x) is t ts r = rw r.0 led_lambda
+primary_led way k (call x no_arguments) is t ts r = rw r.0 led_call
+primary_led way k (call x (strategy_arguments ss)) is t ts r = rw r.0 led_call_with
+primary_led way k (call x (all_arguments ss ps)) is t ts r = rw r.0 led_call_with_terms
+primary_led way k (tuple_congruence ss) is t ts r = rw r.1.0 (led_tuple r.0)
+primary_led way k (list_congruence ss no_strategy) is t ts r = rw r.0 led_list
+primary_led way k (list_congruence ss (one_strategy s)) is t ts r = rw r.1.0 (led_list_with_tail r.0)
 
 -- no primary runs along no tokens
 pub none_led : (way : Way) (k : ℕ) (u : PrimaryTree) (is : List Item) → Runs way (primary k u is) [] → ⊥
@@ -86,12 +86,12 @@ none_led way k (list_congruence ss (one_strategy s)) is r = r.1
 none_led way k (call x no_arguments) is r = r
 none_led way k _ is r = r
 
-pub led_begins : {t : Lexeme} {u : PrimaryTree} → Led t u → begins_strategy t ≡ true
+pub led_begins : {t : Lexeme} {u : PrimaryTree} → LedPrimary t u → begins_strategy t ≡ true
 led_begins led_identity = refl
 led_begins _ = refl
 
 -- no primary begins with a token that begins no strategy
-pub not_led : (t : Lexeme) → begins_strategy t ≡ false → (u : PrimaryTree) → Led t u → ⊥
+pub not_led : (t : Lexeme) → begins_strategy t ≡ false → (u : PrimaryTree) → LedPrimary t u → ⊥
 not_led t e u l = let f : begins_strategy t ≡ true = led_begins l in cc
 
 -- ---- tokens that begin no strategy

@@ -9,7 +9,7 @@ use Rattle.str_parser.specs.Lexemes.{Lexeme, mark, begins_strategy}
 use Rattle.str_parser.specs.Items.{Item, either, Runs}
 use Rattle.str_parser.specs.Phrases.{sign, word, other_strategies}
 use Rattle.str_parser.specs.Readings.{mark_strength, NotAt, AtMost}
-use Rattle.str_parser.specs.Runs.{names_go_on}
+use Rattle.str_parser.specs.Runs.{is_comma}
 use Rattle.str_parser.specs.Parts.{inner_strategy, some_strategies, EndsStrategies}
 use Rattle.str_parser.proofs.WayLaws.{not_along}
 use Rattle.str_parser.proofs.PhraseLaws.{behind}
@@ -51,7 +51,7 @@ pub strategies_row : (k : ℕ) → Row (behind (mark M.Comma) (inner_strategy k)
     (At (mark M.Comma)) (NotAt (mark M.Comma))
 strategies_row k = record {
   follows = comma_follows k;
-  goes_on = λ rest here is h r. token_goes_on names_go_on (mark M.Comma) refl rest here is h.1 r;
+  goes_on = λ rest here is h r. token_goes_on is_comma (mark M.Comma) refl rest here is h.1 r;
   past = λ rest n u is r. not_along (mark M.Comma) (inner_strategy k u is) rest n r;
 }
 
@@ -74,6 +74,6 @@ PartlyStrategies k =
     Partly (behind (mark M.Comma) (inner_strategy k)) EndsStrategies (some_strategies k) strategies_in 1
 
 -- what ends the strategies of tuples, lists and calls
-pub strategies_end : (m : Mark) → mark_strength m ≡ 0 → names_go_on (mark m) ≡ false → (is : List Item) →
+pub strategies_end : (m : Mark) → mark_strength m ≡ 0 → is_comma (mark m) ≡ false → (is : List Item) →
     EndsStrategies (sign m ∷ is)
 strategies_end m e f is = (mark_ends m e is, λ t rest r. rw r.0 f)

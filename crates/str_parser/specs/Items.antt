@@ -2,7 +2,7 @@
 use Rattle.std.specs.Prelude.{◌≡◌, ◌⊎◌, ℕ, ◌+◌, ◌≤◌, Bool, true, false, List, [], ◌∷◌}
 use Rattle.str_parser.specs.Lexemes.{Lexeme, Part, build_part, first_begins}
 
--- A token; a mark that a part of this kind comes next, at this level; that no token comes next with which a build
+-- A token; a placeholder for a part of this kind at this level; that no token comes next with which a build
 -- begins; or that this holds of the phrase.
 pub data Item : Type 0 where
   token : Lexeme → Item
@@ -30,7 +30,7 @@ Ends either ts = ts ≡ []
 abbrev pub IsBeyond : Part → ℕ → List Lexeme → Type 0
 IsBeyond p level ts = (level ≡ max_level + 1) × (first_begins p ts ≡ true)
 
--- what is asked where a part comes next, and this of what comes after the mark
+-- what is asked where a part comes next, and this of what comes after it
 abbrev pub Passes : Way → Part → ℕ → List Lexeme → Type 0 → Type 0
 Passes whole p level ts Behind = (level ≤ max_level) × Behind
 Passes too_deep p level ts Behind = IsBeyond p level ts ⊎ Behind

@@ -1,5 +1,5 @@
 -- The headline does not rest on this file.
--- The parts of phrases that are read one by one.
+-- The phrases that single functions of the parser read, and what may come after them.
 use Rattle.std.specs.Prelude.{◌≡◌, ℕ, Bool, true, false, List, [], ◌∷◌, Box}
 use Rattle.std.specs.declared.vec.Vec.{Vec}
 use Rattle.std.specs.declared.alloc.Global.{Global}
@@ -16,7 +16,7 @@ use Rattle.str_parser.specs.Lexemes.{Lexeme, name, quoted, mark, strategy_part}
 use Rattle.str_parser.specs.Items.{Item, token, part, only, either, Runs}
 use Rattle.str_parser.specs.Phrases.{sign, word, pattern_part, takes_annotations, pattern, patterns, other_patterns, strategy, strategy_list, other_strategies, sequence, led_by, defined, definitions}
 use Rattle.str_parser.specs.Readings.{AtMost}
-use Rattle.str_parser.specs.Runs.{NoneOf, names_go_on}
+use Rattle.str_parser.specs.Runs.{NoneOf, is_comma}
 use Rattle.str_parser.specs.Parsing.{is_name}
 use Rattle.str_parser.specs.declared.pattern.Leading.{Leading}
 use Rattle.str_parser.specs.declared.pattern.Leading.TheVariants as leading
@@ -65,11 +65,11 @@ some_strategies k (more_strategies s ss) is = inner_strategy k s (other_strategi
 
 -- no annotations and no further pattern come
 abbrev pub EndsPatterns : List Item → Type 0
-EndsPatterns is = AtMost 3 is × NoneOf names_go_on is
+EndsPatterns is = AtMost 3 is × NoneOf is_comma is
 
 -- no operator and no further strategy come
 abbrev pub EndsStrategies : List Item → Type 0
-EndsStrategies is = AtMost 0 is × NoneOf names_go_on is
+EndsStrategies is = AtMost 0 is × NoneOf is_comma is
 
 abbrev pub patterns_from : Vec Pattern Global → PatternTrees
 patterns_from ps = patterns_of ps.items
@@ -159,7 +159,7 @@ arguments_inside k (strategy_arguments ss) is = strategy_list k ss (sign M.Close
 arguments_inside k (all_arguments ss ps) is =
     strategy_list k ss (sign M.Bar ∷ patterns false k ps (sign M.CloseParenthesis ∷ is))
 
--- with which the arguments after the strategies of a call begin
+-- the tokens that may come after the strategies of a call: ) and |
 abbrev pub ends_strategies : Lexeme → Bool
 ends_strategies (mark M.CloseParenthesis) = true
 ends_strategies (mark M.Bar) = true

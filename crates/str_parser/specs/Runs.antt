@@ -25,15 +25,15 @@ abbrev pub IsReadingAny : {T X : Type 0} → (T → List Item → List Item) →
 IsReadingAny write Stops tree_of ts (Ok (x, rest)) = FoundAny write Stops ts (tree_of x) rest
 IsReadingAny write Stops tree_of ts (Err e) = IsFault write Stops ts e
 
--- ---- names
+-- ---- what a list with commas goes on with
 
--- with a comma, some names go on
-abbrev pub names_go_on : Lexeme → Bool
-names_go_on (mark M.Comma) = true
-names_go_on _ = false
+-- with a comma, a list of which a part has been read
+abbrev pub is_comma : Lexeme → Bool
+is_comma (mark M.Comma) = true
+is_comma _ = false
 
--- with a name, names begin where there are none yet
-abbrev pub any_names_go_on : Lexeme → Bool
-any_names_go_on (mark M.Comma) = true
-any_names_go_on (name x) = true
-any_names_go_on _ = false
+-- with a comma or a name, names of which none need have been read
+abbrev pub is_comma_or_name : Lexeme → Bool
+is_comma_or_name (mark M.Comma) = true
+is_comma_or_name (name x) = true
+is_comma_or_name _ = false

@@ -20,6 +20,7 @@ use str_syntax::{Arguments, Name, Pattern, Primary, Strategy, Text};
 
 /// Reads the call at this level whose name, at this byte, stands before the tokens; also returns the tokens after it.
 #[cycle(phrase)]
+#[inline(never)]
 pub(crate) fn call<'a>(
     alloc: Global,
     bytes: &'a [u8],

@@ -108,7 +108,6 @@ impl<'a> Input<'a> {
     }
 
     /// The refusal of the first token, in the place of which one of these was expected.
-    #[inline(never)]
     pub(crate) fn syntax(&self, expected: &'static [Candidate]) -> ParseRefusal
         ensures { IsSyntax result }
     {

@@ -3,7 +3,7 @@ ghost use Rattle.std.specs.Prelude.{◌≡◌};
 ghost use Rattle.str_syntax.specs.Views.{parameters_of, head_of};
 ghost use Rattle.str_parser.specs.Phrases.{some_names, names as any_names, parameters as written_parameters, headed};
 ghost use Rattle.str_parser.specs.Readings.{IsReading, AtMost, one_name, itself, names_of};
-ghost use Rattle.str_parser.specs.Runs.{IsReadingAny, NoneOf, names_go_on, any_names_go_on};
+ghost use Rattle.str_parser.specs.Runs.{IsReadingAny, NoneOf, is_comma, is_comma_or_name};
 ghost use Rattle.str_parser.specs.Parsing.{begins_name as first_is_name};
 
 use crate::expected::Candidate;
@@ -32,7 +32,7 @@ pub(crate) fn names<'a>(
     alloc: Global,
     input: Input<'a>,
 ) -> Result<(Vec<Name>, Input<'a>), ParseRefusal>
-    ensures { IsReading some_names (NoneOf names_go_on) names_of input.entry result }
+    ensures { IsReading some_names (NoneOf is_comma) names_of input.entry result }
 {
     let (first, mut rest) = name(alloc, input, &[Candidate::Name])?;
     let mut found = Vec::with_capacity(alloc, 1)?;
@@ -47,7 +47,7 @@ pub(crate) fn names<'a>(
 
 /// Reads the names with commas between that the tokens begin with, if any; also returns the tokens after them.
 fn names_up_to<'a>(alloc: Global, input: Input<'a>) -> Result<(Vec<Name>, Input<'a>), ParseRefusal>
-    ensures { IsReadingAny any_names (NoneOf any_names_go_on) names_of input.entry result }
+    ensures { IsReadingAny any_names (NoneOf is_comma_or_name) names_of input.entry result }
 {
     match input.first() {
         Some((Lexeme::Name(_), _)) => names(alloc, input),

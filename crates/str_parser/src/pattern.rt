@@ -17,12 +17,13 @@ use std::alloc::{AllocError, Global};
 use str_lexer::Mark;
 use str_syntax::{Name, Pattern, Text};
 
-/// What a pattern begins with, if no annotations follow it as a whole.
+/// How a pattern begins: as one of the two forms that take no annotations, or otherwise.
 enum Leading<'a> {
     /// `x@`
     Alias(&'a [u8], Input<'a>),
     /// `<`, in a build
     Applied(Input<'a>),
+    /// as neither, or as no pattern
     Other,
 }
 
@@ -87,7 +88,7 @@ fn begins_pattern(input: &Input<'_>, in_match: bool) -> bool
     }
 }
 
-/// Tells which pattern that takes no annotations the tokens begin with, in a match or in a build.
+/// Tells which of the two forms that take no annotations the tokens begin with, if either, in a match or in a build.
 fn leading_of<'a>(input: &Input<'a>, in_match: bool) -> Leading<'a>
     ensures { IsLeading in_match input.now result }
 {
@@ -104,8 +105,8 @@ fn leading_of<'a>(input: &Input<'a>, in_match: bool) -> Leading<'a>
     }
 }
 
-/// Refuses annotations after this pattern, by this rule; returns the pattern and the tokens where none follow.
-fn without_annotations<'a>(
+/// Refuses annotations after this pattern, by this rule; where none follow, returns the pattern and the tokens after it.
+fn refuse_annotations<'a>(
     pattern: Pattern,
     input: Input<'a>,
     rule: SyntaxRule,
@@ -180,7 +181,8 @@ fn alias<'a>(
     Ok((Pattern::Alias(name, part), rest))
 }
 
-/// Reads the build at this level whose `<` stands before the tokens; also returns the tokens after it.
+/// Reads the applied strategy at this level whose `<` stands before the tokens, in a build, with the pattern to which it is applied, if
+/// any; also returns the tokens after it.
 #[cycle(phrase)]
 fn applied_strategy<'a>(
     alloc: Global,
@@ -200,14 +202,14 @@ fn applied_strategy<'a>(
     )?;
     if !begins_pattern(&rest, false) {
         let rule = SyntaxRule::ParenthesesAroundApplied;
-        return without_annotations(Pattern::Applied(strategy), rest, rule);
+        return refuse_annotations(Pattern::Applied(strategy), rest, rule);
     }
     let (part, rest) = pattern(alloc, rest, false, level + 1)?;
     Ok((Pattern::AppliedTo(strategy, Box::new(alloc, part)?), rest))
 }
 
-/// Reads the pattern at this level that the tokens begin with, which is none of these two, with its annotations; also returns the
-/// tokens after it.
+/// Reads the pattern at this level that the tokens begin with, which is neither an alias nor an applied strategy, with its annotations,
+/// if any; also returns the tokens after it.
 #[cycle(phrase)]
 fn with_annotations<'a>(
     alloc: Global,
@@ -232,7 +234,7 @@ fn with_annotations<'a>(
         Closing::Brace,
     )?;
     let made = Pattern::Annotated(bare, annotations);
-    without_annotations(made, rest, SyntaxRule::OneListOfAnnotations)
+    refuse_annotations(made, rest, SyntaxRule::OneListOfAnnotations)
 }
 
 /// Reads the pattern at this level that the tokens begin with, without annotations; also returns the tokens after it.

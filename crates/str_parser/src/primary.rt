@@ -1,4 +1,4 @@
-//! Primaries from tokens: what they begin with, and those with a keyword, a scope or a pattern.
+//! Primaries from tokens: the choice of the form by the first token, and the forms that have no module of their own.
 ghost use Rattle.std.specs.Prelude.{◌+◌, ◌≤◌, ◌∷◌};
 ghost use Rattle.str_lexer.specs.declared.token.Mark.TheVariants as M;
 ghost use Rattle.str_lexer.specs.declared.token.Keyword.TheVariants as K;
@@ -61,7 +61,7 @@ fn primary_after_mark<'a>(
         Mark::Question => pattern_match(alloc, input, level),
         Mark::Exclamation => pattern_build(alloc, input, level),
         Mark::Backslash => lambda(alloc, input, level),
-        Mark::Less => application(alloc, input, level),
+        Mark::Less => strategy_application(alloc, input, level),
         Mark::OpenParenthesis => strategies_in_parentheses(alloc, input, level),
         Mark::OpenBracket => list_congruence(alloc, input, level),
         Mark::OpenBrace => scope(alloc, input, level),
@@ -74,6 +74,7 @@ fn primary_after_mark<'a>(
 
 /// Reads the primary at this level whose keyword, at this byte, stands before the tokens; also returns the tokens after it.
 #[cycle(phrase)]
+#[inline(never)]
 fn primary_after_keyword<'a>(
     alloc: Global,
     keyword: Keyword,
@@ -134,9 +135,10 @@ fn pattern_build<'a>(
     Ok((Box::new(alloc, Primary::Build(part))?, rest))
 }
 
-/// Reads the application at this level whose `<` stands before the tokens; also returns the tokens after it.
+/// Reads the strategy at this level that is applied to a pattern and whose `<` stands before the tokens; also returns the tokens after
+/// the pattern.
 #[cycle(phrase)]
-fn application<'a>(
+fn strategy_application<'a>(
     alloc: Global,
     input: Input<'a>,
     level: u32,

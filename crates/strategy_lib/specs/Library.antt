@@ -96,13 +96,13 @@ library = try_definition ∷ repeat_definition ∷ topdown_definition ∷ bottom
 
 -- ---- a file with the library
 
--- a definition that comes from there
+-- a definition of this origin
 abbrev pub from : Origin → DefinitionTree → TopTree
-from mark d = record { origin = mark; form = strategy_form d }
+from o d = record { origin = o; form = strategy_form d }
 
--- The section of the library. With the mark of a file it is what the text of the library is read as.
+-- The section of the library. With the origin of a file it is what the text of the library is read as.
 abbrev pub library_section : Origin → SectionTree
-library_section mark = strategies (map (from mark) library)
+library_section o = strategies (map (from o) library)
 
 -- the file's sections as they are, and then that of the library
 abbrev pub with_library : FileTree → FileTree

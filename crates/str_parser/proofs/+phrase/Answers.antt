@@ -10,7 +10,7 @@ use Rattle.str_parser.proofs.FormLaws.{rule_pairs, after_left, side_pairs, after
 use Rattle.str_parser.proofs.LetLaws.{definition_pairs, after_head, definitions_row, definition_lists, definitions_end, let_pairs, made_let}
 use Rattle.str_parser.proofs.PatternLaws.{pattern_nested, pattern_beyond, alias_part, at_applied, found_applied, after_applied, at_plain, found_bare, after_bare, found_wildcard, found_integer, found_quoted, found_variable, token_missing, mark_missing, application_part, parenthesized_part, found_empty_list, pattern_list_pairs, list_part, missing_plain}
 use Rattle.str_parser.proofs.PatternLists.{patterns_row, pattern_lists, closing_ends, found_none, closed_some, found_bracket, list_tail, pattern_end_missing}
-use Rattle.str_parser.proofs.PhraseLaws.{reads_whole, carried, carries_on, made, at_made, no_option, at_first, after_first, pair, refused, is_behind, closed_found, at_closed, unclosed, found_any, refused_any, made_any, no_token, led, after_any}
+use Rattle.str_parser.proofs.PhraseLaws.{reads_whole, carried, carries_on, made, at_made, no_option, at_first, after_first, pair, refused, is_behind, closed_found, at_closed, unclosed, found_any, refused_any, made_any, no_token, made_behind, after_any}
 use Rattle.str_parser.proofs.PrimaryLaws.{no_primary, primary_missing, identity_found, failure_found, is_match, is_build, application_pairs, is_apply, scope_pairs, is_scope, in_operand, no_operand, recursive_pairs, is_operator, is_recursive, conditional_pairs, consequence_pairs, is_conditional, at_conditional_end, after_else, conditional_end_missing, backslash_ends, is_lambda}
 use Rattle.str_parser.proofs.PrimaryLeads.{keywords_left, marks_left, tokens_left}
 use Rattle.str_parser.proofs.RunLaws.{partly_first, at_row_first, partly_more, at_next, partly_found}
@@ -177,7 +177,7 @@ pattern::applied_strategy-returns-in_err-strategy t c = refused (at_applied c.ar
 
 pub pattern::applied_strategy-returns-then-not-begins_pattern :
     goal.pattern::applied_strategy-returns-then-not-begins_pattern
-pattern::applied_strategy-returns-then-not-begins_pattern t c = c.without_annotations.ensures false c.args.level _
+pattern::applied_strategy-returns-then-not-begins_pattern t c = c.refuse_annotations.ensures false c.args.level _
     (rw reads_applied (found_applied c.args.level (omega arith) c.in_ok-strategy.ensures
     (sym c.if-not-begins_pattern.ensures)))
 
@@ -210,7 +210,7 @@ pattern::with_annotations-returns-in_err-annotations t c =
 pub pattern::with_annotations-returns : goal.pattern::with_annotations-returns
 pattern::with_annotations-returns t c =
     let f = rw c.in-Some.ensures at c.in_ok-bare.ensures in
-    c.without_annotations.ensures c.args.in_match c.args.level _
+    c.refuse_annotations.ensures c.args.in_match c.args.level _
     (rw (reads_annotated, c.in_ok-bare-2.ensures.ok)
     (made (after_bare c.args.in_match c.args.level c.requires.other f (omega arith)) c.in_ok-annotations.ensures))
 
@@ -402,7 +402,7 @@ pub primary::primary_after_mark-returns-in-Backslash : goal.primary::primary_aft
 primary::primary_after_mark-returns-in-Backslash t c = rw c.in-Backslash.is c.lambda.ensures
 
 pub primary::primary_after_mark-returns-in-Less : goal.primary::primary_after_mark-returns-in-Less
-primary::primary_after_mark-returns-in-Less t c = rw c.in-Less.is c.application.ensures
+primary::primary_after_mark-returns-in-Less t c = rw c.in-Less.is c.strategy_application.ensures
 
 pub primary::primary_after_mark-returns-in-OpenParenthesis : goal.primary::primary_after_mark-returns-in-OpenParenthesis
 primary::primary_after_mark-returns-in-OpenParenthesis t c =
@@ -487,19 +487,19 @@ primary::pattern_build-returns t c =
 
 -- ---- strategies that are applied
 
-pub primary::application-returns-in_err-applied : goal.primary::application-returns-in_err-applied
-primary::application-returns-in_err-applied t c =
+pub primary::strategy_application-returns-in_err-applied : goal.primary::strategy_application-returns-in_err-applied
+primary::strategy_application-returns-in_err-applied t c =
     refused (carries_on (at_first (application_pairs (c.args.level + 1)) wildcard) (at_made (is_apply c.args.level)))
     _ _ _ c.from_residual.ensures.1 c.in_err-applied.ensures
 
-pub primary::application-returns-in_err-part : goal.primary::application-returns-in_err-part
-primary::application-returns-in_err-part t c =
+pub primary::strategy_application-returns-in_err-part : goal.primary::strategy_application-returns-in_err-part
+primary::strategy_application-returns-in_err-part t c =
     refused (carries_on (at_made (after_first (application_pairs (c.args.level + 1)) c.in_ok-applied.ensures))
     (at_made (is_apply c.args.level)))
     _ _ _ c.from_residual-in_err-part.ensures.1 c.in_err-part.ensures
 
-pub primary::application-returns : goal.primary::application-returns
-primary::application-returns t c =
+pub primary::strategy_application-returns : goal.primary::strategy_application-returns
+primary::strategy_application-returns t c =
     rw (c.in_ok-new-2.ensures.ok, reads_apply, c.in_ok-new.ensures.ok)
     (made (is_apply c.args.level)
     (pair (application_pairs (c.args.level + 1)) c.in_ok-applied.ensures (found_any c.in_ok-part.ensures)))
@@ -809,7 +809,8 @@ call::call-returns-in_err-arguments t c =
 
 pub call::call-returns : goal.call::call-returns
 call::call-returns t c =
-    rw (c.in_ok-new.ensures.ok, reads_call, c.in_ok-called.ensures) (led (made_call _ _ _) c.in_ok-arguments.ensures)
+    rw (c.in_ok-new.ensures.ok, reads_call, c.in_ok-called.ensures)
+    (made_behind (made_call _ _ _) c.in_ok-arguments.ensures)
 
 pub call::arguments-returns-in_default : goal.call::arguments-returns-in_default
 call::arguments-returns-in_default t c = rw reads_no_arguments (no_arguments_found _ _ c.in_default.ensures)

@@ -52,8 +52,8 @@ decreases-primary::pattern_match l = 10 * (201 - l.level)
 abbrev pub decreases-primary::pattern_build : goal.decreases-primary::pattern_build
 decreases-primary::pattern_build l = 10 * (201 - l.level)
 
-abbrev pub decreases-primary::application : goal.decreases-primary::application
-decreases-primary::application l = 10 * (201 - l.level)
+abbrev pub decreases-primary::strategy_application : goal.decreases-primary::strategy_application
+decreases-primary::strategy_application l = 10 * (201 - l.level)
 
 abbrev pub decreases-primary::scope : goal.decreases-primary::scope
 decreases-primary::scope l = 10 * (201 - l.level)
