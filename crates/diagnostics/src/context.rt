@@ -21,8 +21,8 @@ pub struct Context {
 }
 
 impl Context {
-    /// What has to stand before and after a strategy there: it is applied in a build. At its end that is in parentheses, since what comes
-    /// after it may be read as the operand.
+    /// What has to stand before and after a strategy there. In a build it is applied, as `<s>`; outside brackets that stands in parentheses,
+    /// since what comes next might be read as its operand.
     pub(crate) fn around_strategy(&self) -> (&'static str, &'static str) {
         match self.role {
             Role::Build if self.is_part => ("<", ">"),
@@ -73,7 +73,7 @@ struct Way {
     is_part: bool,
     /// Whether a comma or a bar is passed since.
     is_parted: bool,
-    /// Whether a bar is.
+    /// Whether a bar is passed since.
     is_after_bar: bool,
 }
 
@@ -96,7 +96,7 @@ impl Way {
         if self.is_parted {
             None
         } else {
-            led_by(tokens, at, is_last)
+            role_led_by(tokens, at, is_last)
         }
     }
 
@@ -115,7 +115,7 @@ impl Way {
 }
 
 /// What the token at an index leads to, which is no bracket, comma or bar; nothing if it belongs to what comes after it.
-fn led_by(tokens: &[Token], at: usize, is_last: bool) -> Option<Role> {
+fn role_led_by(tokens: &[Token], at: usize, is_last: bool) -> Option<Role> {
     match &tokens.get(at)?.kind {
         TokenKind::Name | TokenKind::Integer(_) | TokenKind::Quoted(_) => None,
         TokenKind::Wildcard | TokenKind::Mark(Mark::At) => None,

@@ -1,5 +1,4 @@
 //! The line of a text around a place, for a person.
-ghost use Rattle.std.specs.Prelude.{◌≤◌, ◌<◌, length, MatchOption};
 
 use crate::shown::{Shown, is_continuation};
 use std::fmt;

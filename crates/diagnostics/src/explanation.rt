@@ -1,4 +1,4 @@
-//! Explanations of runs without a result.
+//! What is said of a run or of a check beside its result.
 
 use std::fmt;
 
@@ -38,7 +38,7 @@ pub struct Remark {
     pub on_line: Option<usize>,
 }
 
-/// Why a run ended without a result: remarks, of which the first says most.
+/// Remarks, in the order in which they are written: why a run has no result, the faults that a check found, and warnings.
 #[derive(Drop)]
 pub struct Explanation {
     remarks: Vec<Remark>,

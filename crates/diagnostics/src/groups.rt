@@ -33,8 +33,8 @@ impl<'a> Key<'a> {
     }
 }
 
-/// Adds the warnings about these alternatives of definitions that call these keys. None is said not to be called of a library, which is for
-/// other programs, too; nor where something is wrong in the definitions, since a call may have a misspelled name then.
+/// Adds the warnings about these alternatives, where definitions call these keys. No definition of a library is reported as never called,
+/// since a library serves other programs, too; nor is any where the definitions have a fault, since a call may then have a misspelled name.
 pub(crate) fn add_group_warnings(
     alloc: Global,
     definitions: &Definitions<'_>,
@@ -82,7 +82,7 @@ impl<'a> Earlier<'a> {
         }
     }
 
-    /// The one of these and the next.
+    /// Returns the alternative to compare with those after the next one.
     fn with(self, next: &Alternative<'a>) -> Earlier<'a> {
         if self.always_succeeds {
             self

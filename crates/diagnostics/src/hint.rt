@@ -76,8 +76,8 @@ pub enum NameHint {
     },
 }
 
-/// The ending of a word that is counted.
-fn plural(number: usize) -> &'static str {
+/// The ending of a noun after this number: "s", or nothing after 1.
+pub(crate) fn plural(number: usize) -> &'static str {
     if number == 1 { "" } else { "s" }
 }
 

@@ -2,22 +2,37 @@
 
 use crate::explanation::Position;
 use crate::phrases::{
-    after_mark, depth_after, end_of_phrase, first_of_pattern, is_keyword, is_mark, is_name,
-    is_quoted, next_is,
+    after_mark, calls_primitive, depth_after, end_of_phrase, first_of_pattern, is_keyword, is_mark,
+    is_name, next_is,
 };
 use crate::pieces::{piece, position_in};
 use std::alloc::{AllocError, Global};
 use std::ops::Range;
 use str_lexer::{Keyword, Mark, Token, lex};
 use str_parser::parse;
-use str_syntax::{Definition, DefinitionForm, File, Name, Section};
+use str_syntax::{Definition, DefinitionForm, DefinitionHead, File, Section};
 use term_model::Fault;
 
-/// The name of a rule or a definition at the top of the file, from a byte up to another.
+/// The head of a rule or a definition at the top of the file: its name, from a byte up to another, and its numbers of parameters.
 #[derive(Clone, Copy, Debug, PartialEq, Eq)]
 pub struct Head {
     from: usize,
     to: usize,
+    strategies: usize,
+    terms: usize,
+}
+
+impl Head {
+    /// The head of a definition, as it stands in the text.
+    fn of_definition(head: &DefinitionHead) -> Head {
+        let from = usize::try_from(head.name.offset()).unwrap_or(usize::MAX);
+        Head {
+            from,
+            to: from.saturating_add(head.name.bytes().len()),
+            strategies: head.parameters.strategies(),
+            terms: head.parameters.terms(),
+        }
+    }
 }
 
 /// Tokens that belong together, from an index up to another.
@@ -73,7 +88,7 @@ impl<'a> Listing<'a> {
         }
     }
 
-    /// Whether two definitions have the same name.
+    /// Whether two definitions have the same name, whatever their numbers of parameters are.
     pub fn have_one_name(&self, one: usize, other: usize) -> bool {
         one == other || self.name_of(one) == self.name_of(other)
     }
@@ -88,10 +103,10 @@ impl<'a> Listing<'a> {
 
     /// How many alternatives the definition has whose head has this index, if that is the last one of them.
     pub fn alternatives_before(&self, head: usize) -> Option<usize> {
-        let name = self.name_of(head);
+        let last = self.heads.get(head)?;
         let mut count: usize = 0;
         for (index, other) in self.heads.iter().enumerate() {
-            if piece(self.text, other.from, other.to) == name {
+            if self.are_alternatives(last, other) {
                 if index > head {
                     return None;
                 }
@@ -113,45 +128,46 @@ impl<'a> Listing<'a> {
     }
 
     /// The pattern in which the last token stands that is not after this byte, with the sign in front of it if there is one. After a backslash
-    /// or the `<` of an application it is the one to which these lead.
+    /// or the `<` of an application it is the one to which these lead. Nothing if no token begins there or before.
     pub fn pattern_at(&self, offset: usize) -> Option<Phrase> {
         let after = self.tokens.partition_point(|token| token.from <= offset);
         let named = after.checked_sub(1)?;
         Some(self.phrase_from(first_of_pattern(&self.tokens, named)))
     }
 
-    /// The left side of the rule whose name begins with this byte; nothing for a definition.
+    /// The left side of the rule whose name begins with this byte. Nothing for a definition, or if no token begins with this byte.
     pub fn left_side(&self, offset: usize) -> Option<Phrase> {
         let first = after_mark(&self.tokens, self.token_at(offset)?, Mark::Colon)?;
         Some(self.phrase_from(first))
     }
 
-    /// The right side of the rule that begins with this byte, or whose name does; nothing for a definition.
+    /// The right side of the rule that begins with this byte, or whose name does. Nothing for a definition, or if no token begins with this
+    /// byte.
     pub fn right_side(&self, offset: usize) -> Option<Phrase> {
         let first = after_mark(&self.tokens, self.token_at(offset)?, Mark::Arrow)?;
         Some(self.phrase_from(first))
     }
 
-    /// The call or congruence whose name begins with this byte.
+    /// The call or congruence whose name begins with this byte. Nothing if no token begins with it.
     pub fn call_at(&self, offset: usize) -> Option<Phrase> {
         Some(self.phrase_from(self.token_at(offset)?))
     }
 
-    /// The call of the primitive of this name in the definition of a head, if there is one alone.
+    /// The call of the primitive of this name in the definition of a head. Nothing if there is none or more than one.
     pub fn primitive_in(&self, head: usize, name: &[u8]) -> Option<Phrase> {
         let mut found = None;
         for index in self.tokens_of(head) {
-            if is_quoted(&self.tokens, index, name) {
+            if calls_primitive(&self.tokens, index, name) {
                 if found.is_some() {
                     return None;
                 }
                 found = Some(index);
             }
         }
-        Some(self.phrase_from(found?.checked_sub(2)?))
+        Some(self.phrase_from(found?))
     }
 
-    /// The strategy in the definition of a head that begins with one or the other of two keywords, if there is one alone.
+    /// The strategy in the definition of a head that begins with one or the other of two keywords. Nothing if there is none or more than one.
     pub fn form_in(&self, head: usize, one: Keyword, other: Keyword) -> Option<Phrase> {
         let mut found = None;
         for index in self.tokens_of(head) {
@@ -188,11 +204,10 @@ impl<'a> Listing<'a> {
 
     /// The term arguments of a call: what stands after its first bar.
     pub fn terms_of(&self, call: Phrase) -> Phrase {
+        let tokens = self.tokens.as_slice();
         let mut depth: usize = 0;
-        for (index, token) in self.tokens.iter().enumerate() {
-            if index < call.first || index >= call.after {
-                continue;
-            }
+        for index in call.first..call.after.min(tokens.len()) {
+            let token = &tokens[index];
             if depth == 1 && is_mark(token, Mark::Bar) {
                 return Phrase {
                     first: index,
@@ -210,15 +225,16 @@ impl<'a> Listing<'a> {
     /// The variables of patterns in a phrase, in the order in which they stand: the names that no parenthesis follows and, each as a whole,
     /// the applications `<s> p` of a build.
     pub fn variables_in(&self, alloc: Global, phrase: Phrase) -> Result<Vec<Phrase>, AllocError> {
+        let tokens = self.tokens.as_slice();
         let mut found = Vec::new(alloc);
         let mut next = phrase.first;
-        for (index, token) in self.tokens.iter().enumerate() {
-            if index < next || index >= phrase.after {
+        for index in phrase.first..phrase.after.min(tokens.len()) {
+            if index < next {
                 continue;
             }
-            let is_application = is_mark(token, Mark::Less);
+            let is_application = is_mark(&tokens[index], Mark::Less);
             next = if is_application {
-                end_of_phrase(&self.tokens, index)
+                end_of_phrase(tokens, index)
             } else {
                 index.saturating_add(1)
             };
@@ -230,6 +246,13 @@ impl<'a> Listing<'a> {
             }
         }
         Ok(found)
+    }
+
+    /// Whether two heads are those of alternatives of one definition.
+    fn are_alternatives(&self, one: &Head, other: &Head) -> bool {
+        one.strategies == other.strategies
+            && one.terms == other.terms
+            && piece(self.text, one.from, one.to) == piece(self.text, other.from, other.to)
     }
 
     /// The phrase that begins with the token at an index.
@@ -286,22 +309,15 @@ fn heads_of(alloc: Global, file: &File) -> Result<Vec<Head>, AllocError> {
 
 fn add_heads(definitions: &[Definition], heads: &mut Vec<Head>) -> Result<(), AllocError> {
     for definition in definitions {
-        heads.push(head_of(name_in(&definition.form)))?;
+        heads.push(Head::of_definition(head_of(&definition.form)))?;
     }
     Ok(())
 }
 
-fn name_in(form: &DefinitionForm) -> &Name {
+/// The name and the parameters of a rule or a definition.
+pub(crate) fn head_of(form: &DefinitionForm) -> &DefinitionHead {
     match form {
-        DefinitionForm::Rule(rule) => &rule.head.name,
-        DefinitionForm::Strategy(definition) => &definition.head.name,
-    }
-}
-
-fn head_of(name: &Name) -> Head {
-    let from = usize::try_from(name.offset()).unwrap_or(usize::MAX);
-    Head {
-        from,
-        to: from.saturating_add(name.bytes().len()),
+        DefinitionForm::Rule(rule) => &rule.head,
+        DefinitionForm::Strategy(definition) => &definition.head,
     }
 }

@@ -168,14 +168,15 @@ impl RunNotes {
         self.library
     }
 
-    /// Hands out the texts that are kept, the definitions first.
+    /// Hands out the texts that are kept, the definitions first. Nothing if one of them is not kept; if that is the term, the definitions are
+    /// dropped.
     pub fn take_texts(&mut self) -> Option<(Vec<u8>, Vec<u8>)> {
         let definitions = self.definitions.take()?;
         let term = self.term.take()?;
         Some((definitions, term))
     }
 
-    /// Notes why the run has no result.
+    /// Notes what is to be said of the run or of the check.
     pub fn note_explanation(&mut self, explanation: Explanation) {
         self.explanation = Some(explanation);
     }
@@ -220,7 +221,7 @@ impl RunNotes {
         }
     }
 
-    /// Notes why this text is no list of tokens, if the fault is of that.
+    /// Notes why this text is no list of tokens, if the fault says that.
     fn note_tokens(&mut self, alloc: Global, text: &[u8], fault: &Fault, primitives: &PrimNames) {
         match fault {
             Fault::Lexical { at } => {
@@ -328,7 +329,7 @@ impl RunNotes {
     }
 }
 
-/// The hint, unless it needs a primitive that there is not.
+/// The hint, unless it needs a primitive that is not registered.
 fn usable_hint(hint: Option<Hint>, primitives: &PrimNames) -> Option<Hint> {
     let hint = hint?;
     match hint.primitive() {
@@ -337,7 +338,7 @@ fn usable_hint(hint: Option<Hint>, primitives: &PrimNames) -> Option<Hint> {
     }
 }
 
-/// The byte at which the only call of the unknown primitive begins that is noted.
+/// The byte at which the call of the unknown primitive begins that the note is about, if it is called only once.
 fn only_call(alloc: Global, text: &[u8], note: &Note) -> Option<u64> {
     let Detail::UnknownPrimitive { .. } = note.detail() else {
         return None;

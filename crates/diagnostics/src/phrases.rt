@@ -16,7 +16,7 @@ pub(crate) fn is_mark(token: &Token, wanted: Mark) -> bool {
 }
 
 /// Whether the token at an index is this text in quotes.
-pub(crate) fn is_quoted(tokens: &[Token], index: usize, wanted: &[u8]) -> bool {
+fn is_quoted(tokens: &[Token], index: usize, wanted: &[u8]) -> bool {
     match tokens.get(index).map(|token| &token.kind) {
         Some(TokenKind::Quoted(text)) => text.bytes() == wanted,
         _ => false,
@@ -29,6 +29,11 @@ pub(crate) fn is_keyword(tokens: &[Token], index: usize, wanted: Keyword) -> boo
         Some(TokenKind::Keyword(keyword)) => *keyword == wanted,
         _ => false,
     }
+}
+
+/// Whether the call of the primitive of this name begins with the token at an index.
+pub(crate) fn calls_primitive(tokens: &[Token], index: usize, name: &[u8]) -> bool {
+    is_keyword(tokens, index, Keyword::Prim) && is_quoted(tokens, index.saturating_add(2), name)
 }
 
 /// Whether the token after that at an index is this mark.
@@ -72,7 +77,7 @@ fn first_before(tokens: &[Token], named: usize) -> usize {
     for index in (0..named.min(tokens.len())).rev() {
         let token = &tokens[index];
         if depth == 0 {
-            let led = led_by(tokens, index, named);
+            let led = pattern_led_by(tokens, index, named);
             if led.is_some() || !is_inside(token) {
                 return led.unwrap_or(named);
             }
@@ -83,7 +88,7 @@ fn first_before(tokens: &[Token], named: usize) -> usize {
 }
 
 /// Where the pattern begins to which the token at an index leads, if a token after it belongs to that pattern.
-fn led_by(tokens: &[Token], index: usize, named: usize) -> Option<usize> {
+fn pattern_led_by(tokens: &[Token], index: usize, named: usize) -> Option<usize> {
     let first = match &tokens.get(index)?.kind {
         TokenKind::Mark(Mark::Question | Mark::Exclamation) => index,
         TokenKind::Mark(Mark::Colon) if is_of_scope(tokens, index) => return None,

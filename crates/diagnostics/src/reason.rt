@@ -1,8 +1,10 @@
 //! What is wrong at the place of a refusal, in words.
 
+use crate::hint::plural;
 use crate::notes::Subject;
 use crate::shown::Shown;
 use crate::term_gap::{TermExpected, TermGap};
+use crate::text_hints::continues_word;
 use scope_check::Note;
 use std::fmt;
 use str_parser::SyntaxReason;
@@ -74,7 +76,7 @@ pub enum Reason {
 
 /// Writes a token between quotes, or the number of a byte that cannot be shown.
 fn write_token<W: fmt::Write>(token: &Shown, f: &mut fmt::Formatter<W>) -> fmt::Result {
-    match token.hidden() {
+    match token.unprintable_first_byte() {
         Some(byte) => write!(f, "byte 0x{byte:02x}"),
         None => write!(f, "'{token}'"),
     }
@@ -87,7 +89,7 @@ fn write_undeclared<W: fmt::Write>(
     declared: Option<usize>,
     f: &mut fmt::Formatter<W>,
 ) -> fmt::Result {
-    let s = if parts == 1 { "" } else { "s" };
+    let s = plural(parts);
     write!(f, "constructor {name} with {parts} part{s} is not declared")?;
     match declared {
         Some(number) => write!(f, " (it is declared with {number})"),
@@ -156,9 +158,7 @@ impl Reason {
 /// Whether a name of such a text may go on with the byte.
 fn is_in_name(subject: Subject, byte: u8) -> bool {
     match subject {
-        Subject::Definitions => {
-            byte.is_ascii_alphanumeric() || matches!(byte, b'_' | b'-' | b'\'')
-        }
+        Subject::Definitions => continues_word(byte),
         Subject::Term => continues(byte),
     }
 }
@@ -247,7 +247,7 @@ pub(crate) fn no_token_reason(before: &[u8], text: &[u8]) -> Reason {
     }
 }
 
-/// Returns which word definitions have where this text begins.
+/// Returns the reason for the word with which this text begins, which is left out of the language.
 pub(crate) fn left_out_reason(text: &[u8]) -> Reason {
     Reason::LeftOut(token_of(Subject::Definitions, text))
 }

@@ -4,17 +4,17 @@ ghost use Rattle.std.specs.Prelude.{◌≤◌};
 use std::{fmt, str};
 
 /// The most bytes that are shown.
-const MOST: usize = 72;
+const MOST_SHOWN: usize = 72;
 
-/// The first bytes of a piece of text, at most 72 and without half a character at the end. A tab is a blank, and a byte that is no printable
-/// character of ASCII is `?`, unless the whole piece is UTF-8 in which each character can be seen.
+/// The first bytes of a piece of text, at most 72 and without half a character at the end. A tab is a blank, and each other ASCII byte that is
+/// not printable is `?`; so is each byte above ASCII, unless the bytes shown are UTF-8 in which each character above ASCII can be seen.
 #[derive(Clone, Copy)]
 pub struct Shown {
-    bytes: [u8; MOST],
+    bytes: [u8; MOST_SHOWN],
     length: usize,
     is_cut: bool,
-    /// The first byte, where it is not shown as it is.
-    hidden: Option<u8>,
+    /// The first byte, if it is no printable character of ASCII.
+    unprintable_first_byte: Option<u8>,
     ghost within: { length ≤ 72 },
 }
 
@@ -33,7 +33,7 @@ fn printable(byte: u8) -> u8 {
 fn whole_length(text: &[u8]) -> usize
     ensures { result ≤ 72 }
 {
-    let most = text.len().min(MOST);
+    let most = text.len().min(MOST_SHOWN);
     let last = text[..most]
         .iter()
         .rposition(|byte| !is_continuation(*byte));
@@ -41,7 +41,7 @@ fn whole_length(text: &[u8]) -> usize
         Some(last) if most < text.len() && !text[last].is_ascii() => last,
         _ => most,
     };
-    whole.min(MOST)
+    whole.min(MOST_SHOWN)
 }
 
 /// Whether the byte goes on with a character of several bytes, in UTF-8.
@@ -79,7 +79,7 @@ impl Shown {
     pub fn new(text: &[u8]) -> Shown {
         let length = whole_length(text);
         let is_readable = is_readable(&text[..length.min(text.len())]);
-        let mut bytes = [0; MOST];
+        let mut bytes = [0; MOST_SHOWN];
         for (place, byte) in bytes.iter_mut().zip(text) {
             *place = if is_readable && !byte.is_ascii() {
                 *byte
@@ -91,16 +91,16 @@ impl Shown {
             bytes,
             length,
             is_cut: text.len() > length,
-            hidden: text
+            unprintable_first_byte: text
                 .first()
                 .copied()
                 .filter(|byte| printable(*byte) != *byte),
         }
     }
 
-    /// The first byte, where it is not shown as it is.
-    pub fn hidden(&self) -> Option<u8> {
-        self.hidden
+    /// The first byte, if it is no printable character of ASCII.
+    pub(crate) fn unprintable_first_byte(&self) -> Option<u8> {
+        self.unprintable_first_byte
     }
 
     /// How many characters the first bytes are, this number of them.

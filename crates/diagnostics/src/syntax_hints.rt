@@ -78,14 +78,14 @@ impl<'a> Site<'a> {
     /// What an integer or a text at fault tells.
     fn literal_hint(&self) -> Option<Hint> {
         if self.expects(Candidate::Strategy) {
-            self.bar_hint()
+            self.bar_hint_at_term()
         } else {
             negative_hint(self)
         }
     }
 
     /// What a term among the strategies of a call tells, if definitions of that name have terms.
-    fn bar_hint(&self) -> Option<Hint> {
+    fn bar_hint_at_term(&self) -> Option<Hint> {
         let name = self.name_around()?;
         let last = self.index.checked_sub(1)?;
         let is_argument = last == name.saturating_add(1) || self.has_mark(last, Mark::Comma);
@@ -321,31 +321,25 @@ impl<'a> Site<'a> {
         }
     }
 
+    /// The token before the one at fault.
+    fn token_before(&self) -> Option<&'a Token> {
+        self.tokens.get(self.index.checked_sub(1)?)
+    }
+
     /// Whether the token at fault comes after a name.
     pub(crate) fn follows_name(&self) -> bool {
-        let before = self
-            .index
-            .checked_sub(1)
-            .and_then(|index| self.tokens.get(index));
-        before.is_some_and(|before| is_name(before))
+        self.token_before().is_some_and(|before| is_name(before))
     }
 
     /// Whether the token at fault comes after this mark.
     fn is_behind(&self, wanted: Mark) -> bool {
-        let before = self
-            .index
-            .checked_sub(1)
-            .and_then(|index| self.tokens.get(index));
-        before.is_some_and(|before| is_mark(before, wanted))
+        self.token_before()
+            .is_some_and(|before| is_mark(before, wanted))
     }
 
     /// Whether the token at fault stands right behind the one before it, a name or a closing parenthesis.
     fn touches_before(&self) -> bool {
-        let before = self
-            .index
-            .checked_sub(1)
-            .and_then(|index| self.tokens.get(index));
-        match (before, self.tokens.get(self.index)) {
+        match (self.token_before(), self.tokens.get(self.index)) {
             (Some(before), Some(token)) => {
                 let is_end = is_name(before) || is_mark(before, Mark::CloseParenthesis);
                 is_end && before.to == token.from
@@ -370,7 +364,8 @@ impl<'a> Site<'a> {
         }
     }
 
-    /// The innermost bracket that is open where the text ends, a section begins or what looks like another definition begins.
+    /// The innermost bracket that is open at the fault, if the text ends there, a section or a definition seems to begin there, or the token
+    /// there is the arrow of a rule.
     fn bracket_hint(&self, alloc: Global) -> Result<Option<Hint>, AllocError> {
         if !self.begins_another() {
             return Ok(None);
@@ -393,7 +388,7 @@ impl<'a> Site<'a> {
         }))
     }
 
-    /// Whether the text ends at the fault, or a section or a definition seems to begin there.
+    /// Whether the text ends at the fault, a section or a definition seems to begin there, or the token there is the arrow of a rule.
     fn begins_another(&self) -> bool {
         let Some(token) = self.tokens.get(self.index) else {
             return true;

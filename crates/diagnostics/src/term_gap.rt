@@ -1,9 +1,9 @@
-//! Where a text stops to be the beginning of a term, for a person.
+//! Where a text stops being the beginning of a term, for a person.
 
 use term_model::bytes::is_blank_byte;
 use term_model::symbol::continues;
 
-/// What could stand where a text stops to be the beginning of a term. Where a term ends, its parts or annotations could, too.
+/// What could stand where a text stops being the beginning of a term. Where a term ends, its parts or annotations could, too.
 #[derive(Clone, Copy, Debug, PartialEq, Eq)]
 pub enum TermExpected {
     Term,
@@ -35,14 +35,14 @@ impl TermExpected {
     }
 }
 
-/// The most marks that are remembered. No more are open in the beginning of a term that fits.
-const MOST: usize = 1000;
+/// The most brackets that are remembered. No more are open in the beginning of a term that fits.
+const MOST_OPEN: usize = 1000;
 
 /// What is open at the end of the beginning of a term.
 #[derive(Clone, Copy)]
 pub(crate) struct TermGap {
-    /// The marks that are open, the outermost first, as many as are remembered.
-    open: [u8; MOST],
+    /// The brackets that are open, the outermost first, as many as are remembered.
+    open: [u8; MOST_OPEN],
     depth: usize,
     /// The last byte that is no blank.
     last: Option<u8>,
@@ -57,7 +57,7 @@ impl TermGap {
     /// Returns what is open at the end of this text.
     pub(crate) fn after(text: &[u8]) -> TermGap {
         let mut gap = TermGap {
-            open: [0; MOST],
+            open: [0; MOST_OPEN],
             depth: 0,
             last: None,
             quote: None,
@@ -110,7 +110,7 @@ impl TermGap {
         self.is_signed = byte == b'-' && !self.last.is_some_and(continues);
         match byte {
             b'"' => self.quote = Some(index),
-            b'(' | b'[' | b'{' => self.open(byte),
+            b'(' | b'[' | b'{' => self.push_open(byte),
             b')' | b']' | b'}' => self.depth = self.depth.saturating_sub(1),
             _ => {}
         }
@@ -132,10 +132,10 @@ impl TermGap {
         }
     }
 
-    /// Remembers the mark that is open from here on.
-    fn open(&mut self, mark: u8) {
+    /// Remembers the bracket that is open from here on.
+    fn push_open(&mut self, bracket: u8) {
         if let Some(place) = self.open.get_mut(self.depth) {
-            *place = mark;
+            *place = bracket;
         }
         self.depth = self.depth.saturating_add(1);
     }

@@ -25,7 +25,7 @@ const LEFT_OUT: &[(&str, Advice)] = &[
     ("external", Advice::External),
 ];
 
-/// What was probably meant by a text of definitions that begins no token where this part of it comes before, and this one after.
+/// What was probably meant where no token of definitions begins, between these two parts of the text.
 pub(crate) fn lexical_hint(alloc: Global, before: &[u8], after: &[u8]) -> Option<Hint> {
     if begins_with_outcome(after) {
         return Some(Hint::Advice(Advice::Outcome));
@@ -67,7 +67,7 @@ fn is_name_before(text: &[u8]) -> bool {
     )
 }
 
-/// What was probably meant by a text that is no term where this part of it comes before, and this one after.
+/// What was probably meant where the text stops being a term, between these two parts of it.
 pub(crate) fn term_hint(text: &[u8], before: &[u8], after: &[u8]) -> Option<Hint> {
     let start = text
         .iter()
@@ -88,7 +88,7 @@ pub(crate) fn term_hint(text: &[u8], before: &[u8], after: &[u8]) -> Option<Hint
     }
 }
 
-/// What both texts have in common.
+/// What was probably meant by bytes that can stand there neither in definitions nor in a term.
 fn common_hint(before: &[u8], after: &[u8]) -> Option<Hint> {
     if after.starts_with(b"\xEF\xBB\xBF") {
         return Some(Hint::Advice(Advice::ByteOrderMark));
@@ -116,6 +116,7 @@ fn begins_with_word(text: &[u8], word: &[u8]) -> bool {
     }
 }
 
-fn continues_word(byte: u8) -> bool {
+/// Whether a name or another word of definitions may go on with the byte.
+pub(crate) fn continues_word(byte: u8) -> bool {
     byte.is_ascii_alphanumeric() || matches!(byte, b'_' | b'-' | b'\'')
 }

@@ -10,7 +10,8 @@ use str_syntax::{
     StrategyDefinition,
 };
 
-/// The most variables that are kept at once. A definition with more gets no warnings about variables.
+/// The most variables of scopes, and the most others, that are kept at once. Once a definition has more, it gets no further warnings about
+/// unbound variables.
 const MOST_VARIABLES: usize = 200;
 
 /// What a pattern does with its variables.
@@ -131,8 +132,12 @@ impl<'a> Walk<'a> {
         Ok(())
     }
 
-    /// Begins a variable, which has a value if that is said.
-    fn variable(&mut self, name: &'a Name, is_bound: bool) -> Result<Variable<'a>, AllocError> {
+    /// Makes a variable, and adds a warning if a constructor without parts has its name.
+    fn begin_variable(
+        &mut self,
+        name: &'a Name,
+        is_bound: bool,
+    ) -> Result<Variable<'a>, AllocError> {
         if self.signature.arity_known(name.bytes(), 0) {
             let mut text = Vec::new(self.alloc);
             push_cut(name.bytes(), MOST_OF_NAME, &mut text)?;
@@ -161,7 +166,7 @@ impl<'a> Walk<'a> {
             self.has_more = true;
             return Ok(());
         }
-        let variable = self.variable(name, is_bound)?;
+        let variable = self.begin_variable(name, is_bound)?;
         self.inner.push(variable)?;
         Ok(())
     }
@@ -196,7 +201,7 @@ impl<'a> Walk<'a> {
                 return Ok(());
             }
             None => {
-                let variable = self.variable(name, false)?;
+                let variable = self.begin_variable(name, false)?;
                 self.outer.push(variable)?;
                 self.outer.len().saturating_sub(1)
             }
@@ -343,7 +348,7 @@ impl<'a> Walk<'a> {
             Primary::Parenthesized(inner)
             | Primary::Operator(_, inner)
             | Primary::Recursive(_, inner) => self.in_strategy(inner),
-            Primary::Scope(names, inner) => self.in_scope(names, inner, false),
+            Primary::Scope(names, inner) => self.in_scope(names, inner),
             Primary::If(guard, then, otherwise) => {
                 self.in_strategy(guard)?;
                 self.in_strategy(then)?;
@@ -381,14 +386,9 @@ impl<'a> Walk<'a> {
     }
 
     #[cycle(walk)]
-    fn in_scope(
-        &mut self,
-        names: &'a [Name],
-        inner: &'a Strategy,
-        are_bound: bool,
-    ) -> Result<(), AllocError> {
+    fn in_scope(&mut self, names: &'a [Name], inner: &'a Strategy) -> Result<(), AllocError> {
         let count = self.inner.len();
-        self.declare(names, are_bound)?;
+        self.declare(names, false)?;
         self.in_strategy(inner)?;
         self.leave(count)
     }

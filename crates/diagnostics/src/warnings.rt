@@ -3,6 +3,7 @@
 use crate::explanation::Remark;
 use crate::groups::add_group_warnings;
 use crate::line::push_number;
+use crate::listing::head_of;
 use crate::pieces::position_in;
 use crate::unbound::Walk;
 use scope_check::Checked;
@@ -11,7 +12,7 @@ use std::alloc::{AllocError, Global};
 use str_syntax::{Definition, DefinitionForm, DefinitionHead, File, Origin, Section};
 
 /// The most warnings that are told.
-const MOST: usize = 100;
+const MOST_TOLD: usize = 100;
 
 /// A warning: the byte of the definitions that it is about, what it says, and the byte of another place whose line ends it.
 #[derive(Drop)]
@@ -31,10 +32,7 @@ pub(crate) struct Alternative<'a> {
 
 impl<'a> Alternative<'a> {
     pub(crate) fn head(self) -> &'a DefinitionHead {
-        match self.form {
-            DefinitionForm::Rule(rule) => &rule.head,
-            DefinitionForm::Strategy(definition) => &definition.head,
-        }
+        head_of(self.form)
     }
 
     /// The byte of the definitions at which its name begins.
@@ -70,7 +68,7 @@ impl<'a> Definitions<'a> {
 }
 
 /// Adds the warnings about the definitions as remarks: the first hundred, in the order of the text but those about a library last, and how
-/// many there are.
+/// many there are if that is more. An error is a refused growth; some of the remarks may have been added.
 pub fn add_warnings(
     alloc: Global,
     definitions: &Definitions<'_>,
@@ -90,7 +88,7 @@ pub fn add_warnings(
         order.push(warning)?;
     }
     order.sort_by_key(|warning| (warning.offset < library, warning.offset))?;
-    for warning in order.iter().take(MOST) {
+    for warning in order.iter().take(MOST_TOLD) {
         remarks.push(Remark {
             position: Some(position_in(text, warning.offset)),
             text: text_of(alloc, warning)?,
@@ -107,14 +105,14 @@ fn text_of(alloc: Global, warning: &Warning) -> Result<Vec<u8>, AllocError> {
     Ok(line)
 }
 
-/// Adds how many of these things there are, if only the first hundred are told.
+/// Adds how many of these things there are, if only the first hundred are told. An error is a refused growth; nothing is added then.
 pub fn add_count(
     alloc: Global,
     count: usize,
     things: &[u8],
     remarks: &mut Vec<Remark>,
 ) -> Result<(), AllocError> {
-    if count <= MOST {
+    if count <= MOST_TOLD {
         return Ok(());
     }
     let mut text = b"these are the first 100 of ".to_vec(alloc)?;

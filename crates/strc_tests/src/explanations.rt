@@ -280,6 +280,34 @@ const EXPLAINED: &[Row] = &[
         "#failed\n",
         "stdin:2:20: in main: [1 | <g>] cannot be built: what comes after a '|' is no list\n  the current term: 2\n  <g> = 2\n",
     ),
+    (
+        "strc --explain",
+        "strategies\n  main = ?\"xéééééééééééééééééééééééééééééééééééééééé\"\n#term\nA",
+        1,
+        "#failed\n",
+        "stdin:2:10: in main: ?\"xééééééééééééééééééééééééééééé.. does not match\n  the current term: A\n",
+    ),
+    (
+        "strc --explain",
+        "strategies\n  main = f(f)\n  f(s) = s\n  f = ?1\n#term\n2",
+        1,
+        "#failed\n",
+        "stdin:4:7: in f: ?1 does not match\n  the current term: 2\n  called from main, f, main\n",
+    ),
+    (
+        "strc --explain",
+        "strategies\n  main = f(f)\n  f = ?1\n  f = ?4\n  f(s) = s\n#term\n2",
+        1,
+        "#failed\n",
+        "stdin:4:7: in f: ?4 does not match\n  the last of 2 alternatives of f; those before it failed, too\n  the current term: 2\n  called from main, f, main\n",
+    ),
+    (
+        "strc --explain",
+        "rules\n  main : (x, y) -> z where prim(\"add\", x, y); !\"add\" => z\n#term\n(1,\"2\")",
+        1,
+        "#failed\n",
+        "stdin:2:28: in main: prim(\"add\", x, y) fails\n  the current term: (1,\"2\")\n  x = 1\n  y = \"2\"\n",
+    ),
 ];
 
 #[test]
