@@ -1,5 +1,5 @@
 //! What a file does with a term, and the line that says so.
-ghost use Rattle.std.specs.Prelude.{◌≡◌, ◌+◌, ◌≤◌, ◌++◌, ℕ, List, vec_len, false, if◌then◌else◌, IfOk, IfErr, OnOk, IsErrOf, IsTrue};
+ghost use Rattle.std.specs.Prelude.{◌≡◌, ◌+◌, ◌≤◌, ℕ, List, vec_len, false, if◌then◌else◌, IfOk, IfErr, OnOk, IsErrOf, IsTrue};
 ghost use Rattle.aterm_text.specs.ReadTerm.{map_ok};
 ghost use Rattle.str_syntax.specs.Trees.{FileTree};
 ghost use Rattle.str_pipeline.specs.Device.{Gains, GainsPrefix};
@@ -38,7 +38,7 @@ pub const MAX_BUDGET: u32 = 1_000_000_000;
 pub const DEFAULT_BUDGET: u32 = 1_000_000;
 
 /// Reads a term into a space, and in strict mode asks that the signature declares each application in it.
-fn term_of<S: TermSpace>(
+fn read_term_in<S: TermSpace>(
     alloc: Global,
     space: &mut S,
     signature: &Signature,
@@ -56,7 +56,7 @@ fn term_of<S: TermSpace>(
     Ok(term)
 }
 
-/// Reads a term as `term_of` does, and notes why it is refused where it is.
+/// Reads a term as `read_term_in` does, and notes why it is refused where it is.
 fn noted_term<S: TermSpace>(
     alloc: Global,
     space: &mut S,
@@ -69,7 +69,7 @@ fn noted_term<S: TermSpace>(
     ensures read { IsTermRead is_strict signature.now text.now
         (map_ok (S.space.term_of space.new) result) }
 {
-    let term = term_of(alloc, space, signature, text, is_strict);
+    let term = read_term_in(alloc, space, signature, text, is_strict);
     if let Err(fault) = &term {
         notes.note_term(text, fault);
         if let Fault::TermUndeclared = fault {

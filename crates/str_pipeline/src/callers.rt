@@ -28,8 +28,8 @@ pub(crate) fn call_sites(
 /// For each address that of the call after which the run goes on there, or 0.
 fn calls_by_return(alloc: Global, code: &Code) -> Result<Vec<usize>, AllocError> {
     let mut calls = Vec::from_elem(alloc, 0usize, code.len().saturating_add(1))?;
-    for (address, instr) in code.instrs().iter().enumerate() {
-        let next = match instr {
+    for (address, instruction) in code.instrs().iter().enumerate() {
+        let next = match instruction {
             Instr::CallDefinition { next_address, .. } => *next_address,
             Instr::CallClosure { .. } => address.saturating_add(1),
             _ => continue,
@@ -41,8 +41,8 @@ fn calls_by_return(alloc: Global, code: &Code) -> Result<Vec<usize>, AllocError>
     Ok(calls)
 }
 
-/// The index of the outermost call of the file inside which the library runs, or the strategy that it was given: what a search was begun by.
-/// `is_library` says whether the innermost strategy is one of the library.
+/// The index of the outermost call of the file that calls the library: the call that began a search, in which the library runs, or a
+/// strategy that it was given. `is_library` says whether the innermost strategy is one of the library.
 pub(crate) fn search_site(sites: &[Option<usize>], is_library: bool) -> Option<usize> {
     for (index, site) in sites.iter().enumerate() {
         if site.is_none() {
@@ -67,7 +67,7 @@ struct Caller {
 }
 
 /// The definitions in which the calls stand, the innermost first.
-fn callers(
+fn callers_at(
     alloc: Global,
     listing: &Listing,
     sites: &[Option<usize>],
@@ -93,7 +93,7 @@ pub(crate) fn callers_line(
     listing: &Listing,
     sites: &[Option<usize>],
 ) -> Result<Option<Vec<u8>>, AllocError> {
-    let callers = callers(alloc, listing, sites)?;
+    let callers = callers_at(alloc, listing, sites)?;
     if callers.is_empty() {
         return Ok(None);
     }

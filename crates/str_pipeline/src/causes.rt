@@ -7,13 +7,16 @@ use strat_code::{Code, Instr, SourceMark};
 use strat_machine::Stand;
 use term_model::bytes::is_blank_byte;
 
-/// The most bytes of a strategy that are shown.
+/// The most bytes of a strategy that are shown, blanks not counted, up to the end of a character.
 const MOST_OF_STRATEGY: usize = 60;
+
+/// The most bytes that a character of UTF-8 has after its first one.
+const MOST_CONTINUATIONS: usize = 3;
 
 /// The instruction before which a run stands, with its place in the definitions.
 #[derive(Clone, Copy)]
 pub(crate) struct Leaf<'a> {
-    pub(crate) instr: &'a Instr,
+    pub(crate) instruction: &'a Instr,
     /// The mark of the instruction, or the last one before it.
     pub(crate) mark: Option<SourceMark>,
     /// Whether the mark is that of the instruction.
@@ -23,13 +26,13 @@ pub(crate) struct Leaf<'a> {
 }
 
 impl<'a> Leaf<'a> {
-    /// The instruction before which the run stands. The run stands at one of the code.
+    /// The instruction before which the run stands; nothing if the code has none there.
     pub(crate) fn new(listing: &Listing, code: &'a Code, stand: &Stand) -> Option<Leaf<'a>> {
-        let instr = code.instrs().get(stand.address)?;
+        let instruction = code.instrs().get(stand.address)?;
         let mark = code.mark_at(stand.address);
         let is_marked = mark.map(|mark| mark.address) == Some(stand.address);
         let mut leaf = Leaf {
-            instr,
+            instruction,
             mark,
             is_marked,
             phrase: None,
@@ -49,7 +52,7 @@ impl<'a> Leaf<'a> {
         let offset = self.offset()?;
         let head = listing.head_before(offset)?;
         let is_head = listing.is_head(offset);
-        match self.instr {
+        match self.instruction {
             Instr::ApplyPrimitive { name, .. } => listing.primitive_in(head, name),
             Instr::GiveUp { .. } => listing.form_in(head, Keyword::Fail, Keyword::Not),
             Instr::Traverse { .. } => listing.form_in(head, Keyword::One, Keyword::Some),
@@ -74,7 +77,16 @@ pub(crate) fn file_offset(mark: Option<SourceMark>) -> Option<usize> {
     usize::try_from(offset).ok()
 }
 
-/// Puts a strategy on the line as it is written, with one blank for each gap, and not much of it.
+/// Whether a strategy of which this many bytes are shown is cut before this next one. No character of UTF-8 is cut in two.
+fn is_cut_before(byte: u8, shown: usize) -> bool {
+    if shown < MOST_OF_STRATEGY {
+        return false;
+    }
+    let is_continuation = (0x80..0xC0).contains(&byte);
+    !is_continuation || shown >= MOST_OF_STRATEGY.saturating_add(MOST_CONTINUATIONS)
+}
+
+/// Puts a strategy on the line as it is written, with one blank for each run of blanks, and `..` for what is more than is shown.
 pub(crate) fn push_phrase(
     listing: &Listing,
     phrase: Phrase,
@@ -87,7 +99,7 @@ pub(crate) fn push_phrase(
             is_gap = true;
             continue;
         }
-        if shown >= MOST_OF_STRATEGY {
+        if is_cut_before(*byte, shown) {
             return line.extend_from_slice(b"..");
         }
         if is_gap {
@@ -121,7 +133,7 @@ pub(crate) fn push_failure(
     stand: &Stand,
     line: &mut Vec<u8>,
 ) -> Result<(), AllocError> {
-    match leaf.instr {
+    match leaf.instruction {
         Instr::Match { .. } => {
             push_strategy(listing, leaf, b"a pattern", line)?;
             line.extend_from_slice(b" does not match")
@@ -176,7 +188,7 @@ fn push_giving_up(listing: &Listing, leaf: &Leaf, line: &mut Vec<u8>) -> Result<
 
 /// Whether what fails is a `not`, whose strategy has made a term.
 pub(crate) fn is_negation(listing: &Listing, leaf: &Leaf) -> bool {
-    match (leaf.instr, leaf.phrase) {
+    match (leaf.instruction, leaf.phrase) {
         (Instr::GiveUp { .. }, Some(phrase)) => !is_fail(listing, phrase),
         _ => false,
     }
@@ -193,7 +205,7 @@ pub(crate) fn push_excess(
     leaf: &Leaf,
     line: &mut Vec<u8>,
 ) -> Result<(), AllocError> {
-    match leaf.instr {
+    match leaf.instruction {
         Instr::Build { .. } => push_strategy(listing, leaf, b"a build", line)?,
         Instr::CallDefinition { .. } => push_strategy(
             listing,
@@ -215,7 +227,7 @@ fn push_primitive(
     stand: &Stand,
     line: &mut Vec<u8>,
 ) -> Result<(), AllocError> {
-    let Instr::ApplyPrimitive { name, .. } = leaf.instr else {
+    let Instr::ApplyPrimitive { name, .. } = leaf.instruction else {
         return Ok(());
     };
     push_primitive_call(listing, leaf, name, line)?;
@@ -272,7 +284,7 @@ pub(crate) fn variables(
     let Some(phrase) = leaf.phrase else {
         return Ok(Vec::new(alloc));
     };
-    let among = match leaf.instr {
+    let among = match leaf.instruction {
         Instr::CallDefinition { .. } => listing.terms_of(phrase),
         Instr::ApplyPrimitive { .. } => Phrase {
             first: phrase.first.saturating_add(1),

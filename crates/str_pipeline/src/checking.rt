@@ -6,6 +6,7 @@ ghost use Rattle.str_pipeline.specs.Judged.{IsVerdict};
 ghost use Rattle.str_pipeline.specs.Faults.{IsReadingFault, is_read_fault};
 
 use crate::answer::MAX_DEFINITIONS;
+use crate::pipeline::has_no_line;
 use crate::program::{Program, program_to_run};
 use crate::progress::library_bytes;
 use crate::source::{Source, read_all};
@@ -77,7 +78,7 @@ fn verdict_on<M: PrimMeaning>(
             Ok(None)
         }
         Err(fault) => {
-            if fault.number() <= 2 {
+            if has_no_line(&fault) {
                 return Err(fault);
             }
             note_findings(alloc, text, options, registry, notes);

@@ -7,7 +7,7 @@ use crate::causes::{
 };
 use crate::checking::findings_in;
 use crate::followed::FollowedSpace;
-use crate::program::{Purpose, program_of};
+use crate::program::{Purpose, make_program};
 use crate::status::{Options, Status};
 use crate::usage::usage_line;
 use aterm_text::{read_in, write_term};
@@ -47,7 +47,7 @@ const DEEPEST: &[u8] = b", the deepest failure before that, and maybe the cause"
 
 /// Notes why a run has no result, if that is asked for and it has none, and warnings about its definitions. If memory for it is refused
 /// nothing is noted.
-pub(crate) fn note_explanation<M: PrimMeaning>(
+pub(crate) fn explain_run<M: PrimMeaning>(
     alloc: Global,
     status: &Result<Status, Fault>,
     options: &Options,
@@ -90,7 +90,7 @@ fn explanation_of<M: PrimMeaning>(
 ) -> Result<Explanation, Fault>
     requires honest { IsHonest M.answer registry.now }
 {
-    let program = program_of(alloc, definitions, options, registry, Purpose::Explanation)?;
+    let program = make_program(alloc, definitions, options, registry, Purpose::Explanation)?;
     let budget = options.budget.min(MOST_RULES);
     let run = run_again(alloc, &program.code, term, budget, registry)?;
     let listing = Listing::new(alloc, definitions)?;

@@ -1,5 +1,5 @@
 //! The cut of the joined form: one reader for the definitions, the line `#term` and the term text.
-ghost use Rattle.std.specs.Prelude.{[], ◌≡◌, ◌≢◌, ◌+◌, ◌<◌, ◌≤◌, ◌++◌, ℕ, List, None, Some, true, false, length, vec_len, take, drop, slice_index, EachIndex, MatchOption, IfSome, IsSomeAnd, IfOk, IfErr, IsTrue, if◌then◌else◌};
+ghost use Rattle.std.specs.Prelude.{◌≡◌, ◌≢◌, ◌+◌, ◌<◌, ◌≤◌, ℕ, None, Some, false, length, vec_len, slice_index, EachIndex, MatchOption, IfSome, IsSomeAnd, IfOk, IfErr, IsTrue, if◌then◌else◌};
 ghost use Rattle.str_pipeline.specs.Joined.{IsSplit};
 ghost use Rattle.str_pipeline.specs.Search.{IsKind, IsClear, IsSearched, IsStep, definitions_of, term_of, HasLongDefinitions};
 ghost use Rattle.str_pipeline.specs.Faults.{is_read_fault, IsReadingFault};
@@ -74,7 +74,7 @@ fn line_feed(text: &[u8]) -> Option<usize>
     text.iter().position(|byte| *byte == b'\n')
 }
 
-/// Searches on in the bytes that are known, to which more may come unless they are all.
+/// Continues the search in the bytes that are known, to which more may come unless they are all.
 fn advance(known: &[u8], search: Search, limit: usize, is_end: bool) -> Step
     requires { IsSearched false known.now search }
     ensures { IsStep is_end limit known.now result }
@@ -118,7 +118,8 @@ fn without_line(known: &[u8], limit: usize, is_end: bool) -> Step
 }
 
 /// Reads to the end of the definitions, or `None` where they have more than `limit` bytes. It stops
-/// as soon as either is known. The fault is `Read` where a read failed, and `Memory`.
+/// as soon as either is known. The fault is `Read` if a read failed, and `Memory` if a growth was refused.
+/// What was read is lost then, and also after `None`.
 pub(crate) fn read_front<S: Source>(
     alloc: Global,
     input: &mut S,
@@ -186,7 +187,8 @@ impl JoinedFront {
     }
 
     /// Returns the term text, or `None` where it has more than `limit` bytes. Nothing is read where the
-    /// input has ended. The fault is `Read` where a read failed, and `Memory`.
+    /// input has ended. The fault is `Read` if a read failed, and `Memory` if memory was refused. What was
+    /// read for it is lost then, and also after `None`.
     pub(crate) fn read_term<S: Source>(
         &self,
         alloc: Global,

@@ -14,7 +14,7 @@ ghost use Rattle.str_pipeline.specs.Transformation.{Ends, OfTwo, ReadsTwo, Trans
 ghost use Rattle.str_pipeline.specs.Faults.{HoldsRefusal, IsRefusal, IsTransferFault, IsOfDefinitions, RefusesDefinitions, is_read, is_read_fault, is_write_fault};
 
 use crate::answer::{MAX_DEFINITIONS, MAX_TERM, outcome_of, write_outcome, write_refusal};
-use crate::explaining::note_explanation;
+use crate::explaining::explain_run;
 use crate::joined::read_front;
 use crate::program::program_to_run;
 use crate::progress::library_bytes;
@@ -150,7 +150,7 @@ fn finish<W: Sink>(
 }
 
 /// Returns whether no line is written about the fault: one of memory or of reading.
-fn has_no_line(fault: &Fault) -> bool
+pub(crate) fn has_no_line(fault: &Fault) -> bool
     ensures { IsTrue result ↔ number_of fault.now ≤ 2 }
 {
     matches!(fault, Fault::Memory | Fault::Read)
@@ -214,7 +214,9 @@ pub fn transform<D: Source, T: Source, M: PrimMeaning, W: Sink>(
 }
 
 /// Does as `transform` does, and notes what a person wants to know where the definitions or the term are refused: which text is, at
-/// which place, and what is wrong there; and else what the run used. What was noted before is dropped. Neither what is written nor the result depends on notes.
+/// which place, and what is wrong there; and else what the run used. What was noted before is dropped. If the notes ask for an
+/// explanation and neither text is refused, it is noted, with warnings, after the line is written; for it the program may run up to
+/// three times more. Neither what is written nor the result depends on notes.
 ///
 /// # Errors
 /// As of `transform`.
@@ -240,7 +242,7 @@ pub fn transform_with_notes<D: Source, T: Source, M: PrimMeaning, W: Sink>(
     notes.note_outcome(&outcome);
     let status = finish(alloc, outcome, out);
     notes.note_library(library_bytes(defs.files()));
-    note_explanation(alloc, &status, options, registry, notes);
+    explain_run(alloc, &status, options, registry, notes);
     status
 }
 
@@ -272,8 +274,10 @@ pub fn transform_joined<S: Source, M: PrimMeaning, W: Sink>(
     transform_joined_with_notes(alloc, input, options, registry, &mut notes, out)
 }
 
-/// Does as `transform_joined` does, and notes what a person wants to know where the definitions or the term are refused, and else what the
-/// run used. What was noted before is dropped. Neither what is written nor the result depends on notes.
+/// Does as `transform_joined` does, and notes what a person wants to know where the definitions or the term are refused, and else what
+/// the run used. What was noted before is dropped. If the notes ask for an explanation and neither text is refused, it is noted, with
+/// warnings, after the line is written; for it the program may run up to three times more. Neither what is written nor the result
+/// depends on notes.
 ///
 /// # Errors
 /// As of `transform`.
@@ -297,6 +301,6 @@ pub fn transform_joined_with_notes<S: Source, M: PrimMeaning, W: Sink>(
     let outcome = outcome_joined(alloc, input, options, registry, notes);
     notes.note_outcome(&outcome);
     let status = finish(alloc, outcome, out);
-    note_explanation(alloc, &status, options, registry, notes);
+    explain_run(alloc, &status, options, registry, notes);
     status
 }

@@ -42,7 +42,7 @@ pub(crate) enum Purpose {
 /// Makes the program of a definition file with the library after it, of which the definition that the options name is run, where there are
 /// the primitives of the registry. The refusal is `Memory`, or the first of these: `Lexical` or `ReservedWord`, as `lex` says; `Syntax` or
 /// `Nesting`, as `parse` says; and what `check` finds in the file with the library.
-pub(crate) fn program_of<M: PrimMeaning>(
+pub(crate) fn make_program<M: PrimMeaning>(
     alloc: Global,
     definitions: &[u8],
     options: &Options,
@@ -61,7 +61,7 @@ pub(crate) fn program_of<M: PrimMeaning>(
     let core = to_core(alloc, &checked)?;
     // For its contract: these are the primitives that occur in the core.
     let _ = core.prims();
-    let code = code_of(alloc, &core, purpose)?;
+    let code = compile_for(alloc, &core, purpose)?;
     Ok(Program { checked, code })
 }
 
@@ -77,7 +77,7 @@ pub(crate) fn program_to_run<M: PrimMeaning>(
         definitions.now result }
     ensures covers { IfOk result (λ program. Covers registry.now program.code.prims) }
 {
-    match program_of(alloc, definitions, options, registry, Purpose::Run) {
+    match make_program(alloc, definitions, options, registry, Purpose::Run) {
         Ok(program) => Ok(program),
         Err(refusal) => {
             let primitives = registry.names(alloc).unwrap_or(PrimNames::new(alloc));
@@ -88,7 +88,7 @@ pub(crate) fn program_to_run<M: PrimMeaning>(
 }
 
 /// The code of a core for a purpose.
-fn code_of(alloc: Global, core: &Core, purpose: Purpose) -> Result<Code, AllocError>
+fn compile_for(alloc: Global, core: &Core, purpose: Purpose) -> Result<Code, AllocError>
     ensures stands { IfOk result (λ code.
         StandsFor (code_of code.tables code.instrs) (program_of core.now) core.now.main) }
     ensures prims { IfOk result (λ code. code.prims ≡ core.now.prims) }

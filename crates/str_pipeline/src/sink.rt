@@ -1,5 +1,5 @@
 //! What is written to.
-ghost use Rattle.std.specs.Prelude.{◌≡◌, ◌+◌, ◌≤◌, ℕ, List, Option, length, is_err, IfSome, IfErr, OnOk, if◌then◌else◌};
+ghost use Rattle.std.specs.Prelude.{◌≡◌, ◌+◌, ◌≤◌, Option, length, is_err, IfSome, IfErr, OnOk, if◌then◌else◌};
 ghost use Rattle.str_pipeline.specs.Device.{Writer, WritesFront, is_failed_write, Gains, GainsPrefix};
 
 use std::io::ErrorKind;
@@ -8,7 +8,7 @@ use term_model::Fault;
 /// A writer. A call that returns `None` failed.
 pub trait Sink {
     /// The bytes written so far, where the device shows them, how many writes it has had, and how many of them failed, or took no byte of a
-    /// text that isn't empty.
+    /// text that is not empty.
     ghost writer: { Writer Self };
 
     /// Takes the first bytes of `text` and returns their number.
@@ -20,7 +20,8 @@ pub trait Sink {
         ensures failed { writer.failed_writes self.new ≡ writer.failed_writes self.old +
             (if is_failed_write result text.now then 1 else 0) };
 
-    /// Why the last write that failed did, for a person; nothing where none failed, or where the device does not know. No clause speaks of it.
+    /// Why the last failed write failed, for a person; nothing where none failed, or where the device does not know. No clause speaks
+    /// of it.
     fn failure(&self) -> Option<ErrorKind> {
         None
     }

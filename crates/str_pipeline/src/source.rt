@@ -1,5 +1,5 @@
 //! What is read from.
-ghost use Rattle.std.specs.Prelude.{◌≡◌, ◌+◌, ◌^◌, ◌<◌, ◌≤◌, ◌++◌, ℕ, List, Option, is_none, length, vec_len, IfSome, IfOk, IfErr, MatchOption, if◌then◌else◌};
+ghost use Rattle.std.specs.Prelude.{◌≡◌, ◌+◌, ◌<◌, ◌≤◌, ◌++◌, Option, is_none, length, vec_len, IfSome, IfOk, IfErr, MatchOption, if◌then◌else◌};
 ghost use Rattle.str_pipeline.specs.Device.{Reader, ReadsFront};
 ghost use Rattle.str_pipeline.specs.Faults.{is_read_fault, IsReadingFault};
 
@@ -23,7 +23,8 @@ pub trait Source {
         ensures failed { reader.failed_reads self.new ≡ reader.failed_reads self.old +
             (if is_none result then 1 else 0) };
 
-    /// Why the last read that failed did, for a person; nothing where none failed, or where the device does not know. No clause speaks of it.
+    /// Why the last failed read failed, for a person; nothing where none failed, or where the device does not know. No clause speaks
+    /// of it.
     fn failure(&self) -> Option<ErrorKind> {
         None
     }
@@ -40,7 +41,8 @@ pub trait Source {
 pub(crate) const PIECE: usize = 16_384;
 
 /// Reads all that is still to come, where it has at most `limit` bytes, and returns `None` where it
-/// has more. It stops as soon as that is known. The fault is `Read` where a read failed, and `Memory`.
+/// has more. It stops as soon as that is known. The fault is `Read` if a read failed, and `Memory` if a
+/// growth was refused. What was read is lost then, and also after `None`.
 pub fn read_all<S: Source, A: Allocator + Drop>(
     alloc: A,
     source: &mut S,

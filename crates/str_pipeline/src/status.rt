@@ -9,7 +9,7 @@ pub struct Options {
     pub main: Vec<u8>,
     /// Whether a term is refused that has an application which the definitions do not declare.
     pub strict: bool,
-    /// The most nodes of a derivation.
+    /// The most rules of the run, which are the nodes of its derivation: at most `MAX_BUDGET`.
     pub budget: u32,
 }
 

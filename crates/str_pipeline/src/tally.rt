@@ -35,7 +35,7 @@ impl Count {
 /// A number of calls that the program can compare: beside the count it keeps the greatest `u64`
 /// that the count has reached.
 #[derive(Drop)]
-pub struct Calls {
+pub(crate) struct Calls {
     count: Count,
     reached: u64,
     ghost counted: { reached ≡ min count.number (2 ^ 64 - 1) },

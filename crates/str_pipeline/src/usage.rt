@@ -32,7 +32,8 @@ pub(crate) fn usage_line(
     Ok(line)
 }
 
-/// How many rules each definition used, by the index of its last head, and after all of them those of the library.
+/// How many rules each run of neighbouring heads with one name used, at the index of the last of them, and after all of them those of
+/// the library.
 fn rules_by_heads(
     alloc: Global,
     listing: &Listing,

@@ -59,7 +59,7 @@ pub record Runs {W E : Type 0} (of_texts : (List ℕ → List ℕ → Type 0) �
       of_texts (λ d t. HasBegunIn form d t S (writer.written old) (writer.written new))
   pub read_failed : AreSome reads → exit ≡ 4
 
--- a run over one reader in the joined form, with the plain options in a setting for each options
+-- a run over one reader in the joined form, with the plain options, in the setting that belongs to them
 pub record RunsPlain {I W E : Type 0} (reader : Reader I) (writer : Writer W) (stream : Writer E)
     (setting : Options → Setting) (input left : I) (old new : W) (before after : E) (exit : ℕ) : Type 0 where
   pub status : exit ≤ 4

@@ -1,5 +1,5 @@
 //! What failed and why, for a person.
-use crate::opening::PRELUDE;
+use crate::opening::PRELUDE_WORD;
 use crate::report::Reporting;
 use std::alloc::Global;
 use std::io::ErrorKind;
@@ -45,7 +45,7 @@ impl<'a> Failure<'a> {
     /// The installed prelude, if its place is not known.
     pub(crate) fn of_prelude() -> Failure<'static> {
         Failure {
-            name: PRELUDE,
+            name: PRELUDE_WORD,
             why: "the place of the program is not known",
             hint: OTHER_FILES,
         }

@@ -9,7 +9,7 @@ ghost use Rattle.str_pipeline.specs.Limits.{max_definitions, max_term};
 ghost use Rattle.str_pipeline.specs.Setting.{setting_of};
 ghost use Rattle.strc_command.specs.Forms.{IsInForm, GainsForm, BeginsForm, HasWrittenIn, HasBegunIn};
 
-use crate::pretty::laid_out;
+use crate::pretty::lay_out;
 use crate::raw::without_quotes;
 use crate::request::Form;
 use prim_registry::{PrimMeaning, Registry};
@@ -31,7 +31,7 @@ fn text_in_form(
 {
     match (form, status) {
         (Form::Raw, _) => without_quotes(alloc, &line),
-        (Form::Pretty, Status::Rewritten) => laid_out(alloc, &line),
+        (Form::Pretty, Status::Rewritten) => lay_out(alloc, &line),
         _ => Ok(line),
     }
 }

@@ -15,7 +15,7 @@ use str_pipeline::{Sink, Source};
 use term_model::Fault;
 
 /// The word of `--with` for the prelude that is installed with the program.
-pub(crate) const PRELUDE: &str = "prelude";
+pub(crate) const PRELUDE_WORD: &str = "prelude";
 
 /// A file that is read in front of the definitions.
 #[derive(Drop)]
@@ -25,7 +25,7 @@ pub(crate) struct Library {
     pub(crate) is_prelude: bool,
 }
 
-/// A file that is not open: with which fault, and what a person is told of it.
+/// A file that could not be opened: the fault, and what a person is told.
 #[derive(Drop)]
 pub(crate) struct Unopened<'a> {
     pub(crate) fault: Fault,
@@ -54,7 +54,7 @@ fn library_of<P: Paths>(alloc: Global, paths: &mut P, word: &str) -> Result<Libr
     ensures fault { IfErr result IsReadingFault }
     ensures kept { (other : List ℕ) → P.text_at paths.new other ≡ P.text_at paths.old other }
 {
-    if word != PRELUDE {
+    if word != PRELUDE_WORD {
         return Ok(Library {
             path: String::from_str(alloc, word)?,
             is_prelude: false,

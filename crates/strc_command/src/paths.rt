@@ -26,7 +26,7 @@ pub trait Paths {
     /// Returns the path of the running program; nothing where that is not known. The error is one of memory.
     fn program(&self, alloc: Global) -> Result<Option<String>, AllocError>;
 
-    /// Why the last file that could not be opened was not, for a person; nothing where that is not known. No clause speaks of it.
+    /// Why the last file that failed to open did so, for a person; nothing where that is not known. No clause speaks of it.
     fn failure(&self) -> Option<ErrorKind> {
         None
     }
@@ -42,8 +42,8 @@ pub struct Files<'a> {
 /// What the system calls the running program.
 const PROGRAM: &str = "/proc/self/exe";
 
-/// Where the prelude is, in the folder whose folder `bin` has the program.
-const PRELUDE: &str = "share/strc/prelude.str";
+/// The path of the prelude in the folder that contains the folder `bin` of the program.
+const PRELUDE_PATH: &str = "share/strc/prelude.str";
 
 impl<'a> Files<'a> {
     /// Opens files through this runtime. No file has failed to open yet.
@@ -93,5 +93,5 @@ pub(crate) fn prelude_beside(alloc: Global, program: &str) -> Result<Option<Stri
     let Some((prefix, _)) = folder.rsplit_once('/') else {
         return Ok(None);
     };
-    Ok(Some(format!(in alloc; "{prefix}/{PRELUDE}")?))
+    Ok(Some(format!(in alloc; "{prefix}/{PRELUDE_PATH}")?))
 }

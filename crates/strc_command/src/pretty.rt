@@ -181,7 +181,7 @@ fn flat_length(after: &[u8], room: usize) -> Option<usize> {
 
 /// Returns what `--pretty` writes for a line: the same with line breaks and indentation. Brackets stand in one line with all that is between
 /// them if that fits; else each part between them stands on a line of its own, and the closing bracket too. An error is a refused growth.
-pub(crate) fn laid_out(alloc: Global, line: &[u8]) -> Result<Vec<u8>, AllocError>
+pub(crate) fn lay_out(alloc: Global, line: &[u8]) -> Result<Vec<u8>, AllocError>
     ensures { IfOk result (λ text. IsSpaced line.now text.items) }
 {
     let mut layout = Layout::new(alloc);

@@ -175,7 +175,12 @@ fn run_texts<P: Paths, I: Source, W: Sink, E: Sink, M: PrimMeaning>(
 /// Tells what is wrong with the words on `diagnostics`, and returns 5; or writes the help text or the version to `out`, as was asked, and
 /// returns 0.
 #[tactic(auto, using(crate::proofs::CauseLaws::line_told))]
-fn explain<W: Sink, E: Sink>(alloc: Global, error: &Error, out: &mut W, diagnostics: &mut E) -> u8
+fn answer_words<W: Sink, E: Sink>(
+    alloc: Global,
+    error: &Error,
+    out: &mut W,
+    diagnostics: &mut E,
+) -> u8
     ensures status { result ≤ 5 }
     ensures usage { result ≡ 5 → out.new ≡ out.old }
     ensures stops { Stops W.writer E.writer out.old out.new diagnostics.old diagnostics.new result }
@@ -212,7 +217,8 @@ fn range_of(kind: ErrorKind) -> &'static str {
 /// (`whole_text`): the bytes of each file of `--with`, a line feed after each, and those of DEFS. Definitions may call the primitives of the
 /// registry and the strategies of the library. The line of the answer goes to `out`; with `--raw` a string as its bytes, and with `--pretty`
 /// a result in several lines. Files are opened before anything is read: those of `--with` in their order, DEFS and TERM. With `--check` it
-/// judges the definitions alone, those of the files and else of `input`: `diagnostics` gets all faults and warnings, and `out` nothing.
+/// judges the definitions alone, those of the files and else of `input`: `diagnostics` gets the first hundred faults, the first hundred
+/// warnings, and how many there are if that is more, and `out` nothing.
 ///
 /// Returns the exit status: 0 where the term was rewritten, and for the help text and the version, which go to `out`; 1 where the strategy
 /// failed, 2 where the definitions or the term were refused, 3 where the budget was spent or a term was too large, 4 where memory, opening,
@@ -220,12 +226,13 @@ fn range_of(kind: ErrorKind) -> &'static str {
 ///
 /// For 2 and 4 a line on `diagnostics` reports the fault. In the joined form and for 4 that is `Read` exactly where a read of `input`
 /// failed, `Write` exactly where a write to `out` failed, and `Memory` else. For 2 lines for a person come after it: the name of the
-/// text, the line and the column, what is wrong, and the line with a mark under the place. For 4 one line for a person comes after `Read`
-/// and `Write`: what could not be opened, read or written and, where that is known, why. These lines are left out where memory for them is
-/// refused. Of a broken pipe, to which `out` writes, nothing is reported. For 3 a line says how large the budget was that was spent, or
-/// how large the term was, if that is known. Where the words ask why there is no result, lines say it next for 1 and 3, if memory for that
-/// was there. Where they ask for the numbers of the run, a line with them comes last for 0, 1 and 3. For 5 `diagnostics` tells what
-/// is wrong with the words and how the help text is had. A write to `diagnostics` that fails changes nothing.
+/// text, the line and the column, what is wrong, the line with a mark under the place, and a hint if what was meant can be guessed.
+/// For 4 one line for a person comes after `Read` and `Write`: what could not be opened, read or written and, where that is known, why.
+/// These lines are left out where memory for them is refused. Of a broken pipe, to which `out` writes, nothing is reported. For 3 a line
+/// says how large the budget was that was spent, or how large the term was, if that is known. Where the words ask why there is no result,
+/// lines say it next for 1 and 3, if memory for that was there. Where they ask for the numbers of the run, a line with them comes last
+/// for 0, 1 and 3. For 5 `diagnostics` says what is wrong with the words and, if the parser of the command line refused them, how to get
+/// the help text. A write to `diagnostics` that fails changes nothing.
 #[tactic(auto, using(crate::proofs::CauseLaws::line_told, crate::proofs::CauseLaws::of_reading, crate::proofs::CauseLaws::fault_told))]
 pub fn run<P: Paths, I: Source, W: Sink, E: Sink, M: PrimMeaning>(
     alloc: Global,
@@ -248,7 +255,7 @@ pub fn run<P: Paths, I: Source, W: Sink, E: Sink, M: PrimMeaning>(
 {
     let request = match request_of(alloc, words) {
         Ok(request) => request,
-        Err(error) => return explain(alloc, &error, out, diagnostics),
+        Err(error) => return answer_words(alloc, &error, out, diagnostics),
     };
     let Ok(options) = options_of(alloc, &request) else {
         return stop(&Fault::Memory, diagnostics);

@@ -4,7 +4,7 @@ ghost use Rattle.term_model.specs.Limits.{max_budget};
 ghost use Rattle.strc_command.specs.Request.{IsPlainRequest, IsAsked};
 ghost use Rattle.strc_command.specs.Rules.{Fits, TakesRules, HasRules};
 
-use crate::opening::PRELUDE;
+use crate::opening::PRELUDE_WORD;
 use clap::{Arg, ArgAction, ArgMatches, Command, Error, value_parser};
 use std::alloc::{AllocError, Global};
 use str_pipeline::{DEFAULT_BUDGET, Options};
@@ -97,7 +97,7 @@ const STATS: &str =
 
 const EXPLAIN: &str = "Say on standard error why the run has no result, and print warnings";
 
-const CHECK: &str = "Check the definitions alone: print all faults and warnings on standard error";
+const CHECK: &str = "Check the definitions alone: print the faults and warnings on standard error";
 
 const WITH: &str =
     "A file of definitions that is read in front of DEFS; may be given more than once";
@@ -153,7 +153,7 @@ fn flag<'a>(alloc: Global, name: &'a str, help: &'a str) -> Arg<'a>
         .help(help)
 }
 
-/// Returns the path of the definitions.
+/// Returns the argument for the path of the definitions.
 #[tactic(auto, using(crate::proofs::RulesLaws::other_letter))]
 fn definitions<'a>(alloc: Global) -> Arg<'a>
     ensures { Fits result }
@@ -161,7 +161,7 @@ fn definitions<'a>(alloc: Global) -> Arg<'a>
     Arg::new(alloc, "DEFS").help("The file of definitions")
 }
 
-/// Returns the path of the term.
+/// Returns the argument for the path of the term.
 #[tactic(auto, using(crate::proofs::RulesLaws::other_letter))]
 fn term<'a>(alloc: Global) -> Arg<'a>
     ensures { Fits result }
@@ -199,8 +199,9 @@ fn command<'a>(alloc: Global) -> Result<Command<'a>, Error>
 }
 
 /// Reads the words of the command line, of which the first is the name of the program. Where it is the only one, the texts come in the
-/// joined form, the strategy is `main`, the term need not be declared, the budget is 1,000,000 rules, the result is written as a line, and neither
-/// numbers, an explanation nor a check are asked for. An error is what the program has to say: what is wrong with the words, the help text or the version; or out of memory.
+/// joined form, the strategy is `main`, the term need not be declared, the budget is 1,000,000 rules, the result is written as a line, and
+/// neither numbers, an explanation nor a check are asked for. An error is what the program has to say: what is wrong with the words, the
+/// help text or the version, or that memory was refused.
 pub fn request_of<'a>(alloc: Global, words: &'a [String]) -> Result<Request<'a>, Error>
     ensures bound { IfOk result (λ request. request.rules ≤ max_budget) }
     ensures plain { length words.now ≤ 1 → IsOkAnd result IsPlainRequest }
@@ -227,7 +228,7 @@ pub fn request_of<'a>(alloc: Global, words: &'a [String]) -> Result<Request<'a>,
         explains: matches.get_flag("explain"),
         checks: matches.get_flag("check"),
         form: form_of(&matches),
-        libraries: libraries_of(alloc, &matches)?,
+        libraries: library_words(alloc, &matches)?,
         texts: texts_of(&matches),
     })
 }
@@ -241,7 +242,7 @@ fn rules_of(matches: &ArgMatches<'_>) -> u32
 }
 
 /// Returns the words for the files in front of the definitions.
-fn libraries_of<'a>(alloc: Global, matches: &ArgMatches<'a>) -> Result<Vec<&'a str>, AllocError> {
+fn library_words<'a>(alloc: Global, matches: &ArgMatches<'a>) -> Result<Vec<&'a str>, AllocError> {
     match matches.get_strs("with") {
         Some(words) => words.to_vec(alloc),
         None => Ok(Vec::new(alloc)),
@@ -271,7 +272,7 @@ fn texts_of<'a>(matches: &ArgMatches<'a>) -> Texts<'a> {
 /// the name of no file there.
 fn has_repeated_file(libraries: &[&str], definitions: &str) -> bool {
     for (index, word) in libraries.iter().enumerate() {
-        let is_definitions = *word == definitions && *word != PRELUDE;
+        let is_definitions = *word == definitions && *word != PRELUDE_WORD;
         if is_definitions || libraries.iter().take(index).any(|before| before == word) {
             return true;
         }

@@ -1,7 +1,7 @@
 //! What the calls of a device in memory do.
-ghost use Rattle.std.specs.Prelude.{◌≡◌, ◌+◌, ◌-◌, ◌<◌, ◌≤◌, [], None, Some, ℕ, List, drop, length, min, true, false, is_none, if◌then◌else◌, IfOk, IfSome, IsTrue};
+ghost use Rattle.std.specs.Prelude.{◌≡◌, ◌+◌, ◌-◌, ◌<◌, ◌≤◌, [], None, Some, length, min, true, false, is_none, if◌then◌else◌, IfOk, IfSome};
 ghost use Rattle.str_pipeline.specs.Device.{ReadsFront, WritesFront, is_failed_write};
-ghost use Rattle.str_pipeline.specs.Asked.{Orders, orders_of, is_bad_call, bytes_coming, bytes_written, call_count, failure_count};
+ghost use Rattle.str_pipeline.specs.Asked.{orders_of, is_bad_call, bytes_coming, bytes_written, call_count, failure_count};
 
 use crate::faulty::Faulty;
 use crate::sink::Sink;
@@ -32,7 +32,8 @@ impl Faulty {
         }
     }
 
-    /// Makes a writer with room for this number of bytes, all reserved. A write into a full one fails.
+    /// Makes a writer with room for this number of bytes, all reserved. A write into a full one fails, but an empty
+    /// one takes nothing there. An error is a refused growth.
     pub fn writer(
         alloc: Global,
         room: usize,
@@ -145,7 +146,8 @@ impl Sink for Faulty {
     } };
 
     /// A bad call fails, or takes nothing where `self` is silent. Of the others one into a full
-    /// writer fails, and each other one takes as many bytes as `self`'s piece and the room allow.
+    /// writer fails unless the text is empty, and each other one takes as many bytes as `self`'s
+    /// piece and the room allow.
     fn write(&mut self, text: &[u8]) -> Option<usize>
         ensures bound { IfSome result (λ n. n ≤ length text.now) }
         ensures bytes { WritesFront (Some (bytes_written self.old)) (Some (bytes_written self.new))

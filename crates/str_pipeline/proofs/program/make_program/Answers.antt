@@ -7,7 +7,7 @@ use Rattle.str_syntax.specs.Views.{file_of}
 use Rattle.str_pipeline.specs.Setting.{setting_with}
 use Rattle.str_pipeline.proofs.KnownLaws.{covered, known, program_alike}
 use Rattle.str_pipeline.proofs.ProgramLaws.{no_tokens, no_file, not_passed, passed_file, same_program}
-use Rattle.str_pipeline.proofs.program.program_of.Goals as goal
+use Rattle.str_pipeline.proofs.program.make_program.Goals as goal
 
 pub returns-in_err-tokens-clause-program : goal.returns-in_err-tokens-clause-program
 returns-in_err-tokens-clause-program g c =

@@ -1,7 +1,7 @@
 use Rattle.std.proofs.Common.{◌<◌, length, arith}
 use Rattle.std.proofs.lemmas.List.{take_more}
 use Rattle.strc_command.proofs.PrettyLaws.{lays_more}
-use Rattle.strc_command.proofs.pretty.laid_out.Goals as goal
+use Rattle.strc_command.proofs.pretty.lay_out.Goals as goal
 
 pub loop-index-preserved : goal.loop-index-preserved
 loop-index-preserved c =

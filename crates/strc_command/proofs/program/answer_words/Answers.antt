@@ -1,7 +1,7 @@
 use Rattle.std.proofs.Common.{◌∙◌, arith, rules, sym}
 use Rattle.term_model.specs.declared.fault.Fault.TheVariants.{Write}
 use Rattle.strc_command.proofs.CauseLaws.{memory_stops, writing_stopped}
-use Rattle.strc_command.proofs.program.explain.Goals as goal
+use Rattle.strc_command.proofs.program.answer_words.Goals as goal
 
 pub returns-then-eq-clause-stops : goal.returns-then-eq-clause-stops
 returns-then-eq-clause-stops g c = memory_stops _ _ _ _ _ _ (λ four. c.stop.ensures.told)
