@@ -2,7 +2,7 @@
 //! sections it has; to standard error it writes how many nanoseconds lexing and parsing took.
 #![tactic(auto)]
 
-ghost use Rattle.std.specs.Prelude.{◌≡◌, IfOk};
+ghost use Rattle.std.specs.Prelude.{IfOk};
 ghost use Rattle.front_bench.specs.Counts.{AreCounts};
 
 use std::alloc::Global;
@@ -22,8 +22,9 @@ struct Measured {
     parsing: Duration,
 }
 
-/// The counts of the tokens and the sections of the file that the text is.
-fn counted(clock: &impl Clock, alloc: Global, text: &[u8]) -> Result<Measured, Fault>
+/// Lexes and parses the text, measures how long each takes, and counts the tokens and sections. The fault is that of `lex` or `parse`, or
+/// `Read` if the clock fails.
+fn measure(clock: &impl Clock, alloc: Global, text: &[u8]) -> Result<Measured, Fault>
     ensures { IfOk result (λ answer. AreCounts text.now answer.tokens answer.sections) }
 {
     let start = Instant::now(clock).map_err(|_| Fault::Read)?;
@@ -43,7 +44,7 @@ fn counted(clock: &impl Clock, alloc: Global, text: &[u8]) -> Result<Measured, F
 fn main(rt: HostRuntime) -> Result<(), Fault> {
     let mut text = Vec::new(rt.alloc());
     rt.stdin().read_to_end(&mut text).map_err(|_| Fault::Read)?;
-    let answer = counted(&rt, rt.alloc(), &text)?;
+    let answer = measure(&rt, rt.alloc(), &text)?;
     let (tokens, sections) = (answer.tokens, answer.sections);
     println!(rt; "{tokens} tokens, {sections} sections").map_err(|_| Fault::Write)?;
     let lexing = answer.lexing.as_nanos();

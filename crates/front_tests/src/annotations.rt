@@ -2,7 +2,7 @@
 use crate::checks::is_refused_so;
 use crate::front::{core_of, read};
 use crate::mutations::levels::push_times;
-use crate::mutations::readings::{Reading, parsed};
+use crate::mutations::readings::{Reading, reading_of, reading_of_pieces};
 use crate::same::same_definitions;
 use core_lang::Core;
 use std::alloc::Global;
@@ -63,19 +63,12 @@ const NO_PLACES: &[(&str, &str)] = &[
     ("strategies main = {x", "{y}: id}"),
 ];
 
-/// What the text of these pieces is read as.
-fn joined(alloc: Global, front: &str, back: &str) -> Result<Reading, Fail> {
-    let mut text = String::from_str(alloc, front)?;
-    text.push_str(back)?;
-    Ok(parsed(alloc, text.as_bytes()))
-}
-
 #[test]
 fn no_annotations(rt: HostRuntime) -> Result<(), Fail> {
     for table in [NO_LISTS, NO_PLACES] {
         for (front, back) in table {
             let at = front.len() as u64;
-            if joined(rt.alloc(), front, back)? != Reading::Syntax(at) {
+            if reading_of_pieces(rt.alloc(), front, back)? != Reading::Syntax(at) {
                 return Err(Fail::from((front, back)));
             }
         }
@@ -146,7 +139,7 @@ fn is_read_so(alloc: Global, row: &Braces) -> Result<bool, Fail> {
     text.push_str(between)?;
     push_times(&mut text, "}", *closings)?;
     text.push_str(back)?;
-    Ok(parsed(alloc, text.as_bytes()) == *expected)
+    Ok(reading_of(alloc, text.as_bytes()) == *expected)
 }
 
 #[test]
@@ -214,7 +207,7 @@ const JUDGED: &[(&str, &str)] = &[
 ];
 
 #[test]
-fn judged(rt: HostRuntime) -> Result<(), Fail> {
+fn refusals_of_annotations(rt: HostRuntime) -> Result<(), Fail> {
     for (text, expected) in JUDGED {
         if !is_refused_so(rt.alloc(), read(rt.alloc(), text)?, expected)? {
             return Err(Fail::new(text));

@@ -1,5 +1,5 @@
 //! The judgement of small files with ample memory; what is expected was worked out by hand.
-use crate::front::{checked, read};
+use crate::front::{check_file, read};
 use scope_check::{CheckRefusal, Checked, find_faults, judge};
 use std::alloc::{AllocError, Global};
 use std::str;
@@ -129,7 +129,7 @@ const TOGETHER: &[(&str, usize, &str, &str)] = &[
 ];
 
 /// The file of a definition this number of times, and one definition more.
-fn repeated(alloc: Global, first: &str, number: usize, last: &str) -> Result<File, Fail> {
+fn file_of_copies(alloc: Global, first: &str, number: usize, last: &str) -> Result<File, Fail> {
     let mut text = String::from_str(alloc, "strategies ")?;
     for _ in 0..number {
         text.push_str(first)?;
@@ -142,7 +142,7 @@ fn repeated(alloc: Global, first: &str, number: usize, last: &str) -> Result<Fil
 #[test]
 fn definitions_together(rt: HostRuntime) -> Result<(), Fail> {
     for (first, number, last, expected) in TOGETHER {
-        let file = repeated(rt.alloc(), first, *number, last)?;
+        let file = file_of_copies(rt.alloc(), first, *number, last)?;
         if !is_refused_so(rt.alloc(), file, expected)? {
             return Err(Fail::new(expected));
         }
@@ -184,7 +184,7 @@ fn has_its_parts(checked: &Checked) -> bool {
 #[test]
 fn a_file_without_a_fault(rt: HostRuntime) -> Result<(), Fail> {
     let text = "signature constructors C : A -> A strategies main = ?C(x)";
-    let checked = checked(rt.alloc(), read(rt.alloc(), text)?)?;
+    let checked = check_file(rt.alloc(), read(rt.alloc(), text)?)?;
     if !has_its_parts(&checked) {
         return Err("other parts".into());
     }

@@ -29,7 +29,7 @@ fn variable() -> SourcePattern {
     SourcePattern::new(CorePattern::Variable(at(0, 0)), None)
 }
 
-fn expected(alloc: Global, made: &Made) -> Result<CoreStrategy, Fail> {
+fn expected_strategy(alloc: Global, made: &Made) -> Result<CoreStrategy, Fail> {
     match made {
         Made::Id => Ok(CoreStrategy::Id),
         Made::Fail => Ok(CoreStrategy::Fail),
@@ -56,13 +56,13 @@ fn expected_definition(
     first: &Made,
     second: &Option<Made>,
 ) -> Result<CoreDef, Fail> {
-    let first = expected(alloc, first)?;
+    let first = expected_strategy(alloc, first)?;
     let body = match second {
         None => first,
         Some(second) => {
             let then = CoreStrategy::Id;
             let guard = Box::new(alloc, CoreArm { guard: first, then })?;
-            let last = Box::new(alloc, expected(alloc, second)?)?;
+            let last = Box::new(alloc, expected_strategy(alloc, second)?)?;
             CoreStrategy::Choice(guard, Vec::new(alloc), last)
         }
     };

@@ -1,7 +1,7 @@
 //! `parse` on files whose faults were placed by hand, on both sides of the greatest level, and the shape of a tree.
 use crate::front::read;
 use crate::mutations::levels::push_times;
-use crate::mutations::readings::{Reading, parsed};
+use crate::mutations::readings::{Reading, reading_of, reading_of_pieces};
 use std::alloc::Global;
 use std::test::Fail;
 use str_syntax::{
@@ -61,7 +61,7 @@ const STRATEGIES: &[&str] = &[
 fn files(rt: HostRuntime) -> Result<(), Fail> {
     for table in [SECTIONS, STRATEGIES] {
         for text in table {
-            if parsed(rt.alloc(), text.as_bytes()) != Reading::File {
+            if reading_of(rt.alloc(), text.as_bytes()) != Reading::File {
                 return Err(Fail::new(text));
             }
         }
@@ -141,19 +141,12 @@ const NO_STRATEGIES: &[(&str, &str)] = &[
     ("strategies main = id rules f ", "strategies"),
 ];
 
-/// What the text of these pieces is read as.
-fn joined(alloc: Global, front: &str, back: &str) -> Result<Reading, Fail> {
-    let mut text = String::from_str(alloc, front)?;
-    text.push_str(back)?;
-    Ok(parsed(alloc, text.as_bytes()))
-}
-
 #[test]
 fn no_files(rt: HostRuntime) -> Result<(), Fail> {
     for table in [NO_SECTIONS, NO_PATTERNS, NO_STRATEGIES] {
         for (front, back) in table {
             let at = front.len() as u64;
-            if joined(rt.alloc(), front, back)? != Reading::Syntax(at) {
+            if reading_of_pieces(rt.alloc(), front, back)? != Reading::Syntax(at) {
                 return Err(Fail::new(front));
             }
         }
@@ -266,7 +259,7 @@ fn is_read_so(alloc: Global, row: &Levels) -> Result<bool, Fail> {
     push_times(&mut text, opening, *openings)?;
     text.push_str(between)?;
     push_times(&mut text, closing, *closings)?;
-    Ok(parsed(alloc, text.as_bytes()) == *expected)
+    Ok(reading_of(alloc, text.as_bytes()) == *expected)
 }
 
 #[test]
@@ -292,7 +285,7 @@ fn first_definition(file: &File) -> Option<&StrategyDefinition> {
 }
 
 /// The name of a call without arguments.
-fn called(step: &Step) -> Option<&Name> {
+fn called_name(step: &Step) -> Option<&Name> {
     let Step::Plain(_, primary) = step else {
         return None;
     };
@@ -310,7 +303,7 @@ fn two_calls(sequence: &Sequence) -> Option<(&Name, &Name)> {
     let Sequence::Last(last) = others.as_ref() else {
         return None;
     };
-    Some((called(first)?, called(last)?))
+    Some((called_name(first)?, called_name(last)?))
 }
 
 /// Whether the name is this one, at this byte.

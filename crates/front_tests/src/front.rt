@@ -16,7 +16,7 @@ pub(crate) fn read(alloc: Global, text: &str) -> Result<File, Fail> {
 }
 
 /// The file without a fault, where `p` is a primitive without terms and with two.
-pub(crate) fn checked(alloc: Global, file: File) -> Result<Checked, Fail> {
+pub(crate) fn check_file(alloc: Global, file: File) -> Result<Checked, Fail> {
     let mut primitives = PrimNames::new(alloc);
     primitives.insert(b"p", 0)?;
     primitives.insert(b"p", 2)?;
@@ -25,6 +25,6 @@ pub(crate) fn checked(alloc: Global, file: File) -> Result<Checked, Fail> {
 
 /// The core of the file.
 pub(crate) fn core_of(alloc: Global, file: File) -> Result<Core, Fail> {
-    let checked = checked(alloc, file)?;
+    let checked = check_file(alloc, file)?;
     Ok(to_core(alloc, &checked)?)
 }

@@ -10,9 +10,9 @@ mod tokens;
 mod words;
 
 use chart::Chart;
-use edits::{Edit, edited};
-use grammar::{Grammar, tabled};
-use readings::{Reading, parsed, second_reading, text};
+use edits::{Edit, words_with};
+use grammar::{Grammar, grammar_of_tables};
+use readings::{Reading, reading_of, second_reading, text};
 use std::alloc::{AllocError, Global};
 use std::test::Fail;
 use words::{Word, words};
@@ -28,7 +28,7 @@ const EDITS: [Edit; 5] = [
 /// Fails with their text where the readings of the words are not the same.
 fn compare(alloc: Global, grammar: &Grammar, words: &[Word<'_>]) -> Result<(), Fail> {
     let text = text(alloc, words)?;
-    let found = parsed(alloc, text.as_bytes());
+    let found = reading_of(alloc, text.as_bytes());
     let expected = second_reading(alloc, grammar, words)?;
     if found != expected {
         return Err(Fail::new(text));
@@ -44,7 +44,7 @@ fn compare_edits(
     at: usize,
 ) -> Result<(), Fail> {
     for edit in EDITS {
-        let edited = edited(alloc, words, edit, at)?;
+        let edited = words_with(alloc, words, edit, at)?;
         compare(alloc, grammar, &edited)?;
     }
     Ok(())
@@ -66,7 +66,7 @@ fn compare_file(alloc: Global, grammar: &Grammar, file: &str) -> Result<(), Fail
 
 #[test]
 fn edits_of_files(rt: HostRuntime) -> Result<(), Fail> {
-    let grammar = tabled(rt.alloc())?;
+    let grammar = grammar_of_tables(rt.alloc())?;
     for file in files::ALL {
         compare_file(rt.alloc(), &grammar, file)?;
     }
@@ -75,7 +75,7 @@ fn edits_of_files(rt: HostRuntime) -> Result<(), Fail> {
 
 /// The number of words of the file, which is one by both readings.
 fn words_of_file(alloc: Global, grammar: &Grammar, file: &str) -> Result<usize, Fail> {
-    if parsed(alloc, file.as_bytes()) != Reading::File {
+    if reading_of(alloc, file.as_bytes()) != Reading::File {
         return Err(Fail::new(file));
     }
     let words = words(alloc, file)?;
@@ -85,7 +85,7 @@ fn words_of_file(alloc: Global, grammar: &Grammar, file: &str) -> Result<usize, 
 
 #[test]
 fn unedited_files_are_files(rt: HostRuntime) -> Result<(), Fail> {
-    let grammar = tabled(rt.alloc())?;
+    let grammar = grammar_of_tables(rt.alloc())?;
     let mut edits = 0usize;
     for file in files::ALL {
         let number = words_of_file(rt.alloc(), &grammar, file)?;
@@ -127,7 +127,7 @@ fn have_each_form(grammar: &Grammar, charts: &[Chart<'_>]) -> bool {
 
 #[test]
 fn files_have_each_form(rt: HostRuntime) -> Result<(), Fail> {
-    let grammar = tabled(rt.alloc())?;
+    let grammar = grammar_of_tables(rt.alloc())?;
     let charts = charts(rt.alloc(), &grammar)?;
     if !have_each_form(&grammar, &charts) {
         return Err("no file has some form".into());

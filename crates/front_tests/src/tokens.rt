@@ -20,7 +20,7 @@ fn add(shown: &mut String, token: &Token) -> Result<(), Fail> {
 }
 
 /// What the text is read as: each token, or the refusal.
-fn shown(alloc: Global, text: &[u8]) -> Result<String, Fail> {
+fn text_of_tokens(alloc: Global, text: &[u8]) -> Result<String, Fail> {
     let mut shown = String::new(alloc);
     match lex(alloc, text) {
         Ok(tokens) => {
@@ -126,7 +126,7 @@ const WORDS: &[(&[u8], &str)] = &[
 
 /// Whether this is what the text is read as.
 fn is_read_so(alloc: Global, text: &[u8], expected: &str) -> Result<bool, Fail> {
-    let shown = shown(alloc, text)?;
+    let shown = text_of_tokens(alloc, text)?;
     Ok(shown.as_str() == expected)
 }
 

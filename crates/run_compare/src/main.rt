@@ -1,6 +1,6 @@
 //! Runs the programs of many cases by the plain evaluator and by the machine over a store, and compares how they end and how many rules they
 //! take. The cases stand on standard input, as `case` describes them. Prints how many runs were compared, with their rules and the
-//! machine's steps in all; where two runs differ, the number of the case is reported and the status is 1.
+//! machine's steps in all, and how many cases were refused; where two runs differ, the number of the case is reported and the status is 1.
 #![tactic(auto)]
 
 ghost use Rattle.prim_registry.specs.Entries.{IsHonest};
@@ -35,7 +35,7 @@ impl Totals {
         }
     }
 
-    /// Adds a case, and says whether both runs of it are the same.
+    /// Adds a case, and returns whether its runs do not differ; a refused case has none.
     fn add(&mut self, compared: &Compared) -> bool {
         match compared {
             Compared::Same { rules, steps } => {

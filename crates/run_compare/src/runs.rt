@@ -18,7 +18,7 @@ use strategy_lib::with_library;
 use term_model::{Fault, Term, TermSpace};
 use term_store::StoreSpace;
 
-/// The greatest budget of the evaluator, whose calls stand in one another.
+/// The greatest budget of the evaluator, whose calls nest.
 const MOST: u32 = 2_000;
 
 /// What two runs of a case say.

@@ -1,4 +1,4 @@
-//! What no clause says: outside vectors and whole runs.
+//! What no clause says: test vectors and whole runs.
 mod annotation_rows;
 mod bombs;
 mod complaints;

@@ -1,5 +1,5 @@
 //! Runs of the machine that go back, over a store that counts it; what is expected was worked out by hand.
-ghost use Rattle.std.specs.Prelude.{◌≡◌, All, map, IsTrue, IfOk, Some};
+ghost use Rattle.std.specs.Prelude.{All, map, IsTrue, IfOk};
 ghost use Rattle.term_model.specs.Term.{term};
 ghost use Rattle.term_model.specs.Space.{Keeps, Makes, MayHave, space_in};
 

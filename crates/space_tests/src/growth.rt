@@ -1,6 +1,6 @@
 //! Steps that make something new in a space, for runs in which memory is refused: `tools/growth` refuses each call for memory in turn. A step
 //! whose memory is refused is taken once more; after each step an older reference has its term. Each test passes with ample memory, too.
-ghost use Rattle.std.specs.Prelude.{◌≡◌, IsTrue};
+ghost use Rattle.std.specs.Prelude.{IsTrue};
 
 use crate::single_calls::code_of;
 use aterm_text::read_term;

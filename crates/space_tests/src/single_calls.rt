@@ -1,6 +1,5 @@
 //! A definition file through each call from its bytes to a run; what is expected was worked out by hand.
 ghost use Rattle.std.specs.Prelude.{◌≤◌, IsTrue};
-ghost use Rattle.prim_registry.specs.Entries.{IsHonest};
 
 use aterm_text::{read_term, write_term};
 use core_eval::eval;
@@ -24,7 +23,11 @@ use term_store::StoreSpace;
 pub(crate) const DEFINITIONS: &[u8] = b"strategies main = ?(x,_); !x";
 
 /// The definitions with the library, where these are the primitives.
-fn checked(alloc: Global, definitions: &[u8], primitives: &PrimNames) -> Result<Checked, Fault> {
+fn check_definitions(
+    alloc: Global,
+    definitions: &[u8],
+    primitives: &PrimNames,
+) -> Result<Checked, Fault> {
     let tokens = lex(alloc, definitions)?;
     let file = parse(alloc, definitions, &tokens)?;
     let file = with_library(alloc, file)?;
@@ -37,7 +40,7 @@ pub(crate) fn core_of(
     definitions: &[u8],
     primitives: &PrimNames,
 ) -> Result<Core, Fault> {
-    let checked = checked(alloc, definitions, primitives)?;
+    let checked = check_definitions(alloc, definitions, primitives)?;
     Ok(to_core(alloc, &checked)?)
 }
 

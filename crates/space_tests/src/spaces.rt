@@ -1,6 +1,6 @@
 //! Clients of any space, run over the space of terms themselves and over the store; what is expected was worked out by hand.
 ghost use Rattle.std.specs.Prelude.{◌≡◌, IfOk, IfSome, IsTrue, [], ◌∷◌};
-ghost use Rattle.term_model.specs.Term.{Tree, term};
+ghost use Rattle.term_model.specs.Term.{term};
 ghost use Rattle.term_model.specs.declared.term.Head.TheVariants as heads;
 
 use aterm_text::{read_term, write_term};
@@ -10,7 +10,7 @@ use std::test::Fail;
 use term_model::{Block, Front, Head, Made, Parts, RcSpace, Sym, Term, TermSpace, Top};
 use term_store::StoreSpace;
 
-/// Texts of terms with two parts, and what `changed` makes of each.
+/// Texts of terms with two parts, and what `change_term` makes of each.
 const CHANGED: &[(&[u8], &[u8])] = &[
     (b"[1,2]{7}", b"[2,1]{7} [1,2]{2,1} [2] "),
     (b"[F,F]{F}", b"[F,F]{F} [F,F]{F,F} [F] "),
@@ -35,7 +35,7 @@ const ROOTS: &[(&[u8], bool)] = &[(b"7{F}", false), (b"[F,F]", false), (b"F{7}",
 
 /// The list of the second integer and of the symbol over both, with the first integer as its annotation, after something
 /// else was made and given back.
-fn built<S: TermSpace>(
+fn build_list<S: TermSpace>(
     alloc: Global,
     space: &mut S,
     symbol: &Sym,
@@ -107,7 +107,11 @@ fn takes_apart<S: TermSpace>(
 
 /// Writes a term with its two parts the other way round, with these as its annotations, and the list after its first
 /// element.
-fn changed<S: TermSpace>(alloc: Global, space: &mut S, from: &Term) -> Result<Vec<u8>, AllocError> {
+fn change_term<S: TermSpace>(
+    alloc: Global,
+    space: &mut S,
+    from: &Term,
+) -> Result<Vec<u8>, AllocError> {
     let mut written = Vec::new(alloc);
     let at = space.enter(alloc, from)?;
     if space.count(&at) != 2 {
@@ -174,8 +178,8 @@ fn has_number<S: TermSpace>(alloc: Global, space: &mut S, from: &Term) -> Result
     Ok(space.root_number(&at).is_some())
 }
 
-/// The term that `built` makes, by the makers of terms.
-fn expected(alloc: Global, symbol: &Sym, left: i64, right: i64) -> Result<Term, Fail> {
+/// The term that `build_list` makes, by the makers of terms.
+fn expected_list(alloc: Global, symbol: &Sym, left: i64, right: i64) -> Result<Term, Fail> {
     let parts = vec![in alloc; Term::int(alloc, left)?, Term::int(alloc, right)?]?;
     let Made::Fits(pair) = Term::app(alloc, symbol.clone()?, parts)? else {
         return Err(Fail::new("oversize"));
@@ -213,11 +217,11 @@ fn makes<S: TermSpace>(
     right: i64,
 ) -> Result<bool, Fail> {
     let symbol = Sym::plain(alloc, name)?.ok_or("no name")?;
-    let Some(made) = built(alloc, space, &symbol, left, right)? else {
+    let Some(made) = build_list(alloc, space, &symbol, left, right)? else {
         return Ok(false);
     };
     let term = space.leave(alloc, &made)?;
-    Ok(term == expected(alloc, &symbol, left, right)?)
+    Ok(term == expected_list(alloc, &symbol, left, right)?)
 }
 
 /// Runs the client that makes terms over a space.
@@ -233,7 +237,7 @@ fn run_makers<S: TermSpace>(alloc: Global, space: &mut S) -> Result<(), Fail> {
 /// Changes terms over a space.
 fn run_changes<S: TermSpace>(alloc: Global, space: &mut S) -> Result<(), Fail> {
     for (text, wanted) in CHANGED {
-        let written = changed(alloc, space, &read_term(alloc, text)?)?;
+        let written = change_term(alloc, space, &read_term(alloc, text)?)?;
         if &written[..] != *wanted {
             return Err(Fail::new(text.escape_ascii()));
         }
@@ -387,7 +391,7 @@ const PAIRS: &[(&[u8], [usize; 3])] = &[
 ];
 
 #[test]
-fn shared(rt: HostRuntime) -> Result<(), Fail> {
+fn equal_parts_are_stored_once(rt: HostRuntime) -> Result<(), Fail> {
     for (index, (text, held)) in PAIRS.iter().enumerate() {
         if run_going_back(rt.alloc(), store(rt.alloc()), text)? != Some(*held) {
             return Err(Fail::new(index));

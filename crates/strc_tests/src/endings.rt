@@ -100,7 +100,7 @@ const REMARKS: &[(usize, usize, (&str, &str), &str)] = &[
 ];
 
 /// Returns the halves with so many lines and then blanks between them.
-fn spaced(
+fn input_of_halves(
     alloc: Global,
     lines: usize,
     blanks: usize,
@@ -122,7 +122,7 @@ fn is_remarked(
     halves: (&str, &str),
     report: &str,
 ) -> Result<bool, AllocError> {
-    let input = spaced(alloc, lines, blanks, halves)?;
+    let input = input_of_halves(alloc, lines, blanks, halves)?;
     let ran = run_on(alloc, "strc --explain", input.as_bytes(), None, None, None)?;
     Ok(ran.diagnostics.written() == report.as_bytes())
 }

@@ -176,7 +176,7 @@ fn text_of(alloc: Global, term: &Term) -> Result<Vec<u8>, AllocError> {
 }
 
 /// Returns what the program prints with these words for this term.
-fn printed(alloc: Global, line: &str, term: Vec<u8>) -> Result<Vec<u8>, AllocError> {
+fn output_of(alloc: Global, line: &str, term: Vec<u8>) -> Result<Vec<u8>, AllocError> {
     let mut input = Faulty::reader(term, 65536, None);
     let mut out = Counted::new(Vec::new(alloc));
     let mut diagnostics = Faulty::writer(alloc, 4096, 3, None, false)?;
@@ -187,8 +187,8 @@ fn printed(alloc: Global, line: &str, term: Vec<u8>) -> Result<Vec<u8>, AllocErr
 /// Whether the text that is laid out for the term is read as this term.
 fn reads_back(alloc: Global, term: &Term) -> Result<bool, AllocError> {
     let text = text_of(alloc, term)?;
-    let laid_out = printed(alloc, "strc --pretty id.str", text.clone()?)?;
-    let line = printed(alloc, "strc id.str", laid_out)?;
+    let laid_out = output_of(alloc, "strc --pretty id.str", text.clone()?)?;
+    let line = output_of(alloc, "strc id.str", laid_out)?;
     Ok(line.strip_suffix(b"\n") == Some(text.as_slice()))
 }
 

@@ -1,4 +1,4 @@
-//! Warnings, which `--explain` tells of definitions whose run has no result.
+//! The warnings that `--explain` adds, with and without a result.
 use crate::samples::{run_on, run_with};
 use std::alloc::{AllocError, Global};
 use std::test::Fail;

@@ -21,7 +21,7 @@ mod words;
 use crate::evaluator::annotated_builds::ANNOTATED_BUILDS;
 use crate::evaluator::annotated_matches::ANNOTATED_MATCHES;
 use crate::evaluator::call_rows::CALLS;
-use crate::evaluator::compiled::compiled;
+use crate::evaluator::compiled::core_of_row;
 use crate::evaluator::copied_patterns::{EVERY_FORM, OTHER_FORMS};
 use crate::evaluator::large_rows::{LARGE_ANNOTATIONS, LARGE_ARGUMENTS, LARGE_TERMS};
 use crate::evaluator::library_rows::LIBRARY;
@@ -29,7 +29,7 @@ use crate::evaluator::pattern_rows::PATTERNS;
 use crate::evaluator::primitive_rows::{ADD, PRIMITIVES};
 use crate::evaluator::range_rows::RANGES;
 use crate::evaluator::rows::{DEFINITIONS, ENDLESS, MAIN_IS, Row, STRATEGIES};
-use crate::evaluator::texts::spelled;
+use crate::evaluator::texts::text_of_term;
 use crate::evaluator::traversal_rows::TRAVERSALS;
 use crate::evaluator::tree_rows::{LARGE_TREES, TREES, TreeRow};
 use crate::evaluator::words::{Word, pattern, program};
@@ -134,8 +134,8 @@ fn is_met(
 ) -> Result<bool, Fault>
     requires { IsHonest ⟦<Standard as PrimMeaning>⟧.answer registry.now }
 {
-    let line = spelled(alloc, line)?;
-    let term = read_term(alloc, &spelled(alloc, term)?)?;
+    let line = text_of_term(alloc, line)?;
+    let term = read_term(alloc, &text_of_term(alloc, term)?)?;
     ends_by(alloc, core, &term, registry, &line, rules.min(2000))
 }
 
@@ -149,7 +149,7 @@ fn is_met_by_text(
     requires { IsHonest ⟦<Standard as PrimMeaning>⟧.answer registry.now }
 {
     let Row(text, term, line, rules) = row;
-    let core = compiled(alloc, front, text, registry)?;
+    let core = core_of_row(alloc, front, text, registry)?;
     is_met(alloc, &core, term, line, *rules, registry)
 }
 
@@ -233,7 +233,7 @@ fn is_refused_memory(
 ) -> Result<bool, Fault>
     requires { IsHonest ⟦<Standard as PrimMeaning>⟧.answer registry.now }
 {
-    let core = compiled(alloc, MAIN_IS, strategy, registry)?;
+    let core = core_of_row(alloc, MAIN_IS, strategy, registry)?;
     let term = read_term(alloc, b"(2,3)")?;
     let answer = run(alloc, &core, &term, 2000, registry);
     Ok(matches!(answer, Err(Fault::Memory)))
@@ -260,7 +260,7 @@ fn uses_up(alloc: Global, definitions: &str, budget: u32) -> Result<bool, Fault>
     requires { budget ≤ 2_000 }
 {
     let registry = Registry::<Standard>::new(alloc);
-    let core = compiled(alloc, DEFINITIONS, definitions, &registry)?;
+    let core = core_of_row(alloc, DEFINITIONS, definitions, &registry)?;
     is_spent(alloc, &core, &Term::int(alloc, 1)?, budget, &registry)
 }
 

@@ -36,7 +36,7 @@ impl Entry {
     }
 
     /// The entry one part further.
-    fn advanced(self) -> Entry {
+    fn next_entry(self) -> Entry {
         Entry {
             part: self.part.saturating_add(1),
             ..self
@@ -80,7 +80,7 @@ impl<'a> Chart<'a> {
         };
         for (form, symbols) in forms.iter().enumerate() {
             if symbols.is_empty() {
-                add(entries, entry.advanced())?;
+                add(entries, entry.next_entry())?;
             } else if can_begin(symbols, word) {
                 add(entries, Entry::new(phrase, form, self.places.len()))?;
             }
@@ -95,7 +95,7 @@ impl<'a> Chart<'a> {
         };
         for entry in waiting {
             if self.next(*entry) == Some(Symbol::Phrase(whole.phrase)) {
-                add(entries, entry.advanced())?;
+                add(entries, entry.next_entry())?;
             }
         }
         Ok(())
@@ -112,7 +112,7 @@ impl<'a> Chart<'a> {
             None => self.complete(entries, entry),
             Some(Symbol::Phrase(phrase)) => self.predict(entries, entry, phrase, word),
             Some(Symbol::NoBuild) if !word.is_some_and(begins_build) => {
-                add(entries, entry.advanced())
+                add(entries, entry.next_entry())
             }
             Some(_) => Ok(()),
         }
@@ -139,7 +139,7 @@ impl<'a> Chart<'a> {
         };
         for entry in last {
             if self.next(*entry).is_some_and(|symbol| symbol.is_for(word)) {
-                add(&mut entries, entry.advanced())?;
+                add(&mut entries, entry.next_entry())?;
             }
         }
         Ok(entries)

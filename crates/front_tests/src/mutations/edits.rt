@@ -37,7 +37,7 @@ fn put<'a>(
 }
 
 /// The words with this edit of the word of this number.
-pub(crate) fn edited<'a>(
+pub(crate) fn words_with<'a>(
     alloc: Global,
     words: &[Word<'a>],
     edit: Edit,

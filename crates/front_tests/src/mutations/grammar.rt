@@ -245,7 +245,7 @@ fn phrases(alloc: Global, names: &[&'static str]) -> Result<Vec<Vec<Vec<Symbol>>
 }
 
 /// The grammar of the tables.
-pub(crate) fn tabled(alloc: Global) -> Result<Grammar, AllocError> {
+pub(crate) fn grammar_of_tables(alloc: Global) -> Result<Grammar, AllocError> {
     let names = names(alloc)?;
     let phrases = phrases(alloc, &names)?;
     Ok(Grammar { phrases })

@@ -1,5 +1,5 @@
 //! Files that are nested to the greatest level and one level beyond it, by each form in which a part can stand.
-use super::readings::{Reading, parsed};
+use super::readings::{Reading, reading_of};
 use std::alloc::{AllocError, Global};
 use std::test::Fail;
 
@@ -165,7 +165,7 @@ impl Nesting {
     /// Fails with its text where the file with this part is not read so.
     fn expect(self, alloc: Global, part: &str, expected: Reading) -> Result<(), Fail> {
         let text = self.file(alloc, part)?;
-        if parsed(alloc, text.as_bytes()) != expected {
+        if reading_of(alloc, text.as_bytes()) != expected {
             return Err(Fail::new(text));
         }
         Ok(())

@@ -1,6 +1,6 @@
 //! Texts put at each place between two tokens of valid files, and at both ends.
 use super::files;
-use super::readings::{Reading, parsed, text};
+use super::readings::{Reading, reading_of, text};
 use super::words::{Word, words};
 use std::alloc::{AllocError, Global};
 use std::test::Fail;
@@ -31,7 +31,7 @@ const FAULTS: &[(&[u8], u64)] = &[
 const ENDS: &[(&[u8], u64)] = &[(b"/* *", 0), (b"\"a", 0), (b"\"a\\\"", 0), (b"x-1 /", 4)];
 
 /// The words of this front, this text, and then the words of this back.
-fn joined(alloc: Global, front: &str, put: &[u8], back: &str) -> Result<Vec<u8>, AllocError> {
+fn text_with(alloc: Global, front: &str, put: &[u8], back: &str) -> Result<Vec<u8>, AllocError> {
     let mut joined = front.as_bytes().to_vec(alloc)?;
     joined.extend_from_slice(put)?;
     joined.extend_from_slice(b" ")?;
@@ -47,8 +47,8 @@ fn expect(
     back: &str,
     expected: Reading,
 ) -> Result<(), Fail> {
-    let joined = joined(alloc, front, put, back)?;
-    if parsed(alloc, &joined) != expected {
+    let joined = text_with(alloc, front, put, back)?;
+    if reading_of(alloc, &joined) != expected {
         return Err(Fail::new(front));
     }
     Ok(())

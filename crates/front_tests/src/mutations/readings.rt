@@ -29,7 +29,7 @@ fn refusal(fault: Fault) -> Reading {
 }
 
 /// What `lex` and `parse` read the text as.
-pub(crate) fn parsed(alloc: Global, text: &[u8]) -> Reading {
+pub(crate) fn reading_of(alloc: Global, text: &[u8]) -> Reading {
     let tokens = match lex(alloc, text) {
         Ok(tokens) => tokens,
         Err(fault) => return refusal(fault),
@@ -38,6 +38,17 @@ pub(crate) fn parsed(alloc: Global, text: &[u8]) -> Reading {
         Ok(_) => Reading::File,
         Err(fault) => refusal(fault),
     }
+}
+
+/// What they read the text of these pieces as.
+pub(crate) fn reading_of_pieces(
+    alloc: Global,
+    front: &str,
+    back: &str,
+) -> Result<Reading, AllocError> {
+    let mut text = String::from_str(alloc, front)?;
+    text.push_str(back)?;
+    Ok(reading_of(alloc, text.as_bytes()))
 }
 
 /// The words, with a blank after each.

@@ -1,7 +1,7 @@
 //! Files of one token, and every two tokens in some places of a file, against the second reading.
 use super::compare;
-use super::grammar::{Grammar, tabled};
-use super::readings::{Reading, parsed};
+use super::grammar::{Grammar, grammar_of_tables};
+use super::readings::{Reading, reading_of};
 use super::words::{Word, words};
 use std::alloc::Global;
 use std::test::Fail;
@@ -39,12 +39,12 @@ fn reading_of_one(token: &str) -> Reading {
 #[test]
 fn files_of_one_token(rt: HostRuntime) -> Result<(), Fail> {
     for token in TOKENS.split_whitespace() {
-        if parsed(rt.alloc(), token.as_bytes()) != reading_of_one(token) {
+        if reading_of(rt.alloc(), token.as_bytes()) != reading_of_one(token) {
             return Err(Fail::new(token));
         }
     }
     for word in LEFT_OUT.split_whitespace() {
-        if parsed(rt.alloc(), word.as_bytes()) != Reading::ReservedWord(0) {
+        if reading_of(rt.alloc(), word.as_bytes()) != Reading::ReservedWord(0) {
             return Err(Fail::new(word));
         }
     }
@@ -80,7 +80,7 @@ fn compare_pairs<'a>(
 
 #[test]
 fn any_two_tokens(rt: HostRuntime) -> Result<(), Fail> {
-    let grammar = tabled(rt.alloc())?;
+    let grammar = grammar_of_tables(rt.alloc())?;
     let tokens = words(rt.alloc(), TOKENS)?;
     for front in FRONTS {
         compare_pairs(rt.alloc(), &grammar, front, &tokens)?;

@@ -1,7 +1,7 @@
 //! A short program whose line is long: a term that is shared in memory is written in full.
 ghost use Rattle.std.specs.Prelude.{◌≤◌};
 
-use crate::transform::memory::{Answer, transformed};
+use crate::transform::memory::{Answer, transform_texts};
 use crate::transform::pipeline::{plain_options, text_of};
 use crate::transform::rows::Pieces;
 use prim_registry::{Registry, Standard};
@@ -26,7 +26,7 @@ const RULES: u32 = 132;
 const LENGTH: usize = 20_971_517;
 
 /// The text of an application to two parts that both have this text.
-fn doubled(alloc: Global, text: &[u8]) -> Result<Vec<u8>, AllocError> {
+fn pair_of(alloc: Global, text: &[u8]) -> Result<Vec<u8>, AllocError> {
     let mut whole = b"F(".to_vec(alloc)?;
     whole.extend_from_slice(text)?;
     whole.push(b',')?;
@@ -39,7 +39,7 @@ fn doubled(alloc: Global, text: &[u8]) -> Result<Vec<u8>, AllocError> {
 fn line_of_all(alloc: Global) -> Result<Vec<u8>, AllocError> {
     let mut text = b"1".to_vec(alloc)?;
     for _ in 0..TIMES {
-        text = doubled(alloc, &text)?;
+        text = pair_of(alloc, &text)?;
     }
     text.push(b'\n')?;
     Ok(text)
@@ -52,7 +52,7 @@ fn run_within(alloc: Global, budget: u32) -> Result<Answer, Fault>
     let options = plain_options(alloc, budget)?;
     let registry = Registry::<Standard>::new(alloc);
     let definitions = text_of(alloc, DOUBLINGS)?;
-    transformed(alloc, &definitions, b"1", &options, &registry)
+    transform_texts(alloc, &definitions, b"1", &options, &registry)
 }
 
 #[test]

@@ -110,10 +110,10 @@ fn a_term_without_an_end(rt: HostRuntime) -> Result<(), Fail> {
 /// The front of a text in the joined form, and the first call that fails. The text after the front is blanks.
 type JoinedCase = (&'static str, u64, Ending);
 
-/// The definitions take at most 16 calls more than their limit, for the line `#term`, and one to see that they are longer.
+/// At most 7 calls more than the limit of the definitions are made for them and the line `#term`.
 const JOINED: &[JoinedCase] = &[
     ("", 1_048_577, None),
-    ("", 1_048_594, Some(b"#refused DefsTooLong\n")),
+    ("", 1_048_584, Some(b"#refused DefsTooLong\n")),
     ("strategies main = id\n#term\n", 16_777_244, None),
     (
         "strategies main = id\n#term\n",

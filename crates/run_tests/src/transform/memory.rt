@@ -22,19 +22,19 @@ pub(crate) struct Answer {
 /// Transforms texts in memory: the line and the status are those of the definitions, the term, the
 /// options and the primitives of the registry.
 #[tactic(auto, using(str_pipeline::proofs::MemoryLaws::written_whole))]
-pub(crate) fn transformed<M: PrimMeaning>(
+pub(crate) fn transform_texts<M: PrimMeaning>(
     alloc: Global,
-    defs: &[u8],
+    definitions: &[u8],
     term: &[u8],
     options: &Options,
     registry: &Registry<M>,
 ) -> Result<Answer, Fault>
     requires budget { options.now.budget ≤ max_budget }
     requires honest { IsHonest M.answer registry.now }
-    ensures { IfOk result (λ answer. IsWritten defs.now term.now
+    ensures { IfOk result (λ answer. IsWritten definitions.now term.now
         (setting_of M.answer registry.now options.now) answer.status answer.line.items) }
 {
-    let mut first = Counted::new(defs);
+    let mut first = Counted::new(definitions);
     let mut second = Counted::new(term);
     let mut out = Counted::new(Vec::new(alloc));
     let status = transform(alloc, &mut first, &mut second, options, registry, &mut out)?;
@@ -76,7 +76,7 @@ fn gives(alloc: Global, defs: &str, term: &str, budget: u32, line: &str) -> Resu
 {
     let options = plain_options(alloc, budget)?;
     let registry = Registry::<Standard>::new(alloc);
-    let answer = transformed(alloc, defs.as_bytes(), term.as_bytes(), &options, &registry)?;
+    let answer = transform_texts(alloc, defs.as_bytes(), term.as_bytes(), &options, &registry)?;
     let is_term = matches!(answer.status, Status::Rewritten);
     Ok(answer.line.as_slice() == line.as_bytes() && is_term != line.starts_with("#"))
 }

@@ -26,7 +26,7 @@ pub(crate) const PIECE: usize = 65_536;
 /// Room for the longest line.
 pub(crate) const ROOM: usize = 32_768;
 
-/// The pieces, one after the other.
+/// The pieces one after another, each repeated its number of times.
 pub(crate) fn text_of(alloc: Global, pieces: &[(&str, usize)]) -> Result<Vec<u8>, AllocError> {
     let mut text = Vec::new(alloc);
     for (piece, times) in pieces {

@@ -11,7 +11,7 @@ use strategy_lib::with_library;
 use term_model::Fault;
 
 /// The core program of the definitions of a row, which come after this front. They may call the library, and the primitives of the registry.
-pub(crate) fn compiled(
+pub(crate) fn core_of_row(
     alloc: Global,
     front: &str,
     text: &str,

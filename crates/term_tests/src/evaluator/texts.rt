@@ -21,7 +21,7 @@ pub(crate) fn file_of(alloc: Global, front: &str, text: &str) -> Result<Vec<u8>,
 }
 
 /// The text of a term, with the strings for which its words stand, which are all the same.
-pub(crate) fn spelled(alloc: Global, text: &str) -> Result<Vec<u8>, AllocError> {
+pub(crate) fn text_of_term(alloc: Global, text: &str) -> Result<Vec<u8>, AllocError> {
     for (word, letters) in LONG_STRINGS {
         if text.contains(*word) {
             return with_strings(alloc, text, word, *letters);

@@ -196,10 +196,10 @@ impl Workbench {
         Ok(())
     }
 
-    fn define(&mut self, strats: usize, terms: usize) -> Result<(), Fail> {
+    fn define(&mut self, strategies: usize, terms: usize) -> Result<(), Fail> {
         let body = last(&mut self.strategies)?;
         self.definitions.push(CoreDef {
-            strats,
+            strats: strategies,
             terms,
             body,
         })?;
@@ -215,7 +215,7 @@ impl Workbench {
     }
 }
 
-fn built(alloc: Global, words: &[Word]) -> Result<Workbench, Fail> {
+fn workbench_of(alloc: Global, words: &[Word]) -> Result<Workbench, Fail> {
     let mut bench = Workbench {
         alloc,
         patterns: Vec::new(alloc),
@@ -230,13 +230,13 @@ fn built(alloc: Global, words: &[Word]) -> Result<Workbench, Fail> {
 
 /// The pattern of these words.
 pub(crate) fn pattern(alloc: Global, words: &[Word]) -> Result<Box<CorePattern>, Fail> {
-    let mut bench = built(alloc, words)?;
+    let mut bench = workbench_of(alloc, words)?;
     Ok(Box::new(alloc, last(&mut bench.patterns)?)?)
 }
 
 /// The definitions of a program: main, whose body is the strategy that is left, and those that are left.
 pub(crate) fn program(alloc: Global, words: &[Word]) -> Result<Vec<CoreDef>, Fail> {
-    let mut bench = built(alloc, words)?;
+    let mut bench = workbench_of(alloc, words)?;
     bench.define(0, 0)?;
     let mut definitions = last_of(&mut bench.definitions, 1)?;
     definitions.append(&mut bench.definitions)?;
