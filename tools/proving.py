@@ -96,7 +96,7 @@ class Trees:
         # The sources as they are now, whatever is edited meanwhile.
         shutil.rmtree(top / "sources", ignore_errors=True)
         for name in self.order:
-            shutil.copytree(ROOT / "crates" / name, top / "sources" / name, ignore=shutil.ignore_patterns("out", "must-fail"))
+            shutil.copytree(ROOT / "crates" / name, top / "sources" / name, ignore=shutil.ignore_patterns("out", "must-fail", "edits", "rows"))
 
     def folder(self, crate):
         return self.top / crate / "crates" / crate
