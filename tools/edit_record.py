@@ -1,5 +1,6 @@
 """The record of the crates whose must-fail edits were all refused: for tools/edits."""
 
+import fcntl
 import hashlib
 import re
 from pathlib import Path
@@ -55,12 +56,16 @@ def sum_of(crate, folder, kit_name):
     return total.hexdigest()[:32]
 
 
+def rows_of(text):
+    """The crates of a record and their sums."""
+    return dict(row.split(maxsplit=1) for row in text.splitlines() if " " in row and not row.startswith("#"))
+
+
 class Record:
     """The sums of the record and those of the crates as they are."""
 
     def __init__(self, crates, folder, kit_name):
-        rows = FILE.read_text(encoding="utf-8").splitlines() if FILE.is_file() else []
-        self.recorded = dict(row.split(maxsplit=1) for row in rows if " " in row and not row.startswith("#"))
+        self.recorded = rows_of(FILE.read_text(encoding="utf-8")) if FILE.is_file() else {}
         self.sums = {name: sum_of(it, folder, kit_name) for name, it in crates.items()}
 
     def has(self, name):
@@ -68,7 +73,10 @@ class Record:
         return self.recorded.get(name) == self.sums[name]
 
     def add(self, name):
-        """Writes the crate, as it was when the record was made, into the file."""
-        self.recorded[name] = self.sums[name]
-        rows = [f"{it} {self.recorded[it]}\n" for it in sorted(self.sums) if it in self.recorded]
-        FILE.write_text(TITLE + "".join(rows), encoding="utf-8")
+        """Writes a crate, as it was when the sums were made, into the file, which other processes may write at the same time."""
+        with open(FILE, "a+", encoding="utf-8") as file:
+            fcntl.flock(file, fcntl.LOCK_EX)
+            file.seek(0)
+            found = {**rows_of(file.read()), name: self.sums[name]}
+            file.truncate(0)
+            file.write(TITLE + "".join(f"{it} {found[it]}\n" for it in sorted(found) if it in self.sums))
