@@ -17,40 +17,10 @@ type Row = (
 
 const ROWS: &[Row] = &[
     (
-        "strc none.str",
-        None,
-        None,
-        "strc: Read\nnone.str: no such file or directory\n",
-    ),
-    (
-        "strc id.str none.trm",
-        None,
-        None,
-        "strc: Read\nnone.trm: no such file or directory\n",
-    ),
-    (
-        "strc a|b",
-        None,
-        None,
-        "strc: Read\na|b: permission denied\n",
-    ),
-    (
         "strc id.str a:b",
         None,
         None,
         "strc: Read\na:b: cannot be opened\n",
-    ),
-    (
-        "strc folder/",
-        None,
-        None,
-        "strc: Read\nfolder/: is a directory\n",
-    ),
-    (
-        "strc id.str folder/",
-        None,
-        None,
-        "strc: Read\nfolder/: is a directory\n",
     ),
     (
         "strc id.str",

@@ -8,48 +8,19 @@ use strc_command::{Paths, run_standard};
 use term_model::Fault;
 
 /// The files: path and text.
-const FILES: [(&str, &str); 22] = [
+const FILES: [(&str, &str); 8] = [
     ("id.str", "strategies main = id"),
     ("first.str", "strategies main = ?(x,_); !x go = id"),
-    (
-        "signed.str",
-        "signature constructors F : T -> T strategies main = ?F(x); !x",
-    ),
     ("sum.str", "strategies main = ?(x, y); prim(\"add\", x, y)"),
-    (
-        "lists.str",
-        "strategies up = map(\\ x -> <prim(\"add\", x, 1)> \\) main = try(up)",
-    ),
     ("bad.str", "strategies main = foo"),
     ("loop.str", "strategies main = rec x(x)"),
-    ("pair.trm", "(7,f(1))"),
-    ("bad.trm", "F(1"),
-    ("joined.str", "strategies main = id\n#term\n1"),
-    (
-        "lib.str",
-        "strategies\n  inc = ?x; prim(\"add\", x, 1)\n  spare = inc\n",
-    ),
-    ("more.str", "strategies twice = inc; inc"),
     ("use.str", "strategies\n  main = twice"),
-    ("wrong.str", "strategies\n  twice = inc;; inc\n"),
-    ("line.str", "rules\n#term\n"),
-    ("empty.str", ""),
-    ("extra.str", "strategies\n  main = inc\n  extra = inc"),
-    ("always.str", "rules\n\n  twice : x -> (x, x)\n"),
-    (
-        "late.str",
-        "rules\n  twice : 3 -> 4\nstrategies main = twice",
-    ),
-    ("open.str", "strategies\n  twice = (id\n"),
-    ("guard.str", "strategies\n  twice = ?1; !y"),
+    ("pair.trm", "(7,f(1))"),
     (
         "home/share/strc/prelude.str",
         "strategies twice = ?x; !(x, x)",
     ),
 ];
-
-/// A path that begins so is one of a file with this number of blanks.
-const BLANKS: (&str, usize) = ("blank", 524_288);
 
 /// A device in memory that knows why its calls fail.
 #[derive(Drop)]
@@ -111,7 +82,7 @@ impl Sink for Device {
 }
 
 /// Opens the files. A path that ends with a slash is one of a folder, which can be opened and not read; one with a colon cannot be opened,
-/// for a reason without a name, and one with a bar may not be.
+/// for a reason without a name.
 #[derive(Drop)]
 pub(crate) struct Shelf {
     pub(crate) alloc: Global,
@@ -135,9 +106,6 @@ fn refusal_of(path: &str) -> ErrorKind {
     if path.contains(':') {
         return ErrorKind::Uncategorized;
     }
-    if path.contains('|') {
-        return ErrorKind::PermissionDenied;
-    }
     ErrorKind::NotFound
 }
 
@@ -156,10 +124,6 @@ impl Paths for Shelf {
                 let memory = Faulty::reader(text.as_bytes().to_vec(self.alloc)?, 5, None);
                 return Ok(Device::new(memory, ErrorKind::Other));
             }
-        }
-        if path.starts_with(BLANKS.0) {
-            let memory = Faulty::reader(Vec::from_elem(self.alloc, b' ', BLANKS.1)?, 16_384, None);
-            return Ok(Device::new(memory, ErrorKind::Other));
         }
         self.failure = Some(refusal_of(path));
         Err(Fault::Read)
@@ -207,22 +171,7 @@ pub(crate) fn run_on(
     requires write { IfSome bad_write (λ n. 1 ≤ n) }
     requires diagnostic { IfSome bad_diagnostic (λ n. 1 ≤ n) }
 {
-    let input = Faulty::reader(input.to_vec(alloc)?, 5, bad_read);
-    run_over(alloc, line, input, bad_write, bad_diagnostic)
-}
-
-/// The same, over this reader.
-pub(crate) fn run_over(
-    alloc: Global,
-    line: &str,
-    input: Faulty,
-    bad_write: Option<u64>,
-    bad_diagnostic: Option<u64>,
-) -> Result<Ran, AllocError>
-    requires write { IfSome bad_write (λ n. 1 ≤ n) }
-    requires diagnostic { IfSome bad_diagnostic (λ n. 1 ≤ n) }
-{
-    let mut input = input;
+    let mut input = Faulty::reader(input.to_vec(alloc)?, 5, bad_read);
     let mut out = Faulty::writer(alloc, 4096, 3, bad_write, false)?;
     let mut diagnostics = Faulty::writer(alloc, 4096, 3, bad_diagnostic, false)?;
     let status = run_with(alloc, line, &mut input, &mut out, &mut diagnostics)?;
@@ -244,23 +193,6 @@ pub(crate) fn run_with<I: Source, W: Sink>(
     let words = Ok(words_of(alloc, line)?);
     let mut paths = Shelf::new(alloc);
     Ok(run_standard(alloc, &words, &mut paths, input, out, diagnostics))
-}
-
-/// Runs the program with these words and this standard input, and returns whether its report begins so.
-pub(crate) fn reports(
-    alloc: Global,
-    line: &str,
-    input: &str,
-    report: &str,
-) -> Result<bool, AllocError> {
-    let ran = run_on(alloc, line, input.as_bytes(), None, None, None)?;
-    Ok(ran.diagnostics.written().starts_with(report.as_bytes()))
-}
-
-/// Runs the program in the joined form on this input, and returns whether it is refused with this report.
-pub(crate) fn is_refused(alloc: Global, input: &[u8], report: &str) -> Result<bool, AllocError> {
-    let ran = run_on(alloc, "strc", input, None, None, None)?;
-    Ok(ran.status == 2 && ran.diagnostics.written() == report.as_bytes())
 }
 
 /// Returns the first bad call of a row. Calls are counted from 1 on.
