@@ -131,6 +131,7 @@ REFUSED = [
     ("== strc\n-- input\n\n== strc\n", 2, "no text"),
     ("== strc\n-- input\na\n\tb\n", 4, "quoted"),
     ('== strc\n-- input, quoted\n"a"\nb\n', 4, "quoted piece"),
+    ('== strc\n-- input, quoted: "\\q"\n', 2, "quoted piece"),
     ("== strc 'a\n", 1, "no words"),
     ("== other\n", 1, "begins with strc"),
     ("== strc | cat\n", 1, "begins with strc"),
@@ -148,8 +149,7 @@ class Rows(unittest.TestCase):
     def run_rows(self, text, *words):
         """The status, and what is printed, where the file has this text."""
         self.file.write_text(text, encoding="utf-8")
-        printed = io.StringIO()
-        with contextlib.redirect_stdout(printed):
+        with contextlib.redirect_stdout(io.StringIO()) as printed:
             status = rows.main([*words, str(self.program), str(self.file)])
         return status, printed.getvalue()
 
@@ -186,6 +186,12 @@ class Rows(unittest.TestCase):
                 self.assertTrue(printed.endswith("0 passed, 1 failed\n"), printed)
                 self.assertEqual(self.file.read_text(encoding="utf-8"), text)
 
+    def test_a_file_of_other_bytes(self):
+        self.file.write_bytes(b"== strc\n-- input: \xff\n")
+        with contextlib.redirect_stdout(io.StringIO()) as printed:
+            self.assertEqual(rows.main([str(self.program), str(self.file)]), 1)
+        self.assertEqual(printed.getvalue(), f"{self.file}:2: this is no UTF-8 text\n0 passed, 1 failed\n")
+
     def test_runs_that_do_not_end(self):
         self.addCleanup(setattr, rows, "SECONDS", rows.SECONDS)
         rows.SECONDS = 0.2
@@ -211,8 +217,7 @@ class Rows(unittest.TestCase):
         rows.FOLDER = self.folder / "none"
         self.program.write_text(PROGRAM, encoding="utf-8")
         for words in [str(self.program)], [str(self.program), str(self.folder / "none.rows")]:
-            printed = io.StringIO()
-            with contextlib.redirect_stdout(printed):
+            with contextlib.redirect_stdout(io.StringIO()) as printed:
                 self.assertEqual(rows.main(words), 1)
             self.assertTrue(printed.getvalue().endswith("0 passed, 1 failed\n"))
 
