@@ -121,7 +121,6 @@ type Answer = (&'static str, &'static str, u8, &'static str);
 
 /// Runs that report something, or would with other terms.
 const ANSWERS: &[Answer] = &[
-    ("strc", "#\n#term\n1", 2, "#refused Lexical\n"),
     ("strc --explain", "strategies main = id\n#term\n7", 0, "7\n"),
     (
         "strc --explain",
@@ -161,12 +160,30 @@ fn ends_silently(alloc: Global, row: &Answer, bad: u64) -> Result<bool, AllocErr
 }
 
 #[test]
-fn a_failing_report_changes_nothing(rt: HostRuntime) -> Result<(), Fail> {
+fn answers_without_a_report(rt: HostRuntime) -> Result<(), Fail> {
     for row in ANSWERS {
-        for bad in [1, 2, 3, 4, 20, 30] {
+        for bad in [1, 2, 20, 30] {
             if !ends_silently(rt.alloc(), row, bad)? {
                 return Err(Fail::from((row.0, row.1)));
             }
+        }
+    }
+    Ok(())
+}
+
+/// Whether a refusal stays the same where this write of its report fails.
+fn is_refused_silently(alloc: Global, bad: u64) -> Result<bool, AllocError>
+    requires { 1 ≤ bad }
+{
+    let ran = run_on(alloc, "strc", b"#\n#term\n1", None, None, Some(bad))?;
+    Ok(ran.status == 2 && ran.out.written() == b"#refused Lexical\n".as_slice())
+}
+
+#[test]
+fn a_failing_diagnostic_changes_nothing(rt: HostRuntime) -> Result<(), Fail> {
+    for bad in 1..5u64 {
+        if !is_refused_silently(rt.alloc(), bad)? {
+            return Err(Fail::new(bad));
         }
     }
     Ok(())
