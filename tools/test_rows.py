@@ -194,15 +194,14 @@ class Rows(unittest.TestCase):
 
     def test_runs_that_do_not_end(self):
         self.addCleanup(setattr, rows, "SECONDS", rows.SECONDS)
-        rows.SECONDS = 0.2
-        text = "== strc wait\n\n== strc die\n"
-        for words in [], ["--update"]:
-            status, printed = self.run_rows(text, *words)
-            self.assertEqual(status, 1)
-            self.assertIn(f"{self.file}:1: strc wait\n  did not end", printed)
-            self.assertIn(f"{self.file}:3: strc die\n  was ended by signal 9", printed)
-            self.assertTrue(printed.endswith("0 passed, 2 failed\n"), printed)
-            self.assertEqual(self.file.read_text(encoding="utf-8"), text)
+        for text, why in ("# 1\n== strc die\n", "die\n  was ended by signal 9"), ("# 1\n== strc wait\n", "wait\n  did not end within 0.2 seconds"):
+            for words in [], ["--update"]:
+                status, printed = self.run_rows(text, *words)
+                self.assertEqual(status, 1)
+                self.assertIn(f"{self.file}:2: strc {why}", printed)
+                self.assertTrue(printed.endswith("0 passed, 1 failed\n"), printed)
+                self.assertEqual(self.file.read_text(encoding="utf-8"), text)
+            rows.SECONDS = 0.2
 
     def test_locked_files(self):
         text = "file a, locked: b\n== strc read a\n-- status: 4\n-- report, ends: cat: a: Permission denied\n"
