@@ -9,4 +9,4 @@ def report(name, items):
     total = "total: %d" % (len(items),)  # {:d} takes no float
     note = "%s" % name  # name may be a tuple
     paths = "%s in %s" % ("\n".join(lines), name)  # no backslash in an f-string before 3.12
-    return f'{head}\n{total}', note, paths
+    return f"{head}\n{total}", note, paths
