@@ -9,8 +9,9 @@ CYCLE = re.compile(r"#\[cycle\((\w+)\)\]")
 WORD = re.compile(r"(?<!')\b[A-Za-z_][\w:]*")
 LINE = re.compile(r"^fn (\S+): (.*)$", re.M)
 UNPROVED = ("no proof", "not proved")
-# What is said of an answer that names what an edit took away: that shows nothing of a contract.
+# What is said of an answer that names what an edit took away: that shows little of a contract.
 GONE = re.compile(r"has no field|is not in scope|has no `|was not admitted")
+GONE_NOTE = "only because an answer names what the edit took away, so change a value and keep the names: "
 
 
 def lines_of(said):
@@ -85,11 +86,16 @@ class Place:
         goals = [goal for part in re.findall(r"`search` did not prove ([^;]*)", own) for goal in re.findall(r"`([^`]+)`", part)]
         folder = rf"(?:\S+/)?\+{self.cycle}" if self.cycle else re.escape("/".join(names[0].split("::")[1:]))
         errors = re.findall(rf"^(?:\./)?proofs/{folder}/\w+\.antt:\d+:\d+: error: (.*)", said, re.M)
-        errors = [it for it in errors if not GONE.search(it)]
         if not self.cycle:
-            return goals + errors
+            return self.told(goals + errors)
         notes = re.findall(rf"^note: {re.escape(self.file)}:\d+:\d+: it is not proved that [^`]*\(`([^`]+)`\)", said, re.M)
-        return [it for it in [*goals, *notes, *errors] if self.is_named(it, names[0])]
+        return self.told([it for it in [*goals, *notes, *errors] if self.is_named(it, names[0])])
+
+    @staticmethod
+    def told(reasons):
+        """The reasons, those that show something of a contract first; where there are none, with a note."""
+        telling = [it for it in reasons if not GONE.search(it)]
+        return telling or [GONE_NOTE + it for it in reasons]
 
     @staticmethod
     def is_named(reason, name):
