@@ -4,8 +4,8 @@ ghost use Rattle.term_model.specs.Term.{term};
 ghost use Rattle.term_model.specs.declared.term.Head.TheVariants as heads;
 
 use aterm_text::{read_term, write_term};
+use keyed_hash::HashKeys;
 use std::alloc::{AllocError, Global};
-use std::hash::BuildHasherDefault;
 use std::test::Fail;
 use term_model::{Block, Front, Head, Made, Parts, RcSpace, Sym, Term, TermSpace, Top};
 use term_store::StoreSpace;
@@ -205,7 +205,7 @@ fn numbers(alloc: Global, count: i64) -> Result<Term, Fail> {
 }
 
 fn store(alloc: Global) -> StoreSpace {
-    StoreSpace::new(alloc, BuildHasherDefault::new())
+    StoreSpace::new(alloc, HashKeys::known())
 }
 
 /// Whether the client that makes terms makes the one that is expected.

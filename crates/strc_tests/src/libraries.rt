@@ -1,6 +1,7 @@
 //! Definitions that come from several files.
 
 use crate::samples::{Ran, Shelf, run_on, words_of};
+use keyed_hash::HashKeys;
 use std::alloc::{AllocError, Global};
 use std::test::Fail;
 use str_pipeline::Faulty;
@@ -329,6 +330,7 @@ fn is_reported(
     let mut diagnostics = Faulty::writer(alloc, 200, 3, None, false)?;
     let status = run_standard(
         alloc,
+        HashKeys::known(),
         &words,
         &mut paths,
         &mut input,
