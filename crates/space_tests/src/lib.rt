@@ -8,6 +8,10 @@ mod accounts;
 #[cfg(test)]
 mod bare_terms;
 #[cfg(test)]
+mod building;
+#[cfg(test)]
+mod changing;
+#[cfg(test)]
 mod compiled;
 #[cfg(test)]
 mod declared;
@@ -23,5 +27,7 @@ mod selecting;
 mod single_calls;
 #[cfg(test)]
 mod spaces;
+#[cfg(test)]
+mod taking_apart;
 #[cfg(test)]
 mod texts;

@@ -1,158 +1,16 @@
 //! Clients of any space, run over the space of terms themselves and over the store; what is expected was worked out by hand.
-ghost use Rattle.std.specs.Prelude.{◌≡◌, IfOk, IfSome, IsTrue, [], ◌∷◌};
-ghost use Rattle.term_model.specs.Term.{term};
-ghost use Rattle.term_model.specs.declared.term.Head.TheVariants as heads;
-
-use aterm_text::{read_term, write_term};
+use crate::building::run_makers;
+use crate::changing::run_changes;
+use crate::taking_apart::{run_takers, takes_apart};
+use aterm_text::read_term;
 use std::alloc::{AllocError, Global};
 use std::hash::BuildHasherDefault;
 use std::test::Fail;
-use term_model::{Block, Front, Head, Made, Parts, RcSpace, Sym, Term, TermSpace, Top};
+use term_model::{Block, Front, Head, Made, Parts, RcSpace, Sym, Term, TermSpace};
 use term_store::StoreSpace;
-
-/// Texts of terms with two parts, and what `change_term` makes of each.
-const CHANGED: &[(&[u8], &[u8])] = &[
-    (b"[1,2]{7}", b"[2,1]{7} [1,2]{2,1} [2] "),
-    (b"[F,F]{F}", b"[F,F]{F} [F,F]{F,F} [F] "),
-    (b"F(1,2){7}", b"F(2,1){7} F(1,2){2,1} "),
-    (b"(1,[3]){7,8}", b"([3],1){7,8} (1,[3]){[3],1} "),
-];
-
-/// Names of symbols, and two integers.
-const MAKERS: &[(&[u8], i64, i64)] = &[
-    (b"F", 1, 2),
-    (b"Plus", -7, -7),
-    (b"of_15_letters__", 0, 9223372036854775807),
-    (b"F", 1, 4294967297),
-    (b"F", -9223372036854775808, 0),
-];
-
-/// Texts of terms that are taken apart.
-const TAKEN: &[&[u8]] = &[b"[2,F(1,2)]{1}", b"F(1,F(1)){[]}", b"7{1}", b"[1,1,1,1,1]"];
 
 /// Texts of terms, and whether the root of each has a number.
 const ROOTS: &[(&[u8], bool)] = &[(b"7{F}", false), (b"[F,F]", false), (b"F{7}", true)];
-
-/// The list of the second integer and of the symbol over both, with the first integer as its annotation, after something
-/// else was made and given back.
-fn build_list<S: TermSpace>(
-    alloc: Global,
-    space: &mut S,
-    symbol: &Sym,
-    left: i64,
-    right: i64,
-) -> Result<Option<S::Ref>, AllocError>
-    ensures stands { IfOk result (λ made. IfSome made (λ r. IsTrue (S.space.stands space.new r))) }
-    ensures term { IfOk result (λ made. IfSome made (λ r. S.space.term_of space.new r ≡
-        term heads.List (term (heads.Int right) [] [] ∷
-        term (heads.App symbol.now)
-        (term (heads.Int left) [] [] ∷ term (heads.Int right) [] [] ∷ []) [] ∷ [])
-        (term (heads.Int left) [] [] ∷ []))) }
-{
-    let name = space.name(alloc, symbol)?;
-    let mut stack = Vec::new(alloc);
-    let first = space.int(alloc, left)?;
-    stack.push(first)?;
-    let second = space.int(alloc, right)?;
-    stack.push(second)?;
-    let Made::Fits(pair) = space.app(alloc, &name, &stack[..])? else {
-        return Ok(None);
-    };
-    let mark = space.mark();
-    let _extra = space.list(alloc, &stack[..])?;
-    space.back_to(mark);
-    stack.push(pair)?;
-    let Made::Fits(list) = space.list(alloc, &stack[1..])? else {
-        return Ok(None);
-    };
-    let Made::Fits(noted) = space.with_annos(alloc, &list, &stack[..1])? else {
-        return Ok(None);
-    };
-    Ok(Some(noted))
-}
-
-/// Takes a term apart and makes it again, and a list from this place on; returns what was made last, where all is as it was.
-fn takes_apart<S: TermSpace>(
-    alloc: Global,
-    space: &mut S,
-    from: &Term,
-    place: usize,
-) -> Result<Option<S::Ref>, AllocError> {
-    let at = space.enter(alloc, from)?;
-    let mut stack = Vec::new(alloc);
-    space.push_parts(&at, &mut stack)?;
-    let Made::Fits(again) = space.rebuild(alloc, &at, &stack[..])? else {
-        return Ok(None);
-    };
-    if !space.same(&at, &again) || stack.len() < place {
-        return Ok(None);
-    }
-    let Some(count) = space.list_len(&at) else {
-        let whole = stack.len() == space.count(&at);
-        return Ok(if whole { Some(again) } else { None });
-    };
-    if count < place {
-        return Ok(None);
-    }
-    let Made::Fits(list) = space.list(alloc, &stack[..])? else {
-        return Ok(None);
-    };
-    let others = space.rest(alloc, &at, place)?;
-    let Made::Fits(whole) = space.prepend(alloc, &stack[..place], &others)? else {
-        return Ok(None);
-    };
-    let as_it_was = space.same(&whole, &list);
-    Ok(if as_it_was { Some(whole) } else { None })
-}
-
-/// Writes a term with its two parts the other way round, with these as its annotations, and the list after its first
-/// element.
-fn change_term<S: TermSpace>(
-    alloc: Global,
-    space: &mut S,
-    from: &Term,
-) -> Result<Vec<u8>, AllocError> {
-    let mut written = Vec::new(alloc);
-    let at = space.enter(alloc, from)?;
-    if space.count(&at) != 2 {
-        return Ok(written);
-    }
-    let mut turned = Vec::new(alloc);
-    turned.push(space.part(&at, 1)?)?;
-    turned.push(space.part(&at, 0)?)?;
-    if let Made::Fits(made) = space.rebuild(alloc, &at, &turned[..])? {
-        write_term(&space.leave(alloc, &made)?, &mut written)?;
-        written.push(b' ')?;
-    }
-    if let Made::Fits(made) = space.with_annos(alloc, &at, &turned[..])? {
-        write_term(&space.leave(alloc, &made)?, &mut written)?;
-        written.push(b' ')?;
-    }
-    if space.list_len(&at).is_some() {
-        let rest = space.rest(alloc, &at, 1)?;
-        write_term(&space.leave(alloc, &rest)?, &mut written)?;
-        written.push(b' ')?;
-    }
-    Ok(written)
-}
-
-/// The second part of an application: as an integer, and as it is lent.
-fn second<S: TermSpace>(
-    alloc: Global,
-    space: &mut S,
-    from: &Term,
-) -> Result<Option<(Option<i64>, Term)>, AllocError> {
-    let at = space.enter(alloc, from)?;
-    if space.count(&at) < 2 || !matches!(space.head(&at), Top::App(_)) {
-        return Ok(None);
-    }
-    let part = space.part(&at, 1)?;
-    let Some(lent) = space.shape(&at).parts.get(1) else {
-        return Ok(None);
-    };
-    let term = space.leave(alloc, lent)?;
-    Ok(Some((space.int_of(&part), term)))
-}
 
 /// Whether the numbers of the symbol and of a term with it are one, and whether the term is the symbol over two parts alone.
 fn is_numbered<S: TermSpace>(
@@ -178,20 +36,6 @@ fn has_number<S: TermSpace>(alloc: Global, space: &mut S, from: &Term) -> Result
     Ok(space.root_number(&at).is_some())
 }
 
-/// The term that `build_list` makes, by the makers of terms.
-fn expected_list(alloc: Global, symbol: &Sym, left: i64, right: i64) -> Result<Term, Fail> {
-    let parts = vec![in alloc; Term::int(alloc, left)?, Term::int(alloc, right)?]?;
-    let Made::Fits(pair) = Term::app(alloc, symbol.clone()?, parts)? else {
-        return Err(Fail::new("oversize"));
-    };
-    let elements = vec![in alloc; Term::int(alloc, right)?, pair]?;
-    let annos = vec![in alloc; Term::int(alloc, left)?]?;
-    let Made::Fits(list) = Term::new(alloc, Head::List, elements, annos)? else {
-        return Err(Fail::new("oversize"));
-    };
-    Ok(list)
-}
-
 /// The list of the first integers from 0 on.
 fn numbers(alloc: Global, count: i64) -> Result<Term, Fail> {
     let mut elements = Vec::new(alloc);
@@ -206,73 +50,6 @@ fn numbers(alloc: Global, count: i64) -> Result<Term, Fail> {
 
 fn store(alloc: Global) -> StoreSpace {
     StoreSpace::new(alloc, BuildHasherDefault::new())
-}
-
-/// Whether the client that makes terms makes the one that is expected.
-fn makes<S: TermSpace>(
-    alloc: Global,
-    space: &mut S,
-    name: &[u8],
-    left: i64,
-    right: i64,
-) -> Result<bool, Fail> {
-    let symbol = Sym::plain(alloc, name)?.ok_or("no name")?;
-    let Some(made) = build_list(alloc, space, &symbol, left, right)? else {
-        return Ok(false);
-    };
-    let term = space.leave(alloc, &made)?;
-    Ok(term == expected_list(alloc, &symbol, left, right)?)
-}
-
-/// Runs the client that makes terms over a space.
-fn run_makers<S: TermSpace>(alloc: Global, space: &mut S) -> Result<(), Fail> {
-    for (name, left, right) in MAKERS {
-        if !makes(alloc, space, name, *left, *right)? {
-            return Err(Fail::new(name.escape_ascii()));
-        }
-    }
-    Ok(())
-}
-
-/// Changes terms over a space.
-fn run_changes<S: TermSpace>(alloc: Global, space: &mut S) -> Result<(), Fail> {
-    for (text, wanted) in CHANGED {
-        let written = change_term(alloc, space, &read_term(alloc, text)?)?;
-        if &written[..] != *wanted {
-            return Err(Fail::new(text.escape_ascii()));
-        }
-    }
-    Ok(())
-}
-
-/// Whether the term is as it was, wherever it is taken apart.
-fn is_as_it_was<S: TermSpace>(alloc: Global, space: &mut S, text: &[u8]) -> Result<bool, Fail> {
-    let term = read_term(alloc, text)?;
-    for place in 0..term.children().len() {
-        if takes_apart(alloc, space, &term, place)?.is_none() {
-            return Ok(false);
-        }
-    }
-    Ok(true)
-}
-
-/// Whether the second part of a pair is 2.
-fn is_second<S: TermSpace>(alloc: Global, space: &mut S) -> Result<bool, Fail> {
-    let pair = read_term(alloc, b"(1,2){3}")?;
-    Ok(second(alloc, space, &pair)? == Some((Some(2), Term::int(alloc, 2)?)))
-}
-
-/// Takes terms apart over a space, and looks at their parts.
-fn run_takers<S: TermSpace>(alloc: Global, space: &mut S) -> Result<(), Fail> {
-    for text in TAKEN {
-        if !is_as_it_was(alloc, space, text)? {
-            return Err(Fail::new(text.escape_ascii()));
-        }
-    }
-    if !is_second(alloc, space)? {
-        return Err(Fail::new("another second part"));
-    }
-    Ok(())
 }
 
 /// Looks at the numbers of symbols over a space.
