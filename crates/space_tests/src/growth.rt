@@ -5,9 +5,9 @@ ghost use Rattle.std.specs.Prelude.{IsTrue};
 use crate::single_calls::code_of;
 use aterm_text::read_term;
 use core_lang::Outcome;
+use keyed_hash::HashKeys;
 use prim_registry::{Registry, Standard};
 use std::alloc::{AllocError, Global};
-use std::hash::BuildHasherDefault;
 use std::test::Fail;
 use strat_code::Code;
 use strat_machine::Machine;
@@ -197,11 +197,7 @@ fn run_row<S: TermSpace + Drop>(alloc: Global, space: S, row: Row) -> Result<(),
 }
 
 fn run_in_store(alloc: Global, row: Row) -> Result<(), Fail> {
-    run_row(
-        alloc,
-        StoreSpace::new(alloc, BuildHasherDefault::new()),
-        row,
-    )
+    run_row(alloc, StoreSpace::new(alloc, HashKeys::known()), row)
 }
 
 #[test]
@@ -293,7 +289,7 @@ fn weight_over<S: TermSpace + Drop>(
 #[test]
 fn growth_run(rt: HostRuntime) -> Result<(), Fail> {
     for (definitions, text, weight) in RUNS {
-        let store = StoreSpace::new(rt.alloc(), BuildHasherDefault::new());
+        let store = StoreSpace::new(rt.alloc(), HashKeys::known());
         if weight_over(rt.alloc(), store, definitions, text)? != *weight {
             return Err(Fail::new("another term"));
         }

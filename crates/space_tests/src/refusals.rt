@@ -4,9 +4,9 @@ ghost use Rattle.prim_registry.specs.Entries.{IsHonest};
 
 use crate::single_calls::{DEFINITIONS, code_of, code_with, takes_five_at_last};
 use aterm_text::read_term;
+use keyed_hash::HashKeys;
 use prim_registry::{Action, Flat, Prim, PrimMeaning, Registry, Standard};
 use std::alloc::{AllocError, Global};
-use std::hash::BuildHasherDefault;
 use std::test::Fail;
 use strat_code::Code;
 use strat_machine::Machine;
@@ -74,7 +74,7 @@ fn a_run_without_memory(rt: HostRuntime) -> Result<(), Fail> {
     if !runs_afterwards(alloc, RcSpace, &adding, &registry)? {
         return Err(Fail::new("over terms"));
     }
-    let store = StoreSpace::new(alloc, BuildHasherDefault::new());
+    let store = StoreSpace::new(alloc, HashKeys::known());
     if !runs_afterwards(alloc, store, &adding, &registry)? {
         return Err(Fail::new("over a store"));
     }

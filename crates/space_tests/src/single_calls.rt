@@ -4,10 +4,10 @@ ghost use Rattle.std.specs.Prelude.{◌≤◌, IsTrue};
 use aterm_text::{read_term, write_term};
 use core_eval::eval;
 use core_lang::{Core, Outcome};
+use keyed_hash::HashKeys;
 use prim_registry::{Registry, Standard};
 use scope_check::{Checked, check};
 use std::alloc::Global;
-use std::hash::BuildHasherDefault;
 use std::test::Fail;
 use str_desugar::to_core;
 use str_lexer::lex;
@@ -172,7 +172,7 @@ fn from_bytes_to_runs_of_the_machine(rt: HostRuntime) -> Result<(), Fail> {
     if !runs_over(alloc, RcSpace, &code, &term)? {
         return Err(Fail::new("over terms"));
     }
-    let store = StoreSpace::new(alloc, BuildHasherDefault::new());
+    let store = StoreSpace::new(alloc, HashKeys::known());
     if !runs_over(alloc, store, &code, &term)? {
         return Err(Fail::new("over a store"));
     }

@@ -1,8 +1,8 @@
 //! Texts that are read into a space and written from it, and terms that are judged where they lie in it: in both spaces.
 use aterm_text::{read_in, write_out};
+use keyed_hash::HashKeys;
 use signature_core::Signature;
 use std::alloc::{AllocError, Global};
-use std::hash::BuildHasherDefault;
 use std::test::Fail;
 use str_syntax::{Name, Sort};
 use term_model::{Fault, RcSpace, TermSpace};
@@ -117,7 +117,7 @@ fn count_by_walk<S: TermSpace>(alloc: Global, space: &mut S, text: &[u8]) -> Res
 
 #[test]
 fn texts(rt: HostRuntime) -> Result<(), Fail> {
-    let mut store = StoreSpace::new(rt.alloc(), BuildHasherDefault::new());
+    let mut store = StoreSpace::new(rt.alloc(), HashKeys::known());
     for (text, canonical) in SPELLED {
         if !is_spelled(rt.alloc(), &mut store, text, canonical)?
             || !is_spelled(rt.alloc(), &mut RcSpace, text, canonical)?
@@ -130,7 +130,7 @@ fn texts(rt: HostRuntime) -> Result<(), Fail> {
 
 #[test]
 fn refused_texts(rt: HostRuntime) -> Result<(), Fail> {
-    let mut store = StoreSpace::new(rt.alloc(), BuildHasherDefault::new());
+    let mut store = StoreSpace::new(rt.alloc(), HashKeys::known());
     for (text, place) in REFUSED {
         if !is_refused(rt.alloc(), &mut store, text, *place)
             || !is_refused(rt.alloc(), &mut RcSpace, text, *place)
@@ -143,7 +143,7 @@ fn refused_texts(rt: HostRuntime) -> Result<(), Fail> {
 
 #[test]
 fn declared_terms(rt: HostRuntime) -> Result<(), Fail> {
-    let mut store = StoreSpace::new(rt.alloc(), BuildHasherDefault::new());
+    let mut store = StoreSpace::new(rt.alloc(), HashKeys::known());
     let signature = signature_of_one(rt.alloc())?;
     for (text, are_declared) in JUDGED {
         if is_declared(rt.alloc(), &mut store, &signature, text)? != *are_declared
@@ -157,7 +157,7 @@ fn declared_terms(rt: HostRuntime) -> Result<(), Fail> {
 
 #[test]
 fn walks(rt: HostRuntime) -> Result<(), Fail> {
-    let mut store = StoreSpace::new(rt.alloc(), BuildHasherDefault::new());
+    let mut store = StoreSpace::new(rt.alloc(), HashKeys::known());
     for (text, count) in COUNTED {
         if count_by_walk(rt.alloc(), &mut store, text)? != *count
             || count_by_walk(rt.alloc(), &mut RcSpace, text)? != *count

@@ -15,6 +15,7 @@ use diagnostics::{
     Definitions, Explanation, Listing, MOST_OF_NAME, Phrase, Remark, RunNotes, add_warnings,
     push_cut, push_number,
 };
+use keyed_hash::HashKeys;
 use prim_registry::{PrimMeaning, Registry};
 use std::alloc::{AllocError, Global};
 use strat_code::Code;
@@ -49,6 +50,7 @@ const DEEPEST: &[u8] = b", the deepest failure before that, and maybe the cause"
 /// nothing is noted.
 pub(crate) fn explain_run<M: PrimMeaning>(
     alloc: Global,
+    keys: HashKeys,
     status: &Result<Status, Fault>,
     options: &Options,
     registry: &Registry<M>,
@@ -67,7 +69,11 @@ pub(crate) fn explain_run<M: PrimMeaning>(
             alloc,
             &definitions,
             notes.library(),
-            &term,
+            Rerun {
+                text: &term,
+                budget: options.budget.min(MOST_RULES),
+                keys,
+            },
             options,
             registry,
         ),
@@ -79,20 +85,27 @@ pub(crate) fn explain_run<M: PrimMeaning>(
     }
 }
 
+/// What a run that is followed is of: the text of a term, the rules that it may use, and the keys of its space.
+#[derive(Clone, Copy)]
+struct Rerun<'a> {
+    text: &'a [u8],
+    budget: u32,
+    keys: HashKeys,
+}
+
 /// The explanation of a run of these definitions, of which the first bytes are a library, on the term of this text.
 fn explanation_of<M: PrimMeaning>(
     alloc: Global,
     definitions: &[u8],
     library: usize,
-    term: &[u8],
+    rerun: Rerun<'_>,
     options: &Options,
     registry: &Registry<M>,
 ) -> Result<Explanation, Fault>
     requires honest { IsHonest M.answer registry.now }
 {
     let program = make_program(alloc, definitions, options, registry, Purpose::Explanation)?;
-    let budget = options.budget.min(MOST_RULES);
-    let run = run_again(alloc, &program.code, term, budget, registry)?;
+    let run = run_again(alloc, &program.code, rerun, registry)?;
     let listing = Listing::new(alloc, definitions)?;
     let mut remarks = Vec::new(alloc);
     let explainer = Explainer {
@@ -122,21 +135,20 @@ struct Evidence {
 fn run_again<M: PrimMeaning>(
     alloc: Global,
     code: &Code,
-    text: &[u8],
-    budget: u32,
+    rerun: Rerun<'_>,
     registry: &Registry<M>,
 ) -> Result<Evidence, Fault>
     requires honest { IsHonest M.answer registry.now }
     requires covers { Covers registry.now code.now.prims }
 {
-    let account = account_of(alloc, code, text, budget, registry)?;
+    let account = account_of(alloc, code, rerun, registry)?;
     let mut last = None;
     if account.ending != Ending::Rewritten {
-        last = stand_after(alloc, code, text, budget, registry, account.before_last)?;
+        last = stand_after(alloc, code, rerun, registry, account.before_last)?;
     }
     let mut deepest = None;
     if account.ending == Ending::Failed && account.before_deepest != account.before_last {
-        deepest = stand_after(alloc, code, text, budget, registry, account.before_deepest)?;
+        deepest = stand_after(alloc, code, rerun, registry, account.before_deepest)?;
     }
     Ok(Evidence {
         account,
@@ -149,35 +161,33 @@ fn run_again<M: PrimMeaning>(
 fn account_of<M: PrimMeaning>(
     alloc: Global,
     code: &Code,
-    text: &[u8],
-    budget: u32,
+    rerun: Rerun<'_>,
     registry: &Registry<M>,
 ) -> Result<Account, Fault>
     requires honest { IsHonest M.answer registry.now }
     requires covers { Covers registry.now code.now.prims }
 {
-    let mut space = FollowedSpace::new(alloc);
-    let term = read_in(&mut space, alloc, text)?;
+    let mut space = FollowedSpace::new(alloc, rerun.keys);
+    let term = read_in(&mut space, alloc, rerun.text)?;
     let mut machine = Machine::new(alloc, space);
-    machine.account(code, term, budget, registry)
+    machine.account(code, term, rerun.budget, registry)
 }
 
 /// Where such a run stands after this number of steps, if an instruction comes next.
 fn stand_after<M: PrimMeaning>(
     alloc: Global,
     code: &Code,
-    text: &[u8],
-    budget: u32,
+    rerun: Rerun<'_>,
     registry: &Registry<M>,
     count: u64,
 ) -> Result<Option<Stand>, Fault>
     requires honest { IsHonest M.answer registry.now }
     requires covers { Covers registry.now code.now.prims }
 {
-    let mut space = FollowedSpace::new(alloc);
-    let term = read_in(&mut space, alloc, text)?;
+    let mut space = FollowedSpace::new(alloc, rerun.keys);
+    let term = read_in(&mut space, alloc, rerun.text)?;
     let mut machine = Machine::new(alloc, space);
-    machine.stand(code, term, budget, registry, count)
+    machine.stand(code, term, rerun.budget, registry, count)
 }
 
 /// Makes the remarks of an explanation.

@@ -1,6 +1,7 @@
 //! The program: the words of the command line, the files of the system and the standard streams, given to `run_standard`.
 #![tactic(auto)]
 
+use keyed_hash::HashKeys;
 use std::io;
 use std::process::ExitCode;
 use str_pipeline::Counted;
@@ -15,6 +16,7 @@ fn main(rt: HostRuntime) -> ExitCode {
     let mut files = Files::new(&rt);
     let status = run_standard(
         rt.alloc(),
+        HashKeys::draw(&rt),
         &words_of(&rt),
         &mut files,
         &mut input,

@@ -22,6 +22,7 @@ use crate::request::{Request, Texts, misuse_of, options_of, request_of};
 use crate::stopping::{stop, stop_writing};
 use clap::Error;
 use clap::error::ErrorKind;
+use keyed_hash::HashKeys;
 use prim_registry::{PrimMeaning, Registry};
 use std::alloc::Global;
 use str_pipeline::{Options, Sink, Source, Status, write_all};
@@ -32,6 +33,7 @@ use term_model::Fault;
 #[tactic(auto, using(crate::proofs::CauseLaws::of_transfer, crate::proofs::CauseLaws::of_reading, crate::proofs::CauseLaws::fault_told))]
 fn run_definitions<P: Paths, I: Source, W: Sink, E: Sink, M: PrimMeaning>(
     alloc: Global,
+    keys: HashKeys,
     paths: &mut P,
     input: &mut I,
     reporting: Reporting<'_>,
@@ -59,6 +61,7 @@ fn run_definitions<P: Paths, I: Source, W: Sink, E: Sink, M: PrimMeaning>(
     };
     run_apart(
         alloc,
+        keys,
         &mut definitions,
         input,
         reporting,
@@ -73,6 +76,7 @@ fn run_definitions<P: Paths, I: Source, W: Sink, E: Sink, M: PrimMeaning>(
 #[tactic(auto, using(crate::proofs::CauseLaws::of_transfer, crate::proofs::CauseLaws::of_reading, crate::proofs::CauseLaws::fault_told))]
 fn run_files<P: Paths, W: Sink, E: Sink, M: PrimMeaning>(
     alloc: Global,
+    keys: HashKeys,
     paths: &mut P,
     reporting: Reporting<'_>,
     options: &Options,
@@ -102,6 +106,7 @@ fn run_files<P: Paths, W: Sink, E: Sink, M: PrimMeaning>(
     };
     run_apart(
         alloc,
+        keys,
         &mut definitions,
         &mut term,
         reporting,
@@ -116,6 +121,7 @@ fn run_files<P: Paths, W: Sink, E: Sink, M: PrimMeaning>(
 #[tactic(auto, using(crate::proofs::CauseLaws::of_transfer, crate::proofs::CauseLaws::of_reading, crate::proofs::CauseLaws::fault_told))]
 fn run_texts<P: Paths, I: Source, W: Sink, E: Sink, M: PrimMeaning>(
     alloc: Global,
+    keys: HashKeys,
     request: &Request<'_>,
     paths: &mut P,
     input: &mut I,
@@ -142,7 +148,16 @@ fn run_texts<P: Paths, I: Source, W: Sink, E: Sink, M: PrimMeaning>(
     match request.texts {
         Texts::Joined => {
             let reporting = Reporting::new(request, &[], INPUT, INPUT);
-            run_joined(alloc, input, reporting, options, registry, out, diagnostics)
+            run_joined(
+                alloc,
+                keys,
+                input,
+                reporting,
+                options,
+                registry,
+                out,
+                diagnostics,
+            )
         }
         Texts::Definitions(path) => {
             let libraries = match find_libraries(alloc, paths, &request.libraries, diagnostics) {
@@ -152,6 +167,7 @@ fn run_texts<P: Paths, I: Source, W: Sink, E: Sink, M: PrimMeaning>(
             let reporting = Reporting::new(request, &libraries, path, INPUT);
             run_definitions(
                 alloc,
+                keys,
                 paths,
                 input,
                 reporting,
@@ -167,7 +183,16 @@ fn run_texts<P: Paths, I: Source, W: Sink, E: Sink, M: PrimMeaning>(
                 Err(status) => return status,
             };
             let reporting = Reporting::new(request, &libraries, path, term);
-            run_files(alloc, paths, reporting, options, registry, out, diagnostics)
+            run_files(
+                alloc,
+                keys,
+                paths,
+                reporting,
+                options,
+                registry,
+                out,
+                diagnostics,
+            )
         }
     }
 }
@@ -236,6 +261,7 @@ fn range_of(kind: ErrorKind) -> &'static str {
 #[tactic(auto, using(crate::proofs::CauseLaws::line_told, crate::proofs::CauseLaws::of_reading, crate::proofs::CauseLaws::fault_told))]
 pub fn run<P: Paths, I: Source, W: Sink, E: Sink, M: PrimMeaning>(
     alloc: Global,
+    keys: HashKeys,
     words: &[String],
     registry: &Registry<M>,
     paths: &mut P,
@@ -279,6 +305,7 @@ pub fn run<P: Paths, I: Source, W: Sink, E: Sink, M: PrimMeaning>(
     }
     run_texts(
         alloc,
+        keys,
         &request,
         paths,
         input,

@@ -1,6 +1,7 @@
 //! Files in memory, and a run over them.
 ghost use Rattle.std.specs.Prelude.{◌≤◌, None, IfSome};
 
+use keyed_hash::HashKeys;
 use std::alloc::{AllocError, Global};
 use std::io::ErrorKind;
 use str_pipeline::{Faulty, Sink, Source};
@@ -192,7 +193,15 @@ pub(crate) fn run_with<I: Source, W: Sink>(
 ) -> Result<u8, AllocError> {
     let words = Ok(words_of(alloc, line)?);
     let mut paths = Shelf::new(alloc);
-    Ok(run_standard(alloc, &words, &mut paths, input, out, diagnostics))
+    Ok(run_standard(
+        alloc,
+        HashKeys::known(),
+        &words,
+        &mut paths,
+        input,
+        out,
+        diagnostics,
+    ))
 }
 
 /// Returns the first bad call of a row. Calls are counted from 1 on.

@@ -11,22 +11,22 @@ use crate::shapes::{Shapes, small_integers};
 use crate::store::StoreSpace;
 use crate::stored::{StoredHead, StoredShape};
 use indexmap::IndexSet;
+use keyed_hash::HashKeys;
 use std::alloc::{AllocError, Global};
-use std::hash::{BuildHasherDefault, FoldHasher};
 use term_model::{Head, Kind, Made, Parts, Shape, Sym, Term, TermSpace, Top};
 
 impl StoreSpace {
-    /// A store that holds nothing, which hashes by this hasher.
+    /// A store that holds nothing. Its tables hash with these keys.
     #[tactic(auto, using(crate::proofs::SpaceLemmas::space))]
-    pub fn new(alloc: Global, hasher: BuildHasherDefault<FoldHasher>) -> StoreSpace
+    pub fn new(alloc: Global, keys: HashKeys) -> StoreSpace
         ensures { stored.held_count result ≡ 0 }
     {
         let small = small_integers();
         StoreSpace {
-            symbols: IndexSet::with_hasher(alloc, hasher),
+            symbols: IndexSet::with_hasher(alloc, keys),
             named: 0,
-            chains: Chains::new(alloc, hasher),
-            shapes: Shapes::new(alloc, hasher, small),
+            chains: Chains::new(alloc, keys),
+            shapes: Shapes::new(alloc, keys, small),
             extents: Extents::new(alloc, small),
             spans: Vec::new(alloc),
             oversize: LastOversize::new(),
