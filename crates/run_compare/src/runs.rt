@@ -75,8 +75,8 @@ fn read_case(
     let file = parse(alloc, definitions, &tokens)?;
     let file = with_library(alloc, file)?;
     let names = registry.names(alloc)?;
-    let checked = check(alloc, file, &names, &case.main)?;
-    let core = to_core(alloc, &checked)?;
+    let checked = check(alloc, HashKeys::known(), file, &names, &case.main)?;
+    let core = to_core(alloc, HashKeys::known(), &checked)?;
     let term = read_term(alloc, &case.term)?;
     Ok((core, term))
 }

@@ -31,7 +31,7 @@ fn check_definitions(
     let tokens = lex(alloc, definitions)?;
     let file = parse(alloc, definitions, &tokens)?;
     let file = with_library(alloc, file)?;
-    check(alloc, file, primitives, b"main")
+    check(alloc, HashKeys::known(), file, primitives, b"main")
 }
 
 /// Their core.
@@ -41,7 +41,7 @@ pub(crate) fn core_of(
     primitives: &PrimNames,
 ) -> Result<Core, Fault> {
     let checked = check_definitions(alloc, definitions, primitives)?;
-    Ok(to_core(alloc, &checked)?)
+    Ok(to_core(alloc, HashKeys::known(), &checked)?)
 }
 
 /// Their code.
@@ -189,7 +189,13 @@ fn count_of_definitions(file: &File) -> usize {
 
 /// What the check of the file, which calls no primitive, returns.
 fn judgement(alloc: Global, file: File) -> Result<(), Fault> {
-    let _checked = check(alloc, file, &PrimNames::new(alloc), b"main")?;
+    let _checked = check(
+        alloc,
+        HashKeys::known(),
+        file,
+        &PrimNames::new(alloc),
+        b"main",
+    )?;
     Ok(())
 }
 

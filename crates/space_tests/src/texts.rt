@@ -78,7 +78,7 @@ fn is_refused<S: TermSpace>(alloc: Global, space: &mut S, text: &[u8], place: u6
 
 /// A signature in which `F` is declared with one argument.
 fn signature_of_one(alloc: Global) -> Result<Signature, Fault> {
-    let mut signature = Signature::new(alloc);
+    let mut signature = Signature::new(alloc, HashKeys::known());
     let mut arguments = Vec::with_capacity(alloc, 1)?;
     arguments.push(sort(alloc)?)?;
     signature.declare(Name::new(alloc, b"F", 0)?, arguments, sort(alloc)?)?;

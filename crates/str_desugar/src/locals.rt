@@ -23,6 +23,7 @@ use crate::scopes::Scopes;
 use crate::strategy::{Context, strategy};
 use crate::symbols::Symbols;
 use core_lang::{CoreDef, CoreStrategy};
+use keyed_hash::HashKeys;
 use std::alloc::{AllocError, Global};
 use str_syntax::{Name, Strategy, StrategyDefinition};
 
@@ -67,7 +68,7 @@ pub(crate) fn recursive<'t>(
         name: &*name,
         outer: &*scopes,
     };
-    let none = Names::new();
+    let none = Names::new(context.hashing);
     let inner = Scopes::Parameters {
         strategies: &none,
         terms: &none,
@@ -82,6 +83,7 @@ pub(crate) fn recursive<'t>(
 #[inline(never)]
 pub(crate) fn groups_of(
     alloc: Global,
+    hashing: HashKeys,
     sources: &[StrategyDefinition],
 ) -> Result<Groups<'_>, AllocError>
     ensures { IfOk result (λ made. (declared : Bytes → ℕ → Bool) →
@@ -91,7 +93,7 @@ pub(crate) fn groups_of(
     for source in sources {
         heads.push(&source.head)?;
     }
-    let made = Groups::new(alloc, heads)?;
+    let made = Groups::new(alloc, hashing, heads)?;
     Ok(made)
 }
 
@@ -197,8 +199,16 @@ fn alternative<'t>(
         (definition_of source.now))) }
 {
     let first = groups.first_of(&source.head);
-    let strategies = names_in(context.alloc, first.parameters.strategy_names())?;
-    let terms = names_in(context.alloc, first.parameters.term_names())?;
+    let strategies = names_in(
+        context.alloc,
+        context.hashing,
+        first.parameters.strategy_names(),
+    )?;
+    let terms = names_in(
+        context.alloc,
+        context.hashing,
+        first.parameters.term_names(),
+    )?;
     let inner = Scopes::Parameters {
         strategies: &strategies,
         terms: &terms,

@@ -77,7 +77,14 @@ pub(crate) fn explain_run<M: PrimMeaning>(
             options,
             registry,
         ),
-        Status::Rewritten => findings_in(alloc, &definitions, notes.library(), options, registry),
+        Status::Rewritten => findings_in(
+            alloc,
+            keys,
+            &definitions,
+            notes.library(),
+            options,
+            registry,
+        ),
         Status::Refused(_) => return,
     };
     if let Ok(explanation) = explanation {
@@ -104,7 +111,14 @@ fn explanation_of<M: PrimMeaning>(
 ) -> Result<Explanation, Fault>
     requires honest { IsHonest M.answer registry.now }
 {
-    let program = make_program(alloc, definitions, options, registry, Purpose::Explanation)?;
+    let program = make_program(
+        alloc,
+        rerun.keys,
+        definitions,
+        options,
+        registry,
+        Purpose::Explanation,
+    )?;
     let run = run_again(alloc, &program.code, rerun, registry)?;
     let listing = Listing::new(alloc, definitions)?;
     let mut remarks = Vec::new(alloc);

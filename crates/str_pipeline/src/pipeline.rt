@@ -58,7 +58,7 @@ fn outcome_apart<D: Source, T: Source, M: PrimMeaning>(
     let Some(text) = read_all(alloc, defs, MAX_DEFINITIONS)? else {
         return Err(Fault::DefsTooLong);
     };
-    let program = program_to_run(alloc, &text, options, registry, notes)?;
+    let program = program_to_run(alloc, keys, &text, options, registry, notes)?;
     notes.keep_definitions(text);
     let Some(text) = read_all(alloc, term, MAX_TERM)? else {
         return Err(Fault::TermTooLong);
@@ -103,7 +103,7 @@ fn outcome_joined<S: Source, M: PrimMeaning>(
     let Some(front) = read_front(alloc, input, MAX_DEFINITIONS)? else {
         return Err(Fault::DefsTooLong);
     };
-    let program = program_to_run(alloc, front.definitions(), options, registry, notes)?;
+    let program = program_to_run(alloc, keys, front.definitions(), options, registry, notes)?;
     front.note_end(notes);
     let Some(text) = front.read_term(alloc, input, MAX_TERM)? else {
         return Err(Fault::TermTooLong);

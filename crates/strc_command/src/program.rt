@@ -294,6 +294,7 @@ pub fn run<P: Paths, I: Source, W: Sink, E: Sink, M: PrimMeaning>(
         if request.checks {
             return run_check(
                 alloc,
+                keys,
                 &request,
                 paths,
                 input,
