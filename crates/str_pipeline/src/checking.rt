@@ -163,7 +163,7 @@ fn add_faults(
             text: format!(in alloc; "{note}")?.into_bytes(),
             on_line: None,
         })?;
-        if let Some(hint) = name_hint_in(alloc, file, note, primitives) {
+        if let Some(hint) = name_hint_in(file, note, primitives) {
             remarks.push(Remark {
                 position: None,
                 text: format!(in alloc; "hint: {hint}")?.into_bytes(),

@@ -98,6 +98,7 @@ fn text_of(kind: Option<ErrorKind>, otherwise: &'static str) -> &'static str {
         Some(ErrorKind::FileTooLarge) => "file too large",
         Some(ErrorKind::Interrupted) => "interrupted",
         Some(ErrorKind::TimedOut) => "timed out",
+        Some(ErrorKind::WouldBlock) => "it is non-blocking, and not ready",
         _ => otherwise,
     }
 }
