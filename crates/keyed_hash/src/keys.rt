@@ -13,7 +13,7 @@ const KNOWN_MULTIPLIER: u64 = 0x9e37_79b9_7f4a_7c15;
 
 /// The two secret words of a hash function: its first state, and its multiplier, which is odd. Whoever does not know them cannot choose keys
 /// of a table that collide more often than others do.
-#[derive(Clone, Copy, Drop)]
+#[derive(Clone, Copy, PartialEq, Eq, Drop)]
 pub struct HashKeys {
     state: u64,
     multiplier: u64,

@@ -34,7 +34,7 @@ impl<'t> Model for Keys<'t> {
 
     ghost use Rattle.str_desugar.specs.Keys.{AreKeysMarked};
 
-    ghost invariant = { λ keys. AreKeysMarked keys.marks.words keys.table.keys };
+    ghost invariant = { λ keys. AreKeysMarked keys.marks keys.table.keys };
 }
 
 impl<'t> Keys<'t> {
@@ -44,7 +44,7 @@ impl<'t> Keys<'t> {
     {
         Keys {
             table: IndexSet::with_hasher(alloc, hashing),
-            marks: Marks::new(),
+            marks: Marks::new(hashing),
         }
     }
 

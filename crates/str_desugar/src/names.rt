@@ -140,17 +140,17 @@ impl Model for Table {
 
     ghost use Rattle.str_desugar.specs.Marks.{AreMarked};
 
-    ghost invariant = { λ names. AreMarked names.marks.words (held_names names.held) };
+    ghost invariant = { λ names. AreMarked names.marks (held_names names.held) };
 }
 
 impl Table {
     /// No names.
-    fn new(alloc: Global) -> Table
+    fn new(alloc: Global, hashing: HashKeys) -> Table
         ensures { result ≡ [] }
     {
         Table {
             held: Held::Few(Vec::new(alloc)),
-            marks: Marks::new(),
+            marks: Marks::new(hashing),
         }
     }
 
@@ -192,7 +192,7 @@ impl Table {
 fn table_of(alloc: Global, hashing: HashKeys, name: &Name) -> Result<Box<Table>, AllocError>
     ensures { IfOk result (λ made. made.value ≡ name.now ∷ []) }
 {
-    let mut made = Box::new(alloc, Table::new(alloc))?;
+    let mut made = Box::new(alloc, Table::new(alloc, hashing))?;
     made.push(alloc, hashing, name)?;
     Ok(made)
 }

@@ -28,6 +28,11 @@ impl Symbols {
         }
     }
 
+    /// The keys with which the table of symbols hashes.
+    pub(crate) fn hashing(&self) -> HashKeys {
+        *self.known.hasher()
+    }
+
     /// The symbol of the constructor of this name.
     pub(crate) fn constructor(&mut self, name: &Name) -> Result<Sym, AllocError>
         ensures { Returns result (constructor_symbol name.now) }
