@@ -9,7 +9,8 @@ first_hasher first odd = record { state = first; multiplier = odd }
 
 -- the state after the words at i and at j
 abbrev pub mix : List ℕ → ℕ → ℕ → ℕ → ℕ → ℕ
-mix bytes multiplier state i j = folded_multiply (bit_xor (read_u64 bytes i) state) (bit_xor (read_u64 bytes j) multiplier)
+mix bytes multiplier state i j =
+    folded_multiply (bit_xor (read_u64 bytes i) state) (bit_xor (read_u64 bytes j) multiplier)
 
 -- the state after the first n blocks of 16 bytes
 unfoldable pub mix_blocks : List ℕ → ℕ → ℕ → ℕ → ℕ
