@@ -15,7 +15,8 @@ mix bytes multiplier state i j =
 -- the state after the first n blocks of 16 bytes
 unfoldable pub mix_blocks : List ℕ → ℕ → ℕ → ℕ → ℕ
 mix_blocks bytes multiplier state zero = state
-mix_blocks bytes multiplier state (suc n) = mix bytes multiplier (mix_blocks bytes multiplier state n) (16 * n) (16 * n + 8)
+mix_blocks bytes multiplier state (suc n) =
+    mix bytes multiplier (mix_blocks bytes multiplier state n) (16 * n) (16 * n + 8)
 
 -- the state after at most eight bytes
 abbrev pub after_few : KeyedHasher → List ℕ → ℕ
