@@ -1,5 +1,5 @@
 -- The headline does not rest on this file.
--- Marks of names. Under the same keys, equal names have equal marks: a table that does not have a mark has no such name.
+-- Marks of names. Under the same keys, equal names have equal marks: without its mark, a table has no such name.
 use Rattle.std.specs.Prelude.{◌≡◌, ◌%◌, ◌/◌, ◌==◌, ℕ, Bool, true, List, [], ◌∷◌, slice_index}
 use Rattle.std.specs.Int.{bit_at}
 use Rattle.keyed_hash.specs.Folding.{first_hasher, write, finish}
