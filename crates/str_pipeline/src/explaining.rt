@@ -1,16 +1,16 @@
 //! Why a run has no result: it is run again, in code that knows where its strategies stand.
-ghost use Rattle.prim_registry.specs.Entries.{Covers, IsHonest};
+ghost use Rattle.prim_registry.specs.Entries.{IsHonest};
 
 use crate::callers::{call_sites, callers_line, search_site};
 use crate::causes::{
     Leaf, is_negation, push_excess, push_failure, push_phrase, search_failure, variables,
 };
 use crate::checking::findings_in;
-use crate::followed::FollowedSpace;
 use crate::program::{Purpose, make_program};
+use crate::rerun::{Evidence, Rerun, run_again};
 use crate::status::{Options, Status};
 use crate::usage::usage_line;
-use aterm_text::{read_in, write_term};
+use aterm_text::write_term;
 use diagnostics::{
     Definitions, Explanation, Listing, MOST_OF_NAME, Phrase, Remark, RunNotes, add_warnings,
     push_cut, push_number,
@@ -19,7 +19,7 @@ use keyed_hash::HashKeys;
 use prim_registry::{PrimMeaning, Registry};
 use std::alloc::{AllocError, Global};
 use strat_code::Code;
-use strat_machine::{Account, Ending, Machine, Stand};
+use strat_machine::{Ending, Stand};
 use term_model::{Fault, Term};
 
 /// The most rules for which a run is followed.
@@ -92,14 +92,6 @@ pub(crate) fn explain_run<M: PrimMeaning>(
     }
 }
 
-/// What a run that is followed is of: the text of a term, the rules that it may use, and the keys of its space.
-#[derive(Clone, Copy)]
-struct Rerun<'a> {
-    text: &'a [u8],
-    budget: u32,
-    keys: HashKeys,
-}
-
 /// The explanation of a run of these definitions, of which the first bytes are a library, on the term of this text.
 fn explanation_of<M: PrimMeaning>(
     alloc: Global,
@@ -133,75 +125,6 @@ fn explanation_of<M: PrimMeaning>(
     let definitions = Definitions::of_checked(definitions, library, &program.checked);
     add_warnings(alloc, &definitions, &mut remarks)?;
     Ok(Explanation::new(remarks))
-}
-
-/// What a run did, and where it stood.
-#[derive(Drop)]
-struct Evidence {
-    account: Account,
-    /// Before its last instruction, if it has no result.
-    last: Option<Stand>,
-    /// Before its deepest failure since a call last returned, if that is another one.
-    deepest: Option<Stand>,
-}
-
-/// Runs the code on the term of this text again, up to three times, each time in a space of its own.
-fn run_again<M: PrimMeaning>(
-    alloc: Global,
-    code: &Code,
-    rerun: Rerun<'_>,
-    registry: &Registry<M>,
-) -> Result<Evidence, Fault>
-    requires honest { IsHonest M.answer registry.now }
-    requires covers { Covers registry.now code.now.prims }
-{
-    let account = account_of(alloc, code, rerun, registry)?;
-    let mut last = None;
-    if account.ending != Ending::Rewritten {
-        last = stand_after(alloc, code, rerun, registry, account.before_last)?;
-    }
-    let mut deepest = None;
-    if account.ending == Ending::Failed && account.before_deepest != account.before_last {
-        deepest = stand_after(alloc, code, rerun, registry, account.before_deepest)?;
-    }
-    Ok(Evidence {
-        account,
-        last,
-        deepest,
-    })
-}
-
-/// The account of a run of the code on the term of this text.
-fn account_of<M: PrimMeaning>(
-    alloc: Global,
-    code: &Code,
-    rerun: Rerun<'_>,
-    registry: &Registry<M>,
-) -> Result<Account, Fault>
-    requires honest { IsHonest M.answer registry.now }
-    requires covers { Covers registry.now code.now.prims }
-{
-    let mut space = FollowedSpace::new(alloc, rerun.keys);
-    let term = read_in(&mut space, alloc, rerun.text)?;
-    let mut machine = Machine::new(alloc, space);
-    machine.account(code, term, rerun.budget, registry)
-}
-
-/// Where such a run stands after this number of steps, if an instruction comes next.
-fn stand_after<M: PrimMeaning>(
-    alloc: Global,
-    code: &Code,
-    rerun: Rerun<'_>,
-    registry: &Registry<M>,
-    count: u64,
-) -> Result<Option<Stand>, Fault>
-    requires honest { IsHonest M.answer registry.now }
-    requires covers { Covers registry.now code.now.prims }
-{
-    let mut space = FollowedSpace::new(alloc, rerun.keys);
-    let term = read_in(&mut space, alloc, rerun.text)?;
-    let mut machine = Machine::new(alloc, space);
-    machine.stand(code, term, rerun.budget, registry, count)
 }
 
 /// Makes the remarks of an explanation.
