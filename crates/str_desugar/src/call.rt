@@ -21,7 +21,7 @@ use crate::scopes::Scopes;
 use crate::strategy::{Context, strategy};
 use crate::symbols::Symbols;
 use core_lang::{CallTarget, CorePattern, CoreStrategy};
-use std::alloc::{AllocError, Global};
+use std::alloc::AllocError;
 use str_syntax::{Arguments, Name, Pattern, Strategy};
 
 /// A call by this name, with these arguments.

@@ -30,7 +30,7 @@ use str_syntax::{Name, Strategy, StrategyDefinition};
 /// The definition of this body without parameters, and a call of it.
 #[inline(never)]
 fn called_at_once(
-    alloc: Global,
+    context: &Context,
     scopes: &Scopes,
     name: &Name,
     body: Box<CoreStrategy>,
@@ -40,14 +40,14 @@ fn called_at_once(
         core.no_definitions) (core.call (callee_at (layers_of scopes.now) (written name.now) 0 0)
         core.no_strategies core.no_patterns)) }
 {
-    let mut definitions = Vec::new(alloc);
+    let mut definitions = Vec::new(context.alloc);
     definitions.push(CoreDef {
         strats: 0,
         terms: 0,
         body: Box::into_inner(body),
     })?;
-    let call = plain_call(alloc, scopes, name)?;
-    let_in(alloc, definitions, call)
+    let call = plain_call(context, scopes, name)?;
+    let_in(context.alloc, definitions, call)
 }
 
 /// The core of a `rec`: a definition, and a call of it.
@@ -75,7 +75,7 @@ pub(crate) fn recursive<'t>(
         outer: &layer,
     };
     let body = strategy(context, source, &inner, symbols)?;
-    let made = called_at_once(context.alloc, &layer, name, body)?;
+    let made = called_at_once(context, &layer, name, body)?;
     Ok(made)
 }
 
