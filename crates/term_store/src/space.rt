@@ -3,6 +3,7 @@ ghost use Rattle.std.specs.Prelude.{◌≡◌, nat_lt, nat_le, map, All, IsTrue,
 ghost use Rattle.term_model.specs.Term.{term};
 ghost use Rattle.term_model.specs.Space.{Keeps, Makes, MayHave};
 ghost use Rattle.term_store.specs.Space as stored;
+ghost use Rattle.indexmap.specs.IndexSet.{hasher_of};
 
 use crate::chains::Chains;
 use crate::extents::Extents;
@@ -19,7 +20,8 @@ impl StoreSpace {
     /// A store that holds nothing. Its tables hash with these keys.
     #[tactic(auto, using(crate::proofs::SpaceLemmas::space))]
     pub fn new(alloc: Global, keys: HashKeys) -> StoreSpace
-        ensures { stored.held_count result ≡ 0 }
+        ensures empty { stored.held_count result ≡ 0 }
+        ensures keyed { hasher_of result.symbols ≡ keys }
     {
         let small = small_integers();
         StoreSpace {
