@@ -259,19 +259,18 @@ fn weight_after<S: TermSpace + Drop>(
 /// Runs the code, once more where memory is refused, when an older reference has its term.
 fn run_again<S: TermSpace + Drop>(
     alloc: Global,
-    space: S,
+    machine: &mut Machine<S>,
     code: &Code,
     term: &Term,
 ) -> Result<u32, Fault> {
-    let mut machine = Machine::new(alloc, space);
     let older = machine.enter(term)?;
-    if let Ok(weight) = weight_after(alloc, &mut machine, code, term) {
+    if let Ok(weight) = weight_after(alloc, machine, code, term) {
         return Ok(weight);
     }
     if !has_term(alloc, machine.space(), &older, term)? {
         return Ok(0);
     }
-    weight_after(alloc, &mut machine, code, term)
+    weight_after(alloc, machine, code, term)
 }
 
 /// The weight of what the definitions rewrite the term to over the space, in a run that is taken again where memory is refused.
@@ -283,7 +282,8 @@ fn weight_over<S: TermSpace + Drop>(
 ) -> Result<u32, Fault> {
     let code = code_of(alloc, definitions)?;
     let term = read_term(alloc, text)?;
-    run_again(alloc, space, &code, &term)
+    let mut machine = Machine::new(alloc, space);
+    run_again(alloc, &mut machine, &code, &term)
 }
 
 #[test]
