@@ -19,6 +19,7 @@ pub struct Bytes {
 }
 
 impl Model for Bytes {
+    ghost use Rattle.std.specs.Prelude.{ℕ, List};
     ghost use Rattle.prim_registry.specs.HeldBytes.{held_bytes};
 
     ghost Value = { List ℕ };

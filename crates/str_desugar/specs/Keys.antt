@@ -1,7 +1,7 @@
 -- The headline does not rest on this file.
 -- What keys in the code stand for.
 use Rattle.core_lang.specs.Named.{written}
-use Rattle.std.specs.Prelude.{ℕ, List, map}
+use Rattle.std.specs.Prelude.{List, map}
 use Rattle.str_desugar.specs.Frames.{NamedKey}
 use Rattle.str_desugar.specs.Marks.{AreMarked}
 use Rattle.str_desugar.specs.declared.marks.Marks.{Marks}
