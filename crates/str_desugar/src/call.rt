@@ -167,12 +167,6 @@ fn called_with<'t>(
         return Ok(each);
     }
     let strategies = strategy_arguments(context, sources, scopes, symbols)?;
-    let made = call_of(
-        context,
-        scopes,
-        name,
-        strategies,
-        Vec::new(context.alloc),
-    )?;
+    let made = call_of(context, scopes, name, strategies, Vec::new(context.alloc))?;
     Ok(made)
 }
