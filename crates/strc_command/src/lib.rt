@@ -17,6 +17,7 @@ mod raw;
 mod report;
 mod request;
 mod stopping;
+mod version;
 mod words;
 
 pub use paths::{Files, Paths};

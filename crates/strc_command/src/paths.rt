@@ -42,9 +42,6 @@ pub struct Files<'a> {
 /// What the system calls the running program.
 const PROGRAM: &str = "/proc/self/exe";
 
-/// The path of the prelude in the folder that contains the folder `bin` of the program.
-const PRELUDE_PATH: &str = "share/strc/prelude.str";
-
 impl<'a> Files<'a> {
     /// Opens files through this runtime. No file has failed to open yet.
     pub fn new(runtime: &'a HostRuntime) -> Files<'a> {
@@ -84,14 +81,27 @@ impl Paths for Files<'_> {
     }
 }
 
-/// Returns the path of the prelude that is installed with the program at this path: `PREFIX/share/strc/prelude.str` for `PREFIX/bin/strc`.
-/// Nothing if the path has fewer than two folders.
-pub(crate) fn prelude_beside(alloc: Global, program: &str) -> Result<Option<String>, AllocError> {
+/// Returns the path of a file that is installed with the program at this path: `PREFIX/share/strc/prelude.str`, say, for `PREFIX/bin/strc`.
+/// Nothing if the path of the program has fewer than two folders.
+fn beside(alloc: Global, program: &str, path: &str) -> Result<Option<String>, AllocError> {
     let Some((folder, _)) = program.rsplit_once('/') else {
         return Ok(None);
     };
     let Some((prefix, _)) = folder.rsplit_once('/') else {
         return Ok(None);
     };
-    Ok(Some(format!(in alloc; "{prefix}/{PRELUDE_PATH}")?))
+    Ok(Some(format!(in alloc; "{prefix}/{path}")?))
+}
+
+/// Returns the path of a file that is installed with the program, whether or not it is there; nothing where the place of the program is not
+/// known. The file is named by its path in the folder that contains the folder `bin` of the program. The error is one of memory.
+pub(crate) fn installed<P: Paths>(
+    alloc: Global,
+    paths: &P,
+    path: &str,
+) -> Result<Option<String>, AllocError> {
+    match paths.program(alloc)? {
+        Some(program) => beside(alloc, program.as_str(), path),
+        None => Ok(None),
+    }
 }

@@ -20,6 +20,7 @@ use crate::paths::Paths;
 use crate::report::{INPUT, Reporting};
 use crate::request::{Request, Texts, misuse_of, options_of, request_of};
 use crate::stopping::{stop, stop_writing};
+use crate::version::answer_text;
 use clap::Error;
 use clap::error::ErrorKind;
 use keyed_hash::HashKeys;
@@ -198,11 +199,12 @@ fn run_texts<P: Paths, I: Source, W: Sink, E: Sink, M: PrimMeaning>(
 }
 
 /// Tells what is wrong with the words on `diagnostics`, and returns 5; or writes the help text or the version to `out`, as was asked, and
-/// returns 0.
+/// returns 0. Next to the version stands what a file that is installed with the program says of it.
 #[tactic(auto, using(crate::proofs::CauseLaws::line_told))]
-fn answer_words<W: Sink, E: Sink>(
+fn answer_words<P: Paths, W: Sink, E: Sink>(
     alloc: Global,
     error: &Error,
+    paths: &mut P,
     out: &mut W,
     diagnostics: &mut E,
 ) -> u8
@@ -213,15 +215,15 @@ fn answer_words<W: Sink, E: Sink>(
     if error.kind() == ErrorKind::OutOfMemory {
         return stop(&Fault::Memory, diagnostics);
     }
-    let Ok(text) = format!(in alloc; "{error}") else {
+    let Ok(text) = answer_text(alloc, error, paths) else {
         return stop(&Fault::Memory, diagnostics);
     };
     if error.use_stderr() {
-        let _ = write_all(diagnostics, text.as_bytes());
+        let _ = write_all(diagnostics, &text);
         let _ = write_all(diagnostics, range_of(error.kind()).as_bytes());
         return 5;
     }
-    if write_all(out, text.as_bytes()).is_err() {
+    if write_all(out, &text).is_err() {
         return stop_writing(alloc, out, diagnostics);
     }
     0
@@ -281,7 +283,7 @@ pub fn run<P: Paths, I: Source, W: Sink, E: Sink, M: PrimMeaning>(
 {
     let request = match request_of(alloc, words) {
         Ok(request) => request,
-        Err(error) => return answer_words(alloc, &error, out, diagnostics),
+        Err(error) => return answer_words(alloc, &error, paths, out, diagnostics),
     };
     let Ok(options) = options_of(alloc, &request) else {
         return stop(&Fault::Memory, diagnostics);
