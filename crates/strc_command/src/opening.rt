@@ -114,12 +114,12 @@ fn open_libraries<'a, P: Paths>(
         match paths.open(path) {
             Ok(reader) => {
                 if readers.push_back(reader).is_err() {
-                    let failure = Failure::of_opening(path, None);
+                    let failure = Failure::of_opening(path, paths);
                     return Err(Unopened::new(Fault::Memory, failure));
                 }
             }
             Err(fault) => {
-                let failure = Failure::of_library(path, paths.failure(), library.is_prelude);
+                let failure = Failure::of_library(path, paths, library.is_prelude);
                 return Err(Unopened::new(fault, failure));
             }
         }
@@ -144,7 +144,7 @@ pub(crate) fn open_reader<P: Paths, E: Sink>(
     match paths.open(path) {
         Ok(reader) => Ok(reader),
         Err(fault) => {
-            let failure = Failure::of_opening(path, paths.failure());
+            let failure = Failure::of_opening(path, paths);
             Err(stop_reading(alloc, &fault, failure, diagnostics))
         }
     }

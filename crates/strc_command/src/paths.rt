@@ -4,7 +4,7 @@ ghost use Rattle.str_pipeline.specs.Faults.{IsReadingFault};
 
 use std::alloc::{AllocError, Global};
 use std::fs::{self, File};
-use std::io::ErrorKind;
+use std::io::{Error, ErrorKind};
 use str_pipeline::{Counted, Source};
 use term_model::Fault;
 
@@ -30,14 +30,24 @@ pub trait Paths {
     fn failure(&self) -> Option<ErrorKind> {
         None
     }
+
+    /// Whether it did so since too many files are open. No clause speaks of it.
+    fn has_too_many_open(&self) -> bool {
+        false
+    }
 }
 
 /// The files of the system.
 #[derive(Drop)]
 pub struct Files<'a> {
     runtime: &'a HostRuntime,
-    failure: Option<ErrorKind>,
+    failure: Option<Error>,
 }
+
+/// The numbers of the errors of too many open files.
+const ENFILE: i32 = 23;
+
+const EMFILE: i32 = 24;
 
 /// What the system calls the running program.
 const PROGRAM: &str = "/proc/self/exe";
@@ -62,7 +72,7 @@ impl Paths for Files<'_> {
             Ok(file) => Ok(Counted::new(file)),
             Err(error) if error.kind() == ErrorKind::OutOfMemory => Err(Fault::Memory),
             Err(error) => {
-                self.failure = Some(error.kind());
+                self.failure = Some(error);
                 Err(Fault::Read)
             }
         }
@@ -77,7 +87,15 @@ impl Paths for Files<'_> {
     }
 
     fn failure(&self) -> Option<ErrorKind> {
-        self.failure
+        self.failure.map(|error| error.kind())
+    }
+
+    /// Of these errors, ENFILE is one of the whole system, and EMFILE one of the program.
+    fn has_too_many_open(&self) -> bool {
+        let Some(error) = self.failure else {
+            return false;
+        };
+        matches!(error.raw_os_error(), Some(ENFILE | EMFILE))
     }
 }
 

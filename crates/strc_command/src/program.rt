@@ -118,6 +118,66 @@ fn run_files<P: Paths, W: Sink, E: Sink, M: PrimMeaning>(
     )
 }
 
+/// Does the work with the file of the definitions at the path, those of the libraries before it, and the term of the file at the other path or
+/// of `input`.
+#[tactic(auto, using(crate::proofs::CauseLaws::of_transfer, crate::proofs::CauseLaws::of_reading, crate::proofs::CauseLaws::fault_told))]
+fn run_paths<P: Paths, I: Source, W: Sink, E: Sink, M: PrimMeaning>(
+    alloc: Global,
+    keys: HashKeys,
+    request: &Request<'_>,
+    named: (&str, Option<&str>),
+    paths: &mut P,
+    input: &mut I,
+    options: &Options,
+    registry: &Registry<M>,
+    out: &mut W,
+    diagnostics: &mut E,
+) -> u8
+    requires budget { options.now.budget ≤ max_budget }
+    requires honest { IsHonest M.answer registry.now }
+    ensures status { result ≤ 4 }
+    ensures ended { result < 4 → (status : Status) × (exit_of status ≡ result) × HoldsRefusal status
+        × Told E.writer diagnostics.old diagnostics.new
+        (IsReportedWith request.now.has_stats request.now.explains status) }
+    ensures stops { Stops W.writer E.writer out.old out.new diagnostics.old diagnostics.new result }
+    ensures bounded { I.reader.reads input.new ≤ I.reader.reads input.old + max_term + 1 }
+{
+    let (path, term) = named;
+    let libraries = match find_libraries(alloc, paths, &request.libraries, diagnostics) {
+        Ok(libraries) => libraries,
+        Err(status) => return status,
+    };
+    match term {
+        None => {
+            let reporting = Reporting::new(request, &libraries, path, INPUT);
+            run_definitions(
+                alloc,
+                keys,
+                paths,
+                input,
+                reporting,
+                options,
+                registry,
+                out,
+                diagnostics,
+            )
+        }
+        Some(term) => {
+            let reporting = Reporting::new(request, &libraries, path, term);
+            run_files(
+                alloc,
+                keys,
+                paths,
+                reporting,
+                options,
+                registry,
+                out,
+                diagnostics,
+            )
+        }
+    }
+}
+
 /// Does the work with the texts that the request names. A file that cannot be opened is a fault before anything is read.
 #[tactic(auto, using(crate::proofs::CauseLaws::of_transfer, crate::proofs::CauseLaws::of_reading, crate::proofs::CauseLaws::fault_told))]
 fn run_texts<P: Paths, I: Source, W: Sink, E: Sink, M: PrimMeaning>(
@@ -160,41 +220,30 @@ fn run_texts<P: Paths, I: Source, W: Sink, E: Sink, M: PrimMeaning>(
                 diagnostics,
             )
         }
-        Texts::Definitions(path) => {
-            let libraries = match find_libraries(alloc, paths, &request.libraries, diagnostics) {
-                Ok(libraries) => libraries,
-                Err(status) => return status,
-            };
-            let reporting = Reporting::new(request, &libraries, path, INPUT);
-            run_definitions(
-                alloc,
-                keys,
-                paths,
-                input,
-                reporting,
-                options,
-                registry,
-                out,
-                diagnostics,
-            )
-        }
-        Texts::Both(path, term) => {
-            let libraries = match find_libraries(alloc, paths, &request.libraries, diagnostics) {
-                Ok(libraries) => libraries,
-                Err(status) => return status,
-            };
-            let reporting = Reporting::new(request, &libraries, path, term);
-            run_files(
-                alloc,
-                keys,
-                paths,
-                reporting,
-                options,
-                registry,
-                out,
-                diagnostics,
-            )
-        }
+        Texts::Definitions(path) => run_paths(
+            alloc,
+            keys,
+            request,
+            (path, None),
+            paths,
+            input,
+            options,
+            registry,
+            out,
+            diagnostics,
+        ),
+        Texts::Both(path, term) => run_paths(
+            alloc,
+            keys,
+            request,
+            (path, Some(term)),
+            paths,
+            input,
+            options,
+            registry,
+            out,
+            diagnostics,
+        ),
     }
 }
 

@@ -1,4 +1,5 @@
 //! What the help text and the version say, and what is wrong with the words.
+use crate::names::is_unseen;
 use crate::paths::{Paths, installed};
 use clap::Error;
 use clap::error::ErrorKind;
@@ -72,6 +73,11 @@ fn with_build<P: Paths>(
     Ok(text)
 }
 
+/// Whether the character cannot be seen and ends no line.
+fn is_unseen_in_text(character: char) -> bool {
+    character != '\n' && is_unseen(character)
+}
+
 /// Returns what is printed where the words ask for no run: what is wrong with them, the help text, or the version with what the file
 /// `share/strc/build` says that is installed with the program. An error is one of memory.
 pub(crate) fn answer_text<P: Paths>(
@@ -80,6 +86,9 @@ pub(crate) fn answer_text<P: Paths>(
     paths: &mut P,
 ) -> Result<Vec<u8>, AllocError> {
     let text = format!(in alloc; "{error}")?;
+    if error.use_stderr() {
+        return Ok(text.replace(alloc, is_unseen_in_text, "?")?.into_bytes());
+    }
     if error.kind() == ErrorKind::DisplayVersion {
         return with_build(alloc, text.into_bytes(), paths);
     }
