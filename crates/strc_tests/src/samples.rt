@@ -83,13 +83,14 @@ impl Sink for Device {
 }
 
 /// Opens the files. A path that ends with a slash is one of a folder, which can be opened and not read; one with a colon cannot be opened,
-/// for a reason without a name.
+/// for a reason without a name, and one with a percent sign cannot, since too many files are open.
 #[derive(Drop)]
 pub(crate) struct Shelf {
     pub(crate) alloc: Global,
     /// The path of the running program.
     pub(crate) program: Option<&'static str>,
     failure: Option<ErrorKind>,
+    is_full: bool,
 }
 
 impl Shelf {
@@ -98,13 +99,14 @@ impl Shelf {
             alloc,
             program: Some("home/bin/strc"),
             failure: None,
+            is_full: false,
         }
     }
 }
 
 /// Returns why the path, which is none of a file, cannot be opened.
 fn refusal_of(path: &str) -> ErrorKind {
-    if path.contains(':') {
+    if path.contains([':', '%']) {
         return ErrorKind::Uncategorized;
     }
     ErrorKind::NotFound
@@ -127,6 +129,7 @@ impl Paths for Shelf {
             }
         }
         self.failure = Some(refusal_of(path));
+        self.is_full = path.contains('%');
         Err(Fault::Read)
     }
 
@@ -139,6 +142,10 @@ impl Paths for Shelf {
 
     fn failure(&self) -> Option<ErrorKind> {
         self.failure
+    }
+
+    fn has_too_many_open(&self) -> bool {
+        self.is_full
     }
 }
 
