@@ -32,11 +32,7 @@ impl<'a> Failure<'a> {
     }
 
     /// A file in front of the definitions that could not be opened; where it is the installed prelude a hint names the file of the repository.
-    pub(crate) fn of_library<P: Paths>(
-        path: &'a str,
-        paths: &P,
-        is_prelude: bool,
-    ) -> Failure<'a> {
+    pub(crate) fn of_library<P: Paths>(path: &'a str, paths: &P, is_prelude: bool) -> Failure<'a> {
         Failure {
             name: path,
             why: why_unopened(paths),

@@ -11,8 +11,7 @@ use crate::request::{Form, Request};
 use itoa::Buffer;
 use std::alloc::{AllocError, Global};
 use str_pipeline::{
-    Excerpt, FileProgress, Hint, NamedLine, Reason, RunNotes, Sink, Subject, Used,
-    write_all,
+    Excerpt, FileProgress, Hint, NamedLine, Reason, RunNotes, Sink, Subject, Used, write_all,
 };
 use term_model::Fault;
 
