@@ -5,10 +5,10 @@ use keyed_hash::HashKeys;
 use std::io;
 use std::process::ExitCode;
 use str_pipeline::Counted;
-use strc_command::{Files, run_standard, stand_ins, words_of};
+use strc_command::{Files, open_stand_ins, run_standard, words_of};
 
 fn main(rt: HostRuntime) -> ExitCode {
-    let _kept = stand_ins(&rt);
+    let _kept = open_stand_ins(&rt);
     let stdout = rt.stdout();
     let stderr = rt.stderr();
     let mut input = Counted::new(rt.reader());

@@ -27,5 +27,5 @@ pub use primitives::run_standard;
 pub use program::run;
 pub use raw::without_quotes;
 pub use request::{Form, Request, Texts, request_of};
-pub use stand_ins::stand_ins;
+pub use stand_ins::open_stand_ins;
 pub use words::words_of;

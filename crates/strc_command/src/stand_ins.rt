@@ -33,7 +33,7 @@ fn stand_in(runtime: &HostRuntime, place: &str, options: &OpenOptions) -> Option
 /// Opens files in place of those of the three standard streams that are closed. Else a file of definitions would take the place of standard
 /// input, and be read as the term. What stands for standard input cannot be read, and what stands for the others cannot be written, so that calls
 /// on them fail as on closed streams. They are to be kept until the program ends. Nothing is opened where the system has no such list.
-pub fn stand_ins(runtime: &HostRuntime) -> [Option<File>; 3] {
+pub fn open_stand_ins(runtime: &HostRuntime) -> [Option<File>; 3] {
     if fs::symlink_metadata(runtime, OPEN_FILES).is_err() {
         return [None, None, None];
     }
