@@ -34,10 +34,10 @@ fn write_pieces<E: Sink>(pieces: &[&[u8]], diagnostics: &mut E) -> Result<(), Fa
 fn write_name<E: Sink>(name: &str, diagnostics: &mut E) -> Result<(), Fault>
     ensures { TellsText (E.writer.written diagnostics.old) (E.writer.written diagnostics.new) }
 {
-    let mut before = "";
-    for part in name.split(is_unseen) {
-        write_pieces(&[before.as_bytes(), part.as_bytes()], diagnostics)?;
-        before = "?";
+    let mut bytes = [0u8; 4];
+    for character in name.chars() {
+        let shown = if is_unseen(character) { '?' } else { character };
+        write_pieces(&[shown.encode_utf8(&mut bytes).as_bytes()], diagnostics)?;
     }
     Ok(())
 }
