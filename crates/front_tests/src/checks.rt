@@ -1,5 +1,6 @@
 //! The judgement of small files with ample memory; what is expected was worked out by hand.
 use crate::front::{check_file, read};
+use keyed_hash::HashKeys;
 use scope_check::{CheckRefusal, Checked, find_faults, judge};
 use std::alloc::{AllocError, Global};
 use std::str;
@@ -12,7 +13,7 @@ use term_model::PrimNames;
 fn refusal(alloc: Global, file: File) -> Result<Option<CheckRefusal>, AllocError> {
     let mut primitives = PrimNames::new(alloc);
     primitives.insert(b"add", 2)?;
-    Ok(judge(alloc, file, &primitives, b"main").err())
+    Ok(judge(alloc, HashKeys::known(), file, &primitives, b"main").err())
 }
 
 /// The word of the fault that the file has and what is noted of it, or nothing.
@@ -267,7 +268,7 @@ const ALL_FAULTS: &[(&str, &str)] = &[
 /// The names that are noted in the file, with a space between each two, where there are no primitives.
 fn names_noted(alloc: Global, file: &File) -> Result<String, Fail> {
     let primitives = PrimNames::new(alloc);
-    let faults = find_faults(alloc, file, &primitives, b"main")?;
+    let faults = find_faults(alloc, HashKeys::known(), file, &primitives, b"main")?;
     let mut names = String::new(alloc);
     for note in faults.notes() {
         if !names.is_empty() {

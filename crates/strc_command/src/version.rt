@@ -52,6 +52,13 @@ fn build_of<P: Paths>(alloc: Global, paths: &mut P) -> Result<Vec<u8>, Fault> {
     }
 }
 
+/// Returns the bytes of the first text and then those of the second. An error is one of memory.
+fn joined(alloc: Global, first: &[u8], second: &[u8]) -> Result<Vec<u8>, AllocError> {
+    let mut text = first.to_vec(alloc)?;
+    text.extend_from_slice(second)?;
+    Ok(text)
+}
+
 /// Returns the line of the version and what the file beside the program says, which may begin with the same line. If the file cannot be read,
 /// the line stands alone. An error is one of memory.
 fn with_build<P: Paths>(
@@ -64,13 +71,10 @@ fn with_build<P: Paths>(
         Err(Fault::Memory) => return Err(AllocError),
         Err(_) => return Ok(line),
     };
-    let more = match build.strip_prefix(line.as_slice()) {
-        Some(more) => more,
-        None => build.as_slice(),
-    };
-    let mut text = line.to_vec(alloc)?;
-    text.extend_from_slice(more)?;
-    Ok(text)
+    match build.strip_prefix(line.as_slice()) {
+        Some(more) => joined(alloc, &line, more),
+        None => joined(alloc, &line, &build),
+    }
 }
 
 /// Whether the character cannot be seen and ends no line.
