@@ -46,10 +46,10 @@ IDENTITY = b"strategies main = id\n"
 
 # Makes as many symbols as the term says, with the end that it says, and keeps them.
 MAKING = b"""rules
-  more : (n, end, made) -> (<prim("sub", n, 1)>, end, [<prim("concat", <prim("int_text", n)>, end)> | made])
+  more : (n, tail, made) -> (<prim("sub", n, 1)>, tail, [<prim("concat", <prim("int_text", n)>, tail)> | made])
     where prim("less", 0, n)
 strategies
-  main = ?(n, end); !(n, end, []); repeat(more)
+  main = ?(n, tail); !(n, tail, []); repeat(more)
 """
 
 
