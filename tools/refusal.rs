@@ -1,5 +1,5 @@
 //! Stands before a program's `malloc` and `realloc` and refuses one call: the one whose number the environment's REFUSED_CALL has,
-//! from 1 on. It says so on standard error.
+//! from 1 on. It says so on standard error. It gives the program no random bytes, so that each run hashes with the same keys.
 #![no_std]
 
 use core::ffi::{c_char, c_int, c_long, c_void};
@@ -40,6 +40,12 @@ unsafe extern "C" fn realloc(old: *mut c_void, size: usize) -> *mut c_void {
         return null_mut();
     }
     unsafe { __libc_realloc(old, size) }
+}
+
+/// Fails, so that the program takes the keys that everybody knows.
+#[unsafe(no_mangle)]
+unsafe extern "C" fn getentropy(_bytes: *mut c_void, _count: usize) -> c_int {
+    -1
 }
 
 #[panic_handler]

@@ -36,6 +36,7 @@ two
 three
 file empty
 file d/
+file \x1b.txt: four
 file locked.txt, locked: secret
 
 # Then the rows.
@@ -70,6 +71,16 @@ b
 "x\ty\xff"
 200 * "ab"
 "\n"
+
+# Closed streams, and names with other characters than printable ones.
+== strc read '\x1b.txt'
+-- output, bare: four
+
+== strc <&- >&- 2>&-
+-- status: 1
+
+== strc read '\x1bd.txt' 2>&-
+-- status: 4
 
 # Two commands, and words with blanks in them.
 == strc say 'a b\n' '' 0 | strc
@@ -156,7 +167,7 @@ class Rows(unittest.TestCase):
     def test_rows_that_pass(self):
         for words in [], ["--update"]:
             status, printed = self.run_rows(GOOD, *words)
-            self.assertEqual((status, printed.splitlines()[-1]), (0, "10 passed, 0 failed"), printed)
+            self.assertEqual((status, printed.splitlines()[-1]), (0, "13 passed, 0 failed"), printed)
             self.assertEqual(self.file.read_text(encoding="utf-8"), GOOD)
 
     def test_updates(self):
@@ -164,9 +175,9 @@ class Rows(unittest.TestCase):
             self.assertEqual(GOOD.count(before), 1, before)
             changed = GOOD.replace(before, after)
             status, printed = self.run_rows(changed)
-            self.assertEqual((status, printed.splitlines()[-1]), (1, "9 passed, 1 failed"), printed)
+            self.assertEqual((status, printed.splitlines()[-1]), (1, "12 passed, 1 failed"), printed)
             self.assertEqual(self.file.read_text(encoding="utf-8"), changed)
-            self.assertEqual(self.run_rows(changed, "--update"), (0, "1 rows were updated\n10 passed, 0 failed\n"))
+            self.assertEqual(self.run_rows(changed, "--update"), (0, "1 rows were updated\n13 passed, 0 failed\n"))
             self.assertEqual(self.file.read_text(encoding="utf-8"), GOOD)
 
     def test_all_updates_at_once(self):

@@ -36,7 +36,7 @@ fn flat_value(alloc: Global, t: &Term) -> Result<Option<Flat>, AllocError>
     match t.head() {
         Head::Int(value) => Ok(Some(Flat::Int(*value))),
         Head::App(symbol) => {
-            let text = text(alloc, symbol, t.children())?;
+            let text = text(symbol, t.children())?;
             Ok(text)
         }
         Head::List => match numbers(alloc, t.children())? {
@@ -46,8 +46,8 @@ fn flat_value(alloc: Global, t: &Term) -> Result<Option<Flat>, AllocError>
     }
 }
 
-/// Returns the string that the symbol with these parts is.
-fn text(alloc: Global, symbol: &Sym, parts: &[Term]) -> Result<Option<Flat>, AllocError>
+/// Returns the string that the symbol with these parts is. It shares the bytes of the symbol.
+fn text(symbol: &Sym, parts: &[Term]) -> Result<Option<Flat>, AllocError>
     ensures { IfOk result (λ value. answer_of value ≡
         flat_of (term (Head.App symbol.now) parts.now [])) }
 {
@@ -57,8 +57,8 @@ fn text(alloc: Global, symbol: &Sym, parts: &[Term]) -> Result<Option<Flat>, All
     if !parts.is_empty() {
         return Ok(None);
     }
-    let bytes = Vec::from_slice(alloc, symbol.bytes())?;
-    Ok(Some(Flat::Str(Bytes::new(bytes))))
+    let shared = symbol.clone()?;
+    Ok(Some(Flat::Str(Bytes::of_symbol(shared))))
 }
 
 /// Returns the integers that the terms are.

@@ -4,6 +4,7 @@
 mod advice;
 mod comparisons;
 mod context;
+mod distance;
 mod excerpt;
 mod explanation;
 mod groups;

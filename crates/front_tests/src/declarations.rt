@@ -1,5 +1,6 @@
 //! Each public call with ample memory; what is expected was worked out by hand.
 use aterm_text::read_term;
+use keyed_hash::HashKeys;
 use signature_core::Signature;
 use std::alloc::Global;
 use std::test::Fail;
@@ -55,7 +56,7 @@ fn declares(
 
 /// The signature of these declarations, each of which is new or is not, as its row says.
 fn signature(alloc: Global, rows: &[Declared]) -> Result<Signature, Fail> {
-    let mut signature = Signature::new(alloc);
+    let mut signature = Signature::new(alloc, HashKeys::known());
     for (name, arguments, to, is_new) in rows {
         if declares(alloc, &mut signature, name, arguments, to)? != *is_new {
             return Err(Fail::new(name));

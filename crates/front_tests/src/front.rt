@@ -1,5 +1,6 @@
 //! From the text of definitions to what is known of them.
 use core_lang::Core;
+use keyed_hash::HashKeys;
 use scope_check::{Checked, check};
 use std::alloc::Global;
 use std::test::Fail;
@@ -20,11 +21,11 @@ pub(crate) fn check_file(alloc: Global, file: File) -> Result<Checked, Fail> {
     let mut primitives = PrimNames::new(alloc);
     primitives.insert(b"p", 0)?;
     primitives.insert(b"p", 2)?;
-    Ok(check(alloc, file, &primitives, b"main")?)
+    Ok(check(alloc, HashKeys::known(), file, &primitives, b"main")?)
 }
 
 /// The core of the file.
 pub(crate) fn core_of(alloc: Global, file: File) -> Result<Core, Fail> {
     let checked = check_file(alloc, file)?;
-    Ok(to_core(alloc, &checked)?)
+    Ok(to_core(alloc, HashKeys::known(), &checked)?)
 }

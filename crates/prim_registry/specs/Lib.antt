@@ -1,3 +1,4 @@
+pub mod HeldBytes
 pub mod Values
 pub mod Standard
 pub mod Answers

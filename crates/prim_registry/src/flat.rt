@@ -1,18 +1,30 @@
 //! Flat values: what primitives are given and return.
 ghost use Rattle.std.specs.Prelude.{◌≡◌, ℕ, ℤ, List};
+ghost use Rattle.term_model.specs.Symbol.{bytes_of};
 
 use std::marker::Model;
+use term_model::Sym;
+
+/// What holds the bytes of a string.
+#[derive(Debug, Drop)]
+enum Holder {
+    Vector(Vec<u8>),
+    Symbol(Sym),
+}
 
 /// The bytes of a string.
 #[derive(Debug, Drop)]
 pub struct Bytes {
-    bytes: Vec<u8>,
+    holder: Holder,
 }
 
 impl Model for Bytes {
+    ghost use Rattle.std.specs.Prelude.{ℕ, List};
+    ghost use Rattle.prim_registry.specs.HeldBytes.{held_bytes};
+
     ghost Value = { List ℕ };
 
-    ghost view = { λ b. b.bytes.items };
+    ghost view = { λ b. held_bytes b.holder };
 }
 
 impl Bytes {
@@ -20,21 +32,28 @@ impl Bytes {
     pub fn new(bytes: Vec<u8>) -> Bytes
         ensures { result ≡ bytes.items }
     {
-        Bytes { bytes }
+        Bytes {
+            holder: Holder::Vector(bytes),
+        }
+    }
+
+    /// Returns the string of the bytes of a symbol, without a copy.
+    pub fn of_symbol(symbol: Sym) -> Bytes
+        ensures { result ≡ bytes_of symbol }
+    {
+        Bytes {
+            holder: Holder::Symbol(symbol),
+        }
     }
 
     /// Returns the bytes.
     pub fn as_slice(&self) -> &[u8]
         ensures { result.now ≡ self.now }
     {
-        self.bytes.as_slice()
-    }
-
-    /// Returns the bytes as a vector, without a copy.
-    pub fn into_vec(self) -> Vec<u8>
-        ensures { result.items ≡ self }
-    {
-        self.bytes
+        match &self.holder {
+            Holder::Vector(bytes) => bytes.as_slice(),
+            Holder::Symbol(symbol) => symbol.bytes(),
+        }
     }
 }
 

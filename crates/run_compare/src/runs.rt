@@ -5,10 +5,10 @@ use crate::case::Case;
 use aterm_text::read_term;
 use core_eval::eval;
 use core_lang::{Core, Outcome, Run};
+use keyed_hash::HashKeys;
 use prim_registry::{PrimMeaning, Registry, Standard};
 use scope_check::check;
 use std::alloc::{AllocError, Global};
-use std::hash::BuildHasherDefault;
 use str_desugar::to_core;
 use str_lexer::lex;
 use str_parser::parse;
@@ -50,7 +50,7 @@ pub(crate) fn compare(
     }
     let budget = case.budget.min(MOST);
     let plain = eval(alloc, &core, &term, budget, registry)?;
-    let store = StoreSpace::new(alloc, BuildHasherDefault::new());
+    let store = StoreSpace::new(alloc, HashKeys::known());
     let compiled = run_compiled(alloc, store, &core, &term, budget, registry)?;
     if plain.outcome != compiled.outcome || plain.rules != compiled.rules {
         return Ok(Compared::Different);
@@ -75,8 +75,8 @@ fn read_case(
     let file = parse(alloc, definitions, &tokens)?;
     let file = with_library(alloc, file)?;
     let names = registry.names(alloc)?;
-    let checked = check(alloc, file, &names, &case.main)?;
-    let core = to_core(alloc, &checked)?;
+    let checked = check(alloc, HashKeys::known(), file, &names, &case.main)?;
+    let core = to_core(alloc, HashKeys::known(), &checked)?;
     let term = read_term(alloc, &case.term)?;
     Ok((core, term))
 }

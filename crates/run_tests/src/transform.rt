@@ -6,6 +6,7 @@ mod devices;
 mod endless;
 mod failures;
 mod forms;
+mod keys;
 mod language_rows;
 mod library_rows;
 mod long_rows;

@@ -13,6 +13,7 @@ use crate::detail::Detail;
 use crate::findings::Findings;
 use crate::note::place_of;
 use indexmap::IndexMap;
+use keyed_hash::HashKeys;
 use std::alloc::{AllocError, Global};
 use std::marker::Model;
 use str_syntax::{DefinitionHead, DefinitionKey, Name};
@@ -39,16 +40,16 @@ impl<'a> Model for Group<'a> {
 /// The groups of heads, by their keys.
 #[derive(Drop)]
 pub(crate) struct Groups<'a> {
-    by_key: IndexMap<DefinitionKey<'a>, Group<'a>>,
+    by_key: IndexMap<DefinitionKey<'a>, Group<'a>, HashKeys>,
 }
 
 impl<'a> Groups<'a> {
     /// No groups.
-    fn new(alloc: Global) -> Groups<'a>
+    fn new(alloc: Global, hashing: HashKeys) -> Groups<'a>
         ensures { result.by_key.entries ≡ [] }
     {
         Groups {
-            by_key: IndexMap::new(alloc),
+            by_key: IndexMap::with_hasher(alloc, hashing),
         }
     }
 
@@ -139,12 +140,13 @@ impl<'a> Groups<'a> {
 /// noted, and the first of those that are too many. `AllocError` where a growth is refused.
 pub(crate) fn find_in_group(
     alloc: Global,
+    hashing: HashKeys,
     heads: &[&DefinitionHead],
     findings: &mut Findings,
 ) -> Result<(), AllocError>
     ensures { Adds result findings.old (found_group (heads_of heads.now)) findings.new }
 {
-    let mut groups = Groups::new(alloc);
+    let mut groups = Groups::new(alloc, hashing);
     let mut refused = None;
     for head in heads {
         let fits = groups.add(head)?;

@@ -7,6 +7,7 @@ ghost use Rattle.str_syntax.specs.Views.{declaration_of, file_of, section_of, si
 
 use crate::detail::Detail;
 use crate::findings::Findings;
+use keyed_hash::HashKeys;
 use signature_core::Signature;
 use std::alloc::{AllocError, Global};
 use str_syntax::{Declaration, File, Name, Section, SignaturePart, Sort};
@@ -15,13 +16,14 @@ use term_model::Fault;
 /// The signature of the file, in which each declaration that stands again is left out and found. `AllocError` where a growth is refused.
 pub(crate) fn signature_of(
     alloc: Global,
+    hashing: HashKeys,
     file: &File,
     findings: &mut Findings,
 ) -> Result<Signature, AllocError>
     ensures { IfOk result (λ made.
         Declares [] (declarations_of (file_of file.now)) made findings.old findings.new) }
 {
-    let mut signature = Signature::new(alloc);
+    let mut signature = Signature::new(alloc, hashing);
     declare_sections(alloc, &mut signature, &file.sections, findings)?;
     Ok(signature)
 }

@@ -3,6 +3,7 @@
 use crate::file::find_in_file;
 use crate::findings::Findings;
 use crate::note::Note;
+use keyed_hash::HashKeys;
 use signature_core::Signature;
 use std::alloc::{AllocError, Global};
 use str_syntax::File;
@@ -42,12 +43,13 @@ impl FileFaults {
 /// where a growth is refused.
 pub fn find_faults(
     alloc: Global,
+    hashing: HashKeys,
     file: &File,
     primitives: &PrimNames,
     main: &[u8],
 ) -> Result<FileFaults, AllocError> {
     let mut findings = Findings::collecting(alloc);
-    let signature = find_in_file(alloc, file, primitives, main, &mut findings)?;
+    let signature = find_in_file(alloc, hashing, file, primitives, main, &mut findings)?;
     Ok(FileFaults {
         signature,
         findings,

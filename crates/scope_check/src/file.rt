@@ -20,6 +20,7 @@ use crate::layers::Layers;
 use crate::library::find_redefinitions;
 use crate::top_heads::heads_in_sections;
 use crate::tops::find_in_sections;
+use keyed_hash::HashKeys;
 use signature_core::Signature;
 use std::alloc::{AllocError, Global};
 use str_syntax::{DefinitionHead, File, Section};
@@ -29,6 +30,7 @@ use term_model::PrimNames;
 /// refused.
 pub(crate) fn find_in_file(
     alloc: Global,
+    hashing: HashKeys,
     file: &File,
     primitives: &PrimNames,
     main: &[u8],
@@ -40,10 +42,11 @@ pub(crate) fn find_in_file(
         first_fault (holds primitives.now) (file_of file.now) main.now ≡ None →
         made ≡ declarations_of (file_of file.now)) }
 {
-    let signature = signature_of(alloc, file, findings)?;
+    let signature = signature_of(alloc, hashing, file, findings)?;
     let known = Known {
         signature: &signature,
         primitives,
+        hashing,
     };
     find_beside_declarations(alloc, &known, file, main, findings)?;
     Ok(signature)
@@ -63,7 +66,7 @@ fn find_beside_declarations(
 {
     let heads = heads_in_sections(alloc, &file.sections)?;
     find_main(&heads, main, findings);
-    find_redefinitions(alloc, file, findings)?;
+    find_redefinitions(alloc, known.hashing, file, findings)?;
     find_with_heads(alloc, known, &heads, &file.sections, findings)?;
     place_clashes(alloc, &file.sections, &heads, findings)?;
     Ok(())
@@ -95,8 +98,8 @@ pub(crate) fn find_with_heads<'t>(
         (tops_in (map section_of all.now))))
         findings.new }
 {
-    find_in_group(alloc, heads, findings)?;
-    let keys = keys_of(alloc, heads)?;
+    find_in_group(alloc, known.hashing, heads, findings)?;
+    let keys = keys_of(alloc, known.hashing, heads)?;
     find_in_seen_sections(alloc, known, &keys, all, findings)?;
     Ok(())
 }

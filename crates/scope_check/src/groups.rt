@@ -8,6 +8,7 @@ ghost use Rattle.str_syntax.specs.Views.{definitions_of};
 use crate::alternatives::find_in_group;
 use crate::findings::Findings;
 use crate::keys::Keys;
+use keyed_hash::HashKeys;
 use std::alloc::{AllocError, Global};
 use str_syntax::{DefinitionHead, DefinitionKey, StrategyDefinition};
 
@@ -29,11 +30,12 @@ pub(crate) fn heads_of(
 /// The keys of the heads. `AllocError` where a growth is refused.
 pub(crate) fn keys_of<'a>(
     alloc: Global,
+    hashing: HashKeys,
     heads: &[&'a DefinitionHead],
 ) -> Result<Keys<'a>, AllocError>
     ensures { IfOk result (λ keys. among keys ≡ among (map key_of (heads_of heads.now))) }
 {
-    let mut keys = Keys::new(alloc);
+    let mut keys = Keys::new(alloc, hashing);
     for head in heads {
         keys.add(head.key())?;
     }
@@ -43,18 +45,20 @@ pub(crate) fn keys_of<'a>(
 /// The keys of the definitions. `AllocError` where a growth is refused.
 pub(crate) fn definition_keys(
     alloc: Global,
+    hashing: HashKeys,
     definitions: &[StrategyDefinition],
 ) -> Result<Keys<'_>, AllocError>
     ensures { IfOk result (λ keys. among keys ≡
         among (map key_of (heads_in (definitions_of definitions.now)))) }
 {
     let heads = heads_of(alloc, definitions)?;
-    keys_of(alloc, &heads)
+    keys_of(alloc, hashing, &heads)
 }
 
 /// Finds what is wrong with the definitions as a group. `AllocError` where a growth is refused.
 pub(crate) fn find_in_definition_group(
     alloc: Global,
+    hashing: HashKeys,
     definitions: &[StrategyDefinition],
     findings: &mut Findings,
 ) -> Result<(), AllocError>
@@ -62,7 +66,7 @@ pub(crate) fn find_in_definition_group(
         (found_group (heads_in (definitions_of definitions.now))) findings.new }
 {
     let heads = heads_of(alloc, definitions)?;
-    find_in_group(alloc, &heads, findings)
+    find_in_group(alloc, hashing, &heads, findings)
 }
 
 /// Whether one of the heads has this name and no parameters.

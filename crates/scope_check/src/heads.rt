@@ -15,15 +15,20 @@ use crate::keys::Keys;
 use crate::known::Known;
 use crate::library::is_own;
 use crate::names::{find_repeats, keys_of_names};
+use keyed_hash::HashKeys;
 use signature_core::Signature;
 use std::alloc::{AllocError, Global};
 use str_syntax::{DefinitionHead, Name, Origin};
 
 /// The keys of the strategy parameters. `AllocError` where a growth is refused.
-pub(crate) fn parameter_keys(alloc: Global, head: &DefinitionHead) -> Result<Keys<'_>, AllocError>
+pub(crate) fn parameter_keys(
+    alloc: Global,
+    hashing: HashKeys,
+    head: &DefinitionHead,
+) -> Result<Keys<'_>, AllocError>
     ensures { IfOk result (λ keys. among keys ≡ among (parameter_keys (head_of head.now))) }
 {
-    keys_of_names(alloc, head.parameters.strategy_names())
+    keys_of_names(alloc, hashing, head.parameters.strategy_names())
 }
 
 /// Finds what is wrong with the head by itself. `AllocError` where a growth is refused.
@@ -39,7 +44,7 @@ pub(crate) fn find_in_head(
 {
     let strategies = head.parameters.strategy_names();
     let terms = head.parameters.term_names();
-    find_repeats(alloc, strategies, terms, findings)?;
+    find_repeats(alloc, known.hashing, strategies, terms, findings)?;
     find_clash(known.signature, origin, head, findings);
     Ok(())
 }

@@ -9,6 +9,7 @@ ghost use Rattle.term_model.specs.declared.fault.Fault.TheVariants.{Memory};
 use crate::file::find_in_file;
 use crate::findings::Findings;
 use crate::refusal::CheckRefusal;
+use keyed_hash::HashKeys;
 use signature_core::Signature;
 use std::alloc::Global;
 use std::marker::Model;
@@ -80,9 +81,11 @@ impl Checked {
 /// - `UnknownPrimitive` where a primitive is called that is not among these with this number of terms;
 /// - `NoMain` where no definition at top level has the name `main` and no parameters.
 ///
-/// `Memory` where a growth is refused, whatever else occurs. After an error the file is dropped.
+/// `Memory` where a growth is refused, whatever else occurs. After an error the file is dropped. The tables of names hash with the
+/// keys, and nothing else depends on them.
 pub fn check(
     alloc: Global,
+    hashing: HashKeys,
     file: File,
     primitives: &PrimNames,
     main: &[u8],
@@ -96,7 +99,7 @@ pub fn check(
     ensures fault { IfErr result (λ fault. (fault ≡ Memory) ⊎
         (first_fault (holds primitives.now) (file_of file) main.now ≡ Some fault)) }
 {
-    let checked = judge(alloc, file, primitives, main)?;
+    let checked = judge(alloc, hashing, file, primitives, main)?;
     Ok(checked)
 }
 
@@ -104,6 +107,7 @@ pub fn check(
 /// this fault.
 pub fn judge(
     alloc: Global,
+    hashing: HashKeys,
     file: File,
     primitives: &PrimNames,
     main: &[u8],
@@ -118,7 +122,7 @@ pub fn judge(
         (first_fault (holds primitives.now) (file_of file) main.now ≡ Some fault)) }
 {
     let mut findings = Findings::none();
-    let signature = find_in_file(alloc, &file, primitives, main, &mut findings)?;
+    let signature = find_in_file(alloc, hashing, &file, primitives, main, &mut findings)?;
     if let Some(note) = findings.least() {
         return Err(CheckRefusal::of(note));
     }

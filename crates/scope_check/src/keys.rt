@@ -5,6 +5,7 @@ ghost use Rattle.scope_check.specs.Seen.{among, same_key};
 ghost use Rattle.term_model.specs.Results.{Returns};
 
 use indexmap::IndexSet;
+use keyed_hash::HashKeys;
 use std::alloc::{AllocError, Global};
 use std::marker::Model;
 use str_syntax::DefinitionKey;
@@ -25,7 +26,7 @@ pub(crate) struct Keys<'a> {
     /// The first keys.
     few: Vec<DefinitionKey<'a>>,
     /// The keys after them.
-    table: IndexSet<DefinitionKey<'a>>,
+    table: IndexSet<DefinitionKey<'a>, HashKeys>,
 }
 
 /// The keys, each once, in the order in which they were added.
@@ -39,13 +40,13 @@ impl<'a> Model for Keys<'a> {
 }
 
 impl<'a> Keys<'a> {
-    /// No keys.
-    pub(crate) fn new(alloc: Global) -> Keys<'a>
+    /// No keys, in a table that hashes so.
+    pub(crate) fn new(alloc: Global, hashing: HashKeys) -> Keys<'a>
         ensures { result ≡ [] }
     {
         Keys {
             few: Vec::new(alloc),
-            table: IndexSet::new(alloc),
+            table: IndexSet::with_hasher(alloc, hashing),
         }
     }
 

@@ -2,14 +2,16 @@
 ghost use Rattle.std.specs.Prelude.{◌≡◌};
 ghost use Rattle.scope_check.specs.Primitives.{holds};
 
+use keyed_hash::HashKeys;
 use signature_core::Signature;
 use term_model::PrimNames;
 
-/// The constructors that a file declares, and the primitives that there are.
+/// The constructors that a file declares, the primitives that there are, and the keys of tables of names.
 #[derive(Clone, Copy)]
 pub(crate) struct Known<'a> {
     pub(crate) signature: &'a Signature,
     pub(crate) primitives: &'a PrimNames,
+    pub(crate) hashing: HashKeys,
 }
 
 impl<'a> Known<'a> {

@@ -12,6 +12,7 @@ use crate::findings::Findings;
 use crate::groups::keys_of;
 use crate::keys::Keys;
 use crate::top_heads::head_of;
+use keyed_hash::HashKeys;
 use std::alloc::{AllocError, Global};
 use str_syntax::{Definition, DefinitionHead, File, Origin, Section};
 
@@ -28,6 +29,7 @@ pub(crate) fn is_own(origin: Origin) -> bool
 /// Finds the definitions of the file that have the key of one of the library's. `AllocError` where a growth is refused.
 pub(crate) fn find_redefinitions(
     alloc: Global,
+    hashing: HashKeys,
     file: &File,
     findings: &mut Findings,
 ) -> Result<(), AllocError>
@@ -35,7 +37,7 @@ pub(crate) fn find_redefinitions(
         (found_if clash (redefines_library (file_of file.now))) findings.new }
 {
     let library = heads_from(alloc, Origin::Library, &file.sections)?;
-    let keys = keys_of(alloc, &library)?;
+    let keys = keys_of(alloc, hashing, &library)?;
     let own = heads_from(alloc, Origin::File, &file.sections)?;
     find_among(&keys, &own, findings);
     Ok(())

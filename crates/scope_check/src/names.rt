@@ -9,6 +9,7 @@ ghost use Rattle.scope_check.specs.Tables.{repeats_after, Adds, AreWith};
 use crate::detail::Detail;
 use crate::findings::Findings;
 use crate::keys::Keys;
+use keyed_hash::HashKeys;
 use std::alloc::{AllocError, Global};
 use str_syntax::{DefinitionKey, Name};
 
@@ -47,10 +48,14 @@ fn add_name<'a>(
 }
 
 /// The plain keys of the names. `AllocError` where a growth is refused.
-pub(crate) fn keys_of_names(alloc: Global, names: &[Name]) -> Result<Keys<'_>, AllocError>
+pub(crate) fn keys_of_names(
+    alloc: Global,
+    hashing: HashKeys,
+    names: &[Name],
+) -> Result<Keys<'_>, AllocError>
     ensures { IfOk result (λ keys. among keys ≡ among (map plain_key names.now)) }
 {
-    let mut keys = Keys::new(alloc);
+    let mut keys = Keys::new(alloc, hashing);
     for name in names {
         keys.add(DefinitionKey::plain(name.bytes()))?;
     }
@@ -60,6 +65,7 @@ pub(crate) fn keys_of_names(alloc: Global, names: &[Name]) -> Result<Keys<'_>, A
 /// Finds the names that stand again after themselves, in both lists together. `AllocError` where a growth is refused.
 pub(crate) fn find_repeats<'a>(
     alloc: Global,
+    hashing: HashKeys,
     names: &'a [Name],
     others: &'a [Name],
     findings: &mut Findings,
@@ -67,7 +73,7 @@ pub(crate) fn find_repeats<'a>(
     ensures { Adds result findings.old
         (found_if bad_parameters (repeats (names.now ++ others.now))) findings.new }
 {
-    let mut keys = Keys::new(alloc);
+    let mut keys = Keys::new(alloc, hashing);
     add_names(&mut keys, names, findings)?;
     add_names(&mut keys, others, findings)?;
     Ok(())

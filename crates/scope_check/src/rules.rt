@@ -31,7 +31,7 @@ pub(crate) fn find_in_rule_definition<'t>(
         findings.new }
 {
     find_in_head(alloc, known, origin, head, findings)?;
-    let keys = parameter_keys(alloc, head)?;
+    let keys = parameter_keys(alloc, known.hashing, head)?;
     find_in_seen_rule(alloc, known, layers, &keys, tree, findings)?;
     Ok(())
 }

@@ -151,7 +151,7 @@ fn find_in_scope<'t>(
     ensures { Finds result found_in_primary known.now layers.now
         (trees.scope names.now (strategy_of body.now)) findings.old findings.new }
 {
-    find_repeats(alloc, names, &[], findings)?;
+    find_repeats(alloc, known.hashing, names, &[], findings)?;
     find_in_strategy(alloc, known, layers, body, findings)
 }
 
@@ -190,8 +190,8 @@ fn find_in_let_definitions<'t>(
         (in_let (definitions_of all.now) (layers_of layers.now)) (definitions_of all.now)))
         findings.new }
 {
-    find_in_definition_group(alloc, all, findings)?;
-    let keys = definition_keys(alloc, all)?;
+    find_in_definition_group(alloc, known.hashing, all, findings)?;
+    let keys = definition_keys(alloc, known.hashing, all)?;
     find_in_seen_definitions(alloc, known, layers, &keys, all, findings)
 }
 
@@ -210,7 +210,7 @@ fn find_in_let_body<'t>(
         (in_let (definitions_of all.now) (layers_of layers.now)) (strategy_of body.now))
         findings.new }
 {
-    let keys = definition_keys(alloc, all)?;
+    let keys = definition_keys(alloc, known.hashing, all)?;
     find_in_body(alloc, known, layers, &keys, body, findings)
 }
 
@@ -267,7 +267,7 @@ pub(crate) fn find_in_definition<'t>(
         (definition_of tree.now) findings.old findings.new }
 {
     find_in_head(alloc, known, origin, &tree.head, findings)?;
-    let keys = parameter_keys(alloc, &tree.head)?;
+    let keys = parameter_keys(alloc, known.hashing, &tree.head)?;
     find_in_body(alloc, known, layers, &keys, &tree.body, findings)
 }
 

@@ -3,6 +3,7 @@ ghost use Rattle.std.specs.Prelude.{◌≡◌, [], ◌∷◌, OnOk, OnErr};
 ghost use Rattle.signature_core.specs.Arities.{first_number, has_number, numbers_of, with_number, IsNoted};
 
 use indexmap::{IndexMap, IndexSet};
+use keyed_hash::HashKeys;
 use std::alloc::{AllocError, Global};
 use std::marker::Model;
 
@@ -10,7 +11,7 @@ use std::marker::Model;
 #[derive(Drop)]
 pub(crate) struct Numbers {
     first: usize,
-    others: IndexSet<usize>,
+    others: IndexSet<usize, HashKeys>,
 }
 
 impl Model for Numbers {
@@ -23,12 +24,12 @@ impl Model for Numbers {
 
 impl Numbers {
     /// This number alone.
-    fn new(alloc: Global, number: usize) -> Numbers
+    fn new(alloc: Global, hashing: HashKeys, number: usize) -> Numbers
         ensures { result ≡ number ∷ [] }
     {
         Numbers {
             first: number,
-            others: IndexSet::new(alloc),
+            others: IndexSet::with_hasher(alloc, hashing),
         }
     }
 
@@ -56,16 +57,16 @@ impl Numbers {
 /// The numbers of arguments of each name.
 #[derive(Drop)]
 pub(crate) struct Arities {
-    by_name: IndexMap<Vec<u8>, Numbers>,
+    by_name: IndexMap<Vec<u8>, Numbers, HashKeys>,
 }
 
 impl Arities {
     /// No names.
-    pub(crate) fn new(alloc: Global) -> Arities
+    pub(crate) fn new(alloc: Global, hashing: HashKeys) -> Arities
         ensures { result.by_name.entries ≡ [] }
     {
         Arities {
-            by_name: IndexMap::new(alloc),
+            by_name: IndexMap::with_hasher(alloc, hashing),
         }
     }
 
@@ -97,7 +98,8 @@ impl Arities {
         }
         let alloc = *self.by_name.allocator();
         let key = Vec::from_slice(alloc, name)?;
-        let numbers = Numbers::new(alloc, number);
+        let hashing = *self.by_name.hasher();
+        let numbers = Numbers::new(alloc, hashing, number);
         self.by_name.insert(key, numbers)?;
         Ok(())
     }

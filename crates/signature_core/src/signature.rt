@@ -9,6 +9,7 @@ ghost use Rattle.term_model.specs.Term.{trees_of};
 use crate::arities::Arities;
 use crate::constructor::Constructor;
 use indexmap::IndexSet;
+use keyed_hash::HashKeys;
 use std::alloc::Global;
 use std::marker::Model;
 use str_syntax::{Name, Sort};
@@ -17,7 +18,7 @@ use term_model::{Fault, Kind, Parts, RcSpace, Term, TermSpace, Top};
 /// The declared constructors, in the order in which they were declared.
 #[derive(Drop)]
 pub struct Signature {
-    declarations: IndexSet<Constructor>,
+    declarations: IndexSet<Constructor, HashKeys>,
     arities: Arities,
 }
 
@@ -39,14 +40,14 @@ impl Model for Signature {
 }
 
 impl Signature {
-    /// A signature without declarations. Takes no memory.
+    /// A signature without declarations, whose tables hash with these keys. Takes no memory.
     #[tactic(auto, using(crate::proofs::ArityLaws::none))]
-    pub fn new(alloc: Global) -> Signature
+    pub fn new(alloc: Global, hashing: HashKeys) -> Signature
         ensures { result ≡ [] }
     {
         Signature {
-            declarations: IndexSet::new(alloc),
-            arities: Arities::new(alloc),
+            declarations: IndexSet::with_hasher(alloc, hashing),
+            arities: Arities::new(alloc, hashing),
         }
     }
 

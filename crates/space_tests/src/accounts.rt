@@ -7,7 +7,7 @@ use std::test::Fail;
 use strat_code::Code;
 use strat_compile::compile_with_marks;
 use strat_machine::{Account, Ending, Machine, Stand};
-use term_model::{Fault, PrimNames, RcSpace};
+use term_model::{Fault, PrimNames, RcSpace, Term};
 
 /// Definitions, a term, a budget, and the account of the run as a text: its ending and the rules of all instructions; where it failed, the byte
 /// at which the last strategy is marked, the term, what each variable has, and how many calls wait.
@@ -82,14 +82,18 @@ fn account_text(
     Ok(line)
 }
 
-/// The text of the account of a run of the code on the term of this text.
-fn account_of_run(alloc: Global, code: &Code, text: &[u8], budget: u32) -> Result<Vec<u8>, Fault> {
+/// The text of the account of a run of the code on the term.
+fn account_of_run(
+    alloc: Global,
+    machine: &mut Machine<RcSpace>,
+    code: &Code,
+    term: Term,
+    budget: u32,
+) -> Result<Vec<u8>, Fault> {
     let registry = Registry::<Standard>::new(alloc);
     if !registry.covers(code.prims()) {
         return Err(Fault::UnknownPrimitive);
     }
-    let term = read_term(alloc, text)?;
-    let mut machine = Machine::new(alloc, RcSpace);
     let account = machine.account(code, term.clone()?, budget, &registry)?;
     let stand = machine.stand(code, term, budget, &registry, account.before_last)?;
     Ok(account_text(alloc, code, &account, stand.as_ref())?)
@@ -104,7 +108,9 @@ fn account_of(
 ) -> Result<Vec<u8>, Fault> {
     let core = core_of(alloc, definitions, &PrimNames::new(alloc))?;
     let code = compile_with_marks(alloc, &core)?;
-    account_of_run(alloc, &code, text, budget)
+    let term = read_term(alloc, text)?;
+    let mut machine = Machine::new(alloc, RcSpace);
+    account_of_run(alloc, &mut machine, &code, term, budget)
 }
 
 #[test]

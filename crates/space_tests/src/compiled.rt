@@ -127,6 +127,8 @@ fn small_instrs(alloc: Global) -> Result<Vec<Instr>, AllocError>
 
 /// What it is compiled to: main's call and the end of the run, the body of main with that of f in place, the body of f.
 fn instrs_in_place(alloc: Global) -> Result<Vec<Instr>, AllocError> {
+    let in_place = f_of_x(alloc)?;
+    let pattern = f_of_x(alloc)?;
     let made = vec![in alloc;
         call_in_code(alloc, 0, 2, 0, 1, Vec::new(alloc)),
         Instr::Finish,
@@ -136,7 +138,7 @@ fn instrs_in_place(alloc: Global) -> Result<Vec<Instr>, AllocError> {
         },
         Instr::Match {
             nodes: 2,
-            pattern: f_of_x(alloc)?
+            pattern: in_place
         },
         Instr::Build {
             nodes: 2,
@@ -145,10 +147,7 @@ fn instrs_in_place(alloc: Global) -> Result<Vec<Instr>, AllocError> {
         Instr::Count { nodes: 2 },
         Instr::Shrink { places: 1 },
         Instr::EndDefinition,
-        Instr::Match {
-            nodes: 3,
-            pattern: f_of_x(alloc)?
-        },
+        Instr::Match { nodes: 3, pattern },
         Instr::Build {
             nodes: 2,
             pattern: CorePattern::Variable(HERE)

@@ -1,5 +1,6 @@
 //! Declarations one after the other, for runs in which memory is refused: `tools/growth` refuses each call for memory in turn. A declaration
 //! that is refused memory leaves the signature as it was, and is made once more.
+use keyed_hash::HashKeys;
 use signature_core::Signature;
 use std::alloc::{AllocError, Global};
 use std::test::Fail;
@@ -85,7 +86,7 @@ fn is_refused(
 
 #[test]
 fn declarations(rt: HostRuntime) -> Result<(), Fail> {
-    let mut signature = Signature::new(rt.alloc());
+    let mut signature = Signature::new(rt.alloc(), HashKeys::known());
     for (index, (name, number)) in DECLARED.iter().enumerate() {
         if !is_declared(rt.alloc(), &mut signature, index, name, *number)? {
             return Err(Fail::new(index));

@@ -7,9 +7,9 @@ use crate::single_calls::code_of;
 use crate::spaces::Holds;
 use aterm_text::{read_term, write_term};
 use core_lang::Outcome;
+use keyed_hash::HashKeys;
 use prim_registry::{Registry, Standard};
 use std::alloc::{AllocError, Global};
-use std::hash::BuildHasherDefault;
 use std::test::Fail;
 use strat_code::Code;
 use strat_machine::Machine;
@@ -267,7 +267,7 @@ fn run_over<S: TermSpace + Holds + Drop>(
 pub(crate) fn run_in_store(alloc: Global, definitions: &[u8], text: &[u8]) -> Result<Seen, Fail> {
     let code = code_of(alloc, definitions)?;
     let term = read_term(alloc, text)?;
-    let space = StoreSpace::new(alloc, BuildHasherDefault::new());
+    let space = StoreSpace::new(alloc, HashKeys::known());
     run_over(alloc, space, &code, &term)
 }
 

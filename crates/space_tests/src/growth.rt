@@ -5,9 +5,9 @@ ghost use Rattle.std.specs.Prelude.{IsTrue};
 use crate::single_calls::code_of;
 use aterm_text::read_term;
 use core_lang::Outcome;
+use keyed_hash::HashKeys;
 use prim_registry::{Registry, Standard};
 use std::alloc::{AllocError, Global};
-use std::hash::BuildHasherDefault;
 use std::test::Fail;
 use strat_code::Code;
 use strat_machine::Machine;
@@ -197,11 +197,7 @@ fn run_row<S: TermSpace + Drop>(alloc: Global, space: S, row: Row) -> Result<(),
 }
 
 fn run_in_store(alloc: Global, row: Row) -> Result<(), Fail> {
-    run_row(
-        alloc,
-        StoreSpace::new(alloc, BuildHasherDefault::new()),
-        row,
-    )
+    run_row(alloc, StoreSpace::new(alloc, HashKeys::known()), row)
 }
 
 #[test]
@@ -263,19 +259,18 @@ fn weight_after<S: TermSpace + Drop>(
 /// Runs the code, once more where memory is refused, when an older reference has its term.
 fn run_again<S: TermSpace + Drop>(
     alloc: Global,
-    space: S,
+    machine: &mut Machine<S>,
     code: &Code,
     term: &Term,
 ) -> Result<u32, Fault> {
-    let mut machine = Machine::new(alloc, space);
     let older = machine.enter(term)?;
-    if let Ok(weight) = weight_after(alloc, &mut machine, code, term) {
+    if let Ok(weight) = weight_after(alloc, machine, code, term) {
         return Ok(weight);
     }
     if !has_term(alloc, machine.space(), &older, term)? {
         return Ok(0);
     }
-    weight_after(alloc, &mut machine, code, term)
+    weight_after(alloc, machine, code, term)
 }
 
 /// The weight of what the definitions rewrite the term to over the space, in a run that is taken again where memory is refused.
@@ -287,13 +282,14 @@ fn weight_over<S: TermSpace + Drop>(
 ) -> Result<u32, Fault> {
     let code = code_of(alloc, definitions)?;
     let term = read_term(alloc, text)?;
-    run_again(alloc, space, &code, &term)
+    let mut machine = Machine::new(alloc, space);
+    run_again(alloc, &mut machine, &code, &term)
 }
 
 #[test]
 fn growth_run(rt: HostRuntime) -> Result<(), Fail> {
     for (definitions, text, weight) in RUNS {
-        let store = StoreSpace::new(rt.alloc(), BuildHasherDefault::new());
+        let store = StoreSpace::new(rt.alloc(), HashKeys::known());
         if weight_over(rt.alloc(), store, definitions, text)? != *weight {
             return Err(Fail::new("another term"));
         }

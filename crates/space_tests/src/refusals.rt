@@ -4,9 +4,9 @@ ghost use Rattle.prim_registry.specs.Entries.{IsHonest};
 
 use crate::single_calls::{DEFINITIONS, code_of, code_with, takes_five_at_last};
 use aterm_text::read_term;
+use keyed_hash::HashKeys;
 use prim_registry::{Action, Flat, Prim, PrimMeaning, Registry, Standard};
 use std::alloc::{AllocError, Global};
-use std::hash::BuildHasherDefault;
 use std::test::Fail;
 use strat_code::Code;
 use strat_machine::Machine;
@@ -45,6 +45,24 @@ fn is_refused<S: TermSpace + Drop>(
 /// Whether the run of the code is refused memory, and the machine then runs other code from the same reference.
 fn runs_afterwards<S: TermSpace + Drop>(
     alloc: Global,
+    machine: &mut Machine<S>,
+    adding: &Code,
+    registry: &Registry<Standard>,
+    term: &Term,
+) -> Result<bool, Fault>
+    requires { IsHonest ⟦<Standard as PrimMeaning>⟧.answer registry.now }
+{
+    let entered = machine.enter(term)?;
+    if !is_refused(machine, adding, &entered, registry)? {
+        return Ok(false);
+    }
+    let code = code_of(alloc, DEFINITIONS)?;
+    takes_five_at_last(alloc, machine, &code, &entered, term)
+}
+
+/// Returns whether a machine over the space does so with a pair.
+fn runs_over<S: TermSpace + Drop>(
+    alloc: Global,
     space: S,
     adding: &Code,
     registry: &Registry<Standard>,
@@ -53,12 +71,7 @@ fn runs_afterwards<S: TermSpace + Drop>(
 {
     let term = read_term(alloc, b"(7,f(1))")?;
     let mut machine = Machine::new(alloc, space);
-    let entered = machine.enter(&term)?;
-    if !is_refused(&mut machine, adding, &entered, registry)? {
-        return Ok(false);
-    }
-    let code = code_of(alloc, DEFINITIONS)?;
-    takes_five_at_last(alloc, &mut machine, &code, &entered, &term)
+    runs_afterwards(alloc, &mut machine, adding, registry, &term)
 }
 
 #[test]
@@ -71,11 +84,11 @@ fn a_run_without_memory(rt: HostRuntime) -> Result<(), Fail> {
     )?;
     registry.register(Prim::new(b"add".to_vec(alloc)?, 2, action))?;
     let adding = adding_code(alloc)?;
-    if !runs_afterwards(alloc, RcSpace, &adding, &registry)? {
+    if !runs_over(alloc, RcSpace, &adding, &registry)? {
         return Err(Fail::new("over terms"));
     }
-    let store = StoreSpace::new(alloc, BuildHasherDefault::new());
-    if !runs_afterwards(alloc, store, &adding, &registry)? {
+    let store = StoreSpace::new(alloc, HashKeys::known());
+    if !runs_over(alloc, store, &adding, &registry)? {
         return Err(Fail::new("over a store"));
     }
     Ok(())

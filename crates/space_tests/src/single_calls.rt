@@ -4,10 +4,10 @@ ghost use Rattle.std.specs.Prelude.{◌≤◌, IsTrue};
 use aterm_text::{read_term, write_term};
 use core_eval::eval;
 use core_lang::{Core, Outcome};
+use keyed_hash::HashKeys;
 use prim_registry::{Registry, Standard};
 use scope_check::{Checked, check};
 use std::alloc::Global;
-use std::hash::BuildHasherDefault;
 use std::test::Fail;
 use str_desugar::to_core;
 use str_lexer::lex;
@@ -31,7 +31,7 @@ fn check_definitions(
     let tokens = lex(alloc, definitions)?;
     let file = parse(alloc, definitions, &tokens)?;
     let file = with_library(alloc, file)?;
-    check(alloc, file, primitives, b"main")
+    check(alloc, HashKeys::known(), file, primitives, b"main")
 }
 
 /// Their core.
@@ -41,7 +41,7 @@ pub(crate) fn core_of(
     primitives: &PrimNames,
 ) -> Result<Core, Fault> {
     let checked = check_definitions(alloc, definitions, primitives)?;
-    Ok(to_core(alloc, &checked)?)
+    Ok(to_core(alloc, HashKeys::known(), &checked)?)
 }
 
 /// Their code.
@@ -172,7 +172,7 @@ fn from_bytes_to_runs_of_the_machine(rt: HostRuntime) -> Result<(), Fail> {
     if !runs_over(alloc, RcSpace, &code, &term)? {
         return Err(Fail::new("over terms"));
     }
-    let store = StoreSpace::new(alloc, BuildHasherDefault::new());
+    let store = StoreSpace::new(alloc, HashKeys::known());
     if !runs_over(alloc, store, &code, &term)? {
         return Err(Fail::new("over a store"));
     }
@@ -189,7 +189,13 @@ fn count_of_definitions(file: &File) -> usize {
 
 /// What the check of the file, which calls no primitive, returns.
 fn judgement(alloc: Global, file: File) -> Result<(), Fault> {
-    let _checked = check(alloc, file, &PrimNames::new(alloc), b"main")?;
+    let _checked = check(
+        alloc,
+        HashKeys::known(),
+        file,
+        &PrimNames::new(alloc),
+        b"main",
+    )?;
     Ok(())
 }
 

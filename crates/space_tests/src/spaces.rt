@@ -3,8 +3,8 @@ use crate::building::run_makers;
 use crate::changing::run_changes;
 use crate::taking_apart::{run_takers, takes_apart};
 use aterm_text::read_term;
+use keyed_hash::HashKeys;
 use std::alloc::{AllocError, Global};
-use std::hash::BuildHasherDefault;
 use std::test::Fail;
 use term_model::{Block, Front, Head, Made, Parts, RcSpace, Sym, Term, TermSpace};
 use term_store::StoreSpace;
@@ -49,7 +49,7 @@ fn numbers(alloc: Global, count: i64) -> Result<Term, Fail> {
 }
 
 fn store(alloc: Global) -> StoreSpace {
-    StoreSpace::new(alloc, BuildHasherDefault::new())
+    StoreSpace::new(alloc, HashKeys::known())
 }
 
 /// Looks at the numbers of symbols over a space.

@@ -1,8 +1,8 @@
 //! Texts that are read into a space and written from it, and terms that are judged where they lie in it: in both spaces.
 use aterm_text::{read_in, write_out};
+use keyed_hash::HashKeys;
 use signature_core::Signature;
 use std::alloc::{AllocError, Global};
-use std::hash::BuildHasherDefault;
 use std::test::Fail;
 use str_syntax::{Name, Sort};
 use term_model::{Fault, RcSpace, TermSpace};
@@ -55,6 +55,10 @@ const COUNTED: &[(&[u8], usize)] = &[
     (b"[1,2,3,4,5,6,7,8,9,10,11,12,13]", 13),
 ];
 
+fn store(alloc: Global) -> StoreSpace {
+    StoreSpace::new(alloc, HashKeys::known())
+}
+
 /// Whether the text is read into the space and written from it as the other text.
 fn is_spelled<S: TermSpace>(
     alloc: Global,
@@ -78,7 +82,7 @@ fn is_refused<S: TermSpace>(alloc: Global, space: &mut S, text: &[u8], place: u6
 
 /// A signature in which `F` is declared with one argument.
 fn signature_of_one(alloc: Global) -> Result<Signature, Fault> {
-    let mut signature = Signature::new(alloc);
+    let mut signature = Signature::new(alloc, HashKeys::known());
     let mut arguments = Vec::with_capacity(alloc, 1)?;
     arguments.push(sort(alloc)?)?;
     signature.declare(Name::new(alloc, b"F", 0)?, arguments, sort(alloc)?)?;
@@ -115,13 +119,28 @@ fn count_by_walk<S: TermSpace>(alloc: Global, space: &mut S, text: &[u8]) -> Res
     Ok(count)
 }
 
+/// Reads the texts into the space, and writes them from it.
+fn spell_all<S: TermSpace + Drop>(alloc: Global, space: S) -> Result<(), Fail> {
+    let mut space = space;
+    for (text, canonical) in SPELLED {
+        if !is_spelled(alloc, &mut space, text, canonical)? {
+            return Err(Fail::new(text.escape_ascii()));
+        }
+    }
+    Ok(())
+}
+
 #[test]
 fn texts(rt: HostRuntime) -> Result<(), Fail> {
-    let mut store = StoreSpace::new(rt.alloc(), BuildHasherDefault::new());
-    for (text, canonical) in SPELLED {
-        if !is_spelled(rt.alloc(), &mut store, text, canonical)?
-            || !is_spelled(rt.alloc(), &mut RcSpace, text, canonical)?
-        {
+    spell_all(rt.alloc(), RcSpace)?;
+    spell_all(rt.alloc(), store(rt.alloc()))
+}
+
+/// Reads the texts that are refused.
+fn refuse_all<S: TermSpace + Drop>(alloc: Global, space: S) -> Result<(), Fail> {
+    let mut space = space;
+    for (text, place) in REFUSED {
+        if !is_refused(alloc, &mut space, text, *place) {
             return Err(Fail::new(text.escape_ascii()));
         }
     }
@@ -130,11 +149,16 @@ fn texts(rt: HostRuntime) -> Result<(), Fail> {
 
 #[test]
 fn refused_texts(rt: HostRuntime) -> Result<(), Fail> {
-    let mut store = StoreSpace::new(rt.alloc(), BuildHasherDefault::new());
-    for (text, place) in REFUSED {
-        if !is_refused(rt.alloc(), &mut store, text, *place)
-            || !is_refused(rt.alloc(), &mut RcSpace, text, *place)
-        {
+    refuse_all(rt.alloc(), RcSpace)?;
+    refuse_all(rt.alloc(), store(rt.alloc()))
+}
+
+/// Judges the terms in the space.
+fn judge_all<S: TermSpace + Drop>(alloc: Global, space: S) -> Result<(), Fail> {
+    let mut space = space;
+    let signature = signature_of_one(alloc)?;
+    for (text, are_declared) in JUDGED {
+        if is_declared(alloc, &mut space, &signature, text)? != *are_declared {
             return Err(Fail::new(text.escape_ascii()));
         }
     }
@@ -143,12 +167,15 @@ fn refused_texts(rt: HostRuntime) -> Result<(), Fail> {
 
 #[test]
 fn declared_terms(rt: HostRuntime) -> Result<(), Fail> {
-    let mut store = StoreSpace::new(rt.alloc(), BuildHasherDefault::new());
-    let signature = signature_of_one(rt.alloc())?;
-    for (text, are_declared) in JUDGED {
-        if is_declared(rt.alloc(), &mut store, &signature, text)? != *are_declared
-            || is_declared(rt.alloc(), &mut RcSpace, &signature, text)? != *are_declared
-        {
+    judge_all(rt.alloc(), RcSpace)?;
+    judge_all(rt.alloc(), store(rt.alloc()))
+}
+
+/// Counts the parts of the terms in the space.
+fn walk_all<S: TermSpace + Drop>(alloc: Global, space: S) -> Result<(), Fail> {
+    let mut space = space;
+    for (text, count) in COUNTED {
+        if count_by_walk(alloc, &mut space, text)? != *count {
             return Err(Fail::new(text.escape_ascii()));
         }
     }
@@ -157,13 +184,6 @@ fn declared_terms(rt: HostRuntime) -> Result<(), Fail> {
 
 #[test]
 fn walks(rt: HostRuntime) -> Result<(), Fail> {
-    let mut store = StoreSpace::new(rt.alloc(), BuildHasherDefault::new());
-    for (text, count) in COUNTED {
-        if count_by_walk(rt.alloc(), &mut store, text)? != *count
-            || count_by_walk(rt.alloc(), &mut RcSpace, text)? != *count
-        {
-            return Err(Fail::new(text.escape_ascii()));
-        }
-    }
-    Ok(())
+    walk_all(rt.alloc(), RcSpace)?;
+    walk_all(rt.alloc(), store(rt.alloc()))
 }

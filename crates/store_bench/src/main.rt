@@ -10,9 +10,9 @@ mod lists;
 mod nodes;
 mod trees;
 
+use keyed_hash::HashKeys;
 use lists::{built, numbered, taken_apart};
 use nodes::random_nodes;
-use std::hash::BuildHasherDefault;
 use std::io::{Read, Write};
 use std::rt::Clock;
 use std::time::Instant;
@@ -107,7 +107,7 @@ fn list<S: TermSpace>(rt: &HostRuntime, space: &mut S, size: u32) -> Result<(), 
 
 /// Does the job in a new store, and says how many shapes it holds then.
 fn run(rt: &HostRuntime, job: Job) -> Result<usize, Fault> {
-    let mut store = StoreSpace::new(rt.alloc(), BuildHasherDefault::new());
+    let mut store = StoreSpace::new(rt.alloc(), HashKeys::known());
     match job.name {
         "make" => make(rt, &mut store, job)?,
         "tree" => tree(rt, &mut store, job)?,

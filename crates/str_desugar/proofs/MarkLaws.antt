@@ -17,52 +17,54 @@ use Rattle.str_syntax.specs.SameName.{same_name-Decides}
 use Rattle.str_syntax.specs.Trees.{Bytes}
 use Rattle.str_desugar.specs.Frames.{key_position}
 use Rattle.str_desugar.specs.Keys.{named_key, AreKeysMarked}
-use Rattle.str_desugar.specs.Marks.{mark_of, has_mark, AreMarked, AreKept}
+use Rattle.str_desugar.specs.Marks.{mark_of, has_mark, is_marked, AreMarked, AreKept}
+use Rattle.str_desugar.specs.declared.marks.Marks.{Marks}
+use Rattle.keyed_hash.specs.declared.keys.HashKeys.{HashKeys}
 
-pub mark_below : (x : Bytes) → mark_of x < 512
+pub mark_below : (hashing : HashKeys) (x : Bytes) → mark_of hashing x < 512
 unfolding mark_of
-mark_below x = omega arith
+mark_below hashing x = omega arith
 
 -- names stay marked where marks are kept, and so does one more whose mark is set
-pub marked_on : (old new : List ℕ) → AreKept old new → (xs : List Bytes) → AreMarked old xs → AreMarked new xs
+pub marked_on : (old new : Marks) → AreKept old new → (xs : List Bytes) → AreMarked old xs → AreMarked new xs
 marked_on old new kept [] m = tt
-marked_on old new kept (x ∷ xs) m = (kept (mark_of x) m.0, marked_on old new kept xs m.1)
+marked_on old new kept (x ∷ xs) m = (kept x m.0, marked_on old new kept xs m.1)
 
-pub marked_more : (words : List ℕ) (xs : List Bytes) (x : Bytes) → AreMarked words xs →
-    has_mark words (mark_of x) ≡ true → AreMarked words (xs ++ x ∷ [])
-marked_more words [] x m e = (e, tt)
-marked_more words (y ∷ xs) x m e = (m.0, marked_more words xs x m.1 e)
+pub marked_more : (marks : Marks) (xs : List Bytes) (x : Bytes) → AreMarked marks xs →
+    is_marked marks x ≡ true → AreMarked marks (xs ++ x ∷ [])
+marked_more marks [] x m e = (e, tt)
+marked_more marks (y ∷ xs) x m e = (m.0, marked_more marks xs x m.1 e)
 
 -- names of which one has no mark are not the same
-apart : (words : List ℕ) (x y : Bytes) → has_mark words (mark_of y) ≡ true → has_mark words (mark_of x) ≡ false →
+apart : (marks : Marks) (x y : Bytes) → is_marked marks y ≡ true → is_marked marks x ≡ false →
     bytes_eq x y ≡ true → ⊥
-apart words x y marked unmarked same =
+apart marks x y marked unmarked same =
     let equal : x ≡ y = (same_name-Decides x y).0 same in
-    let clash : true ≡ false = sym marked ∙ ap (λ z. has_mark words (mark_of z)) (sym equal) ∙ unmarked in
+    let clash : true ≡ false = sym marked ∙ ap (λ z. is_marked marks z) (sym equal) ∙ unmarked in
     absurd (cc)
 
 -- a name that has no mark has no position among names that are marked
-pub unmarked_name : (words : List ℕ) (x : Bytes) (xs : List Bytes) → AreMarked words xs →
-    has_mark words (mark_of x) ≡ false → position_of (written x) (map written xs) ≡ None
-unmarked_name words x [] m e = refl
-unmarked_name words x (y ∷ xs) m e = by (bytes_eq x y) refl (unmarked_name words x xs m.1 e)
+pub unmarked_name : (marks : Marks) (x : Bytes) (xs : List Bytes) → AreMarked marks xs →
+    is_marked marks x ≡ false → position_of (written x) (map written xs) ≡ None
+unmarked_name marks x [] m e = refl
+unmarked_name marks x (y ∷ xs) m e = by (bytes_eq x y) refl (unmarked_name marks x xs m.1 e)
   where
     by : (b : Bool) → bytes_eq x y ≡ b → position_of (written x) (map written xs) ≡ None →
         position_of (written x) (map written (y ∷ xs)) ≡ None
-    by true is rest = absurd (apart words x y m.0 e is)
+    by true is rest = absurd (apart marks x y m.0 e is)
     by false is rest =
         ap (λ c. if c then Some 0 else option_map (λ i. suc i) (position_of (written x) (map written xs))) is ∙
         ap (option_map (λ i. suc i)) rest
 
 -- nor has a key with its name
-pub unmarked_key : (words : List ℕ) (x : Bytes) (n k : ℕ) (ks : List Key) → AreKeysMarked words ks →
-    has_mark words (mark_of x) ≡ false → key_position (map named_key ks) (written x) n k ≡ None
-unmarked_key words x n k [] m e = refl
-unmarked_key words x n k (d ∷ ks) m e = by (bytes_eq x d.name) refl (unmarked_key words x n k ks m.1 e)
+pub unmarked_key : (marks : Marks) (x : Bytes) (n k : ℕ) (ks : List Key) → AreKeysMarked marks ks →
+    is_marked marks x ≡ false → key_position (map named_key ks) (written x) n k ≡ None
+unmarked_key marks x n k [] m e = refl
+unmarked_key marks x n k (d ∷ ks) m e = by (bytes_eq x d.name) refl (unmarked_key marks x n k ks m.1 e)
   where
     by : (b : Bool) → bytes_eq x d.name ≡ b → key_position (map named_key ks) (written x) n k ≡ None →
         key_position (map named_key (d ∷ ks)) (written x) n k ≡ None
-    by true is rest = absurd (apart words x d.name m.0 e is)
+    by true is rest = absurd (apart marks x d.name m.0 e is)
     by false is rest =
         ap (λ c. if c && ((n == d.strategies) && (k == d.terms)) then Some 0
         else option_map (λ i. suc i) (key_position (map named_key ks) (written x) n k)) is ∙
@@ -101,16 +103,16 @@ module _ (words : List ℕ) (set_one : ℕ) (within : set_one / 64 < length word
 
 -- ---- the same of keys
 
-pub keys_marked_on : (old new : List ℕ) → AreKept old new → (ks : List Key) → AreKeysMarked old ks →
+pub keys_marked_on : (old new : Marks) → AreKept old new → (ks : List Key) → AreKeysMarked old ks →
     AreKeysMarked new ks
 keys_marked_on old new kept ks m = marked_on old new kept (map (λ k. k.name) ks) m
 
 -- and with one more, where it is new
-pub keys_marked_inserted : (words : List ℕ) (ks : List Key) (k : Key) → AreKeysMarked words ks →
-    has_mark words (mark_of k.name) ≡ true → AreKeysMarked words (insert_key same_key ks k)
-keys_marked_inserted words ks k m e = by (list_any (same_key k) ks)
+pub keys_marked_inserted : (marks : Marks) (ks : List Key) (k : Key) → AreKeysMarked marks ks →
+    is_marked marks k.name ≡ true → AreKeysMarked marks (insert_key same_key ks k)
+keys_marked_inserted marks ks k m e = by (list_any (same_key k) ks)
   where
-    by : (there : Bool) → AreKeysMarked words (if there then ks else ks ++ k ∷ [])
+    by : (there : Bool) → AreKeysMarked marks (if there then ks else ks ++ k ∷ [])
     by true = m
-    by false = subst (AreMarked words) (sym (map-append (λ l. l.name) ks (k ∷ [])))
-        (marked_more words (map (λ l. l.name) ks) k.name m e)
+    by false = subst (AreMarked marks) (sym (map-append (λ l. l.name) ks (k ∷ [])))
+        (marked_more marks (map (λ l. l.name) ks) k.name m e)

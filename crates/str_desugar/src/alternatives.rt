@@ -12,6 +12,7 @@ ghost use Rattle.term_model.specs.Results.{Returns};
 
 use crate::keys::Keys;
 use core_lang::{CoreArm, CoreDef, CoreStrategy};
+use keyed_hash::HashKeys;
 use std::alloc::{AllocError, Global};
 use std::marker::Model;
 use str_syntax::DefinitionHead;
@@ -51,11 +52,12 @@ impl<'t> Groups<'t> {
     /// The groups of alternatives with these heads. `AllocError` where a growth is refused.
     pub(crate) fn new(
         alloc: Global,
+        hashing: HashKeys,
         heads: Vec<&'t DefinitionHead>,
     ) -> Result<Groups<'t>, AllocError>
         ensures { Returns result (read_heads heads.entry.items) }
     {
-        let mut keys = Keys::new(alloc);
+        let mut keys = Keys::new(alloc, hashing);
         let firsts = firsts_of(alloc, &heads, &mut keys)?;
         let keys = Box::new(alloc, keys)?;
         Ok(Groups {

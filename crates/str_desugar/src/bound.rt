@@ -48,7 +48,7 @@ pub(crate) fn note(
 ) -> Result<(), AllocError>
     ensures { OnOk result (found.new ≡ noted (bound_names bound.now) found.old name.now) }
 {
-    let wanted = Wanted::new(name);
+    let wanted = Wanted::new(found.hashing(), name);
     if bound.has(&wanted) {
         return Ok(());
     }

@@ -80,10 +80,12 @@ pub(crate) fn core_of_build(
         equations.applications (pattern_of source.now)) }
 {
     match source {
-        Pattern::Variable(name) => Ok(CorePattern::Variable(scopes.variable(name)?)),
+        Pattern::Variable(name) => {
+            Ok(CorePattern::Variable(scopes.variable(symbols.hashing(), name)?))
+        }
         Pattern::Wildcard(_) => Ok(CorePattern::Anything),
         Pattern::Alias(name, part) => {
-            let name = scopes.variable(name)?;
+            let name = scopes.variable(symbols.hashing(), name)?;
             let part = core_of_build(alloc, part, scopes, symbols, next)?;
             Ok(CorePattern::Alias(name, Box::new(alloc, part)?))
         }

@@ -21,13 +21,13 @@ use crate::scopes::Scopes;
 use crate::strategy::{Context, strategy};
 use crate::symbols::Symbols;
 use core_lang::{CallTarget, CorePattern, CoreStrategy};
-use std::alloc::{AllocError, Global};
+use std::alloc::AllocError;
 use str_syntax::{Arguments, Name, Pattern, Strategy};
 
 /// A call by this name, with these arguments.
 #[inline(never)]
 fn call_of(
-    alloc: Global,
+    context: &Context,
     scopes: &Scopes,
     name: &Name,
     strategies: Vec<CoreStrategy>,
@@ -39,26 +39,26 @@ fn call_of(
         views.strategy_of made.value ≡
         strategy_at (layers_of scopes.now) (core.call (written name.now) ss ps)) }
 {
-    let at = scopes.callee(name, strategies.len(), terms.len())?;
+    let at = scopes.callee(context.hashing, name, strategies.len(), terms.len())?;
     let target = CallTarget::new(at, Some(name.offset()));
-    let made = Box::new(alloc, CoreStrategy::Call(target, strategies, terms))?;
+    let made = Box::new(context.alloc, CoreStrategy::Call(target, strategies, terms))?;
     Ok(made)
 }
 
 /// A call by this name, without arguments.
 #[inline(never)]
 pub(crate) fn plain_call(
-    alloc: Global,
+    context: &Context,
     scopes: &Scopes,
     name: &Name,
 ) -> Result<Box<CoreStrategy>, AllocError>
     ensures { ReturnsCore result (strategy_at (layers_of scopes.now)
         (core.call (written name.now) core.no_strategies core.no_patterns)) }
 {
-    let at = scopes.callee(name, 0, 0)?;
+    let at = scopes.callee(context.hashing, name, 0, 0)?;
     let target = CallTarget::new(at, Some(name.offset()));
-    let call = CoreStrategy::Call(target, Vec::new(alloc), Vec::new(alloc));
-    Ok(Box::new(alloc, call)?)
+    let call = CoreStrategy::Call(target, Vec::new(context.alloc), Vec::new(context.alloc));
+    Ok(Box::new(context.alloc, call)?)
 }
 
 /// The strategies that a call hands on.
@@ -101,7 +101,7 @@ fn call_with_results<'t>(
     let strategies = strategy_arguments(context, sources, scopes, symbols)?;
     let mut next = 0;
     let terms = built_parts(context.alloc, terms, scopes, symbols, &mut next)?;
-    let made = call_of(context.alloc, scopes, name, strategies, terms)?;
+    let made = call_of(context, scopes, name, strategies, terms)?;
     Ok(made)
 }
 
@@ -121,7 +121,7 @@ pub(crate) fn call<'t>(
         (trees.call name.now (arguments_of source.now)))) }
 {
     match source {
-        Arguments::Absent => plain_call(context.alloc, scopes, name),
+        Arguments::Absent => plain_call(context, scopes, name),
         Arguments::Strategies(sources) => called_with(context, name, sources, scopes, symbols),
         Arguments::WithTerms(sources, terms) => {
             let count = applications_among(terms)?;
@@ -167,12 +167,6 @@ fn called_with<'t>(
         return Ok(each);
     }
     let strategies = strategy_arguments(context, sources, scopes, symbols)?;
-    let made = call_of(
-        context.alloc,
-        scopes,
-        name,
-        strategies,
-        Vec::new(context.alloc),
-    )?;
+    let made = call_of(context, scopes, name, strategies, Vec::new(context.alloc))?;
     Ok(made)
 }

@@ -8,6 +8,7 @@ ghost use Rattle.str_desugar.specs.Forms.{read_forms, tops_at};
 ghost use Rattle.str_desugar.specs.Groups.{head_in};
 
 use crate::alternatives::Groups;
+use keyed_hash::HashKeys;
 use std::alloc::{AllocError, Global};
 use str_syntax::{Definition, DefinitionForm, DefinitionHead, File, Section};
 
@@ -65,6 +66,7 @@ pub(crate) fn head_of(form: &DefinitionForm) -> &DefinitionHead
 /// Groups the rules and definitions, one group for each definition of the program. `AllocError` where a growth is refused.
 pub(crate) fn groups_of<'a>(
     alloc: Global,
+    hashing: HashKeys,
     forms: &[&'a DefinitionForm],
 ) -> Result<Groups<'a>, AllocError>
     ensures { IfOk result (λ groups. (declared : Bytes → ℕ → Bool) →
@@ -74,6 +76,6 @@ pub(crate) fn groups_of<'a>(
     for form in forms {
         heads.push(head_of(form))?;
     }
-    let groups = Groups::new(alloc, heads)?;
+    let groups = Groups::new(alloc, hashing, heads)?;
     Ok(groups)
 }

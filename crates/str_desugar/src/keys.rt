@@ -10,6 +10,7 @@ ghost use Rattle.term_model.specs.Results.{Returns};
 
 use crate::marks::{Marks, Wanted};
 use indexmap::IndexSet;
+use keyed_hash::HashKeys;
 use std::alloc::{AllocError, Global};
 use std::marker::Model;
 use str_syntax::DefinitionKey;
@@ -18,7 +19,7 @@ use str_syntax::DefinitionKey;
 /// not walk the keys.
 #[derive(Drop)]
 pub(crate) struct Keys<'t> {
-    table: IndexSet<DefinitionKey<'t>>,
+    table: IndexSet<DefinitionKey<'t>, HashKeys>,
     /// The marks of their names.
     marks: Marks,
 }
@@ -33,17 +34,17 @@ impl<'t> Model for Keys<'t> {
 
     ghost use Rattle.str_desugar.specs.Keys.{AreKeysMarked};
 
-    ghost invariant = { λ keys. AreKeysMarked keys.marks.words keys.table.keys };
+    ghost invariant = { λ keys. AreKeysMarked keys.marks keys.table.keys };
 }
 
 impl<'t> Keys<'t> {
-    /// No keys.
-    pub(crate) fn new(alloc: Global) -> Keys<'t>
+    /// No keys, in a table that hashes so.
+    pub(crate) fn new(alloc: Global, hashing: HashKeys) -> Keys<'t>
         ensures { result ≡ [] }
     {
         Keys {
-            table: IndexSet::new(alloc),
-            marks: Marks::new(),
+            table: IndexSet::with_hasher(alloc, hashing),
+            marks: Marks::new(hashing),
         }
     }
 

@@ -23,13 +23,14 @@ use crate::scopes::Scopes;
 use crate::strategy::{Context, strategy};
 use crate::symbols::Symbols;
 use core_lang::{CoreDef, CoreStrategy};
+use keyed_hash::HashKeys;
 use std::alloc::{AllocError, Global};
 use str_syntax::{Name, Strategy, StrategyDefinition};
 
 /// The definition of this body without parameters, and a call of it.
 #[inline(never)]
 fn called_at_once(
-    alloc: Global,
+    context: &Context,
     scopes: &Scopes,
     name: &Name,
     body: Box<CoreStrategy>,
@@ -39,14 +40,14 @@ fn called_at_once(
         core.no_definitions) (core.call (callee_at (layers_of scopes.now) (written name.now) 0 0)
         core.no_strategies core.no_patterns)) }
 {
-    let mut definitions = Vec::new(alloc);
+    let mut definitions = Vec::new(context.alloc);
     definitions.push(CoreDef {
         strats: 0,
         terms: 0,
         body: Box::into_inner(body),
     })?;
-    let call = plain_call(alloc, scopes, name)?;
-    let_in(alloc, definitions, call)
+    let call = plain_call(context, scopes, name)?;
+    let_in(context.alloc, definitions, call)
 }
 
 /// The core of a `rec`: a definition, and a call of it.
@@ -67,14 +68,14 @@ pub(crate) fn recursive<'t>(
         name: &*name,
         outer: &*scopes,
     };
-    let none = Names::new();
+    let none = Names::new(context.hashing);
     let inner = Scopes::Parameters {
         strategies: &none,
         terms: &none,
         outer: &layer,
     };
     let body = strategy(context, source, &inner, symbols)?;
-    let made = called_at_once(context.alloc, &layer, name, body)?;
+    let made = called_at_once(context, &layer, name, body)?;
     Ok(made)
 }
 
@@ -82,6 +83,7 @@ pub(crate) fn recursive<'t>(
 #[inline(never)]
 pub(crate) fn groups_of(
     alloc: Global,
+    hashing: HashKeys,
     sources: &[StrategyDefinition],
 ) -> Result<Groups<'_>, AllocError>
     ensures { IfOk result (λ made. (declared : Bytes → ℕ → Bool) →
@@ -91,7 +93,7 @@ pub(crate) fn groups_of(
     for source in sources {
         heads.push(&source.head)?;
     }
-    let made = Groups::new(alloc, heads)?;
+    let made = Groups::new(alloc, hashing, heads)?;
     Ok(made)
 }
 
@@ -197,8 +199,16 @@ fn alternative<'t>(
         (definition_of source.now))) }
 {
     let first = groups.first_of(&source.head);
-    let strategies = names_in(context.alloc, first.parameters.strategy_names())?;
-    let terms = names_in(context.alloc, first.parameters.term_names())?;
+    let strategies = names_in(
+        context.alloc,
+        context.hashing,
+        first.parameters.strategy_names(),
+    )?;
+    let terms = names_in(
+        context.alloc,
+        context.hashing,
+        first.parameters.term_names(),
+    )?;
     let inner = Scopes::Parameters {
         strategies: &strategies,
         terms: &terms,

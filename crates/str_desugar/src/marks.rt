@@ -1,17 +1,18 @@
 //! Marks of names. A table sets the marks of its names, and a name whose mark is not set there is not looked up in it.
-ghost use Rattle.std.specs.Prelude.{◌≡◌, ◌<◌, true};
-ghost use Rattle.str_desugar.specs.Marks.{AreKept, has_mark, mark_of};
+ghost use Rattle.std.specs.Prelude.{◌≡◌, ◌<◌, true, false};
+ghost use Rattle.str_desugar.specs.Marks.{AreKept, is_marked, mark_of};
 
-use std::hash::{FoldHasher, Hasher};
+use keyed_hash::HashKeys;
+use std::hash::{BuildHasher, Hasher};
 use std::marker::Model;
 use str_syntax::Name;
 
-/// The mark of a name.
-fn mark_of(name: &[u8]) -> usize
-    ensures mark { result ≡ mark_of name.now }
+/// Returns the mark of a name under these keys.
+fn mark_of(hashing: HashKeys, name: &[u8]) -> usize
+    ensures mark { result ≡ mark_of hashing name.now }
     ensures small { result < 512 }
 {
-    let mut hasher = FoldHasher::default();
+    let mut hasher = hashing.build_hasher();
     hasher.write(name);
     let hash = hasher.finish();
     (hash % 512) as usize
@@ -21,6 +22,7 @@ fn mark_of(name: &[u8]) -> usize
 #[derive(Drop)]
 pub(crate) struct Wanted<'a> {
     name: &'a Name,
+    hashing: HashKeys,
     mark: usize,
 }
 
@@ -33,19 +35,24 @@ impl<'a> Model for Wanted<'a> {
 
     ghost view = { λ wanted. wanted.name.now };
 
-    ghost invariant = { λ wanted. (wanted.mark ≡ mark_of wanted.name.now) × (wanted.mark < 512) };
+    ghost invariant = { λ wanted.
+        (wanted.mark ≡ mark_of wanted.hashing wanted.name.now) × (wanted.mark < 512) };
 }
 
 impl<'a> Wanted<'a> {
-    /// The name, to be looked up.
-    pub(crate) fn new(name: &'a Name) -> Wanted<'a>
+    /// Returns the name, to be looked up in tables that hash with these keys.
+    pub(crate) fn new(hashing: HashKeys, name: &'a Name) -> Wanted<'a>
         ensures { result ≡ name.now }
     {
-        let mark = mark_of(name.bytes());
-        Wanted { name, mark }
+        let mark = mark_of(hashing, name.bytes());
+        Wanted {
+            name,
+            hashing,
+            mark,
+        }
     }
 
-    /// The name.
+    /// Returns the name.
     pub(crate) fn name(&self) -> &'a Name
         ensures { result.now ≡ self.now }
     {
@@ -53,33 +60,40 @@ impl<'a> Wanted<'a> {
     }
 }
 
-/// The marks of the names of a table, as bits.
+/// The marks of the names of a table under its keys, as bits.
 #[derive(Drop)]
 pub(crate) struct Marks {
+    hashing: HashKeys,
     words: [u64; 8],
 }
 
 impl Marks {
-    /// No marks.
-    pub(crate) fn new() -> Marks {
-        Marks { words: [0; 8] }
+    /// Returns no marks.
+    pub(crate) fn new(hashing: HashKeys) -> Marks {
+        Marks {
+            hashing,
+            words: [0; 8],
+        }
     }
 
-    /// Whether the mark of the name is set.
+    /// Returns whether the mark of the name is set. A mark under other keys says nothing, so it counts as set.
     #[inline(always)]
     pub(crate) fn has(&self, wanted: &Wanted) -> bool
-        ensures { result ≡ has_mark self.now.words (mark_of wanted.now) }
+        ensures { result ≡ false → is_marked self.now wanted.now ≡ false }
     {
+        if self.hashing != wanted.hashing {
+            return true;
+        }
         let word = self.words[wanted.mark / 64];
         (word >> (wanted.mark % 64)) & 1 == 1
     }
 
     /// Sets the mark of the name.
     pub(crate) fn set(&mut self, name: &[u8])
-        ensures added { has_mark self.new.words (mark_of name.now) ≡ true }
-        ensures kept { AreKept self.old.words self.new.words }
+        ensures added { is_marked self.new name.now ≡ true }
+        ensures kept { AreKept self.old self.new }
     {
-        let mark = mark_of(name);
+        let mark = mark_of(self.hashing, name);
         let index = mark / 64;
         self.words[index] |= 1 << (mark % 64);
     }

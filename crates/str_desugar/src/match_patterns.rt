@@ -25,9 +25,11 @@ pub(crate) fn core_of_match(
         pattern_at (layers_of scopes.now) (equations.matched (pattern_of source.now))) }
 {
     match source {
-        Pattern::Variable(name) => Ok(CorePattern::Variable(scopes.variable(name)?)),
+        Pattern::Variable(name) => {
+            Ok(CorePattern::Variable(scopes.variable(symbols.hashing(), name)?))
+        }
         Pattern::Alias(name, part) => {
-            let name = scopes.variable(name)?;
+            let name = scopes.variable(symbols.hashing(), name)?;
             let part = core_of_match(alloc, part, scopes, symbols)?;
             Ok(CorePattern::Alias(name, Box::new(alloc, part)?))
         }

@@ -9,6 +9,7 @@ ghost use Rattle.term_model.specs.Results.{Returns};
 
 use crate::marks::{Marks, Wanted};
 use indexmap::IndexSet;
+use keyed_hash::HashKeys;
 use std::alloc::{AllocError, Global};
 use std::marker::Model;
 use str_syntax::Name;
@@ -20,7 +21,7 @@ const FEW: usize = 8;
 #[derive(Drop)]
 struct Hashed {
     /// The names in front of the first one that repeats another.
-    distinct: IndexSet<Name>,
+    distinct: IndexSet<Name, HashKeys>,
     /// The names from there on.
     others: Vec<Name>,
 }
@@ -35,11 +36,11 @@ impl Model for Hashed {
 
 impl Hashed {
     /// The names of a list, in order.
-    fn of(alloc: Global, source: &[Name]) -> Result<Hashed, AllocError>
+    fn of(alloc: Global, hashing: HashKeys, source: &[Name]) -> Result<Hashed, AllocError>
         ensures { Returns result source.now }
     {
         let mut made = Hashed {
-            distinct: IndexSet::new(alloc),
+            distinct: IndexSet::with_hasher(alloc, hashing),
             others: Vec::new(alloc),
         };
         for name in source {
@@ -89,7 +90,7 @@ enum Held {
 
 impl Held {
     /// Puts the name after the others.
-    fn push(&mut self, alloc: Global, name: Name) -> Result<(), AllocError>
+    fn push(&mut self, alloc: Global, hashing: HashKeys, name: Name) -> Result<(), AllocError>
         ensures pushed { OnOk result (held_names self.new ≡ held_names self.old ++ name ∷ []) }
         ensures unchanged { OnErr result (held_names self.new ≡ held_names self.old) }
     {
@@ -100,7 +101,7 @@ impl Held {
                     names.push(name)?;
                     return Ok(());
                 }
-                let mut many = Hashed::of(alloc, names)?;
+                let mut many = Hashed::of(alloc, hashing, names)?;
                 many.push(name)?;
                 *self = Held::Many(many);
             }
@@ -139,17 +140,17 @@ impl Model for Table {
 
     ghost use Rattle.str_desugar.specs.Marks.{AreMarked};
 
-    ghost invariant = { λ names. AreMarked names.marks.words (held_names names.held) };
+    ghost invariant = { λ names. AreMarked names.marks (held_names names.held) };
 }
 
 impl Table {
     /// No names.
-    fn new(alloc: Global) -> Table
+    fn new(alloc: Global, hashing: HashKeys) -> Table
         ensures { result ≡ [] }
     {
         Table {
             held: Held::Few(Vec::new(alloc)),
-            marks: Marks::new(),
+            marks: Marks::new(hashing),
         }
     }
 
@@ -164,12 +165,12 @@ impl Table {
     }
 
     /// Puts a copy of the name after the others.
-    fn push(&mut self, alloc: Global, name: &Name) -> Result<(), AllocError>
+    fn push(&mut self, alloc: Global, hashing: HashKeys, name: &Name) -> Result<(), AllocError>
         ensures { OnOk result (self.new ≡ self.old ++ name.now ∷ []) }
     {
         let copy = name.copy(alloc)?;
         self.marks.set(name.bytes());
-        self.held.push(alloc, copy)?;
+        self.held.push(alloc, hashing, copy)?;
         Ok(())
     }
 
@@ -188,11 +189,11 @@ impl Table {
 
 /// A table of the one name.
 #[inline(never)]
-fn table_of(alloc: Global, name: &Name) -> Result<Box<Table>, AllocError>
+fn table_of(alloc: Global, hashing: HashKeys, name: &Name) -> Result<Box<Table>, AllocError>
     ensures { IfOk result (λ made. made.value ≡ name.now ∷ []) }
 {
-    let mut made = Box::new(alloc, Table::new(alloc))?;
-    made.push(alloc, name)?;
+    let mut made = Box::new(alloc, Table::new(alloc, hashing))?;
+    made.push(alloc, hashing, name)?;
     Ok(made)
 }
 
@@ -200,6 +201,8 @@ fn table_of(alloc: Global, name: &Name) -> Result<Box<Table>, AllocError>
 /// this type takes little of the call stack.
 #[derive(Drop)]
 pub(crate) struct Names {
+    /// The keys with which the table hashes.
+    hashing: HashKeys,
     table: Option<Box<Table>>,
 }
 
@@ -213,11 +216,19 @@ impl Model for Names {
 }
 
 impl Names {
-    /// No names.
-    pub(crate) fn new() -> Names
+    /// No names, in a table that hashes so.
+    pub(crate) fn new(hashing: HashKeys) -> Names
         ensures { result ≡ [] }
     {
-        Names { table: None }
+        Names {
+            hashing,
+            table: None,
+        }
+    }
+
+    /// The keys with which these names are hashed.
+    pub(crate) fn hashing(&self) -> HashKeys {
+        self.hashing
     }
 
     /// How many names there are.
@@ -235,8 +246,8 @@ impl Names {
         ensures { OnOk result (self.new ≡ self.old ++ name.now ∷ []) }
     {
         match &mut self.table {
-            None => self.table = Some(table_of(alloc, name)?),
-            Some(table) => table.push(alloc, name)?,
+            None => self.table = Some(table_of(alloc, self.hashing, name)?),
+            Some(table) => table.push(alloc, self.hashing, name)?,
         }
         Ok(())
     }
@@ -287,10 +298,14 @@ pub(crate) fn same(name: &Name, other: &Name) -> bool
 
 /// The names of a list, in order. `AllocError` where the memory for them is refused.
 #[inline(never)]
-pub(crate) fn names_in(alloc: Global, source: &[Name]) -> Result<Names, AllocError>
+pub(crate) fn names_in(
+    alloc: Global,
+    hashing: HashKeys,
+    source: &[Name],
+) -> Result<Names, AllocError>
     ensures { Returns result source.now }
 {
-    let mut made = Names::new();
+    let mut made = Names::new(hashing);
     for name in source {
         made.push(alloc, name)?;
     }

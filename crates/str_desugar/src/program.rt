@@ -26,27 +26,34 @@ use crate::strategy::{Context, strategy};
 use crate::symbols::Symbols;
 use crate::variables::{free_of_rule, free_of_strategy};
 use core_lang::{Core, CoreDef, CoreStrategy};
+use keyed_hash::HashKeys;
 use scope_check::Checked;
 use std::alloc::{AllocError, Global};
 use str_syntax::{DefinitionForm, DefinitionKey, Name, Strategy};
 
-/// Reduces a checked file to its core program, in which each identifier is resolved. `AllocError` where the memory for it is refused.
-pub fn to_core(alloc: Global, checked: &Checked) -> Result<Core, AllocError>
+/// Reduces a checked file to its core program, in which each identifier is resolved. `AllocError` where the memory for it is refused. The
+/// tables of names hash with the keys, and nothing else depends on them.
+pub fn to_core(alloc: Global, hashing: HashKeys, checked: &Checked) -> Result<Core, AllocError>
     ensures { IfOk result (λ core. ResolvesProgram (program_of_file (file_of checked.now.file))
         (written checked.now.main) (program_of core) core.main) }
 {
     let forms = forms_in(alloc, checked.file())?;
-    core_of(alloc, checked, &forms)
+    core_of(alloc, hashing, checked, &forms)
 }
 
 /// The core program of a checked file, whose rules and definitions are these.
-fn core_of(alloc: Global, checked: &Checked, forms: &[&DefinitionForm]) -> Result<Core, AllocError>
+fn core_of(
+    alloc: Global,
+    hashing: HashKeys,
+    checked: &Checked,
+    forms: &[&DefinitionForm],
+) -> Result<Core, AllocError>
     requires { read_forms forms.now ≡ forms_among (file_of checked.now.file).sections }
     ensures { IfOk result (λ core. ResolvesProgram (program_of_file (file_of checked.now.file))
         (written checked.now.main) (program_of core) core.main) }
 {
-    let groups = groups_of(alloc, forms)?;
-    let core = core_among(alloc, checked, forms, &groups)?;
+    let groups = groups_of(alloc, hashing, forms)?;
+    let core = core_among(alloc, hashing, checked, forms, &groups)?;
     let heads = groups.offsets(alloc)?;
     Ok(core.with_heads(heads))
 }
@@ -54,6 +61,7 @@ fn core_of(alloc: Global, checked: &Checked, forms: &[&DefinitionForm]) -> Resul
 /// The core program, whose rules and definitions have these heads.
 fn core_among<'t>(
     alloc: Global,
+    hashing: HashKeys,
     checked: &Checked,
     forms: &[&'t DefinitionForm],
     groups: &Groups<'t>,
@@ -67,6 +75,7 @@ fn core_among<'t>(
     let context = Context {
         alloc,
         signature: checked.signature(),
+        hashing,
         place: 0,
     };
     let key = DefinitionKey::plain(checked.main());
@@ -96,7 +105,7 @@ fn definitions<'t>(
         keys: groups.keys(),
         outer: &outer,
     };
-    let mut symbols = Symbols::new(context.alloc);
+    let mut symbols = Symbols::new(context.alloc, context.hashing);
     let each = bodies(context, forms, groups, &scopes, &mut symbols)?;
     let made = groups.join(context.alloc, each)?;
     Ok(made)
@@ -136,7 +145,11 @@ fn alternative<'t>(
         groups.now (top_core (arity_known context.now.signature.now) (form_of form.now))) }
 {
     let first = groups.first_of(head_of(form));
-    let strategies = names_in(context.alloc, first.parameters.strategy_names())?;
+    let strategies = names_in(
+        context.alloc,
+        context.hashing,
+        first.parameters.strategy_names(),
+    )?;
     let terms = first.parameters.term_names();
     let inner = Context {
         place: head_of(form).name.offset(),
@@ -160,7 +173,7 @@ fn under_parameters<'t>(
         (layers_of scopes.now))
         (top_core (arity_known context.now.signature.now) (form_of form.now)).body) }
 {
-    let terms = names_in(context.alloc, terms)?;
+    let terms = names_in(context.alloc, context.hashing, terms)?;
     let inner = Scopes::Parameters {
         strategies: &*strategies,
         terms: &terms,
@@ -183,12 +196,12 @@ fn body<'t>(
     match form {
         DefinitionForm::Rule(source) => {
             let terms = source.head.parameters.term_names();
-            let names = free_of_rule(context.alloc, &source.rule, terms)?;
+            let names = free_of_rule(context.alloc, context.hashing, &source.rule, terms)?;
             scoped_rule(context, &names, &source.rule, scopes, symbols)
         }
         DefinitionForm::Strategy(source) => {
             let terms = source.head.parameters.term_names();
-            let names = free_of_strategy(context.alloc, &source.body, terms)?;
+            let names = free_of_strategy(context.alloc, context.hashing, &source.body, terms)?;
             scoped_strategy(context, &names, &source.body, scopes, symbols)
         }
     }

@@ -89,7 +89,7 @@ pub(crate) fn lambda<'t>(
         (primary_core (arity_known context.now.signature.now) (trees.lambda
         (rule_of source.now)))) }
 {
-    let names = left_variables(context.alloc, source)?;
+    let names = left_variables(context.alloc, context.hashing, source)?;
     let made = scoped_rule(context, &names, source, scopes, symbols)?;
     Ok(made)
 }

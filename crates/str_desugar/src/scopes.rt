@@ -12,6 +12,7 @@ use crate::keys::Keys;
 use crate::marks::Wanted;
 use crate::names::{Names, same};
 use core_lang::Coordinate;
+use keyed_hash::HashKeys;
 use std::alloc::AllocError;
 use str_syntax::Name;
 
@@ -148,11 +149,11 @@ impl<'a, 't> Scopes<'a, 't> {
         }
     }
 
-    /// Where the variable of this name stands.
-    pub(crate) fn variable(&self, name: &Name) -> Result<Coordinate, AllocError>
+    /// Where the variable of this name stands. The keys are those of the tables.
+    pub(crate) fn variable(&self, hashing: HashKeys, name: &Name) -> Result<Coordinate, AllocError>
         ensures { Returns result (variable_at (layers_of self.now) (written name.now)) }
     {
-        let wanted = Wanted::new(name);
+        let wanted = Wanted::new(hashing, name);
         let mut layers_up = 0;
         let mut layer = *self;
         while let Some(outer) = layer.outer() {
@@ -184,6 +185,7 @@ impl<'a, 't> Scopes<'a, 't> {
     /// Where that stands which is called by this name with these numbers of strategies and terms.
     pub(crate) fn callee(
         &self,
+        hashing: HashKeys,
         name: &Name,
         strategies: usize,
         terms: usize,
@@ -191,7 +193,7 @@ impl<'a, 't> Scopes<'a, 't> {
         ensures { IfOk result (λ made. made ≡
             callee_at (layers_of self.now) (written name.now) strategies terms) }
     {
-        let wanted = Wanted::new(name);
+        let wanted = Wanted::new(hashing, name);
         let mut layers_up = 0;
         let mut layer = *self;
         while let Some(outer) = layer.outer() {

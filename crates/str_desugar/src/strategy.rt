@@ -30,6 +30,7 @@ use crate::rules::lambda;
 use crate::scopes::Scopes;
 use crate::symbols::Symbols;
 use core_lang::{CoreStrategy, SourcePattern};
+use keyed_hash::HashKeys;
 use signature_core::Signature;
 use std::alloc::{AllocError, Global};
 use str_syntax::{Name, Operator, Pattern, Primary, Sequence, Step, Strategy};
@@ -40,6 +41,8 @@ use term_model::Sym;
 pub(crate) struct Context<'a> {
     pub(crate) alloc: Global,
     pub(crate) signature: &'a Signature,
+    /// The keys of tables of names.
+    pub(crate) hashing: HashKeys,
     /// The byte of the file at which the step or pattern begins or, of a rule at the top of the file, its name.
     pub(crate) place: u64,
 }
@@ -184,7 +187,7 @@ fn primary<'t>(
         Primary::Recursive(name, body) => recursive(context, name, body, scopes, symbols),
         Primary::Lambda(rule) => lambda(context, rule, scopes, symbols),
         Primary::Let(definitions, body) => {
-            let groups = groups_of(context.alloc, definitions)?;
+            let groups = groups_of(context.alloc, context.hashing, definitions)?;
             let made = let_definitions(context, definitions, &groups, scopes, symbols)?;
             let body = let_body(context, body, &groups, scopes, symbols)?;
             let_in(context.alloc, made, body)
@@ -207,7 +210,7 @@ fn scope<'t>(
         (trees.scope names.now (strategy_of source.now)))) }
 {
     let alloc = context.alloc;
-    let variables = names_in(alloc, names)?;
+    let variables = names_in(alloc, context.hashing, names)?;
     let inner = Scopes::Variables {
         names: &variables,
         outer: &*scopes,

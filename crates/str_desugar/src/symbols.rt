@@ -4,6 +4,7 @@ ghost use Rattle.str_desugar.specs.Equations.{constructor_symbol};
 ghost use Rattle.term_model.specs.Results.{Returns};
 
 use indexmap::IndexSet;
+use keyed_hash::HashKeys;
 use std::alloc::{AllocError, Global};
 use str_syntax::{Name, Text};
 use term_model::Sym;
@@ -15,16 +16,21 @@ const IN_PLACE: usize = 14;
 #[derive(Drop)]
 pub(crate) struct Symbols {
     alloc: Global,
-    known: IndexSet<Sym>,
+    known: IndexSet<Sym, HashKeys>,
 }
 
 impl Symbols {
-    /// No symbols.
-    pub(crate) fn new(alloc: Global) -> Symbols {
+    /// No symbols, in a table that hashes so.
+    pub(crate) fn new(alloc: Global, hashing: HashKeys) -> Symbols {
         Symbols {
             alloc,
-            known: IndexSet::new(alloc),
+            known: IndexSet::with_hasher(alloc, hashing),
         }
+    }
+
+    /// The keys with which the table of symbols hashes.
+    pub(crate) fn hashing(&self) -> HashKeys {
+        *self.known.hasher()
     }
 
     /// The symbol of the constructor of this name.

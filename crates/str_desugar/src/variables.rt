@@ -7,6 +7,7 @@ ghost use Rattle.term_model.specs.Results.{Returns};
 
 use crate::bound::{Bound, note};
 use crate::names::{Names, names_in};
+use keyed_hash::HashKeys;
 use std::alloc::{AllocError, Global};
 use str_syntax::{
     Arguments, Name, Parameters, Pattern, Primary, Rule, Sequence, Step, Strategy,
@@ -16,15 +17,16 @@ use str_syntax::{
 /// The free names of the body of a definition with these term parameters. `AllocError` where the memory for them is refused.
 pub(crate) fn free_of_strategy(
     alloc: Global,
+    hashing: HashKeys,
     source: &Strategy,
     terms: &[Name],
 ) -> Result<Names, AllocError>
     ensures { IfOk result (λ made. made ≡
         each_once (without terms.now (free_in (strategy_of source.now)))) }
 {
-    let terms = names_in(alloc, terms)?;
+    let terms = names_in(alloc, hashing, terms)?;
     let bound = Bound::Terms(&terms);
-    let mut found = Names::new();
+    let mut found = Names::new(hashing);
     in_strategy(alloc, source, &bound, &mut found)?;
     Ok(found)
 }
@@ -32,25 +34,30 @@ pub(crate) fn free_of_strategy(
 /// The free names of a rule with these term parameters. `AllocError` where the memory for them is refused.
 pub(crate) fn free_of_rule(
     alloc: Global,
+    hashing: HashKeys,
     source: &Rule,
     terms: &[Name],
 ) -> Result<Names, AllocError>
     ensures { IfOk result (λ made. made ≡
         each_once (without terms.now (free_in_rule (rule_of source.now)))) }
 {
-    let terms = names_in(alloc, terms)?;
+    let terms = names_in(alloc, hashing, terms)?;
     let bound = Bound::Terms(&terms);
-    let mut found = Names::new();
+    let mut found = Names::new(hashing);
     in_rule(alloc, source, &bound, &mut found)?;
     Ok(found)
 }
 
 /// The names of a rule's left side, which a rule in backslashes binds. `AllocError` where the memory for them is refused.
 #[cycle(gather)]
-pub(crate) fn left_variables(alloc: Global, source: &Rule) -> Result<Names, AllocError>
+pub(crate) fn left_variables(
+    alloc: Global,
+    hashing: HashKeys,
+    source: &Rule,
+) -> Result<Names, AllocError>
     ensures { Returns result (each_once (left_names (rule_of source.now))) }
 {
-    let mut found = Names::new();
+    let mut found = Names::new(hashing);
     in_pattern(alloc, &source.left, &Bound::Nothing, &mut found)?;
     Ok(found)
 }
@@ -291,7 +298,7 @@ fn in_scope(
         gathered (bound_names bound.now)
         found.old (without names.now (free_in (strategy_of inner.now)))) }
 {
-    let names = names_in(alloc, names)?;
+    let names = names_in(alloc, found.hashing(), names)?;
     let bound = Bound::Scope {
         names: &names,
         outer: &*bound,
@@ -321,7 +328,7 @@ fn in_lambda(
         gathered (bound_names bound.now)
         found.old (without (left_names (rule_of source.now)) (free_in_rule (rule_of source.now)))) }
 {
-    let names = left_variables(alloc, &*source)?;
+    let names = left_variables(alloc, found.hashing(), &*source)?;
     let bound = Bound::Scope {
         names: &names,
         outer: &*bound,

@@ -15,6 +15,7 @@ use diagnostics::{
     Definitions, Explanation, Position, Remark, RunNotes, add_count, add_warnings, name_hint_in,
     position_in, primitive_place, whole_file,
 };
+use keyed_hash::HashKeys;
 use prim_registry::{PrimMeaning, Registry};
 use scope_check::{Detail, FileFaults, Note, find_faults};
 use std::alloc::{AllocError, Global};
@@ -35,6 +36,7 @@ use term_model::{Fault, PrimNames};
 /// `Read` if a read failed, and `Memory` if a growth was refused.
 pub fn check_definitions<D: Source, M: PrimMeaning>(
     alloc: Global,
+    keys: HashKeys,
     definitions: &mut D,
     options: &Options,
     registry: &Registry<M>,
@@ -54,13 +56,14 @@ pub fn check_definitions<D: Source, M: PrimMeaning>(
         return Ok(Some(Fault::DefsTooLong));
     };
     notes.note_library(library_bytes(definitions.files()));
-    verdict_on(alloc, &text, options, registry, notes)
+    verdict_on(alloc, keys, &text, options, registry, notes)
 }
 
 /// Judges these definitions. The fault is `Memory`.
 #[tactic(auto, using(crate::proofs::FaultLaws::program_refused, crate::proofs::FaultLaws::program_stops, crate::proofs::FaultLaws::is_reading, crate::proofs::FaultLaws::program_no_read))]
 fn verdict_on<M: PrimMeaning>(
     alloc: Global,
+    keys: HashKeys,
     text: &[u8],
     options: &Options,
     registry: &Registry<M>,
@@ -72,7 +75,7 @@ fn verdict_on<M: PrimMeaning>(
     ensures kinds { IfErr result IsReadingFault }
     ensures read { is_read_fault result ≡ false }
 {
-    match program_to_run(alloc, text, options, registry, notes) {
+    match program_to_run(alloc, keys, text, options, registry, notes) {
         Ok(program) => {
             note_warnings(alloc, text, &program, notes);
             Ok(None)
@@ -81,7 +84,7 @@ fn verdict_on<M: PrimMeaning>(
             if has_no_line(&fault) {
                 return Err(fault);
             }
-            note_findings(alloc, text, options, registry, notes);
+            note_findings(alloc, keys, text, options, registry, notes);
             Ok(Some(fault))
         }
     }
@@ -99,12 +102,13 @@ fn note_warnings(alloc: Global, text: &[u8], program: &Program, notes: &mut RunN
 /// Notes what the checks find in definitions, and warnings, if these are a file and memory for it is there.
 fn note_findings<M: PrimMeaning>(
     alloc: Global,
+    keys: HashKeys,
     text: &[u8],
     options: &Options,
     registry: &Registry<M>,
     notes: &mut RunNotes,
 ) {
-    if let Ok(explanation) = findings_in(alloc, text, notes.library(), options, registry) {
+    if let Ok(explanation) = findings_in(alloc, keys, text, notes.library(), options, registry) {
         notes.note_explanation(explanation);
     }
 }
@@ -113,6 +117,7 @@ fn note_findings<M: PrimMeaning>(
 /// is no file.
 pub(crate) fn findings_in<M: PrimMeaning>(
     alloc: Global,
+    keys: HashKeys,
     text: &[u8],
     library: usize,
     options: &Options,
@@ -120,7 +125,7 @@ pub(crate) fn findings_in<M: PrimMeaning>(
 ) -> Result<Explanation, Fault> {
     let file = whole_file(alloc, text)?;
     let primitives = registry.names(alloc)?;
-    let faults = find_faults(alloc, &file, &primitives, &options.main)?;
+    let faults = find_faults(alloc, keys, &file, &primitives, &options.main)?;
     if !faults.is_sound() && faults.notes().is_empty() {
         return Err(Fault::Memory);
     }
@@ -158,7 +163,7 @@ fn add_faults(
             text: format!(in alloc; "{note}")?.into_bytes(),
             on_line: None,
         })?;
-        if let Some(hint) = name_hint_in(alloc, file, note, primitives) {
+        if let Some(hint) = name_hint_in(file, note, primitives) {
             remarks.push(Remark {
                 position: None,
                 text: format!(in alloc; "hint: {hint}")?.into_bytes(),

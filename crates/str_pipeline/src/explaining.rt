@@ -1,24 +1,25 @@
 //! Why a run has no result: it is run again, in code that knows where its strategies stand.
-ghost use Rattle.prim_registry.specs.Entries.{Covers, IsHonest};
+ghost use Rattle.prim_registry.specs.Entries.{IsHonest};
 
 use crate::callers::{call_sites, callers_line, search_site};
 use crate::causes::{
     Leaf, is_negation, push_excess, push_failure, push_phrase, search_failure, variables,
 };
 use crate::checking::findings_in;
-use crate::followed::FollowedSpace;
 use crate::program::{Purpose, make_program};
+use crate::rerun::{Evidence, Rerun, run_again};
 use crate::status::{Options, Status};
 use crate::usage::usage_line;
-use aterm_text::{read_in, write_term};
+use aterm_text::write_term;
 use diagnostics::{
     Definitions, Explanation, Listing, MOST_OF_NAME, Phrase, Remark, RunNotes, add_warnings,
     push_cut, push_number,
 };
+use keyed_hash::HashKeys;
 use prim_registry::{PrimMeaning, Registry};
 use std::alloc::{AllocError, Global};
 use strat_code::Code;
-use strat_machine::{Account, Ending, Machine, Stand};
+use strat_machine::{Ending, Stand};
 use term_model::{Fault, Term};
 
 /// The most rules for which a run is followed.
@@ -49,6 +50,7 @@ const DEEPEST: &[u8] = b", the deepest failure before that, and maybe the cause"
 /// nothing is noted.
 pub(crate) fn explain_run<M: PrimMeaning>(
     alloc: Global,
+    keys: HashKeys,
     status: &Result<Status, Fault>,
     options: &Options,
     registry: &Registry<M>,
@@ -67,11 +69,22 @@ pub(crate) fn explain_run<M: PrimMeaning>(
             alloc,
             &definitions,
             notes.library(),
-            &term,
+            Rerun {
+                text: &term,
+                budget: options.budget.min(MOST_RULES),
+                keys,
+            },
             options,
             registry,
         ),
-        Status::Rewritten => findings_in(alloc, &definitions, notes.library(), options, registry),
+        Status::Rewritten => findings_in(
+            alloc,
+            keys,
+            &definitions,
+            notes.library(),
+            options,
+            registry,
+        ),
         Status::Refused(_) => return,
     };
     if let Ok(explanation) = explanation {
@@ -84,15 +97,21 @@ fn explanation_of<M: PrimMeaning>(
     alloc: Global,
     definitions: &[u8],
     library: usize,
-    term: &[u8],
+    rerun: Rerun<'_>,
     options: &Options,
     registry: &Registry<M>,
 ) -> Result<Explanation, Fault>
     requires honest { IsHonest M.answer registry.now }
 {
-    let program = make_program(alloc, definitions, options, registry, Purpose::Explanation)?;
-    let budget = options.budget.min(MOST_RULES);
-    let run = run_again(alloc, &program.code, term, budget, registry)?;
+    let program = make_program(
+        alloc,
+        rerun.keys,
+        definitions,
+        options,
+        registry,
+        Purpose::Explanation,
+    )?;
+    let run = run_again(alloc, &program.code, rerun, registry)?;
     let listing = Listing::new(alloc, definitions)?;
     let mut remarks = Vec::new(alloc);
     let explainer = Explainer {
@@ -106,78 +125,6 @@ fn explanation_of<M: PrimMeaning>(
     let definitions = Definitions::of_checked(definitions, library, &program.checked);
     add_warnings(alloc, &definitions, &mut remarks)?;
     Ok(Explanation::new(remarks))
-}
-
-/// What a run did, and where it stood.
-#[derive(Drop)]
-struct Evidence {
-    account: Account,
-    /// Before its last instruction, if it has no result.
-    last: Option<Stand>,
-    /// Before its deepest failure since a call last returned, if that is another one.
-    deepest: Option<Stand>,
-}
-
-/// Runs the code on the term of this text again, up to three times, each time in a space of its own.
-fn run_again<M: PrimMeaning>(
-    alloc: Global,
-    code: &Code,
-    text: &[u8],
-    budget: u32,
-    registry: &Registry<M>,
-) -> Result<Evidence, Fault>
-    requires honest { IsHonest M.answer registry.now }
-    requires covers { Covers registry.now code.now.prims }
-{
-    let account = account_of(alloc, code, text, budget, registry)?;
-    let mut last = None;
-    if account.ending != Ending::Rewritten {
-        last = stand_after(alloc, code, text, budget, registry, account.before_last)?;
-    }
-    let mut deepest = None;
-    if account.ending == Ending::Failed && account.before_deepest != account.before_last {
-        deepest = stand_after(alloc, code, text, budget, registry, account.before_deepest)?;
-    }
-    Ok(Evidence {
-        account,
-        last,
-        deepest,
-    })
-}
-
-/// The account of a run of the code on the term of this text.
-fn account_of<M: PrimMeaning>(
-    alloc: Global,
-    code: &Code,
-    text: &[u8],
-    budget: u32,
-    registry: &Registry<M>,
-) -> Result<Account, Fault>
-    requires honest { IsHonest M.answer registry.now }
-    requires covers { Covers registry.now code.now.prims }
-{
-    let mut space = FollowedSpace::new(alloc);
-    let term = read_in(&mut space, alloc, text)?;
-    let mut machine = Machine::new(alloc, space);
-    machine.account(code, term, budget, registry)
-}
-
-/// Where such a run stands after this number of steps, if an instruction comes next.
-fn stand_after<M: PrimMeaning>(
-    alloc: Global,
-    code: &Code,
-    text: &[u8],
-    budget: u32,
-    registry: &Registry<M>,
-    count: u64,
-) -> Result<Option<Stand>, Fault>
-    requires honest { IsHonest M.answer registry.now }
-    requires covers { Covers registry.now code.now.prims }
-{
-    let mut space = FollowedSpace::new(alloc);
-    let term = read_in(&mut space, alloc, text)?;
-    let mut machine = Machine::new(alloc, space);
-    machine.stand(code, term, budget, registry, count)
 }
 
 /// Makes the remarks of an explanation.

@@ -3,8 +3,8 @@ ghost use Rattle.std.specs.Prelude.{All, IfOk, IsTrue, map};
 ghost use Rattle.term_model.specs.Space.{Keeps, Makes, MayHave, space_in};
 ghost use Rattle.term_model.specs.Term.{term};
 
+use keyed_hash::HashKeys;
 use std::alloc::{AllocError, Global};
-use std::hash::BuildHasherDefault;
 use term_model::{Head, Kind, Made, Parts, Shape, Sym, Term, TermSpace, Top};
 use term_store::StoreSpace;
 
@@ -17,10 +17,10 @@ pub(crate) struct FollowedSpace {
 }
 
 impl FollowedSpace {
-    /// A store without terms.
-    pub(crate) fn new(alloc: Global) -> FollowedSpace {
+    /// A store without terms, whose tables hash with these keys.
+    pub(crate) fn new(alloc: Global, keys: HashKeys) -> FollowedSpace {
         FollowedSpace {
-            store: StoreSpace::new(alloc, BuildHasherDefault::new()),
+            store: StoreSpace::new(alloc, keys),
         }
     }
 }

@@ -14,6 +14,7 @@ mod laws;
 mod pipeline;
 mod program;
 mod progress;
+mod rerun;
 mod runs;
 mod sink;
 mod source;

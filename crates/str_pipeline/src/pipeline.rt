@@ -23,9 +23,9 @@ use crate::source::{Source, read_all};
 use crate::status::{Options, Status};
 use core_lang::Outcome;
 use diagnostics::RunNotes;
+use keyed_hash::HashKeys;
 use prim_registry::{PrimMeaning, Registry};
 use std::alloc::Global;
-use std::hash::BuildHasherDefault;
 use term_model::Fault;
 use term_store::StoreSpace;
 
@@ -34,6 +34,7 @@ use term_store::StoreSpace;
 #[tactic(auto, using(crate::proofs::FaultLaws::reading_stops, crate::proofs::FaultLaws::reading_apart, crate::proofs::FaultLaws::program_stops, crate::proofs::FaultLaws::program_no_read, crate::proofs::FaultLaws::long_definitions_stop, crate::proofs::FaultLaws::long_term_stops, crate::proofs::FaultLaws::long_term_apart))]
 fn outcome_apart<D: Source, T: Source, M: PrimMeaning>(
     alloc: Global,
+    keys: HashKeys,
     defs: &mut D,
     term: &mut T,
     options: &Options,
@@ -57,14 +58,14 @@ fn outcome_apart<D: Source, T: Source, M: PrimMeaning>(
     let Some(text) = read_all(alloc, defs, MAX_DEFINITIONS)? else {
         return Err(Fault::DefsTooLong);
     };
-    let program = program_to_run(alloc, &text, options, registry, notes)?;
+    let program = program_to_run(alloc, keys, &text, options, registry, notes)?;
     notes.keep_definitions(text);
     let Some(text) = read_all(alloc, term, MAX_TERM)? else {
         return Err(Fault::TermTooLong);
     };
     outcome_of(
         alloc,
-        StoreSpace::new(alloc, BuildHasherDefault::new()),
+        StoreSpace::new(alloc, keys),
         program,
         text,
         options,
@@ -77,6 +78,7 @@ fn outcome_apart<D: Source, T: Source, M: PrimMeaning>(
 #[tactic(auto, using(crate::proofs::FaultLaws::reading_stops, crate::proofs::FaultLaws::reading_apart, crate::proofs::FaultLaws::program_stops, crate::proofs::FaultLaws::program_no_read, crate::proofs::FaultLaws::long_definitions_stop, crate::proofs::FaultLaws::long_term_stops, crate::proofs::FaultLaws::long_term_apart, crate::proofs::OneLine::within_told))]
 fn outcome_joined<S: Source, M: PrimMeaning>(
     alloc: Global,
+    keys: HashKeys,
     input: &mut S,
     options: &Options,
     registry: &Registry<M>,
@@ -101,7 +103,7 @@ fn outcome_joined<S: Source, M: PrimMeaning>(
     let Some(front) = read_front(alloc, input, MAX_DEFINITIONS)? else {
         return Err(Fault::DefsTooLong);
     };
-    let program = program_to_run(alloc, front.definitions(), options, registry, notes)?;
+    let program = program_to_run(alloc, keys, front.definitions(), options, registry, notes)?;
     front.note_end(notes);
     let Some(text) = front.read_term(alloc, input, MAX_TERM)? else {
         return Err(Fault::TermTooLong);
@@ -109,7 +111,7 @@ fn outcome_joined<S: Source, M: PrimMeaning>(
     notes.keep_definitions(front.into_definitions());
     outcome_of(
         alloc,
-        StoreSpace::new(alloc, BuildHasherDefault::new()),
+        StoreSpace::new(alloc, keys),
         program,
         text,
         options,
@@ -188,13 +190,15 @@ fn write_fault<W: Sink>(alloc: Global, fault: Fault, out: &mut W) -> Result<Stat
 /// called are those of the registry. The definitions are read and judged first; where they are refused
 /// the term is not read. In strict mode a term with an application that the definitions do not declare
 /// is refused. Nothing is written before the whole line is made. At most 1,048,577 reads of definitions
-/// and 16,777,217 of the term are made.
+/// and 16,777,217 of the term are made. The tables of terms hash with the keys; what is written does not
+/// depend on them.
 ///
 /// # Errors
 /// `Read` where a read failed, and `Memory` where a growth was refused, here or in a primitive: nothing
 /// was written. `Write` where a write failed or took no byte: a beginning of the line was written.
 pub fn transform<D: Source, T: Source, M: PrimMeaning, W: Sink>(
     alloc: Global,
+    keys: HashKeys,
     defs: &mut D,
     term: &mut T,
     options: &Options,
@@ -210,7 +214,7 @@ pub fn transform<D: Source, T: Source, M: PrimMeaning, W: Sink>(
         defs.old defs.new term.old term.new result }
 {
     let mut notes = RunNotes::none();
-    transform_with_notes(alloc, defs, term, options, registry, &mut notes, out)
+    transform_with_notes(alloc, keys, defs, term, options, registry, &mut notes, out)
 }
 
 /// Does as `transform` does, and notes what a person wants to know where the definitions or the term are refused: which text is, at
@@ -222,6 +226,7 @@ pub fn transform<D: Source, T: Source, M: PrimMeaning, W: Sink>(
 /// As of `transform`.
 pub fn transform_with_notes<D: Source, T: Source, M: PrimMeaning, W: Sink>(
     alloc: Global,
+    keys: HashKeys,
     defs: &mut D,
     term: &mut T,
     options: &Options,
@@ -238,11 +243,11 @@ pub fn transform_with_notes<D: Source, T: Source, M: PrimMeaning, W: Sink>(
         defs.old defs.new term.old term.new result }
 {
     notes.begin();
-    let outcome = outcome_apart(alloc, defs, term, options, registry, notes);
+    let outcome = outcome_apart(alloc, keys, defs, term, options, registry, notes);
     notes.note_outcome(&outcome);
     let status = finish(alloc, outcome, out);
     notes.note_library(library_bytes(defs.files()));
-    explain_run(alloc, &status, options, registry, notes);
+    explain_run(alloc, keys, &status, options, registry, notes);
     status
 }
 
@@ -257,6 +262,7 @@ pub fn transform_with_notes<D: Source, T: Source, M: PrimMeaning, W: Sink>(
 /// As of `transform`.
 pub fn transform_joined<S: Source, M: PrimMeaning, W: Sink>(
     alloc: Global,
+    keys: HashKeys,
     input: &mut S,
     options: &Options,
     registry: &Registry<M>,
@@ -271,7 +277,7 @@ pub fn transform_joined<S: Source, M: PrimMeaning, W: Sink>(
         input.old input.new result }
 {
     let mut notes = RunNotes::none();
-    transform_joined_with_notes(alloc, input, options, registry, &mut notes, out)
+    transform_joined_with_notes(alloc, keys, input, options, registry, &mut notes, out)
 }
 
 /// Does as `transform_joined` does, and notes what a person wants to know where the definitions or the term are refused, and else what
@@ -283,6 +289,7 @@ pub fn transform_joined<S: Source, M: PrimMeaning, W: Sink>(
 /// As of `transform`.
 pub fn transform_joined_with_notes<S: Source, M: PrimMeaning, W: Sink>(
     alloc: Global,
+    keys: HashKeys,
     input: &mut S,
     options: &Options,
     registry: &Registry<M>,
@@ -298,9 +305,9 @@ pub fn transform_joined_with_notes<S: Source, M: PrimMeaning, W: Sink>(
         input.old input.new result }
 {
     notes.begin();
-    let outcome = outcome_joined(alloc, input, options, registry, notes);
+    let outcome = outcome_joined(alloc, keys, input, options, registry, notes);
     notes.note_outcome(&outcome);
     let status = finish(alloc, outcome, out);
-    explain_run(alloc, &status, options, registry, notes);
+    explain_run(alloc, keys, &status, options, registry, notes);
     status
 }

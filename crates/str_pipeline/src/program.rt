@@ -12,6 +12,7 @@ ghost use Rattle.str_pipeline.specs.Steps.{IsProgram};
 use crate::status::Options;
 use core_lang::Core;
 use diagnostics::{Refusal, RunNotes};
+use keyed_hash::HashKeys;
 use prim_registry::{PrimMeaning, Registry};
 use scope_check::{Checked, judge};
 use std::alloc::{AllocError, Global};
@@ -44,6 +45,7 @@ pub(crate) enum Purpose {
 /// `Nesting`, as `parse` says; and what `check` finds in the file with the library.
 pub(crate) fn make_program<M: PrimMeaning>(
     alloc: Global,
+    keys: HashKeys,
     definitions: &[u8],
     options: &Options,
     registry: &Registry<M>,
@@ -57,8 +59,8 @@ pub(crate) fn make_program<M: PrimMeaning>(
     let tokens = lex(alloc, definitions)?;
     let file = parse_file(alloc, definitions, &tokens)?;
     let file = with_library(alloc, file)?;
-    let checked = judge(alloc, file, &primitives, &options.main)?;
-    let core = to_core(alloc, &checked)?;
+    let checked = judge(alloc, keys, file, &primitives, &options.main)?;
+    let core = to_core(alloc, keys, &checked)?;
     // For its contract: these are the primitives that occur in the core.
     let _ = core.prims();
     let code = compile_for(alloc, &core, purpose)?;
@@ -68,6 +70,7 @@ pub(crate) fn make_program<M: PrimMeaning>(
 /// Makes the program of a definition file to be run, and notes why the file is refused where it is.
 pub(crate) fn program_to_run<M: PrimMeaning>(
     alloc: Global,
+    keys: HashKeys,
     definitions: &[u8],
     options: &Options,
     registry: &Registry<M>,
@@ -77,7 +80,7 @@ pub(crate) fn program_to_run<M: PrimMeaning>(
         definitions.now result }
     ensures covers { IfOk result (λ program. Covers registry.now program.code.prims) }
 {
-    match make_program(alloc, definitions, options, registry, Purpose::Run) {
+    match make_program(alloc, keys, definitions, options, registry, Purpose::Run) {
         Ok(program) => Ok(program),
         Err(refusal) => {
             let primitives = registry.names(alloc).unwrap_or(PrimNames::new(alloc));

@@ -50,7 +50,7 @@ fn flat_value<S: TermSpace>(
     }
     match space.head(at) {
         Top::Int(value) => Ok(Some(Flat::Int(value))),
-        Top::App(symbol) => { text(alloc, symbol, space.count(at)) }
+        Top::App(symbol) => { text(symbol, space.count(at)) }
         Top::List => match numbers(space, alloc, at)? {
             Some(numbers) => Ok(Some(Flat::Ints(numbers))),
             None => Ok(None),
@@ -58,8 +58,8 @@ fn flat_value<S: TermSpace>(
     }
 }
 
-/// Returns the string that a symbol with this number of parts is.
-fn text(alloc: Global, symbol: &Sym, count: usize) -> Result<Option<Flat>, AllocError>
+/// Returns the string that a symbol with this number of parts is. It shares the bytes of the symbol.
+fn text(symbol: &Sym, count: usize) -> Result<Option<Flat>, AllocError>
     ensures { IfOk result (λ value. (parts : List Tree) → length parts ≡ count → answer_of value ≡
         flat_of (term (heads.App symbol.now) parts [])) }
 {
@@ -69,8 +69,8 @@ fn text(alloc: Global, symbol: &Sym, count: usize) -> Result<Option<Flat>, Alloc
     if count != 0 {
         return Ok(None);
     }
-    let bytes = Vec::from_slice(alloc, symbol.bytes())?;
-    Ok(Some(Flat::Str(Bytes::new(bytes))))
+    let shared = symbol.clone()?;
+    Ok(Some(Flat::Str(Bytes::of_symbol(shared))))
 }
 
 /// Returns the integers that the elements of the list are.

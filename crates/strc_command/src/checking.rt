@@ -16,6 +16,7 @@ use crate::paths::Paths;
 use crate::report::{INPUT, Reporting};
 use crate::request::{Request, Texts};
 use crate::stopping::stop_reading;
+use keyed_hash::HashKeys;
 use prim_registry::{PrimMeaning, Registry};
 use std::alloc::Global;
 use str_pipeline::{Options, RunNotes, Sink, Source, check_definitions};
@@ -48,6 +49,7 @@ fn conclude_check<E: Sink>(
 /// refused, and 4 if reading or memory failed.
 fn check_reader<D: Source, E: Sink, M: PrimMeaning>(
     alloc: Global,
+    keys: HashKeys,
     definitions: &mut D,
     reporting: Reporting<'_>,
     options: &Options,
@@ -65,7 +67,7 @@ fn check_reader<D: Source, E: Sink, M: PrimMeaning>(
         max_definitions + 1 }
 {
     let mut notes = RunNotes::none();
-    match check_definitions(alloc, definitions, options, registry, &mut notes) {
+    match check_definitions(alloc, keys, definitions, options, registry, &mut notes) {
         Ok(verdict) => {
             let reporting = Reporting {
                 files: definitions.files(),
@@ -88,6 +90,7 @@ fn check_reader<D: Source, E: Sink, M: PrimMeaning>(
 /// fault of reading.
 fn check_files<P: Paths, E: Sink, M: PrimMeaning>(
     alloc: Global,
+    keys: HashKeys,
     paths: &mut P,
     reporting: Reporting<'_>,
     options: &Options,
@@ -110,6 +113,7 @@ fn check_files<P: Paths, E: Sink, M: PrimMeaning>(
     };
     check_reader(
         alloc,
+        keys,
         &mut definitions,
         reporting,
         options,
@@ -122,6 +126,7 @@ fn check_files<P: Paths, E: Sink, M: PrimMeaning>(
 /// `check_reader`; a file that cannot be opened is a fault of reading.
 pub(crate) fn run_check<P: Paths, I: Source, E: Sink, M: PrimMeaning>(
     alloc: Global,
+    keys: HashKeys,
     request: &Request<'_>,
     paths: &mut P,
     input: &mut I,
@@ -144,7 +149,15 @@ pub(crate) fn run_check<P: Paths, I: Source, E: Sink, M: PrimMeaning>(
     let path = match request.texts {
         Texts::Joined => {
             let reporting = Reporting::new(request, &[], INPUT, INPUT);
-            return check_reader(alloc, input, reporting, options, registry, diagnostics);
+            return check_reader(
+                alloc,
+                keys,
+                input,
+                reporting,
+                options,
+                registry,
+                diagnostics,
+            );
         }
         Texts::Definitions(path) | Texts::Both(path, _) => path,
     };
@@ -153,5 +166,13 @@ pub(crate) fn run_check<P: Paths, I: Source, E: Sink, M: PrimMeaning>(
         Err(status) => return status,
     };
     let reporting = Reporting::new(request, &libraries, path, INPUT);
-    check_files(alloc, paths, reporting, options, registry, diagnostics)
+    check_files(
+        alloc,
+        keys,
+        paths,
+        reporting,
+        options,
+        registry,
+        diagnostics,
+    )
 }

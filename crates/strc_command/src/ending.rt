@@ -3,6 +3,7 @@ ghost use Rattle.std.specs.Prelude.{◌||◌};
 ghost use Rattle.strc_command.specs.Report.{IsReportedWith, TellsIfAsked, TellsMore, TellsText};
 ghost use Rattle.strc_command.specs.Runs.{Told};
 
+use crate::names::is_unseen;
 use crate::report::{FileLine, Reporting, report, report_numbers, report_refusal};
 use itoa::Buffer;
 use std::alloc::Global;
@@ -25,6 +26,18 @@ fn write_pieces<E: Sink>(pieces: &[&[u8]], diagnostics: &mut E) -> Result<(), Fa
 {
     for piece in pieces {
         write_all(diagnostics, piece)?;
+    }
+    Ok(())
+}
+
+/// Writes a name with `?` in place of each character that cannot be seen.
+fn write_name<E: Sink>(name: &str, diagnostics: &mut E) -> Result<(), Fault>
+    ensures { TellsText (E.writer.written diagnostics.old) (E.writer.written diagnostics.new) }
+{
+    let mut before = "";
+    for part in name.split(is_unseen) {
+        write_pieces(&[before.as_bytes(), part.as_bytes()], diagnostics)?;
+        before = "?";
     }
     Ok(())
 }
@@ -111,16 +124,15 @@ fn write_mention<E: Sink>(
     };
     let NamedLine { line, text_name } = reporting.named_line(other, beside);
     let of = if text_name.is_some() { " of " } else { "" };
-    let name = text_name.unwrap_or("");
     let mut digits = Buffer::new();
     let pieces = [
         b" on line ".as_slice(),
         digits.format(line).as_bytes(),
         of.as_bytes(),
-        name.as_bytes(),
-        b"\n",
     ];
-    write_pieces(&pieces, diagnostics)
+    write_pieces(&pieces, diagnostics)?;
+    write_name(text_name.unwrap_or(""), diagnostics)?;
+    write_pieces(&[b"\n".as_slice()], diagnostics)
 }
 
 /// Writes the line of a remark: the file and the place in it at which it stands, or two blanks; its text; and the other line that it is about,
@@ -137,10 +149,10 @@ pub(crate) fn write_remark<E: Sink>(
         return write_pieces(&[b"  ".as_slice(), text, b"\n"], diagnostics);
     };
     let FileLine { name, line } = reporting.file_line(line);
+    write_name(name, diagnostics)?;
     let (mut line_digits, mut column_digits) = (Buffer::new(), Buffer::new());
     let pieces = [
-        name.as_bytes(),
-        b":",
+        b":".as_slice(),
         line_digits.format(line).as_bytes(),
         b":",
         column_digits.format(column).as_bytes(),

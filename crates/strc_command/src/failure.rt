@@ -1,5 +1,7 @@
 //! What failed and why, for a person.
+use crate::names::shown_name;
 use crate::opening::PRELUDE_WORD;
+use crate::paths::Paths;
 use crate::report::Reporting;
 use std::alloc::Global;
 use std::io::ErrorKind;
@@ -21,23 +23,19 @@ pub(crate) struct Failure<'a> {
 
 impl<'a> Failure<'a> {
     /// A file that could not be opened.
-    pub(crate) fn of_opening(path: &'a str, kind: Option<ErrorKind>) -> Failure<'a> {
+    pub(crate) fn of_opening<P: Paths>(path: &'a str, paths: &P) -> Failure<'a> {
         Failure {
             name: path,
-            why: text_of(kind, "cannot be opened"),
+            why: why_unopened(paths),
             hint: "",
         }
     }
 
     /// A file in front of the definitions that could not be opened; where it is the installed prelude a hint names the file of the repository.
-    pub(crate) fn of_library(
-        path: &'a str,
-        kind: Option<ErrorKind>,
-        is_prelude: bool,
-    ) -> Failure<'a> {
+    pub(crate) fn of_library<P: Paths>(path: &'a str, paths: &P, is_prelude: bool) -> Failure<'a> {
         Failure {
             name: path,
-            why: text_of(kind, "cannot be opened"),
+            why: why_unopened(paths),
             hint: if is_prelude { OTHER_FILES } else { "" },
         }
     }
@@ -80,8 +78,17 @@ impl<'a> Failure<'a> {
     /// Returns the lines that say so, with their line feeds; nothing where memory for them is refused.
     pub(crate) fn line(self, alloc: Global) -> Option<String> {
         let Failure { name, why, hint } = self;
+        let name = shown_name(alloc, name).ok()?;
         format!(in alloc; "{name}: {why}\n{hint}").ok()
     }
+}
+
+/// Returns why the last file that failed to open did so.
+fn why_unopened<P: Paths>(paths: &P) -> &'static str {
+    if paths.has_too_many_open() {
+        return "too many open files";
+    }
+    text_of(paths.failure(), "cannot be opened")
 }
 
 /// Returns what an error of this kind is called, or the other text where a person learns nothing from the kind.
@@ -98,6 +105,7 @@ fn text_of(kind: Option<ErrorKind>, otherwise: &'static str) -> &'static str {
         Some(ErrorKind::FileTooLarge) => "file too large",
         Some(ErrorKind::Interrupted) => "interrupted",
         Some(ErrorKind::TimedOut) => "timed out",
+        Some(ErrorKind::WouldBlock) => "it is non-blocking, and not ready",
         _ => otherwise,
     }
 }

@@ -12,6 +12,7 @@ ghost use Rattle.strc_command.specs.Forms.{IsInForm, GainsForm, BeginsForm, HasW
 use crate::pretty::lay_out;
 use crate::raw::without_quotes;
 use crate::request::Form;
+use keyed_hash::HashKeys;
 use prim_registry::{PrimMeaning, Registry};
 use std::alloc::{AllocError, Global};
 use str_pipeline::{
@@ -66,6 +67,7 @@ fn write_in_form<W: Sink>(
 /// As of `transform_with_notes`. After `Write` a beginning of the line in its form may be written.
 pub(crate) fn transform_in_form<D: Source, T: Source, W: Sink, M: PrimMeaning>(
     alloc: Global,
+    keys: HashKeys,
     definitions: &mut D,
     term: &mut T,
     form: Form,
@@ -93,11 +95,21 @@ pub(crate) fn transform_in_form<D: Source, T: Source, W: Sink, M: PrimMeaning>(
     ensures term_bounded { T.reader.reads term.new ≤ T.reader.reads term.old + max_term + 1 }
 {
     if form == Form::Line {
-        return transform_with_notes(alloc, definitions, term, options, registry, notes, out);
+        return transform_with_notes(
+            alloc,
+            keys,
+            definitions,
+            term,
+            options,
+            registry,
+            notes,
+            out,
+        );
     }
     let mut line = Counted::new(Vec::new(alloc));
     match transform_with_notes(
         alloc,
+        keys,
         definitions,
         term,
         options,
@@ -117,6 +129,7 @@ pub(crate) fn transform_in_form<D: Source, T: Source, W: Sink, M: PrimMeaning>(
 /// As of `transform_in_form`.
 pub(crate) fn transform_joined_in_form<I: Source, W: Sink, M: PrimMeaning>(
     alloc: Global,
+    keys: HashKeys,
     input: &mut I,
     form: Form,
     options: &Options,
@@ -139,10 +152,10 @@ pub(crate) fn transform_joined_in_form<I: Source, W: Sink, M: PrimMeaning>(
         max_term + 1 }
 {
     if form == Form::Line {
-        return transform_joined_with_notes(alloc, input, options, registry, notes, out);
+        return transform_joined_with_notes(alloc, keys, input, options, registry, notes, out);
     }
     let mut line = Counted::new(Vec::new(alloc));
-    match transform_joined_with_notes(alloc, input, options, registry, notes, &mut line) {
+    match transform_joined_with_notes(alloc, keys, input, options, registry, notes, &mut line) {
         Ok(status) => write_in_form(alloc, form, status, line.into_inner(), out),
         Err(Fault::Write) => Err(Fault::Memory),
         Err(fault) => Err(fault),

@@ -16,6 +16,7 @@ use crate::failure::Failure;
 use crate::formed::{transform_in_form, transform_joined_in_form};
 use crate::report::Reporting;
 use crate::stopping::stop_run;
+use keyed_hash::HashKeys;
 use prim_registry::{PrimMeaning, Registry};
 use std::alloc::Global;
 use str_pipeline::{Options, RunNotes, Sink, Source, Status};
@@ -48,6 +49,7 @@ fn conclude<E: Sink>(
 #[tactic(auto, using(crate::proofs::CauseLaws::cause, crate::proofs::CauseLaws::stopped))]
 pub(crate) fn run_joined<I: Source, W: Sink, E: Sink, M: PrimMeaning>(
     alloc: Global,
+    keys: HashKeys,
     input: &mut I,
     reporting: Reporting<'_>,
     options: &Options,
@@ -73,7 +75,7 @@ pub(crate) fn run_joined<I: Source, W: Sink, E: Sink, M: PrimMeaning>(
 {
     let mut notes = notes_for(reporting);
     let form = reporting.form;
-    match transform_joined_in_form(alloc, input, form, options, registry, &mut notes, out) {
+    match transform_joined_in_form(alloc, keys, input, form, options, registry, &mut notes, out) {
         Ok(status) => conclude(
             alloc,
             status,
@@ -93,6 +95,7 @@ pub(crate) fn run_joined<I: Source, W: Sink, E: Sink, M: PrimMeaning>(
 #[tactic(auto, using(crate::proofs::CauseLaws::cause, crate::proofs::CauseLaws::stopped))]
 pub(crate) fn run_apart<D: Source, T: Source, W: Sink, E: Sink, M: PrimMeaning>(
     alloc: Global,
+    keys: HashKeys,
     definitions: &mut D,
     term: &mut T,
     reporting: Reporting<'_>,
@@ -126,6 +129,7 @@ pub(crate) fn run_apart<D: Source, T: Source, W: Sink, E: Sink, M: PrimMeaning>(
     let mut notes = notes_for(reporting);
     match transform_in_form(
         alloc,
+        keys,
         definitions,
         term,
         reporting.form,

@@ -7,15 +7,18 @@ ghost use Rattle.strc_command.specs.Runs.{Told};
 
 use crate::definition_files::DefinitionFiles;
 use crate::failure::Failure;
-use crate::paths::{Paths, prelude_beside};
+use crate::paths::{Paths, installed};
 use crate::stopping::{stop, stop_reading};
-use std::alloc::{AllocError, Global};
+use std::alloc::Global;
 use std::collections::VecDeque;
 use str_pipeline::{Sink, Source};
 use term_model::Fault;
 
 /// The word of `--with` for the prelude that is installed with the program.
 pub(crate) const PRELUDE_WORD: &str = "prelude";
+
+/// The path of the prelude in the folder that contains the folder `bin` of the program.
+const PRELUDE_PATH: &str = "share/strc/prelude.str";
 
 /// A file that is read in front of the definitions.
 #[derive(Drop)]
@@ -40,15 +43,6 @@ impl<'a> Unopened<'a> {
     }
 }
 
-/// Returns the path of the prelude that is installed with the program, whether or not a file is there; nothing where the place of the program is
-/// not known. The error is one of memory.
-fn installed_prelude<P: Paths>(alloc: Global, paths: &P) -> Result<Option<String>, AllocError> {
-    match paths.program(alloc)? {
-        Some(program) => prelude_beside(alloc, program.as_str()),
-        None => Ok(None),
-    }
-}
-
 /// Returns the file that a word of `--with` names. The fault is `Read` if the place of the installed prelude is not known, or `Memory`.
 fn library_of<P: Paths>(alloc: Global, paths: &mut P, word: &str) -> Result<Library, Fault>
     ensures fault { IfErr result IsReadingFault }
@@ -60,7 +54,7 @@ fn library_of<P: Paths>(alloc: Global, paths: &mut P, word: &str) -> Result<Libr
             is_prelude: false,
         });
     }
-    match installed_prelude(alloc, paths)? {
+    match installed(alloc, paths, PRELUDE_PATH)? {
         Some(path) => Ok(Library {
             path,
             is_prelude: true,
@@ -120,12 +114,12 @@ fn open_libraries<'a, P: Paths>(
         match paths.open(path) {
             Ok(reader) => {
                 if readers.push_back(reader).is_err() {
-                    let failure = Failure::of_opening(path, None);
+                    let failure = Failure::of_opening(path, paths);
                     return Err(Unopened::new(Fault::Memory, failure));
                 }
             }
             Err(fault) => {
-                let failure = Failure::of_library(path, paths.failure(), library.is_prelude);
+                let failure = Failure::of_library(path, paths, library.is_prelude);
                 return Err(Unopened::new(fault, failure));
             }
         }
@@ -150,7 +144,7 @@ pub(crate) fn open_reader<P: Paths, E: Sink>(
     match paths.open(path) {
         Ok(reader) => Ok(reader),
         Err(fault) => {
-            let failure = Failure::of_opening(path, paths.failure());
+            let failure = Failure::of_opening(path, paths);
             Err(stop_reading(alloc, &fault, failure, diagnostics))
         }
     }

@@ -4,7 +4,7 @@ ghost use Rattle.str_pipeline.specs.Faults.{IsReadingFault};
 
 use std::alloc::{AllocError, Global};
 use std::fs::{self, File};
-use std::io::ErrorKind;
+use std::io::{Error, ErrorKind};
 use str_pipeline::{Counted, Source};
 use term_model::Fault;
 
@@ -30,20 +30,27 @@ pub trait Paths {
     fn failure(&self) -> Option<ErrorKind> {
         None
     }
+
+    /// Whether it did so since too many files are open. No clause speaks of it.
+    fn has_too_many_open(&self) -> bool {
+        false
+    }
 }
 
 /// The files of the system.
 #[derive(Drop)]
 pub struct Files<'a> {
     runtime: &'a HostRuntime,
-    failure: Option<ErrorKind>,
+    failure: Option<Error>,
 }
+
+/// The numbers of the errors of too many open files.
+const ENFILE: i32 = 23;
+
+const EMFILE: i32 = 24;
 
 /// What the system calls the running program.
 const PROGRAM: &str = "/proc/self/exe";
-
-/// The path of the prelude in the folder that contains the folder `bin` of the program.
-const PRELUDE_PATH: &str = "share/strc/prelude.str";
 
 impl<'a> Files<'a> {
     /// Opens files through this runtime. No file has failed to open yet.
@@ -65,7 +72,7 @@ impl Paths for Files<'_> {
             Ok(file) => Ok(Counted::new(file)),
             Err(error) if error.kind() == ErrorKind::OutOfMemory => Err(Fault::Memory),
             Err(error) => {
-                self.failure = Some(error.kind());
+                self.failure = Some(error);
                 Err(Fault::Read)
             }
         }
@@ -80,18 +87,39 @@ impl Paths for Files<'_> {
     }
 
     fn failure(&self) -> Option<ErrorKind> {
-        self.failure
+        self.failure.map(|error| error.kind())
+    }
+
+    /// Of these errors, ENFILE is one of the whole system, and EMFILE one of the program.
+    fn has_too_many_open(&self) -> bool {
+        let Some(error) = self.failure else {
+            return false;
+        };
+        matches!(error.raw_os_error(), Some(ENFILE | EMFILE))
     }
 }
 
-/// Returns the path of the prelude that is installed with the program at this path: `PREFIX/share/strc/prelude.str` for `PREFIX/bin/strc`.
-/// Nothing if the path has fewer than two folders.
-pub(crate) fn prelude_beside(alloc: Global, program: &str) -> Result<Option<String>, AllocError> {
+/// Returns the path of a file that is installed with the program at this path: `PREFIX/share/strc/prelude.str`, say, for `PREFIX/bin/strc`.
+/// Nothing if the path of the program has fewer than two folders.
+fn beside(alloc: Global, program: &str, path: &str) -> Result<Option<String>, AllocError> {
     let Some((folder, _)) = program.rsplit_once('/') else {
         return Ok(None);
     };
     let Some((prefix, _)) = folder.rsplit_once('/') else {
         return Ok(None);
     };
-    Ok(Some(format!(in alloc; "{prefix}/{PRELUDE_PATH}")?))
+    Ok(Some(format!(in alloc; "{prefix}/{path}")?))
+}
+
+/// Returns the path of a file that is installed with the program, whether or not it is there; nothing where the place of the program is not
+/// known. The file is named by its path in the folder that contains the folder `bin` of the program. The error is one of memory.
+pub(crate) fn installed<P: Paths>(
+    alloc: Global,
+    paths: &P,
+    path: &str,
+) -> Result<Option<String>, AllocError> {
+    match paths.program(alloc)? {
+        Some(program) => beside(alloc, program.as_str(), path),
+        None => Ok(None),
+    }
 }

@@ -16,6 +16,7 @@ use crate::paths::Paths;
 use crate::program::run;
 use crate::stopping::stop;
 use crate::words::refuse;
+use keyed_hash::HashKeys;
 use prim_registry::{
     Action, Calculation, Flat, Prim, PrimMeaning, Registry, STANDARD, Standard, StandardPrimitive,
 };
@@ -61,6 +62,7 @@ fn register(
 #[tactic(auto, using(crate::proofs::CauseLaws::line_told))]
 pub fn run_standard<P: Paths, I: Source, W: Sink, E: Sink>(
     alloc: Global,
+    keys: HashKeys,
     words: &io::Result<Vec<String>>,
     paths: &mut P,
     input: &mut I,
@@ -104,7 +106,16 @@ pub fn run_standard<P: Paths, I: Source, W: Sink, E: Sink>(
         }
     }
     match words {
-        Ok(words) => run(alloc, words, &registry, paths, input, out, diagnostics),
+        Ok(words) => run(
+            alloc,
+            keys,
+            words,
+            &registry,
+            paths,
+            input,
+            out,
+            diagnostics,
+        ),
         Err(error) => refuse(error.kind(), diagnostics),
     }
 }

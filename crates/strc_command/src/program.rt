@@ -20,8 +20,10 @@ use crate::paths::Paths;
 use crate::report::{INPUT, Reporting};
 use crate::request::{Request, Texts, misuse_of, options_of, request_of};
 use crate::stopping::{stop, stop_writing};
+use crate::version::answer_text;
 use clap::Error;
 use clap::error::ErrorKind;
+use keyed_hash::HashKeys;
 use prim_registry::{PrimMeaning, Registry};
 use std::alloc::Global;
 use str_pipeline::{Options, Sink, Source, Status, write_all};
@@ -32,6 +34,7 @@ use term_model::Fault;
 #[tactic(auto, using(crate::proofs::CauseLaws::of_transfer, crate::proofs::CauseLaws::of_reading, crate::proofs::CauseLaws::fault_told))]
 fn run_definitions<P: Paths, I: Source, W: Sink, E: Sink, M: PrimMeaning>(
     alloc: Global,
+    keys: HashKeys,
     paths: &mut P,
     input: &mut I,
     reporting: Reporting<'_>,
@@ -59,6 +62,7 @@ fn run_definitions<P: Paths, I: Source, W: Sink, E: Sink, M: PrimMeaning>(
     };
     run_apart(
         alloc,
+        keys,
         &mut definitions,
         input,
         reporting,
@@ -73,6 +77,7 @@ fn run_definitions<P: Paths, I: Source, W: Sink, E: Sink, M: PrimMeaning>(
 #[tactic(auto, using(crate::proofs::CauseLaws::of_transfer, crate::proofs::CauseLaws::of_reading, crate::proofs::CauseLaws::fault_told))]
 fn run_files<P: Paths, W: Sink, E: Sink, M: PrimMeaning>(
     alloc: Global,
+    keys: HashKeys,
     paths: &mut P,
     reporting: Reporting<'_>,
     options: &Options,
@@ -102,6 +107,7 @@ fn run_files<P: Paths, W: Sink, E: Sink, M: PrimMeaning>(
     };
     run_apart(
         alloc,
+        keys,
         &mut definitions,
         &mut term,
         reporting,
@@ -112,10 +118,71 @@ fn run_files<P: Paths, W: Sink, E: Sink, M: PrimMeaning>(
     )
 }
 
+/// Does the work with the file of the definitions at the path, those of the libraries before it, and the term of the file at the other path or
+/// of `input`.
+#[tactic(auto, using(crate::proofs::CauseLaws::of_transfer, crate::proofs::CauseLaws::of_reading, crate::proofs::CauseLaws::fault_told))]
+fn run_paths<P: Paths, I: Source, W: Sink, E: Sink, M: PrimMeaning>(
+    alloc: Global,
+    keys: HashKeys,
+    request: &Request<'_>,
+    named: (&str, Option<&str>),
+    paths: &mut P,
+    input: &mut I,
+    options: &Options,
+    registry: &Registry<M>,
+    out: &mut W,
+    diagnostics: &mut E,
+) -> u8
+    requires budget { options.now.budget ≤ max_budget }
+    requires honest { IsHonest M.answer registry.now }
+    ensures status { result ≤ 4 }
+    ensures ended { result < 4 → (status : Status) × (exit_of status ≡ result) × HoldsRefusal status
+        × Told E.writer diagnostics.old diagnostics.new
+        (IsReportedWith request.now.has_stats request.now.explains status) }
+    ensures stops { Stops W.writer E.writer out.old out.new diagnostics.old diagnostics.new result }
+    ensures bounded { I.reader.reads input.new ≤ I.reader.reads input.old + max_term + 1 }
+{
+    let (path, term) = named;
+    let libraries = match find_libraries(alloc, paths, &request.libraries, diagnostics) {
+        Ok(libraries) => libraries,
+        Err(status) => return status,
+    };
+    match term {
+        None => {
+            let reporting = Reporting::new(request, &libraries, path, INPUT);
+            run_definitions(
+                alloc,
+                keys,
+                paths,
+                input,
+                reporting,
+                options,
+                registry,
+                out,
+                diagnostics,
+            )
+        }
+        Some(term) => {
+            let reporting = Reporting::new(request, &libraries, path, term);
+            run_files(
+                alloc,
+                keys,
+                paths,
+                reporting,
+                options,
+                registry,
+                out,
+                diagnostics,
+            )
+        }
+    }
+}
+
 /// Does the work with the texts that the request names. A file that cannot be opened is a fault before anything is read.
 #[tactic(auto, using(crate::proofs::CauseLaws::of_transfer, crate::proofs::CauseLaws::of_reading, crate::proofs::CauseLaws::fault_told))]
 fn run_texts<P: Paths, I: Source, W: Sink, E: Sink, M: PrimMeaning>(
     alloc: Global,
+    keys: HashKeys,
     request: &Request<'_>,
     paths: &mut P,
     input: &mut I,
@@ -142,17 +209,9 @@ fn run_texts<P: Paths, I: Source, W: Sink, E: Sink, M: PrimMeaning>(
     match request.texts {
         Texts::Joined => {
             let reporting = Reporting::new(request, &[], INPUT, INPUT);
-            run_joined(alloc, input, reporting, options, registry, out, diagnostics)
-        }
-        Texts::Definitions(path) => {
-            let libraries = match find_libraries(alloc, paths, &request.libraries, diagnostics) {
-                Ok(libraries) => libraries,
-                Err(status) => return status,
-            };
-            let reporting = Reporting::new(request, &libraries, path, INPUT);
-            run_definitions(
+            run_joined(
                 alloc,
-                paths,
+                keys,
                 input,
                 reporting,
                 options,
@@ -161,23 +220,40 @@ fn run_texts<P: Paths, I: Source, W: Sink, E: Sink, M: PrimMeaning>(
                 diagnostics,
             )
         }
-        Texts::Both(path, term) => {
-            let libraries = match find_libraries(alloc, paths, &request.libraries, diagnostics) {
-                Ok(libraries) => libraries,
-                Err(status) => return status,
-            };
-            let reporting = Reporting::new(request, &libraries, path, term);
-            run_files(alloc, paths, reporting, options, registry, out, diagnostics)
-        }
+        Texts::Definitions(path) => run_paths(
+            alloc,
+            keys,
+            request,
+            (path, None),
+            paths,
+            input,
+            options,
+            registry,
+            out,
+            diagnostics,
+        ),
+        Texts::Both(path, term) => run_paths(
+            alloc,
+            keys,
+            request,
+            (path, Some(term)),
+            paths,
+            input,
+            options,
+            registry,
+            out,
+            diagnostics,
+        ),
     }
 }
 
 /// Tells what is wrong with the words on `diagnostics`, and returns 5; or writes the help text or the version to `out`, as was asked, and
-/// returns 0.
+/// returns 0. Next to the version stands what a file that is installed with the program says of it.
 #[tactic(auto, using(crate::proofs::CauseLaws::line_told))]
-fn answer_words<W: Sink, E: Sink>(
+fn answer_words<P: Paths, W: Sink, E: Sink>(
     alloc: Global,
     error: &Error,
+    paths: &mut P,
     out: &mut W,
     diagnostics: &mut E,
 ) -> u8
@@ -188,15 +264,15 @@ fn answer_words<W: Sink, E: Sink>(
     if error.kind() == ErrorKind::OutOfMemory {
         return stop(&Fault::Memory, diagnostics);
     }
-    let Ok(text) = format!(in alloc; "{error}") else {
+    let Ok(text) = answer_text(alloc, error, paths) else {
         return stop(&Fault::Memory, diagnostics);
     };
     if error.use_stderr() {
-        let _ = write_all(diagnostics, text.as_bytes());
+        let _ = write_all(diagnostics, &text);
         let _ = write_all(diagnostics, range_of(error.kind()).as_bytes());
         return 5;
     }
-    if write_all(out, text.as_bytes()).is_err() {
+    if write_all(out, &text).is_err() {
         return stop_writing(alloc, out, diagnostics);
     }
     0
@@ -236,6 +312,7 @@ fn range_of(kind: ErrorKind) -> &'static str {
 #[tactic(auto, using(crate::proofs::CauseLaws::line_told, crate::proofs::CauseLaws::of_reading, crate::proofs::CauseLaws::fault_told))]
 pub fn run<P: Paths, I: Source, W: Sink, E: Sink, M: PrimMeaning>(
     alloc: Global,
+    keys: HashKeys,
     words: &[String],
     registry: &Registry<M>,
     paths: &mut P,
@@ -255,7 +332,7 @@ pub fn run<P: Paths, I: Source, W: Sink, E: Sink, M: PrimMeaning>(
 {
     let request = match request_of(alloc, words) {
         Ok(request) => request,
-        Err(error) => return answer_words(alloc, &error, out, diagnostics),
+        Err(error) => return answer_words(alloc, &error, paths, out, diagnostics),
     };
     let Ok(options) = options_of(alloc, &request) else {
         return stop(&Fault::Memory, diagnostics);
@@ -268,6 +345,7 @@ pub fn run<P: Paths, I: Source, W: Sink, E: Sink, M: PrimMeaning>(
         if request.checks {
             return run_check(
                 alloc,
+                keys,
                 &request,
                 paths,
                 input,
@@ -279,6 +357,7 @@ pub fn run<P: Paths, I: Source, W: Sink, E: Sink, M: PrimMeaning>(
     }
     run_texts(
         alloc,
+        keys,
         &request,
         paths,
         input,

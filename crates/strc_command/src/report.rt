@@ -5,13 +5,13 @@ ghost use Rattle.strc_command.specs.Report.{place_of, place_text, diagnostic, Te
 ghost use Rattle.strc_command.specs.Runs.{Told};
 
 use crate::failure::Failure;
+use crate::names::shown_name;
 use crate::opening::Library;
 use crate::request::{Form, Request};
 use itoa::Buffer;
 use std::alloc::{AllocError, Global};
 use str_pipeline::{
-    Excerpt, FileProgress, Hint, HintOnLine, NamedLine, Reason, RunNotes, Sink, Subject, Used,
-    write_all,
+    Excerpt, FileProgress, Hint, NamedLine, Reason, RunNotes, Sink, Subject, Used, write_all,
 };
 use term_model::Fault;
 
@@ -178,11 +178,11 @@ fn in_definitions(
     place: &Excerpt,
 ) -> Result<String, AllocError> {
     let FileLine { name, line } = reporting.file_line(place.line());
-    let column = place.column();
+    let (name, column) = (shown_name(alloc, name)?, place.column());
     format!(in alloc; "{name}:{line}:{column}: {reason}\n{place}\n")
 }
 
-/// Returns the same of a place in the term, which comes after this number of lines of the input.
+/// Returns the same of a place in the term, whose name can be shown, and which comes after this number of lines of the input.
 fn in_term(
     alloc: Global,
     name: &str,
@@ -204,7 +204,7 @@ fn of_definitions(
     reporting: Reporting<'_>,
     reason: &Reason,
 ) -> Result<String, AllocError> {
-    let name = reporting.definitions;
+    let name = shown_name(alloc, reporting.definitions)?;
     match reason {
         Reason::DefinitionsTooLong if !reporting.libraries.is_empty() => {
             format!(in alloc; "{name}: {reason}, those of --with included\n")
@@ -217,7 +217,8 @@ fn of_definitions(
 /// is refused.
 fn refusal_lines(alloc: Global, reporting: Reporting<'_>, notes: &RunNotes) -> Option<String> {
     let reason = notes.reason()?;
-    let term = reporting.term;
+    let name = shown_name(alloc, reporting.term).ok()?;
+    let term = name.as_str();
     let text = match (notes.subject(), notes.place()) {
         (Subject::Definitions, Some(place)) => in_definitions(alloc, reporting, reason, place),
         (Subject::Definitions, None) => of_definitions(alloc, reporting, reason),
@@ -227,14 +228,27 @@ fn refusal_lines(alloc: Global, reporting: Reporting<'_>, notes: &RunNotes) -> O
     with_hint(alloc, text.ok()?, reporting, notes)
 }
 
-/// Returns the hint with its line as a line of its file, which is named where the refusal is in another one.
-fn placed_hint<'a>(reporting: Reporting<'a>, notes: &RunNotes, hint: Hint) -> HintOnLine<'a> {
+/// Returns the lines with one more for the hint, with its line as a line of its file, which is named where the refusal is in another one.
+fn with_placed_hint(
+    alloc: Global,
+    text: &str,
+    reporting: Reporting<'_>,
+    notes: &RunNotes,
+    hint: Hint,
+) -> Result<String, AllocError> {
     let refused = match notes.place() {
         Some(place) => place.line(),
         None => 1,
     };
     let line = hint.line().unwrap_or(refused);
-    hint.on_line(reporting.named_line(line, reporting.file_line(refused).name))
+    let beside = reporting.file_line(refused).name;
+    let NamedLine { line, text_name } = reporting.named_line(line, beside);
+    let name = shown_name(alloc, text_name.unwrap_or(""))?;
+    let placed = hint.on_line(NamedLine {
+        line,
+        text_name: text_name.and(Some(name.as_str())),
+    });
+    format!(in alloc; "{text}hint: {placed}\n")
 }
 
 /// Returns the lines with one more that says what was probably meant, if that is guessed and memory for it is there.
@@ -245,10 +259,7 @@ fn with_hint(
     notes: &RunNotes,
 ) -> Option<String> {
     let whole = match notes.hint() {
-        Some(hint) => {
-            let placed = placed_hint(reporting, notes, *hint);
-            format!(in alloc; "{text}hint: {placed}\n")
-        }
+        Some(hint) => with_placed_hint(alloc, text.as_str(), reporting, notes, *hint),
         None if reporting.lacks_name => {
             format!(in alloc; "{text}hint: --main needs the name of a strategy\n")
         }

@@ -23,6 +23,18 @@ const ROWS: &[Row] = &[
         "strc: Read\na:b: cannot be opened\n",
     ),
     (
+        "strc id.str a%b",
+        None,
+        None,
+        "strc: Read\na%b: too many open files\n",
+    ),
+    (
+        "strc id.str a\u{202e}b",
+        None,
+        None,
+        "strc: Read\na?b: no such file or directory\n",
+    ),
+    (
         "strc id.str",
         Some(ErrorKind::IsADirectory),
         None,

@@ -1,6 +1,7 @@
 //! The prelude that is installed with the program, by the path of the program.
 
 use crate::samples::{Shelf, words_of};
+use keyed_hash::HashKeys;
 use std::alloc::{AllocError, Global};
 use std::test::Fail;
 use str_pipeline::Faulty;
@@ -44,6 +45,7 @@ fn is_reported(
     let mut diagnostics = Faulty::writer(alloc, 200, 3, None, false)?;
     let status = run_standard(
         alloc,
+        HashKeys::known(),
         &words,
         &mut paths,
         &mut input,

@@ -1,5 +1,6 @@
 //! Runs over a registry without primitives, and runs without words.
 use crate::samples::{Shelf, words_of};
+use keyed_hash::HashKeys;
 use prim_registry::{Registry, Standard};
 use std::alloc::{AllocError, Global};
 use std::io::{self, ErrorKind};
@@ -34,6 +35,7 @@ fn ends(
     let mut paths = Shelf::new(alloc);
     let ended = run(
         alloc,
+        HashKeys::known(),
         &words,
         &registry,
         &mut paths,
@@ -81,6 +83,7 @@ fn ends_at_once(
     let mut paths = Shelf::new(alloc);
     let ended = run_standard(
         alloc,
+        HashKeys::known(),
         &Err(io::Error::from(kind)),
         &mut paths,
         &mut input,

@@ -1,6 +1,7 @@
 //! Files in memory, and a run over them.
 ghost use Rattle.std.specs.Prelude.{◌≤◌, None, IfSome};
 
+use keyed_hash::HashKeys;
 use std::alloc::{AllocError, Global};
 use std::io::ErrorKind;
 use str_pipeline::{Faulty, Sink, Source};
@@ -82,13 +83,14 @@ impl Sink for Device {
 }
 
 /// Opens the files. A path that ends with a slash is one of a folder, which can be opened and not read; one with a colon cannot be opened,
-/// for a reason without a name.
+/// for a reason without a name, and one with a percent sign cannot, since too many files are open.
 #[derive(Drop)]
 pub(crate) struct Shelf {
     pub(crate) alloc: Global,
     /// The path of the running program.
     pub(crate) program: Option<&'static str>,
     failure: Option<ErrorKind>,
+    is_full: bool,
 }
 
 impl Shelf {
@@ -97,13 +99,14 @@ impl Shelf {
             alloc,
             program: Some("home/bin/strc"),
             failure: None,
+            is_full: false,
         }
     }
 }
 
 /// Returns why the path, which is none of a file, cannot be opened.
 fn refusal_of(path: &str) -> ErrorKind {
-    if path.contains(':') {
+    if path.contains([':', '%']) {
         return ErrorKind::Uncategorized;
     }
     ErrorKind::NotFound
@@ -126,6 +129,7 @@ impl Paths for Shelf {
             }
         }
         self.failure = Some(refusal_of(path));
+        self.is_full = path.contains('%');
         Err(Fault::Read)
     }
 
@@ -138,6 +142,10 @@ impl Paths for Shelf {
 
     fn failure(&self) -> Option<ErrorKind> {
         self.failure
+    }
+
+    fn has_too_many_open(&self) -> bool {
+        self.is_full
     }
 }
 
@@ -192,7 +200,15 @@ pub(crate) fn run_with<I: Source, W: Sink>(
 ) -> Result<u8, AllocError> {
     let words = Ok(words_of(alloc, line)?);
     let mut paths = Shelf::new(alloc);
-    Ok(run_standard(alloc, &words, &mut paths, input, out, diagnostics))
+    Ok(run_standard(
+        alloc,
+        HashKeys::known(),
+        &words,
+        &mut paths,
+        input,
+        out,
+        diagnostics,
+    ))
 }
 
 /// Returns the first bad call of a row. Calls are counted from 1 on.

@@ -7,8 +7,8 @@ ghost use Rattle.term_model.specs.Blocks.{front_list, list_in, lists_of, AreLink
 ghost use Rattle.term_store.specs.Chains.{AreApart, IsWhole, IsBlockOf};
 
 use indexmap::IndexSet;
+use keyed_hash::HashKeys;
 use std::alloc::{AllocError, Global};
-use std::hash::{BuildHasherDefault, FoldHasher};
 use std::marker::Model;
 use term_model::{Block, Front};
 
@@ -18,7 +18,7 @@ const MAX_CHAINS: usize = 4_294_967_295;
 /// Chains under their numbers. Contracts see the lists in order.
 #[derive(Drop)]
 pub(crate) struct Chains {
-    blocks: IndexSet<Block<u32>>,
+    blocks: IndexSet<Block<u32>, HashKeys>,
 }
 
 impl Model for Chains {
@@ -35,11 +35,11 @@ impl Model for Chains {
 
 impl Chains {
     /// No chain but the empty one.
-    pub(crate) fn new(alloc: Global, hasher: BuildHasherDefault<FoldHasher>) -> Chains
+    pub(crate) fn new(alloc: Global, keys: HashKeys) -> Chains
         ensures { result ≡ [] ∷ [] }
     {
         Chains {
-            blocks: IndexSet::with_hasher(alloc, hasher),
+            blocks: IndexSet::with_hasher(alloc, keys),
         }
     }
 

@@ -7,8 +7,8 @@ ghost use Rattle.term_store.specs.Store.{AreDistinct};
 
 use crate::stored::StoredShape;
 use indexmap::IndexSet;
+use keyed_hash::HashKeys;
 use std::alloc::{AllocError, Global};
-use std::hash::{BuildHasherDefault, FoldHasher};
 use std::marker::Model;
 
 /// How many small integers there are, of which half are negative.
@@ -24,7 +24,7 @@ pub(crate) struct Shapes {
     /// How many of the small integers are negative, and how many there are.
     negative: u32,
     small: u32,
-    held: IndexSet<StoredShape>,
+    held: IndexSet<StoredShape, HashKeys>,
 }
 
 impl Model for Shapes {
@@ -44,14 +44,14 @@ impl Model for Shapes {
 
 impl Shapes {
     /// The shapes of this many small integers, of which half are negative.
-    pub(crate) fn new(alloc: Global, hasher: BuildHasherDefault<FoldHasher>, small: u32) -> Shapes
+    pub(crate) fn new(alloc: Global, keys: HashKeys, small: u32) -> Shapes
         ensures small { result.small ≡ small }
         ensures keys { result.keys ≡ integers (small / 2) small }
     {
         Shapes {
             negative: small / 2,
             small,
-            held: IndexSet::with_hasher(alloc, hasher),
+            held: IndexSet::with_hasher(alloc, keys),
         }
     }
 

@@ -3,6 +3,7 @@ ghost use Rattle.std.specs.Prelude.{◌≡◌, nat_lt, nat_le, map, All, IsTrue,
 ghost use Rattle.term_model.specs.Term.{term};
 ghost use Rattle.term_model.specs.Space.{Keeps, Makes, MayHave};
 ghost use Rattle.term_store.specs.Space as stored;
+ghost use Rattle.indexmap.specs.IndexSet.{hasher_of};
 
 use crate::chains::Chains;
 use crate::extents::Extents;
@@ -11,22 +12,23 @@ use crate::shapes::{Shapes, small_integers};
 use crate::store::StoreSpace;
 use crate::stored::{StoredHead, StoredShape};
 use indexmap::IndexSet;
+use keyed_hash::HashKeys;
 use std::alloc::{AllocError, Global};
-use std::hash::{BuildHasherDefault, FoldHasher};
 use term_model::{Head, Kind, Made, Parts, Shape, Sym, Term, TermSpace, Top};
 
 impl StoreSpace {
-    /// A store that holds nothing, which hashes by this hasher.
+    /// A store that holds nothing. Its tables hash with these keys.
     #[tactic(auto, using(crate::proofs::SpaceLemmas::space))]
-    pub fn new(alloc: Global, hasher: BuildHasherDefault<FoldHasher>) -> StoreSpace
-        ensures { stored.held_count result ≡ 0 }
+    pub fn new(alloc: Global, keys: HashKeys) -> StoreSpace
+        ensures empty { stored.held_count result ≡ 0 }
+        ensures keyed { hasher_of result.symbols ≡ keys }
     {
         let small = small_integers();
         StoreSpace {
-            symbols: IndexSet::with_hasher(alloc, hasher),
+            symbols: IndexSet::with_hasher(alloc, keys),
             named: 0,
-            chains: Chains::new(alloc, hasher),
-            shapes: Shapes::new(alloc, hasher, small),
+            chains: Chains::new(alloc, keys),
+            shapes: Shapes::new(alloc, keys, small),
             extents: Extents::new(alloc, small),
             spans: Vec::new(alloc),
             oversize: LastOversize::new(),

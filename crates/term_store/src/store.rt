@@ -9,6 +9,7 @@ use crate::oversize::LastOversize;
 use crate::shapes::Shapes;
 use crate::stored::Span;
 use indexmap::IndexSet;
+use keyed_hash::HashKeys;
 use term_model::Sym;
 
 /// Terms under their places, each held once: a shape is a head, with the places of its parts and annotations, and
@@ -17,7 +18,7 @@ use term_model::Sym;
 /// 4,294,967,295 chains of parts or symbols, a call that needs one more returns `AllocError`, as if out of memory.
 #[derive(Drop)]
 pub struct StoreSpace {
-    pub(crate) symbols: IndexSet<Sym>,
+    pub(crate) symbols: IndexSet<Sym, HashKeys>,
     /// How many of the symbols stay for good, since they or later ones were brought in as names.
     pub(crate) named: u32,
     pub(crate) chains: Chains,

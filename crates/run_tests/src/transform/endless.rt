@@ -3,6 +3,7 @@
 ghost use Rattle.std.specs.Prelude.{◌≤◌};
 
 use crate::transform::pipeline::{PIECE, ROOM, plain_options, text_of};
+use keyed_hash::HashKeys;
 use prim_registry::{Registry, Standard};
 use std::alloc::{AllocError, Global};
 use std::test::Fail;
@@ -59,6 +60,7 @@ fn ends(
     let mut out = Faulty::writer(alloc, ROOM, PIECE, None, false)?;
     let answer = transform(
         alloc,
+        HashKeys::known(),
         &mut definitions,
         &mut term,
         &options,
@@ -131,7 +133,14 @@ fn ends_joined(alloc: Global, front: &str, bad: u64, ending: Ending) -> Result<b
     let options = plain_options(alloc, MAX_BUDGET)?;
     let registry = Registry::<Standard>::new(alloc);
     let mut out = Faulty::writer(alloc, ROOM, PIECE, None, false)?;
-    let answer = transform_joined(alloc, &mut input, &options, &registry, &mut out);
+    let answer = transform_joined(
+        alloc,
+        HashKeys::known(),
+        &mut input,
+        &options,
+        &registry,
+        &mut out,
+    );
     Ok(has_ended(&answer, &out, ending))
 }
 

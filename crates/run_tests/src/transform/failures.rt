@@ -4,6 +4,7 @@ ghost use Rattle.prim_registry.specs.Entries.{IsHonest};
 ghost use Rattle.term_model.specs.Limits.{max_budget};
 
 use crate::transform::pipeline::{PIECE, ROOM, plain_options};
+use keyed_hash::HashKeys;
 use prim_registry::{PrimMeaning, Registry, Standard};
 use std::alloc::{AllocError, Global};
 use std::test::Fail;
@@ -39,7 +40,15 @@ fn ends_apart(
     let mut first = Faulty::reader(FIRST_PART.to_vec(alloc)?, 1, bad_definitions);
     let mut second = Faulty::reader(PAIR.to_vec(alloc)?, 1, bad_term);
     let mut out = Faulty::writer(alloc, ROOM, PIECE, None, false)?;
-    let answer = transform(alloc, &mut first, &mut second, options, registry, &mut out);
+    let answer = transform(
+        alloc,
+        HashKeys::known(),
+        &mut first,
+        &mut second,
+        options,
+        registry,
+        &mut out,
+    );
     Ok(is_read_fault(&answer, &out, is_bad))
 }
 
@@ -57,7 +66,14 @@ fn ends_joined(
 {
     let mut input = Faulty::reader(FIRST_PART_OF_PAIR.to_vec(alloc)?, 1, Some(bad));
     let mut out = Faulty::writer(alloc, ROOM, PIECE, None, false)?;
-    let answer = transform_joined(alloc, &mut input, options, registry, &mut out);
+    let answer = transform_joined(
+        alloc,
+        HashKeys::known(),
+        &mut input,
+        options,
+        registry,
+        &mut out,
+    );
     Ok(is_read_fault(&answer, &out, is_bad))
 }
 
@@ -122,7 +138,15 @@ fn is_refused(
     let mut first = Faulty::reader(defs.as_bytes().to_vec(alloc)?, 9, None);
     let mut second = Faulty::reader(b"1".to_vec(alloc)?, 9, Some(1));
     let mut out = Faulty::writer(alloc, ROOM, 1, None, false)?;
-    let answer = transform(alloc, &mut first, &mut second, options, registry, &mut out);
+    let answer = transform(
+        alloc,
+        HashKeys::known(),
+        &mut first,
+        &mut second,
+        options,
+        registry,
+        &mut out,
+    );
     Ok(matches!(answer, Ok(Status::Refused(_))) && out.written() == line.as_bytes())
 }
 
@@ -181,7 +205,15 @@ fn is_cut_apart(
     let mut first = Faulty::reader(definitions.to_vec(alloc)?, 9, None);
     let mut second = Faulty::reader(term.to_vec(alloc)?, 9, None);
     let mut out = Faulty::writer(alloc, ROOM, 1, Some(bad), is_silent)?;
-    let answer = transform(alloc, &mut first, &mut second, options, registry, &mut out);
+    let answer = transform(
+        alloc,
+        HashKeys::known(),
+        &mut first,
+        &mut second,
+        options,
+        registry,
+        &mut out,
+    );
     Ok(is_write_fault(&answer, &out, line, bad))
 }
 
@@ -201,7 +233,14 @@ fn is_cut_joined(
     let (_, _, joined, line) = row;
     let mut input = Faulty::reader(joined.to_vec(alloc)?, 9, None);
     let mut out = Faulty::writer(alloc, ROOM, 1, Some(bad), is_silent)?;
-    let answer = transform_joined(alloc, &mut input, options, registry, &mut out);
+    let answer = transform_joined(
+        alloc,
+        HashKeys::known(),
+        &mut input,
+        options,
+        registry,
+        &mut out,
+    );
     Ok(is_write_fault(&answer, &out, line, bad))
 }
 

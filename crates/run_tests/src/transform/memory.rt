@@ -6,6 +6,7 @@ ghost use Rattle.str_pipeline.specs.Setting.{setting_of};
 ghost use Rattle.str_pipeline.specs.Written.{IsWritten};
 
 use crate::transform::pipeline::plain_options;
+use keyed_hash::HashKeys;
 use prim_registry::{PrimMeaning, Registry, Standard};
 use std::alloc::Global;
 use std::test::Fail;
@@ -37,7 +38,15 @@ pub(crate) fn transform_texts<M: PrimMeaning>(
     let mut first = Counted::new(definitions);
     let mut second = Counted::new(term);
     let mut out = Counted::new(Vec::new(alloc));
-    let status = transform(alloc, &mut first, &mut second, options, registry, &mut out)?;
+    let status = transform(
+        alloc,
+        HashKeys::known(),
+        &mut first,
+        &mut second,
+        options,
+        registry,
+        &mut out,
+    )?;
     Ok(Answer {
         status,
         line: out.into_inner(),

@@ -12,6 +12,7 @@ use crate::transform::long_rows::{ENDLESS, LONG_ROWS};
 use crate::transform::option_rows::{OPTION_ROWS, OptionRow};
 use crate::transform::rows::{JOINED_ROWS, JoinedRow, ROWS, Row, TEXT_ROWS, TextRow};
 use crate::transform::term_rows::{TERM_ROWS, TERM_TEXT_ROWS};
+use keyed_hash::HashKeys;
 use prim_registry::{PrimMeaning, Registry, Standard};
 use std::alloc::{AllocError, Global};
 use std::test::Fail;
@@ -138,6 +139,7 @@ fn gives_apart(
     let mut notes = RunNotes::none();
     let status = transform_with_notes(
         alloc,
+        HashKeys::known(),
         &mut first,
         &mut second,
         options,
@@ -163,7 +165,14 @@ fn gives_joined(
 {
     let mut out = Faulty::writer(alloc, ROOM, PIECE, None, false)?;
     let mut input = Faulty::reader(text.to_vec(alloc)?, piece, None);
-    let status = transform_joined(alloc, &mut input, options, registry, &mut out)?;
+    let status = transform_joined(
+        alloc,
+        HashKeys::known(),
+        &mut input,
+        options,
+        registry,
+        &mut out,
+    )?;
     Ok(fits(&status, line) && out.written() == line)
 }
 

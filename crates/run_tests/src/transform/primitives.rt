@@ -6,6 +6,7 @@ ghost use Rattle.term_model.specs.Limits.{max_budget};
 use crate::transform::annotation_rows::ANNOTATED_ARGUMENTS;
 use crate::transform::pipeline::{check_rows, plain_options};
 use crate::transform::primitive_rows::PRIMITIVE_ROWS;
+use keyed_hash::HashKeys;
 use prim_registry::{Action, Flat, Prim, PrimMeaning, Registry, STANDARD, Standard};
 use std::alloc::{AllocError, Global};
 use std::test::Fail;
@@ -47,7 +48,15 @@ fn is_memory_fault(
     let mut first = Counted::new(b"strategies main = ?(x,y); prim(\"add\",x,y)".as_slice());
     let mut second = Counted::new(term);
     let mut out = Counted::new(Vec::new(alloc));
-    let answer = transform(alloc, &mut first, &mut second, options, registry, &mut out);
+    let answer = transform(
+        alloc,
+        HashKeys::known(),
+        &mut first,
+        &mut second,
+        options,
+        registry,
+        &mut out,
+    );
     matches!(answer, Err(Fault::Memory)) == is_fault && out.into_inner().is_empty() == is_fault
 }
 

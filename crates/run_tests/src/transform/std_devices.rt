@@ -5,6 +5,7 @@ ghost use Rattle.prim_registry.specs.Entries.{IsHonest};
 ghost use Rattle.term_model.specs.Limits.{max_budget};
 
 use crate::transform::pipeline::plain_options;
+use keyed_hash::HashKeys;
 use linked_list_allocator::LocalHeap;
 use prim_registry::{PrimMeaning, Registry, Standard};
 use std::alloc::{AllocError, Global};
@@ -165,6 +166,7 @@ fn write_line<W: Write + Drop>(
     let mut out = Counted::new(device);
     transform(
         alloc,
+        HashKeys::known(),
         &mut definitions,
         &mut term,
         options,
@@ -217,6 +219,7 @@ fn is_read_fault<R: Read + Drop>(
     let mut out = Counted::new(&mut slice[..]);
     let answer = transform(
         alloc,
+        HashKeys::known(),
         &mut definitions,
         &mut term,
         options,

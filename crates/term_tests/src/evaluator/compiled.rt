@@ -1,6 +1,7 @@
 //! From definitions to their core program.
 use crate::evaluator::texts::file_of;
 use core_lang::Core;
+use keyed_hash::HashKeys;
 use prim_registry::{Registry, Standard};
 use scope_check::check;
 use std::alloc::Global;
@@ -22,6 +23,6 @@ pub(crate) fn core_of_row(
     let file = parse(alloc, &bytes, &tokens)?;
     let file = with_library(alloc, file)?;
     let names = registry.names(alloc)?;
-    let checked = check(alloc, file, &names, b"main")?;
-    Ok(Box::new(alloc, to_core(alloc, &checked)?)?)
+    let checked = check(alloc, HashKeys::known(), file, &names, b"main")?;
+    Ok(Box::new(alloc, to_core(alloc, HashKeys::known(), &checked)?)?)
 }

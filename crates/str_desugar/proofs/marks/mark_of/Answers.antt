@@ -1,5 +1,5 @@
 use Rattle.std.proofs.Common.{ap, ◌∙◌, ◌%◌}
-use Rattle.std.specs.Hash.FoldHasher as folding
+use Rattle.keyed_hash.specs.Folding.{finish, write}
 use Rattle.str_desugar.specs.Marks.{mark_of}
 use Rattle.str_desugar.proofs.marks.mark_of.Goals as goal
 
@@ -7,5 +7,5 @@ pub returns-clause-mark : goal.returns-clause-mark
 unfolding mark_of
 returns-clause-mark c =
     ap (λ n. n % 512) (c.finish-hash.ensures ∙
-    ap folding.finish (c.write.ensures ∙
-    ap (λ hasher. folding.write hasher c.args.name.now) c.default-hasher.ensures))
+    ap finish (c.write.ensures ∙
+    ap (λ hasher. write hasher c.args.name.now) c.build_hasher-hasher.ensures))

@@ -1,4 +1,5 @@
 use Rattle.std.proofs.Common.{◌<◌, ◌/◌, length, arith, rules}
+use Rattle.str_desugar.specs.Marks.{mark_of}
 use Rattle.str_desugar.proofs.MarkLaws.{set_added, set_kept}
 use Rattle.str_desugar.proofs.marks.Marks.set.Goals as goal
 
@@ -10,4 +11,4 @@ returns-clause-added c =
 pub returns-clause-kept : goal.returns-clause-kept
 returns-clause-kept c =
     let within : c.mark_of-mark.result / 64 < length c.args.self.now.words = omega arith in
-    set_kept c.args.self.now.words c.mark_of-mark.result within
+    λ x. set_kept c.args.self.now.words c.mark_of-mark.result within (mark_of c.args.self.now.hashing x)

@@ -1,23 +1,23 @@
 use Rattle.std.proofs.Common.{◌∙◌, List, ap, subst, sym}
 use Rattle.str_desugar.specs.HeldNames.{held_names}
-use Rattle.str_desugar.specs.Marks.{AreMarked, has_mark, mark_of}
+use Rattle.str_desugar.specs.Marks.{AreMarked, is_marked}
 use Rattle.str_desugar.proofs.MarkLaws.{marked_more, marked_on}
 use Rattle.str_desugar.proofs.names.Table.push.Goals as goal
 
 pub invariant_of-self : goal.invariant_of-self
 invariant_of-self c =
-    let words = c.set.new.self.words in
-    let P : List _ → Type 0 = λ l. AreMarked words l in
+    let marks = c.set.new.self in
+    let P : List _ → Type 0 = λ l. AreMarked marks l in
     subst P (sym c.in_err-push.ensures.unchanged)
-    (marked_on c.self.inside.marks.words words c.set.ensures.kept (held_names c.self.inside.held) c.self.invariant)
+    (marked_on c.self.inside.marks marks c.set.ensures.kept (held_names c.self.inside.held) c.self.invariant)
 
 pub invariant_of-self-2 : goal.invariant_of-self-2
 invariant_of-self-2 c =
-    let words = c.set.new.self.words in
-    let P : List _ → Type 0 = λ l. AreMarked words l in
+    let marks = c.set.new.self in
+    let P : List _ → Type 0 = λ l. AreMarked marks l in
     let named = c.in_ok-copy.ensures ∙ sym c.bytes.ensures in
-    let marked = ap (λ n. has_mark words (mark_of n)) named ∙ c.set.ensures.added in
-    let before = marked_on c.self.inside.marks.words words c.set.ensures.kept (held_names c.self.inside.held)
+    let marked = ap (λ n. is_marked marks n) named ∙ c.set.ensures.added in
+    let before = marked_on c.self.inside.marks marks c.set.ensures.kept (held_names c.self.inside.held)
     c.self.invariant in
     subst P (sym c.in_ok-push.ensures.pushed)
-    (marked_more words (held_names c.self.inside.held) c.in_ok-copy.copy before marked)
+    (marked_more marks (held_names c.self.inside.held) c.in_ok-copy.copy before marked)

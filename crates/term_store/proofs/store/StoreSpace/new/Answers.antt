@@ -1,4 +1,4 @@
--- A new store holds nothing.
+-- A new store holds nothing, and hashes with its keys.
 use Rattle.std.proofs.Common.{◌∙◌, ◌/◌, ap, length, arith}
 use Rattle.term_store.proofs.PlaceLaws.{length-integers}
 use Rattle.term_store.proofs.SpaceLemmas.{small_store}
@@ -18,9 +18,12 @@ invariant_of-result c = record {
   within = omega arith;
 }
 
-pub returns : goal.returns
-returns c =
+pub returns-clause-empty : goal.returns-clause-empty
+returns-clause-empty c =
     let long = ap length c.new-2.ensures.keys ∙
     length-integers (c.small_integers-small.result / 2) c.small_integers-small.result in
     let small = c.new-2.ensures.small in
     omega (arith, long, small)
+
+pub returns-clause-keyed : goal.returns-clause-keyed
+returns-clause-keyed c = c.with_hasher.ensures.hasher
