@@ -110,6 +110,22 @@ fn write_oversize<E: Sink>(notes: &RunNotes, diagnostics: &mut E) -> Result<(), 
     }
 }
 
+/// Writes the end of a remark that is about another line, of the text of this name if that is not empty, and a line feed.
+fn write_other_line<E: Sink>(line: usize, name: &str, diagnostics: &mut E) -> Result<(), Fault>
+    ensures { TellsText (E.writer.written diagnostics.old) (E.writer.written diagnostics.new) }
+{
+    let of = if name.is_empty() { "" } else { " of " };
+    let mut digits = Buffer::new();
+    let pieces = [
+        b" on line ".as_slice(),
+        digits.format(line).as_bytes(),
+        of.as_bytes(),
+    ];
+    write_pieces(&pieces, diagnostics)?;
+    write_name(name, diagnostics)?;
+    write_pieces(&[b"\n".as_slice()], diagnostics)
+}
+
 /// Writes the end of a remark on a place in this file: the other line of all definitions that it is about, if there is one, and a line feed.
 fn write_mention<E: Sink>(
     reporting: Reporting<'_>,
@@ -123,16 +139,7 @@ fn write_mention<E: Sink>(
         return write_pieces(&[b"\n".as_slice()], diagnostics);
     };
     let NamedLine { line, text_name } = reporting.named_line(other, beside);
-    let of = if text_name.is_some() { " of " } else { "" };
-    let mut digits = Buffer::new();
-    let pieces = [
-        b" on line ".as_slice(),
-        digits.format(line).as_bytes(),
-        of.as_bytes(),
-    ];
-    write_pieces(&pieces, diagnostics)?;
-    write_name(text_name.unwrap_or(""), diagnostics)?;
-    write_pieces(&[b"\n".as_slice()], diagnostics)
+    write_other_line(line, text_name.unwrap_or(""), diagnostics)
 }
 
 /// Writes the line of a remark: the file and the place in it at which it stands, or two blanks; its text; and the other line that it is about,

@@ -1,5 +1,5 @@
 use Rattle.strc_command.proofs.PrefixLaws.{text_after}
-use Rattle.strc_command.proofs.ending.write_mention.Goals as goal
+use Rattle.strc_command.proofs.ending.write_other_line.Goals as goal
 
 pub returns : goal.returns
 returns g c =
