@@ -110,19 +110,25 @@ fn write_oversize<E: Sink>(notes: &RunNotes, diagnostics: &mut E) -> Result<(), 
     }
 }
 
+/// Writes of which text a line is, if the name is not empty.
+fn write_text_name<E: Sink>(name: &str, diagnostics: &mut E) -> Result<(), Fault>
+    ensures { TellsText (E.writer.written diagnostics.old) (E.writer.written diagnostics.new) }
+{
+    if name.is_empty() {
+        return Ok(());
+    }
+    write_pieces(&[b" of ".as_slice()], diagnostics)?;
+    write_name(name, diagnostics)
+}
+
 /// Writes the end of a remark that is about another line, of the text of this name if that is not empty, and a line feed.
 fn write_other_line<E: Sink>(line: usize, name: &str, diagnostics: &mut E) -> Result<(), Fault>
     ensures { TellsText (E.writer.written diagnostics.old) (E.writer.written diagnostics.new) }
 {
-    let of = if name.is_empty() { "" } else { " of " };
     let mut digits = Buffer::new();
-    let pieces = [
-        b" on line ".as_slice(),
-        digits.format(line).as_bytes(),
-        of.as_bytes(),
-    ];
+    let pieces = [b" on line ".as_slice(), digits.format(line).as_bytes()];
     write_pieces(&pieces, diagnostics)?;
-    write_name(name, diagnostics)?;
+    write_text_name(name, diagnostics)?;
     write_pieces(&[b"\n".as_slice()], diagnostics)
 }
 
