@@ -154,12 +154,12 @@ class Form:
         return first_of(self.collide, number), first_of(self.apart, number)
 
     def seconds(self, program, scratch, keys, runs):
-        """The least processor time of so many runs with the texts of some keys."""
+        """The greatest processor time of so many runs with the texts of some keys: each draws the keys of its tables."""
         paths = [scratch / "definitions", scratch / "term"]
         for path, text in zip(paths, self.texts_with(keys)):
             path.write_bytes(text)
         command = [program, "--rules", RULES, *map(str, paths)]
-        return min(measure(command, scratch / "out")[0] for _ in range(runs))
+        return max(measure(command, scratch / "out")[0] for _ in range(runs))
 
 
 def of_term(pattern, collide, apart):
