@@ -1,11 +1,9 @@
 //! A client that makes terms over any space, and the same terms by the makers of terms.
-ghost use Rattle.std.specs.Prelude.{◌≡◌, All, IfOk, IfSome, IsTrue, Ok, [], ◌∷◌, map, true};
-ghost use Rattle.term_model.specs.Space.{Keeps, Pushes};
+ghost use Rattle.std.specs.Prelude.{◌≡◌, IfOk, IfSome, IsTrue, [], ◌∷◌};
 ghost use Rattle.term_model.specs.Term.{term};
 ghost use Rattle.term_model.specs.declared.term.Head.TheVariants as heads;
 
 use std::alloc::{AllocError, Global};
-use std::slice::from_ref;
 use std::test::Fail;
 use term_model::{Head, Made, Sym, Term, TermSpace};
 
@@ -17,68 +15,6 @@ const MAKERS: &[(&[u8], i64, i64)] = &[
     (b"F", 1, 4294967297),
     (b"F", -9223372036854775808, 0),
 ];
-
-/// Puts the symbol over the references of the stack on top of it, after a list of them was made and given back. Returns
-/// whether the application fits.
-fn push_pair<S: TermSpace>(
-    alloc: Global,
-    space: &mut S,
-    name: &S::Name,
-    stack: &mut Vec<S::Ref>,
-) -> Result<bool, AllocError>
-    requires known { IsTrue (S.space.knows space.old name.now) }
-    requires stand { All (λ r. IsTrue (S.space.stands space.old r)) stack.old.items }
-    ensures keeps { Keeps S.space space.old space.new }
-    ensures pushed { result ≡ Ok true →
-        Pushes S.space space.new (term (heads.App (S.space.symbol_of space.old name.now))
-        (map (S.space.term_of space.old) stack.old.items) [] ∷ [])
-        stack.old.items stack.new.items }
-{
-    let Made::Fits(pair) = space.app(alloc, name, &stack[..])? else {
-        return Ok(false);
-    };
-    make_and_give_back(alloc, space, &stack[..])?;
-    stack.push(pair)?;
-    Ok(true)
-}
-
-/// Makes the list of the elements, and gives it back.
-fn make_and_give_back<S: TermSpace>(
-    alloc: Global,
-    space: &mut S,
-    elements: &[S::Ref],
-) -> Result<(), AllocError>
-    requires { All (λ r. IsTrue (S.space.stands space.old r)) elements.now }
-    ensures { Keeps S.space space.old space.new }
-{
-    let mark = space.mark();
-    let _extra = space.list(alloc, elements)?;
-    space.back_to(mark);
-    Ok(())
-}
-
-/// The list of the elements, with this annotation.
-fn noted_list<S: TermSpace>(
-    alloc: Global,
-    space: &mut S,
-    elements: &[S::Ref],
-    note: &S::Ref,
-) -> Result<Option<S::Ref>, AllocError>
-    requires stand { All (λ r. IsTrue (S.space.stands space.old r)) elements.now }
-    requires stands { IsTrue (S.space.stands space.old note.now) }
-    ensures stands { IfOk result (λ made. IfSome made (λ r. IsTrue (S.space.stands space.new r))) }
-    ensures term { IfOk result (λ made. IfSome made (λ r. S.space.term_of space.new r ≡
-        term heads.List (map (S.space.term_of space.old) elements.now)
-        (S.space.term_of space.old note.now ∷ []))) }
-{
-    let Made::Fits(list) = space.list(alloc, elements)? else {
-        return Ok(None);
-    };
-    match space.with_annos(alloc, &list, from_ref(note))? {
-        Made::Fits(noted) => Ok(Some(noted)),
-        Made::Oversize => Ok(None),
-    }
-}
 
 /// The list of the second integer and of the symbol over both, with the first integer as its annotation, after something
 /// else was made and given back.
@@ -98,12 +34,24 @@ fn build_list<S: TermSpace>(
 {
     let name = space.name(alloc, symbol)?;
     let mut stack = Vec::new(alloc);
-    stack.push(space.int(alloc, left)?)?;
-    stack.push(space.int(alloc, right)?)?;
-    if !push_pair(alloc, space, &name, &mut stack)? {
+    let first = space.int(alloc, left)?;
+    stack.push(first)?;
+    let second = space.int(alloc, right)?;
+    stack.push(second)?;
+    let Made::Fits(pair) = space.app(alloc, &name, &stack[..])? else {
         return Ok(None);
-    }
-    noted_list(alloc, space, &stack[1..], &stack[0])
+    };
+    let mark = space.mark();
+    let _extra = space.list(alloc, &stack[..])?;
+    space.back_to(mark);
+    stack.push(pair)?;
+    let Made::Fits(list) = space.list(alloc, &stack[1..])? else {
+        return Ok(None);
+    };
+    let Made::Fits(noted) = space.with_annos(alloc, &list, &stack[..1])? else {
+        return Ok(None);
+    };
+    Ok(Some(noted))
 }
 
 /// The term that `build_list` makes, by the makers of terms.
