@@ -7,4 +7,4 @@ returns g c =
     c.write_mention.ensures
 
 pub returns-in_err-write_pieces : goal.returns-in_err-write_pieces
-returns-in_err-write_pieces g c = text_after _ _ _ c.in_ok-write_name.ensures c.write_pieces.ensures
+returns-in_err-write_pieces g c = text_after _ _ _ c.in_ok-write_name.ensures c.write_pieces-2.ensures
