@@ -93,6 +93,7 @@ pub(crate) fn go_on<R: Drop>(built: Built<R>, position: &mut Position<R>) -> Nex
 
 /// Makes the term of what the primitive at the position returns to the terms; none where one of them is no flat value, or
 /// where it returns nothing.
+#[inline(never)]
 fn answer<S: TermSpace, M: PrimMeaning>(
     space: &mut S,
     alloc: Global,
