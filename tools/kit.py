@@ -21,11 +21,21 @@ def load():
     loader.exec_module(rt)
     sys.dont_write_bytecode = was
     rt.rtlib.Crate = rt.Crate
-    # Libraries that another checkout on this machine has built of the same files are taken from there.
-    rt.share_work(False)
+    if hasattr(rt, "share_work"):
+        # Libraries that another checkout on this machine has built of the same files are taken from there. Not every kit keeps them.
+        rt.share_work(False)
     return rt
 
 
 def crates_of(rt, root):
     """The crates of a repository by their names, lowest first."""
     return {it.name: it for it in rt.rtlib.crates_below(os.path.realpath(root))}
+
+
+def try_whole(rt, crate, file):
+    """Tries an edit in a check of the whole crate. Returns whether it is refused, or None if the check did not end by itself, and what `rt` says."""
+    verdict, text = rt.must_fail(crate, str(file), ["--jobs", "1"])
+    if isinstance(verdict, bool):
+        # Some kits say it in words alone.
+        return verdict, text
+    return {rt.REFUSED: True, rt.AT_LIMIT: True, rt.MISSED: False, rt.BAD: False}.get(verdict), text
