@@ -14,7 +14,7 @@ use Rattle.core_lang.specs.Derivation.{called}
 use Rattle.core_lang.specs.Settled.{Verdict, ends, spent}
 use Rattle.strat_code.specs.Code.{Argument, end_definition, end_argument, Code, At}
 use Rattle.strat_code.specs.Context.{Specialization, specialization_at, Context, framed, known, defining, layers_of, outer, frames_in, by_frames}
-use Rattle.strat_code.specs.Ranges.{Specializations, Ranges, call_range, specialization_range, inline_range, open_range, argument_range, known_call_range, known_range, parameter_range}
+use Rattle.strat_code.specs.Ranges.{Specializations, Ranges, call_range, specialization_range, inline_range, open_range, argument_range, known_range, parameter_range}
 use Rattle.strat_steps.specs.State.{Frame, frame, Record, call_record, stuck, State, running, failing, ended, frames_up, place_at, closure_in, closed}
 use Rattle.strat_steps.specs.Step.{called_with, in_closure, returned, no_step}
 use Rattle.core_lang.specs.Going.{with_ending}
@@ -293,8 +293,6 @@ module _ (code : Code) (I : List Specialization) (vs : Specializations code I I)
       no_terms h = cc
   call_row {y = y} b callee given g h w C i x to p F T bar K l (argument_range {D = D} {s = z} none k r)
       rep on_top low cost = absurd (no_definition_open (same_parameter_open rep y z D none k) callee)
-  call_row {y = y} b callee given g h w C i x to p F T bar K l (known_call_range {D = D} {s = z} k r at1 at)
-      rep on_top low cost = absurd (no_definition_known (same_parameter rep y z D k) callee)
   call_row {y = y} b callee given g h w C i x to p F T bar K l (known_range {D = D} {s = z} k r) rep on_top low cost =
       absurd (no_definition_known (same_parameter rep y z D k) callee)
   call_row {y = y} b callee given g h w C i x to p F T bar K l (parameter_range k at) rep on_top low cost =
@@ -335,8 +333,6 @@ module _ (code : Code) (I : List Specialization) (vs : Specializations code I I)
       absurd (cc)
   call_stop_row {y = y} c callee given w C i x to p F T bar K l (argument_range {D = D} {s = z} none k r)
       rep on_top low cost = absurd (no_definition_open (same_parameter_open rep y z D none k) callee)
-  call_stop_row {y = y} c callee given w C i x to p F T bar K l (known_call_range {D = D} {s = z} k r at1 at)
-      rep on_top low cost = absurd (no_definition_known (same_parameter rep y z D k) callee)
   call_stop_row {y = y} c callee given w C i x to p F T bar K l (known_range {D = D} {s = z} k r) rep on_top low cost =
       absurd (no_definition_known (same_parameter rep y z D k) callee)
   call_stop_row {y = y} c callee given w C i x to p F T bar K l (parameter_range h at) rep on_top low cost =
@@ -362,36 +358,6 @@ module _ (code : Code) (I : List Specialization) (vs : Specializations code I I)
   argument_lands {D = D} b {w} {i} {x} {j} {p} {F} {T} {bar} {K} {l} (open_is inside) r g on_top low cost =
       wider (10 * suc b) (omega arith) (g w D i (suc x) j p F T bar K l r inside on_top low (omega arith))
 
-  -- the end of a frame without places
-  pub places_kept : {to to' p p' : ℕ} {e : Bindings} {F F' : List Frame} {T T' : List ℕ} {bar : ℕ} {K K' : List Record}
-      {start start' : State} {r r' c : ℕ} {q : Verdict Tree} →
-      Lands code M to' p' e F' T' bar K' start' r' q c →
-      Lands code M to p e F T bar K start r (with_ending (keeping (length e)) q) c →
-      Lands code M to p e F T bar K start r q c
-  places_kept {to} {p = p} {e = e} {F = F} {T = T} {bar = bar} {K = K} {start = start} {r =
-      r} (lands_ok {c = c} {u = u} {f = f} new x is back same bound) y =
-      subst (λ g. Lands code M to p e F T bar K start r (ends (ok u g)) c) (ap (λ n. take n f) (sym same) ∙
-      take_whole f) y
-  places_kept (lands_failed new x is back same bound) y = y
-  places_kept (lands_oversize x bound) y = y
-  places_kept (lands_spent x bound) y = y
-
-  pub apart_lands : {W : ResolvedEnvironment} {D : Context} {z s : ResolvedStrategy} {t : Tree} (e : Bindings)
-      {c : ℕ} {q : Verdict Tree} (b : ℕ) {entry j p to : ℕ} {F : List Frame} {T : List ℕ} {bar : ℕ} {K : List Record} →
-      ParameterIs code I z D (Some (closure s W)) → Ranges code I (Some 0) D entry 0 z j → At code j end_definition →
-      Simulates code I M W s t e b q c → bar ≤ length e →
-      Lands code M to p e F T bar K
-      (running entry (length F) t (e ++ []) (F ++ frame (length e) p [] ∷ []) T bar (call_record to p ∷ K) b)
-      (1 + 10 * b) q c
-  apart_lands {W} {D} {z} {s} {t} e {c} {q} b {entry} {j} {p} {to} {F} {T} {bar} {K} (parameter_is fit) r at g low =
-      let added = frame (length e) p [] ∷ [] in
-      let x = g (Some 0) D entry 0 j (length F) (F ++ added) T bar (call_record to p ∷ K) b r (fitting (length F) fit)
-      (on_top_at (ends_at (got_last F (frame (length e) p [])) (omega arith))) low (omega arith) in
-      let whole = append_none e in
-      places_kept x (wider (1 + 10 * b) (omega arith) (call_ends p [] e [] low at
-      (subst (λ f. Lands code M j (length F) f (F ++ added) T bar (call_record to p ∷ K)
-      (running entry (length F) t f (F ++ added) T bar (call_record to p ∷ K) b) (10 * b) q c) (sym whole) x)))
-
   pub parameter_row : {V W : ResolvedEnvironment} {y : Coordinate} {ss : ResolvedStrategies} {ps : Patterns Coordinate}
       {s : ResolvedStrategy} {t : Tree} {e : Bindings} {c : ℕ} {q : Verdict Tree} (b : ℕ) →
       called by_coordinates V y ss ps ≡ Some (closure s W) → Simulates code I M W s t e b q c →
@@ -409,11 +375,6 @@ module _ (code : Code) (I : List Specialization) (vs : Specializations code I I)
       in_it (closure_is {C = D} {j = j} r at1 inside) =
           argument_ends at1 (g None D (closure_in F p (by_frames C y)).0 0 j (closure_in F p (by_frames C y)).1 F T bar
           (call_record (suc i) p ∷ K) b r inside never_on_top low (omega arith))
-  parameter_row {V} {W} {y} {s = s} {t = t} {e =
-      e} b callee g w C i x to p F T bar K l (known_call_range {D = D} {s = z} k r at1 at) rep on_top low cost =
-      wider (10 * suc b) (omega arith)
-      (step_on (paid_step b at (omega arith))
-      (apart_lands e b (subst (λ v. ParameterIs code I z D v) callee (same_parameter rep y z D k)) r at1 g low))
   parameter_row {V} {W} {y} {s =
       s} b callee g w C i x to p F T bar K l (known_range {D = D} {s = z} k r) rep on_top low cost =
       known_lands b (subst (λ v. ParameterIs code I z D v) callee (same_parameter rep y z D k)) r g on_top low cost
@@ -452,8 +413,6 @@ module _ (code : Code) (I : List Specialization) (vs : Specializations code I I)
       absurd (body_exists (same_body_of rep y hides is) callee)
   nowhere_row {y = y} b callee w C i x to p F T bar K l (argument_range {D = D} {s = z} none k r) rep on_top low cost =
       absurd (open_exists (same_parameter_open rep y z D none k) callee)
-  nowhere_row {y = y} b callee w C i x to p F T bar K l (known_call_range {D = D} {s = z} k r at1 at)
-      rep on_top low cost = absurd (known_exists (same_parameter rep y z D k) callee)
   nowhere_row {y = y} b callee w C i x to p F T bar K l (known_range {D = D} {s = z} k r) rep on_top low cost =
       absurd (known_exists (same_parameter rep y z D k) callee)
   nowhere_row {y = y} b callee w C i x to p F T bar K l (parameter_range h at) rep on_top low cost =
