@@ -55,7 +55,7 @@ pub(crate) fn compare(
     if plain.outcome != compiled.outcome || plain.rules != compiled.rules {
         return Ok(Compared::Different);
     }
-    if compiled.steps > 10 * u64::from(compiled.rules) + 10 {
+    if compiled.steps > 3 * u64::from(compiled.rules) + 1 {
         return Ok(Compared::Different);
     }
     Ok(Compared::Same {

@@ -4,7 +4,7 @@ use Rattle.std.specs.Prelude.{Option, List}
 use Rattle.core_lang.specs.Resolved.{ResolvedStrategy}
 use Rattle.strat_code.specs.Code.{Instr, nodes_of, Code, At}
 use Rattle.strat_code.specs.Context.{Context, Specialization}
-use Rattle.strat_code.specs.Ranges.{Ranges, id_range, fail_range, seq_range, choice_range, else_range, select_range, match_range, build_range, scope_range, inner_range, all_range, one_range, some_range, let_range, let_jump_range, call_range, specialization_range, inline_range, open_range, argument_range, known_call_range, known_range, parameter_range, primitive_range}
+use Rattle.strat_code.specs.Ranges.{Ranges, id_range, fail_range, seq_range, choice_range, else_range, select_range, match_range, build_range, scope_range, inner_range, all_range, one_range, some_range, let_range, let_jump_range, call_range, specialization_range, inline_range, open_range, argument_range, known_range, parameter_range, primitive_range}
 
 -- the first instruction of a range
 pub data StandsFirst (code : Code) (i x : ℕ) : Type 0 where
@@ -35,7 +35,6 @@ first_of_range (specialization_range n is h has args ps at) = stands_first _ at 
 first_of_range (inline_range hides h is args r) = first_less (first_of_range r)
 first_of_range (open_range hides h is args r) = first_less (first_of_range r)
 first_of_range (argument_range none h r) = first_less (first_of_range r)
-first_of_range (known_call_range h r a at) = stands_first _ at (omega arith)
 first_of_range (known_range h r) = first_less (first_of_range r)
 first_of_range (parameter_range h at) = stands_first _ at (omega arith)
 first_of_range (primitive_range h at) = stands_first _ at (omega arith)

@@ -4,7 +4,7 @@ use Rattle.std.specs.Prelude.{Option, slice_get}
 use Rattle.core_lang.specs.Resolved.{ResolvedStrategy, ResolvedStrategies, ResolvedDefinitions}
 use Rattle.strat_code.specs.Code.{Argument, Case, Entry, Instr, Code, At}
 use Rattle.strat_code.specs.Context.{Context, Specialization}
-use Rattle.strat_code.specs.Ranges.{Ranges, id_range, fail_range, seq_range, choice_range, else_range, select_range, match_range, build_range, scope_range, inner_range, all_range, one_range, some_range, let_range, let_jump_range, call_range, specialization_range, inline_range, open_range, argument_range, known_call_range, known_range, parameter_range, primitive_range, Bodies, no_bodies, more_bodies, roomy_bodies, Arguments, no_arguments, code_argument, known_argument, parameter_argument, Selects, select_last, select_more, Specializations, no_specializations, more_specializations, roomy_specializations}
+use Rattle.strat_code.specs.Ranges.{Ranges, id_range, fail_range, seq_range, choice_range, else_range, select_range, match_range, build_range, scope_range, inner_range, all_range, one_range, some_range, let_range, let_jump_range, call_range, specialization_range, inline_range, open_range, argument_range, known_range, parameter_range, primitive_range, Bodies, no_bodies, more_bodies, roomy_bodies, Arguments, no_arguments, code_argument, known_argument, parameter_argument, Selects, select_last, select_more, Specializations, no_specializations, more_specializations, roomy_specializations}
 
 pub got_in_front : {A : Type 0} (F G : List A) (p : ℕ) (f : A) → slice_get F p ≡ Some f → slice_get (F ++ G) p ≡ Some f
 got_in_front [] G p f h = absurd (cc)
@@ -44,8 +44,6 @@ module _ (code more : Code) {I : List Specialization} where
     ranges_grown (inline_range hides h is args r) = inline_range hides h is args (ranges_grown r)
     ranges_grown (open_range hides h is args r) = open_range hides h is args (ranges_grown r)
     ranges_grown (argument_range none h r) = argument_range none h (ranges_grown r)
-    ranges_grown (known_call_range h r a b) =
-        known_call_range h (ranges_grown r) (at_grown code more _ a) (at_grown code more _ b)
     ranges_grown (known_range h r) = known_range h (ranges_grown r)
     ranges_grown (parameter_range h a) = parameter_range h (at_grown code more _ a)
     ranges_grown (primitive_range h a) = primitive_range h (at_grown code more _ a)

@@ -5,11 +5,11 @@ use Rattle.core_lang.specs.Program.{variable}
 use Rattle.core_lang.specs.Primitives.{OccursInDefinitions}
 use Rattle.core_lang.specs.Resolved.{here}
 use Rattle.strat_code.specs.Code.{At, entry_at, extend, shrink, build_term}
-use Rattle.strat_code.specs.Context.{Context, hides_top, hides_framed, hides_hidden, keeps_definitions}
-use Rattle.strat_code.specs.Ranges.{Ranges, id_range, seq_range, else_range, select_range, match_range, build_range, inner_range, all_range, call_range, specialization_range, inline_range, known_range, parameter_range, no_bodies, more_bodies, roomy_bodies, no_arguments, code_argument, parameter_argument, none_known, own_known, parameter_known, first_body, later_body, asks_match, asks_seq, asks_choice, asks_scope, asks_known, asks_inline, one_case, more_cases, select_last, no_specializations, more_specializations}
+use Rattle.strat_code.specs.Context.{Context, top, framed, defining, hides_top, hides_framed, hides_hidden, keeps_definitions}
+use Rattle.strat_code.specs.Ranges.{Ranges, id_range, seq_range, else_range, select_range, match_range, build_range, inner_range, all_range, one_range, some_range, let_jump_range, call_range, specialization_range, inline_range, open_range, argument_range, known_range, parameter_range, Bodies, no_bodies, more_bodies, roomy_bodies, no_arguments, code_argument, parameter_argument, none_known, own_known, parameter_known, none_open, own_open, first_body, later_body, asks_match, asks_seq, asks_choice, asks_scope, asks_known, asks_inline, one_case, more_cases, select_last, no_specializations, more_specializations}
 use Rattle.strat_code.specs.StandsFor.{StandsFor}
 use Rattle.strat_code.specs.CodeOf.{IsCode}
-use Rattle.strat_code.specs.Worked.{small_program, small_code, unwraps, match_in_rule, walking_program, walking_entries, walking_specializations, walking_code}
+use Rattle.strat_code.specs.Worked.{small_program, small_code, unwraps, match_in_rule, walking_program, walking_entries, walking_specializations, walking_code, merge_definitions, merging_program, merging_entries, merge_entries, merging_code}
 
 pub small_stands : StandsFor small_code small_program 1
 small_stands = record {
@@ -93,6 +93,30 @@ walking_stands = record {
       refl (rule_range 71 19 refl refl refl refl)))))
       refl (id_range refl))))))
       refl no_specializations;
+  begins = call_range refl (refl, refl) refl no_arguments tt refl;
+  ends = refl;
+}
+
+-- the definition of the let: its call of try is open, and the argument looks at the place of x
+merge_bodies : Bodies merging_code [] (defining merge_definitions merge_entries
+    (framed 0 0 (defining merging_program merging_entries top))) merge_definitions merge_entries
+merge_bodies = roomy_bodies (seq_range (match_range (omega arith, (tt, tt)) refl)
+    (open_range (keeps_definitions hides_top) (refl, refl) first_body (own_open tt none_open)
+    (else_range refl
+    (argument_range refl (refl, refl)
+    (seq_range (match_range (tt, (omega arith, tt)) refl) (build_range (omega arith) refl)))
+    refl (id_range refl)))) refl no_bodies
+
+pub merging_stands : StandsFor merging_code merging_program 1
+merging_stands = record {
+  entries = merging_entries;
+  specializations = [];
+  specialization_bodies = no_specializations;
+  bodies = more_bodies (else_range refl (parameter_range (omega arith) refl) refl (id_range refl)) refl
+      (more_bodies (let_jump_range merge_bodies
+      (some_range refl
+      (one_range refl (call_range refl (refl, refl) refl no_arguments tt refl) refl) refl) refl)
+      refl no_bodies);
   begins = call_range refl (refl, refl) refl no_arguments tt refl;
   ends = refl;
 }

@@ -173,12 +173,6 @@ mutual
         {ss : ResolvedStrategies} {ps : Patterns Coordinate} →
         frames_in C y.layers_up ≡ 0 → KnowsOpen (outer C y.layers_up) y.slot s D → Ranges code I w D i (suc x) s j →
         Ranges code I w C i x (call y ss ps) j
-    -- or a call of code that stands elsewhere for the strategy that it is, in a frame without places
-    known_call_range : {w : Option ℕ} {C D : Context} {i x entry j to : ℕ} {y : Coordinate} {s : ResolvedStrategy}
-        {ss : ResolvedStrategies} {ps : Patterns Coordinate} →
-        KnowsParameter (outer C y.layers_up) y.slot s D → Ranges code I (Some 0) D entry 0 s j →
-        At code j end_definition →
-        At code i (call_definition (suc x) 0 entry 0 to [] no_patterns) → Ranges code I w C i x (call y ss ps) to
     -- a call of a strategy parameter: one instruction
     parameter_range : {w : Option ℕ} {C : Context} {i x : ℕ} {y : Coordinate} {ss : ResolvedStrategies}
         {ps : Patterns Coordinate} →

@@ -1,12 +1,12 @@
 -- The headline does not rest on this file.
--- Two small programs and their code.
+-- Three small programs and their code.
 use Rattle.std.specs.Prelude.{ℕ, List, [], ◌∷◌}
 use Rattle.term_model.specs.Symbol.{Plain}
 use Rattle.core_lang.specs.declared.coordinate.Coordinate.{Coordinate}
-use Rattle.core_lang.specs.Program.{variable, applied, no_patterns, more_patterns, id, seq, choice, match, build, scope, all, call, no_strategies, more_strategies, no_definitions, more_definitions}
+use Rattle.core_lang.specs.Program.{Pattern, anything, variable, applied, no_patterns, more_patterns, id, seq, choice, match, build, scope, all, one, some, with_definitions, call, no_strategies, more_strategies, no_definitions, more_definitions}
 use Rattle.core_lang.specs.Resolved.{ResolvedStrategy, ResolvedDefinitions, here}
 use Rattle.core_lang.specs.Roots.{Root, symbol_root}
-use Rattle.strat_code.specs.Code.{Instr, Entry, entry_at, case, all_parts, code_at, parameter_at, match_term, build_term, extend, shrink, count, try, commit, select, traverse, part_done, call_definition, call_closure, end_definition, end_argument, finish, Code}
+use Rattle.strat_code.specs.Code.{Instr, Entry, entry_at, case, all_parts, one_part, some_parts, code_at, parameter_at, match_term, build_term, extend, shrink, count, try, commit, select, jump, traverse, part_done, call_definition, call_closure, end_definition, end_argument, finish, Code}
 use Rattle.strat_code.specs.Context.{Context, top, defining, hidden, Knowns, no_knowns, more_knowns, Specialization, specialization_at}
 
 -- a coordinate
@@ -138,5 +138,61 @@ walking_code =
     try 1 40 ∷
     call_closure 1 (here 0) ∷
     commit 1 41 ∷
+    count 1 ∷
+    end_definition ∷ []
+
+-- P(p,q)
+abbrev pub pair : Pattern Coordinate → Pattern Coordinate → Pattern Coordinate
+pair p q = applied (Plain (80 ∷ [])) (more_patterns p (more_patterns q no_patterns))
+
+-- {x: ?P(x,_); try(?P(_,x); !x)}: P(t,t) becomes t, and another P(..) stays
+abbrev pub merges : ResolvedStrategy
+merges = scope 1 (seq (match (pair (variable (here 0)) anything))
+    (call (far 4 0) (more_strategies
+    (seq (match (pair anything (variable (here 0)))) (build (variable (here 0)))) no_strategies) no_patterns))
+
+-- merge = {x: ..}
+abbrev pub merge_definitions : ResolvedDefinitions
+merge_definitions = more_definitions (here 0) 0 0 merges no_definitions
+
+-- try(s) = s <+ id, main = let merge = {x: ..} in some(one(merge)) end
+abbrev pub merging_program : ResolvedDefinitions
+merging_program =
+    more_definitions (here 0) 1 0 (choice (call_of (here 0)) id id)
+    (more_definitions (here 0) 0 0 (with_definitions merge_definitions (some (one (call_of (here 0)))))
+    no_definitions)
+
+abbrev pub merging_entries : List Entry
+merging_entries = entry_at 16 0 ∷ entry_at 2 0 ∷ []
+
+abbrev pub merge_entries : List Entry
+merge_entries = entry_at 8 1 ∷ []
+
+abbrev pub merging_code : Code
+merging_code =
+    call_definition 1 0 2 0 1 [] no_patterns ∷
+    finish ∷
+    -- 2: the body of main; the first instruction is charged the let too, whose definition's code stands after the jump
+    traverse 2 some_parts 7 ∷
+    traverse 1 one_part 6 ∷
+    call_definition 1 0 8 1 5 [] no_patterns ∷
+    part_done ∷
+    part_done ∷
+    jump 15 ∷
+    -- 8: the body of merge, in a frame with room for x; from 9 on try in place, an open call, with its argument from 10
+    -- on, which looks at x
+    match_term 3 (pair (variable (here 0)) anything) ∷
+    try 2 13 ∷
+    match_term 3 (pair anything (variable (here 0))) ∷
+    build_term 1 (variable (here 0)) ∷
+    commit 1 14 ∷
+    count 1 ∷
+    end_definition ∷
+    -- 15: the end of main
+    end_definition ∷
+    -- 16: the body of try
+    try 1 19 ∷
+    call_closure 1 (here 0) ∷
+    commit 1 20 ∷
     count 1 ∷
     end_definition ∷ []

@@ -7,4 +7,4 @@ mod laws;
 
 pub use code::{Code, SourceMark};
 pub use instr::{Argument, Case, Instr, Root, Traversal};
-pub use laws::{longer_code_stands, small_code_stands, walking_code_stands};
+pub use laws::{longer_code_stands, merging_code_stands, small_code_stands, walking_code_stands};

@@ -76,7 +76,7 @@ registered_says keys names M {C = C} occurring each resolved stands left st o x 
 -- whatever program the code stands for
 module _ {W R Y N : Type 0} {S : Space W R Y N} {code : Code} {M : Meaning} {w w1 : W} {t : R} {budget k : ℕ} where
   pub few_for_rules : {prims : List NameKey} → IsCode code prims → (left : ℕ) → Stands S w t → (o : Outcome R) →
-      StepsRef S code M k w (start_ref t budget) w1 (end_ref o left) → k ≤ 10 * rules_of o budget left + 10
+      StepsRef S code M k w (start_ref t budget) w1 (end_ref o left) → k ≤ 3 * rules_of o budget left + 1
   few_for_rules is left st (outcomes.Rewritten u) x = let s = (rewritten_says is.program is.main is.stands st x).1 in
       let a = s.few in let b = s.paid in omega arith
   few_for_rules is left st outcomes.Failed x = let s = stopped_says is.program is.main is.stands st x in let a =

@@ -116,7 +116,7 @@ module _ {W R Y N : Type 0} {S : Space W R Y N} {code : Code} {M : Meaning} {w w
 
   -- the code stands for some program
   module _ {prims : List NameKey} (is : IsCode code prims) (st : Stands S w t) where
-    pub in_time : UnderWay S code M w t budget k w1 next p m → GoesOn next → k < 10 * budget + 10
+    pub in_time : UnderWay S code M w t budget k w1 next p m → GoesOn next → k < 3 * budget + 1
     in_time u going = ended_in_time is.program is.main is.stands st u.steps (going_state (S.term_of w1) next p m going)
 
 -- a run has come to its end

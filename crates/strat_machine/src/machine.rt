@@ -105,7 +105,7 @@ impl<S: TermSpace + Drop> Machine<S> {
         ensures steps { IfOk result (λ run.
             Ran S.space (code_of code.now.tables code.now.instrs) (meaning_of M.answer registry.now)
             self.old term budget self.new run) }
-        ensures few { IfOk result (λ run. run.steps ≤ 10 * run.rules + 10) }
+        ensures few { IfOk result (λ run. run.steps ≤ 3 * run.rules + 1) }
         ensures stands { IfOk result (λ run.
             OutcomeStands (λ r. IsTrue (S.space.stands self.new r)) run.outcome) }
         ensures kept { (r : S.Ref) → IsTrue (S.space.stands self.old r) →

@@ -42,7 +42,7 @@ pub(crate) fn run_code<S: TermSpace, M: PrimMeaning>(
         (meaning_of M.answer registry.now) run.steps space.old (start_ref term budget) space.new
         (end_ref run.outcome stacks.new.left)) }
     ensures rules { IfOk result (λ run. run.rules ≡ rules_of run.outcome budget stacks.new.left) }
-    ensures few { IfOk result (λ run. run.steps ≤ 10 * run.rules + 10) }
+    ensures few { IfOk result (λ run. run.steps ≤ 3 * run.rules + 1) }
     ensures stands { IfOk result (λ run. OutcomeStands (λ r. IsTrue (S.space.stands space.new r))
         run.outcome) }
     ensures kept { (r : S.Ref) → IsTrue (S.space.stands space.old r) →

@@ -14,7 +14,7 @@ use Rattle.core_lang.specs.Derivation.{called}
 use Rattle.core_lang.specs.Settled.{Verdict, ends, spent}
 use Rattle.strat_code.specs.Code.{Argument, end_definition, end_argument, Code, At}
 use Rattle.strat_code.specs.Context.{Specialization, specialization_at, Context, framed, known, defining, layers_of, outer, frames_in, by_frames}
-use Rattle.strat_code.specs.Ranges.{Specializations, Ranges, call_range, specialization_range, inline_range, open_range, argument_range, known_call_range, known_range, parameter_range}
+use Rattle.strat_code.specs.Ranges.{Specializations, Ranges, call_range, specialization_range, inline_range, open_range, argument_range, known_range, parameter_range}
 use Rattle.strat_steps.specs.State.{Frame, frame, Record, call_record, stuck, State, running, failing, ended, frames_up, place_at, closure_in, closed}
 use Rattle.strat_steps.specs.Step.{called_with, in_closure, returned, no_step}
 use Rattle.core_lang.specs.Going.{with_ending}
@@ -166,7 +166,7 @@ module _ (code : Code) (I : List Specialization) (vs : Specializations code I I)
       SimulatesBody code I M (layer (length e) m o cs W) s t (e ++ filled_places ts) b q c →
       Lands code M a p e F T bar K
       (running entry (length F) t (e ++ (filled_places ts ++ empty_places room)) (F ++ frame (length e) up cl ∷ [])
-      T bar (call_record a p ∷ K) b) (1 + 10 * b) (with_ending (keeping (length e)) q) c
+      T bar (call_record a p ∷ K) b) (1 + 3 * b) (with_ending (keeping (length e)) q) c
   body_lands {B} {entry = entry} {p =
       p} {a} up cl ts {t} {e} {F} {T} {bar} {K} {c} {q} b
       (definition_is {m = m} {k = o} {j = j} {s = s} none r at many terms) taken rep low g h =
@@ -174,9 +174,9 @@ module _ (code : Code) (I : List Specialization) (vs : Specializations code I I)
       let long = length-append e (filled_places ts) in
       subst (λ z. Lands code M a p e F T bar K
       (running entry (length F) t (e ++ (filled_places ts ++ empty_places z)) (F ++ added)
-      T bar (call_record a p ∷ K) b) (1 + 10 * b) (with_ending (keeping (length e)) q) c) (sym none)
+      T bar (call_record a p ∷ K) b) (1 + 3 * b) (with_ending (keeping (length e)) q) c) (sym none)
       (subst (λ z. Lands code M a p e F T bar K
-      (running entry (length F) t (e ++ z) (F ++ added) T bar (call_record a p ∷ K) b) (1 + 10 * b)
+      (running entry (length F) t (e ++ z) (F ++ added) T bar (call_record a p ∷ K) b) (1 + 3 * b)
       (with_ending (keeping (length e)) q) c) (sym (append_none (filled_places ts)))
       (call_ends up cl e (filled_places ts)
       low at (g (Some o) (B m o) entry 0 j (length F) (F ++ added) T bar (call_record a p ∷ K) b r
@@ -190,12 +190,12 @@ module _ (code : Code) (I : List Specialization) (vs : Specializations code I I)
       rep (ends_at (got_last F (frame (length e) up cl)) (omega arith)) (omega arith) (omega arith) in
       subst (λ z. Lands code M a p e F T bar K
       (running entry (length F) t (e ++ (filled_places ts ++ empty_places room)) (F ++ added)
-      T bar (call_record a p ∷ K) b) (1 + 10 * b) z c)
+      T bar (call_record a p ∷ K) b) (1 + 3 * b) z c)
       (sym (keeping_twice (length e) (length (e ++ filled_places ts)) x.0 (omega arith)) ∙
       ap (with_ending (keeping (length e))) (sym x.1))
       (call_ends up cl e (filled_places ts ++ empty_places room) low at
       (subst (λ z. Lands code M j (length F) z (F ++ added) T bar (call_record a p ∷ K)
-      (running entry (length F) t z (F ++ added) T bar (call_record a p ∷ K) b) (10 * b) x.0 c)
+      (running entry (length F) t z (F ++ added) T bar (call_record a p ∷ K) b) (3 * b) x.0 c)
       (sym (append_assoc e (filled_places ts) (empty_places room))) x.2))
 
   -- a body in place
@@ -219,14 +219,14 @@ module _ (code : Code) (I : List Specialization) (vs : Specializations code I I)
       Ranges code I w B i (suc x) z j → end ≡ ts →
       Simulates code I M (layer (length e) m n cs W) s t (e ++ filled_places ts) b q c →
       OnTop w F p (length e) → bar ≤ length e → l ≡ x + suc b →
-      Lands code M j p e F T bar K (running i p t e F T bar K l) (10 * suc b) (with_ending (keeping (length e)) q) c
+      Lands code M j p e F T bar K (running i p t e F T bar K l) (3 * suc b) (with_ending (keeping (length e)) q) c
   inline_lands {W} {B = B} {s = s} {cs =
       cs} ts {t} e {c} {q} b {w} {i} {x} {j} {p} {F} {T} {bar} {K} {l} (body_of {m = m} fit)
       layered r none g on_top low cost =
       let here = subst (λ f. Simulates code I M (layer (length e) m 0 cs W) s t f b q c) (append_none e)
       (subst (λ us. Simulates code I M (layer (length e) m 0 cs W) s t (e ++ filled_places us) b q c) (sym none)
       g) in
-      wider (10 * suc b) (omega arith)
+      wider (3 * suc b) (omega arith)
       (kept_lands (here w B i (suc x) j p F T bar K l r (layered m (fitting p fit)) on_top low (omega arith)))
 
   pub call_row : {V W : ResolvedEnvironment} {y : Coordinate} {ss : ResolvedStrategies} {ps : Patterns Coordinate}
@@ -245,7 +245,7 @@ module _ (code : Code) (I : List Specialization) (vs : Specializations code I I)
       callee (same_definition rep y is entry room def has) in
       let many = counted body in
       let added = frame (length e) (frames_up F p (frames_in C y.layers_up)) (closed F p us) ∷ [] in
-      wider (10 * suc b) (omega arith) (step_on (steps_then (paid_step b at (omega arith))
+      wider (3 * suc b) (omega arith) (step_on (steps_then (paid_step b at (omega arith))
       (same_state (ap (λ v. called_with F T bar K b to p t e (frames_in C y.layers_up) entry room us (arguments v e))
       (same_instances (layers_of C) (by_frames C) (by_coordinates.place_of V) (place_at F p) (same_place rep)
       ps e pr)
@@ -264,7 +264,7 @@ module _ (code : Code) (I : List Specialization) (vs : Specializations code I I)
       (same_specialization_of rep y is entry room def
       (specialization_of vs j (specialization_at (defining ds es D) y.slot ks entry room) has)) in
       let added = frame (length e) (frames_up F p (frames_in C y.layers_up)) [] ∷ [] in
-      wider (10 * suc b) (omega arith) (step_on (steps_then (paid_step b at (omega arith))
+      wider (3 * suc b) (omega arith) (step_on (steps_then (paid_step b at (omega arith))
       (same_state (ap (λ v. called_with F T bar K b to p t e (frames_in C y.layers_up) entry room [] (arguments v e))
       (same_instances (layers_of C) (by_frames C) (by_coordinates.place_of V) (place_at F p) (same_place rep)
       ps e pr)
@@ -293,8 +293,6 @@ module _ (code : Code) (I : List Specialization) (vs : Specializations code I I)
       no_terms h = cc
   call_row {y = y} b callee given g h w C i x to p F T bar K l (argument_range {D = D} {s = z} none k r)
       rep on_top low cost = absurd (no_definition_open (same_parameter_open rep y z D none k) callee)
-  call_row {y = y} b callee given g h w C i x to p F T bar K l (known_call_range {D = D} {s = z} k r at1 at)
-      rep on_top low cost = absurd (no_definition_known (same_parameter rep y z D k) callee)
   call_row {y = y} b callee given g h w C i x to p F T bar K l (known_range {D = D} {s = z} k r) rep on_top low cost =
       absurd (no_definition_known (same_parameter rep y z D k) callee)
   call_row {y = y} b callee given g h w C i x to p F T bar K l (parameter_range k at) rep on_top low cost =
@@ -302,7 +300,7 @@ module _ (code : Code) (I : List Specialization) (vs : Specializations code I I)
 
   pub stop_lands : (a room i p : ℕ) (t : Tree) (e : Bindings) (h : ℕ) (us : List Argument) (F : List Frame) (T : List ℕ)
       (bar : ℕ) (K : List Record) (c : ℕ) (o : Stop) →
-      Lands code M i p e F T bar K (called_with F T bar K c i p t e h a room us (stop o)) (1 + 10 * c) (ends (stop o)) c
+      Lands code M i p e F T bar K (called_with F T bar K c i p t e h a room us (stop o)) (1 + 3 * c) (ends (stop o)) c
   stop_lands a room i p t e h us F T bar K c failure = fails_here i p e F T bar K c
   stop_lands a room i p t e h us F T bar K c excess = lands_oversize no_step (omega arith)
 
@@ -314,7 +312,7 @@ module _ (code : Code) (I : List Specialization) (vs : Specializations code I I)
   call_stop_row {V} {y = y} {ps = ps} {t = t} {e = e} {o =
       o} c callee given w C i x to p F T bar K l
       (call_range {entry = entry} {room = room} {us = us} is def has args pr at) rep on_top low cost =
-      wider (10 * suc c) (omega arith) (step_on (steps_then (paid_step c at (omega arith))
+      wider (3 * suc c) (omega arith) (step_on (steps_then (paid_step c at (omega arith))
       (same_state (ap (λ v. called_with F T bar K c to p t e (frames_in C y.layers_up) entry room us (arguments v e))
       (same_instances (layers_of C) (by_frames C) (by_coordinates.place_of V) (place_at F p) (same_place rep)
       ps e pr)
@@ -323,7 +321,7 @@ module _ (code : Code) (I : List Specialization) (vs : Specializations code I I)
   call_stop_row {V} {y = y} {ps = ps} {t = t} {e = e} {o =
       o} c callee given w C i x to p F T bar K l
       (specialization_range {entry = entry} {room = room} j is def has args pr at) rep on_top low cost =
-      wider (10 * suc c) (omega arith) (step_on (steps_then (paid_step c at (omega arith))
+      wider (3 * suc c) (omega arith) (step_on (steps_then (paid_step c at (omega arith))
       (same_state (ap (λ v. called_with F T bar K c to p t e (frames_in C y.layers_up) entry room [] (arguments v e))
       (same_instances (layers_of C) (by_frames C) (by_coordinates.place_of V) (place_at F p) (same_place rep)
       ps e pr)
@@ -335,8 +333,6 @@ module _ (code : Code) (I : List Specialization) (vs : Specializations code I I)
       absurd (cc)
   call_stop_row {y = y} c callee given w C i x to p F T bar K l (argument_range {D = D} {s = z} none k r)
       rep on_top low cost = absurd (no_definition_open (same_parameter_open rep y z D none k) callee)
-  call_stop_row {y = y} c callee given w C i x to p F T bar K l (known_call_range {D = D} {s = z} k r at1 at)
-      rep on_top low cost = absurd (no_definition_known (same_parameter rep y z D k) callee)
   call_stop_row {y = y} c callee given w C i x to p F T bar K l (known_range {D = D} {s = z} k r) rep on_top low cost =
       absurd (no_definition_known (same_parameter rep y z D k) callee)
   call_stop_row {y = y} c callee given w C i x to p F T bar K l (parameter_range h at) rep on_top low cost =
@@ -348,9 +344,9 @@ module _ (code : Code) (I : List Specialization) (vs : Specializations code I I)
       {w : Option ℕ} {i x j p : ℕ} {F : List Frame} {T : List ℕ} {bar : ℕ} {K : List Record} {l : ℕ} →
       ParameterIs code I z D (Some (closure s W)) → Ranges code I w D i (suc x) z j → Simulates code I M W s t e b q c →
       OnTop w F p (length e) → bar ≤ length e → l ≡ x + suc b →
-      Lands code M j p e F T bar K (running i p t e F T bar K l) (10 * suc b) q c
+      Lands code M j p e F T bar K (running i p t e F T bar K l) (3 * suc b) q c
   known_lands {D = D} b {w} {i} {x} {j} {p} {F} {T} {bar} {K} {l} (parameter_is fit) r g on_top low cost =
-      wider (10 * suc b) (omega arith) (g w D i (suc x) j p F T bar K l r (fitting p fit) on_top low (omega arith))
+      wider (3 * suc b) (omega arith) (g w D i (suc x) j p F T bar K l r (fitting p fit) on_top low (omega arith))
 
   -- the strategy that a known parameter is, in the frame that it may look at
   pub argument_lands : {W : ResolvedEnvironment} {D : Context} {z s : ResolvedStrategy} {t : Tree} {e : Bindings}
@@ -358,39 +354,9 @@ module _ (code : Code) (I : List Specialization) (vs : Specializations code I I)
       {w : Option ℕ} {i x j p : ℕ} {F : List Frame} {T : List ℕ} {bar : ℕ} {K : List Record} {l : ℕ} →
       OpenIs code I F p z D (Some (closure s W)) → Ranges code I w D i (suc x) z j → Simulates code I M W s t e b q c →
       OnTop w F p (length e) → bar ≤ length e → l ≡ x + suc b →
-      Lands code M j p e F T bar K (running i p t e F T bar K l) (10 * suc b) q c
+      Lands code M j p e F T bar K (running i p t e F T bar K l) (3 * suc b) q c
   argument_lands {D = D} b {w} {i} {x} {j} {p} {F} {T} {bar} {K} {l} (open_is inside) r g on_top low cost =
-      wider (10 * suc b) (omega arith) (g w D i (suc x) j p F T bar K l r inside on_top low (omega arith))
-
-  -- the end of a frame without places
-  pub places_kept : {to to' p p' : ℕ} {e : Bindings} {F F' : List Frame} {T T' : List ℕ} {bar : ℕ} {K K' : List Record}
-      {start start' : State} {r r' c : ℕ} {q : Verdict Tree} →
-      Lands code M to' p' e F' T' bar K' start' r' q c →
-      Lands code M to p e F T bar K start r (with_ending (keeping (length e)) q) c →
-      Lands code M to p e F T bar K start r q c
-  places_kept {to} {p = p} {e = e} {F = F} {T = T} {bar = bar} {K = K} {start = start} {r =
-      r} (lands_ok {c = c} {u = u} {f = f} new x is back same bound) y =
-      subst (λ g. Lands code M to p e F T bar K start r (ends (ok u g)) c) (ap (λ n. take n f) (sym same) ∙
-      take_whole f) y
-  places_kept (lands_failed new x is back same bound) y = y
-  places_kept (lands_oversize x bound) y = y
-  places_kept (lands_spent x bound) y = y
-
-  pub apart_lands : {W : ResolvedEnvironment} {D : Context} {z s : ResolvedStrategy} {t : Tree} (e : Bindings)
-      {c : ℕ} {q : Verdict Tree} (b : ℕ) {entry j p to : ℕ} {F : List Frame} {T : List ℕ} {bar : ℕ} {K : List Record} →
-      ParameterIs code I z D (Some (closure s W)) → Ranges code I (Some 0) D entry 0 z j → At code j end_definition →
-      Simulates code I M W s t e b q c → bar ≤ length e →
-      Lands code M to p e F T bar K
-      (running entry (length F) t (e ++ []) (F ++ frame (length e) p [] ∷ []) T bar (call_record to p ∷ K) b)
-      (1 + 10 * b) q c
-  apart_lands {W} {D} {z} {s} {t} e {c} {q} b {entry} {j} {p} {to} {F} {T} {bar} {K} (parameter_is fit) r at g low =
-      let added = frame (length e) p [] ∷ [] in
-      let x = g (Some 0) D entry 0 j (length F) (F ++ added) T bar (call_record to p ∷ K) b r (fitting (length F) fit)
-      (on_top_at (ends_at (got_last F (frame (length e) p [])) (omega arith))) low (omega arith) in
-      let whole = append_none e in
-      places_kept x (wider (1 + 10 * b) (omega arith) (call_ends p [] e [] low at
-      (subst (λ f. Lands code M j (length F) f (F ++ added) T bar (call_record to p ∷ K)
-      (running entry (length F) t f (F ++ added) T bar (call_record to p ∷ K) b) (10 * b) q c) (sym whole) x)))
+      wider (3 * suc b) (omega arith) (g w D i (suc x) j p F T bar K l r inside on_top low (omega arith))
 
   pub parameter_row : {V W : ResolvedEnvironment} {y : Coordinate} {ss : ResolvedStrategies} {ps : Patterns Coordinate}
       {s : ResolvedStrategy} {t : Tree} {e : Bindings} {c : ℕ} {q : Verdict Tree} (b : ℕ) →
@@ -398,22 +364,17 @@ module _ (code : Code) (I : List Specialization) (vs : Specializations code I I)
       Simulates code I M V (call y ss ps) t e (suc b) q c
   parameter_row {V} {W} {y} {s = s} {t = t} {e = e} {c = c} {q =
       q} b callee g w C i x to p F T bar K l (parameter_range h at) rep on_top low cost =
-      wider (10 * suc b) (omega arith)
+      wider (3 * suc b) (omega arith)
       (step_on (paid_step b at (omega arith))
       (in_it (found (subst (λ v. ClosureFound code I F (closure_in F p (by_frames C y)) v)
       callee (same_closure rep y h)))))
     where
       in_it : ClosureIs code I F s W (closure_in F p (by_frames C y)) →
           Lands code M (suc i) p e F T bar K (in_closure F T bar K b (suc i) p t e (closure_in F p (by_frames C y)))
-          (1 + 10 * b) q c
+          (1 + 3 * b) q c
       in_it (closure_is {C = D} {j = j} r at1 inside) =
           argument_ends at1 (g None D (closure_in F p (by_frames C y)).0 0 j (closure_in F p (by_frames C y)).1 F T bar
           (call_record (suc i) p ∷ K) b r inside never_on_top low (omega arith))
-  parameter_row {V} {W} {y} {s = s} {t = t} {e =
-      e} b callee g w C i x to p F T bar K l (known_call_range {D = D} {s = z} k r at1 at) rep on_top low cost =
-      wider (10 * suc b) (omega arith)
-      (step_on (paid_step b at (omega arith))
-      (apart_lands e b (subst (λ v. ParameterIs code I z D v) callee (same_parameter rep y z D k)) r at1 g low))
   parameter_row {V} {W} {y} {s =
       s} b callee g w C i x to p F T bar K l (known_range {D = D} {s = z} k r) rep on_top low cost =
       known_lands b (subst (λ v. ParameterIs code I z D v) callee (same_parameter rep y z D k)) r g on_top low cost
@@ -452,8 +413,6 @@ module _ (code : Code) (I : List Specialization) (vs : Specializations code I I)
       absurd (body_exists (same_body_of rep y hides is) callee)
   nowhere_row {y = y} b callee w C i x to p F T bar K l (argument_range {D = D} {s = z} none k r) rep on_top low cost =
       absurd (open_exists (same_parameter_open rep y z D none k) callee)
-  nowhere_row {y = y} b callee w C i x to p F T bar K l (known_call_range {D = D} {s = z} k r at1 at)
-      rep on_top low cost = absurd (known_exists (same_parameter rep y z D k) callee)
   nowhere_row {y = y} b callee w C i x to p F T bar K l (known_range {D = D} {s = z} k r) rep on_top low cost =
       absurd (known_exists (same_parameter rep y z D k) callee)
   nowhere_row {y = y} b callee w C i x to p F T bar K l (parameter_range h at) rep on_top low cost =

@@ -24,7 +24,7 @@ module _ {code : Code} {M : Meaning} where
       Lands code M j p e F T (length e) (choice_record a t (saved p (length F) (length T) bar) ∷ K)
       start r (ends (ok u f)) d → At code j (commit n to1) → d ≡ n + rest → bar ≤ length e →
       ((U : List ℕ) → length f ≡ length e → Lands code M to p f F U bar K (running to1 p u f F U bar K rest) r2 q c) →
-      r2 ≤ 10 * d + z → Lands code M to p e F T bar K start (r + z) q c
+      r2 ≤ 3 * d + z → Lands code M to p e F T bar K start (r + z) q c
   chosen {e = e} {f = f} {T = T} {bar = bar} {r =
       r} n rest z (lands_ok {U = U} new x is back same bound) at cost low others room =
       let less = trimmed_new Tree bar new T in
@@ -45,7 +45,7 @@ module _ {code : Code} {M : Meaning} where
       {start : State} {t : Tree} {d c r r2 : ℕ} {q : Verdict Tree} (z : ℕ) →
       Lands code M j p e F T (length e) (choice_record a t (saved p (length F) (length T) bar) ∷ K)
       start r (ends (stop failure)) d →
-      Lands code M to p e F T bar K (running a p t e F T bar K d) r2 q c → r2 ≤ 10 * d + z →
+      Lands code M to p e F T bar K (running a p t e F T bar K d) r2 q c → r2 ≤ 3 * d + z →
       Lands code M to p e F T bar K start (r + z) q c
   otherwise_lands {a = a} {p = p} {e = e} {F = F} {T = T} {bar = bar} {K = K} {t = t} {d = d} {r =
       r} z (lands_failed {f = f} {G = G} {U = U} new x is back same bound) other room =
@@ -72,19 +72,19 @@ module _ (code : Code) (I : List Specialization) (M : Meaning) where
       Simulates code I M V (choice s1 s2 s3) t e (suc b) q c
   choice_halt_row {t = t} {e = e} b g1 h gs w C i x to p F T bar K l (choice_range {j = j} {k = k} at r1 at1 r2 at2 r3)
       rep on_top low is =
-      wider (10 * suc b) (omega arith) (step_on (paid_step b at (omega arith))
+      wider (3 * suc b) (omega arith) (step_on (paid_step b at (omega arith))
       (halt_lands h (g1 w C (suc i) 0 j p F T (length e)
       (choice_record (suc k) t (saved p (length F) (length T) bar) ∷ K) b r1 rep on_top (omega arith)
       (omega arith))))
   choice_halt_row {t = t} {e = e} b g1 h gs w C i x to p F T bar K l (else_range {j = j} at r1 at1 r3)
       rep on_top low is =
-      wider (10 * suc b) (omega arith) (step_on (paid_step b at (omega arith))
+      wider (3 * suc b) (omega arith) (step_on (paid_step b at (omega arith))
       (halt_lands h (g1 w C (suc i) 0 j p F T (length e)
       (choice_record (suc j) t (saved p (length F) (length T) bar) ∷ K) b r1 rep on_top (omega arith)
       (omega arith))))
   choice_halt_row b g1 h gs w C i x to p F T bar K l (select_range {last = last} {cs = cs} at choices)
       rep on_top low is =
-      wider (10 * suc b) (omega arith)
+      wider (3 * suc b) (omega arith)
       (step_on (paid_step b at (omega arith)) (gs w C cs last to p F T bar K b choices rep on_top low refl))
 
   pub else_row : {V : ResolvedEnvironment} {s1 s2 s3 : ResolvedStrategy} {t : Tree} {e : Bindings} {c : ℕ}
@@ -94,17 +94,17 @@ module _ (code : Code) (I : List Specialization) (M : Meaning) where
       Simulates code I M V (choice s1 s2 s3) t e (suc b) q c
   else_row {t = t} {e = e} b d g1 g3 gs w C i x to p F T bar K l (choice_range {j = j} {k = k} at r1 at1 r2 at2 r3)
       rep on_top low is =
-      wider (10 * suc b) (omega arith) (step_on (paid_step b at (omega arith))
+      wider (3 * suc b) (omega arith) (step_on (paid_step b at (omega arith))
       (otherwise_lands 0 (g1 w C (suc i) 0 j p F T (length e)
       (choice_record (suc k) t (saved p (length F) (length T) bar) ∷ K) b r1 rep on_top (omega arith) (omega arith))
       (g3 w C (suc k) 0 to p F T bar K d r3 rep on_top low (omega arith)) (omega arith)))
   else_row {t = t} {e = e} b d g1 g3 gs w C i x to p F T bar K l (else_range {j = j} at r1 at1 r3) rep on_top low is =
-      wider (10 * suc b) (omega arith) (step_on (paid_step b at (omega arith))
+      wider (3 * suc b) (omega arith) (step_on (paid_step b at (omega arith))
       (otherwise_lands 0 (g1 w C (suc i) 0 j p F T (length e)
       (choice_record (suc j) t (saved p (length F) (length T) bar) ∷ K) b r1 rep on_top (omega arith) (omega arith))
       (g3 w C (suc j) 0 to p F T bar K d r3 rep on_top low (omega arith)) (omega arith)))
   else_row b d g1 g3 gs w C i x to p F T bar K l (select_range {last = last} {cs = cs} at choices) rep on_top low is =
-      wider (10 * suc b) (omega arith)
+      wider (3 * suc b) (omega arith)
       (step_on (paid_step b at (omega arith)) (gs w C cs last to p F T bar K b choices rep on_top low refl))
 
   pub then_row : {V : ResolvedEnvironment} {s1 s2 s3 : ResolvedStrategy} {t u : Tree} {e f : Bindings} {c : ℕ}
@@ -114,7 +114,7 @@ module _ (code : Code) (I : List Specialization) (M : Meaning) where
       Simulates code I M V (choice s1 s2 s3) t e (suc b) q c
   then_row {t = t} {e = e} {f =
       f} b d g1 y g2 gs w C i x to p F T bar K l (choice_range {j = j} {k = k} at r1 at1 r2 at2 r3) rep on_top low is =
-      wider (10 * suc b) (omega arith) (step_on (paid_step b at (omega arith))
+      wider (3 * suc b) (omega arith) (step_on (paid_step b at (omega arith))
       (chosen 0 d 1 (g1 w C (suc i) 0 j p F T (length e)
       (choice_record (suc k) t (saved p (length F) (length T) bar) ∷ K) b r1 rep on_top (omega arith) (omega arith))
       at1 (omega arith) low
@@ -122,9 +122,9 @@ module _ (code : Code) (I : List Specialization) (M : Meaning) where
       (omega arith)) at2) (omega arith)))
   then_row {t = t} {e = e} {f =
       f} b d g1 y g2 gs w C i x to p F T bar K l (else_range {j = j} at r1 at1 r3) rep on_top low is =
-      wider (10 * suc b) (omega arith) (step_on (paid_step b at (omega arith))
+      wider (3 * suc b) (omega arith) (step_on (paid_step b at (omega arith))
       (id_chosen (g1 w C (suc i) 0 j p F T (length e) (choice_record (suc j) t (saved p (length F) (length T) bar) ∷ K)
       b r1 rep on_top (omega arith) (omega arith)) at1 low y))
   then_row b d g1 y g2 gs w C i x to p F T bar K l (select_range {last = last} {cs = cs} at choices) rep on_top low is =
-      wider (10 * suc b) (omega arith)
+      wider (3 * suc b) (omega arith)
       (step_on (paid_step b at (omega arith)) (gs w C cs last to p F T bar K b choices rep on_top low refl))

@@ -28,7 +28,7 @@ stays (more_steps going h x) = absurd (going)
 
 -- no run takes longer
 few_steps : (M : Meaning) (P : ResolvedDefinitions) (i : ℕ) (t : Tree) (budget : ℕ) (r : Result) (left steps : ℕ) →
-    Says M P i t budget r left steps → steps ≤ 10 * budget + 10
+    Says M P i t budget r left steps → steps ≤ 3 * budget + 1
 few_steps M P i t budget (rewritten u) left steps s = let a = s.1.few in let b = s.1.paid in omega arith
 few_steps M P i t budget run_failed left steps s = let a = s.few in let b = s.paid in omega arith
 few_steps M P i t budget run_oversize left steps s = let a = s.few in let b = s.paid in omega arith
@@ -55,7 +55,7 @@ module _ {code : Code} {M : Meaning} (P : ResolvedDefinitions) (i : ℕ) (stands
       s.left (subst (λ n. Says M P i t budget run.result run.left n) same run.says))
 
   -- after that number of steps a run has ended
-  pub ends_in_time : {k : ℕ} {m : State} → Steps code M k (start t budget) m → IsGoing m → k < 10 * budget + 10
+  pub ends_in_time : {k : ℕ} {m : State} → Steps code M k (start t budget) m → IsGoing m → k < 3 * budget + 1
   ends_in_time x going =
       let run = runs code M P i stands t budget in
       let a = ahead x run.run in
@@ -80,6 +80,6 @@ module _ {W R Y N : Type 0} {S : Space W R Y N} {code : Code} {M : Meaning} (P :
   stopped_says x = end_says P i stands (S.term_of w t) budget (steps_so x (holds_at_start S w t budget st)).0
 
   pub ended_in_time : {k : ℕ} {m : RefState R Y} → StepsRef S code M k w (start_ref t budget) w1 m →
-      IsGoing (state_tree (S.term_of w1) m) → k < 10 * budget + 10
+      IsGoing (state_tree (S.term_of w1) m) → k < 3 * budget + 1
   ended_in_time x going = ends_in_time P i stands (S.term_of w t)
       budget (steps_so x (holds_at_start S w t budget st)).0 going

@@ -23,11 +23,11 @@ pub data Lands (code : Code) (M : Meaning) (to p : ℕ) (e : Bindings) (F : List
     (K : List Record) (start : State) (room : ℕ) : Verdict Tree → ℕ → Type 0 where
   lands_ok : {k c : ℕ} {u : Tree} {f : Bindings} {U : List ℕ} (new : List ℕ) →
       Steps code M k start (running to p u f F U b K c) → U ≡ new ++ T → Restores b e new f → length f ≡ length e →
-      k + 1 + 10 * c ≤ room → Lands code M to p e F T b K start room (ends (ok u f)) c
+      k + 1 + 3 * c ≤ room → Lands code M to p e F T b K start room (ends (ok u f)) c
   lands_failed : {k c : ℕ} {f : Bindings} {G : List Frame} {U : List ℕ} (new : List ℕ) →
       Steps code M k start (failing f G U b K c) → U ≡ new ++ T → Restores b e new f → take (length F) G ≡ F →
-      k + 1 + 10 * c ≤ room → Lands code M to p e F T b K start room (ends (stop failure)) c
-  lands_oversize : {k c : ℕ} → Steps code M k start (ended run_oversize c) → k + 1 + 10 * c ≤ room →
+      k + 1 + 3 * c ≤ room → Lands code M to p e F T b K start room (ends (stop failure)) c
+  lands_oversize : {k c : ℕ} → Steps code M k start (ended run_oversize c) → k + 1 + 3 * c ≤ room →
       Lands code M to p e F T b K start room (ends (stop excess)) c
   lands_spent : {k l c : ℕ} → Steps code M k start (ended run_spent l) → k ≤ room + 1 →
       Lands code M to p e F T b K start room spent c

@@ -17,3 +17,4 @@ pub mod ReferenceSteps
 pub mod ReferencesLast
 pub mod CountedLaws
 pub mod EndLaws
+pub mod OneMeaning

@@ -31,19 +31,19 @@ pub record Runs (code : Code) (M : Meaning) (P : ResolvedDefinitions) (i : ℕ) 
 module _ {M : Meaning} {P : ResolvedDefinitions} {i : ℕ} {t : Tree} {budget : ℕ} where
   ends_so : {o : Ending Tree} {left : ℕ} (steps : ℕ) →
       Settled by_coordinates M (definitions P outermost) (call (here i) no_strategies no_patterns) t [] budget (ends o)
-      left → steps + 10 * left ≤ 10 * budget + 10 →
+      left → steps + 3 * left ≤ 3 * budget + 1 →
       EndsSo M P i t budget o left steps
   ends_so steps (settled {n = n} x h) room = record { nodes = n; derived = x; paid = h; few = omega arith }
 
   none_so : {left : ℕ} (steps : ℕ) →
       Settled by_coordinates M (definitions P outermost) (call (here i) no_strategies no_patterns)
-      t [] budget spent left → steps ≤ 10 * budget + 10 →
-      ((o : Ending Tree) (n : ℕ) → RewritesByCoordinates M P i t o n → budget < n) × (steps ≤ 10 * budget + 10)
+      t [] budget spent left → steps ≤ 3 * budget + 1 →
+      ((o : Ending Tree) (n : ℕ) → RewritesByCoordinates M P i t o n → budget < n) × (steps ≤ 3 * budget + 1)
   none_so steps (unsettled lacks) room = (lacks, room)
 
 module _ {code : Code} {M : Meaning} {P : ResolvedDefinitions} {i : ℕ} {t : Tree} {budget : ℕ} where
   of_landing : StandsFor code P i → {q : Verdict Tree} {left : ℕ} →
-      Lands code M 1 0 [] [] [] 0 [] (start t budget) (10 * budget) q left →
+      Lands code M 1 0 [] [] [] 0 [] (start t budget) (3 * budget) q left →
       Settled by_coordinates M (definitions P outermost) (call (here i) no_strategies no_patterns) t [] budget q left →
       Runs code M P i t budget
   of_landing stands (lands_ok {k = k} {c = c} {u = u} {f = f} new x is back same bound) known =

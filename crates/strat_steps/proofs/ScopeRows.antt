@@ -67,7 +67,7 @@ module _ (code : Code) (I : List Specialization) (M : Meaning) where
       Simulates code I M (layer (length e) 0 n no_closures V) s t (e ++ empty_places n) b q c →
       Simulates code I M V (scope n s) t e (suc b) (with_ending (keeping (length e)) q) c
   scope_row {n = n} {t = t} {e = e} b g w C i x to p F T bar K l (scope_range {j = j} at r at1) rep on_top low is =
-      wider (10 * suc b) (omega arith) (step_on (paid_step b at (omega arith))
+      wider (3 * suc b) (omega arith) (step_on (paid_step b at (omega arith))
       (scope_ends n low at1 (g (Some n) (framed 0 n C) (suc i) 0 j (length F) (F ++ frame (length e) p [] ∷ [])
       T bar K b r
       (of_frame (got_last F (frame (length e) p [])) (omega arith)
@@ -76,10 +76,10 @@ module _ (code : Code) (I : List Specialization) (M : Meaning) where
       length-append e (empty_places n) in omega arith) (omega arith))))
   scope_row {V} {n = n} {s = s} {t = t} {e =
       e} {c} {q} b g w C i x to p F T bar K l (inner_range {n = first} {j = j} at r at1) rep on_top low is =
-      wider (10 * suc b) (omega arith) (step_on (paid_step b at (omega arith)) (inside (on_top first refl)))
+      wider (3 * suc b) (omega arith) (step_on (paid_step b at (omega arith)) (inside (on_top first refl)))
     where
       inside : Last F p first (length e) →
-          Lands code M (suc j) p e F T bar K (running (suc i) p t (e ++ empty_places n) F T bar K b) (1 + 10 * b)
+          Lands code M (suc j) p e F T bar K (running (suc i) p t (e ++ empty_places n) F T bar K b) (1 + 3 * b)
           (with_ending (keeping (length e)) q) c
       inside (ends_at got begins) =
           inner_ends n low at1 (g (Some (first + n)) (within n first C) (suc i)
@@ -114,7 +114,7 @@ module _ (code : Code) (I : List Specialization) (M : Meaning) where
       (spent, refl, at_once (first_of_range range))
     where
       at_once : StandsFirst code i (suc x) →
-          Lands code M to p (e ++ empty_places n) F T bar K (running i p t (e ++ empty_places n) F T bar K l) (10 * 0)
+          Lands code M to p (e ++ empty_places n) F T bar K (running i p t (e ++ empty_places n) F T bar K l) (3 * 0)
           spent 0
       at_once (stands_first v at h) = lands_spent (spent_step at (omega arith)) (omega arith)
 
@@ -158,10 +158,10 @@ module _ (code : Code) (I : List Specialization) (M : Meaning) where
       let same_s : r ≡ s = sym (ap inner_of is) in
       subst (λ m. (o : Verdict Tree) × (with_ending (keeping (length e)) q ≡ with_ending (keeping (length e)) o) ×
       Lands code M to p (e ++ empty_places m) F T bar K (running i p t (e ++ empty_places m) F T bar K l)
-      (10 * suc b) o c) (sym same_n) (
+      (3 * suc b) o c) (sym same_n) (
         q,
         refl,
-        wider (10 * suc b) (omega arith) (g (Some (offset + n)) (within n offset C) i (suc x) to p F T bar K l
+        wider (3 * suc b) (omega arith) (g (Some (offset + n)) (within n offset C) i (suc x) to p F T bar K l
             (subst (λ m. Ranges code I (Some (offset + m)) (within m offset C) i (suc x) s to)
             same_n (subst (λ z. Ranges code I (Some (offset + k)) (within k offset C) i (suc x) z to) same_s range))
             (of_within got begins rep) (on_top_at (ends_at got (let m = more_places e n in omega arith))) (let m =

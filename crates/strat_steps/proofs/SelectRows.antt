@@ -124,7 +124,7 @@ module _ (code : Code) (I : List Specialization) (M : Meaning) where
   select_then {t = t} {e = e} b d x g1 y w C cs last to p F T bar K l
       (select_last {body = body} {j = j} asks so r1 at1 r3) rep on_top low is = elim (ways so last p t e F T bar K l) [
         | inl h ↦ from_state h
-            (wider (10 * l) (omega arith)
+            (wider (3 * l) (omega arith)
             (id_chosen (g1 w C body 0 j p F T (length e) (choice_record last t (saved p (length F) (length T) bar) ∷ K)
             l r1 rep on_top (omega arith) (omega arith)) at1 low y))
         | inr h ↦ absurd (not_ok d (fails_by_roots code I M asks rep h.0 x))
@@ -133,7 +133,7 @@ module _ (code : Code) (I : List Specialization) (M : Meaning) where
       (select_more {body = body} {otherwise = other} {j = j} asks so r1 at1 r3 others) rep on_top low is =
       elim (ways so last p t e F T bar K l) [
         | inl h ↦ from_state h
-            (wider (10 * l) (omega arith)
+            (wider (3 * l) (omega arith)
             (id_chosen (g1 w C body 0 j p F T (length e) (choice_record other t (saved p (length F) (length T) bar) ∷ K)
             l r1 rep on_top (omega arith) (omega arith)) at1 low y))
         | inr h ↦ absurd (not_ok d (fails_by_roots code I M asks rep h.0 x))
@@ -153,19 +153,19 @@ module _ (code : Code) (I : List Specialization) (M : Meaning) where
   select_else {t = t} {e = e} b d x g1 y g3 gs w C cs last to p F T bar K l
       (select_last {body = body} {j = j} asks so r1 at1 r3) rep on_top low is = elim (ways so last p t e F T bar K l) [
         | inl h ↦ from_state h
-            (wider (10 * l) (omega arith)
+            (wider (3 * l) (omega arith)
             (otherwise_lands 0 (g1 w C body 0 j p F T (length e)
             (choice_record last t (saved p (length F) (length T) bar) ∷ K) l r1 rep on_top (omega arith) (omega arith))
             (g3 w C last 0 to p F T bar K d r3 rep on_top low (omega arith)) (omega arith)))
         | inr h ↦ let k = pays d (fails_by_roots code I M asks rep h.0 x) in from_state (h.1 d (omega arith))
-            (wider (10 * l) (omega arith) (g3 w C last 0 to p F T bar K d r3 rep on_top low (omega arith)))
+            (wider (3 * l) (omega arith) (g3 w C last 0 to p F T bar K d r3 rep on_top low (omega arith)))
       ]
   select_else {V} {s3 = s3} {t = t} {e =
       e} {c} {q} b d x g1 y g3 gs w C cs last to p F T bar K l
       (select_more {body = body} {otherwise = other} {j = j} {n = n} {others = others} asks so r1 at1 r3 rest_so)
       rep on_top low is = elim (ways so last p t e F T bar K l) [
         | inl h ↦ from_state h
-            (wider (10 * l) (omega arith)
+            (wider (3 * l) (omega arith)
             (otherwise_lands 0 (g1 w C body 0 j p F T (length e)
             (choice_record other t (saved p (length F) (length T) bar) ∷ K) l r1 rep on_top (omega arith) (omega arith))
             (g3 w C other 0 to p F T bar K d r3 rep on_top low (omega arith)) (omega arith)))
@@ -176,13 +176,13 @@ module _ (code : Code) (I : List Specialization) (M : Meaning) where
           selected cs last p t e F T bar K l ≡ selected others last p t e F T bar K rest) →
           (l < suc n → selected cs last p t e F T bar K l ≡ ended run_spent l) →
           (d : ℕ) → Goes by_coordinates M V s3 t e d q c → SimulatesChain code I M V s3 t e d q c → l ≡ n + d →
-          Lands code M to p e F T bar K (selected cs last p t e F T bar K l) (10 * l) q c
+          Lands code M to p e F T bar K (selected cs last p t e F T bar K l) (3 * l) q c
       pass on less zero y gs k =
-          subst (λ v. Lands code M to p e F T bar K (selected cs last p t e F T bar K l) (10 * l) v c)
+          subst (λ v. Lands code M to p e F T bar K (selected cs last p t e F T bar K l) (3 * l) v c)
           (sym (spent_of_none y refl))
-          (from_state (less (omega arith)) (spent_lands to p e F T bar K l (10 * l) c))
+          (from_state (less (omega arith)) (spent_lands to p e F T bar K l (3 * l) c))
       pass on less (suc d) y gs k = from_state (on d (omega arith))
-          (wider (10 * l) (omega arith) (gs w C others last to p F T bar K d rest_so rep on_top low refl))
+          (wider (3 * l) (omega arith) (gs w C others last to p F T bar K d rest_so rep on_top low refl))
 
   -- a failure that doesn't fail is spent
   pub halts : {n b : ℕ} (c : ℕ) {q : Verdict Tree} → FailsBy n b q c → IsHalt q → (q ≡ spent) × (b < n)
@@ -196,25 +196,25 @@ module _ (code : Code) (I : List Specialization) (M : Meaning) where
   select_halt {t = t} {e = e} {c} {q} b x g1 h w C cs last to p F T bar K l
       (select_last {body = body} {j = j} asks so r1 at1 r3) rep on_top low is = elim (ways so last p t e F T bar K l) [
         | inl h1 ↦ from_state h1
-            (wider (10 * l) (omega arith)
+            (wider (3 * l) (omega arith)
             (halt_lands h (g1 w C body 0 j p F T (length e)
             (choice_record last t (saved p (length F) (length T) bar) ∷ K) l r1 rep on_top (omega arith)
             (omega arith))))
         | inr h1 ↦ let k = halts c (fails_by_roots code I M asks rep h1.0 x) h in let less = k.1 in
-            subst (λ v. Lands code M to p e F T bar K (selected cs last p t e F T bar K l) (10 * l) v c) (sym k.0)
-            (from_state (h1.2 (omega arith)) (spent_lands to p e F T bar K l (10 * l) c))
+            subst (λ v. Lands code M to p e F T bar K (selected cs last p t e F T bar K l) (3 * l) v c) (sym k.0)
+            (from_state (h1.2 (omega arith)) (spent_lands to p e F T bar K l (3 * l) c))
       ]
   select_halt {t = t} {e = e} {c} {q} b x g1 h w C cs last to p F T bar K l
       (select_more {body = body} {otherwise = other} {j = j} asks so r1 at1 r3 others) rep on_top low is =
       elim (ways so last p t e F T bar K l) [
         | inl h1 ↦ from_state h1
-            (wider (10 * l) (omega arith)
+            (wider (3 * l) (omega arith)
             (halt_lands h (g1 w C body 0 j p F T (length e)
             (choice_record other t (saved p (length F) (length T) bar) ∷ K) l r1 rep on_top (omega arith)
             (omega arith))))
         | inr h1 ↦ let k = halts c (fails_by_roots code I M asks rep h1.0 x) h in let less = k.1 in
-            subst (λ v. Lands code M to p e F T bar K (selected cs last p t e F T bar K l) (10 * l) v c) (sym k.0)
-            (from_state (h1.2 (omega arith)) (spent_lands to p e F T bar K l (10 * l) c))
+            subst (λ v. Lands code M to p e F T bar K (selected cs last p t e F T bar K l) (3 * l) v c) (sym k.0)
+            (from_state (h1.2 (omega arith)) (spent_lands to p e F T bar K l (3 * l) c))
       ]
 
   abbrev pub IsNoChoice : ResolvedStrategy → Type 0

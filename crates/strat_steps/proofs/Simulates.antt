@@ -88,14 +88,14 @@ built_leaves None e = tt
 built_leaves (Some u) e = fits_leaves (fits u) u e
 
 -- From the first address of each range for the strategy, in frames that represent the environment and with a budget of
--- b over the x nodes around, the machine lands at the range's end as the strategy goes from b, in at most 10 steps for
+-- b over the x nodes around, the machine lands at the range's end as the strategy goes from b, in at most 3 steps for
 -- each node
 abbrev pub Simulates : Code → List Specialization → Meaning → ResolvedEnvironment → ResolvedStrategy → Tree → Bindings →
     ℕ → Verdict Tree → ℕ → Type 0
 Simulates code I M V s t e b q c =
     (w : Option ℕ) (C : Context) (i x to p : ℕ) (F : List Frame) (T : List ℕ) (bar : ℕ) (K : List Record) (l : ℕ) →
     Ranges code I w C i x s to → Represents code I F C V p → OnTop w F p (length e) → bar ≤ length e → l ≡ x + b →
-    Lands code M to p e F T bar K (running i p t e F T bar K l) (10 * b) q c
+    Lands code M to p e F T bar K (running i p t e F T bar K l) (3 * b) q c
 
 -- so it does from the cases of a chain of alternatives, where the node of the choice is paid for
 abbrev pub SimulatesChain : Code → List Specialization → Meaning → ResolvedEnvironment → ResolvedStrategy → Tree →
@@ -104,7 +104,7 @@ SimulatesChain code I M V s t e b q c =
     (w : Option ℕ) (C : Context) (cs : List Case) (last to p : ℕ) (F : List Frame) (T : List ℕ) (bar : ℕ)
     (K : List Record) (l : ℕ) →
     Selects code I w C s cs last to → Represents code I F C V p → OnTop w F p (length e) → bar ≤ length e → b ≡ suc l →
-    Lands code M to p e F T bar K (selected cs last p t e F T bar K l) (10 * l) q c
+    Lands code M to p e F T bar K (selected cs last p t e F T bar K l) (3 * l) q c
 
 -- so it does from a range for what is inside a scope, where the places of the scope are there and its node is not paid
 -- for yet
@@ -116,16 +116,16 @@ SimulatesBody code I M V s t e b q c =
     Ranges code I (Some (offset + n)) (within n offset C) i (suc x) r to → Represents code I F C V p →
     Last F p offset (length e) → bar ≤ length e → l ≡ x + b →
     (o : Verdict Tree) × (q ≡ with_ending (keeping (length e)) o) ×
-    Lands code M to p (e ++ empty_places n) F T bar K (running i p t (e ++ empty_places n) F T bar K l) (10 * b) o c
+    Lands code M to p (e ++ empty_places n) F T bar K (running i p t (e ++ empty_places n) F T bar K l) (3 * b) o c
 
 module _ {code : Code} {M : Meaning} where
   -- at the end of a range
   pub here_lands : (i p : ℕ) (u : Tree) (e : Bindings) (F : List Frame) (T : List ℕ) (bar : ℕ) (K : List Record)
-      (c : ℕ) → Lands code M i p e F T bar K (running i p u e F T bar K c) (1 + 10 * c) (ends (ok u e)) c
+      (c : ℕ) → Lands code M i p e F T bar K (running i p u e F T bar K c) (1 + 3 * c) (ends (ok u e)) c
   here_lands i p u e F T bar K c = lands_ok [] no_step refl refl refl (omega arith)
 
   pub fails_here : (i p : ℕ) (e : Bindings) (F : List Frame) (T : List ℕ) (bar : ℕ) (K : List Record) (c : ℕ) →
-      Lands code M i p e F T bar K (failing e F T bar K c) (1 + 10 * c) (ends (stop failure)) c
+      Lands code M i p e F T bar K (failing e F T bar K c) (1 + 3 * c) (ends (stop failure)) c
   fails_here i p e F T bar K c = lands_failed [] no_step refl refl (take_whole F) (omega arith)
 
   -- one range after another
@@ -133,7 +133,7 @@ module _ {code : Code} {M : Meaning} where
       {u : Tree} {d c r r2 : ℕ} {q : Verdict Tree} (z : ℕ) →
       Lands code M j p e F T bar K start r (ends (ok u f)) d →
       ((U : List ℕ) → length f ≡ length e → Lands code M to p f F U bar K (running j p u f F U bar K d) r2 q c) →
-      r2 ≤ 1 + 10 * d + z → Lands code M to p e F T bar K start (r + z) q c
+      r2 ≤ 1 + 3 * d + z → Lands code M to p e F T bar K start (r + z) q c
   through {r = r} z (lands_ok {U = U} new x is back same bound) others room =
       wider (r + z) (omega arith) (onward new x is back same (others U same))
 
@@ -154,9 +154,9 @@ module _ {code : Code} {M : Meaning} where
   -- goes on as an ending says that leaves the places
   pub goes_on_lands : (i p : ℕ) (e : Bindings) (F : List Frame) (T : List ℕ) (bar : ℕ) (K : List Record) (c : ℕ)
       (o : Ending Tree) → Leaves e o →
-      Lands code M i p e F T bar K (goes_on F T bar K c i p e o) (1 + 10 * c) (ends o) c
+      Lands code M i p e F T bar K (goes_on F T bar K c i p e o) (1 + 3 * c) (ends o) c
   goes_on_lands i p e F T bar K c (ok u f) h =
-      subst (λ f. Lands code M i p e F T bar K (running i p u f F T bar K c) (1 + 10 * c) (ends (ok u f)) c) (sym h)
+      subst (λ f. Lands code M i p e F T bar K (running i p u f F T bar K c) (1 + 3 * c) (ends (ok u f)) c) (sym h)
       (here_lands i p u e F T bar K c)
   goes_on_lands i p e F T bar K c (stop failure) h = fails_here i p e F T bar K c
   goes_on_lands i p e F T bar K c (stop excess) h = lands_oversize no_step (omega arith)

@@ -75,13 +75,13 @@ module _ (code : Code) (I : List Specialization) (M : Meaning) where
   SimulatesAll V s ts e b q c =
       (C : Context) (body after p : ℕ) (F : List Frame) (T : List ℕ) (bar : ℕ) (K : List Record) (t : Tree)
       (done : Trees) → Body C V s body after p F (length e) → bar ≤ length e →
-      Lands code M after p e F T bar K (on_all F T bar K b body after p t e done ts) (1 + 10 * b) (whole t done q) c
+      Lands code M after p e F T bar K (on_all F T bar K b body after p t e done ts) (1 + 3 * b) (whole t done q) c
 
   abbrev pub SimulatesOne : ResolvedEnvironment → ResolvedStrategy → Trees → Bindings → ℕ → Verdict Trees → ℕ → Type 0
   SimulatesOne V s ts e b q c =
       (C : Context) (body after p : ℕ) (F : List Frame) (T : List ℕ) (bar : ℕ) (K : List Record) (t : Tree)
       (done : Trees) → Body C V s body after p F (length e) → bar ≤ length e →
-      Lands code M after p e F T bar K (on_one F T bar K b body after p t e done ts) (1 + 10 * b) (whole t done q) c
+      Lands code M after p e F T bar K (on_one F T bar K b body after p t e done ts) (1 + 3 * b) (whole t done q) c
 
   -- the last part may fail, and then the whole is made in a further step
   abbrev pub some_room : Trees → ℕ
@@ -97,7 +97,7 @@ module _ (code : Code) (I : List Specialization) (M : Meaning) where
   SimulatesSome V s ts e found b q c =
       (C : Context) (body after p : ℕ) (F : List Frame) (T : List ℕ) (bar : ℕ) (K : List Record) (t : Tree)
       (done : Trees) → Body C V s body after p F (length e) → bar ≤ length e →
-      Lands code M after p e F T bar K (on_some F T bar K b body after p t e found done ts) (some_room ts + 10 * b)
+      Lands code M after p e F T bar K (on_some F T bar K b body after p t e found done ts) (some_room ts + 3 * b)
       (whole t done q) c
 
   -- all(s): a part is done
@@ -106,7 +106,7 @@ module _ (code : Code) (I : List Specialization) (M : Meaning) where
       Lands code M j p e F T bar (all_record body after t done ts ∷ K) start r (ends (ok u f)) d → At code j part_done →
       ((U : List ℕ) → length f ≡ length e →
       Lands code M after p f F U bar K (on_all F U bar K d body after p t f (more u done) ts) r2 q c) →
-      r2 ≤ 1 + 10 * d → Lands code M after p e F T bar K start (1 + r) q c
+      r2 ≤ 1 + 3 * d → Lands code M after p e F T bar K start (1 + r) q c
   all_part {d = d} {r = r} (lands_ok {U = U} new x is back same bound) at others room =
       wider (1 + r) (omega arith)
       (onward new (steps_then x (paid_step d at (omega arith))) is back same (others U same))
@@ -135,7 +135,7 @@ module _ (code : Code) (I : List Specialization) (M : Meaning) where
       SimulatesAll V s (more v ts) e b (verdict_in_front u q) c
   all_next_row {v = v} {u} {ts} {e} {f} {c} b d q g1 g2 C body after p F T bar K t done loop low =
       subst (λ w. Lands code M after p e F T bar K (running body p v e F T bar (all_record body after t done ts ∷ K) b)
-      (1 + 10 * b) w c) (whole_next t done u q)
+      (1 + 3 * b) w c) (whole_next t done u q)
       (all_part (g1 loop.when C body 0 loop.exit p F T bar (all_record body after t done ts ∷ K)
       b loop.range loop.represents loop.on_top low (omega arith)) loop.at
       (λ U same. g2 C body after p F U bar K t (more u done) (same_body e f same loop) (omega arith)) (omega arith))
@@ -151,8 +151,8 @@ module _ (code : Code) (I : List Specialization) (M : Meaning) where
       (q : Verdict Trees) → SimulatesAll V s (parts t) e b q c →
       Simulates code I M V (all s) t e (suc b) (with_ending (rebuilt t) q) c
   all_row {V} {s} {t} {e} {c} b q g w C i x to p F T bar K l (all_range {j = j} at r at1) rep on_top low is =
-      subst (λ w. Lands code M (suc j) p e F T bar K (running i p t e F T bar K l) (10 * suc b) w c) (whole_first t q)
-      (wider (10 * suc b) (omega arith)
+      subst (λ w. Lands code M (suc j) p e F T bar K (running i p t e F T bar K l) (3 * suc b) w c) (whole_first t q)
+      (wider (3 * suc b) (omega arith)
       (step_on (paid_step b at (omega arith))
       (g C (suc i) (suc j) p F T bar K t end
       (record { when = w; exit = j; range = r; at = at1; ends = refl; represents = rep; on_top = on_top }) low)))
@@ -177,7 +177,7 @@ module _ (code : Code) (I : List Specialization) (M : Meaning) where
       {start : State} {t v : Tree} {done ts : Trees} {d c r r2 : ℕ} {q : Verdict Tree} →
       Lands code M j p e F T (length e) (one_record body after t done v ts (saved p (length F) (length T) bar) ∷ K)
       start r (ends (stop failure)) d →
-      Lands code M after p e F T bar K (on_one F T bar K d body after p t e (more v done) ts) r2 q c → r2 ≤ 1 + 10 * d →
+      Lands code M after p e F T bar K (on_one F T bar K d body after p t e (more v done) ts) r2 q c → r2 ≤ 1 + 3 * d →
       Lands code M after p e F T bar K start (1 + r) q c
   one_fails {body = body} {after} {p} {e} {F} {T} {bar} {K} {t = t} {v} {done} {ts} {d} {r =
       r} (lands_failed {f = f} {G = G} {U = U} new x is back same bound) other room =
@@ -225,7 +225,7 @@ module _ (code : Code) (I : List Specialization) (M : Meaning) where
   one_next_row {v = v} {ts} {e} {c} b d q g1 g2 C body after p F T bar K t done loop low =
       subst (λ w. Lands code M after p e F T bar K
       (running body p v e F T (length e) (one_record body after t done v ts (saved p (length F) (length T) bar) ∷ K)
-      b) (1 + 10 * b) w c) (whole_next t done v q)
+      b) (1 + 3 * b) w c) (whole_next t done v q)
       (one_fails (g1 loop.when C body 0 loop.exit p F T (length e)
       (one_record body after t done v ts (saved p (length F) (length T) bar) ∷ K)
       b loop.range loop.represents loop.on_top (omega arith) (omega arith))
@@ -235,8 +235,8 @@ module _ (code : Code) (I : List Specialization) (M : Meaning) where
       (q : Verdict Trees) → SimulatesOne V s (parts t) e b q c →
       Simulates code I M V (one s) t e (suc b) (with_ending (rebuilt t) q) c
   one_row {V} {s} {t} {e} {c} b q g w C i x to p F T bar K l (one_range {j = j} at r at1) rep on_top low is =
-      subst (λ w. Lands code M (suc j) p e F T bar K (running i p t e F T bar K l) (10 * suc b) w c) (whole_first t q)
-      (wider (10 * suc b) (omega arith)
+      subst (λ w. Lands code M (suc j) p e F T bar K (running i p t e F T bar K l) (3 * suc b) w c) (whole_first t q)
+      (wider (3 * suc b) (omega arith)
       (step_on (paid_step b at (omega arith))
       (g C (suc i) (suc j) p F T bar K t end
       (record { when = w; exit = j; range = r; at = at1; ends = refl; represents = rep; on_top = on_top }) low)))
@@ -250,7 +250,7 @@ module _ (code : Code) (I : List Specialization) (M : Meaning) where
       At code j part_done →
       ((U : List ℕ) → length f ≡ length e →
       Lands code M after p f F U bar K (on_some F U bar K d body after p t f true (more u done) ts) r2 q c) →
-      r2 ≤ 2 + 10 * d → Lands code M after p e F T bar K start (2 + r) q c
+      r2 ≤ 2 + 3 * d → Lands code M after p e F T bar K start (2 + r) q c
   some_part {e = e} {f} {T = T} {bar} {d = d} {r = r} low (lands_ok {U = U} new x is back same bound) at others room =
       let less = trimmed_new Tree bar new T in
       wider (2 + r) (omega arith)
@@ -264,7 +264,7 @@ module _ (code : Code) (I : List Specialization) (M : Meaning) where
       (some_record body after t done v ts found (saved p (length F) (length T) bar) ∷ K)
       start r (ends (stop failure)) d →
       Lands code M after p e F T bar K (on_some_unchanged F T bar K d body after p t e found done v ts) r2 q c →
-      r2 ≤ 2 + 10 * d → Lands code M after p e F T bar K start (2 + r) q c
+      r2 ≤ 2 + 3 * d → Lands code M after p e F T bar K start (2 + r) q c
   some_fails {body = body} {after} {p} {e} {F} {T} {bar} {K} {t = t} {v} {done} {ts} {found} {d} {r =
       r} (lands_failed {f = f} {G = G} {U = U} new x is back same bound) other room =
       wider (2 + r) (omega arith)
@@ -280,13 +280,13 @@ module _ (code : Code) (I : List Specialization) (M : Meaning) where
       {c : ℕ} {q : Verdict Tree} (body : ℕ) (t : Tree) (done : Trees) (v : Tree) (ts : Trees) (found : Bool) (d : ℕ) →
       At code exit part_done → after ≡ suc exit →
       Lands code M after p e F T bar K (on_some F T bar K d body after p t e found (more v done) ts)
-      (some_room ts + 10 * d) q c →
-      Lands code M after p e F T bar K (on_some_unchanged F T bar K d body after p t e found done v ts) (2 + 10 * d) q c
+      (some_room ts + 3 * d) q c →
+      Lands code M after p e F T bar K (on_some_unchanged F T bar K d body after p t e found done v ts) (2 + 3 * d) q c
   some_unchanged {exit} {after} body t done v end true d at is x =
       let place : exit ≡ after - 1 = omega arith in
-      wider (2 + 10 * d) (omega arith)
+      wider (2 + 3 * d) (omega arith)
       (step_on (paid_step d (subst (λ i. At code i part_done) place at) (omega arith)) x)
-  some_unchanged body t done v end false d at is x = wider (2 + 10 * d) (omega arith) x
+  some_unchanged body t done v end false d at is x = wider (2 + 3 * d) (omega arith) x
   some_unchanged body t done v (more w ws) found d at is x = x
 
   pub some_end_row : {V : ResolvedEnvironment} {s : ResolvedStrategy} {e : Bindings} (b : ℕ) →
@@ -307,7 +307,7 @@ module _ (code : Code) (I : List Specialization) (M : Meaning) where
       let most = some_room_most ts in
       subst (λ w. Lands code M after p e F T bar K
       (running body p v e F T (length e)
-      (some_record body after t done v ts found (saved p (length F) (length T) bar) ∷ K) b) (2 + 10 * b) w c)
+      (some_record body after t done v ts found (saved p (length F) (length T) bar) ∷ K) b) (2 + 3 * b) w c)
       (whole_next t done u q)
       (some_part low (g1 loop.when C body 0 loop.exit p F T (length e)
       (some_record body after t done v ts found (saved p (length F) (length T) bar) ∷ K)
@@ -321,7 +321,7 @@ module _ (code : Code) (I : List Specialization) (M : Meaning) where
   some_stays_row {v = v} {ts} {e} {found} {c} b d q g1 g2 C body after p F T bar K t done loop low =
       subst (λ w. Lands code M after p e F T bar K
       (running body p v e F T (length e)
-      (some_record body after t done v ts found (saved p (length F) (length T) bar) ∷ K) b) (2 + 10 * b) w c)
+      (some_record body after t done v ts found (saved p (length F) (length T) bar) ∷ K) b) (2 + 3 * b) w c)
       (whole_next t done v q)
       (some_fails (g1 loop.when C body 0 loop.exit p F T (length e)
       (some_record body after t done v ts found (saved p (length F) (length T) bar) ∷ K)
@@ -333,7 +333,7 @@ module _ (code : Code) (I : List Specialization) (M : Meaning) where
       {found : Bool} {c : ℕ} {q : Verdict Tree} (b : ℕ) → Simulates code I M V s v e b q c → IsHalt q →
       SimulatesSome V s (more v ts) e found b (row_ended q) c
   some_halt_row {v = v} {ts = ts} {e} {found} b g h C body after p F T bar K t done loop low =
-      wider (2 + 10 * b) (omega arith)
+      wider (2 + 3 * b) (omega arith)
       (part_halts t done h (g loop.when C body 0 loop.exit p F T (length e)
       (some_record body after t done v ts found (saved p (length F) (length T) bar) ∷ K)
       b loop.range loop.represents loop.on_top (omega arith) (omega arith)))
@@ -343,8 +343,8 @@ module _ (code : Code) (I : List Specialization) (M : Meaning) where
       Simulates code I M V (some s) t e (suc b) (with_ending (rebuilt t) q) c
   some_row {V} {s} {t} {e} {c} b q g w C i x to p F T bar K l (some_range {j = j} at r at1) rep on_top low is =
       let most = some_room_most (parts t) in
-      subst (λ w. Lands code M (suc j) p e F T bar K (running i p t e F T bar K l) (10 * suc b) w c) (whole_first t q)
-      (wider (10 * suc b) (omega arith)
+      subst (λ w. Lands code M (suc j) p e F T bar K (running i p t e F T bar K l) (3 * suc b) w c) (whole_first t q)
+      (wider (3 * suc b) (omega arith)
       (step_on (paid_step b at (omega arith))
       (g C (suc i) (suc j) p F T bar K t end
       (record { when = w; exit = j; range = r; at = at1; ends = refl; represents = rep; on_top = on_top }) low)))

@@ -1,6 +1,6 @@
 -- The headline does not rest on this file.
 -- In each traversal no part is lost.
-use Rattle.std.specs.Prelude.{◌≡◌, ℕ, suc, ◌+◌, List, [], ◌∷◌, length}
+use Rattle.std.specs.Prelude.{◌≡◌, suc, ◌+◌, List, [], ◌∷◌, length}
 use Rattle.term_model.specs.Term.{list_of, parts_of}
 use Rattle.strat_steps.specs.State.{Record, call_record, choice_record, all_record, one_record, some_record, State, running, failing, ended}
 

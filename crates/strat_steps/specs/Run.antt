@@ -23,7 +23,7 @@ pub record EndsSo (M : Meaning) (P : ResolvedDefinitions) (i : ℕ) (t : Tree) (
   pub nodes : ℕ
   pub derived : RewritesByCoordinates M P i t o nodes
   pub paid : budget ≡ nodes + left
-  pub few : steps ≤ 10 * nodes + 10
+  pub few : steps ≤ 3 * nodes + 1
 
 -- what the result of a run says
 abbrev pub Says : Meaning → ResolvedDefinitions → ℕ → Tree → ℕ → Result → (left steps : ℕ) → Type 0
@@ -31,5 +31,5 @@ Says M P i t budget (rewritten u) left steps = (e : Bindings) × EndsSo M P i t 
 Says M P i t budget run_failed left steps = EndsSo M P i t budget failed left steps
 Says M P i t budget run_oversize left steps = EndsSo M P i t budget oversize left steps
 Says M P i t budget run_spent left steps =
-    ((o : Ending Tree) (n : ℕ) → RewritesByCoordinates M P i t o n → budget < n) × (steps ≤ 10 * budget + 10)
+    ((o : Ending Tree) (n : ℕ) → RewritesByCoordinates M P i t o n → budget < n) × (steps ≤ 3 * budget + 1)
 Says M P i t budget stuck left steps = ⊥

@@ -1,9 +1,10 @@
 //! Laws of the machine.
-ghost use Rattle.std.specs.Prelude.{◌≡◌, ℕ, ◌+◌, ◌++◌, List, length, take};
+ghost use Rattle.std.specs.Prelude.{◌≡◌, ◌↔◌, ℕ, ◌+◌, ◌++◌, List, length, take};
 ghost use Rattle.term_model.specs.Flat.{Meaning};
 ghost use Rattle.term_model.specs.Term.{Tree};
 ghost use Rattle.core_lang.specs.Environment.{Bindings};
-ghost use Rattle.core_lang.specs.Resolved.{ResolvedDefinitions};
+ghost use Rattle.core_lang.specs.Ending.{Ending};
+ghost use Rattle.core_lang.specs.Resolved.{ResolvedDefinitions, RewritesByCoordinates};
 ghost use Rattle.strat_steps.specs.Trail.{Restores};
 ghost use Rattle.strat_steps.specs.Binding.{undone, above, down_to};
 ghost use Rattle.strat_code.specs.Code.{Code};
@@ -29,6 +30,14 @@ pub fn code_runs()
         StandsFor code P i → (t : Tree) (budget : ℕ) →
         (r : Result) × (left : ℕ) × (steps : ℕ) ×
         Steps code M steps (start t budget) (ended r left) × Says M P i t budget r left steps }
+{}
+
+/// Code has one meaning: all programs for which it stands rewrite the same terms in the same way, by as many nodes, whatever
+/// primitives answer.
+pub fn code_means_one_thing()
+    ensures same { (code : Code) (M : Meaning) (P Q : ResolvedDefinitions) (i j : ℕ) →
+        StandsFor code P i → StandsFor code Q j → (t : Tree) (o : Ending Tree) (n : ℕ) →
+        RewritesByCoordinates M P i t o n ↔ RewritesByCoordinates M Q j t o n }
 {}
 
 /// A run has one end, and each state on the way leads to it.

@@ -3,4 +3,6 @@
 
 mod laws;
 
-pub use laws::{code_runs, records_restore, references_step, runs_are_unique};
+pub use laws::{
+    code_means_one_thing, code_runs, records_restore, references_step, runs_are_unique,
+};

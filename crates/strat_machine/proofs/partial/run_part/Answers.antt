@@ -24,14 +24,14 @@ step-requires-clause-loaded g c = let names = c.loop-alloc.invariant.names in
 
 pub overflow_add-steps : goal.overflow_add-steps
 overflow_add-steps g c =
-    let low : c.loop-alloc.steps < 10 * c.args.budget + 10 =
+    let low : c.loop-alloc.steps < 3 * c.args.budget + 1 =
     in_time c.instrs.ensures.stands c.requires.stands c.loop-alloc.invariant (c.loop-alloc-test.ensures.0 refl) in
     let small = c.ranges.budget.fits in
     omega arith
 
 pub loop-alloc-smaller : goal.loop-alloc-smaller
 loop-alloc-smaller g c =
-    let low : c.loop-alloc.steps < 10 * c.args.budget + 10 =
+    let low : c.loop-alloc.steps < 3 * c.args.budget + 1 =
     in_time c.instrs.ensures.stands c.requires.stands c.loop-alloc.invariant (c.loop-alloc-test.ensures.0 refl) in
     omega arith
 

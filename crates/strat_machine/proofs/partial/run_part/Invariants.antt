@@ -11,4 +11,4 @@ invariant-loop-alloc g l =
     l.initial.space l.fn.term l.budget l.steps l.space l.next l.position l.stacks
 
 abbrev pub decreases-loop-alloc : goal.decreases-loop-alloc
-decreases-loop-alloc g l = 10 * l.budget + 10 - l.steps
+decreases-loop-alloc g l = 3 * l.budget + 1 - l.steps

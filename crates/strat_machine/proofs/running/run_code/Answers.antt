@@ -38,14 +38,14 @@ fail-requires g c = way_holds (way_at c.in-Failing.is c.loop-next-2.invariant.0)
 
 pub overflow_add-steps : goal.overflow_add-steps
 overflow_add-steps g c =
-    let low : c.loop-next-2.steps < 10 * c.args.budget + 10 =
+    let low : c.loop-next-2.steps < 3 * c.args.budget + 1 =
     in_time c.instrs.ensures.stands c.requires.stands (way_at c.in-Running.is c.loop-next-2.invariant.0) tt in
     let small = c.ranges.budget.fits in
     omega arith
 
 pub overflow_add-steps-in-loop-next : goal.overflow_add-steps-in-loop-next
 overflow_add-steps-in-loop-next g c =
-    let low : c.loop-next-2.steps < 10 * c.args.budget + 10 =
+    let low : c.loop-next-2.steps < 3 * c.args.budget + 1 =
     in_time c.instrs.ensures.stands c.requires.stands (way_at c.in-Failing.is c.loop-next-2.invariant.0) tt in
     let small = c.ranges.budget.fits in
     omega arith
@@ -61,13 +61,13 @@ returns-in_err-next-2-clause-kept g c =
 
 pub loop-next-2-smaller : goal.loop-next-2-smaller
 loop-next-2-smaller g c =
-    let low : c.loop-next-2.steps < 10 * c.args.budget + 10 =
+    let low : c.loop-next-2.steps < 3 * c.args.budget + 1 =
     in_time c.instrs.ensures.stands c.requires.stands (way_at c.in-Running.is c.loop-next-2.invariant.0) tt in
     omega arith
 
 pub loop-next-smaller : goal.loop-next-smaller
 loop-next-smaller g c =
-    let low : c.loop-next-2.steps < 10 * c.args.budget + 10 =
+    let low : c.loop-next-2.steps < 3 * c.args.budget + 1 =
     in_time c.instrs.ensures.stands c.requires.stands (way_at c.in-Failing.is c.loop-next-2.invariant.0) tt in
     let more = c.loop-next-2.invariant.1 in
     omega arith

@@ -11,7 +11,7 @@ invariant-loop-next g l =
     l.fn.space l.fn.term l.budget l.steps l.space l.next l.position l.stacks
 
 abbrev pub decreases-loop-next : goal.decreases-loop-next
-decreases-loop-next g l = 10 * l.budget + 10 - l.steps
+decreases-loop-next g l = 3 * l.budget + 1 - l.steps
 
 abbrev pub invariant-loop-next-2 : goal.invariant-loop-next-2
 invariant-loop-next-2 g l =
@@ -20,4 +20,4 @@ invariant-loop-next-2 g l =
     l.fn.space l.fn.term l.budget l.steps l.space l.next l.position l.stacks × (l.initial.steps ≤ l.steps)
 
 abbrev pub decreases-loop-next-2 : goal.decreases-loop-next-2
-decreases-loop-next-2 g l = 10 * l.budget + 10 - l.steps
+decreases-loop-next-2 g l = 3 * l.budget + 1 - l.steps
