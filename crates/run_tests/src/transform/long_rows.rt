@@ -66,13 +66,13 @@ pub(crate) const LONG_ROWS: &[Row] = &[
         defs: &[
             ("strategies long = ![0", 1),
             (",0", 9_999),
-            ("] main = try(fail", 1),
-            ("; long", 1_000),
-            (")", 1),
+            ("] main = try([long", 1),
+            (",long", 999),
+            ("])", 1),
         ],
         term: &[("A", 1)],
         line: &[("A", 1)],
-        rules: Some(7),
+        rules: Some(8),
     },
 ];
 
