@@ -102,7 +102,7 @@ impl Output {
         Some(self.instrs.len())
     }
 
-    /// Says that the code of an expansion has ended which began at this place. Its size is counted.
+    /// Counts the size of the code of an expansion that began at this place and has ended.
     #[tactic(auto, unfolding(crate::specs::Output::emitted_of))]
     pub(crate) fn end_expansion(&mut self, began: Option<usize>)
         ensures { emitted_of self.new ≡ emitted_of self.old }
@@ -114,7 +114,7 @@ impl Output {
         self.expanded = self.expanded.saturating_add(self.size_since(place));
     }
 
-    /// The size of the code that has been emitted since this place.
+    /// Returns the size of the code that has been emitted since this place.
     fn size_since(&self, place: usize) -> usize {
         let Some(code) = self.instrs.as_slice().get(place..) else {
             return 0;

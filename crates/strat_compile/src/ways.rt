@@ -118,7 +118,7 @@ impl Output {
         Ok(self.has_room(EXPANSION_LIMIT.saturating_sub(left)))
     }
 
-    /// Whether there may be an expansion of so many strategies and nodes of patterns more.
+    /// Returns whether an expansion of so many strategies and nodes of patterns may begin.
     fn has_room(&self, more: usize) -> bool {
         let others = self.instrs.len().saturating_sub(self.expanded);
         let allowed = others.saturating_add(FREE_EXPANSIONS);
