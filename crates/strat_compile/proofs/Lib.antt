@@ -9,6 +9,7 @@ pub mod ClosedLaws
 pub mod KnownLaws
 pub mod NameLaws
 pub mod RenamedLaws
+pub mod SizeLaws
 pub mod ChoiceLaws
 pub mod BeginningLaws
 pub mod AskLaws

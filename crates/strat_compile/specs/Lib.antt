@@ -5,6 +5,7 @@ pub mod Known
 pub mod Ways
 pub mod Conditionals
 pub mod Output
+pub mod Size
 pub mod Chains
 pub mod Asking
 pub mod ChainOf

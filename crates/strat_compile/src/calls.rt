@@ -234,10 +234,10 @@ fn emit_in_place<'a>(
         arguments,
         outer: definition.layer,
     };
-    let was_expanding = out.begin_expansion();
+    let began = out.begin_expansion();
     let body = &definition.def.body;
     emit(alloc, out, &layers, places, nodes, body, depth)?;
-    out.end_expansion(was_expanding);
+    out.end_expansion(began);
     Ok(())
 }
 
@@ -273,9 +273,9 @@ fn emit_specialization<'a>(
         outer: definition.layer,
     };
     out.add_labels(1)?;
-    let was_expanding = out.begin_expansion();
+    let began = out.begin_expansion();
     emit_body(alloc, out, &frame, variables, &definition.def.body, depth)?;
-    out.end_expansion(was_expanding);
+    out.end_expansion(began);
     out.start(label);
     emit_code_call(alloc, out, layers, charged, at, terms, label, room, end)
 }

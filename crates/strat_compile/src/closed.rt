@@ -9,6 +9,7 @@ ghost use Rattle.strat_compile.specs.Sites.{program_layers};
 
 use crate::callee::sees_none;
 use crate::layers::{Layers, Reached, reach};
+use crate::pattern_size::{pattern_fits, patterns_fit};
 use core_lang::{Coordinate, CoreArm, CoreDef, CorePattern, CoreStrategy};
 
 /// Whether a layer has a variable at a position.
@@ -140,8 +141,26 @@ fn are_patterns_closed(patterns: &[CorePattern], layers: &Layers) -> bool
     true
 }
 
+/// Returns whether a pattern is closed and has no more nodes than the limit, off which they are taken.
+fn is_pattern_closed_within(p: &CorePattern, layers: &Layers, limit: &mut usize) -> bool
+    ensures closed { IsTrue result →
+        PatternInRange (program_layers (context_of layers.now)) (pattern_of p.now) }
+    ensures limit { limit.new ≤ limit.old }
+{
+    pattern_fits(p, limit) && is_pattern_closed(p, layers)
+}
+
+/// The same of patterns.
+fn are_patterns_closed_within(patterns: &[CorePattern], layers: &Layers, limit: &mut usize) -> bool
+    ensures closed { IsTrue result →
+        PatternsInRange (program_layers (context_of layers.now)) (patterns_of patterns.now) }
+    ensures limit { limit.new ≤ limit.old }
+{
+    patterns_fit(patterns, limit) && are_patterns_closed(patterns, layers)
+}
+
 /// Returns whether each coordinate in the strategy leads to something that the layers have. One is taken off the limit at each
-/// strategy, and the answer is no where none is left.
+/// strategy and at each node of a pattern, and the answer is no where none is left.
 #[cycle(closed)]
 pub(crate) fn is_closed(s: &CoreStrategy, layers: &Layers, limit: &mut usize) -> bool
     ensures closed { IsTrue result →
@@ -173,8 +192,8 @@ pub(crate) fn is_closed(s: &CoreStrategy, layers: &Layers, limit: &mut usize) ->
             }
             is_closed(otherwise, layers, limit)
         }
-        CoreStrategy::Match(p) => is_pattern_closed(p.pattern(), layers),
-        CoreStrategy::Build(p) => is_pattern_closed(p.pattern(), layers),
+        CoreStrategy::Match(p) => is_pattern_closed_within(p.pattern(), layers, limit),
+        CoreStrategy::Build(p) => is_pattern_closed_within(p.pattern(), layers, limit),
         CoreStrategy::Scope(count, body) => is_body_closed(0, *count, body, layers, limit),
         CoreStrategy::All(body) => is_closed(body, layers, limit),
         CoreStrategy::One(body) => is_closed(body, layers, limit),
@@ -187,7 +206,7 @@ pub(crate) fn is_closed(s: &CoreStrategy, layers: &Layers, limit: &mut usize) ->
             let at = target.coordinate();
             is_call_closed(at, strategies.as_slice(), terms.as_slice(), layers, limit)
         }
-        CoreStrategy::Primitive(_, terms) => are_patterns_closed(terms.as_slice(), layers),
+        CoreStrategy::Primitive(_, terms) => are_patterns_closed_within(terms, layers, limit),
     }
 }
 
@@ -322,5 +341,5 @@ fn is_call_closed(
     if !are_closed(strategies, layers, limit) {
         return false;
     }
-    are_patterns_closed(terms, layers)
+    are_patterns_closed_within(terms, layers, limit)
 }

@@ -5,6 +5,7 @@ ghost use Rattle.strat_compile.specs.Located.{code_in};
 ghost use Rattle.strat_compile.specs.Output.{emitted_of, nothing, onto, place, starting, with_labels};
 ghost use Rattle.strat_compile.specs.Tables.{SelectsNot};
 
+use crate::code_size::code_fits;
 use crate::located::{locate, located_tables};
 use crate::output::{Finished, Output};
 use crate::sources::{Sources, marks_of};
@@ -20,10 +21,15 @@ const VISITS_OF_ALTERNATIVE: usize = 500;
 const VISITS: usize = 200_000;
 
 impl Output {
-    /// No code. `recursive` says for each definition of the program whether it may reach itself by calls. `sources` is there if it is
-    /// kept where strategies stand in the definition file.
+    /// No code. `recursive` says for each definition of the program whether it may reach itself by calls, and `keeps_calls` whether no call is
+    /// expanded. `sources` is there if it is kept where strategies stand in the definition file.
     #[tactic(auto, unfolding(crate::specs::Output::emitted_of))]
-    pub(crate) fn new(alloc: Global, recursive: Vec<bool>, sources: Option<Sources>) -> Output
+    pub(crate) fn new(
+        alloc: Global,
+        recursive: Vec<bool>,
+        keeps_calls: bool,
+        sources: Option<Sources>,
+    ) -> Output
         ensures { emitted_of result ≡ nothing }
     {
         Output {
@@ -35,6 +41,7 @@ impl Output {
             is_expanding: false,
             is_sparing: false,
             expanded: 0,
+            keeps_calls,
             sources,
         }
     }
@@ -83,22 +90,40 @@ impl Output {
         self.visits = self.visits.saturating_sub(visits);
     }
 
-    /// Says that the code of an expansion begins. Returns whether that of one is emitted already.
+    /// Says that the code of an expansion begins. Returns at which place, unless it is a part of another one.
     #[tactic(auto, unfolding(crate::specs::Output::emitted_of))]
-    pub(crate) fn begin_expansion(&mut self) -> bool
+    pub(crate) fn begin_expansion(&mut self) -> Option<usize>
         ensures { emitted_of self.new ≡ emitted_of self.old }
     {
-        let was_expanding = self.is_expanding;
+        if self.is_expanding {
+            return None;
+        }
         self.is_expanding = true;
-        was_expanding
+        Some(self.instrs.len())
     }
 
-    /// Says that it has ended, and whether that of another one is emitted.
+    /// Counts the size of the code of an expansion that began at this place and has ended.
     #[tactic(auto, unfolding(crate::specs::Output::emitted_of))]
-    pub(crate) fn end_expansion(&mut self, was_expanding: bool)
+    pub(crate) fn end_expansion(&mut self, began: Option<usize>)
         ensures { emitted_of self.new ≡ emitted_of self.old }
     {
-        self.is_expanding = was_expanding;
+        let Some(place) = began else {
+            return;
+        };
+        self.is_expanding = false;
+        self.expanded = self.expanded.saturating_add(self.size_since(place));
+    }
+
+    /// Returns the size of the code that has been emitted since this place.
+    fn size_since(&self, place: usize) -> usize {
+        let Some(code) = self.instrs.as_slice().get(place..) else {
+            return 0;
+        };
+        let mut left = usize::MAX;
+        if !code_fits(code, &mut left) {
+            return usize::MAX;
+        }
+        usize::MAX.saturating_sub(left)
     }
 
     /// Adds labels. Where they start will be known later.

@@ -4,12 +4,13 @@ ghost use Rattle.std.specs.Prelude.{◌≤◌};
 use crate::callee::{callee, handing, program_definition};
 use crate::known::{known_arguments, own_specialization};
 use crate::layers::{Callee, Handing, Known, Layers, ProgramDefinition};
+use crate::pattern_size::{pattern_fits, patterns_fit};
 use crate::recursion::Inlining;
-use core_lang::{Coordinate, CoreArm, CoreDef, CoreStrategy};
+use core_lang::{Coordinate, CoreArm, CoreDef, CorePattern, CoreStrategy};
 use std::alloc::{AllocError, Global};
 
-/// Returns whether no more strategies than the limit would be emitted for this one, with calls in place and specializations, and
-/// none deeper than this. One is taken off the limit for each.
+/// Returns whether no more strategies and nodes of patterns than the limit would be emitted for this strategy, with calls in place and
+/// specializations, and none deeper than this. One is taken off the limit for each.
 #[cycle(fitting)]
 pub(crate) fn fits(
     alloc: Global,
@@ -55,19 +56,16 @@ pub(crate) fn fits(
             let_fits(alloc, layers, defs.as_slice(), body, inlining, depth, limit)
         }
         CoreStrategy::Call(target, strategies, terms) => {
-            let has_terms = !terms.is_empty();
-            call_fits(
-                alloc,
-                layers,
-                target.coordinate(),
-                strategies.as_slice(),
-                has_terms,
-                inlining,
-                depth,
-                limit,
-            )
+            let at = target.coordinate();
+            let strategies = strategies.as_slice();
+            let terms = terms.as_slice();
+            call_fits(alloc, layers, at, strategies, terms, inlining, depth, limit)
         }
-        _ => Ok(true),
+        CoreStrategy::Match(p) => Ok(pattern_fits(p.pattern(), limit)),
+        CoreStrategy::Build(p) => Ok(pattern_fits(p.pattern(), limit)),
+        CoreStrategy::Primitive(_, terms) => Ok(patterns_fit(terms.as_slice(), limit)),
+        CoreStrategy::Id => Ok(true),
+        CoreStrategy::Fail => Ok(true),
     }
 }
 
@@ -183,13 +181,16 @@ fn call_fits(
     layers: &Layers,
     at: Coordinate,
     strategies: &[CoreStrategy],
-    has_terms: bool,
+    terms: &[CorePattern],
     inlining: &Inlining,
     depth: usize,
     limit: &mut usize,
 ) -> Result<bool, AllocError>
     ensures { limit.new ≤ limit.old }
 {
+    if !patterns_fit(terms, limit) {
+        return Ok(false);
+    }
     if let Callee::Given(known) = callee(&*layers, at)? {
         return fits(alloc, known.layers, known.strategy, inlining, depth, limit);
     }
@@ -208,7 +209,7 @@ fn call_fits(
         definition,
         at.slot,
         arguments.as_slice(),
-        has_terms,
+        !terms.is_empty(),
         inlining,
         depth,
         limit,
@@ -276,11 +277,22 @@ fn arguments_fit(
                 depth,
                 limit,
             )?,
-            Handing::Parameter(_) => true,
+            Handing::Parameter(_) => one_fits(limit),
         };
         if !is_within {
             return Ok(false);
         }
     }
     Ok(true)
+}
+
+/// Takes one off the limit. Returns false if nothing is left.
+fn one_fits(limit: &mut usize) -> bool
+    ensures { limit.new ≤ limit.old }
+{
+    if *limit == 0 {
+        return false;
+    }
+    *limit -= 1;
+    true
 }

@@ -43,7 +43,7 @@ pub(crate) fn emit_open_call<'a>(
         (call at (strategies_of strategies.now) (patterns_of terms.now))
         (emitted_of out.old) (emitted_of out.new)) }
 {
-    if out.keeps_calls() {
+    if out.keeps_calls {
         return emit_any_call(
             alloc, out, layers, charged, at, strategies, terms, entry, depth,
         );

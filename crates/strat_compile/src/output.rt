@@ -23,9 +23,11 @@ pub(crate) struct Output {
     pub(crate) is_expanding: bool,
     /// Whether only definitions with strategy parameters are in place in the expansion.
     pub(crate) is_sparing: bool,
-    /// How many strategies all expansions have.
+    /// The size of the code of all expansions.
     pub(crate) expanded: usize,
-    /// Where strategies stand in the definition file, if that is kept. Then each call is a call: none is expanded.
+    /// Whether each call is a call: none is expanded.
+    pub(crate) keeps_calls: bool,
+    /// Where strategies stand in the definition file, if that is kept.
     pub(crate) sources: Option<Sources>,
     ghost tidy: { HaveTables tables.items instrs.items },
 }

@@ -54,11 +54,6 @@ impl Sources {
 }
 
 impl Output {
-    /// Whether each call is to be a call.
-    pub(crate) fn keeps_calls(&self) -> bool {
-        self.sources.is_some()
-    }
-
     /// The strategy of the newest instruction stands at this byte of the definition file, if at one that is known.
     #[tactic(auto, unfolding(crate::specs::Output::emitted_of))]
     #[inline(never)]

@@ -21,15 +21,15 @@ pub(crate) enum Way {
     Ordinary,
 }
 
-/// How many strategies an expansion has at most: what is emitted in place of a call, or for a specialization and what is in place
-/// there.
-pub(crate) const EXPANSION_LIMIT: usize = 500;
+/// How many strategies and nodes of patterns an expansion has at most: what is emitted in place of a call, or for a specialization and
+/// what is in place there.
+pub(crate) const EXPANSION_LIMIT: usize = 600;
 
 /// How deep strategies are nested at most in an expansion, so that emitting it takes little of the call stack.
 const EXPANSION_DEPTH: usize = 64;
 
-/// How many strategies all expansions have at most, beside one for each other instruction: so code is linear in the program, with a
-/// small factor.
+/// How large the code of all expansions is at most, beside one for each other instruction, before the last expansion is emitted: so code is
+/// linear in the program, with a small factor.
 const FREE_EXPANSIONS: usize = 10_000;
 
 /// How a call is made: in place, where the definition has no term parameters and does not call itself, by a specialization, where
@@ -45,7 +45,7 @@ pub(crate) fn way_of<'a>(
     ensures view { OnOk result (emitted_of out.new ≡ emitted_of out.old) }
     ensures way { IfOk result (λ way. AllowsWay way definition.entry terms.now) }
 {
-    if out.keeps_calls() {
+    if out.keeps_calls {
         return Ok(Way::Ordinary);
     }
     let has_terms = !terms.is_empty();
@@ -72,8 +72,7 @@ impl Output {
         }
     }
 
-    /// Whether an expansion is small enough, if need be with definitions in place that have strategy parameters alone. It is
-    /// counted then.
+    /// Whether an expansion is small enough, if need be with definitions in place that have strategy parameters alone.
     fn may_expand<'a>(
         &mut self,
         alloc: Global,
@@ -99,17 +98,15 @@ impl Output {
         self.is_sparing = is_sparing;
     }
 
-    /// Whether an expansion is small enough, which is counted then.
+    /// Whether an expansion is small enough.
     fn fits_within<'a>(
-        &mut self,
+        &self,
         alloc: Global,
         slot: usize,
         definition: ProgramDefinition<'a>,
         arguments: &'a [Known<'a>],
         has_terms: bool,
-    ) -> Result<bool, AllocError>
-        ensures { emitted_of self.new ≡ emitted_of self.old }
-    {
+    ) -> Result<bool, AllocError> {
         let mut left = EXPANSION_LIMIT;
         let depth = EXPANSION_DEPTH;
         let inlining = self.inlining();
@@ -118,21 +115,13 @@ impl Output {
         )? {
             return Ok(false);
         }
-        Ok(self.count_expansion(EXPANSION_LIMIT.saturating_sub(left)))
+        Ok(self.has_room(EXPANSION_LIMIT.saturating_sub(left)))
     }
 
-    /// Counts the strategies of an expansion. False where all expansions have enough.
-    #[tactic(auto, unfolding(crate::specs::Output::emitted_of))]
-    fn count_expansion(&mut self, strategies: usize) -> bool
-        ensures { emitted_of self.new ≡ emitted_of self.old }
-    {
+    /// Returns whether an expansion of so many strategies and nodes of patterns may begin.
+    fn has_room(&self, more: usize) -> bool {
         let others = self.instrs.len().saturating_sub(self.expanded);
         let allowed = others.saturating_add(FREE_EXPANSIONS);
-        let expanded = self.expanded.saturating_add(strategies);
-        if expanded > allowed {
-            return false;
-        }
-        self.expanded = expanded;
-        true
+        self.expanded.saturating_add(more) <= allowed
     }
 }

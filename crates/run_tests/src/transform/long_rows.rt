@@ -61,6 +61,19 @@ pub(crate) const LONG_ROWS: &[Row] = &[
         line: &[("A", 1)],
         rules: Some(196_607),
     },
+    // a pattern of 10,000 parts, of which the code has one copy, not one for each of 1,000 calls
+    Row {
+        defs: &[
+            ("strategies long = ![0", 1),
+            (",0", 9_999),
+            ("] main = try([long", 1),
+            (",long", 999),
+            ("])", 1),
+        ],
+        term: &[("A", 1)],
+        line: &[("A", 1)],
+        rules: Some(8),
+    },
 ];
 
 /// Definitions that have no outcome.

@@ -119,7 +119,7 @@ calls::emit_specialization-returns t c =
     on_ok_weaker c.emit_code_call.result
     (λ last. apart_row _ _ c.args.at _ c.args.definition _ _ _ _ _ _ _ _ _ _ _ _ c.requires
     (site_specialized _ _ _ _ _ _) c.labels-label.ensures c.room_of-room.ensures c.place-end.ensures
-    c.in_ok-add_labels.ensures c.begin_expansion-was_expanding.ensures c.in_ok-emit_body.ensures c.end_expansion.ensures
+    c.in_ok-add_labels.ensures c.begin_expansion-began.ensures c.in_ok-emit_body.ensures c.end_expansion.ensures
     c.start.ensures last) c.emit_code_call.ensures
 
 pub open_calls::emit_part-returns-in_ok-nodes-in-Argument : goal.open_calls::emit_part-returns-in_ok-nodes-in-Argument

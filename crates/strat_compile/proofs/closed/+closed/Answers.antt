@@ -21,4 +21,4 @@ is_closed-returns-else-not-are_arms_closed-clause-closed t c = λ e.
 pub is_call_closed-returns-clause-closed : goal.is_call_closed-returns-clause-closed
 is_call_closed-returns-clause-closed t c = λ e.
     call_closed _ c.args.at c.args.strategies.now c.args.terms.now (c.has_callee.ensures c.if-not-has_callee.false)
-    (c.are_closed.ensures.closed c.if-not-are_closed.false) (c.are_patterns_closed.ensures e)
+    (c.are_closed.ensures.closed c.if-not-are_closed.false) (c.are_patterns_closed_within.ensures.closed e)
