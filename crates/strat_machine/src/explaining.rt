@@ -1,5 +1,6 @@
 //! What explanations of a run are made of: what it cost, how it ended, and where it stood.
-ghost use Rattle.std.specs.Prelude.{◌≡◌, IsTrue, IfOk};
+ghost use Rattle.std.specs.Prelude.{◌≡◌, ◌≤◌, IsTrue, IfOk};
+ghost use Rattle.term_model.specs.Limits.{max_budget};
 ghost use Rattle.term_model.specs.Space.{KeepsNames};
 ghost use Rattle.prim_registry.specs.Entries.{IsHonest, entries_of};
 ghost use Rattle.prim_registry.specs.Registered.{meaning_of};
@@ -75,8 +76,9 @@ pub(crate) fn account_of<S: TermSpace, M: PrimMeaning>(
     program: &LoadedProgram<S::Name>,
     registry: &Registry<M>,
     term: S::Ref,
-    budget: u32,
+    budget: u64,
 ) -> Result<Account, AllocError>
+    requires budget { budget ≤ max_budget }
     requires clear { IsClear stacks.old }
     requires stands { IsTrue (S.space.stands space.old term) }
     requires honest { IsHonest M.answer registry.now }
@@ -123,9 +125,10 @@ pub(crate) fn stand_after<S: TermSpace, M: PrimMeaning>(
     program: &LoadedProgram<S::Name>,
     registry: &Registry<M>,
     term: S::Ref,
-    budget: u32,
+    budget: u64,
     count: u64,
 ) -> Result<Option<Stand>, AllocError>
+    requires budget { budget ≤ max_budget }
     requires clear { IsClear stacks.old }
     requires stands { IsTrue (S.space.stands space.old term) }
     requires honest { IsHonest M.answer registry.now }

@@ -1,5 +1,6 @@
 //! The machine: it runs code on the terms of a space.
 ghost use Rattle.std.specs.Prelude.{◌≡◌, ◌+◌, ◌*◌, ◌≤◌, ℕ, List, IsTrue, IfOk, IfErr};
+ghost use Rattle.term_model.specs.Limits.{max_budget};
 ghost use Rattle.term_model.specs.Space.{Keeps, KeepsNames};
 ghost use Rattle.core_lang.specs.Named.{Name};
 ghost use Rattle.core_lang.specs.Primitives.{AreOccurring};
@@ -81,7 +82,7 @@ impl<S: TermSpace + Drop> Machine<S> {
         self.space.leave(self.alloc, reference)
     }
 
-    /// Runs the code on the term within a budget of rules. The outcome is that of every program that the code stands for, where
+    /// Runs the code on the term within a budget of rules, at most 10^18. The outcome is that of every program that the code stands for, where
     /// primitives return what those of the registry do.
     ///
     /// `rules` is the number of nodes of the derivation, or the whole budget where it is spent before the derivation is
@@ -91,9 +92,10 @@ impl<S: TermSpace + Drop> Machine<S> {
         &mut self,
         code: &Code,
         term: S::Ref,
-        budget: u32,
+        budget: u64,
         registry: &Registry<M>,
     ) -> Result<Run<S::Ref>, Fault>
+        requires budget { budget ≤ max_budget }
         requires stands { IsTrue (S.space.stands self.old term) }
         requires honest { IsHonest M.answer registry.now }
         requires covers { Covers registry.now code.now.prims }
@@ -142,9 +144,10 @@ impl<S: TermSpace + Drop> Machine<S> {
         &mut self,
         code: &Code,
         term: S::Ref,
-        budget: u32,
+        budget: u64,
         registry: &Registry<M>,
     ) -> Result<Account, Fault>
+        requires budget { budget ≤ max_budget }
         requires stands { IsTrue (S.space.stands self.old term) }
         requires honest { IsHonest M.answer registry.now }
         requires covers { Covers registry.now code.now.prims }
@@ -183,10 +186,11 @@ impl<S: TermSpace + Drop> Machine<S> {
         &mut self,
         code: &Code,
         term: S::Ref,
-        budget: u32,
+        budget: u64,
         registry: &Registry<M>,
         count: u64,
     ) -> Result<Option<Stand>, Fault>
+        requires budget { budget ≤ max_budget }
         requires stands { IsTrue (S.space.stands self.old term) }
         requires honest { IsHonest M.answer registry.now }
         requires covers { Covers registry.now code.now.prims }

@@ -1,4 +1,5 @@
 //! The first steps of a run, and what is noted of them.
+ghost use Rattle.term_model.specs.Limits.{max_budget};
 ghost use Rattle.term_model.specs.Space.{KeepsNames};
 ghost use Rattle.std.specs.Prelude.{◌≡◌, ◌+◌, ◌*◌, ◌^◌, ◌<◌, ◌≤◌, IsTrue, IfOk, length, sum};
 ghost use Rattle.prim_registry.specs.Entries.{IsHonest, entries_of};
@@ -162,10 +163,11 @@ pub(crate) fn run_part<S: TermSpace, M: PrimMeaning>(
     program: &LoadedProgram<S::Name>,
     registry: &Registry<M>,
     term: S::Ref,
-    budget: u32,
+    budget: u64,
     count: u64,
     notes: &mut Notes,
 ) -> Result<Progress<S::Ref>, AllocError>
+    requires budget { budget ≤ max_budget }
     requires clear { IsClear stacks.old }
     requires stands { IsTrue (S.space.stands space.old term) }
     requires honest { IsHonest M.answer registry.now }

@@ -4,7 +4,7 @@ use Rattle.strat_machine.proofs.explaining.account_of.Goals as goal
 
 pub ending_of-ending-requires : goal.ending_of-ending-requires
 ending_of-ending-requires g c =
-    let small = c.ranges.budget.fits in
+    let small = c.requires.budget in
     c.in_ok-progress.ensures.ended (omega arith)
 
 pub returns-clause-account : goal.returns-clause-account

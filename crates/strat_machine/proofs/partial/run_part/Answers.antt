@@ -29,7 +29,7 @@ step-requires-clause-loaded g c = let names = c.loop-alloc.invariant.0.names in
 pub add-requires : goal.add-requires
 add-requires g c =
     let most = c.loop-alloc.invariant.1.most in
-    let small = c.ranges.budget.fits in
+    let small = c.requires.budget in
     let is = c.saturating_sub-charged.ensures in
     omega arith
 
@@ -37,7 +37,7 @@ pub overflow_add-steps : goal.overflow_add-steps
 overflow_add-steps g c =
     let low : c.loop-alloc.steps < 10 * c.args.budget + 10 =
     in_time c.instrs.ensures.stands c.requires.stands c.loop-alloc.invariant.0 (c.loop-alloc-test.ensures.0 refl) in
-    let small = c.ranges.budget.fits in
+    let small = c.requires.budget in
     omega arith
 
 pub loop-alloc-smaller : goal.loop-alloc-smaller
