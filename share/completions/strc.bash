@@ -17,7 +17,7 @@ _strc() {
         --with) ;; # a file
         *)
             if [[ $current == -* ]]; then
-                COMPREPLY=($(compgen -W '--rules --main --strict --stats --explain --raw --pretty --with --check -h --help -V --version' -- "$current"))
+                COMPREPLY=($(compgen -W '--rules --no-limit --main --strict --stats --explain --raw --pretty --with --check -h --help -V --version' -- "$current"))
             fi
             ;;
     esac

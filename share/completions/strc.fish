@@ -1,5 +1,6 @@
 # Completion of strc for fish: its options; files are completed as for each command.
 complete -c strc -l rules -x -d 'The most rules of the run, from 0 to 1000000000'
+complete -c strc -l no-limit -d 'Let the run take up to 1000000000000000000 rules'
 complete -c strc -l main -x -d 'The strategy that is applied'
 complete -c strc -l strict -d 'Refuse a term with an application that is not declared'
 complete -c strc -l stats -d 'Print how many rules, steps and shapes of terms the run took'

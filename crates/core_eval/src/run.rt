@@ -26,7 +26,7 @@ pub fn eval<M: PrimMeaning>(
     alloc: Global,
     core: &Core,
     term: &Term,
-    budget: u32,
+    budget: u64,
     registry: &Registry<M>,
 ) -> Result<Run<Term>, Fault>
     requires budget { budget ≤ max_recursive_budget }

@@ -9,5 +9,5 @@ pub struct State {
     /// The places of all layers, innermost last.
     pub places: Vec<Option<Term>>,
     /// How many nodes a derivation may still have.
-    pub budget: u32,
+    pub budget: u64,
 }

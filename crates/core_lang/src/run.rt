@@ -13,6 +13,6 @@ pub enum Outcome<R> {
 #[derive(Clone, Debug, Drop, PartialEq, Eq)]
 pub struct Run<R> {
     pub outcome: Outcome<R>,
-    pub rules: u32,
+    pub rules: u64,
     pub steps: u64,
 }

@@ -33,7 +33,7 @@ pub enum Subject {
 /// What a run used: how many rules, how many steps of the machine, and how many shapes of terms the store holds at its end.
 #[derive(Clone, Copy, Debug, PartialEq, Eq)]
 pub struct Used {
-    pub rules: u32,
+    pub rules: u64,
     pub steps: u64,
     pub shapes: usize,
 }

@@ -40,7 +40,7 @@ impl Totals {
         match compared {
             Compared::Same { rules, steps } => {
                 self.runs = self.runs.saturating_add(1);
-                self.rules = self.rules.saturating_add(u64::from(*rules));
+                self.rules = self.rules.saturating_add(*rules);
                 self.steps = self.steps.saturating_add(*steps);
                 true
             }

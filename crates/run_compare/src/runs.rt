@@ -1,4 +1,5 @@
 //! The two runs of a case.
+ghost use Rattle.std.specs.Prelude.{◌≤◌};
 ghost use Rattle.prim_registry.specs.Entries.{Covers, IsHonest};
 
 use crate::case::Case;
@@ -25,7 +26,7 @@ const MOST: u32 = 2_000;
 #[derive(Drop)]
 pub(crate) enum Compared {
     /// Both end in the same way after the same number of rules; with the steps that the machine took.
-    Same { rules: u32, steps: u64 },
+    Same { rules: u64, steps: u64 },
     /// They end in different ways, or after different numbers of rules, or the machine took too many steps for its rules.
     Different,
     /// The definitions or the term are refused.
@@ -48,14 +49,14 @@ pub(crate) fn compare(
     if !registry.covers(core.prims()) {
         return Ok(Compared::Refused);
     }
-    let budget = case.budget.min(MOST);
+    let budget = u64::from(case.budget.min(MOST));
     let plain = eval(alloc, &core, &term, budget, registry)?;
     let store = StoreSpace::new(alloc, HashKeys::known());
     let compiled = run_compiled(alloc, store, &core, &term, budget, registry)?;
     if plain.outcome != compiled.outcome || plain.rules != compiled.rules {
         return Ok(Compared::Different);
     }
-    if compiled.steps > 3 * u64::from(compiled.rules) + 1 {
+    if compiled.steps > compiled.rules.saturating_mul(3).saturating_add(1) {
         return Ok(Compared::Different);
     }
     Ok(Compared::Same {
@@ -87,9 +88,10 @@ fn run_compiled<S: TermSpace + Drop>(
     space: S,
     core: &Core,
     term: &Term,
-    budget: u32,
+    budget: u64,
     registry: &Registry<Standard>,
 ) -> Result<Run<Term>, Fault>
+    requires budget { budget ≤ 2_000 }
     requires honest { IsHonest ⟦<Standard as PrimMeaning>⟧.answer registry.now }
     requires covers { Covers registry.now core.now.prims }
 {

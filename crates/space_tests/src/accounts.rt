@@ -94,8 +94,14 @@ fn account_of_run(
     if !registry.covers(code.prims()) {
         return Err(Fault::UnknownPrimitive);
     }
-    let account = machine.account(code, term.clone()?, budget, &registry)?;
-    let stand = machine.stand(code, term, budget, &registry, account.before_last)?;
+    let account = machine.account(code, term.clone()?, u64::from(budget), &registry)?;
+    let stand = machine.stand(
+        code,
+        term,
+        u64::from(budget),
+        &registry,
+        account.before_last,
+    )?;
     Ok(account_text(alloc, code, &account, stand.as_ref())?)
 }
 

@@ -218,7 +218,7 @@ impl<S: TermSpace + Drop> TermSpace for Counting<S> {
 #[derive(Drop)]
 pub(crate) struct Seen {
     pub(crate) written: Vec<u8>,
-    pub(crate) rules: u32,
+    pub(crate) rules: u64,
     pub(crate) held: usize,
     pub(crate) back: u32,
 }
@@ -229,7 +229,7 @@ fn run<S: TermSpace + Drop>(
     machine: &mut Machine<S>,
     code: &Code,
     term: &Term,
-) -> Result<(Vec<u8>, u32), Fail> {
+) -> Result<(Vec<u8>, u64), Fail> {
     let registry = Registry::<Standard>::new(alloc);
     if !registry.covers(code.prims()) {
         return Err(Fail::new("a primitive"));
@@ -275,7 +275,7 @@ pub(crate) fn run_in_store(alloc: Global, definitions: &[u8], text: &[u8]) -> Re
 fn gives_back(rt: HostRuntime) -> Result<(), Fail> {
     for (definitions, text, wanted, rules, held, once) in ROWS {
         let seen = run_in_store(rt.alloc(), definitions, text)?;
-        if &seen.written[..] != *wanted || seen.rules != *rules {
+        if &seen.written[..] != *wanted || seen.rules != u64::from(*rules) {
             return Err(Fail::new("another outcome"));
         }
         if seen.held != *held || seen.back == 0 || (seen.back == 1) != *once {

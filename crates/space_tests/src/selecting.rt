@@ -42,7 +42,7 @@ const LISTS: &[u8] = b"signature constructors single : T
 #[derive(Drop)]
 struct Ran {
     written: Vec<u8>,
-    rules: u32,
+    rules: u64,
     steps: u64,
 }
 
@@ -59,7 +59,7 @@ fn run<S: TermSpace + Drop>(
         return Err(Fail::new("a primitive"));
     }
     let entered = machine.enter(term)?;
-    let run = machine.run(code, entered, budget, &registry)?;
+    let run = machine.run(code, entered, u64::from(budget), &registry)?;
     let mut written = Vec::new(alloc);
     if let Outcome::Rewritten(found) = &run.outcome {
         write_term(&machine.leave(found)?, &mut written)?;
@@ -112,12 +112,12 @@ fn alternatives(rt: HostRuntime) -> Result<(), Fail> {
     let alloc = rt.alloc();
     for (definitions, text, wanted, rules) in ROWS {
         let ran = run_in_store(alloc, definitions, text, 100)?;
-        if &ran.written[..] != *wanted || ran.rules != *rules {
+        if &ran.written[..] != *wanted || ran.rules != u64::from(*rules) {
             return Err(Fail::new("another outcome"));
         }
         let short = rules.saturating_sub(1);
         let spent = run_in_store(alloc, definitions, text, short)?;
-        if !spent.written.is_empty() || spent.rules != short {
+        if !spent.written.is_empty() || spent.rules != u64::from(short) {
             return Err(Fail::new("spent with one rule less"));
         }
     }

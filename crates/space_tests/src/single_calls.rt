@@ -60,7 +60,7 @@ pub(crate) fn code_of(alloc: Global, definitions: &[u8]) -> Result<Code, Fault> 
 }
 
 /// The text of the term that the core rewrites to within the budget, and the rules; no text where the budget is spent.
-fn run(alloc: Global, core: &Core, text: &[u8], budget: u32) -> Result<(Vec<u8>, u32), Fail>
+fn run(alloc: Global, core: &Core, text: &[u8], budget: u64) -> Result<(Vec<u8>, u64), Fail>
     requires { budget ≤ 2_000 }
 {
     let registry = Registry::<Standard>::new(alloc);

@@ -10,6 +10,7 @@ ghost use Rattle.str_pipeline.specs.Judged.{AreAccepted};
 ghost use Rattle.str_pipeline.specs.Written.{line_of, refusal_line};
 ghost use Rattle.str_pipeline.specs.Steps.{IsStop, IsProgramOf, IsTermRead, IsTextResult, status_of, text_line};
 ghost use Rattle.str_pipeline.specs.Faults.{IsOfDefinitions, IsTransferFault, is_read_fault, is_write_fault};
+ghost use Rattle.term_model.specs.Limits.{max_budget};
 ghost use Rattle.term_model.specs.Results.{Returns};
 
 use crate::program::Program;
@@ -32,10 +33,10 @@ pub const MAX_DEFINITIONS: usize = 1_048_576;
 pub const MAX_TERM: usize = 16_777_216;
 
 /// The greatest budget of a run, in rules.
-pub const MAX_BUDGET: u32 = 1_000_000_000;
+pub const MAX_BUDGET: u64 = 1_000_000_000_000_000_000;
 
 /// The budget of a run for which none is asked, in rules.
-pub const DEFAULT_BUDGET: u32 = 1_000_000;
+pub const DEFAULT_BUDGET: u64 = 1_000_000;
 
 /// Reads a term into a space, and in strict mode asks that the signature declares each application in it.
 fn read_term_in<S: TermSpace>(
@@ -111,6 +112,7 @@ pub(crate) fn outcome_of<S: TermSpace + Holds + Drop, M: PrimMeaning>(
     notes: &mut RunNotes,
 ) -> Result<Outcome<Vec<u8>>, Fault>
     requires fits { vec_len text ≤ max_term }
+    requires budget { options.now.budget ≤ max_budget }
     requires honest { IsHonest M.answer registry.now }
     requires covers { Covers registry.now program.code.prims }
     ensures result { (defs : List ℕ) (f : FileTree) →

@@ -1,4 +1,6 @@
 //! Why a run has no result: it is run again, in code that knows where its strategies stand.
+ghost use Rattle.std.specs.Prelude.{◌≤◌};
+ghost use Rattle.term_model.specs.Limits.{max_budget};
 ghost use Rattle.prim_registry.specs.Entries.{IsHonest};
 
 use crate::callers::{call_sites, callers_line, search_site};
@@ -23,7 +25,7 @@ use strat_machine::{Ending, Stand};
 use term_model::{Fault, Term};
 
 /// The most rules for which a run is followed.
-const MOST_RULES: u32 = 100_000_000;
+const MOST_RULES: u64 = 100_000_000;
 
 /// The most bytes of the text of a term that are shown.
 const MOST_OF_TERM: usize = 100;
@@ -101,6 +103,7 @@ fn explanation_of<M: PrimMeaning>(
     options: &Options,
     registry: &Registry<M>,
 ) -> Result<Explanation, Fault>
+    requires budget { rerun.budget ≤ max_budget }
     requires honest { IsHonest M.answer registry.now }
 {
     let program = make_program(

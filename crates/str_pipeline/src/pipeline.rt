@@ -41,6 +41,7 @@ fn outcome_apart<D: Source, T: Source, M: PrimMeaning>(
     registry: &Registry<M>,
     notes: &mut RunNotes,
 ) -> Result<Outcome<Vec<u8>>, Fault>
+    requires budget { options.now.budget ≤ max_budget }
     requires honest { IsHonest M.answer registry.now }
     ensures result { IfSome (D.reader.coming defs.old)
         (λ d. IfSome (T.reader.coming term.old) (λ t.
@@ -84,6 +85,7 @@ fn outcome_joined<S: Source, M: PrimMeaning>(
     registry: &Registry<M>,
     notes: &mut RunNotes,
 ) -> Result<Outcome<Vec<u8>>, Fault>
+    requires budget { options.now.budget ≤ max_budget }
     requires honest { IsHonest M.answer registry.now }
     ensures result { IfSome (S.reader.coming input.old)
         (λ told. (d t : List ℕ) → IsSplit told d t →

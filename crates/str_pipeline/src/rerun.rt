@@ -1,4 +1,6 @@
 //! Runs of code that is followed: what a run did, and where it stood, found by running it again.
+ghost use Rattle.std.specs.Prelude.{◌≤◌};
+ghost use Rattle.term_model.specs.Limits.{max_budget};
 ghost use Rattle.prim_registry.specs.Entries.{Covers, IsHonest};
 
 use crate::followed::FollowedSpace;
@@ -14,7 +16,7 @@ use term_model::Fault;
 #[derive(Clone, Copy)]
 pub(crate) struct Rerun<'a> {
     pub(crate) text: &'a [u8],
-    pub(crate) budget: u32,
+    pub(crate) budget: u64,
     pub(crate) keys: HashKeys,
 }
 
@@ -35,6 +37,7 @@ pub(crate) fn run_again<M: PrimMeaning>(
     rerun: Rerun<'_>,
     registry: &Registry<M>,
 ) -> Result<Evidence, Fault>
+    requires budget { rerun.budget ≤ max_budget }
     requires honest { IsHonest M.answer registry.now }
     requires covers { Covers registry.now code.now.prims }
 {
@@ -61,6 +64,7 @@ fn account_of<M: PrimMeaning>(
     rerun: Rerun<'_>,
     registry: &Registry<M>,
 ) -> Result<Account, Fault>
+    requires budget { rerun.budget ≤ max_budget }
     requires honest { IsHonest M.answer registry.now }
     requires covers { Covers registry.now code.now.prims }
 {
@@ -78,6 +82,7 @@ fn stand_after<M: PrimMeaning>(
     registry: &Registry<M>,
     count: u64,
 ) -> Result<Option<Stand>, Fault>
+    requires budget { rerun.budget ≤ max_budget }
     requires honest { IsHonest M.answer registry.now }
     requires covers { Covers registry.now code.now.prims }
 {

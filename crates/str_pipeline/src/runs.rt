@@ -1,5 +1,6 @@
 //! Runs of code, from a term in a space to the text of the term that it rewrites to.
-ghost use Rattle.std.specs.Prelude.{◌≡◌, IsTrue, IfOk, IfErr};
+ghost use Rattle.std.specs.Prelude.{◌≡◌, ◌≤◌, IsTrue, IfOk, IfErr};
+ghost use Rattle.term_model.specs.Limits.{max_budget};
 ghost use Rattle.prim_registry.specs.Entries.{Covers, IsHonest};
 ghost use Rattle.strat_steps.specs.Outcomes.{OutcomeStands, outcome_tree};
 ghost use Rattle.str_pipeline.specs.Steps.{IsTextOf, IsTextOfRun};
@@ -38,10 +39,11 @@ pub(crate) fn run_machine<S: TermSpace + Holds + Drop, M: PrimMeaning>(
     space: S,
     code: &Code,
     term: S::Ref,
-    budget: u32,
+    budget: u64,
     registry: &Registry<M>,
     notes: &mut RunNotes,
 ) -> Result<Outcome<Vec<u8>>, Fault>
+    requires budget { budget ≤ max_budget }
     requires stands { IsTrue (S.space.stands space term) }
     requires honest { IsHonest M.answer registry.now }
     requires covers { Covers registry.now code.now.prims }

@@ -10,7 +10,7 @@ pub struct Options {
     /// Whether a term is refused that has an application which the definitions do not declare.
     pub strict: bool,
     /// The most rules of the run, which are the nodes of its derivation: at most `MAX_BUDGET`.
-    pub budget: u32,
+    pub budget: u64,
 }
 
 /// How a transformation ended.

@@ -1,4 +1,6 @@
 pub mod RunningLaws
+pub mod ChargeLaws
+pub mod AccountLaws
 pub mod OutcomeLaws
 pub mod MachineLaws
 pub mod StackLaws

@@ -10,3 +10,4 @@ pub mod Tables
 pub mod Actions
 pub mod Indexing
 pub mod Calculating
+pub mod Accounts

@@ -54,3 +54,9 @@ pub record UnderWay {W R Y N : Type 0} (S : Space W R Y N) (code : Code) (M : Me
     (w1 : W) (next : Next) (p : Position R) (m1 : Stacks R Y) : Type 0 where
   pub steps : StepsRef S code M k w (start_ref t budget) w1 (state_of next p m1)
   pub names : KeepsNames S w w1
+
+-- some steps have led from the start of a run to this
+pub record HasReached {W R Y N : Type 0} (S : Space W R Y N) (code : Code) (M : Meaning) (w : W) (t : R) (budget : ℕ)
+    (w1 : W) (next : Next) (p : Position R) (m1 : Stacks R Y) : Type 0 where
+  pub taken : ℕ
+  pub way : UnderWay S code M w t budget taken w1 next p m1

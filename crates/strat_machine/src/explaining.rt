@@ -1,10 +1,15 @@
 //! What explanations of a run are made of: what it cost, how it ended, and where it stood.
-ghost use Rattle.std.specs.Prelude.{IsTrue};
+ghost use Rattle.std.specs.Prelude.{◌≡◌, ◌≤◌, IsTrue, IfOk};
+ghost use Rattle.term_model.specs.Limits.{max_budget};
+ghost use Rattle.term_model.specs.Space.{KeepsNames};
 ghost use Rattle.prim_registry.specs.Entries.{IsHonest, entries_of};
+ghost use Rattle.prim_registry.specs.Registered.{meaning_of};
+ghost use Rattle.strat_code.specs.CodeOf.{code_of};
 ghost use Rattle.strat_steps.specs.Marks.{Holds};
+ghost use Rattle.strat_machine.specs.Accounts.{IsEnding, IsAccountOf};
 ghost use Rattle.strat_machine.specs.Actions.{IsLoadedProgram};
 ghost use Rattle.strat_steps.specs.References.{AllPlaces};
-ghost use Rattle.strat_machine.specs.Running.{IsClear};
+ghost use Rattle.strat_machine.specs.Running.{IsClear, HasEnded};
 ghost use Rattle.strat_machine.specs.Stacks.{state_of};
 
 use crate::partial::{Notes, Progress, run_part};
@@ -71,14 +76,22 @@ pub(crate) fn account_of<S: TermSpace, M: PrimMeaning>(
     program: &LoadedProgram<S::Name>,
     registry: &Registry<M>,
     term: S::Ref,
-    budget: u32,
+    budget: u64,
 ) -> Result<Account, AllocError>
+    requires budget { budget ≤ max_budget }
     requires clear { IsClear stacks.old }
     requires stands { IsTrue (S.space.stands space.old term) }
     requires honest { IsHonest M.answer registry.now }
     requires loaded { IsLoadedProgram (S.space.knows space.old) (S.space.symbol_of space.old)
         (entries_of registry.now)
         S.space.number_of program.now code.now.tables code.now.instrs }
+    ensures account { IfOk result (λ account. IsAccountOf S.space
+        (code_of code.now.tables code.now.instrs) (meaning_of M.answer registry.now)
+        space.old term budget space.new account) }
+    ensures kept { (r : S.Ref) → IsTrue (S.space.stands space.old r) →
+        IsTrue (S.space.stands space.new r) ×
+        (S.space.term_of space.new r ≡ S.space.term_of space.old r) }
+    ensures names { KeepsNames S.space space.old space.new }
 {
     let mut notes = Notes::new(alloc, code.len())?;
     let progress = run_part(
@@ -93,11 +106,12 @@ pub(crate) fn account_of<S: TermSpace, M: PrimMeaning>(
         u64::MAX,
         &mut notes,
     )?;
+    let ending = ending_of(progress.next);
     Ok(Account {
         rules: notes.rules,
-        ending: ending_of(progress.next),
-        before_last: notes.before_last,
-        before_deepest: notes.before_deepest,
+        ending,
+        before_last: notes.failures.before_last,
+        before_deepest: notes.failures.before_deepest,
     })
 }
 
@@ -111,15 +125,20 @@ pub(crate) fn stand_after<S: TermSpace, M: PrimMeaning>(
     program: &LoadedProgram<S::Name>,
     registry: &Registry<M>,
     term: S::Ref,
-    budget: u32,
+    budget: u64,
     count: u64,
 ) -> Result<Option<Stand>, AllocError>
+    requires budget { budget ≤ max_budget }
     requires clear { IsClear stacks.old }
     requires stands { IsTrue (S.space.stands space.old term) }
     requires honest { IsHonest M.answer registry.now }
     requires loaded { IsLoadedProgram (S.space.knows space.old) (S.space.symbol_of space.old)
         (entries_of registry.now)
         S.space.number_of program.now code.now.tables code.now.instrs }
+    ensures kept { (r : S.Ref) → IsTrue (S.space.stands space.old r) →
+        IsTrue (S.space.stands space.new r) ×
+        (S.space.term_of space.new r ≡ S.space.term_of space.old r) }
+    ensures names { KeepsNames S.space space.old space.new }
 {
     let mut notes = Notes::new(alloc, 0)?;
     let progress = run_part(
@@ -183,12 +202,16 @@ fn values_at<S: TermSpace>(
     Ok(values)
 }
 
-/// How a run ended, after whose last step this came next. Code of a program is never stuck.
-fn ending_of(next: Next) -> Ending {
+/// Returns how a run ended, after whose last step this came next.
+fn ending_of(next: Next) -> Ending
+    requires { HasEnded next }
+    ensures { IsEnding next result }
+{
     match next {
         Next::Rewritten => Ending::Rewritten,
         Next::Failed => Ending::Failed,
         Next::Oversize => Ending::Oversize,
-        _ => Ending::Spent,
+        Next::Spent => Ending::Spent,
+        _ => unreachable!(),
     }
 }

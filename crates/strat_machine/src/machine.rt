@@ -1,5 +1,6 @@
 //! The machine: it runs code on the terms of a space.
 ghost use Rattle.std.specs.Prelude.{◌≡◌, ◌+◌, ◌*◌, ◌≤◌, ℕ, List, IsTrue, IfOk, IfErr};
+ghost use Rattle.term_model.specs.Limits.{max_budget};
 ghost use Rattle.term_model.specs.Space.{Keeps, KeepsNames};
 ghost use Rattle.core_lang.specs.Named.{Name};
 ghost use Rattle.core_lang.specs.Primitives.{AreOccurring};
@@ -11,6 +12,7 @@ ghost use Rattle.prim_registry.specs.Entries.{Covers, IsHonest};
 ghost use Rattle.strat_code.specs.CodeOf.{code_of};
 ghost use Rattle.strat_code.specs.StandsFor.{StandsFor};
 ghost use Rattle.strat_steps.specs.Outcomes.{OutcomeStands, Ran, outcome_tree};
+ghost use Rattle.strat_machine.specs.Accounts.{IsAccount};
 ghost use Rattle.prim_registry.specs.Registered.{meaning_of};
 ghost use Rattle.term_model.specs.Results.{Returns};
 
@@ -80,7 +82,7 @@ impl<S: TermSpace + Drop> Machine<S> {
         self.space.leave(self.alloc, reference)
     }
 
-    /// Runs the code on the term within a budget of rules. The outcome is that of every program that the code stands for, where
+    /// Runs the code on the term within a budget of rules, at most 10^18. The outcome is that of every program that the code stands for, where
     /// primitives return what those of the registry do.
     ///
     /// `rules` is the number of nodes of the derivation, or the whole budget where it is spent before the derivation is
@@ -90,9 +92,10 @@ impl<S: TermSpace + Drop> Machine<S> {
         &mut self,
         code: &Code,
         term: S::Ref,
-        budget: u32,
+        budget: u64,
         registry: &Registry<M>,
     ) -> Result<Run<S::Ref>, Fault>
+        requires budget { budget ≤ max_budget }
         requires stands { IsTrue (S.space.stands self.old term) }
         requires honest { IsHonest M.answer registry.now }
         requires covers { Covers registry.now code.now.prims }
@@ -133,18 +136,30 @@ impl<S: TermSpace + Drop> Machine<S> {
     /// Runs the code on the term within a budget of rules, and returns an account of the run: how many rules the instruction
     /// at each address was charged, how the run ended, and at which steps it failed.
     ///
-    /// No contract speaks of what the account says. The only fault is `Memory`: a growth was refused, here or in a primitive. After a
-    /// fault, as after an account, the machine can run again.
+    /// The ending is that of every program that the code stands for, and the rules add up to the nodes of the derivation; where the
+    /// budget is spent, to no more than the budget. No contract speaks of the steps. The space keeps its terms and names, also after a
+    /// fault. The only fault is `Memory`: a growth was refused, here or in a primitive. After a fault, as after an account, the machine
+    /// can run again.
     pub fn account<M: PrimMeaning>(
         &mut self,
         code: &Code,
         term: S::Ref,
-        budget: u32,
+        budget: u64,
         registry: &Registry<M>,
     ) -> Result<Account, Fault>
+        requires budget { budget ≤ max_budget }
         requires stands { IsTrue (S.space.stands self.old term) }
         requires honest { IsHonest M.answer registry.now }
         requires covers { Covers registry.now code.now.prims }
+        ensures account { IfOk result (λ account.
+            (P : Definitions Name (List Name)) (main : Name) (C : ResolvedDefinitions) (i : ℕ) →
+            StandsFor (code_of code.now.tables code.now.instrs) C i →
+            AreOccurring code.now.prims C → ResolvesProgram P main C i →
+            IsAccount M.answer P main (S.space.term_of self.old term) budget account) }
+        ensures kept { (r : S.Ref) → IsTrue (S.space.stands self.old r) →
+            IsTrue (S.space.stands self.new r) ×
+            (S.space.term_of self.new r ≡ S.space.term_of self.old r) }
+        ensures names { KeepsNames S.space self.old self.new }
         ensures fault { IfErr result (λ fault. fault ≡ Fault.Memory) }
     {
         let space = &mut self.space;
@@ -165,19 +180,24 @@ impl<S: TermSpace + Drop> Machine<S> {
 
     /// Takes the first `count` steps of such a run, and returns where it then stands; nothing where no instruction comes next.
     ///
-    /// No contract speaks of what it returns. The only fault is `Memory`: a growth was refused, here or in a primitive. After a fault, as
-    /// after a stand, the machine can run again.
+    /// The space keeps its terms and names, also after a fault. No contract speaks of what is returned. The only fault is `Memory`: a
+    /// growth was refused, here or in a primitive. After a fault, as after a stand, the machine can run again.
     pub fn stand<M: PrimMeaning>(
         &mut self,
         code: &Code,
         term: S::Ref,
-        budget: u32,
+        budget: u64,
         registry: &Registry<M>,
         count: u64,
     ) -> Result<Option<Stand>, Fault>
+        requires budget { budget ≤ max_budget }
         requires stands { IsTrue (S.space.stands self.old term) }
         requires honest { IsHonest M.answer registry.now }
         requires covers { Covers registry.now code.now.prims }
+        ensures kept { (r : S.Ref) → IsTrue (S.space.stands self.old r) →
+            IsTrue (S.space.stands self.new r) ×
+            (S.space.term_of self.new r ≡ S.space.term_of self.old r) }
+        ensures names { KeepsNames S.space self.old self.new }
         ensures fault { IfErr result (λ fault. fault ≡ Fault.Memory) }
     {
         let space = &mut self.space;

@@ -1,10 +1,14 @@
 //! The first steps of a run, and what is noted of them.
+ghost use Rattle.term_model.specs.Limits.{max_budget};
 ghost use Rattle.term_model.specs.Space.{KeepsNames};
-ghost use Rattle.std.specs.Prelude.{◌≡◌, IsTrue, IfOk};
+ghost use Rattle.std.specs.Prelude.{◌≡◌, ◌+◌, ◌*◌, ◌^◌, ◌<◌, ◌≤◌, IsTrue, IfOk, length, sum};
 ghost use Rattle.prim_registry.specs.Entries.{IsHonest, entries_of};
+ghost use Rattle.prim_registry.specs.Registered.{meaning_of};
+ghost use Rattle.strat_code.specs.CodeOf.{code_of};
 ghost use Rattle.strat_steps.specs.Marks.{Holds};
+ghost use Rattle.strat_machine.specs.Accounts.{Charges, IsCharged};
 ghost use Rattle.strat_machine.specs.Actions.{IsLoadedProgram};
-ghost use Rattle.strat_machine.specs.Running.{IsClear};
+ghost use Rattle.strat_machine.specs.Running.{IsClear, HasEnded, HasReached};
 ghost use Rattle.strat_machine.specs.Stacks.{state_of};
 
 use crate::instructions::step;
@@ -21,6 +25,12 @@ use term_model::TermSpace;
 pub(crate) struct Notes {
     /// How many rules the instruction at each address was charged.
     pub(crate) rules: Vec<u64>,
+    pub(crate) failures: Failures,
+}
+
+/// At which steps a run ended and failed.
+#[derive(Clone, Copy)]
+pub(crate) struct Failures {
     /// How many steps came before that of the last instruction.
     pub(crate) before_last: u64,
     /// How many steps came before that of the deepest instruction that failed, of those since a call last returned. Of several at the same
@@ -34,9 +44,10 @@ pub(crate) struct Notes {
     has_matched: bool,
 }
 
-/// The step of an instruction.
+/// A step of a run.
 #[derive(Clone, Copy)]
 struct Step {
+    /// The address of the instruction, if it performed one.
     address: usize,
     /// How many steps came before it.
     steps: u64,
@@ -47,9 +58,11 @@ struct Step {
     effect: Effect,
 }
 
-/// What came of an instruction.
+/// What came of a step.
 #[derive(Clone, Copy, Debug, PartialEq, Eq)]
 enum Effect {
+    /// It performed no instruction, but dealt with a failure.
+    WentBack,
     Failed,
     /// A match has succeeded.
     Matched,
@@ -62,38 +75,60 @@ enum Effect {
 
 impl Notes {
     /// Notes of no step, with room for the rules of this number of instructions; those of others are not noted.
-    pub(crate) fn new(alloc: Global, count: usize) -> Result<Notes, AllocError> {
-        let mut rules = Vec::new(alloc);
-        for _ in 0..count {
-            rules.push(0)?;
-        }
+    pub(crate) fn new(alloc: Global, count: usize) -> Result<Notes, AllocError>
+        ensures none { IfOk result (λ notes. sum notes.rules.items ≡ 0) }
+        ensures room { IfOk result (λ notes. length notes.rules.items ≡ count) }
+    {
+        let rules = Vec::from_elem(alloc, 0u64, count)?;
         Ok(Notes {
             rules,
-            before_last: 0,
-            before_deepest: 0,
-            depth: 0,
-            is_behind_match: false,
-            has_matched: false,
+            failures: Failures {
+                before_last: 0,
+                before_deepest: 0,
+                depth: 0,
+                is_behind_match: false,
+                has_matched: false,
+            },
         })
     }
 
     /// Notes a step.
+    fn add(&mut self, step: Step)
+        requires { sum self.old.rules.items + step.charged < 2 ^ 64 }
+        ensures { Charges self.old.rules.items step.address step.charged self.new.rules.items }
+    {
+        charge(&mut self.rules, step.address, step.charged as u64);
+        self.failures.add(step);
+    }
+}
+
+/// Charges the instruction at an address, if it has a number there, with `count` more rules.
+fn charge(rules: &mut Vec<u64>, address: usize, count: u64)
+    requires { sum rules.old.items + count < 2 ^ 64 }
+    ensures { Charges rules.old.items address count rules.new.items }
+{
+    if address < rules.len() {
+        rules[address] += count;
+    }
+}
+
+impl Failures {
+    /// Notes a step.
     fn add(&mut self, step: Step) {
-        self.before_last = step.steps;
-        if step.address < self.rules.len() {
-            self.rules[step.address] = self.rules[step.address].saturating_add(step.charged as u64);
+        if step.effect != Effect::WentBack {
+            self.before_last = step.steps;
         }
         match step.effect {
-            Effect::Failed => self.note_failure(step),
+            Effect::Failed => self.add_failure(step),
             Effect::Matched => self.has_matched = true,
             Effect::Called => self.has_matched = false,
-            Effect::Returned => self.note_return(),
-            Effect::Other => {}
+            Effect::Returned => self.add_return(),
+            Effect::WentBack | Effect::Other => {}
         }
     }
 
     /// Notes a failure, if none since a call last returned is deeper, or as deep and behind a match where this one is not.
-    fn note_failure(&mut self, step: Step) {
+    fn add_failure(&mut self, step: Step) {
         let is_as_deep = step.depth == self.depth && (self.has_matched || !self.is_behind_match);
         if step.depth > self.depth || is_as_deep {
             self.depth = step.depth;
@@ -104,7 +139,7 @@ impl Notes {
     }
 
     /// Notes that a call has returned: what failed in it was caught.
-    fn note_return(&mut self) {
+    fn add_return(&mut self) {
         self.depth = 0;
         self.is_behind_match = false;
         self.has_matched = true;
@@ -119,7 +154,7 @@ pub(crate) struct Progress<R: Drop> {
 }
 
 /// Takes the first steps of a run of a loaded program, from clear stacks on: this number of them, or all. Adds what it notes of them, and
-/// returns where the run then is. What is left on the stacks stands.
+/// returns where the run then is.
 pub(crate) fn run_part<S: TermSpace, M: PrimMeaning>(
     space: &mut S,
     alloc: Global,
@@ -128,22 +163,30 @@ pub(crate) fn run_part<S: TermSpace, M: PrimMeaning>(
     program: &LoadedProgram<S::Name>,
     registry: &Registry<M>,
     term: S::Ref,
-    budget: u32,
+    budget: u64,
     count: u64,
     notes: &mut Notes,
 ) -> Result<Progress<S::Ref>, AllocError>
+    requires budget { budget ≤ max_budget }
     requires clear { IsClear stacks.old }
     requires stands { IsTrue (S.space.stands space.old term) }
     requires honest { IsHonest M.answer registry.now }
     requires loaded { IsLoadedProgram (S.space.knows space.old) (S.space.symbol_of space.old)
         (entries_of registry.now)
         S.space.number_of program.now code.now.tables code.now.instrs }
+    requires blank { sum notes.old.rules.items ≡ 0 }
+    ensures reached { IfOk result (λ p. HasReached S.space
+        (code_of code.now.tables code.now.instrs) (meaning_of M.answer registry.now)
+        space.old term budget space.new p.next p.position stacks.new) }
+    ensures ended { IfOk result (λ p. 10 * budget + 10 ≤ count → HasEnded p.next) }
+    ensures charged { IfOk result (λ _. IsCharged (length code.now.instrs) budget
+        (length notes.old.rules.items) notes.new.rules.items stacks.new.left) }
     ensures holds { IfOk result (λ p. Holds S.space space.new
         (state_of p.next p.position stacks.new)) }
-    ensures kept { IfOk result (λ _. (r : S.Ref) → IsTrue (S.space.stands space.old r) →
+    ensures kept { (r : S.Ref) → IsTrue (S.space.stands space.old r) →
         IsTrue (S.space.stands space.new r) ×
-        (S.space.term_of space.new r ≡ S.space.term_of space.old r)) }
-    ensures names { IfOk result (λ _. KeepsNames S.space space.old space.new) }
+        (S.space.term_of space.new r ≡ S.space.term_of space.old r) }
+    ensures names { KeepsNames S.space space.old space.new }
 {
     // The code stands for some program, so the run ends in time.
     let _ = code.instrs();
@@ -174,24 +217,27 @@ pub(crate) fn run_part<S: TermSpace, M: PrimMeaning>(
             &mut position,
             &mut scratch,
         )?;
-        if next == Next::Running {
-            notes.add(Step {
-                address,
-                steps,
-                depth,
-                charged: before.saturating_sub(stacks.left),
-                effect: effect_of(code, address, after),
-            });
-        }
+        let charged = before.saturating_sub(stacks.left);
+        let effect = effect_of(code, address, next, after);
+        notes.add(Step {
+            address,
+            steps,
+            depth,
+            charged,
+            effect,
+        });
         next = after;
         steps += 1;
     }
     Ok(Progress { next, position })
 }
 
-/// What came of the instruction at an address, after which this comes next.
-fn effect_of(code: &Code, address: usize, next: Next) -> Effect {
-    match next {
+/// What came of the step before and after which these come next, which performed the instruction at the address or dealt with a failure.
+fn effect_of(code: &Code, address: usize, before: Next, after: Next) -> Effect {
+    if before != Next::Running {
+        return Effect::WentBack;
+    }
+    match after {
         Next::Failing => Effect::Failed,
         Next::Running => match code.instrs().get(address) {
             Some(Instr::Match { .. }) => Effect::Matched,

@@ -1,4 +1,5 @@
 //! Runs: steps from the start to the end.
+ghost use Rattle.term_model.specs.Limits.{max_budget};
 ghost use Rattle.term_model.specs.Space.{KeepsNames};
 ghost use Rattle.std.specs.Prelude.{◌≡◌, ◌↔◌, ◌+◌, ◌*◌, ◌≤◌, IsTrue, IfOk};
 ghost use Rattle.core_lang.specs.declared.run.Outcome.TheVariants as outcomes;
@@ -30,8 +31,9 @@ pub(crate) fn run_code<S: TermSpace, M: PrimMeaning>(
     program: &LoadedProgram<S::Name>,
     registry: &Registry<M>,
     term: S::Ref,
-    budget: u32,
+    budget: u64,
 ) -> Result<Run<S::Ref>, AllocError>
+    requires budget { budget ≤ max_budget }
     requires clear { IsClear stacks.old }
     requires stands { IsTrue (S.space.stands space.old term) }
     requires honest { IsHonest M.answer registry.now }
@@ -108,12 +110,12 @@ fn outcome_of<R: Drop>(next: Next, position: Position<R>) -> Outcome<R>
 }
 
 /// The nodes of a run with this outcome that leaves so much of its budget.
-fn rules_of<R: Drop>(outcome: &Outcome<R>, budget: u32, left: usize) -> u32
+fn rules_of<R: Drop>(outcome: &Outcome<R>, budget: u64, left: usize) -> u64
     requires { (outcome.now ≡ outcomes.Spent → ⊥) → left ≤ budget }
     ensures { result ≡ rules_of outcome.now budget left }
 {
     match outcome {
         Outcome::Spent => budget,
-        _ => budget - left as u32,
+        _ => budget - left as u64,
     }
 }

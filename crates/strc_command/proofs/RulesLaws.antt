@@ -19,14 +19,13 @@ use Rattle.clap.specs.declared.builder.value_parser.ValueParser.TheVariants.{Sig
 use Rattle.clap.specs.declared.parser.matches.ArgMatches.{ArgMatches}
 use Rattle.clap.specs.declared.parser.matches.MatchedArg.{MatchedArg}
 use Rattle.clap.proofs.CallerLemmas.{added_plain, entry_by_id}
-use Rattle.term_model.specs.Limits.{max_budget}
-use Rattle.strc_command.specs.Rules.{IsRanged, Fits, TakesRules, HasRules}
+use Rattle.strc_command.specs.Rules.{max_rules, IsRanged, Fits, TakesRules, HasRules}
 
 abbrev id : List ℕ
 id = codes "rules"
 
 abbrev range : ValueParser
-range = Signed (pos 0) (pos max_budget)
+range = Signed (pos 0) (pos max_rules)
 
 -- an argument with another first letter is none of rules
 pub other_letter : (a : Arg) (name : List ℕ) → a.id.now ≡ name → (slice_index name 0 ≡ 114 → ⊥) → IsRanged a
@@ -71,7 +70,7 @@ parser_is a is = ap parser_of_value is
 -- a value under this id is in the range
 value_ranged : (c : Command) (m : ArgMatches) (p : IsParsedFrom c m) → TakesRules c → (key value : List ℕ) → key ≡ id →
     PassesArg p.built key value →
-    IsSignedIn (pos 0) (pos max_budget) value
+    IsSignedIn (pos 0) (pos max_rules) value
 value_ranged c m p takes key value is passes =
     let a = passes.1 in
     let named : a.id.now ≡ id = (bytes_eq-Decides a.id.now key).0 passes.4.0 ∙ is in
@@ -103,21 +102,21 @@ no_group c m p takes key is (inr some) =
 
 -- the first of values that are all in the range
 first_ranged : (values : List (Bor (List ℕ))) (how : Reading) (text : List ℕ) →
-    All (λ v. IsSignedIn (pos 0) (pos max_budget) v.now) values → how ≡ WithoutMinus →
+    All (λ v. IsSignedIn (pos 0) (pos max_rules) v.now) values → how ≡ WithoutMinus →
     option_map (λ s. read_as how s.now) (slice_get values 0) ≡ Some text →
-    (value : List ℕ) × (text ≡ without_minus value) × IsSignedIn (pos 0) (pos max_budget) value
+    (value : List ℕ) × (text ≡ without_minus value) × IsSignedIn (pos 0) (pos max_rules) value
 first_ranged [] how text all without found = cc
 first_ranged (v ∷ vs) how text all without found =
     let same : Some (read_as WithoutMinus v.now) ≡ Some text =
     subst (λ (r : Reading). Some (read_as r v.now) ≡ Some text) without found in
     let is : without_minus v.now ≡ text = cc in
-    (v.now, sym is, All-get_or (λ w. IsSignedIn (pos 0) (pos max_budget) w.now) (v ∷ vs) 0 v (omega arith) all)
+    (v.now, sym is, All-get_or (λ w. IsSignedIn (pos 0) (pos max_rules) w.now) (v ∷ vs) 0 v (omega arith) all)
 
 -- what an entry under this id has
 entry_ranged : (c : Command) (m : ArgMatches) (p : IsParsedFrom c m) → TakesRules c → (e : Entry) → e.0.now ≡ id →
     EntryPasses p.built e → (text : List ℕ) →
     option_map (λ s. read_as e.1.reading s.now) (slice_get e.1.vals.items 0) ≡ Some text →
-    (value : List ℕ) × (text ≡ without_minus value) × IsSignedIn (pos 0) (pos max_budget) value
+    (value : List ℕ) × (text ≡ without_minus value) × IsSignedIn (pos 0) (pos max_rules) value
 entry_ranged c m p takes e is passes text found =
     let alone : e.1.is_group ≡ true → ⊥ = λ group. no_group c m p takes e.0.now is (passes.3 group) in
     let values : All (λ v. PassesArg p.built e.0.now v.now) e.1.vals.items =
@@ -134,7 +133,7 @@ in_range c m takes p = λ text. go text (matched_of (found_of m) id) refl
   where
     go : (text : List ℕ) (found : Option MatchedArg) → matched_of (found_of m) id ≡ found →
         one_text (found_of m) id ≡ Some text →
-        (value : List ℕ) × (text ≡ without_minus value) × IsSignedIn (pos 0) (pos max_budget) value
+        (value : List ℕ) × (text ≡ without_minus value) × IsSignedIn (pos 0) (pos max_rules) value
     go text None none has = let wrong : None ≡ Some text = rw none at has in cc
     go text (Some x) some has =
         let parsed = p.parsed (p.from.globals ∙ takes.local) in

@@ -7,7 +7,9 @@ use crate::names::is_unseen;
 use crate::report::{FileLine, Reporting, report, report_numbers, report_refusal};
 use itoa::Buffer;
 use std::alloc::Global;
-use str_pipeline::{NamedLine, OversizeTerm, Position, Remark, RunNotes, Sink, Status, write_all};
+use str_pipeline::{
+    MAX_BUDGET, NamedLine, OversizeTerm, Position, Remark, RunNotes, Sink, Status, write_all,
+};
 use term_model::Fault;
 use term_model::term::{MAX_DEPTH, MAX_WEIGHT};
 
@@ -42,15 +44,30 @@ fn write_name<E: Sink>(name: &str, diagnostics: &mut E) -> Result<(), Fault>
     Ok(())
 }
 
-/// Writes that the budget is spent.
-fn write_spent<E: Sink>(budget: u32, diagnostics: &mut E) -> Result<(), Fault>
+/// The most rules that `--rules` takes.
+const MAX_RULES: u64 = 1_000_000_000;
+
+/// Returns how to ask for a larger budget, if there is one.
+fn larger_budget(budget: u64) -> &'static str {
+    if budget < MAX_RULES {
+        "; write --rules N with a larger N, or --no-limit\n"
+    } else if budget < MAX_BUDGET {
+        "; write --no-limit\n"
+    } else {
+        "\n"
+    }
+}
+
+/// Writes that the budget is spent, and how to ask for a larger one.
+fn write_spent<E: Sink>(budget: u64, diagnostics: &mut E) -> Result<(), Fault>
     ensures { TellsText (E.writer.written diagnostics.old) (E.writer.written diagnostics.new) }
 {
     let mut digits = Buffer::new();
     let pieces = [
         b"strc: the budget of ".as_slice(),
         digits.format(budget).as_bytes(),
-        b" rules is spent; --rules sets another\n",
+        b" rules is spent",
+        larger_budget(budget).as_bytes(),
     ];
     write_pieces(&pieces, diagnostics)
 }
@@ -251,7 +268,7 @@ fn report_oversize<E: Sink>(
 /// Writes that the budget is spent and, where that is asked for, more of the run.
 fn report_spent<E: Sink>(
     alloc: Global,
-    budget: u32,
+    budget: u64,
     reporting: Reporting<'_>,
     notes: &RunNotes,
     diagnostics: &mut E,
@@ -269,7 +286,7 @@ fn report_spent<E: Sink>(
 pub(crate) fn report_end<E: Sink>(
     alloc: Global,
     status: &Status,
-    budget: u32,
+    budget: u64,
     reporting: Reporting<'_>,
     notes: &RunNotes,
     diagnostics: &mut E,

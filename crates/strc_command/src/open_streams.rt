@@ -26,7 +26,7 @@ use term_model::Fault;
 fn conclude<E: Sink>(
     alloc: Global,
     status: Status,
-    budget: u32,
+    budget: u64,
     reporting: Reporting<'_>,
     notes: &RunNotes,
     diagnostics: &mut E,

@@ -287,8 +287,8 @@ fn range_of(kind: ErrorKind) -> &'static str {
     }
 }
 
-/// Does what the words of the command line ask for, of which the first is the name of the program: `[--rules N] [--main NAME] [--strict]
-/// [--stats] [--explain] [--raw | --pretty] [--check] [--with FILE].. [DEFS [TERM]]`. It transforms the definitions of the file DEFS and the
+/// Does what the words of the command line ask for, of which the first is the name of the program: `[--rules N | --no-limit] [--main NAME]
+/// [--strict] [--stats] [--explain] [--raw | --pretty] [--check] [--with FILE].. [DEFS [TERM]]`. It transforms the definitions of the file DEFS and the
 /// term of the file TERM; without TERM the term comes from `input`, and without both paths the joined form does. The definitions are one text
 /// (`whole_text`): the bytes of each file of `--with`, a line feed after each, and those of DEFS. Definitions may call the primitives of the
 /// registry and the strategies of the library. The line of the answer goes to `out`; with `--raw` a string as its bytes, and with `--pretty`

@@ -1,13 +1,13 @@
 //! The words of the command line.
-ghost use Rattle.std.specs.Prelude.{◌≤◌, ◌≢◌, codes, length, IfOk, IsOkAnd};
+ghost use Rattle.std.specs.Prelude.{◌≤◌, ◌≢◌, codes, length, IfOk, IfSome, IsOkAnd};
 ghost use Rattle.term_model.specs.Limits.{max_budget};
 ghost use Rattle.strc_command.specs.Request.{IsPlainRequest, IsAsked};
-ghost use Rattle.strc_command.specs.Rules.{Fits, TakesRules, HasRules};
+ghost use Rattle.strc_command.specs.Rules.{Fits, TakesRules, HasRules, max_rules};
 
 use crate::opening::PRELUDE_WORD;
 use clap::{Arg, ArgAction, ArgMatches, Command, Error, value_parser};
 use std::alloc::{AllocError, Global};
-use str_pipeline::{DEFAULT_BUDGET, Options};
+use str_pipeline::{DEFAULT_BUDGET, MAX_BUDGET, Options};
 
 /// Where the two texts come from.
 #[derive(Clone, Copy, Debug, PartialEq, Eq, Drop)]
@@ -37,7 +37,9 @@ pub enum Form {
 #[derive(Drop)]
 pub struct Request<'a> {
     /// The most rules of the run.
-    pub rules: u32,
+    pub rules: u64,
+    /// Whether both a number of rules and a run without limit are asked for, which is a misuse.
+    pub has_two_limits: bool,
     /// The name of the strategy that is applied.
     pub main: &'a str,
     /// Whether each application of the term has to be declared.
@@ -58,7 +60,7 @@ pub struct Request<'a> {
 
 /// How the program is called, in the help text and in texts on faults of the command line.
 const USAGE: &str =
-    "strc [--rules N] [--main NAME] [--strict] [--stats] [--explain] [--raw | --pretty] [--with FILE]... [DEFS [TERM]]
+    "strc [--rules N | --no-limit] [--main NAME] [--strict] [--stats] [--explain] [--raw | --pretty] [--with FILE]... [DEFS [TERM]]
        strc --check [--main NAME] [--with FILE]... [DEFS]";
 
 /// The end of the help text.
@@ -92,6 +94,8 @@ Exit status:
 /// What the flags do, in the help text.
 const STRICT: &str = "Refuse a term with an application that the definitions do not declare";
 
+const NO_LIMIT: &str = "Let the run take up to 1000000000000000000 rules";
+
 const STATS: &str =
     "Print on standard error how many rules, steps and shapes of terms the run took";
 
@@ -106,7 +110,7 @@ const RAW: &str = "Print a result that is a string as its bytes, without quotes 
 
 const PRETTY: &str = "Print the result in several lines, with indentation";
 
-/// Returns the option for the number of rules. Its range keeps the budget within what a run may be given.
+/// Returns the option for the number of rules.
 fn rules<'a>(alloc: Global) -> Arg<'a>
     ensures { Fits result }
 {
@@ -186,6 +190,7 @@ fn command<'a>(alloc: Global) -> Result<Command<'a>, Error>
     ensures { IfOk result TakesRules }
 {
     let command = command_with_texts(alloc).arg(rules(alloc))?;
+    let command = command.arg(flag(alloc, "no-limit", NO_LIMIT))?;
     let command = command.arg(main_name(alloc))?;
     let command = command.arg(flag(alloc, "strict", STRICT))?;
     let command = command.arg(flag(alloc, "stats", STATS))?;
@@ -209,6 +214,7 @@ pub fn request_of<'a>(alloc: Global, words: &'a [String]) -> Result<Request<'a>,
     if words.len() < 2 {
         return Ok(Request {
             rules: DEFAULT_BUDGET,
+            has_two_limits: false,
             main: "main",
             is_strict: false,
             has_stats: false,
@@ -222,6 +228,7 @@ pub fn request_of<'a>(alloc: Global, words: &'a [String]) -> Result<Request<'a>,
     let matches = command(alloc)?.try_get_matches_from(words)?;
     Ok(Request {
         rules: rules_of(&matches),
+        has_two_limits: has_two_limits(&matches),
         main: matches.get_str("main").unwrap_or("main"),
         is_strict: matches.get_flag("strict"),
         has_stats: matches.get_flag("stats"),
@@ -233,12 +240,29 @@ pub fn request_of<'a>(alloc: Global, words: &'a [String]) -> Result<Request<'a>,
     })
 }
 
-/// Returns the number of rules, which is 1,000,000 where none is asked for.
-fn rules_of(matches: &ArgMatches<'_>) -> u32
+/// Returns the most rules of the run: those that a run without limit may take, the number that is asked for, or else 1,000,000.
+fn rules_of(matches: &ArgMatches<'_>) -> u64
     requires { HasRules matches.now }
     ensures { result ≤ max_budget }
 {
-    matches.get_one::<u32>("rules").unwrap_or(DEFAULT_BUDGET)
+    if matches.get_flag("no-limit") {
+        return MAX_BUDGET;
+    }
+    asked_rules(matches).unwrap_or(DEFAULT_BUDGET)
+}
+
+/// Returns the number of rules that is asked for, if one is.
+fn asked_rules(matches: &ArgMatches<'_>) -> Option<u64>
+    requires { HasRules matches.now }
+    ensures { IfSome result (λ rules. rules ≤ max_rules) }
+{
+    let rules = matches.get_one::<u32>("rules")?;
+    Some(u64::from(rules))
+}
+
+/// Whether both a number of rules and a run without limit are asked for.
+fn has_two_limits(matches: &ArgMatches<'_>) -> bool {
+    matches.get_flag("no-limit") && matches.contains_id("rules")
 }
 
 /// Returns the words for the files in front of the definitions.
@@ -282,6 +306,9 @@ fn has_repeated_file(libraries: &[&str], definitions: &str) -> bool {
 
 /// Returns what is wrong with a request that has the right words, if anything is.
 pub(crate) fn misuse_of(request: &Request<'_>) -> Option<&'static str> {
+    if request.has_two_limits {
+        return Some("error: --rules and --no-limit exclude each other\n");
+    }
     match request.form {
         Form::RawAndPretty => return Some("error: --raw and --pretty exclude each other\n"),
         Form::Raw | Form::Pretty if request.checks => {

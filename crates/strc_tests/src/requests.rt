@@ -8,7 +8,8 @@ use strc_command::{Form, Texts, request_of};
 /// What is asked for, with blanks between the words for libraries.
 #[derive(Clone, Copy)]
 struct Wanted {
-    rules: u32,
+    rules: u64,
+    has_two_limits: bool,
     main: &'static str,
     is_strict: bool,
     has_stats: bool,
@@ -22,6 +23,7 @@ struct Wanted {
 /// What is asked for where no word is.
 const JOINED: Wanted = Wanted {
     rules: 1_000_000,
+    has_two_limits: false,
     main: "main",
     is_strict: false,
     has_stats: false,
@@ -87,6 +89,21 @@ const REQUESTS: &[(&str, Wanted)] = &[
         "strc --rules 1000000000",
         Wanted {
             rules: 1_000_000_000,
+            ..JOINED
+        },
+    ),
+    (
+        "strc --no-limit a.str b.trm",
+        Wanted {
+            rules: 1_000_000_000_000_000_000,
+            ..BOTH
+        },
+    ),
+    (
+        "strc --no-limit --rules 5",
+        Wanted {
+            rules: 1_000_000_000_000_000_000,
+            has_two_limits: true,
             ..JOINED
         },
     ),
@@ -177,7 +194,9 @@ fn ask_for(alloc: Global, line: &str, wanted: &Wanted) -> Result<bool, Fail> {
         && request.explains == wanted.explains
         && request.checks == wanted.checks
         && request.form == wanted.form;
-    let are_values = request.rules == wanted.rules && request.main == wanted.main;
+    let are_values = request.rules == wanted.rules
+        && request.has_two_limits == wanted.has_two_limits
+        && request.main == wanted.main;
     let count = request.libraries.len();
     let are_libraries = if wanted.libraries.is_empty() {
         count == 0

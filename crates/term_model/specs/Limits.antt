@@ -21,7 +21,7 @@ max_depth = 1000
 
 -- the greatest budget of a run
 abbrev pub max_budget : ℕ
-max_budget = 1_000_000_000
+max_budget = 1_000_000_000_000_000_000
 
 -- the budget of a run for which none is asked
 abbrev pub default_budget : ℕ

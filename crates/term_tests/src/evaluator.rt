@@ -55,7 +55,7 @@ fn run(
     if !registry.covers(core.prims()) {
         return Err(Fault::UnknownPrimitive);
     }
-    Ok(eval(alloc, core, term, budget, registry)?)
+    Ok(eval(alloc, core, term, u64::from(budget), registry)?)
 }
 
 /// The text of the term to which a run leads, or the word for its other ending.
@@ -84,7 +84,7 @@ fn ends(
     requires honest { IsHonest ⟦<Standard as PrimMeaning>⟧.answer registry.now }
 {
     let run = run(alloc, core, term, budget, registry)?;
-    if run.rules != rules || run.steps != 0 {
+    if run.rules != u64::from(rules) || run.steps != 0 {
         return Ok(false);
     }
     Ok(line_of(alloc, &run.outcome)?.as_slice() == line)

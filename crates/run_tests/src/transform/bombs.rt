@@ -21,7 +21,7 @@ const DOUBLINGS: Pieces = &[
 /// How often `d` is applied, by how many rules, and how long the line is: 20,971,516 bytes and a line feed.
 const TIMES: usize = 22;
 
-const RULES: u32 = 132;
+const RULES: u64 = 132;
 
 const LENGTH: usize = 20_971_517;
 
@@ -46,7 +46,7 @@ fn line_of_all(alloc: Global) -> Result<Vec<u8>, AllocError> {
 }
 
 /// What the doublings give within this budget.
-fn run_within(alloc: Global, budget: u32) -> Result<Answer, Fault>
+fn run_within(alloc: Global, budget: u64) -> Result<Answer, Fault>
     requires { budget ≤ 132 }
 {
     let options = plain_options(alloc, budget)?;

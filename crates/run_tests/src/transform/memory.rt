@@ -54,7 +54,7 @@ pub(crate) fn transform_texts<M: PrimMeaning>(
 }
 
 /// Definitions, a term, a budget, and the line.
-const ROWS: &[(&str, &str, u32, &str)] = &[
+const ROWS: &[(&str, &str, u64, &str)] = &[
     (
         "strategies main = ?(x,_); !x",
         "(7,f(1))",
@@ -80,7 +80,7 @@ const ROWS: &[(&str, &str, u32, &str)] = &[
 ];
 
 /// Whether definitions and a term give this line within the budget, and the status of a term where it is one.
-fn gives(alloc: Global, defs: &str, term: &str, budget: u32, line: &str) -> Result<bool, Fault>
+fn gives(alloc: Global, defs: &str, term: &str, budget: u64, line: &str) -> Result<bool, Fault>
     requires { budget ≤ max_budget }
 {
     let options = plain_options(alloc, budget)?;

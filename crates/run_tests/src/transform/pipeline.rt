@@ -59,7 +59,7 @@ fn fits(status: &Status, line: &[u8]) -> bool {
 }
 
 /// Returns the options for a run of `main` within this budget.
-pub(crate) fn plain_options(alloc: Global, budget: u32) -> Result<Options, AllocError>
+pub(crate) fn plain_options(alloc: Global, budget: u64) -> Result<Options, AllocError>
     ensures { IfOk result (λ options. options.budget ≡ budget) }
 {
     Ok(Options {
@@ -74,7 +74,7 @@ fn gives(
     alloc: Global,
     defs: &[u8],
     term: &[u8],
-    budget: u32,
+    budget: u64,
     registry: &Registry<Standard>,
     line: &[u8],
 ) -> Result<bool, Fault>
@@ -117,7 +117,7 @@ fn is_bounded(notes: &RunNotes) -> bool {
     let Some(used) = notes.used() else {
         return true;
     };
-    let most = u64::from(used.rules).saturating_mul(10).saturating_add(10);
+    let most = used.rules.saturating_mul(10).saturating_add(10);
     used.steps <= most
 }
 
@@ -181,7 +181,7 @@ fn uses_up(
     alloc: Global,
     defs: &[u8],
     term: &[u8],
-    budget: u32,
+    budget: u64,
     registry: &Registry<Standard>,
 ) -> Result<bool, Fault>
     requires budget { budget ≤ max_budget }
@@ -207,7 +207,7 @@ fn takes(
     let Some(rules) = rules else {
         return Ok(true);
     };
-    let rules = rules.min(MAX_BUDGET);
+    let rules = u64::from(rules);
     Ok(
         gives(alloc, defs, term, rules, registry, line)?
             && uses_up(alloc, defs, term, rules.saturating_sub(1), registry)?
@@ -399,7 +399,7 @@ fn is_met_with_options(
     let options = Options {
         main: main.as_bytes().to_vec(alloc)?,
         strict: *is_strict,
-        budget: (*budget).min(MAX_BUDGET),
+        budget: u64::from(*budget),
     };
     gives_with(
         alloc,

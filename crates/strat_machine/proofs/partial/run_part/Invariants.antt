@@ -1,6 +1,7 @@
-use Rattle.std.proofs.Common.{◌+◌, ◌*◌, ◌-◌}
+use Rattle.std.proofs.Common.{◌+◌, ◌*◌, ◌-◌, length}
 use Rattle.prim_registry.specs.Registered.{meaning_of}
 use Rattle.strat_code.specs.CodeOf.{code_of}
+use Rattle.strat_machine.specs.Accounts.{IsCharged}
 use Rattle.strat_machine.specs.Running.{UnderWay}
 use Rattle.strat_machine.proofs.partial.run_part.Given as goal
 
@@ -8,7 +9,8 @@ abbrev pub invariant-loop-alloc : goal.invariant-loop-alloc
 invariant-loop-alloc g l =
     let s = g.S.TermSpace.space in
     UnderWay s (code_of l.code.tables l.code.instrs) (meaning_of g.M.PrimMeaning.answer l.registry)
-    l.initial.space l.fn.term l.budget l.steps l.space l.next l.position l.stacks
+    l.initial.space l.fn.term l.budget l.steps l.space l.next l.position l.stacks ×
+    IsCharged (length l.code.instrs) l.budget (length l.fn.notes.rules.items) l.notes.rules.items l.stacks.left
 
 abbrev pub decreases-loop-alloc : goal.decreases-loop-alloc
 decreases-loop-alloc g l = 3 * l.budget + 1 - l.steps

@@ -40,14 +40,14 @@ pub overflow_add-steps : goal.overflow_add-steps
 overflow_add-steps g c =
     let low : c.loop-next-2.steps < 3 * c.args.budget + 1 =
     in_time c.instrs.ensures.stands c.requires.stands (way_at c.in-Running.is c.loop-next-2.invariant.0) tt in
-    let small = c.ranges.budget.fits in
+    let small = c.requires.budget in
     omega arith
 
 pub overflow_add-steps-in-loop-next : goal.overflow_add-steps-in-loop-next
 overflow_add-steps-in-loop-next g c =
     let low : c.loop-next-2.steps < 3 * c.args.budget + 1 =
     in_time c.instrs.ensures.stands c.requires.stands (way_at c.in-Failing.is c.loop-next-2.invariant.0) tt in
-    let small = c.ranges.budget.fits in
+    let small = c.requires.budget in
     omega arith
 
 pub returns-in_err-next-clause-kept : goal.returns-in_err-next-clause-kept

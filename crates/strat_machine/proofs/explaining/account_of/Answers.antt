@@ -1,0 +1,14 @@
+use Rattle.std.proofs.Common.{◌∙◌, arith}
+use Rattle.strat_machine.proofs.AccountLaws.{account_made}
+use Rattle.strat_machine.proofs.explaining.account_of.Goals as goal
+
+pub ending_of-ending-requires : goal.ending_of-ending-requires
+ending_of-ending-requires g c =
+    let small = c.requires.budget in
+    c.in_ok-progress.ensures.ended (omega arith)
+
+pub returns-clause-account : goal.returns-clause-account
+returns-clause-account g c =
+    let p = c.in_ok-progress.progress in
+    account_made p.next p.position c.run_part.new.stacks _ c.in_ok-progress.ensures.reached
+    c.ending_of-ending.ensures (c.in_ok-progress.ensures.charged.all (c.in_ok-notes.ensures.room ∙ c.len.ensures))
