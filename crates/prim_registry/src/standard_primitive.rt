@@ -1,5 +1,5 @@
 //! The standard primitives as values, for whoever registers them.
-ghost use Rattle.std.specs.Prelude.{◌≡◌, ◌∷◌, [], IfOk, IsTrue};
+ghost use Rattle.std.specs.Prelude.{◌≡◌, ◌∷◌, [], IfOk};
 ghost use Rattle.std.specs.Option.{option_map};
 ghost use Rattle.prim_registry.specs.Standard.{standard};
 ghost use Rattle.prim_registry.specs.StandardPrimitives.{is_arithmetic, key_of};
@@ -123,10 +123,10 @@ impl StandardPrimitive {
         )
     }
 
-    /// Returns what an arithmetic primitive has for two integers, and `None` for each other primitive.
+    /// Returns what the primitive has for two integers: `None` if it is not arithmetic, since no other primitive takes two integers.
     pub fn calculate(self, left: i64, right: i64) -> Option<i64>
-        ensures { IsTrue (is_arithmetic self) →
-            option_map number result ≡ standard (key_of self).0 (number left ∷ number right ∷ []) }
+        ensures { option_map number result ≡
+            standard (key_of self).0 (number left ∷ number right ∷ []) }
     {
         match self {
             StandardPrimitive::Add => sum(left, right),
@@ -135,7 +135,12 @@ impl StandardPrimitive {
             StandardPrimitive::Div => quotient(left, right),
             StandardPrimitive::Mod => remainder(left, right),
             StandardPrimitive::Less => lesser(left, right),
-            _ => None,
+            StandardPrimitive::Concat
+            | StandardPrimitive::Length
+            | StandardPrimitive::Explode
+            | StandardPrimitive::Implode
+            | StandardPrimitive::IntText
+            | StandardPrimitive::TextInt => None,
         }
     }
 }
