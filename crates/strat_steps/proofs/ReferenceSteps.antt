@@ -8,11 +8,12 @@ use Rattle.term_model.specs.Flat.{Meaning}
 use Rattle.core_lang.specs.Environment.{Bindings, empty_places, filled_places}
 use Rattle.strat_code.specs.Code.{Case, Instr, Code, nodes_of}
 use Rattle.strat_steps.specs.Binding.{cleared, undone, above, down_to, trimmed}
-use Rattle.strat_steps.specs.State.{Frame, frame, saved, Record, call_record, choice_record, run_spent, stuck, running, failing, ended, frames_up, closed}
-use Rattle.strat_steps.specs.Step.{on_all, on_one, on_some, called_with, selected, cut_to, goes_on, matched, left, returned, effect, performed, next, IsGoing, Steps, no_step, more_steps}
+use Rattle.strat_steps.specs.State.{Frame, frame, saved, Record, call_record, choice_record, one_record, some_record, run_spent, stuck, running, failing, ended, frames_up, closed}
+use Rattle.strat_steps.specs.Step.{on_all, on_one, on_some, on_some_unchanged, called_with, selected, cut_to, goes_on, matched, left, returned, effect, performed, next, IsGoing, Steps, no_step, more_steps}
 use Rattle.term_model.specs.Space.{Space, Keeps, GoesBack, IsMark, Stands, Valid, Covers, CoversMark}
-use Rattle.strat_steps.specs.References.{Places, RefRecord, ref_call, ref_choice, ref_all, ref_one, ref_some, RefState, ref_running, ref_failing, trees, record_tree, state_tree, AllPlaces, AllRefs, OfRecord, OfRecords, Binds}
-use Rattle.strat_steps.specs.ReferenceSteps.{Does, counts, gives_up_so, jumps, matches, matches_not, builds, builds_none, builds_oversize, answers, answers_none, answers_oversize, enters, leaves, leaves_low, extends, shrinks, shrinks_low, calls_closure, ends_argument, ends_definition, ends_definition_low, tries, commits, finishes, sticks, calls, calls_none, calls_oversize, selects, begins_all, begins_one, begins_some, part_of_all, part_of_some, part_of_one, part_of_one_oversize, OnAll, all_goes_on, all_whole, all_oversize, OnOne, one_goes_on, one_none, OnSome, some_goes_on, some_whole, some_oversize, some_none, Selecting, selects_none, selects_this, selects_later, selects_spent, StepsRef, no_step_ref, more_steps_ref, StepRef, performs, cannot_pay, leaves_code, fails_whole, fails_call, fails_all, fails_choice, fails_one_last, fails_one_next, fails_some_none, fails_some_last, fails_some_next}
+use Rattle.strat_steps.specs.References.{Places, RefRecord, ref_call, ref_choice, ref_all, ref_one, ref_some, RefState, ref_running, ref_failing, trees, trees_after, trees_left, record_tree, state_tree, AllPlaces, AllRefs, OfRecord, OfRecords, Binds}
+use Rattle.core_lang.specs.Derivation.{parts}
+use Rattle.strat_steps.specs.ReferenceSteps.{IsNext, HasNoMore, Does, counts, gives_up_so, jumps, matches, matches_not, builds, builds_none, builds_oversize, answers, answers_none, answers_oversize, enters, leaves, leaves_low, extends, shrinks, shrinks_low, calls_closure, ends_argument, ends_definition, ends_definition_low, tries, commits, finishes, sticks, calls, calls_none, calls_oversize, selects, begins_all, begins_one, begins_some, part_of_all, part_of_some, part_of_one, part_of_one_oversize, OnAll, all_goes_on, all_whole, all_oversize, OnOne, one_goes_on, one_none, OnSome, some_goes_on, some_whole, some_oversize, some_none, Selecting, selects_none, selects_this, selects_later, selects_spent, StepsRef, no_step_ref, more_steps_ref, StepRef, performs, cannot_pay, leaves_code, fails_whole, fails_call, fails_all, fails_choice, fails_one_last, fails_one_next, fails_some_none, fails_some_last, fails_some_next}
 use Rattle.strat_steps.specs.Marks.{Kept, Covered, call_covered, all_covered, choice_covered, one_covered, some_covered, Safe, Holds}
 use Rattle.strat_steps.proofs.TrailLaws.{take_undone, take_less, take_grown, if_less, if_more, down_self, above_new, down_new, trimmed_new}
 use Rattle.strat_steps.proofs.ReferenceLaws.{Less, less_trans, less_taken, undone_less, all_less, all_changed, length_undone, parted, covered_moves, bound_so}
@@ -28,15 +29,25 @@ places_same P f g h [] x = refl
 places_same P f g h (None ∷ e) x = ap (λ A. None ∷ A) (places_same P f g h e x)
 places_same P f g h (Some r ∷ e) x = ap (λ u. Some u ∷ map (option_map g) e) (h r x.0) ∙ ap (λ A. Some (f r) ∷ A) (places_same P f g h e x.1)
 
+-- what is left of a term's parts, too
+left_same : {R : Type 0} (P : R → Type 0) (f g : R → Tree) → ((r : R) → P r → g r ≡ f r) → (t : R) → g t ≡ f t →
+    (n : ℕ) (rs : List R) → AllRefs P rs → trees_left g t n rs ≡ trees_left f t n rs
+left_same P f g h t same n [] x = ap (λ u. trees_after n (parts u)) same
+left_same P f g h t same n (r ∷ rs) x = ap (λ u. more u (trees_left g t (suc n) rs)) (h r x.0) ∙
+    ap (λ us. more (f r) us) (left_same P f g h t same (suc n) rs x.1)
+
 record_same : {R Y : Type 0} (P : R → Type 0) (Q : Y → Type 0) (f g : R → Tree) → ((r : R) → P r → g r ≡ f r) → (v : RefRecord R Y) → OfRecord P Q v → record_tree g v ≡ record_tree f v
 record_same P Q f g h (ref_call a i) x = refl
 record_same P Q f g h (ref_choice a t s m) x = ap (λ u. choice_record a u s) (h t x.0)
 record_same P Q f g h (ref_all body after t done rest) x =
-    let a = h t x.0 in let b = trees_same P f g h done x.1 in let c = trees_same P f g h rest x.2 in cc
+    let a = h t x.0 in let b = trees_same P f g h done x.1 in let c =
+    left_same P f g h t a (suc (length done)) rest x.2 in cc
 record_same P Q f g h (ref_one body after t done u rest s m) x =
-    let a = h t x.0 in let b = trees_same P f g h done x.1 in let c = h u x.2 in let d = trees_same P f g h rest x.3 in cc
+    let a = h t x.0 in let b = trees_same P f g h done x.1 in let c = h u x.2 in let d =
+    left_same P f g h t a (suc (length done)) rest x.3 in cc
 record_same P Q f g h (ref_some body after t done u rest found s m) x =
-    let a = h t x.0 in let b = trees_same P f g h done x.1 in let c = h u x.2 in let d = trees_same P f g h rest x.3 in cc
+    let a = h t x.0 in let b = trees_same P f g h done x.1 in let c = h u x.2 in let d =
+    left_same P f g h t a (suc (length done)) rest x.3 in cc
 
 records_same : {R Y : Type 0} (P : R → Type 0) (Q : Y → Type 0) (f g : R → Tree) → ((r : R) → P r → g r ≡ f r) → (K : List (RefRecord R Y)) → OfRecords P Q K → map (record_tree g) K ≡ map (record_tree f) K
 records_same P Q f g h [] x = refl
@@ -236,52 +247,122 @@ module _ {W R Y N : Type 0} {S : Space W R Y N} where
   grown_trees : {w w1 : W} → Keeps S w w1 → (rs : List R) → AllRefs (Stands S w) rs → trees (S.term_of w) rs ≡ trees (S.term_of w1) rs
   grown_trees {w} {w1} g rs x = sym (trees_same (Stands S w) (S.term_of w) (S.term_of w1) g.terms rs x)
 
-  on_all_so : {w w1 : W} {body after p b l : ℕ} {t : R} {e : Places R} {F : List Frame} {T : List ℕ} {K : List (RefRecord R Y)} {done rest : List R} {m1 : RefState R Y} → OnAll S w body after p t e F T b K l done rest w1 m1 →
+  on_all_so : {w w1 : W} {body after p b l : ℕ} {t : R} {e : Places R} {F : List Frame} {T : List ℕ}
+      {K : List (RefRecord R Y)} {done rest : List R} {m1 : RefState R Y} →
+      OnAll S w body after p t e F T b K l done rest w1 m1 →
       Stands S w t → AllRefs (Stands S w) done → AllRefs (Stands S w) rest → Safe S w e T b K →
-      (on_all F T b (map (record_tree (S.term_of w)) K) l body after p (S.term_of w t) (map (option_map (S.term_of w)) e) (trees (S.term_of w) done) (trees (S.term_of w) rest) ≡ state_tree (S.term_of w1) m1) × Holds S w1 m1
-  on_all_so all_goes_on st sd sr safe = (refl, (sr.0, record { places = safe.places; records = ((st, sd, sr.1), safe.records); covered = all_covered safe.covered; low = safe.low }))
-  on_all_so {w} {after = after} {p} {b} {l} {t} {e} {F} {T} {K} (all_whole g su h) st sd sr safe =
-      (ap (goes_on F T b (map (record_tree (S.term_of w)) K) l after p (map (option_map (S.term_of w)) e)) h ∙ run_same refl (grown_places g e safe.places) (grown_records g K safe.records), (su, grown_safe g safe))
-  on_all_so {w} {after = after} {p} {b} {l} {t} {e} {F} {T} {K} (all_oversize g h) st sd sr safe = (ap (goes_on F T b (map (record_tree (S.term_of w)) K) l after p (map (option_map (S.term_of w)) e)) h, tt)
-
-  on_one_so : {w : W} {body after p b l : ℕ} {t : R} {e : Places R} {F : List Frame} {T : List ℕ} {K : List (RefRecord R Y)} {done rest : List R} {m1 : RefState R Y} → OnOne S w body after p t e F T b K l done rest m1 →
-      Stands S w t → AllRefs (Stands S w) done → AllRefs (Stands S w) rest → Safe S w e T b K →
-      (on_one F T b (map (record_tree (S.term_of w)) K) l body after p (S.term_of w t) (map (option_map (S.term_of w)) e) (trees (S.term_of w) done) (trees (S.term_of w) rest) ≡ state_tree (S.term_of w) m1) × Holds S w m1
-  on_one_so {w} {e = e} {done = done} (one_goes_on {us = us} mark) st sd sr safe =
-      let hn = map_length (option_map (S.term_of w)) e in (
-        cc,
+      (on_all F T b (map (record_tree (S.term_of w)) K) l body after p (S.term_of w t)
+      (map (option_map (S.term_of w)) e) (trees (S.term_of w) done) (trees_left (S.term_of w) t (length done) rest) ≡
+      state_tree (S.term_of w1) m1) × Holds S w1 m1
+  on_all_so {w} {body = body} {after} {p} {b} {l} {t} {e} {F} {T} {K} {done} (all_goes_on x) st sd sr safe =
+      let sn = x.standing st sr in (
+        ap (on_all F T b (map (record_tree (S.term_of w)) K) l body after p (S.term_of w t)
+            (map (option_map (S.term_of w)) e) (trees (S.term_of w) done)) x.are,
         (
-          sr.0,
+          sn.0,
           record {
             places = safe.places;
-            records = ((st, sd, sr.0, sr.1, mark.valid), safe.records);
-            low = omega arith;
-            covered = one_covered (new_kept mark safe) ((mark.exactly _).1 st) (refs_changed (λ r. (mark.exactly r).1) done sd) ((mark.exactly _).1 sr.0) (refs_changed (λ r. (mark.exactly r).1) us sr.1) (new_covered safe);
+            records = ((st, sd, sn.1), safe.records);
+            covered = all_covered safe.covered;
+            low = safe.low;
           },
         ),
       )
-  on_one_so one_none st sd sr safe = (refl, safe)
+  on_all_so {w} {body = body} {after} {p} {b} {l} {t} {e} {F} {T} {K} {done} (all_whole none g su h) st sd sr safe = (
+    ap (on_all F T b (map (record_tree (S.term_of w)) K) l body after p (S.term_of w t)
+        (map (option_map (S.term_of w)) e) (trees (S.term_of w) done)) none
+        ∙ ap (goes_on F T b (map (record_tree (S.term_of w)) K) l after p (map (option_map (S.term_of w)) e)) h
+        ∙ run_same refl (grown_places g e safe.places) (grown_records g K safe.records),
+    (su, grown_safe g safe),
+  )
+  on_all_so {w} {body = body} {after} {p} {b} {l} {t} {e} {F} {T} {K} {done} (all_oversize none g h) st sd sr safe = (
+    ap (on_all F T b (map (record_tree (S.term_of w)) K) l body after p (S.term_of w t)
+        (map (option_map (S.term_of w)) e) (trees (S.term_of w) done)) none
+        ∙ ap (goes_on F T b (map (record_tree (S.term_of w)) K) l after p (map (option_map (S.term_of w)) e)) h,
+    tt,
+  )
 
-  on_some_so : {w w1 : W} {body after p b l : ℕ} {t : R} {e : Places R} {F : List Frame} {T : List ℕ} {K : List (RefRecord R Y)} {done rest : List R} {found : Bool} {m1 : RefState R Y} → OnSome S w body after p t e F T b K l done found rest w1 m1 →
+  on_one_so : {w : W} {body after p b l : ℕ} {t : R} {e : Places R} {F : List Frame} {T : List ℕ}
+      {K : List (RefRecord R Y)} {done rest : List R} {m1 : RefState R Y} →
+      OnOne S w body after p t e F T b K l done rest m1 →
       Stands S w t → AllRefs (Stands S w) done → AllRefs (Stands S w) rest → Safe S w e T b K →
-      (on_some F T b (map (record_tree (S.term_of w)) K) l body after p (S.term_of w t) (map (option_map (S.term_of w)) e) found (trees (S.term_of w) done) (trees (S.term_of w) rest) ≡ state_tree (S.term_of w1) m1) × Holds S w1 m1
-  on_some_so {w} {e = e} {done = done} (some_goes_on {us = us} mark) st sd sr safe =
-      let hn = map_length (option_map (S.term_of w)) e in (
-        cc,
+      (on_one F T b (map (record_tree (S.term_of w)) K) l body after p (S.term_of w t)
+      (map (option_map (S.term_of w)) e) (trees (S.term_of w) done) (trees_left (S.term_of w) t (length done) rest) ≡
+      state_tree (S.term_of w) m1) × Holds S w m1
+  on_one_so {w} {body = body} {after} {p} {b} {l} {t} {e} {F} {T} {K} {done}
+      (one_goes_on {us = us} {u} x mark) st sd sr safe =
+      let f = S.term_of w in
+      let hn = map_length (option_map (S.term_of w)) e in let sn = x.standing st sr in (
+        ap (on_one F T b (map (record_tree f) K) l body after p (f t) (map (option_map f) e) (trees f done)) x.are
+            ∙ ap (λ n. running body p (f u) (map (option_map f) e) F T n
+            (one_record body after (f t) (trees f done) (f u) (trees_left f t (suc (length done)) us)
+            (saved p (length F) (length T) b) ∷ map (record_tree f) K) l) hn,
         (
-          sr.0,
+          sn.0,
           record {
             places = safe.places;
-            records = ((st, sd, sr.0, sr.1, mark.valid), safe.records);
+            records = ((st, sd, sn.0, sn.1, mark.valid), safe.records);
             low = omega arith;
-            covered = some_covered (new_kept mark safe) ((mark.exactly _).1 st) (refs_changed (λ r. (mark.exactly r).1) done sd) ((mark.exactly _).1 sr.0) (refs_changed (λ r. (mark.exactly r).1) us sr.1) (new_covered safe);
+            covered = one_covered (new_kept mark safe) ((mark.exactly _).1 st)
+                (refs_changed (λ r. (mark.exactly r).1) done sd) ((mark.exactly _).1 sn.0)
+                (refs_changed (λ r. (mark.exactly r).1) us sn.1) (new_covered safe);
           },
         ),
       )
-  on_some_so {w} {after = after} {p} {b} {l} {t} {e} {F} {T} {K} (some_whole g su h) st sd sr safe =
-      (ap (goes_on F T b (map (record_tree (S.term_of w)) K) l after p (map (option_map (S.term_of w)) e)) h ∙ run_same refl (grown_places g e safe.places) (grown_records g K safe.records), (su, grown_safe g safe))
-  on_some_so {w} {after = after} {p} {b} {l} {t} {e} {F} {T} {K} (some_oversize g h) st sd sr safe = (ap (goes_on F T b (map (record_tree (S.term_of w)) K) l after p (map (option_map (S.term_of w)) e)) h, tt)
-  on_some_so some_none st sd sr safe = (refl, safe)
+  on_one_so {w} {body = body} {after} {p} {b} {l} {t} {e} {F} {T} {K} {done} (one_none none) st sd sr safe = (
+    ap (on_one F T b (map (record_tree (S.term_of w)) K) l body after p (S.term_of w t)
+        (map (option_map (S.term_of w)) e) (trees (S.term_of w) done)) none,
+    safe,
+  )
+
+  on_some_so : {w w1 : W} {body after p b l : ℕ} {t : R} {e : Places R} {F : List Frame} {T : List ℕ}
+      {K : List (RefRecord R Y)} {done rest : List R} {found : Bool} {m1 : RefState R Y} →
+      OnSome S w body after p t e F T b K l done found rest w1 m1 →
+      Stands S w t → AllRefs (Stands S w) done → AllRefs (Stands S w) rest → Safe S w e T b K →
+      (on_some F T b (map (record_tree (S.term_of w)) K) l body after p (S.term_of w t)
+      (map (option_map (S.term_of w)) e) found (trees (S.term_of w) done)
+      (trees_left (S.term_of w) t (length done) rest) ≡ state_tree (S.term_of w1) m1) × Holds S w1 m1
+  on_some_so {w} {body = body} {after} {p} {b} {l} {t} {e} {F} {T} {K} {done} {found = found}
+      (some_goes_on {us = us} {u} x mark) st sd sr safe =
+      let f = S.term_of w in
+      let hn = map_length (option_map (S.term_of w)) e in let sn = x.standing st sr in
+      let here : on_some F T b (map (record_tree f) K) l body after p (f t) (map (option_map f) e) found (trees f done)
+      (more (f u) (trees_left f t (suc (length done)) us)) ≡
+      running body p (f u) (map (option_map f) e) F T (length e)
+      (some_record body after (f t) (trees f done) (f u) (trees_left f t (suc (length done)) us) found
+      (saved p (length F) (length T) b) ∷ map (record_tree f) K) l = cc in (
+        ap (on_some F T b (map (record_tree f) K) l body after p (f t) (map (option_map f) e) found (trees f done))
+            x.are ∙ here,
+        (
+          sn.0,
+          record {
+            places = safe.places;
+            records = ((st, sd, sn.0, sn.1, mark.valid), safe.records);
+            low = omega arith;
+            covered = some_covered (new_kept mark safe) ((mark.exactly _).1 st)
+                (refs_changed (λ r. (mark.exactly r).1) done sd) ((mark.exactly _).1 sn.0)
+                (refs_changed (λ r. (mark.exactly r).1) us sn.1) (new_covered safe);
+          },
+        ),
+      )
+  on_some_so {w} {body = body} {after} {p} {b} {l} {t} {e} {F} {T} {K} {done} (some_whole none g su h) st sd sr safe = (
+    ap (on_some F T b (map (record_tree (S.term_of w)) K) l body after p (S.term_of w t)
+        (map (option_map (S.term_of w)) e) true (trees (S.term_of w) done)) none
+        ∙ ap (goes_on F T b (map (record_tree (S.term_of w)) K) l after p (map (option_map (S.term_of w)) e)) h
+        ∙ run_same refl (grown_places g e safe.places) (grown_records g K safe.records),
+    (su, grown_safe g safe),
+  )
+  on_some_so {w} {body = body} {after} {p} {b} {l} {t} {e} {F} {T} {K} {done} (some_oversize none g h) st sd sr safe = (
+    ap (on_some F T b (map (record_tree (S.term_of w)) K) l body after p (S.term_of w t)
+        (map (option_map (S.term_of w)) e) true (trees (S.term_of w) done)) none
+        ∙ ap (goes_on F T b (map (record_tree (S.term_of w)) K) l after p (map (option_map (S.term_of w)) e)) h,
+    tt,
+  )
+  on_some_so {w} {body = body} {after} {p} {b} {l} {t} {e} {F} {T} {K} {done} (some_none none) st sd sr safe = (
+    ap (on_some F T b (map (record_tree (S.term_of w)) K) l body after p (S.term_of w t)
+        (map (option_map (S.term_of w)) e) false (trees (S.term_of w) done)) none,
+    safe,
+  )
 
   selecting_so : {w : W} {last p b : ℕ} {t : R} {e : Places R} {F : List Frame} {T : List ℕ} {K : List (RefRecord R Y)} {cs : List Case} {l : ℕ} {m1 : RefState R Y} → Selecting S w last p t e F T b K cs l m1 → Stands S w t → Safe S w e T b K →
       (selected cs last p (S.term_of w t) (map (option_map (S.term_of w)) e) F T b (map (record_tree (S.term_of w)) K) l ≡ state_tree (S.term_of w) m1) × Holds S w m1
@@ -389,53 +470,130 @@ module _ {W R Y N : Type 0} {S : Space W R Y N} where
   choice_back code M {t = t} F back safe (choice_covered kept ct c) =
       (run_same (sym (back.terms t ct)) (back_places back kept) (back_records back kept), ((back.exactly t).1 ct, back_safe back safe.low kept c))
 
-  one_back_last : (code : Code) (M : Meaning) {body after q k h d b l : ℕ} {t u : R} {done : List R} {e : Places R} (F : List Frame) {T : List ℕ} {K : List (RefRecord R Y)} {m : Y} {w w1 : W} → GoesBack S w m w1 → Safe S w e T b (ref_one body after t done u [] (saved q k h d) m ∷ K) → Covered S e T b (ref_one body after t done u [] (saved q k h d) m ∷ K) →
-      (next code M (state_tree (S.term_of w) (ref_failing e F T b (ref_one body after t done u [] (saved q k h d) m ∷ K) l)) ≡ state_tree (S.term_of w1) (ref_failing (take b (undone (above h T) e)) (take k F) (down_to h T) d K l)) × Holds S w1 (ref_failing (take b (undone (above h T) e)) (take k F) (down_to h T) d K l)
-  one_back_last code M {t = t} F back safe (one_covered kept ct cd cu cr c) =
-      (fail_same (back_places back kept) (back_records back kept), back_safe back safe.low kept c)
+  one_back_last : (code : Code) (M : Meaning) {body after q k h d b l : ℕ} {t u : R} {done : List R} {e : Places R} (F : List Frame)
+      {T : List ℕ} {K : List (RefRecord R Y)} {m : Y} {w w1 : W} → GoesBack S w m w1 →
+      HasNoMore S w1 t (suc (length done)) →
+      Safe S w e T b (ref_one body after t done u [] (saved q k h d) m ∷ K) → Covered S e T b (ref_one body after t done u [] (saved q k h d) m ∷ K) →
+      (next code M (state_tree (S.term_of w) (ref_failing e F T b (ref_one body after t done u [] (saved q k h d) m ∷ K) l)) ≡
+      state_tree (S.term_of w1) (ref_failing (take b (undone (above h T) e)) (take k F) (down_to h T) d K l)) × Holds S w1 (ref_failing (take b (undone (above h T) e)) (take k F) (down_to h T) d K l)
+  one_back_last code M {body = body} {after} {q} {k} {h} {d} {b} {l} {t} {u} {done} {e} F {T} {K} {m} {w} {w1}
+      back none safe (one_covered kept ct cd cu cr c) =
+      let f = S.term_of w in let ht = back.terms t ct in
+      let hl = sym (left_same (Covers S m) f (S.term_of w1) back.terms t ht (suc (length done)) [] cr) in (
+        ap (on_one (take k F) (down_to h T) d (map (record_tree f) K) l body after q (f t)
+            (take b (undone (above h T) (map (option_map f) e))) (more (f u) (trees f done))) (hl ∙ none) ∙
+            fail_same (back_places back kept) (back_records back kept),
+        back_safe back safe.low kept c,
+      )
 
-  some_back_none : (code : Code) (M : Meaning) {body after q k h d b l : ℕ} {t u : R} {done : List R} {e : Places R} (F : List Frame) {T : List ℕ} {K : List (RefRecord R Y)} {m : Y} {w w1 : W} → GoesBack S w m w1 → Safe S w e T b (ref_some body after t done u [] false (saved q k h d) m ∷ K) → Covered S e T b (ref_some body after t done u [] false (saved q k h d) m ∷ K) →
-      (next code M (state_tree (S.term_of w) (ref_failing e F T b (ref_some body after t done u [] false (saved q k h d) m ∷ K) l)) ≡ state_tree (S.term_of w1) (ref_failing (take b (undone (above h T) e)) (take k F) (down_to h T) d K l)) × Holds S w1 (ref_failing (take b (undone (above h T) e)) (take k F) (down_to h T) d K l)
-  some_back_none code M {t = t} F back safe (some_covered kept ct cd cu cr c) =
-      (fail_same (back_places back kept) (back_records back kept), back_safe back safe.low kept c)
+  some_back_none : (code : Code) (M : Meaning) {body after q k h d b l : ℕ} {t u : R} {done : List R} {e : Places R} (F : List Frame)
+      {T : List ℕ} {K : List (RefRecord R Y)} {m : Y} {w w1 : W} → GoesBack S w m w1 →
+      HasNoMore S w1 t (suc (length done)) →
+      Safe S w e T b (ref_some body after t done u [] false (saved q k h d) m ∷ K) → Covered S e T b (ref_some body after t done u [] false (saved q k h d) m ∷ K) →
+      (next code M (state_tree (S.term_of w) (ref_failing e F T b (ref_some body after t done u [] false (saved q k h d) m ∷ K) l)) ≡
+      state_tree (S.term_of w1) (ref_failing (take b (undone (above h T) e)) (take k F) (down_to h T) d K l)) × Holds S w1 (ref_failing (take b (undone (above h T) e)) (take k F) (down_to h T) d K l)
+  some_back_none code M {body = body} {after} {q} {k} {h} {d} {b} {l} {t} {u} {done} {e} F {T} {K} {m} {w} {w1}
+      back none safe (some_covered kept ct cd cu cr c) =
+      let f = S.term_of w in let ht = back.terms t ct in
+      let hl = sym (left_same (Covers S m) f (S.term_of w1) back.terms t ht (suc (length done)) [] cr) in (
+        ap (on_some_unchanged (take k F) (down_to h T) d (map (record_tree f) K) l body after q (f t)
+            (take b (undone (above h T) (map (option_map f) e))) false (trees f done) (f u)) (hl ∙ none) ∙
+            fail_same (back_places back kept) (back_records back kept),
+        back_safe back safe.low kept c,
+      )
 
-  some_back_last : (code : Code) (M : Meaning) {body after q k h d b l : ℕ} {t u : R} {done : List R} {e : Places R} (F : List Frame) {T : List ℕ} {K : List (RefRecord R Y)} {m : Y} {w w1 : W} → GoesBack S w m w1 → Safe S w e T b (ref_some body after t done u [] true (saved q k h d) m ∷ K) → Covered S e T b (ref_some body after t done u [] true (saved q k h d) m ∷ K) →
-      (next code M (state_tree (S.term_of w) (ref_failing e F T b (ref_some body after t done u [] true (saved q k h d) m ∷ K) l)) ≡ state_tree (S.term_of w1) (ref_running (after - 1) q u (take b (undone (above h T) e)) (take k F) (down_to h T) d (ref_all body after t done [] ∷ K) l)) × Holds S w1 (ref_running (after - 1) q u (take b (undone (above h T) e)) (take k F) (down_to h T) d (ref_all body after t done [] ∷ K) l)
-  some_back_last code M {t = t} {u} {done} F back safe (some_covered kept ct cd cu cr c) =
-      let s = back_safe back safe.low kept c in let hp = back_places back kept in let hr = back_records back kept in let ht = back.terms t ct in let hu = back.terms u cu in let hd = back_trees back done cd in
-      (cc, ((back.exactly u).1 cu, record { places = s.places; records = (((back.exactly t).1 ct, refs_changed (λ r. (back.exactly r).1) done cd, tt), s.records); covered = all_covered s.covered; low = s.low }))
-
-  one_back_next : (code : Code) (M : Meaning) {body after q k h d b l : ℕ} {t u v : R} {done rest : List R} {e : Places R} (F : List Frame) {T : List ℕ} {K : List (RefRecord R Y)} {m n : Y} {w w1 : W} → GoesBack S w m w1 → IsMark S w1 n → Safe S w e T b (ref_one body after t done u (v ∷ rest) (saved q k h d) m ∷ K) → Covered S e T b (ref_one body after t done u (v ∷ rest) (saved q k h d) m ∷ K) →
-      (next code M (state_tree (S.term_of w) (ref_failing e F T b (ref_one body after t done u (v ∷ rest) (saved q k h d) m ∷ K) l)) ≡ state_tree (S.term_of w1) (ref_running body q v (take b (undone (above h T) e)) (take k F) (down_to h T) (length (take b (undone (above h T) e))) (ref_one body after t (u ∷ done) v rest (saved q (length (take k F)) (length (down_to h T)) d) n ∷ K) l)) × Holds S w1 (ref_running body q v (take b (undone (above h T) e)) (take k F) (down_to h T) (length (take b (undone (above h T) e))) (ref_one body after t (u ∷ done) v rest (saved q (length (take k F)) (length (down_to h T)) d) n ∷ K) l)
-  one_back_next code M {h = h} {b = b} {t = t} {u} {v} {done} {rest} {e = e} F {T = T} {w1 = w1} back mark safe (one_covered kept ct cd cu cr c) =
-      let s = back_safe back safe.low kept c in let hp = back_places back kept in let hr = back_records back kept in let ht = back.terms t ct in let hu = back.terms u cu in let hv = back.terms v cr.0 in
-      let hd = back_trees back done cd in let hs = back_trees back rest cr.1 in let hn = map_length (option_map (S.term_of w1)) (take b (undone (above h T) e)) in
-      let st = (back.exactly t).1 ct in let su = (back.exactly u).1 cu in let sv = (back.exactly v).1 cr.0 in let sd = refs_changed (λ r. (back.exactly r).1) done cd in let ss = refs_changed (λ r. (back.exactly r).1) rest cr.1 in (
-        cc,
+  some_back_last : (code : Code) (M : Meaning) {body after q k h d b l : ℕ} {t u : R} {done : List R} {e : Places R} (F : List Frame)
+      {T : List ℕ} {K : List (RefRecord R Y)} {m : Y} {w w1 : W} → GoesBack S w m w1 →
+      HasNoMore S w1 t (suc (length done)) →
+      Safe S w e T b (ref_some body after t done u [] true (saved q k h d) m ∷ K) → Covered S e T b (ref_some body after t done u [] true (saved q k h d) m ∷ K) →
+      (next code M (state_tree (S.term_of w) (ref_failing e F T b (ref_some body after t done u [] true (saved q k h d) m ∷ K) l)) ≡
+      state_tree (S.term_of w1) (ref_running (after - 1) q u (take b (undone (above h T) e)) (take k F) (down_to h T) d
+      (ref_all body after t done [] ∷ K) l)) × Holds S w1 (ref_running (after - 1) q u (take b (undone (above h T) e)) (take k F) (down_to h T) d
+      (ref_all body after t done [] ∷ K) l)
+  some_back_last code M {body = body} {after} {q} {k} {h} {d} {b} {l} {t} {u} {done} {e} F {T} {K} {m} {w} {w1}
+      back none safe (some_covered kept ct cd cu cr c) =
+      let f = S.term_of w in let ht = back.terms t ct in
+      let hl = sym (left_same (Covers S m) f (S.term_of w1) back.terms t ht (suc (length done)) [] cr) in
+      let s = back_safe back safe.low kept c in let hp = back_places back kept in let hr = back_records back kept in
+      let hu = back.terms u cu in let hd = back_trees back done cd in (
+        ap (on_some_unchanged (take k F) (down_to h T) d (map (record_tree f) K) l body after q (f t)
+            (take b (undone (above h T) (map (option_map f) e))) true (trees f done) (f u)) (hl ∙ none) ∙ cc,
         (
-          sv,
+          (back.exactly u).1 cu,
           record {
             places = s.places;
-            records = ((st, (su, sd), sv, ss, mark.valid), s.records);
-            covered = one_covered (new_kept mark s) ((mark.exactly t).1 st) ((mark.exactly u).1 su, refs_changed (λ r. (mark.exactly r).1) done sd) ((mark.exactly v).1 sv) (refs_changed (λ r. (mark.exactly r).1) rest ss) (new_covered s);
+            records = (((back.exactly t).1 ct, refs_changed (λ r. (back.exactly r).1) done cd, tt), s.records);
+            covered = all_covered s.covered;
+            low = s.low;
+          },
+        ),
+      )
+
+  one_back_next : (code : Code) (M : Meaning) {body after q k h d b l : ℕ} {t u v : R} {done rest us : List R} {e : Places R} (F : List Frame)
+      {T : List ℕ} {K : List (RefRecord R Y)} {m n : Y} {w w1 : W} → GoesBack S w m w1 →
+      IsNext S w1 t (suc (length done)) rest v us → IsMark S w1 n →
+      Safe S w e T b (ref_one body after t done u rest (saved q k h d) m ∷ K) → Covered S e T b (ref_one body after t done u rest (saved q k h d) m ∷ K) →
+      (next code M (state_tree (S.term_of w) (ref_failing e F T b (ref_one body after t done u rest (saved q k h d) m ∷ K) l)) ≡
+      state_tree (S.term_of w1) (ref_running body q v (take b (undone (above h T) e)) (take k F) (down_to h T) (length (take b (undone (above h T) e)))
+      (ref_one body after t (u ∷ done) v us
+      (saved q (length (take k F)) (length (down_to h T)) d) n ∷ K) l)) × Holds S w1 (ref_running body q v (take b (undone (above h T) e)) (take k F) (down_to h T) (length (take b (undone (above h T) e)))
+      (ref_one body after t (u ∷ done) v us
+      (saved q (length (take k F)) (length (down_to h T)) d) n ∷ K) l)
+  one_back_next code M {body = body} {after} {q} {k} {h} {d} {b} {l} {t} {u} {v} {done} {rest} {us} {e} F {T} {K} {m} {n} {w}
+      {w1} back x mark safe (one_covered kept ct cd cu cr c) =
+      let f = S.term_of w in let ht = back.terms t ct in
+      let hl = sym (left_same (Covers S m) f (S.term_of w1) back.terms t ht (suc (length done)) rest cr) in
+      let s = back_safe back safe.low kept c in let hp = back_places back kept in let hr = back_records back kept in
+      let hu = back.terms u cu in let hd = back_trees back done cd in
+      let hn = map_length (option_map (S.term_of w1)) (take b (undone (above h T) e)) in
+      let st = (back.exactly t).1 ct in let su = (back.exactly u).1 cu in
+      let sd = refs_changed (λ r. (back.exactly r).1) done cd in
+      let sn = x.standing st (refs_changed (λ r. (back.exactly r).1) rest cr) in (
+        ap (on_one (take k F) (down_to h T) d (map (record_tree f) K) l body after q (f t)
+            (take b (undone (above h T) (map (option_map f) e))) (more (f u) (trees f done))) (hl ∙ x.are) ∙ cc,
+        (
+          sn.0,
+          record {
+            places = s.places;
+            records = ((st, (su, sd), sn.0, sn.1, mark.valid), s.records);
+            covered = one_covered (new_kept mark s) ((mark.exactly t).1 st)
+                ((mark.exactly u).1 su, refs_changed (λ r. (mark.exactly r).1) done sd) ((mark.exactly v).1 sn.0)
+                (refs_changed (λ r. (mark.exactly r).1) us sn.1) (new_covered s);
             low = omega arith;
           },
         ),
       )
 
-  some_back_next : (code : Code) (M : Meaning) {body after q k h d b l : ℕ} {t u v : R} {done rest : List R} {found : Bool} {e : Places R} (F : List Frame) {T : List ℕ} {K : List (RefRecord R Y)} {m n : Y} {w w1 : W} → GoesBack S w m w1 → IsMark S w1 n → Safe S w e T b (ref_some body after t done u (v ∷ rest) found (saved q k h d) m ∷ K) → Covered S e T b (ref_some body after t done u (v ∷ rest) found (saved q k h d) m ∷ K) →
-      (next code M (state_tree (S.term_of w) (ref_failing e F T b (ref_some body after t done u (v ∷ rest) found (saved q k h d) m ∷ K) l)) ≡ state_tree (S.term_of w1) (ref_running body q v (take b (undone (above h T) e)) (take k F) (down_to h T) (length (take b (undone (above h T) e))) (ref_some body after t (u ∷ done) v rest found (saved q (length (take k F)) (length (down_to h T)) d) n ∷ K) l)) × Holds S w1 (ref_running body q v (take b (undone (above h T) e)) (take k F) (down_to h T) (length (take b (undone (above h T) e))) (ref_some body after t (u ∷ done) v rest found (saved q (length (take k F)) (length (down_to h T)) d) n ∷ K) l)
-  some_back_next code M {h = h} {b = b} {t = t} {u} {v} {done} {rest} {e = e} F {T = T} {w1 = w1} back mark safe (some_covered kept ct cd cu cr c) =
-      let s = back_safe back safe.low kept c in let hp = back_places back kept in let hr = back_records back kept in let ht = back.terms t ct in let hu = back.terms u cu in let hv = back.terms v cr.0 in
-      let hd = back_trees back done cd in let hs = back_trees back rest cr.1 in let hn = map_length (option_map (S.term_of w1)) (take b (undone (above h T) e)) in
-      let st = (back.exactly t).1 ct in let su = (back.exactly u).1 cu in let sv = (back.exactly v).1 cr.0 in let sd = refs_changed (λ r. (back.exactly r).1) done cd in let ss = refs_changed (λ r. (back.exactly r).1) rest cr.1 in (
-        cc,
+  some_back_next : (code : Code) (M : Meaning) {body after q k h d b l : ℕ} {t u v : R} {done rest us : List R} {found : Bool} {e : Places R} (F : List Frame)
+      {T : List ℕ} {K : List (RefRecord R Y)} {m n : Y} {w w1 : W} → GoesBack S w m w1 →
+      IsNext S w1 t (suc (length done)) rest v us → IsMark S w1 n →
+      Safe S w e T b (ref_some body after t done u rest found (saved q k h d) m ∷ K) → Covered S e T b (ref_some body after t done u rest found (saved q k h d) m ∷ K) →
+      (next code M (state_tree (S.term_of w) (ref_failing e F T b (ref_some body after t done u rest found (saved q k h d) m ∷ K) l)) ≡
+      state_tree (S.term_of w1) (ref_running body q v (take b (undone (above h T) e)) (take k F) (down_to h T) (length (take b (undone (above h T) e)))
+      (ref_some body after t (u ∷ done) v us found
+      (saved q (length (take k F)) (length (down_to h T)) d) n ∷ K) l)) × Holds S w1 (ref_running body q v (take b (undone (above h T) e)) (take k F) (down_to h T) (length (take b (undone (above h T) e)))
+      (ref_some body after t (u ∷ done) v us found
+      (saved q (length (take k F)) (length (down_to h T)) d) n ∷ K) l)
+  some_back_next code M {body = body} {after} {q} {k} {h} {d} {b} {l} {t} {u} {v} {done} {rest} {us} {found} {e} F {T} {K} {m}
+      {n} {w} {w1} back x mark safe (some_covered kept ct cd cu cr c) =
+      let f = S.term_of w in let ht = back.terms t ct in
+      let hl = sym (left_same (Covers S m) f (S.term_of w1) back.terms t ht (suc (length done)) rest cr) in
+      let s = back_safe back safe.low kept c in let hp = back_places back kept in let hr = back_records back kept in
+      let hu = back.terms u cu in let hd = back_trees back done cd in
+      let hn = map_length (option_map (S.term_of w1)) (take b (undone (above h T) e)) in
+      let st = (back.exactly t).1 ct in let su = (back.exactly u).1 cu in
+      let sd = refs_changed (λ r. (back.exactly r).1) done cd in
+      let sn = x.standing st (refs_changed (λ r. (back.exactly r).1) rest cr) in (
+        ap (on_some_unchanged (take k F) (down_to h T) d (map (record_tree f) K) l body after q (f t)
+            (take b (undone (above h T) (map (option_map f) e))) found (trees f done) (f u)) (hl ∙ x.are) ∙ cc,
         (
-          sv,
+          sn.0,
           record {
             places = s.places;
-            records = ((st, (su, sd), sv, ss, mark.valid), s.records);
-            covered = some_covered (new_kept mark s) ((mark.exactly t).1 st) ((mark.exactly u).1 su, refs_changed (λ r. (mark.exactly r).1) done sd) ((mark.exactly v).1 sv) (refs_changed (λ r. (mark.exactly r).1) rest ss) (new_covered s);
+            records = ((st, (su, sd), sn.0, sn.1, mark.valid), s.records);
+            covered = some_covered (new_kept mark s) ((mark.exactly t).1 st)
+                ((mark.exactly u).1 su, refs_changed (λ r. (mark.exactly r).1) done sd) ((mark.exactly v).1 sn.0)
+                (refs_changed (λ r. (mark.exactly r).1) us sn.1) (new_covered s);
             low = omega arith;
           },
         ),
@@ -462,11 +620,11 @@ module _ {W R Y N : Type 0} {S : Space W R Y N} where
   step_so fails_call h = (refl, passed_call h.covered h)
   step_so fails_all h = (refl, passed_all h.covered h)
   step_so {code} {M} (fails_choice {F = F} back) safe = choice_back code M F back safe safe.covered
-  step_so {code} {M} (fails_one_last {F = F} back) safe = one_back_last code M F back safe safe.covered
-  step_so {code} {M} (fails_one_next {F = F} back mark) safe = one_back_next code M F back mark safe safe.covered
-  step_so {code} {M} (fails_some_none {F = F} back) safe = some_back_none code M F back safe safe.covered
-  step_so {code} {M} (fails_some_last {F = F} back) safe = some_back_last code M F back safe safe.covered
-  step_so {code} {M} (fails_some_next {F = F} back mark) safe = some_back_next code M F back mark safe safe.covered
+  step_so {code} {M} (fails_one_last {F = F} back none) safe = one_back_last code M F back none safe safe.covered
+  step_so {code} {M} (fails_one_next {F = F} back x mark) safe = one_back_next code M F back x mark safe safe.covered
+  step_so {code} {M} (fails_some_none {F = F} back none) safe = some_back_none code M F back none safe safe.covered
+  step_so {code} {M} (fails_some_last {F = F} back none) safe = some_back_last code M F back none safe safe.covered
+  step_so {code} {M} (fails_some_next {F = F} back x mark) safe = some_back_next code M F back x mark safe safe.covered
 
   goes_from : {code : Code} {M : Meaning} {w w1 : W} {m m1 : RefState R Y} → StepRef S code M w m w1 m1 → IsGoing (state_tree (S.term_of w) m)
   goes_from (performs rest at cost x) = tt
@@ -476,11 +634,11 @@ module _ {W R Y N : Type 0} {S : Space W R Y N} where
   goes_from fails_call = tt
   goes_from fails_all = tt
   goes_from (fails_choice back) = tt
-  goes_from (fails_one_last back) = tt
-  goes_from (fails_one_next back mark) = tt
-  goes_from (fails_some_none back) = tt
-  goes_from (fails_some_last back) = tt
-  goes_from (fails_some_next back mark) = tt
+  goes_from (fails_one_last back none) = tt
+  goes_from (fails_one_next back x mark) = tt
+  goes_from (fails_some_none back none) = tt
+  goes_from (fails_some_last back none) = tt
+  goes_from (fails_some_next back x mark) = tt
 
   -- a run is the run of the trees
   pub steps_so : {code : Code} {M : Meaning} {k : ℕ} {w w1 : W} {m m1 : RefState R Y} → StepsRef S code M k w m w1 m1 → Holds S w m → Steps code M k (state_tree (S.term_of w) m) (state_tree (S.term_of w1) m1) × Holds S w1 m1

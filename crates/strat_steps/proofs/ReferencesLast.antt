@@ -22,24 +22,24 @@ module _ {W R Y N : Type 0} {S : Space W R Y N} (r : R) where
       {K : List (RefRecord R Y)} {done rest : List R} {m1 : RefState R Y} →
       OnAll S w body after p t e F T b K l done rest w1 m1 → Stands S w r → MarksCover S r K →
       (S.term_of w1 r ≡ S.term_of w r) × Lasts S r w1 m1
-  all_lasts all_goes_on st c = (refl, (st, c))
-  all_lasts (all_whole g su h) st c = (g.terms r st, (g.standing r st, c))
-  all_lasts (all_oversize g h) st c = (g.terms r st, g.standing r st)
+  all_lasts (all_goes_on x) st c = (refl, (st, c))
+  all_lasts (all_whole none g su h) st c = (g.terms r st, (g.standing r st, c))
+  all_lasts (all_oversize none g h) st c = (g.terms r st, g.standing r st)
 
   one_lasts : {w : W} {body after p b l : ℕ} {t : R} {e : Places R} {F : List Frame} {T : List ℕ}
       {K : List (RefRecord R Y)} {done rest : List R} {m1 : RefState R Y} →
       OnOne S w body after p t e F T b K l done rest m1 → Stands S w r → MarksCover S r K → Lasts S r w m1
-  one_lasts (one_goes_on mark) st c = (st, ((mark.exactly r).1 st, c))
-  one_lasts one_none st c = (st, c)
+  one_lasts (one_goes_on x mark) st c = (st, ((mark.exactly r).1 st, c))
+  one_lasts (one_none none) st c = (st, c)
 
   some_lasts : {w w1 : W} {body after p b l : ℕ} {t : R} {e : Places R} {F : List Frame} {T : List ℕ}
       {K : List (RefRecord R Y)} {done rest : List R} {found : Bool} {m1 : RefState R Y} →
       OnSome S w body after p t e F T b K l done found rest w1 m1 → Stands S w r → MarksCover S r K →
       (S.term_of w1 r ≡ S.term_of w r) × Lasts S r w1 m1
-  some_lasts (some_goes_on mark) st c = (refl, (st, ((mark.exactly r).1 st, c)))
-  some_lasts (some_whole g su h) st c = (g.terms r st, (g.standing r st, c))
-  some_lasts (some_oversize g h) st c = (g.terms r st, g.standing r st)
-  some_lasts some_none st c = (refl, (st, c))
+  some_lasts (some_goes_on x mark) st c = (refl, (st, ((mark.exactly r).1 st, c)))
+  some_lasts (some_whole none g su h) st c = (g.terms r st, (g.standing r st, c))
+  some_lasts (some_oversize none g h) st c = (g.terms r st, g.standing r st)
+  some_lasts (some_none none) st c = (refl, (st, c))
 
   does_lasts : {M : Meaning} {w w1 : W} {v : Instr} {i p b l : ℕ} {t : R} {e : Places R} {F : List Frame} {T : List ℕ}
       {K : List (RefRecord R Y)} {m1 : RefState R Y} → Does S M w v i p t e F T b K l w1 m1 → Stands S w r →
@@ -91,12 +91,12 @@ module _ {W R Y N : Type 0} {S : Space W R Y N} (r : R) where
   step_lasts fails_call h = (refl, h)
   step_lasts fails_all h = (refl, h)
   step_lasts (fails_choice back) h = (back.terms r h.1.0, ((back.exactly r).1 h.1.0, h.1.1))
-  step_lasts (fails_one_last back) h = (back.terms r h.1.0, ((back.exactly r).1 h.1.0, h.1.1))
-  step_lasts (fails_one_next back mark) h =
+  step_lasts (fails_one_last back none) h = (back.terms r h.1.0, ((back.exactly r).1 h.1.0, h.1.1))
+  step_lasts (fails_one_next back x mark) h =
       (back.terms r h.1.0, ((back.exactly r).1 h.1.0, ((mark.exactly r).1 ((back.exactly r).1 h.1.0), h.1.1)))
-  step_lasts (fails_some_none back) h = (back.terms r h.1.0, ((back.exactly r).1 h.1.0, h.1.1))
-  step_lasts (fails_some_last back) h = (back.terms r h.1.0, ((back.exactly r).1 h.1.0, h.1.1))
-  step_lasts (fails_some_next back mark) h =
+  step_lasts (fails_some_none back none) h = (back.terms r h.1.0, ((back.exactly r).1 h.1.0, h.1.1))
+  step_lasts (fails_some_last back none) h = (back.terms r h.1.0, ((back.exactly r).1 h.1.0, h.1.1))
+  step_lasts (fails_some_next back x mark) h =
       (back.terms r h.1.0, ((back.exactly r).1 h.1.0, ((mark.exactly r).1 ((back.exactly r).1 h.1.0), h.1.1)))
 
   pub steps_last : {code : Code} {M : Meaning} {k : ℕ} {w w1 : W} {m m1 : RefState R Y} →

@@ -15,44 +15,55 @@ use Rattle.strat_steps.specs.State.{Frame, frame, saved, run_failed, run_oversiz
 use Rattle.strat_steps.specs.Matches.{LeavesSpace}
 use Rattle.strat_steps.specs.Binding.{undone, above, down_to, trimmed, attempt, attempted}
 use Rattle.term_model.specs.Space.{Space, Keeps, GoesBack, IsMark, Stands}
-use Rattle.strat_steps.specs.References.{Places, RefRecord, ref_call, ref_choice, ref_all, ref_one, ref_some, RefState, ref_running, ref_failing, ref_rewritten, ref_stopped, trees, record_tree, AllRefs, Binds}
+use Rattle.strat_steps.specs.References.{Places, RefRecord, ref_call, ref_choice, ref_all, ref_one, ref_some, RefState, ref_running, ref_failing, ref_rewritten, ref_stopped, trees, trees_left, record_tree, AllRefs, Binds}
 
 module _ {W R Y N : Type 0} (S : Space W R Y N) where
+  -- Of the parts of a term that are left, where n come before: with references to the next ones, this is the first of
+  -- them, and these are references to some that come after it. None of them is made, for the term's own parts stand
+  pub record IsNext (w : W) (t : R) (n : ℕ) (rest : List R) (u : R) (us : List R) : Type 0 where
+    pub are : trees_left (S.term_of w) t n rest ≡ more (S.term_of w u) (trees_left (S.term_of w) t (suc n) us)
+    pub standing : Stands S w t → AllRefs (Stands S w) rest → Stands S w u × AllRefs (Stands S w) us
+
+  -- the term has no more than n parts
+  abbrev pub HasNoMore : W → R → ℕ → Type 0
+  HasNoMore w t n = trees_left (S.term_of w) t n [] ≡ end
+
   -- the next part of a traversal, or its end
   module _ (w : W) (body after p : ℕ) (t : R) (e : Places R) (F : List Frame) (T : List ℕ) (b : ℕ)
       (K : List (RefRecord R Y)) (l : ℕ) (done : List R) where
     pub data OnAll : List R → W → RefState R Y → Type 0 where
-      all_goes_on : {u : R} {us : List R} →
-          OnAll (u ∷ us) w (ref_running body p u e F T b (ref_all body after t done us ∷ K) l)
-      all_whole : {u : R} {w1 : W} → Keeps S w w1 → Stands S w1 u →
+      all_goes_on : {rest us : List R} {u : R} → IsNext w t (length done) rest u us →
+          OnAll rest w (ref_running body p u e F T b (ref_all body after t done us ∷ K) l)
+      all_whole : {u : R} {w1 : W} → HasNoMore w t (length done) → Keeps S w w1 → Stands S w1 u →
           rebuilt (S.term_of w t) (ok (in_order (trees (S.term_of w) done) end) (map (option_map (S.term_of w)) e)) ≡
           ok (S.term_of w1 u) (map (option_map (S.term_of w)) e) →
           OnAll [] w1 (ref_running after p u e F T b K l)
-      all_oversize : {w1 : W} → Keeps S w w1 →
+      all_oversize : {w1 : W} → HasNoMore w t (length done) → Keeps S w w1 →
           rebuilt (S.term_of w t) (ok (in_order (trees (S.term_of w) done) end) (map (option_map (S.term_of w)) e)) ≡
           oversize →
           OnAll [] w1 (ref_stopped run_oversize l)
 
     pub data OnOne : List R → RefState R Y → Type 0 where
-      one_goes_on : {u : R} {us : List R} {m : Y} → IsMark S w m →
-          OnOne (u ∷ us) (ref_running body p u e F T (length e)
+      one_goes_on : {rest us : List R} {u : R} {m : Y} → IsNext w t (length done) rest u us → IsMark S w m →
+          OnOne rest (ref_running body p u e F T (length e)
           (ref_one body after t done u us (saved p (length F) (length T) b) m ∷ K) l)
-      one_none : OnOne [] (ref_failing e F T b K l)
+      one_none : HasNoMore w t (length done) → OnOne [] (ref_failing e F T b K l)
 
     pub data OnSome : Bool → List R → W → RefState R Y → Type 0 where
-      some_goes_on : {found : Bool} {u : R} {us : List R} {m : Y} → IsMark S w m →
-          OnSome found (u ∷ us)
+      some_goes_on : {found : Bool} {rest us : List R} {u : R} {m : Y} → IsNext w t (length done) rest u us →
+          IsMark S w m →
+          OnSome found rest
           w (ref_running body p u e F T (length e)
           (ref_some body after t done u us found (saved p (length F) (length T) b) m ∷ K) l)
-      some_whole : {u : R} {w1 : W} → Keeps S w w1 → Stands S w1 u →
+      some_whole : {u : R} {w1 : W} → HasNoMore w t (length done) → Keeps S w w1 → Stands S w1 u →
           rebuilt (S.term_of w t) (ok (in_order (trees (S.term_of w) done) end) (map (option_map (S.term_of w)) e)) ≡
           ok (S.term_of w1 u) (map (option_map (S.term_of w)) e) →
           OnSome true [] w1 (ref_running after p u e F T b K l)
-      some_oversize : {w1 : W} → Keeps S w w1 →
+      some_oversize : {w1 : W} → HasNoMore w t (length done) → Keeps S w w1 →
           rebuilt (S.term_of w t) (ok (in_order (trees (S.term_of w) done) end) (map (option_map (S.term_of w)) e)) ≡
           oversize →
           OnSome true [] w1 (ref_stopped run_oversize l)
-      some_none : OnSome false [] w (ref_failing e F T b K l)
+      some_none : HasNoMore w t (length done) → OnSome false [] w (ref_failing e F T b K l)
 
   -- the first alternative that can have the root
   module _ (w : W) (last p : ℕ) (t : R) (e : Places R) (F : List Frame) (T : List ℕ) (b : ℕ) (K : List (RefRecord R Y))
@@ -191,15 +202,15 @@ module _ {W R Y N : Type 0} (S : Space W R Y N) where
           {K : List (RefRecord R Y)} {m1 : RefState R Y} → Selecting w last p t e F T b K cs l m1 →
           Does (select n cs last) i p t e F T b K l w m1
       begins_all : {n after i p b l : ℕ} {rs : List R} {t : R} {e : Places R} {F : List Frame} {T : List ℕ}
-          {K : List (RefRecord R Y)} {w1 : W} {m1 : RefState R Y} → trees (S.term_of w) rs ≡ parts (S.term_of w t) →
+          {K : List (RefRecord R Y)} {w1 : W} {m1 : RefState R Y} → trees_left (S.term_of w) t 0 rs ≡ parts (S.term_of w t) →
           AllRefs (Stands S w) rs →
           OnAll w (suc i) after p t e F T b K l [] rs w1 m1 → Does (traverse n all_parts after) i p t e F T b K l w1 m1
       begins_one : {n after i p b l : ℕ} {rs : List R} {t : R} {e : Places R} {F : List Frame} {T : List ℕ}
-          {K : List (RefRecord R Y)} {m1 : RefState R Y} → trees (S.term_of w) rs ≡ parts (S.term_of w t) →
+          {K : List (RefRecord R Y)} {m1 : RefState R Y} → trees_left (S.term_of w) t 0 rs ≡ parts (S.term_of w t) →
           AllRefs (Stands S w) rs →
           OnOne w (suc i) after p t e F T b K l [] rs m1 → Does (traverse n one_part after) i p t e F T b K l w m1
       begins_some : {n after i p b l : ℕ} {rs : List R} {t : R} {e : Places R} {F : List Frame} {T : List ℕ}
-          {K : List (RefRecord R Y)} {w1 : W} {m1 : RefState R Y} → trees (S.term_of w) rs ≡ parts (S.term_of w t) →
+          {K : List (RefRecord R Y)} {w1 : W} {m1 : RefState R Y} → trees_left (S.term_of w) t 0 rs ≡ parts (S.term_of w t) →
           AllRefs (Stands S w) rs →
           OnSome w (suc i) after p t e F T b K l [] false rs w1 m1 →
           Does (traverse n some_parts after) i p t e F T b K l w1 m1
@@ -214,14 +225,16 @@ module _ {W R Y N : Type 0} (S : Space W R Y N) where
       part_of_one : {i p body after q k h d b l : ℕ} {u v x : R} {done us : List R} {m : Y} {t : R} {e : Places R}
           {F : List Frame} {T : List ℕ} {K : List (RefRecord R Y)} {w1 : W} → Keeps S w w1 → Stands S w1 x →
           rebuilt (S.term_of w u)
-          (ok (in_order (trees (S.term_of w) done) (more (S.term_of w t) (trees (S.term_of w) us)))
+          (ok (in_order (trees (S.term_of w) done) (more (S.term_of w t)
+          (trees_left (S.term_of w) u (suc (length done)) us)))
           (map (option_map (S.term_of w)) e)) ≡ ok (S.term_of w1 x) (map (option_map (S.term_of w)) e) →
           Does part_done i p t e F T b (ref_one body after u done v us (saved q k h d) m ∷ K)
           l w1 (ref_running after p x e F (trimmed h d T) d K l)
       part_of_one_oversize : {i p body after q k h d b l : ℕ} {u v : R} {done us : List R} {m : Y} {t : R}
           {e : Places R} {F : List Frame} {T : List ℕ} {K : List (RefRecord R Y)} {w1 : W} → Keeps S w w1 →
           rebuilt (S.term_of w u)
-          (ok (in_order (trees (S.term_of w) done) (more (S.term_of w t) (trees (S.term_of w) us)))
+          (ok (in_order (trees (S.term_of w) done) (more (S.term_of w t)
+          (trees_left (S.term_of w) u (suc (length done)) us)))
           (map (option_map (S.term_of w)) e)) ≡ oversize →
           Does part_done i p t e F T b (ref_one body after u done v us (saved q k h d) m ∷ K)
           l w1 (ref_stopped run_oversize l)
@@ -261,31 +274,33 @@ module _ {W R Y N : Type 0} (S : Space W R Y N) where
         w1 (ref_running a q t (take b (undone (above h T) e)) (take k F) (down_to h T) d K l)
     fails_one_last : {body after q k h d b l : ℕ} {t u : R} {done : List R} {e : Places R} {F : List Frame} {T : List ℕ}
         {K : List (RefRecord R Y)} {m : Y} {w w1 : W} → GoesBack S w m w1 →
+        HasNoMore w1 t (suc (length done)) →
         StepRef code M w (ref_failing e F T b (ref_one body after t done u [] (saved q k h d) m ∷ K) l)
         w1 (ref_failing (take b (undone (above h T) e)) (take k F) (down_to h T) d K l)
-    fails_one_next : {body after q k h d b l : ℕ} {t u v : R} {done rest : List R} {e : Places R} {F : List Frame}
-        {T : List ℕ} {K : List (RefRecord R Y)} {m n : Y} {w w1 : W} → GoesBack S w m w1 → IsMark S w1 n →
-        StepRef code M w (ref_failing e F T b (ref_one body after t done u (v ∷ rest) (saved q k h d) m ∷ K) l)
+    fails_one_next : {body after q k h d b l : ℕ} {t u v : R} {done rest us : List R} {e : Places R} {F : List Frame}
+        {T : List ℕ} {K : List (RefRecord R Y)} {m n : Y} {w w1 : W} → GoesBack S w m w1 →
+        IsNext w1 t (suc (length done)) rest v us → IsMark S w1 n →
+        StepRef code M w (ref_failing e F T b (ref_one body after t done u rest (saved q k h d) m ∷ K) l)
         w1 (ref_running body q v (take b (undone (above h T) e)) (take k F) (down_to h T)
         (length (take b (undone (above h T) e)))
-        (ref_one body after t (u ∷ done) v rest (saved q (length (take k F)) (length (down_to h T)) d) n ∷ K) l)
+        (ref_one body after t (u ∷ done) v us (saved q (length (take k F)) (length (down_to h T)) d) n ∷ K) l)
     fails_some_none : {body after q k h d b l : ℕ} {t u : R} {done : List R} {e : Places R} {F : List Frame}
-        {T : List ℕ} {K : List (RefRecord R Y)} {m : Y} {w w1 : W} → GoesBack S w m w1 →
+        {T : List ℕ} {K : List (RefRecord R Y)} {m : Y} {w w1 : W} → GoesBack S w m w1 → HasNoMore w1 t (suc (length done)) →
         StepRef code M w (ref_failing e F T b (ref_some body after t done u [] false (saved q k h d) m ∷ K) l)
         w1 (ref_failing (take b (undone (above h T) e)) (take k F) (down_to h T) d K l)
     -- the whole is made by the next step
     fails_some_last : {body after q k h d b l : ℕ} {t u : R} {done : List R} {e : Places R} {F : List Frame}
-        {T : List ℕ} {K : List (RefRecord R Y)} {m : Y} {w w1 : W} → GoesBack S w m w1 →
+        {T : List ℕ} {K : List (RefRecord R Y)} {m : Y} {w w1 : W} → GoesBack S w m w1 → HasNoMore w1 t (suc (length done)) →
         StepRef code M w (ref_failing e F T b (ref_some body after t done u [] true (saved q k h d) m ∷ K) l) w1
         (ref_running (after - 1) q u (take b (undone (above h T) e)) (take k F) (down_to h T)
         d (ref_all body after t done [] ∷ K) l)
-    fails_some_next : {body after q k h d b l : ℕ} {t u v : R} {done rest : List R} {found : Bool} {e : Places R}
+    fails_some_next : {body after q k h d b l : ℕ} {t u v : R} {done rest us : List R} {found : Bool} {e : Places R}
         {F : List Frame} {T : List ℕ} {K : List (RefRecord R Y)} {m n : Y} {w w1 : W} → GoesBack S w m w1 →
-        IsMark S w1 n →
-        StepRef code M w (ref_failing e F T b (ref_some body after t done u (v ∷ rest) found (saved q k h d) m ∷ K) l)
+        IsNext w1 t (suc (length done)) rest v us → IsMark S w1 n →
+        StepRef code M w (ref_failing e F T b (ref_some body after t done u rest found (saved q k h d) m ∷ K) l)
         w1 (ref_running body q v (take b (undone (above h T) e)) (take k F) (down_to h T)
         (length (take b (undone (above h T) e)))
-        (ref_some body after t (u ∷ done) v rest found (saved q (length (take k F)) (length (down_to h T)) d) n ∷ K)
+        (ref_some body after t (u ∷ done) v us found (saved q (length (take k F)) (length (down_to h T)) d) n ∷ K)
         l)
 
   -- n steps

@@ -1,8 +1,9 @@
 -- The headline does not rest on this file.
 -- The machine over references into a space: its states, and the trees that they are.
-use Rattle.std.specs.Prelude.{◌≡◌, ℕ, nat_lt, Bool, if◌then◌else◌, Option, Some, None, List, [], ◌∷◌, map, slice_get}
+use Rattle.std.specs.Prelude.{◌≡◌, ℕ, zero, suc, nat_lt, Bool, if◌then◌else◌, Option, Some, None, List, [], ◌∷◌, length, map, slice_get}
 use Rattle.std.specs.Option.{option_map}
 use Rattle.term_model.specs.Term.{Tree, Trees, end, more}
+use Rattle.core_lang.specs.Derivation.{parts}
 use Rattle.strat_steps.specs.State.{Frame, Saved, Record, call_record, choice_record, all_record, one_record, some_record, Result, rewritten, State, running, failing, ended}
 use Rattle.strat_steps.specs.Binding.{with_term}
 
@@ -10,7 +11,8 @@ use Rattle.strat_steps.specs.Binding.{with_term}
 abbrev pub Places : Type 0 → Type 0
 Places R = List (Option R)
 
--- control records; those that a failure goes back to have a mark
+-- control records; those that a failure goes back to have a mark. Of the parts that are left, a traversal has references
+-- to some of the next ones
 pub data RefRecord (R Y : Type 0) : Type 0 where
   ref_call : (to here : ℕ) → RefRecord R Y
   ref_choice : (otherwise : ℕ) → R → Saved → Y → RefRecord R Y
@@ -30,13 +32,28 @@ abbrev pub trees : {R : Type 0} → (R → Tree) → List R → Trees
 trees f [] = end
 trees f (r ∷ rs) = more (f r) (trees f rs)
 
+-- the trees after the first n
+abbrev pub trees_after : ℕ → Trees → Trees
+trees_after zero ts = ts
+trees_after (suc n) end = end
+trees_after (suc n) (more t ts) = trees_after n ts
+
+-- what is left of a term's parts where n come before: first these references, and then the term's own parts after them,
+-- which have no references yet
+abbrev pub trees_left : {R : Type 0} → (R → Tree) → R → (n : ℕ) → List R → Trees
+trees_left f t n [] = trees_after n (parts (f t))
+trees_left f t n (r ∷ rs) = more (f r) (trees_left f t (suc n) rs)
+
+-- in a traversal, the parts that are done and the one that the body is tried on come before those that are left
 abbrev pub record_tree : {R Y : Type 0} → (R → Tree) → RefRecord R Y → Record
 record_tree f (ref_call a h) = call_record a h
 record_tree f (ref_choice a t s m) = choice_record a (f t) s
-record_tree f (ref_all body after t done rest) = all_record body after (f t) (trees f done) (trees f rest)
-record_tree f (ref_one body after t done u rest s m) = one_record body after (f t) (trees f done) (f u) (trees f rest) s
+record_tree f (ref_all body after t done rest) =
+    all_record body after (f t) (trees f done) (trees_left f t (suc (length done)) rest)
+record_tree f (ref_one body after t done u rest s m) =
+    one_record body after (f t) (trees f done) (f u) (trees_left f t (suc (length done)) rest) s
 record_tree f (ref_some body after t done u rest found s m) =
-    some_record body after (f t) (trees f done) (f u) (trees f rest) found s
+    some_record body after (f t) (trees f done) (f u) (trees_left f t (suc (length done)) rest) found s
 
 abbrev pub state_tree : {R Y : Type 0} → (R → Tree) → RefState R Y → State
 state_tree f (ref_running i p t e F T b K l) = running i p (f t) (map (option_map f) e) F T b (map (record_tree f) K) l

@@ -1,13 +1,13 @@
 -- Laws of the space in which a reference is a term.
-use Rattle.std.proofs.Common.{◌≡◌, ◌≤◌, ℕ, ℤ, zero, suc, List, [], ◌∷◌, ◌++◌, map, length, take, drop, ◌-◌, refl, sym, ◌∙◌, ap, subst, arith, All, IsTrue}
+use Rattle.std.proofs.Common.{◌≡◌, ◌≤◌, ℕ, ℤ, zero, suc, List, [], ◌∷◌, ◌++◌, map, length, take, drop, ◌-◌, refl, sym, append-nil, ◌∙◌, ap, subst, arith, All, IsTrue}
 use Rattle.std.specs.Prelude.{Bool, true, false, if◌then◌else◌}
-use Rattle.std.proofs.lemmas.List.Elements.{All-nil, All-cons}
+use Rattle.std.proofs.lemmas.List.Elements.{All-nil, All-cons, All-take, All-drop}
 use Rattle.term_model.specs.declared.term.Head.TheVariants as heads
 use Rattle.term_model.specs.declared.made.Made.TheVariants as made
 use Rattle.term_model.specs.declared.made.Made.{Made}
 use Rattle.std.specs.List.{AppendsClones, each_same}
 use Rattle.std.proofs.lemmas.List.{map-id, length-drop}
-use Rattle.std.proofs.Math.Seq.{take-length}
+use Rattle.std.proofs.Math.Seq.{take-length, drop-length}
 use Rattle.std.proofs.lemmas.Bool.{and_parts}
 use Rattle.term_model.specs.Space.{Makes, Pushes}
 use Rattle.term_model.specs.SharedTerms.{shared_terms}
@@ -124,6 +124,32 @@ rest_is_made t n h = made_fits _ (rest_stands t n h)
 -- all that comes after the first elements
 pub to_the_end : (n : ℕ) (ts : List Tree) → take (length ts - n) (drop n ts) ≡ drop n ts
 to_the_end n ts = ap (λ k. take k (drop n ts)) (sym (length-drop n ts)) ∙ take-length (drop n ts)
+
+-- some of a term's parts that were put on a stack
+pub some_pushed : {W : Type 0} (space : W) (t : Tree) (from many count : ℕ) (ts old new : List Tree) → IsTrue (fits t) →
+    ts ≡ parts_of t → many ≡ count → new ≡ old ++ take many (drop from ts) →
+    Pushes (shared_terms {W = W} {M = Unit {0}}) space (take count (drop from (parts_of t))) old new
+some_pushed space t from many count ts old new h is same e = record {
+  pushed = take count (drop from (parts_of t));
+  after = e ∙ (ap (λ us. old ++ take many (drop from us)) is ∙ ap (λ k. old ++ take k (drop from (parts_of t))) same);
+  standing = All-take (λ u. IsTrue (fits u)) count (drop from (parts_of t))
+      (All-drop (λ u. IsTrue (fits u)) from (parts_of t) (parts_stand t h));
+  are = map-id (take count (drop from (parts_of t)));
+}
+
+-- all of a term's own parts, put together from the first ones and the others
+pub own_again : (t : Tree) (parts own zero one two : List Tree) (n : ℕ) → own ≡ parts_of t → zero ≡ [] →
+    one ≡ zero ++ parts → two ≡ one ++ take (length own - n) (drop n own) → n ≡ length parts →
+    map (λ u. u) parts ≡ parts_of t → map (λ u. u) two ≡ parts_of t
+own_again t parts own zero_ one two n is none first all many same =
+    let parts_are : parts ≡ parts_of t = sym (map-id parts) ∙ same in
+    let own_is : own ≡ parts = is ∙ sym parts_are in
+    let nothing : drop n own ≡ [] =
+    ap (λ k. drop k own) many ∙ (ap (λ us. drop (length parts) us) own_is ∙ drop-length parts) in
+    let rest : take (length own - n) (drop n own) ≡ [] =
+    to_the_end n own ∙ nothing in
+    map-id two ∙ (all ∙ (ap (λ us. one ++ us) rest ∙ (append-nil one ∙ (first ∙
+    (ap (λ us. us ++ parts) none ∙ parts_are)))))
 
 pub ruleset standing = (
   fits-sound,

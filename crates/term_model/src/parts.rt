@@ -156,6 +156,16 @@ impl<'a, R> Parts<'a, R> {
         }
     }
 
+    /// Whether there are exactly `count` references. Goes along no more of them than that.
+    pub fn has_len(&self, count: usize) -> bool
+        ensures { IsTrue result ↔ (length self.now ≡ count) }
+    {
+        match self.block {
+            None => self.slice.len() == count,
+            Some(block) => has_len_in(block, self.blocks, count),
+        }
+    }
+
     /// Whether there are none.
     pub fn is_empty(&self) -> bool
         ensures { IsTrue result ↔ (self.now ≡ []) }
@@ -279,6 +289,26 @@ fn len_in<R>(block: &Block<R>, blocks: &[Block<R>]) -> usize
         rest = next.rest;
     }
     count
+}
+
+/// Whether a block has exactly `count` values. Goes along no more of them than that.
+fn has_len_in<R>(block: &Block<R>, blocks: &[Block<R>], count: usize) -> bool
+    requires { AreLinked blocks.now }
+    ensures { IsTrue result ↔ (length (list_in (lists_of blocks.now) block.now) ≡ count) }
+{
+    if count < block.front.len() {
+        return false;
+    }
+    let mut left = count - block.front.len();
+    let mut rest = block.rest;
+    while let Some(next) = block_numbered(blocks, rest) {
+        if left < next.front.len() {
+            return false;
+        }
+        left -= next.front.len();
+        rest = next.rest;
+    }
+    left == 0
 }
 
 /// The value of a block at an index.

@@ -111,6 +111,17 @@ impl TermSpace for RcSpace {
     }
 
     #[tactic(auto, using(crate::proofs::SpaceLemmas::standing))]
+    fn push_parts_from(
+        &self,
+        at: &Term,
+        from: usize,
+        count: usize,
+        stack: &mut Vec<Term>,
+    ) -> Result<(), AllocError> {
+        push_all(stack, &at.children()[from..from + count])
+    }
+
+    #[tactic(auto, using(crate::proofs::SpaceLemmas::standing))]
     fn push_annos(&self, at: &Term, stack: &mut Vec<Term>) -> Result<(), AllocError> {
         push_all(stack, at.annos())
     }
@@ -173,8 +184,11 @@ impl TermSpace for RcSpace {
         at: &Term,
         parts: &[Term],
     ) -> Result<Made<Term>, AllocError> {
-        let parts = Vec::from_clones(alloc, parts)?;
-        at.rebuild(alloc, parts)
+        let own = at.children();
+        let mut all = Vec::with_capacity(alloc, own.len())?;
+        push_all(&mut all, parts)?;
+        push_all(&mut all, &own[parts.len()..])?;
+        at.rebuild(alloc, all)
     }
 
     #[tactic(auto, using(crate::proofs::SpaceLemmas::standing))]
@@ -185,6 +199,12 @@ impl TermSpace for RcSpace {
         annos: &[Term],
     ) -> Result<Made<Term>, AllocError> {
         let annos = Vec::from_clones(alloc, annos)?;
+        at.with_annos(alloc, annos)
+    }
+
+    #[tactic(auto, using(crate::proofs::SpaceLemmas::standing))]
+    fn like(&mut self, alloc: Global, at: &Term, other: &Term) -> Result<Made<Term>, AllocError> {
+        let annos = Vec::from_clones(alloc, other.annos())?;
         at.with_annos(alloc, annos)
     }
 

@@ -1,5 +1,5 @@
 //! Spaces: where the terms of a run are kept, each under a reference.
-ghost use Rattle.std.specs.Prelude.{◌≡◌, ◌↔◌, ◌<◌, ◌≤◌, All, map, drop, ◌++◌, length, IfOk, IsTrue, MatchOption, [], slice_get, Some, OnOk, OnErr};
+ghost use Rattle.std.specs.Prelude.{◌≡◌, ◌↔◌, ◌<◌, ◌≤◌, All, map, take, drop, ◌++◌, ◌+◌, length, IfOk, IsTrue, MatchOption, [], slice_get, Some, OnOk, OnErr};
 ghost use Rattle.term_model.specs.Symbol.{symbol_spelled, IsSpelling};
 ghost use Rattle.term_model.specs.Term.{term, head_of, parts_of, annos_of, Fits};
 ghost use Rattle.term_model.specs.declared.term.Head.TheVariants as heads;
@@ -135,6 +135,23 @@ pub trait TermSpace {
             stack.old.items stack.new.items) }
         ensures err { OnErr result (stack.new.items ≡ stack.old.items) };
 
+    /// Puts `count` parts on a stack, those from the index `from` on, the first one first. The stack is as it was where
+    /// there is no memory.
+    fn push_parts_from(
+        &self,
+        at: &Self::Ref,
+        from: usize,
+        count: usize,
+        stack: &mut Vec<Self::Ref>,
+    ) -> Result<(), AllocError>
+        requires stands { IsTrue (space.stands self.now at.now) }
+        requires within { from + count ≤ length (parts_of (space.term_of self.now at.now)) }
+        ensures pushed { OnOk result
+            (Pushes space self.now
+            (take count (drop from (parts_of (space.term_of self.now at.now))))
+            stack.old.items stack.new.items) }
+        ensures err { OnErr result (stack.new.items ≡ stack.old.items) };
+
     /// Puts the annotations on a stack, the first one first. The stack is as it was where there is no memory.
     fn push_annos(&self, at: &Self::Ref, stack: &mut Vec<Self::Ref>) -> Result<(), AllocError>
         requires { IsTrue (space.stands self.now at.now) }
@@ -222,8 +239,8 @@ pub trait TermSpace {
         ensures term { IfOk result (λ r. space.term_of self.new r ≡
             term heads.List (drop count (parts_of (space.term_of self.old at.now))) []) };
 
-    /// The term with these parts in place of its own, of which there are as many; `Oversize` exactly where that term does
-    /// not fit. The same reference where the parts are the term's own.
+    /// The term with these parts in place of its first ones, of which it has at least as many; the others stay.
+    /// `Oversize` exactly where that term does not fit. The same reference where the parts are all of the term's own.
     fn rebuild(
         &mut self,
         alloc: Global,
@@ -232,11 +249,13 @@ pub trait TermSpace {
     ) -> Result<Made<Self::Ref>, AllocError>
         requires stands { IsTrue (space.stands self.old at.now) }
         requires stand { All (λ r. IsTrue (space.stands self.old r)) parts.now }
-        requires count { length parts.now ≡ length (parts_of (space.term_of self.old at.now)) }
+        requires count { length parts.now ≤ length (parts_of (space.term_of self.old at.now)) }
         ensures keeps { Keeps space self.old self.new }
         ensures made { IfOk result
             (Makes space self.new
-            (term (head_of (space.term_of self.old at.now)) (map (space.term_of self.old) parts.now)
+            (term (head_of (space.term_of self.old at.now))
+            (map (space.term_of self.old) parts.now ++
+            drop (length parts.now) (parts_of (space.term_of self.old at.now)))
             (annos_of (space.term_of self.old at.now)))) }
         ensures unchanged { map (space.term_of self.old) parts.now ≡
             parts_of (space.term_of self.old at.now) → IfOk result (λ m. m ≡ made.Fits at.now) };
@@ -255,6 +274,23 @@ pub trait TermSpace {
             (Makes space self.new
             (term (head_of (space.term_of self.old at.now))
             (parts_of (space.term_of self.old at.now)) (map (space.term_of self.old) annos.now))) };
+
+    /// The term with exactly the annotations of another one in place of its own; `Oversize` exactly where that term does
+    /// not fit.
+    fn like(
+        &mut self,
+        alloc: Global,
+        at: &Self::Ref,
+        other: &Self::Ref,
+    ) -> Result<Made<Self::Ref>, AllocError>
+        requires stands { IsTrue (space.stands self.old at.now) }
+        requires other { IsTrue (space.stands self.old other.now) }
+        ensures keeps { Keeps space self.old self.new }
+        ensures made { IfOk result
+            (Makes space self.new
+            (term (head_of (space.term_of self.old at.now))
+            (parts_of (space.term_of self.old at.now))
+            (annos_of (space.term_of self.old other.now)))) };
 
     /// The term of this head with these parts and annotations; `Oversize` exactly where it does not fit. An integer is
     /// given no parts.
