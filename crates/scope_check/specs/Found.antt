@@ -1,6 +1,6 @@
 -- The headline does not rest on this file.
 -- What the walk over a file finds: for each complaint whether it occurs.
-use Rattle.std.specs.Prelude.{◌≡◌, Bool, true, false, not, ◌||◌, List, [], Option, None, Some}
+use Rattle.std.specs.Prelude.{◌≡◌, Bool, true, false, not, ◌||◌, List, [], Option, None, Some, is_none}
 use Rattle.std.specs.List.{list_any}
 use Rattle.term_model.specs.declared.fault.Fault.{Fault}
 use Rattle.term_model.specs.declared.fault.Fault.TheVariants.{Memory}
@@ -13,7 +13,7 @@ use Rattle.scope_check.specs.declared.note.Note.{Note}
 use Rattle.scope_check.specs.Seen.{Seen, nothing, at_top, plain_key}
 use Rattle.scope_check.specs.Somewhere.{Node, in_pattern, in_patterns, in_optional_pattern, in_strategy, in_strategies, in_optional_strategy, in_sequence, in_step, in_primary, in_arguments, in_rule, in_definition, in_definitions, in_top, in_file}
 use Rattle.str_syntax.specs.declared.definition.Origin.{Origin}
-use Rattle.scope_check.specs.Complaint.{Known, is_bad, some_differ, too_many, redefines_library, repeats_declaration, Complaint, duplicate_declaration, undeclared, bad_parameters, clash, unknown_strategy, not_buildable, unknown_primitive, no_main, fault_of}
+use Rattle.scope_check.specs.Complaint.{Known, is_bad, some_differ, too_many, redefines_library, repeats_declaration, Complaint, duplicate_declaration, undeclared, bad_parameters, clash, unknown_strategy, not_buildable, unknown_primitive, no_main, complaints, fault_of, first_of}
 
 -- which complaints were found
 pub record Found : Type 0 where
@@ -52,6 +52,10 @@ has_found found no_main = found.no_main
 
 abbrev pub none : Found
 none = noted (λ k. false)
+
+-- no complaint was found
+abbrev pub finds_nothing : Found → Bool
+finds_nothing found = is_none (first_of (has_found found) complaints)
 
 -- what is found in either
 abbrev pub joined : Found → Found → Found

@@ -1,4 +1,9 @@
 //! All that is wrong with a file, for people.
+ghost use Rattle.std.specs.Prelude.{◌≡◌, IfOk, is_none};
+ghost use Rattle.scope_check.specs.Complaint.{first_fault};
+ghost use Rattle.scope_check.specs.Found.{finds_nothing};
+ghost use Rattle.scope_check.specs.Primitives.{holds};
+ghost use Rattle.str_syntax.specs.Views.{file_of};
 
 use crate::file::find_in_file;
 use crate::findings::Findings;
@@ -22,9 +27,14 @@ impl FileFaults {
         &self.signature
     }
 
-    /// Whether nothing is wrong with the file.
-    pub fn is_sound(&self) -> bool {
-        self.findings.least().is_none()
+    /// Returns whether nothing is wrong with the file.
+    pub fn is_sound(&self) -> bool
+        ensures { result ≡ finds_nothing self.now.findings }
+    {
+        match self.findings.least() {
+            None => true,
+            Some(_) => false,
+        }
     }
 
     /// The notes in the order of the text, and after them those whose place is not known: at most the first hundred. Those for which
@@ -39,15 +49,18 @@ impl FileFaults {
     }
 }
 
-/// Finds all that is wrong with the file, as `judge` does, and collects the notes of the file, but for those of the library. `AllocError`
-/// where a growth is refused.
+/// Finds all that is wrong with the file, as `judge` does, and collects the notes of the file, but for those of the library. Nothing is found
+/// exactly where `judge` refuses nothing. `AllocError` where a growth is refused.
 pub fn find_faults(
     alloc: Global,
     hashing: HashKeys,
     file: &File,
     primitives: &PrimNames,
     main: &[u8],
-) -> Result<FileFaults, AllocError> {
+) -> Result<FileFaults, AllocError>
+    ensures { IfOk result (λ faults. finds_nothing faults.findings ≡
+        is_none (first_fault (holds primitives.now) (file_of file.now) main.now)) }
+{
     let mut findings = Findings::collecting(alloc);
     let signature = find_in_file(alloc, hashing, file, primitives, main, &mut findings)?;
     Ok(FileFaults {

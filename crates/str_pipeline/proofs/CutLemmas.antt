@@ -1,5 +1,5 @@
 -- The search for the line `#term`.
-use Rattle.std.proofs.Common.{◌≡◌, ◌≢◌, ◌+◌, ◌-◌, ◌<◌, ◌≤◌, inr, ℕ, Bool, true, false, nat_eq, List, [], ◌∷◌, ◌++◌, length, take, drop, get_or, sym, ◌∙◌, ap, refl, codes, arith, append_assoc, length-append, length-take-le, length-drop}
+use Rattle.std.proofs.Common.{◌≡◌, ◌≢◌, ◌+◌, ◌-◌, ◌<◌, ◌≤◌, inr, ℕ, Bool, true, false, nat_eq, List, [], ◌∷◌, ◌++◌, length, take, drop, get_or, sym, ◌∙◌, ap, refl, codes, arith, subst, append_assoc, length-append, length-take-le, length-drop}
 use Rattle.std.proofs.lemmas.List.{take_at, take-append-drop, drop-drop, length_push, take_all, drop_all, take_more, get_or_append_left, get_or_at, append-nil, take-append-le, drop-append-le, drop_at, get_or-drop}
 use Rattle.std.proofs.lemmas.Grind.{common_steps}
 use Rattle.std.proofs.lemmas.Bool.{cases_lt}
@@ -9,7 +9,7 @@ use Rattle.std.specs.Prelude.{Option, None, Some, IfSome, IsSomeAnd, IsTrue}
 use Rattle.str_pipeline.specs.Device.{Loses, IsDry}
 use Rattle.str_pipeline.specs.declared.joined.Step.TheVariants.{TooLong}
 use Rattle.str_pipeline.specs.Joined.{IsBeforeLine, IsTermLine, by_line_feed, by_return, by_end, HasTermLine, IsSplit, parted, unparted}
-use Rattle.str_pipeline.specs.Search.{CanFollow, IsKind, IsClear, IsSearched, IsFound, IsStep, HasLongDefinitions}
+use Rattle.str_pipeline.specs.Search.{CanFollow, IsKind, IsClear, IsSearched, IsNear, IsEarly, IsFound, IsStep, HasLongDefinitions}
 use Rattle.str_pipeline.specs.declared.joined.LineKind.TheVariants.{Term, Other}
 use Rattle.str_pipeline.specs.declared.joined.Search.{Search}
 use Rattle.str_pipeline.specs.declared.joined.Search.TheVariants.{AtLine, InLine}
@@ -249,6 +249,36 @@ too_long_told None new known is_end limit loses dry step = tt
 too_long_told (Some told) None known is_end limit loses dry step = absurd loses
 too_long_told (Some told) (Some left) known is_end limit loses dry (long, clear) =
     front_too_long told left known is_end limit loses dry long clear
+
+-- where little is left to be searched, little more than the definitions is known
+near_split : (known more d t : List ℕ) (search : Search) → IsSearched false known search → IsNear known search →
+    IsSplit (known ++ more) d t → length known ≤ length d + 6
+near_split known more d t (AtLine n) (within, begins, clear) near (parted has first) =
+    let far : n ≤ length d = clear.clear more d _ t tt has in
+    omega arith
+near_split known more d t (InLine n) (within, clear) near (parted has first) =
+    let far : n + 1 ≤ length d = clear.clear more d _ t tt has in
+    omega arith
+near_split known more d t search searched near (unparted none) =
+    let whole : length (known ++ more) ≡ length known + length more = length-append known more in
+    omega arith
+
+-- before anything is read
+pub early_start : (told : Option (List ℕ)) (reads : ℕ) → IsEarly told reads reads
+early_start None reads = tt
+early_start (Some told) reads = λ d t split. omega arith
+
+-- one more read while the line is looked for
+pub early_step : (told now : Option (List ℕ)) (known : List ℕ) (search : Search) (before reads : ℕ) →
+    IsSearched false known search → IsNear known search → Loses told now known → reads ≤ before + length known →
+    IsEarly told before (reads + 1)
+early_step None now known search before reads searched near loses few = tt
+early_step (Some told) None known search before reads searched near loses few = absurd loses
+early_step (Some told) (Some left) known search before reads searched near loses few =
+    λ d t split.
+    let close : length known ≤ length d + 6 =
+    near_split known left d t search searched near (subst (λ (text : List ℕ). IsSplit text d t) loses split) in
+    omega arith
 
 -- a line `#term` and what comes after it
 same_rest : (line other t u : List ℕ) → IsTermLine line t → IsTermLine other u → line ++ t ≡ other ++ u → t ≡ u

@@ -1,12 +1,14 @@
 -- Definitions and the text of a term have at most one line and one status in a setting.
-use Rattle.std.proofs.Common.{◌≡◌, ℕ, ◌<◌, ◌≤◌, Bool, List, length, refl, sym, ◌∙◌, ap, subst, arith, inl, inr, Err, Option, Some, None, IfSome, IsSomeAnd, true, false, ◌++◌, codes}
+use Rattle.std.proofs.Common.{◌≡◌, ℕ, ◌<◌, ◌≤◌, Bool, List, length, refl, sym, ◌∙◌, ap, subst, arith, inl, inr, Ok, Err, Result, Vec, Global, Option, Some, None, IfSome, IsSomeAnd, true, false, ◌++◌, codes}
 use Rattle.term_model.specs.declared.fault.Fault.{Fault}
-use Rattle.term_model.specs.declared.fault.Fault.TheVariants.{DefsTooLong, Lexical, ReservedWord, Syntax, Nesting, TermTooLong, TermOversize, TermSyntax, TermUndeclared}
+use Rattle.term_model.specs.declared.fault.Fault.TheVariants.{Memory, Read, DefsTooLong, Lexical, ReservedWord, Syntax, Nesting, TermTooLong, TermOversize, TermSyntax, TermUndeclared}
 use Rattle.term_model.specs.Fault.{number_of, word_of}
 use Rattle.term_model.specs.Flat.{Meaning}
 use Rattle.term_model.specs.Term.{Tree}
 use Rattle.aterm_text.specs.ReadTerm.{IsReading}
 use Rattle.core_lang.specs.Ending.{Ending}
+use Rattle.core_lang.specs.declared.run.Outcome.{Outcome}
+use Rattle.core_lang.specs.declared.run.Outcome.TheVariants as outcomes
 use Rattle.core_lang.proofs.Unique.{unique}
 use Rattle.str_pipeline.specs.declared.status.Status.{Status}
 use Rattle.str_pipeline.specs.declared.status.Status.TheVariants.{Rewritten, Failed, Oversize, Spent, Refused}
@@ -19,11 +21,12 @@ use Rattle.str_parser.specs.Lexemes.{lexemes}
 use Rattle.str_parser.specs.Phrases.{IsPhrase, TooNested}
 use Rattle.strategy_lib.specs.Library.{with_library}
 use Rattle.scope_check.specs.Complaint.{first_fault}
-use Rattle.str_pipeline.specs.Joined.{IsSplit}
+use Rattle.str_pipeline.specs.Joined.{IsSplit, OfJoinedDefinitions}
 use Rattle.str_pipeline.specs.Limits.{max_definitions, max_term}
 use Rattle.str_pipeline.specs.Setting.{Setting}
 use Rattle.str_pipeline.specs.Judged.{HasNoTokens, AreTokens, AreTooNested, HasNoPhrase, IsFile, FailsChecks, PassesChecks, AreRefused, AreAccepted, IsTerm, IsUndeclared, IsRefused, IsAccepted}
 use Rattle.str_pipeline.specs.Written.{Rewrites, IsAnswer, AreAlike, IsFirstFault, IsWritten, line_of, refusal_line}
+use Rattle.str_pipeline.specs.Steps.{IsTextResult}
 use Rattle.str_pipeline.proofs.WrittenLaws.{of_split, for_each_told}
 
 -- ---- refusals of definitions
@@ -171,6 +174,14 @@ none_refused S None defs f Y same accepted = tt
 none_refused S (Some d) defs f Y same accepted =
     λ fault refused. absurd (no_file (cause_of S defs fault (rw same refused)) accepted)
 
+-- the same for what is said of each text of definitions
+pub never_refused : (S : Setting) (told : Option (List ℕ)) (defs : List ℕ) (f : FileTree) (Y : List ℕ → Type 0) →
+    IfSome told (λ d. defs ≡ d) → AreAccepted S defs f →
+    IfSome told (λ d. (fault : Fault) → AreRefused S d fault → Y d)
+never_refused S None defs f Y same accepted = tt
+never_refused S (Some d) defs f Y same accepted =
+    λ fault refused. absurd (no_file (cause_of S defs fault (rw same refused)) accepted)
+
 -- nor those of each split of what a reader told, where these are the definitions of one
 pub none_refused_joined : (S : Setting) (old new : Option (List ℕ)) (defs : List ℕ) (rest : List ℕ →
     List ℕ) (f : FileTree) (Y : Type 0) →
@@ -180,6 +191,39 @@ none_refused_joined S old new defs rest f Y split accepted =
     of_split old new defs rest (λ d t. (fault : Fault) → AreRefused S d fault → Y) split
     (for_each_told new (λ left. (fault : Fault) → AreRefused S defs fault → Y)
     (λ left fault refused. absurd (no_file (cause_of S defs fault refused) accepted)))
+
+pub never_refused_joined : (S : Setting) (old new : Option (List ℕ)) (defs : List ℕ) (rest : List ℕ → List ℕ)
+    (f : FileTree) (Y : List ℕ → Type 0) →
+    IfSome old (λ told. IsSomeAnd new (λ left. IsSplit told defs (rest left))) → AreAccepted S defs f →
+    OfJoinedDefinitions old (λ d. (fault : Fault) → AreRefused S d fault → Y d)
+never_refused_joined S old new defs rest f Y split accepted =
+    of_split old new defs rest (λ d t. (fault : Fault) → AreRefused S d fault → Y d) split
+    (for_each_told new (λ left. (fault : Fault) → AreRefused S defs fault → Y defs)
+    (λ left fault refused. absurd (no_file (cause_of S defs fault refused) accepted)))
+
+-- what holds of all definitions holds of those that are refused
+pub of_refused : (S : Setting) (told : Option (List ℕ)) (Y : List ℕ → Type 0) → OfJoinedDefinitions told Y →
+    OfJoinedDefinitions told (λ d. (fault : Fault) → AreRefused S d fault → Y d)
+of_refused S None Y known = tt
+of_refused S (Some told) Y known = λ d t split fault refused. known d t split
+
+-- what refused definitions come to with one text of a term they come to with each
+pub whatever_the_term : (S : Setting) (d t u : List ℕ) (fault : Fault)
+    (result : Result (Outcome (Vec ℕ Global)) Fault) → AreRefused S d fault → IsTextResult d t S result →
+    IsTextResult d u S result
+whatever_the_term S d t u fault (Ok (outcomes.Rewritten bytes)) refused (f, tree, accepted, rest) =
+    absurd (no_file (cause_of S d fault refused) accepted)
+whatever_the_term S d t u fault (Ok outcomes.Failed) refused (f, tree, accepted, rest) =
+    absurd (no_file (cause_of S d fault refused) accepted)
+whatever_the_term S d t u fault (Ok outcomes.Oversize) refused (f, tree, accepted, rest) =
+    absurd (no_file (cause_of S d fault refused) accepted)
+whatever_the_term S d t u fault (Ok outcomes.Spent) refused (f, tree, accepted, rest) =
+    absurd (no_file (cause_of S d fault refused) accepted)
+whatever_the_term S d t u fault (Err Memory) refused known = tt
+whatever_the_term S d t u fault (Err Read) refused known = tt
+whatever_the_term S d t u fault (Err _) refused (inl first) = inl first
+whatever_the_term S d t u fault (Err _) refused (inr (f, accepted, later)) =
+    absurd (no_file (cause_of S d fault refused) accepted)
 
 -- what holds of numbers holds whatever the reader told
 pub within_told : (S : Setting) (told : Option (List ℕ)) (n m : ℕ) → n ≤ m →

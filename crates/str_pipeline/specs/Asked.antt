@@ -16,6 +16,10 @@ calls_of c = c.calls.number
 abbrev pub failures_of : {D : Type 0} → Counted D → ℕ
 failures_of c = c.failed.number
 
+-- whether the last of these was a write into a pipe that nobody reads any more
+abbrev pub is_broken : {D : Type 0} → Counted D → Bool
+is_broken c = c.is_broken_pipe
+
 -- the most bytes in a call, the first bad call, whether bad calls take nothing in place of failing, and a writer's room
 pub record Orders : Type 0 where
   pub piece : ℕ

@@ -36,6 +36,10 @@ pub data IsSplit (text : List ℕ) : List ℕ → List ℕ → Type 0 where
 abbrev pub OfJoined : Option (List ℕ) → (List ℕ → List ℕ → Type 0) → Type 0
 OfJoined input holds = IfSome input (λ told. (d t : List ℕ) → IsSplit told d t → holds d t)
 
+-- this holds of the definitions among them
+abbrev pub OfJoinedDefinitions : Option (List ℕ) → (List ℕ → Type 0) → Type 0
+OfJoinedDefinitions input holds = OfJoined input (λ d t. holds d)
+
 -- what is read of one reader in the joined form: no more than the definitions and the line if they are refused
 pub record ReadsJoined {I : Type 0} (input : Reader I) (S : Setting) (old new : I) (result : Result Status Fault)
     : Type 0 where
@@ -45,3 +49,6 @@ pub record ReadsJoined {I : Type 0} (input : Reader I) (S : Setting) (old new : 
       input.reads new ≤ input.reads old + max_definitions + 7)
   pub unread_told : IfSome (input.coming old) (λ told. (d t : List ℕ) → IsSplit told d t → (fault : Fault) →
       AreRefused S d fault → input.reads new ≤ input.reads old + max_definitions + 7)
+  -- whatever pieces the reader gives, the definitions are judged before the term is read
+  pub judged_first : OfJoinedDefinitions (input.coming old) (λ d. (fault : Fault) → AreRefused S d fault →
+      input.reads new ≤ input.reads old + length d + 8)

@@ -1,7 +1,7 @@
 -- The headline does not rest on this file.
 -- How far the search for the line `#term` has come in a text of which only the front is known.
-use Rattle.std.specs.Prelude.{◌≡◌, ℕ, ◌+◌, ◌<◌, ◌≤◌, Bool, true, false, List, [], ◌++◌, length, take, drop}
-use Rattle.str_pipeline.specs.Joined.{IsBeforeLine, IsTermLine, HasTermLine, IsSplit}
+use Rattle.std.specs.Prelude.{◌≡◌, ℕ, ◌+◌, ◌<◌, ◌≤◌, Bool, true, false, List, [], ◌++◌, length, take, drop, Option}
+use Rattle.str_pipeline.specs.Joined.{IsBeforeLine, IsTermLine, HasTermLine, IsSplit, OfJoinedDefinitions}
 use Rattle.str_pipeline.specs.declared.joined.LineKind.{LineKind}
 use Rattle.str_pipeline.specs.declared.joined.LineKind.TheVariants.{Term, Other, Unknown}
 use Rattle.str_pipeline.specs.declared.joined.Search.{Search}
@@ -32,6 +32,11 @@ abbrev pub IsSearched : Bool → List ℕ → Search → Type 0
 IsSearched is_end known (AtLine n) = (n ≤ length known) × IsBeforeLine (take n known) × IsClear is_end known n
 IsSearched is_end known (InLine n) = (n ≤ length known) × IsClear is_end known (n + 1)
 
+-- little of what is known is left to be searched
+abbrev pub IsNear : List ℕ → Search → Type 0
+IsNear known (AtLine n) = length known < n + 7
+IsNear known (InLine n) = length known ≤ n
+
 -- the definitions end at one place, and the term text begins at the other
 pub record IsFound (is_end : Bool) (known : List ℕ) (defs term : ℕ) : Type 0 where
   pub defs_within : defs ≤ length known
@@ -43,6 +48,7 @@ abbrev pub IsStep : Bool → ℕ → List ℕ → Step → Type 0
 IsStep is_end limit known (Found defs term) = (defs ≤ limit) × IsFound is_end known defs term
 IsStep is_end limit known TooLong = (limit < length known) × IsClear is_end known (limit + 1)
 IsStep is_end limit known (More search) = (is_end ≡ false) × (length known ≤ limit + 6) × IsSearched is_end known search
+    × IsNear known search
 
 abbrev pub definitions_of : JoinedFront → List ℕ
 definitions_of front = take front.definitions front.bytes.items
@@ -50,6 +56,10 @@ definitions_of front = take front.definitions front.bytes.items
 -- the text of the term, where this is still to come
 abbrev pub term_of : JoinedFront → List ℕ → List ℕ
 term_of front left = drop front.term front.bytes.items ++ left
+
+-- at most so many reads were made as the definitions have bytes, and eight more, if the bytes were shown
+abbrev pub IsEarly : Option (List ℕ) → (before after : ℕ) → Type 0
+IsEarly told before after = OfJoinedDefinitions told (λ d. after ≤ before + length d + 8)
 
 -- each split of the text has more bytes of definitions
 abbrev pub HasLongDefinitions : ℕ → List ℕ → Type 0

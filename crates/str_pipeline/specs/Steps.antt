@@ -23,7 +23,7 @@ use Rattle.signature_core.specs.DeclaredTerm.{term_is_declared}
 use Rattle.strat_code.specs.CodeOf.{CodeParts, code_of}
 use Rattle.strat_code.specs.StandsFor.{StandsFor}
 use Rattle.str_desugar.specs.FileProgram.{program_of_file}
-use Rattle.str_pipeline.specs.Judged.{HasNoTokens, AreTooNested, HasNoPhrase, FailsChecks, PassesChecks}
+use Rattle.str_pipeline.specs.Judged.{AreRefused, HasNoTokens, AreTooNested, HasNoPhrase, FailsChecks, PassesChecks}
 use Rattle.str_pipeline.specs.Faults.{IsReadingFault, IsRefusal}
 use Rattle.str_pipeline.specs.Setting.{Setting}
 use Rattle.str_pipeline.specs.Written.{line_of, IsFirstFault, IsWritten}
@@ -114,3 +114,8 @@ IsResult defs term S (Err fault) = IsFirstFault defs term S fault
 abbrev pub IsTextResult : List ℕ → List ℕ → Setting → Result (Outcome (Vec ℕ Global)) Fault → Type 0
 IsTextResult defs term S (Ok told) = IsWritten defs term S (status_of told) (text_line told)
 IsTextResult defs term S (Err fault) = IsResult defs term S (Err fault)
+
+-- if the definitions are refused, the result is the same whatever the text of the term is
+abbrev pub DecidesResult : Setting → List ℕ → Result (Outcome (Vec ℕ Global)) Fault → Type 0
+DecidesResult S defs result = (fault : Fault) → AreRefused S defs fault → (term : List ℕ) →
+    IsTextResult defs term S result

@@ -14,12 +14,16 @@ use Rattle.str_pipeline.specs.declared.status.Status.{Status}
 abbrev pub OfTwo : Option (List ℕ) → Option (List ℕ) → (List ℕ → List ℕ → Type 0) → Type 0
 OfTwo defs term holds = IfSome defs (λ d. IfSome term (λ t. holds d t))
 
--- what is written for the texts in a setting: the line of the answer, and a beginning of it if a write failed
+-- what is written for the texts in a setting: the line of the answer, and a beginning of it if a write failed. Definitions
+-- that are refused decide the line: it is the same whatever the text of the term is, also if that is not shown
 pub record Transforms {W : Type 0} (writer : Writer W) (S : Setting)
-    (of_texts : (List ℕ → List ℕ → Type 0) → Type 0) (old new : W) (result : Result Status Fault) : Type 0 where
+    (of_texts : (List ℕ → List ℕ → Type 0) → Type 0) (of_definitions : (List ℕ → Type 0) → Type 0)
+    (old new : W) (result : Result Status Fault) : Type 0 where
   pub written : IfOk result
       (λ status. of_texts (λ d t. HasWritten d t S status (writer.written old) (writer.written new)))
   pub begun : IsErrOf result Write → of_texts (λ d t. HasBegun d t S (writer.written old) (writer.written new))
+  pub refused : IfOk result (λ status. of_definitions (λ d. (fault : Fault) → AreRefused S d fault → (t : List ℕ) →
+      HasWritten d t S status (writer.written old) (writer.written new)))
 
 -- how a transformation ends: with a status, with a fault of memory or reading before anything is written, or of writing
 pub record Ends {W : Type 0} (writer : Writer W) (old new : W) (result : Result Status Fault) : Type 0 where

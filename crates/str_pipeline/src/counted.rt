@@ -1,6 +1,6 @@
 //! Devices of std.
 ghost use Rattle.std.specs.Prelude.{◌≡◌};
-ghost use Rattle.str_pipeline.specs.Asked.{device_of, calls_of, failures_of};
+ghost use Rattle.str_pipeline.specs.Asked.{device_of, calls_of, failures_of, is_broken};
 
 use crate::sink::Sink;
 use crate::source::Source;
@@ -15,6 +15,8 @@ pub struct Counted<D> {
     calls: Count,
     failed: Count,
     failure: Option<ErrorKind>,
+    /// Whether the last failed call was a write into a pipe that nobody reads any more.
+    is_broken_pipe: bool,
 }
 
 impl<D> Counted<D> {
@@ -29,6 +31,7 @@ impl<D> Counted<D> {
             calls: Count::new(),
             failed: Count::new(),
             failure: None,
+            is_broken_pipe: false,
         }
     }
 
@@ -69,6 +72,7 @@ impl<D: Write> Sink for Counted<D> {
       written = λ c. D.contents (device_of c);
       writes = λ c. calls_of c;
       failed_writes = λ c. failures_of c;
+      is_closed = λ c. is_broken c;
     } };
 
     fn write(&mut self, text: &[u8]) -> Option<usize> {
@@ -78,15 +82,22 @@ impl<D: Write> Sink for Counted<D> {
                 if count == 0 && !text.is_empty() {
                     self.failed.step();
                     self.failure = Some(ErrorKind::WriteZero);
+                    self.is_broken_pipe = false;
                 }
                 Some(count)
             }
             Err(error) => {
                 self.failed.step();
-                self.failure = Some(error.kind());
+                let kind = error.kind();
+                self.failure = Some(kind);
+                self.is_broken_pipe = kind == ErrorKind::BrokenPipe;
                 None
             }
         }
+    }
+
+    fn is_closed(&self) -> bool {
+        self.is_broken_pipe
     }
 
     fn failure(&self) -> Option<ErrorKind> {

@@ -1,7 +1,7 @@
 //! The cut of the joined form: one reader for the definitions, the line `#term` and the term text.
 ghost use Rattle.std.specs.Prelude.{◌≡◌, ◌≢◌, ◌+◌, ◌<◌, ◌≤◌, ℕ, None, Some, false, length, vec_len, slice_index, EachIndex, MatchOption, IfSome, IsSomeAnd, IfOk, IfErr, IsTrue, if◌then◌else◌};
 ghost use Rattle.str_pipeline.specs.Joined.{IsSplit};
-ghost use Rattle.str_pipeline.specs.Search.{IsKind, IsClear, IsSearched, IsStep, definitions_of, term_of, HasLongDefinitions};
+ghost use Rattle.str_pipeline.specs.Search.{IsEarly, IsKind, IsClear, IsSearched, IsStep, definitions_of, term_of, HasLongDefinitions};
 ghost use Rattle.str_pipeline.specs.Faults.{is_read_fault, IsReadingFault};
 ghost use Rattle.str_pipeline.specs.Device.{IsDry};
 
@@ -137,6 +137,8 @@ pub(crate) fn read_front<S: Source>(
         (if is_read_fault result then 1 else 0) }
     ensures kinds { IfErr result IsReadingFault }
     ensures bounded { S.reader.reads input.new ≤ S.reader.reads input.old + limit + 7 }
+    ensures early { IsEarly (S.reader.coming input.old) (S.reader.reads input.old)
+        (S.reader.reads input.new) }
 {
     let mut bytes = Vec::new(alloc);
     let mut search = Search::AtLine(0);

@@ -1,15 +1,15 @@
 //! From the bytes of definitions and of a term to the bytes of the answer.
-ghost use Rattle.std.specs.Prelude.{◌≡◌, ◌↔◌, ◌+◌, ◌≤◌, ℕ, List, Result, Err, IsTrue, if◌then◌else◌, IfOk, IfErr, IfSome, IsErrOf, IsErrAnd};
+ghost use Rattle.std.specs.Prelude.{◌≡◌, ◌↔◌, ◌+◌, ◌≤◌, ℕ, List, length, Result, Err, IsTrue, if◌then◌else◌, IfOk, IfErr, IfSome, IsErrOf, IsErrAnd};
 ghost use Rattle.term_model.specs.declared.fault.Fault.{Fault};
 ghost use Rattle.term_model.specs.Fault.{number_of};
 ghost use Rattle.prim_registry.specs.Entries.{IsHonest};
-ghost use Rattle.str_pipeline.specs.Joined.{IsSplit, OfJoined, ReadsJoined};
+ghost use Rattle.str_pipeline.specs.Joined.{IsSplit, OfJoined, OfJoinedDefinitions, ReadsJoined};
 ghost use Rattle.str_pipeline.specs.Limits.{max_definitions, max_term};
 ghost use Rattle.term_model.specs.Limits.{max_budget};
 ghost use Rattle.str_pipeline.specs.Setting.{Setting, setting_of};
 ghost use Rattle.str_pipeline.specs.Judged.{AreRefused};
 ghost use Rattle.str_pipeline.specs.Written.{HasWritten, HasBegun};
-ghost use Rattle.str_pipeline.specs.Steps.{IsStop, IsResult, IsTextResult};
+ghost use Rattle.str_pipeline.specs.Steps.{DecidesResult, IsStop, IsResult, IsTextResult};
 ghost use Rattle.str_pipeline.specs.Transformation.{Ends, OfTwo, ReadsTwo, Transforms};
 ghost use Rattle.str_pipeline.specs.Faults.{HoldsRefusal, IsRefusal, IsTransferFault, IsOfDefinitions, RefusesDefinitions, is_read, is_read_fault, is_write_fault};
 
@@ -46,6 +46,8 @@ fn outcome_apart<D: Source, T: Source, M: PrimMeaning>(
     ensures result { IfSome (D.reader.coming defs.old)
         (λ d. IfSome (T.reader.coming term.old) (λ t.
         IsTextResult d t (setting_of M.answer registry.now options.now) result)) }
+    ensures refused { IfSome (D.reader.coming defs.old) (λ d.
+        DecidesResult (setting_of M.answer registry.now options.now) d result) }
     ensures kinds { IfErr result IsStop }
     ensures failed { D.reader.failed_reads defs.new + T.reader.failed_reads term.new
         ≡ D.reader.failed_reads defs.old + T.reader.failed_reads term.old +
@@ -101,6 +103,9 @@ fn outcome_joined<S: Source, M: PrimMeaning>(
         IsSplit told d t →
         (fault : Fault) → AreRefused (setting_of M.answer registry.now options.now) d fault →
         S.reader.reads input.new ≤ S.reader.reads input.old + max_definitions + 7) }
+    ensures judged_first { OfJoinedDefinitions (S.reader.coming input.old) (λ d. (fault : Fault) →
+        AreRefused (setting_of M.answer registry.now options.now) d fault →
+        S.reader.reads input.new ≤ S.reader.reads input.old + length d + 8) }
 {
     let Some(front) = read_front(alloc, input, MAX_DEFINITIONS)? else {
         return Err(Fault::DefsTooLong);
@@ -210,7 +215,8 @@ pub fn transform<D: Source, T: Source, M: PrimMeaning, W: Sink>(
     requires budget { options.now.budget ≤ max_budget }
     requires honest { IsHonest M.answer registry.now }
     ensures transforms { Transforms W.writer (setting_of M.answer registry.now options.now)
-        (OfTwo (D.reader.coming defs.old) (T.reader.coming term.old)) out.old out.new result }
+        (OfTwo (D.reader.coming defs.old) (T.reader.coming term.old))
+        (IfSome (D.reader.coming defs.old)) out.old out.new result }
     ensures ends { Ends W.writer out.old out.new result }
     ensures reads { ReadsTwo D.reader T.reader (setting_of M.answer registry.now options.now)
         defs.old defs.new term.old term.new result }
@@ -239,7 +245,8 @@ pub fn transform_with_notes<D: Source, T: Source, M: PrimMeaning, W: Sink>(
     requires budget { options.now.budget ≤ max_budget }
     requires honest { IsHonest M.answer registry.now }
     ensures transforms { Transforms W.writer (setting_of M.answer registry.now options.now)
-        (OfTwo (D.reader.coming defs.old) (T.reader.coming term.old)) out.old out.new result }
+        (OfTwo (D.reader.coming defs.old) (T.reader.coming term.old))
+        (IfSome (D.reader.coming defs.old)) out.old out.new result }
     ensures ends { Ends W.writer out.old out.new result }
     ensures reads { ReadsTwo D.reader T.reader (setting_of M.answer registry.now options.now)
         defs.old defs.new term.old term.new result }
@@ -257,8 +264,8 @@ pub fn transform_with_notes<D: Source, T: Source, M: PrimMeaning, W: Sink>(
 /// that is `#term`, ended by a line feed, by CR and line feed or by the end of the input, and the
 /// text of the term is what comes after it; where no such line comes, all is definitions and that
 /// text is empty. At most 1,048,583 reads are made for the definitions and the line, and 16,777,217 for
-/// the term. The definitions are judged as soon as the line has been read; where they are refused no
-/// further read is made, however the call ends.
+/// the term. The definitions are judged as soon as the line has been read, after at most as many reads as
+/// they have bytes, and eight; where they are refused no further read is made, however the call ends.
 ///
 /// # Errors
 /// As of `transform`.
@@ -273,7 +280,8 @@ pub fn transform_joined<S: Source, M: PrimMeaning, W: Sink>(
     requires budget { options.now.budget ≤ max_budget }
     requires honest { IsHonest M.answer registry.now }
     ensures transforms { Transforms W.writer (setting_of M.answer registry.now options.now)
-        (OfJoined (S.reader.coming input.old)) out.old out.new result }
+        (OfJoined (S.reader.coming input.old)) (OfJoinedDefinitions (S.reader.coming input.old))
+        out.old out.new result }
     ensures ends { Ends W.writer out.old out.new result }
     ensures reads { ReadsJoined S.reader (setting_of M.answer registry.now options.now)
         input.old input.new result }
@@ -301,7 +309,8 @@ pub fn transform_joined_with_notes<S: Source, M: PrimMeaning, W: Sink>(
     requires budget { options.now.budget ≤ max_budget }
     requires honest { IsHonest M.answer registry.now }
     ensures transforms { Transforms W.writer (setting_of M.answer registry.now options.now)
-        (OfJoined (S.reader.coming input.old)) out.old out.new result }
+        (OfJoined (S.reader.coming input.old)) (OfJoinedDefinitions (S.reader.coming input.old))
+        out.old out.new result }
     ensures ends { Ends W.writer out.old out.new result }
     ensures reads { ReadsJoined S.reader (setting_of M.answer registry.now options.now)
         input.old input.new result }

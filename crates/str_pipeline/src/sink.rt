@@ -7,8 +7,8 @@ use term_model::Fault;
 
 /// A writer. A call that returns `None` failed.
 pub trait Sink {
-    /// The bytes written so far, where the device shows them, how many writes it has had, and how many of them failed, or took no byte of a
-    /// text that is not empty.
+    /// The bytes written so far, where the device shows them, how many writes it has had, how many of them failed, or took no byte of a
+    /// text that is not empty, and whether the last of these failed since nobody reads any more what is written.
     ghost writer: { Writer Self };
 
     /// Takes the first bytes of `text` and returns their number.
@@ -19,6 +19,11 @@ pub trait Sink {
         ensures writes { writer.writes self.new ≡ writer.writes self.old + 1 }
         ensures failed { writer.failed_writes self.new ≡ writer.failed_writes self.old +
             (if is_failed_write result text.now then 1 else 0) };
+
+    /// Returns whether the last failed write failed since nobody reads any more what is written, as where the program at the other end of a
+    /// pipe has ended.
+    fn is_closed(&self) -> bool
+        ensures { result ≡ writer.is_closed self.now };
 
     /// Why the last failed write failed, for a person; nothing where none failed, or where the device does not know. No clause speaks
     /// of it.

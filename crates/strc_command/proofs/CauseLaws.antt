@@ -1,5 +1,5 @@
 -- Why a run stopped, by the devices' failed calls, and what is told of it.
-use Rattle.std.proofs.Common.{◌≡◌, ◌+◌, ℕ, List, [], Option, Result, true, is_err, arith, inl, refl, subst, sym}
+use Rattle.std.proofs.Common.{◌≡◌, ◌+◌, ℕ, Bool, List, [], Option, Result, true, is_err, arith, inl, refl, subst, sym}
 use Rattle.std.proofs.lemmas.List.{append-nil}
 use Rattle.std.specs.Prelude.{Err, if◌then◌else◌}
 use Rattle.str_pipeline.specs.Device.{Gains, GainsPrefix, Reader, Writer}
@@ -58,19 +58,19 @@ write_counts fault v w wrote is =
     omega arith
 
 -- what is told of the fault that ends a transformation
-pub stopped : (fault : Fault) (v w before after : ℕ) (old new : Option (List ℕ))
+pub stopped : {closed : Bool} (fault : Fault) (v w before after : ℕ) (old new : Option (List ℕ))
     → w ≡ v + (if is_write_fault {A = Status} (Err fault) then 1 else 0)
-    → ((writes : Failures) → (fault ≡ Write → AreSome writes) → TellsStop writes fault before after old new)
-    → TellsStop (record { before = v; after = w }) fault before after old new
+    → ((writes : Failures) → (fault ≡ Write → AreSome writes) → TellsStop closed writes fault before after old new)
+    → TellsStop closed (record { before = v; after = w }) fault before after old new
 stopped fault v w before after old new wrote told =
     told (record { before = v; after = w }) (write_counts fault v w wrote)
 
 -- what is told of a whole text that could not be written
-pub writing_stopped : {A : Type 0} (r : Result A Fault) (v w before after : ℕ) (old new : Option (List ℕ)) →
+pub writing_stopped : {A : Type 0} {closed : Bool} (r : Result A Fault) (v w before after : ℕ) (old new : Option (List ℕ)) →
     is_err r ≡ true
     → w ≡ v + (if is_err r then 1 else 0) →
-    ((writes : Failures) → AreSome writes → TellsStop writes Write before after old new)
-    → TellsStop (record { before = v; after = w }) Write before after old new
+    ((writes : Failures) → AreSome writes → TellsStop closed writes Write before after old new)
+    → TellsStop closed (record { before = v; after = w }) Write before after old new
 writing_stopped r v w before after old new bad wrote told =
     let one : w ≡ v + 1 = subst (λ b. w ≡ v + (if b then 1 else 0)) bad wrote in
     told (record { before = v; after = w }) (omega arith)
@@ -90,15 +90,15 @@ alone_told Memory before after old new told = told
 alone_told fault before after old new told = alone fault before after old new told
 
 -- what is told of a fault in whose run no write to the output failed
-pub fault_told : (writes : Failures) (fault : Fault) (before after : ℕ) (old new : Option (List ℕ)) →
+pub fault_told : {closed : Bool} (writes : Failures) (fault : Fault) (before after : ℕ) (old new : Option (List ℕ)) →
     TellsFault fault before after old new
-    → TellsStop writes fault before after old new
+    → TellsStop closed writes fault before after old new
 fault_told writes fault before after old new told = inl told
 
 -- the same where the line stands alone
-pub line_told : (writes : Failures) (fault : Fault) (before after : ℕ) (old new : Option (List ℕ)) →
+pub line_told : {closed : Bool} (writes : Failures) (fault : Fault) (before after : ℕ) (old new : Option (List ℕ)) →
     Tells fault before after old new
-    → TellsStop writes fault before after old new
+    → TellsStop closed writes fault before after old new
 line_told writes fault before after old new told = inl (alone_told fault before after old new told)
 
 -- if memory is refused before anything is written, the run stops and leaves the output as it was

@@ -1,7 +1,9 @@
 -- Laws of files that are opened one after another.
-use Rattle.std.proofs.Common.{◌≡◌, ◌∙◌, ◌<◌, ◌≤◌, ◌+◌, ◌∷◌, ◌++◌, [], ap, refl, ℕ, List, length, map, take, slice_index_or, Bool, false, Result, Ok, Err, is_err}
+use Rattle.std.proofs.Common.{◌≡◌, ◌∙◌, ◌<◌, ◌≤◌, ◌+◌, ◌∷◌, ◌++◌, [], ap, refl, subst, ℕ, List, length, map, take, slice_index_or, Bool, false, Result, Ok, Err, is_err}
 use Rattle.std.specs.Prelude.{if◌then◌else◌, is_ok}
 use Rattle.std.proofs.lemmas.List.{map-append, take_more, take_all}
+use Rattle.strc_command.specs.Files.{AreNamed, IsNamed, one_more_named}
+use Rattle.strc_command.specs.declared.opening.Library.{Library}
 
 -- one more is opened
 pub one_more : {A B C : Type 0} (f : A → C) (g : B → C) (xs ys : List A) (x : A) (bs : List B) (b : B) (i : ℕ) →
@@ -22,6 +24,21 @@ one_more f g xs ys x bs b i below so added same =
 pub all_opened : {A B C : Type 0} (f : A → C) (g : B → C) (xs : List A) (bs : List B) (i : ℕ) → length bs ≤ i
     → map f xs ≡ map g (take i bs) → map f xs ≡ map g bs
 all_opened f g xs bs i end so = so ∙ ap (map g) (take_all i bs end)
+
+-- one more file is found
+pub one_more_found : {A : Type 0} (words : List A) (bytes : A → List ℕ) (word : A) (found more : List Library)
+    (library : Library) (i : ℕ) → i < length words → AreNamed (map bytes (take i words)) found →
+    more ≡ found ++ library ∷ [] → IsNamed (bytes (slice_index_or words i word)) library →
+    AreNamed (map bytes (take (i + 1) words)) more
+one_more_found words bytes word found more library i below named added is =
+    rw (added, take_more words i word below, map-append bytes (take i words) (slice_index_or words i word ∷ []))
+    (one_more_named (bytes (slice_index_or words i word)) library named is)
+
+-- all are found
+pub all_found : {A : Type 0} (words : List A) (bytes : A → List ℕ) (found : List Library) (i : ℕ) → length words ≤ i →
+    AreNamed (map bytes (take i words)) found → AreNamed (map bytes words) found
+all_found {A = A} words bytes found i end named =
+    subst (λ (front : List A). AreNamed (map bytes front) found) (take_all i words end) named
 
 -- a push that did not fail added the value
 pub pushed : {A E : Type 0} (result : Result (Unit {0}) E) (failed : Bool) (new old : List A) (x : A)

@@ -1,6 +1,6 @@
 -- The headline does not rest on this file.
 -- The text of definitions that come from several files.
-use Rattle.std.specs.Prelude.{ℕ, List, [], ◌∷◌, ◌++◌, map, Option, None, Some}
+use Rattle.std.specs.Prelude.{◌≡◌, ◌≢◌, ℕ, List, [], ◌∷◌, ◌++◌, map, codes, Option, None, Some}
 use Rattle.strc_command.specs.declared.definition_files.DefinitionFiles.{DefinitionFiles}
 use Rattle.strc_command.specs.declared.opening.Library.{Library}
 
@@ -31,6 +31,16 @@ failures_of f = f.failed.number
 -- the path of a file in front of the definitions
 abbrev pub path_of : Library → List ℕ
 path_of library = library.path.bytes.items
+
+-- the file that a word of `--with` names: the one with this path, but for the word of the installed prelude
+abbrev pub IsNamed : List ℕ → Library → Type 0
+IsNamed word library = word ≢ codes "prelude" → path_of library ≡ word
+
+-- the files that words name, in their order
+pub data AreNamed : List (List ℕ) → List Library → Type 0 where
+  none_named : AreNamed [] []
+  one_more_named : {words : List (List ℕ)} {libraries : List Library} (word : List ℕ) (library : Library) →
+      AreNamed words libraries → IsNamed word library → AreNamed (words ++ word ∷ []) (libraries ++ library ∷ [])
 
 -- the texts at the paths of the libraries, and then that at the path of the definitions, where a path leads to such a
 -- text

@@ -76,18 +76,19 @@ TellsFault fault before after old new = TellsMore fault before after old new
 abbrev pub IsUnread : ℕ → ℕ → Option (List ℕ) → Option (List ℕ) → Type 0
 IsUnread before after old new = (fault : Fault) × IsReadingFault fault × TellsFault fault before after old new
 
--- nothing is told, of a write to the output that failed
-pub record IsSilent (writes : Failures) (fault : Fault) (before after : ℕ) (old new : Option (List ℕ)) : Type 0 where
+-- nothing is told, of a write to the output that failed since the output was closed
+pub record IsSilent (is_closed : Bool) (writes : Failures) (fault : Fault) (before after : ℕ) (old new : Option (List ℕ))
+    : Type 0 where
   pub writing : fault ≡ Write
   pub failed : AreSome writes
+  pub closed : is_closed ≡ true
   pub unfailed : after ≡ before
   pub nothing : new ≡ old
 
--- a fault that stops a run is told, but for some failed writes to the output, whose numbers these are: nobody may be
--- reading it any more
-abbrev pub TellsStop : Failures → Fault → ℕ → ℕ → Option (List ℕ) → Option (List ℕ) → Type 0
-TellsStop writes fault before after old new =
-    TellsFault fault before after old new ⊎ IsSilent writes fault before after old new
+-- a fault that stops a run is told, but for a failed write to an output that is closed: nobody reads it any more
+abbrev pub TellsStop : (is_closed : Bool) → Failures → Fault → ℕ → ℕ → Option (List ℕ) → Option (List ℕ) → Type 0
+TellsStop is_closed writes fault before after old new =
+    TellsFault fault before after old new ⊎ IsSilent is_closed writes fault before after old new
 
 -- a text for a person is on a stream, as far as it could be written
 abbrev pub TellsText : Option (List ℕ) → Option (List ℕ) → Type 0

@@ -30,7 +30,7 @@ Told stream old new tells =
 -- the run stopped for a fault of this kind, which is told if it can be
 abbrev pub IsStopped : {W E : Type 0} → Writer W → Writer E → W → W → E → E → (Fault → Type 0) → Type 0
 IsStopped writer stream old new before after IsKind = (fault : Fault) × IsKind fault
-    × Told stream before after (TellsStop (writes_of writer old new) fault)
+    × Told stream before after (TellsStop (writer.is_closed new) (writes_of writer old new) fault)
 
 -- an answer to the texts was written in a form, and reported with what is asked for: the numbers of the run, and why it
 -- failed

@@ -1,7 +1,7 @@
 //! Where the files that a request names are opened.
 ghost use Rattle.std.specs.Prelude.{◌≡◌, map, ℕ, List, IfErr, IfOk};
 ghost use Rattle.str_pipeline.specs.Faults.{IsReadingFault};
-ghost use Rattle.strc_command.specs.Files.{path_of, readers_of, texts_at};
+ghost use Rattle.strc_command.specs.Files.{AreNamed, IsNamed, path_of, readers_of, texts_at};
 ghost use Rattle.strc_command.specs.Report.{IsUnread};
 ghost use Rattle.strc_command.specs.Runs.{Told};
 
@@ -46,6 +46,7 @@ impl<'a> Unopened<'a> {
 /// Returns the file that a word of `--with` names. The fault is `Read` if the place of the installed prelude is not known, or `Memory`.
 fn library_of<P: Paths>(alloc: Global, paths: &mut P, word: &str) -> Result<Library, Fault>
     ensures fault { IfErr result IsReadingFault }
+    ensures named { IfOk result (IsNamed word.now) }
     ensures kept { (other : List ℕ) → P.text_at paths.new other ≡ P.text_at paths.old other }
 {
     if word != PRELUDE_WORD {
@@ -71,6 +72,7 @@ fn libraries_of<P: Paths>(
     words: &[&str],
 ) -> Result<Vec<Library>, Fault>
     ensures fault { IfErr result IsReadingFault }
+    ensures named { IfOk result (λ libraries. AreNamed (map (λ word. word.now) words.now) libraries.items) }
 {
     let mut libraries = Vec::new(alloc);
     for word in words {
@@ -88,6 +90,7 @@ pub(crate) fn find_libraries<P: Paths, E: Sink>(
     diagnostics: &mut E,
 ) -> Result<Vec<Library>, u8>
     ensures found { IfOk result (λ libraries. diagnostics.new ≡ diagnostics.old) }
+    ensures named { IfOk result (λ libraries. AreNamed (map (λ word. word.now) words.now) libraries.items) }
     ensures stopped { IfErr result (λ status. (status ≡ 4) ×
         Told E.writer diagnostics.old diagnostics.new IsUnread) }
 {

@@ -7,7 +7,6 @@ ghost use Rattle.strc_command.specs.Runs.{Told};
 use crate::failure::Failure;
 use crate::report::{report, report_failure};
 use std::alloc::Global;
-use std::io;
 use str_pipeline::Sink;
 use term_model::Fault;
 
@@ -41,17 +40,18 @@ pub(crate) fn stop_reading<E: Sink>(
     }
 }
 
-/// Reports that a write to `out` failed, and returns 4. Of a broken pipe nothing is reported, since its reader wants no more.
+/// Reports that a write to `out` failed, and returns 4. Of a pipe that nobody reads any more nothing is reported.
 pub(crate) fn stop_writing<W: Sink, E: Sink>(alloc: Global, out: &W, diagnostics: &mut E) -> u8
     ensures status { result ≡ 4 }
     ensures told { (writes : Failures) → AreSome writes →
-        Told E.writer diagnostics.old diagnostics.new (TellsStop writes Write) }
+        Told E.writer diagnostics.old diagnostics.new
+        (TellsStop (W.writer.is_closed out.now) writes Write) }
 {
-    let kind = out.failure();
-    if kind == Some(io::ErrorKind::BrokenPipe) {
+    if out.is_closed() {
         return 4;
     }
-    report_failure(alloc, &Fault::Write, Failure::of_writing(kind), diagnostics);
+    let failure = Failure::of_writing(out.failure());
+    report_failure(alloc, &Fault::Write, failure, diagnostics);
     4
 }
 
@@ -66,7 +66,8 @@ pub(crate) fn stop_run<W: Sink, E: Sink>(
 ) -> u8
     ensures status { result ≡ 4 }
     ensures told { (writes : Failures) → (fault.now ≡ Write → AreSome writes) →
-        Told E.writer diagnostics.old diagnostics.new (TellsStop writes fault.now) }
+        Told E.writer diagnostics.old diagnostics.new
+        (TellsStop (W.writer.is_closed out.now) writes fault.now) }
 {
     match fault {
         Fault::Write => stop_writing(alloc, out, diagnostics),

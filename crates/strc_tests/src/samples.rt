@@ -29,6 +29,7 @@ pub(crate) struct Device {
     memory: Faulty,
     kind: ErrorKind,
     failure: Option<ErrorKind>,
+    is_broken_pipe: bool,
 }
 
 impl Device {
@@ -38,6 +39,7 @@ impl Device {
             memory,
             kind,
             failure: None,
+            is_broken_pipe: false,
         }
     }
 }
@@ -67,14 +69,20 @@ impl Sink for Device {
       written = λ d. ⟦<Faulty as Sink>⟧.writer.written d.memory;
       writes = λ d. ⟦<Faulty as Sink>⟧.writer.writes d.memory;
       failed_writes = λ d. ⟦<Faulty as Sink>⟧.writer.failed_writes d.memory;
+      is_closed = λ d. d.is_broken_pipe;
     } };
 
     fn write(&mut self, text: &[u8]) -> Option<usize> {
         let count = self.memory.write(text);
         if count.is_none() {
             self.failure = Some(self.kind);
+            self.is_broken_pipe = self.kind == ErrorKind::BrokenPipe;
         }
         count
+    }
+
+    fn is_closed(&self) -> bool {
+        self.is_broken_pipe
     }
 
     fn failure(&self) -> Option<ErrorKind> {

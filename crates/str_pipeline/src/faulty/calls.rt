@@ -143,6 +143,7 @@ impl Sink for Faulty {
       written = λ f. Some (bytes_written f);
       writes = λ f. call_count f;
       failed_writes = λ f. failure_count f;
+      is_closed = λ f. false;
     } };
 
     /// A bad call fails, or takes nothing where `self` is silent. Of the others one into a full
@@ -181,5 +182,9 @@ impl Sink for Faulty {
             return None;
         }
         Some(count)
+    }
+
+    fn is_closed(&self) -> bool {
+        false
     }
 }

@@ -1,6 +1,6 @@
 use Rattle.std.proofs.Common.{◌≡◌, ◌+◌, ◌≤◌, ◌-◌, vec_len, false, if◌then◌else◌, IsTrue}
 use Rattle.str_pipeline.specs.Device.{Loses, IsDry}
-use Rattle.str_pipeline.specs.Search.{IsSearched}
+use Rattle.str_pipeline.specs.Search.{IsEarly, IsSearched}
 use Rattle.str_pipeline.proofs.joined.read_front.Given as goal
 
 abbrev pub invariant-loop-definitions : goal.invariant-loop-definitions
@@ -11,6 +11,7 @@ invariant-loop-definitions g l =
       given : Loses (S.reader.coming l.initial.input) (S.reader.coming l.input) l.bytes.items;
       ended : IsTrue l.is_ended → IsDry (S.reader.coming l.input);
       few : S.reader.reads l.input ≤ S.reader.reads l.initial.input + vec_len l.bytes + (if l.is_ended then 1 else 0);
+      early : IsEarly (S.reader.coming l.initial.input) (S.reader.reads l.initial.input) (S.reader.reads l.input);
       bounded : S.reader.reads l.input ≤ S.reader.reads l.initial.input + l.limit + 7;
       unfailed : S.reader.failed_reads l.input ≡ S.reader.failed_reads l.initial.input;
     }

@@ -9,7 +9,7 @@ use Rattle.str_pipeline.specs.Setting.{Setting, setting_of}
 use Rattle.str_pipeline.specs.Written.{IsFirstFault}
 use Rattle.str_pipeline.specs.Steps.{IsProgram, IsTextResult}
 use Rattle.str_pipeline.proofs.FaultLaws.{reading_apart}
-use Rattle.str_pipeline.proofs.OneLine.{none_refused_joined}
+use Rattle.str_pipeline.proofs.OneLine.{never_refused_joined, none_refused_joined, of_refused}
 use Rattle.str_pipeline.proofs.WrittenLaws.{of_split, for_each_told, told_then, program_fault, reading_result, passed}
 use Rattle.str_pipeline.proofs.pipeline.outcome_joined.Goals as goal
 
@@ -111,3 +111,51 @@ returns-clause-unread_told g c =
     none_refused_joined S (g.S.Source.reader.coming c.args.input.now) (g.S.Source.reader.coming c.read_front.new.input)
     (definitions_of c.in-Some.front) (term_of c.in-Some.front)
     made.0 _ (rw c.in-Some.is at c.in_ok-front.ensures.split) (short, file)
+
+pub returns-in_err-text-clause-judged_first : goal.returns-in_err-text-clause-judged_first
+returns-in_err-text-clause-judged_first g c =
+    let S : Setting = setting_of g.M.PrimMeaning.answer c.args.registry.now c.args.options.now in
+    let made = c.in_ok-program.ensures.program in
+    let file : PassesChecks S (definitions_of c.in-Some.front) made.0 = rw c.definitions.ensures at made.1 in
+    let short : length (definitions_of c.in-Some.front) ≤ max_definitions =
+    rw c.in-Some.is at c.in_ok-front.ensures.fits in
+    never_refused_joined S (g.S.Source.reader.coming c.args.input.now)
+    (g.S.Source.reader.coming c.read_front.new.input) (definitions_of c.in-Some.front) (term_of c.in-Some.front)
+    made.0 _ (rw c.in-Some.is at c.in_ok-front.ensures.split) (short, file)
+
+pub returns-in_default-2-clause-judged_first : goal.returns-in_default-2-clause-judged_first
+returns-in_default-2-clause-judged_first g c =
+    let S : Setting = setting_of g.M.PrimMeaning.answer c.args.registry.now c.args.options.now in
+    let made = c.in_ok-program.ensures.program in
+    let file : PassesChecks S (definitions_of c.in-Some.front) made.0 = rw c.definitions.ensures at made.1 in
+    let short : length (definitions_of c.in-Some.front) ≤ max_definitions =
+    rw c.in-Some.is at c.in_ok-front.ensures.fits in
+    never_refused_joined S (g.S.Source.reader.coming c.args.input.now)
+    (g.S.Source.reader.coming c.read_front.new.input) (definitions_of c.in-Some.front) (term_of c.in-Some.front)
+    made.0 _ (rw c.in-Some.is at c.in_ok-front.ensures.split) (short, file)
+
+pub returns-clause-judged_first : goal.returns-clause-judged_first
+returns-clause-judged_first g c =
+    let S : Setting = setting_of g.M.PrimMeaning.answer c.args.registry.now c.args.options.now in
+    let made = c.in_ok-program.ensures.program in
+    let file : PassesChecks S (definitions_of c.in-Some.front) made.0 = rw c.definitions.ensures at made.1 in
+    let short : length (definitions_of c.in-Some.front) ≤ max_definitions =
+    rw c.in-Some.is at c.in_ok-front.ensures.fits in
+    never_refused_joined S (g.S.Source.reader.coming c.args.input.now)
+    (g.S.Source.reader.coming c.read_front.new.input) (definitions_of c.in-Some.front) (term_of c.in-Some.front)
+    made.0 _ (rw c.in-Some.is at c.in_ok-front.ensures.split) (short, file)
+
+pub returns-in_err-front-clause-judged_first : goal.returns-in_err-front-clause-judged_first
+returns-in_err-front-clause-judged_first g c =
+    of_refused (setting_of g.M.PrimMeaning.answer c.args.registry.now c.args.options.now)
+    (g.S.Source.reader.coming c.args.input.now) _ c.read_front.ensures.early
+
+pub returns-in_default-clause-judged_first : goal.returns-in_default-clause-judged_first
+returns-in_default-clause-judged_first g c =
+    of_refused (setting_of g.M.PrimMeaning.answer c.args.registry.now c.args.options.now)
+    (g.S.Source.reader.coming c.args.input.now) _ c.read_front.ensures.early
+
+pub returns-in_err-program-clause-judged_first : goal.returns-in_err-program-clause-judged_first
+returns-in_err-program-clause-judged_first g c =
+    of_refused (setting_of g.M.PrimMeaning.answer c.args.registry.now c.args.options.now)
+    (g.S.Source.reader.coming c.args.input.now) _ c.read_front.ensures.early

@@ -1,5 +1,6 @@
 use Rattle.std.proofs.lemmas.Result.{IfOk-weaker}
 use Rattle.str_pipeline.specs.Setting.{Setting, setting_of}
+use Rattle.str_pipeline.proofs.OneLine.{whatever_the_term}
 use Rattle.str_pipeline.proofs.WrittenLaws.{told_then}
 use Rattle.str_pipeline.proofs.pipeline.transform_joined_with_notes.Goals as goal
 
@@ -14,6 +15,12 @@ returns-clause-transforms g c =
       begun = λ writing. told_then (g.S.Source.reader.coming c.args.input.now)
           _ _ c.outcome_joined-outcome.ensures.result
           (λ coming split d t is. c.finish-status.ensures.begun writing d t S (split d t is));
+      refused = IfOk-weaker c.finish-status.result _ _
+          (λ status each. told_then (g.S.Source.reader.coming c.args.input.now)
+          _ _ c.outcome_joined-outcome.ensures.result
+          (λ coming split d t is fault refused u. each d u S
+          (whatever_the_term S d t u fault c.outcome_joined-outcome.result refused (split d t is))))
+          c.finish-status.ensures.written;
     }
 
 pub returns-clause-ends : goal.returns-clause-ends

@@ -16,6 +16,11 @@ returns-clause-transforms g c =
           c.outcome_apart-outcome.ensures.result
           (λ d known. told_then (g.T.Source.reader.coming c.args.term.now) _ _ known
           (λ t is. c.finish-status.ensures.begun writing d t S is));
+      refused = IfOk-weaker c.finish-status.result _ _
+          (λ status each. told_then (g.D.Source.reader.coming c.args.defs.now) _ _
+          c.outcome_apart-outcome.ensures.refused
+          (λ d known fault refused t. each d t S (known fault refused t)))
+          c.finish-status.ensures.written;
     }
 
 pub returns-clause-ends : goal.returns-clause-ends
