@@ -178,7 +178,7 @@ pub(crate) fn run_part<S: TermSpace, M: PrimMeaning>(
     ensures reached { IfOk result (λ p. HasReached S.space
         (code_of code.now.tables code.now.instrs) (meaning_of M.answer registry.now)
         space.old term budget space.new p.next p.position stacks.new) }
-    ensures ended { IfOk result (λ p. 10 * budget + 10 ≤ count → HasEnded p.next) }
+    ensures ended { IfOk result (λ p. 3 * budget + 1 ≤ count → HasEnded p.next) }
     ensures charged { IfOk result (λ _. IsCharged (length code.now.instrs) budget
         (length notes.old.rules.items) notes.new.rules.items stacks.new.left) }
     ensures holds { IfOk result (λ p. Holds S.space space.new

@@ -68,7 +68,7 @@ returns-then-steps-count-clause-reached g c = record { taken = c.loop-alloc.step
 
 pub returns-then-steps-count-clause-ended : goal.returns-then-steps-count-clause-ended
 returns-then-steps-count-clause-ended g c = λ enough.
-    let low : c.loop-alloc.steps < 10 * c.args.budget + 10 =
+    let low : c.loop-alloc.steps < 3 * c.args.budget + 1 =
     in_time c.instrs.ensures.stands c.requires.stands c.loop-alloc.invariant.0 (c.loop-alloc-test.ensures.0 refl) in
     absurd (omega arith)
 
