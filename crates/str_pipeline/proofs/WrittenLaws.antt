@@ -115,8 +115,8 @@ of_told None term d t X same_defs same_term known = tt
 of_told (Some told) None d t X same_defs same_term known = tt
 of_told (Some told) (Some text) d t X same_defs same_term known = rw (← same_defs, ← same_term) known
 
-pub of_definitions : (defs : Option (List ℕ)) (d : List ℕ) (X : List ℕ → Type 0) → IfSome defs (λ told. d ≡ told) → X d →
-    IfSome defs X
+pub of_definitions : (defs : Option (List ℕ)) (d : List ℕ) (X : List ℕ → Type 0) →
+    IfSome defs (λ told. d ≡ told) → X d → IfSome defs X
 of_definitions None d X same known = tt
 of_definitions (Some told) d X same known = rw (← same) known
 

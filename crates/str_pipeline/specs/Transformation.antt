@@ -14,8 +14,9 @@ use Rattle.str_pipeline.specs.declared.status.Status.{Status}
 abbrev pub OfTwo : Option (List ℕ) → Option (List ℕ) → (List ℕ → List ℕ → Type 0) → Type 0
 OfTwo defs term holds = IfSome defs (λ d. IfSome term (λ t. holds d t))
 
--- what is written for the texts in a setting: the line of the answer, and a beginning of it if a write failed. Definitions
--- that are refused decide the line: it is the same whatever the text of the term is, also if that is not shown
+-- what is written for the texts in a setting: the line of the answer, and a beginning of it if a write failed.
+-- Definitions that are refused decide the line: it is the same whatever the text of the term is, also if that is not
+-- shown
 pub record Transforms {W : Type 0} (writer : Writer W) (S : Setting)
     (of_texts : (List ℕ → List ℕ → Type 0) → Type 0) (of_definitions : (List ℕ → Type 0) → Type 0)
     (old new : W) (result : Result Status Fault) : Type 0 where

@@ -60,13 +60,15 @@ write_counts fault v w wrote is =
 -- what is told of the fault that ends a transformation
 pub stopped : {closed : Bool} (fault : Fault) (v w before after : ℕ) (old new : Option (List ℕ))
     → w ≡ v + (if is_write_fault {A = Status} (Err fault) then 1 else 0)
-    → ((writes : Failures) → (fault ≡ Write → AreSome writes) → TellsStop closed writes fault before after old new)
+    → ((writes : Failures) → (fault ≡ Write → AreSome writes) →
+    TellsStop closed writes fault before after old new)
     → TellsStop closed (record { before = v; after = w }) fault before after old new
 stopped fault v w before after old new wrote told =
     told (record { before = v; after = w }) (write_counts fault v w wrote)
 
 -- what is told of a whole text that could not be written
-pub writing_stopped : {A : Type 0} {closed : Bool} (r : Result A Fault) (v w before after : ℕ) (old new : Option (List ℕ)) →
+pub writing_stopped : {A : Type 0} {closed : Bool} (r : Result A Fault) (v w before after : ℕ)
+    (old new : Option (List ℕ)) →
     is_err r ≡ true
     → w ≡ v + (if is_err r then 1 else 0) →
     ((writes : Failures) → AreSome writes → TellsStop closed writes Write before after old new)

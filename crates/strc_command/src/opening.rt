@@ -72,7 +72,8 @@ fn libraries_of<P: Paths>(
     words: &[&str],
 ) -> Result<Vec<Library>, Fault>
     ensures fault { IfErr result IsReadingFault }
-    ensures named { IfOk result (λ libraries. AreNamed (map (λ word. word.now) words.now) libraries.items) }
+    ensures named { IfOk result (λ libraries.
+        AreNamed (map (λ word. word.now) words.now) libraries.items) }
 {
     let mut libraries = Vec::new(alloc);
     for word in words {
@@ -90,7 +91,8 @@ pub(crate) fn find_libraries<P: Paths, E: Sink>(
     diagnostics: &mut E,
 ) -> Result<Vec<Library>, u8>
     ensures found { IfOk result (λ libraries. diagnostics.new ≡ diagnostics.old) }
-    ensures named { IfOk result (λ libraries. AreNamed (map (λ word. word.now) words.now) libraries.items) }
+    ensures named { IfOk result (λ libraries.
+        AreNamed (map (λ word. word.now) words.now) libraries.items) }
     ensures stopped { IfErr result (λ status. (status ≡ 4) ×
         Told E.writer diagnostics.old diagnostics.new IsUnread) }
 {

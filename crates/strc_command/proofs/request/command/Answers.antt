@@ -3,7 +3,8 @@ use Rattle.strc_command.proofs.request.command.Goals as goal
 
 pub returns : goal.returns
 returns c =
-    let one = added c.command_with_texts.result c.in_ok-command.command c.rules.result c.command_with_texts.ensures c.rules.ensures
+    let one = added c.command_with_texts.result c.in_ok-command.command c.rules.result
+    c.command_with_texts.ensures c.rules.ensures
     c.in_ok-command.ensures in
     let two = added c.in_ok-command.command c.in_ok-command-2.command c.flag.result one c.flag.ensures
     c.in_ok-command-2.ensures in
@@ -23,6 +24,7 @@ returns c =
     c.in_ok-command-9.ensures in
     let ten = added c.in_ok-command-9.command c.in_ok-command-10.command c.library.result nine c.library.ensures
     c.in_ok-command-10.ensures in
-    let eleven = added c.in_ok-command-10.command c.in_ok-command-11.command c.definitions.result ten c.definitions.ensures
+    let eleven = added c.in_ok-command-10.command c.in_ok-command-11.command c.definitions.result ten
+    c.definitions.ensures
     c.in_ok-command-11.ensures in
     added c.in_ok-command-11.command c.in_ok-arg.field-0 c.term.result eleven c.term.ensures c.in_ok-arg.ensures
