@@ -77,8 +77,8 @@ abbrev pub IsUnread : ℕ → ℕ → Option (List ℕ) → Option (List ℕ) �
 IsUnread before after old new = (fault : Fault) × IsReadingFault fault × TellsFault fault before after old new
 
 -- nothing is told, of a write to the output that failed since the output was closed
-pub record IsSilent (is_closed : Bool) (writes : Failures) (fault : Fault) (before after : ℕ) (old new : Option (List ℕ))
-    : Type 0 where
+pub record IsSilent (is_closed : Bool) (writes : Failures) (fault : Fault) (before after : ℕ)
+    (old new : Option (List ℕ)) : Type 0 where
   pub writing : fault ≡ Write
   pub failed : AreSome writes
   pub closed : is_closed ≡ true
