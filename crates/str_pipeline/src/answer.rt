@@ -32,7 +32,7 @@ pub const MAX_DEFINITIONS: usize = 1_048_576;
 /// The most bytes of the text of a term.
 pub const MAX_TERM: usize = 16_777_216;
 
-/// The greatest budget of a run, in rules.
+/// The greatest budget of a run, in rules. With it the number of steps still has 64 bits.
 pub const MAX_BUDGET: u64 = 1_000_000_000_000_000_000;
 
 /// The budget of a run for which none is asked, in rules.

@@ -17,7 +17,7 @@ use Rattle.prim_registry.specs.Registered.{registered}
 use Rattle.strat_code.specs.Code.{Code}
 use Rattle.strat_code.specs.StandsFor.{StandsFor}
 use Rattle.strat_steps.specs.Outcomes.{outcome_tree}
-use Rattle.strat_machine.specs.Accounts.{ending_of, AreRules, IsAccount, IsEnding, IsAccountOf}
+use Rattle.strat_machine.specs.Accounts.{outcome_ending, AreRules, IsAccount, IsEnding, IsAccountOfRun}
 use Rattle.strat_machine.specs.Running.{HasReached, rules_of}
 use Rattle.strat_machine.specs.declared.explaining.Account.{Account}
 use Rattle.strat_machine.specs.declared.stacks.Next.{Next}
@@ -30,7 +30,7 @@ use Rattle.strat_machine.proofs.OutcomeLaws.{registered_says}
 pub account_made : {W R Y N : Type 0} {S : Space W R Y N} {code : Code} {M : Meaning} {w w1 : W} {t : R} {budget : ℕ}
     (next : Next) (p : Position R) (m : Stacks R Y) (account : Account) →
     HasReached S code M w t budget w1 next p m → IsEnding next account.ending →
-    sum account.rules.items + m.left ≡ budget → IsAccountOf S code M w t budget w1 account
+    sum account.rules.items + m.left ≡ budget → IsAccountOfRun S code M w t budget w1 account
 account_made nexts.Rewritten p m account r ends paid = record {
   outcome = outcomes.Rewritten p.term;
   left = m.left;
@@ -66,7 +66,7 @@ account_made nexts.Spent p m account r ends paid = record {
 account_made _ p m account r ends paid = absurd ends
 
 -- the same of trees
-ending_tree : {R : Type 0} (f : R → Tree) (o : Outcome R) → ending_of o ≡ ending_of (outcome_tree f o)
+ending_tree : {R : Type 0} (f : R → Tree) (o : Outcome R) → outcome_ending o ≡ outcome_ending (outcome_tree f o)
 ending_tree f (outcomes.Rewritten r) = refl
 ending_tree f outcomes.Failed = refl
 ending_tree f outcomes.Oversize = refl
@@ -85,7 +85,7 @@ pub account_says : (keys names : List NameKey) (M : Meaning)
     ((j : ℕ) → j < length names → Contains keys (key_at names j)) → ResolvesProgram P main C i →
     {W R Y N : Type 0} {S : Space W R Y N} {code : Code} → StandsFor code C i →
     {w w1 : W} {t : R} {u : Tree} {budget : ℕ} (account : Account) → Stands S w t → S.term_of w t ≡ u →
-    IsAccountOf S code (registered keys M) w t budget w1 account → IsAccount M P main u budget account
+    IsAccountOfRun S code (registered keys M) w t budget w1 account → IsAccount M P main u budget account
 account_says keys names M {P} {main} occurring each resolved {S = S} stands {w1 = w1} {budget = budget} account st same a =
     let f = S.term_of w1 in record {
       outcome = outcome_tree f a.outcome;

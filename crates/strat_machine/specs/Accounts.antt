@@ -20,11 +20,11 @@ use Rattle.strat_machine.specs.declared.stacks.Next.{Next}
 use Rattle.strat_machine.specs.declared.stacks.Next.TheVariants as nexts
 
 -- how a run with an outcome ends
-abbrev pub ending_of : {R : Type 0} → Outcome R → Ending
-ending_of (outcomes.Rewritten t) = endings.Rewritten
-ending_of outcomes.Failed = endings.Failed
-ending_of outcomes.Oversize = endings.Oversize
-ending_of outcomes.Spent = endings.Spent
+abbrev pub outcome_ending : {R : Type 0} → Outcome R → Ending
+outcome_ending (outcomes.Rewritten t) = endings.Rewritten
+outcome_ending outcomes.Failed = endings.Failed
+outcome_ending outcomes.Oversize = endings.Oversize
+outcome_ending outcomes.Spent = endings.Spent
 
 -- the instructions were charged all nodes of a run with an outcome; where the budget is spent, no more than that
 abbrev pub AreRules : {R : Type 0} → Outcome R → (nodes charged : ℕ) → Type 0
@@ -39,7 +39,7 @@ pub record IsAccount (M : Meaning) (P : Definitions Name (List Name)) (main : Na
   pub outcome : Outcome Tree
   pub nodes : ℕ
   pub is : IsOutcome M P main t budget outcome nodes
-  pub ending : account.ending ≡ ending_of outcome
+  pub ending : account.ending ≡ outcome_ending outcome
   pub rules : AreRules outcome nodes (sum account.rules.items)
 
 -- a run that has ended ends so
@@ -51,13 +51,13 @@ IsEnding nexts.Spent e = e ≡ endings.Spent
 IsEnding _ e = ⊥
 
 -- the same of a run over references, with what is left of the budget
-pub record IsAccountOf {W R Y N : Type 0} (S : Space W R Y N) (code : Code) (M : Meaning) (w : W) (t : R) (budget : ℕ)
+pub record IsAccountOfRun {W R Y N : Type 0} (S : Space W R Y N) (code : Code) (M : Meaning) (w : W) (t : R) (budget : ℕ)
     (w1 : W) (account : Account) : Type 0 where
   pub outcome : Outcome R
   pub left : ℕ
   pub taken : ℕ
   pub steps : StepsRef S code M taken w (start_ref t budget) w1 (end_ref outcome left)
-  pub ending : account.ending ≡ ending_of outcome
+  pub ending : account.ending ≡ outcome_ending outcome
   pub charged : sum account.rules.items + left ≡ budget
 
 -- the number at a position, if there is one, goes up by n

@@ -6,7 +6,7 @@ ghost use Rattle.prim_registry.specs.Entries.{IsHonest, entries_of};
 ghost use Rattle.prim_registry.specs.Registered.{meaning_of};
 ghost use Rattle.strat_code.specs.CodeOf.{code_of};
 ghost use Rattle.strat_steps.specs.Marks.{Holds};
-ghost use Rattle.strat_machine.specs.Accounts.{IsEnding, IsAccountOf};
+ghost use Rattle.strat_machine.specs.Accounts.{IsEnding, IsAccountOfRun};
 ghost use Rattle.strat_machine.specs.Actions.{IsLoadedProgram};
 ghost use Rattle.strat_steps.specs.References.{AllPlaces};
 ghost use Rattle.strat_machine.specs.Running.{IsClear, HasEnded};
@@ -85,7 +85,7 @@ pub(crate) fn account_of<S: TermSpace, M: PrimMeaning>(
     requires loaded { IsLoadedProgram (S.space.knows space.old) (S.space.symbol_of space.old)
         (entries_of registry.now)
         S.space.number_of program.now code.now.tables code.now.instrs }
-    ensures account { IfOk result (λ account. IsAccountOf S.space
+    ensures account { IfOk result (λ account. IsAccountOfRun S.space
         (code_of code.now.tables code.now.instrs) (meaning_of M.answer registry.now)
         space.old term budget space.new account) }
     ensures kept { (r : S.Ref) → IsTrue (S.space.stands space.old r) →

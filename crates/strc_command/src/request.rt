@@ -1,5 +1,5 @@
 //! The words of the command line.
-ghost use Rattle.std.specs.Prelude.{◌≤◌, ◌≢◌, codes, length, IfOk, IfSome, IsOkAnd};
+ghost use Rattle.std.specs.Prelude.{◌≤◌, ◌≢◌, codes, length, IfOk, IsOkAnd};
 ghost use Rattle.term_model.specs.Limits.{max_budget};
 ghost use Rattle.strc_command.specs.Request.{IsPlainRequest, IsAsked};
 ghost use Rattle.strc_command.specs.Rules.{Fits, TakesRules, HasRules, max_rules};
@@ -240,7 +240,7 @@ pub fn request_of<'a>(alloc: Global, words: &'a [String]) -> Result<Request<'a>,
     })
 }
 
-/// Returns the most rules of the run: those that a run without limit may take, the number that is asked for, or else 1,000,000.
+/// Returns the most rules of the run: those that a run without limit may take, or the number that is asked for.
 fn rules_of(matches: &ArgMatches<'_>) -> u64
     requires { HasRules matches.now }
     ensures { result ≤ max_budget }
@@ -248,16 +248,17 @@ fn rules_of(matches: &ArgMatches<'_>) -> u64
     if matches.get_flag("no-limit") {
         return MAX_BUDGET;
     }
-    asked_rules(matches).unwrap_or(DEFAULT_BUDGET)
+    u64::from(asked_rules(matches))
 }
 
-/// Returns the number of rules that is asked for, if one is.
-fn asked_rules(matches: &ArgMatches<'_>) -> Option<u64>
+/// Returns the number of rules that is asked for, which is 1,000,000 where none is.
+fn asked_rules(matches: &ArgMatches<'_>) -> u32
     requires { HasRules matches.now }
-    ensures { IfSome result (λ rules. rules ≤ max_rules) }
+    ensures { result ≤ max_rules }
 {
-    let rules = matches.get_one::<u32>("rules")?;
-    Some(u64::from(rules))
+    matches
+        .get_one::<u32>("rules")
+        .unwrap_or(DEFAULT_BUDGET as u32)
 }
 
 /// Whether both a number of rules and a run without limit are asked for.
