@@ -24,24 +24,20 @@ within_front (suc a) k zero l h = absurd (omega (arith, h))
 within_front (suc a) k (suc n) [] h = refl
 within_front (suc a) k (suc n) (v ∷ l) h = within_front a k n l (omega (arith, h))
 
-pub laid_more : (from : ℕ) (fs : List Frame) (m n : ℕ) → AreLaid from fs m → m ≤ n → AreLaid from fs n
-laid_more from [] m n laid h = omega arith
-laid_more from (f ∷ fs) m n laid h = (laid.0, laid_more (f.first + f.count) fs m n laid.1 h)
-
-pub laid_push : (from : ℕ) (fs : List Frame) (f : Frame) (m n : ℕ) → AreLaid from fs m → m ≤ f.first →
-    f.first + f.count ≤ n → AreLaid from (fs ++ f ∷ []) n
-laid_push from [] f m n laid h k = (omega arith, k)
+pub laid_push : (from : ℕ) (fs : List Frame) (f : Frame) (m n : ℕ) → AreLaid from fs m → m ≡ f.first →
+    f.first + f.count ≡ n → AreLaid from (fs ++ f ∷ []) n
+laid_push from [] f m n laid h k = (laid ∙ h, k)
 laid_push from (g ∷ fs) f m n laid h k = (laid.0, laid_push (g.first + g.count) fs f m n laid.1 h k)
 
 laid_from : (from : ℕ) (fs : List Frame) (m : ℕ) → AreLaid from fs m → from ≤ m
-laid_from from [] m laid = laid
+laid_from from [] m laid = omega (arith, laid)
 laid_from from (f ∷ fs) m laid = let h = laid_from (f.first + f.count) fs m laid.1 in let k = laid.0 in omega arith
 
 -- the closures of the frames before one stand before its own
 pub laid_cut : (from : ℕ) (fs : List Frame) (k m : ℕ) (f : Frame) → AreLaid from fs m → k < length fs →
     f ≡ get_or fs k f → AreLaid from (take k fs) f.first
 laid_cut from [] k m f laid h is = absurd (omega arith)
-laid_cut from (g ∷ fs) zero m f laid h is = subst (λ (g : Frame). from ≤ g.first) (sym is) laid.0
+laid_cut from (g ∷ fs) zero m f laid h is = subst (λ (g : Frame). from ≡ g.first) (sym is) laid.0
 laid_cut from (g ∷ fs) (suc k) m f laid h is = (laid.0, laid_cut (g.first + g.count) fs k m f laid.1 (omega arith) is)
 
 laid_within : (from : ℕ) (fs : List Frame) (k m : ℕ) (f : Frame) → AreLaid from fs m → k < length fs →
@@ -139,8 +135,9 @@ pub cut_laid : (fs gs : List Frame) (cs ds : List Closure) (k : ℕ) (f : Frame)
 cut_laid fs gs cs ds k f laid h is fewer less =
     let before = laid_cut 0 fs k (length cs) f laid h is in
     let low = laid_within 0 fs k (length cs) f laid h is in
-    let long : f.first ≤ length ds = let e = ap length less in let l = length-take f.first cs in omega arith in
-    subst (λ gs. AreLaid 0 gs (length ds)) (sym fewer) (laid_more 0 (take k fs) f.first (length ds) before long)
+    let long : f.first ≡ length ds = let e = ap length less in let l = length-take f.first cs in
+    omega (arith, low, e, l) in
+    subst (λ gs. AreLaid 0 gs (length ds)) (sym fewer) (subst (λ n. AreLaid 0 (take k fs) n) long before)
 
 pub cut_frames : (fs gs : List Frame) (cs ds : List Closure) (k : ℕ) (f : Frame) → AreLaid 0 fs (length cs) →
     k < length fs → f ≡ get_or fs k f → gs ≡ take k fs → ds ≡ take f.first cs →
@@ -156,13 +153,7 @@ closed_length F p (code.code_at a ∷ us) = ap suc (closed_length F p us)
 closed_length F p (code.parameter_at y ∷ us) = ap suc (closed_length F p us)
 
 -- more closures at the end
-pub grown_laid : (fs seen : List Frame) (cs ds : List Closure) → AreLaid 0 fs (length cs) → take (length cs) ds ≡ cs →
-    AreLaid 0 fs (length ds)
-grown_laid fs seen cs ds laid kept =
-    let long : length cs ≤ length ds = let l = length-take (length cs) ds in let k = ap length kept in omega arith in
-    laid_more 0 fs (length cs) (length ds) laid long
-
-pub grown_frames : (fs : List Frame) (cs ds : List Closure) → AreLaid 0 fs (length cs) → take (length cs) ds ≡ cs →
+grown_frames : (fs : List Frame) (cs ds : List Closure) → AreLaid 0 fs (length cs) → take (length cs) ds ≡ cs →
     frames_in ds fs ≡ frames_in cs fs
 grown_frames fs cs ds laid kept = sym (frames_within 0 fs (length cs) ds laid) ∙ ap (λ l. frames_in l fs) kept
 
@@ -209,8 +200,7 @@ module _ (fs gs seen : List Frame) (f : Frame) (cs ds : List Closure) (p : ℕ) 
 
   pub call_laid : AreLaid 0 gs (length ds)
   call_laid = subst (λ gs. AreLaid 0 gs (length ds)) (sym put)
-      (laid_push 0 fs f (length cs) (length ds) laid (omega (arith, first)) (let m = many in
-      omega (arith, first, count)))
+      (laid_push 0 fs f (length cs) (length ds) laid (sym first) (let m = many in omega (arith, first, count, m)))
 
   own : map closure_of (take f.count (drop f.first ds)) ≡ closed (frames_in cs fs) p (map argument_of args)
   own =
@@ -236,14 +226,21 @@ module _ (fs gs seen : List Frame) (f : Frame) (cs ds : List Closure) (p : ℕ) 
       (ap (λ F. F ++ frame_in ds f ∷ []) (grown_frames fs cs ds laid kept) ∙
       ap (λ l. frames_in cs fs ++ state.frame f.base f.up l ∷ []) own))
 
--- the same where the frames after the closures are those that there were
+-- the frames are as they were where the closures that came are dropped again
+pub same_laid : (fs hs : List Frame) (cs es : List Closure) → AreLaid 0 fs (length cs) → hs ≡ fs → es ≡ cs →
+    AreLaid 0 hs (length es)
+same_laid fs hs cs es laid same same_closures = subst (λ l. AreLaid 0 l (length es)) (sym same)
+    (subst (λ l. AreLaid 0 fs (length l)) (sym same_closures) laid)
+
+pub same_frames : (fs hs : List Frame) (cs es : List Closure) → hs ≡ fs → es ≡ cs → frames_in es hs ≡ frames_in cs fs
+same_frames fs hs cs es same same_closures = ap (frames_in es) same ∙ ap (λ l. frames_in l fs) same_closures
+
+-- closures came, and the frames are those that there were: then the closures are dropped, or the frame of the call is
+-- added
 module _ (fs gs hs : List Frame) (cs ds : List Closure) (p : ℕ) (args : List Argument) (laid : AreLaid 0 fs (length cs))
     (grown : IsGrown fs gs cs ds p args) where
-  pub same_laid : hs ≡ gs → AreLaid 0 hs (length ds)
-  same_laid is = subst (λ l. AreLaid 0 l (length ds)) (sym (is ∙ grown.frames)) (grown_laid fs fs cs ds laid grown.kept)
-
-  pub same_frames : hs ≡ gs → frames_in ds hs ≡ frames_in cs fs
-  same_frames is = ap (frames_in ds) (is ∙ grown.frames) ∙ grown_frames fs cs ds laid grown.kept
+  pub closures_dropped : (first : ℕ) (es : List Closure) → first ≡ length cs → es ≡ take first ds → es ≡ cs
+  closures_dropped first es at less = less ∙ (ap (λ n. take n ds) at ∙ grown.kept)
 
   module _ (f : Frame) (first : f.first ≡ length cs) (count : f.count ≡ length args) (put : hs ≡ gs ++ f ∷ []) where
     put_here : hs ≡ fs ++ f ∷ []

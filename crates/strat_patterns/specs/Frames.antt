@@ -1,6 +1,6 @@
 -- The headline does not rest on this file.
 -- What the frames of the Rust machine are seen as.
-use Rattle.std.specs.Prelude.{◌≡◌, ℕ, ◌+◌, ◌≤◌, Option, Some, None, List, [], ◌∷◌, map, take, drop}
+use Rattle.std.specs.Prelude.{◌≡◌, ℕ, ◌+◌, Option, Some, None, List, [], ◌∷◌, map, take, drop}
 use Rattle.strat_steps.specs.State as state
 use Rattle.strat_steps.specs.State.{frame}
 use Rattle.strat_patterns.specs.declared.frames.Closure.{Closure}
@@ -16,11 +16,11 @@ frame_in cs f = frame f.base f.up (map closure_of (take f.count (drop f.first cs
 abbrev pub frames_in : List Closure → List Frame → List state.Frame
 frames_in cs fs = map (frame_in cs) fs
 
--- the closures of each frame stand after those of the frames before it, from a position on, and are among the first
--- `many`
+-- the closures of each frame begin where those of the frame before it end, the first ones at a position, and those of
+-- the last frame end with all closures, of which there are `many`
 abbrev pub AreLaid : (from : ℕ) → List Frame → (many : ℕ) → Type 0
-AreLaid from [] many = from ≤ many
-AreLaid from (f ∷ fs) many = (from ≤ f.first) × AreLaid (f.first + f.count) fs many
+AreLaid from [] many = from ≡ many
+AreLaid from (f ∷ fs) many = (from ≡ f.first) × AreLaid (f.first + f.count) fs many
 
 -- the first place of a frame, and the frame around it
 abbrev pub IsBaseOf : Option (ℕ × ℕ) → Option state.Frame → Type 0

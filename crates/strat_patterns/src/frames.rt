@@ -173,7 +173,10 @@ impl Frames {
         if count > 0 {
             push_closures(&self.frames[..], &mut self.closures, here, arguments)?;
         }
-        push_on(&mut self.frames, frame)?;
+        if let Err(error) = push_on(&mut self.frames, frame) {
+            self.closures.truncate(first);
+            return Err(error);
+        }
         Ok(())
     }
 
@@ -253,10 +256,32 @@ fn closure_of_argument(
     }
 }
 
-/// Puts the closures of the arguments after those that there are, one for each.
-#[tactic(auto, using(crate::proofs::FrameLaws::pushing))]
+/// Puts the closures of the arguments after those that there are, one for each. After an error there are those that there were.
 #[inline(never)]
 fn push_closures(
+    frames: &[Frame],
+    closures: &mut Vec<Closure>,
+    here: usize,
+    arguments: &[Argument],
+) -> Result<(), AllocError>
+    requires { AreLaid 0 frames.now (length closures.old.items) }
+    ensures closures { OnOk result (map closure_of closures.new.items ≡
+        map closure_of closures.old.items ++
+        closed (frames_in closures.old.items frames.now) here (map argument_of arguments.now)) }
+    ensures kept { take (length closures.old.items) closures.new.items ≡ closures.old.items }
+    ensures err { OnErr result (closures.new.items ≡ closures.old.items) }
+{
+    let count = closures.len();
+    if let Err(error) = push_each(frames, closures, here, arguments) {
+        closures.truncate(count);
+        return Err(error);
+    }
+    Ok(())
+}
+
+/// Puts the closures of the arguments after those that there are. After an error there may be some of them.
+#[tactic(auto, using(crate::proofs::FrameLaws::pushing))]
+fn push_each(
     frames: &[Frame],
     closures: &mut Vec<Closure>,
     here: usize,

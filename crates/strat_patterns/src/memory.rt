@@ -1,5 +1,5 @@
 //! Memory for the stacks: vectors that take more of it or give it back, and numbers in 32 bits.
-ghost use Rattle.std.specs.Prelude.{◌≡◌, ◌+◌, ◌<◌, ◌≤◌, vec_len, vec_capacity, OnOk, OnErr, [], ◌∷◌, ◌++◌};
+ghost use Rattle.std.specs.Prelude.{◌≡◌, ◌+◌, ◌<◌, ◌≤◌, vec_len, vec_capacity, IfErr, OnOk, OnErr, [], ◌∷◌, ◌++◌};
 ghost use Rattle.term_model.specs.Results.{Returns};
 
 use std::alloc::AllocError;
@@ -75,7 +75,8 @@ pub fn release_spare<T: Drop>(items: &mut Vec<T>)
 ///
 /// Returns an error if the number needs more than 32 bits: no stack has room for it.
 pub fn narrow(number: usize) -> Result<u32, AllocError>
-    ensures { Returns result number }
+    ensures ok { Returns result number }
+    ensures err { IfErr result (λ _. 4294967296 ≤ number) }
 {
     if number > u32::MAX as usize {
         return Err(AllocError);

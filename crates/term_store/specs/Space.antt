@@ -1,6 +1,6 @@
 -- The headline does not rest on this file.
 -- What the calls of a store say.
-use Rattle.std.specs.Prelude.{◌≡◌, ◌<◌, ◌≤◌, ◌-◌, ℕ, List, [], length, map, slice_index_or, All}
+use Rattle.std.specs.Prelude.{◌≡◌, ◌<◌, ◌≤◌, ◌+◌, ◌-◌, ℕ, max, List, [], length, take, map, slice_index_or, All}
 use Rattle.term_model.specs.Symbol.{Symbol, Tuple}
 use Rattle.term_model.specs.Term.{Tree, Fits, term, weights, trees_of}
 use Rattle.term_model.specs.Limits.{max_weight}
@@ -9,8 +9,10 @@ use Rattle.term_model.specs.declared.made.Made.{Made}
 use Rattle.term_model.specs.declared.made.Made.TheVariants as made
 use Rattle.term_model.specs.declared.parts.Block.{Block}
 use Rattle.term_store.specs.Chains.{IsBlockIn}
+use Rattle.term_store.specs.Extents.{small_extent}
 use Rattle.term_store.specs.Shapes.{shape_head, shape_parts, shape_annos}
 use Rattle.term_store.specs.Store.{held, head_in, IsAmong, MayHave}
+use Rattle.term_store.specs.declared.stored.Extent.{Extent}
 use Rattle.term_store.specs.declared.stored.StoredShape.{StoredShape}
 use Rattle.term_store.specs.declared.store.StoreSpace.{StoreSpace}
 
@@ -72,10 +74,19 @@ pub record Keeps (old new : StoreSpace) : Type 0 where
   pub symbols : (n : ℕ) → n < length old.symbols.keys → symbol_at new n ≡ symbol_at old n
   pub named : old.named ≤ new.named
 
--- exactly the places below the mark stand, each with its term; names stay
+-- the extent of the last of the first places, which says how many chains and symbols there were when its shape came
+abbrev pub last_extent : StoreSpace → ℕ → Extent
+last_extent s places = slice_index_or s.extents.items (places - 1) small_extent
+
+-- exactly the places below the mark stand, each with its term and its extent; of the chains, of their spans and of the
+-- symbols only those stay that were there when the last of these shapes came, and the symbols of names
 pub record GoesBack (old new : StoreSpace) (mark : ℕ) : Type 0 where
   pub count : count new ≡ mark
   pub terms : (k : ℕ) → k < mark → term_of new k ≡ term_of old k
+  pub extents : new.extents.items ≡ take mark old.extents.items
+  pub chains : new.chains ≡ take ((last_extent old mark).chains + 1) old.chains
+  pub spans : new.spans.items ≡ take (last_extent old mark).chains old.spans.items
+  pub kept : new.symbols.keys ≡ take (max (last_extent old mark).symbols old.named) old.symbols.keys
   pub named : new.named ≡ old.named
   pub symbols : (n : ℕ) → n < old.named → symbol_at new n ≡ symbol_at old n
 

@@ -1,9 +1,10 @@
 //! Going back: what came after a mark is given back.
-ghost use Rattle.std.specs.Prelude.{◌<◌, ◌≤◌};
+ghost use Rattle.std.specs.Prelude.{◌≡◌, ◌<◌, ◌≤◌};
 ghost use Rattle.term_store.specs.Store.{IsLast, AreNamed};
-ghost use Rattle.term_store.specs.Space.{count, GoesBack};
+ghost use Rattle.term_store.specs.Space.{count, last_extent, GoesBack};
 
 use crate::store::StoreSpace;
+use crate::stored::Extent;
 
 impl StoreSpace {
     /// Keeps the first `mark` places, and the chains and symbols that were there when the last of their shapes came. The symbols of names
@@ -14,34 +15,24 @@ impl StoreSpace {
         requires within { mark < count self.old }
         ensures { GoesBack self.old self.new mark }
     {
-        let last = self.chains_at(mark);
-        let symbols = self.symbols_at(mark).max(self.named);
+        let last = self.last_extent(mark);
+        let symbols = last.symbols.max(self.named);
         self.shapes.truncate(mark);
         self.extents.truncate(mark);
-        self.chains.truncate(last);
-        self.spans.truncate(last as usize);
+        self.chains.truncate(last.chains);
+        self.spans.truncate(last.chains as usize);
         self.symbols.truncate(symbols as usize);
     }
 
-    /// The last chain that the shapes of the first places may name.
-    fn chains_at(&self, mark: usize) -> u32
-        requires { mark ≤ count self.now }
-        ensures { IsLast self.now.chains self.now.extents.items mark result }
+    /// Returns the extent of the last of the first places: the shapes of these name no later chains and symbols.
+    fn last_extent(&self, places: usize) -> Extent
+        requires some { 0 < places }
+        requires within { places ≤ count self.now }
+        ensures extent { result ≡ last_extent self.now places }
+        ensures chains { IsLast self.now.chains self.now.extents.items places result.chains }
+        ensures symbols { AreNamed self.now.symbols.keys self.now.extents.items places
+            result.symbols }
     {
-        if mark == 0 {
-            return 0;
-        }
-        self.extents.get(mark - 1).chains
-    }
-
-    /// How many symbols the shapes of the first places may name.
-    fn symbols_at(&self, mark: usize) -> u32
-        requires { mark ≤ count self.now }
-        ensures { AreNamed self.now.symbols.keys self.now.extents.items mark result }
-    {
-        if mark == 0 {
-            return 0;
-        }
-        self.extents.get(mark - 1).symbols
+        self.extents.get(places - 1)
     }
 }

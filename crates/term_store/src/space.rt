@@ -1,7 +1,9 @@
 //! The store as a space of terms.
-ghost use Rattle.std.specs.Prelude.{◌≡◌, nat_lt, nat_le, map, All, IsTrue, IfOk, Some};
+ghost use Rattle.std.specs.Prelude.{◌≡◌, ◌<◌, ◌+◌, nat_lt, nat_le, map, All, IsTrue, IfOk, Some};
 ghost use Rattle.term_model.specs.Term.{term};
-ghost use Rattle.term_model.specs.Space.{Keeps, Makes, MayHave};
+ghost use Rattle.term_model.specs.Results.{Returns};
+ghost use Rattle.term_model.specs.Space.{GoesBack, Keeps, Makes, MayHave};
+ghost use Rattle.term_store.specs.Places.{small_count};
 ghost use Rattle.term_store.specs.Space as stored;
 ghost use Rattle.indexmap.specs.IndexSet.{hasher_of};
 
@@ -100,7 +102,15 @@ impl TermSpace for StoreSpace {
         self.is_same(*one, *other)
     }
 
-    fn dup(&self, at: &u32) -> Result<u32, AllocError> {
+    /// Returns the reference once more. This never fails, since a reference is a number.
+    fn dup(&self, at: &u32) -> Result<u32, AllocError>
+        requires { IsTrue (nat_lt at.now (stored.count self.now)) }
+        ensures same { Returns result at.now }
+        ensures stands { IfOk result (λ r. IsTrue (nat_lt r (stored.count self.now))) }
+        ensures term { IfOk result (λ r. stored.term_of self.now r ≡
+            stored.term_of self.now at.now) }
+        ensures copied { result ≡ Ok at.now }
+    {
         Ok(*at)
     }
 
@@ -289,8 +299,15 @@ impl TermSpace for StoreSpace {
         self.shapes.held()
     }
 
+    /// Gives back the shapes that came after the mark, with the chains and symbols that came with them.
     #[tactic(auto, using(crate::proofs::LawsOfSpace::marking))]
-    fn back_to(&mut self, mark: usize) {
+    fn back_to(&mut self, mark: usize)
+        requires { IsTrue (nat_le mark (stored.held_count self.old)) }
+        ensures back { GoesBack ⟦<StoreSpace as TermSpace>⟧.space self.old mark self.new }
+        ensures given_back { mark < stored.held_count self.old →
+            stored.GoesBack self.old self.new (small_count + mark) }
+        ensures unchanged { mark ≡ stored.held_count self.old → self.new ≡ self.old }
+    {
         if mark < self.shapes.held() {
             self.cut(small_integers() as usize + mark);
         }

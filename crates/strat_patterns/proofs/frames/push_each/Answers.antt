@@ -1,6 +1,6 @@
 use Rattle.std.proofs.lemmas.List.{get_or_default}
 use Rattle.strat_patterns.proofs.FrameLaws.{one_pushed}
-use Rattle.strat_patterns.proofs.frames.push_closures.Goals as goal
+use Rattle.strat_patterns.proofs.frames.push_each.Goals as goal
 
 pub loop-argument-preserved : goal.loop-argument-preserved
 loop-argument-preserved c =
