@@ -1,13 +1,15 @@
 -- What a space's words say of a store.
-use Rattle.std.proofs.Common.{◌≡◌, ℕ, zero, suc, ◌+◌, ◌<◌, ◌≤◌, nat_lt, nat_le, List, [], ◌∷◌, ◌++◌, length, map, get_or, slice_get, drop, refl, sym, ◌∙◌, ap, subst, arith}
+use Rattle.std.proofs.Common.{◌≡◌, ℕ, zero, suc, ◌+◌, ◌<◌, ◌≤◌, nat_lt, nat_le, List, [], ◌∷◌, ◌++◌, length, map, get_or, slice_get, take, drop, append-nil, length-append, refl, sym, ◌∙◌, ap, subst, arith}
 use Rattle.std.specs.Prelude.{Result, Ok, Err, IfOk, Option, Some, None, IsSome, IsTrue, ◌↔◌}
 use Rattle.std.specs.declared.alloc.AllocError.{AllocError}
 use Rattle.std.specs.Borrow.{Bor}
 use Rattle.std.proofs.lemmas.Bool.{lt-ltb, leb-true}
-use Rattle.std.proofs.lemmas.List.{map-append}
+use Rattle.std.proofs.lemmas.List.{map-append, length-drop}
+use Rattle.std.proofs.lemmas.List.Elements.{All-take}
+use Rattle.std.proofs.Math.Seq.{drop-length}
 use Rattle.std.proofs.lemmas.Option.{get_or_from_slice_get}
 use Rattle.term_model.specs.Blocks.{list_in, IsAt}
-use Rattle.term_model.specs.Space.{GoesBack, Makes, MakesNone, IsApplied, IsList}
+use Rattle.term_model.specs.Space.{GoesBack, Makes, MakesNone, Pushes, IsApplied, IsList}
 use Rattle.term_model.specs.Limits.{max_weight}
 use Rattle.term_model.specs.Symbol.{Symbol}
 use Rattle.term_model.specs.Term.{Tree, term, head_of, parts_of, annos_of, trees_of, weights, Fits}
@@ -17,12 +19,13 @@ use Rattle.term_model.specs.declared.made.Made.{Made}
 use Rattle.term_model.specs.declared.made.Made.TheVariants as made
 use Rattle.term_model.specs.declared.parts.Block.{Block}
 use Rattle.term_model.proofs.TermLemmas.{list_of-trees_of}
+use Rattle.term_model.proofs.SpaceLemmas.{whole}
 use Rattle.term_store.specs.Chains.{IsBlockIn}
 use Rattle.term_store.specs.Shapes.{shape_head, shape_parts, shape_annos}
 use Rattle.term_store.specs.Places.{small_count}
-use Rattle.term_store.specs.Store.{head_in}
+use Rattle.term_store.specs.Store.{head_in, MayHave}
 use Rattle.term_store.specs.StoredTerms.{stored_terms}
-use Rattle.term_store.specs.Space.{count, held_count, term_of, chain_at, shape_term, Stand, MayStand, IsShapeAt, IsMade, Keeps, KeepsChains}
+use Rattle.term_store.specs.Space.{count, held_count, term_of, chain_at, shape_term, Stand, MayStand, IsShapeAt, IsMade, Keeps, KeepsChains, replaced}
 use Rattle.term_store.specs.declared.store.StoreSpace.{StoreSpace}
 use Rattle.term_store.specs.declared.stored.StoredHead.{StoredHead}
 use Rattle.term_store.specs.declared.stored.StoredHead.TheVariants as stored
@@ -223,6 +226,64 @@ map-drop f (suc n) (x ∷ xs) = map-drop f n xs
 pub dropped : (s : StoreSpace) (at n : ℕ) (x : StoredShape) → IsShapeAt s at x →
     map (term_of s) (drop n (list_in s.chains (shape_parts x))) ≡ drop n (parts_of (term_of s at))
 dropped s at n x is = map-drop (term_of s) n (list_in s.chains (shape_parts x)) ∙ ap (drop n) (sym (parts_at s at x is))
+
+-- values in place of the first parts
+pub replaced_stand : (s : StoreSpace) (at : ℕ) (x : StoredShape) (xs : List ℕ) → IsShapeAt s at x → Stand s xs →
+    Stand s (replaced xs (list_in s.chains (shape_parts x)))
+replaced_stand s at x xs is stand = stand-append s xs (drop (length xs) (list_in s.chains (shape_parts x))) stand
+    (drop_stands s (length xs) (list_in s.chains (shape_parts x)) is.may.parts)
+
+pub replaced_terms : (s : StoreSpace) (at : ℕ) (x : StoredShape) (xs : List ℕ) → IsShapeAt s at x →
+    map (term_of s) (replaced xs (list_in s.chains (shape_parts x))) ≡
+    map (term_of s) xs ++ drop (length xs) (parts_of (term_of s at))
+replaced_terms s at x xs is =
+    map-append (term_of s) xs (drop (length xs) (list_in s.chains (shape_parts x))) ∙
+    ap (λ ts. map (term_of s) xs ++ ts) (dropped s at (length xs) x is)
+
+pub bare_replaced : (h : StoredHead) (xs ys : List ℕ) → MayHave h ys → length xs ≤ length ys → MayHave h (replaced xs ys)
+bare_replaced h xs ys bare few is =
+    let none = bare is in
+    let long = length-append xs (drop (length xs) ys) in
+    let rest = length-drop (length xs) ys in
+    omega (arith, none, few, long, rest)
+
+-- all of a term's own parts in place of its first ones
+pub own_parts : (t : Tree) (us : List Tree) (n : ℕ) → us ≡ parts_of t → n ≡ length us →
+    term (head_of t) (us ++ drop n (parts_of t)) (annos_of t) ≡ t
+own_parts t us n own many =
+    let nothing : drop n (parts_of t) ≡ [] =
+    ap (λ k. drop k (parts_of t)) (many ∙ ap length own) ∙ drop-length (parts_of t) in
+    ap (λ ts. term (head_of t) (us ++ ts) (annos_of t)) nothing ∙
+    (ap (λ ts. term (head_of t) ts (annos_of t)) (append-nil us ∙ own) ∙ whole t)
+
+-- parts that are too heavy together
+pub heavy_parts : (h : Head) (ts us annos_ : List Tree) → max_weight < weights (trees_of ts) → ts ≡ us →
+    Fits (term h us annos_) → ⊥
+heavy_parts h ts us annos_ heavy same fits =
+    let light = fits.weight in
+    let there : max_weight < weights (trees_of us) = subst (λ vs. max_weight < weights (trees_of vs)) same heavy in
+    omega (arith, light, there)
+
+-- some of a term's parts are put on a stack
+map-take : (f : ℕ → Tree) (n : ℕ) (xs : List ℕ) → map f (take n xs) ≡ take n (map f xs)
+map-take f zero xs = refl
+map-take f (suc n) [] = refl
+map-take f (suc n) (x ∷ xs) = ap (λ ts. f x ∷ ts) (map-take f n xs)
+
+pub some_pushed : (s : StoreSpace) (at from n : ℕ) (x : StoredShape) (b : Block ℕ) (old new : List ℕ) →
+    IsShapeAt s at x → IsBlockIn s.chains b (drop from (list_in s.chains (shape_parts x))) →
+    new ≡ old ++ take n (list_in s.chains b) →
+    Pushes stored_terms s (take n (drop from (parts_of (term_of s at)))) old new
+some_pushed s at from n x b old new is block put =
+    let xs = drop from (list_in s.chains (shape_parts x)) in
+    let stand : Stand s (take n xs) =
+    All-take (λ i. i < count s) n xs (drop_stands s from (list_in s.chains (shape_parts x)) is.may.parts) in
+    record {
+      pushed = take n xs;
+      after = put ∙ ap (λ ys. old ++ take n ys) block.list;
+      standing = λ k d h. lt-ltb _ _ (stand k d h);
+      are = map-take (term_of s) n xs ∙ ap (take n) (dropped s at from x is);
+    }
 
 pub keeps_all : (s : StoreSpace) → KeepsChains s s
 keeps_all s = record {

@@ -1,6 +1,7 @@
 -- The steps of the loops along blocks.
-use Rattle.std.proofs.Common.{◌≡◌, ℕ, zero, suc, ◌+◌, ◌-◌, ◌<◌, ◌≤◌, List, [], ◌∷◌, ◌++◌, length, map, get_or, drop, drop-cons, refl, sym, ◌∙◌, ap, subst, All, arith, length-append}
-use Rattle.std.proofs.Math.Seq.{drop-append-add}
+use Rattle.std.proofs.Common.{◌≡◌, ℕ, zero, suc, ◌+◌, ◌-◌, ◌<◌, ◌≤◌, List, [], ◌∷◌, ◌++◌, length, map, get_or, take, drop, drop-cons, append_assoc, append-nil, refl, sym, ◌∙◌, ap, subst, All, arith, length-append}
+use Rattle.std.proofs.Math.Seq.{drop-append-add, take-append-add}
+use Rattle.std.proofs.lemmas.List.{take-append-le}
 use Rattle.term_model.specs.Term.{Tree, weights, trees_of}
 use Rattle.term_model.specs.Limits.{max_weight}
 use Rattle.term_model.specs.Blocks.{front_list, list_in}
@@ -8,7 +9,7 @@ use Rattle.term_model.specs.declared.parts.Block.{Block}
 use Rattle.term_model.specs.declared.parts.Front.TheVariants as fronts
 use Rattle.term_store.specs.Chains.{IsBlockIn, IsBlockOf, IsChainIn, IsWhole}
 use Rattle.term_store.specs.Space.{Stand, KeepsChains, AreHeavy, term_of}
-use Rattle.term_store.specs.Walks.{IsAfter, IsPushing, IsBuilding, IsLinking}
+use Rattle.term_store.specs.Walks.{IsAfter, IsPushing, IsTaking, IsBuilding, IsLinking}
 use Rattle.term_store.specs.declared.store.StoreSpace.{StoreSpace}
 use Rattle.term_store.proofs.PlainLemmas.{map_same}
 
@@ -65,6 +66,52 @@ room_for chains old now places room_ rest_ next is of =
     let long : length (front ++ rest) ≡ length front + length rest = length-append front rest in
     let room = is.room in
     omega (arith, all, before, after, next_, long, room)
+
+-- the first values of a list are those of its front and the first of what is after it
+take_after : (xs ys : List ℕ) (n : ℕ) → length xs ≤ n → take n (xs ++ ys) ≡ xs ++ take (n - length xs) ys
+take_after xs ys n h =
+    let e : length xs + (n - length xs) ≡ n = omega arith in
+    subst (λ m. take m (xs ++ ys) ≡ xs ++ take (n - length xs) ys) e (take-append-add xs ys (n - length xs))
+
+-- a stack after the front of a block was put on it
+pub taking_next : (chains : List (List ℕ)) (b next : Block ℕ) (old now new places : List ℕ) (room_ left_ n : ℕ) →
+    IsTaking chains b old now places room_ left_ → 0 < b.rest → length (front_list b.front) ≤ left_ →
+    n ≡ length (front_list b.front) → new ≡ now ++ front_list b.front → IsBlockOf chains b.rest next →
+    IsTaking chains next old new places room_ (left_ - n)
+taking_next chains b next old now new places room_ left_ n is some passed many put of =
+    let front : List ℕ = front_list b.front in
+    let rest : List ℕ = get_or chains b.rest [] in
+    let list : rest ≡ list_in chains next = of.list in
+    let within : left_ ≤ length (front ++ rest) = is.within in
+    let long : length (front ++ rest) ≡ length front + length rest = length-append front rest in
+    let short : left_ - n ≤ length rest = omega (arith, within, long, passed, many) in
+    let first : take left_ (front ++ rest) ≡ front ++ take (left_ - n) rest =
+    subst (λ k. take left_ (front ++ rest) ≡ front ++ take (left_ - k) rest) (sym many)
+    (take_after front rest left_ passed) in
+    let all : new ++ take (left_ - n) rest ≡ old ++ places =
+    ap (λ xs. xs ++ take (left_ - n) rest) put ∙ (append_assoc now front (take (left_ - n) rest) ∙
+    (ap (λ xs. now ++ xs) (sym first) ∙ is.list)) in
+    let room = is.room in
+    let longer : length new ≡ length now + length front = ap length put ∙ length-append now front in
+    record {
+      block = block_from chains b.rest next of some;
+      within = subst (λ xs. left_ - n ≤ length xs) list short;
+      list = subst (λ xs. new ++ take (left_ - n) xs ≡ old ++ places) list all;
+      room = omega (arith, room, longer, passed, many);
+    }
+
+-- the first values of the last block are in its front
+pub taken_front : (chains : List (List ℕ)) (b : Block ℕ) (left_ : ℕ) → get_or chains 0 [] ≡ [] →
+    (0 < b.rest → left_ < length (front_list b.front)) → left_ ≤ length (list_in chains b) →
+    take left_ (list_in chains b) ≡ take left_ (front_list b.front)
+taken_front chains b left_ empty last within = by_rest b.rest refl
+  where
+    by_rest : (k : ℕ) → b.rest ≡ k → take left_ (list_in chains b) ≡ take left_ (front_list b.front)
+    by_rest zero e =
+        ap (λ j. take left_ (front_list b.front ++ get_or chains j [])) e ∙
+        (ap (λ xs. take left_ (front_list b.front ++ xs)) empty ∙ ap (take left_) (append-nil (front_list b.front)))
+    by_rest (suc k) e = take-append-le left_ (front_list b.front) (get_or chains b.rest [])
+        (let h = last (omega (arith, e)) in omega (arith, h))
 
 -- the terms after the first of several weigh no more than all
 weights-drop-append : (f : ℕ → Tree) (xs ys : List ℕ) (n : ℕ) →

@@ -1,6 +1,6 @@
 -- The headline does not rest on this file.
 -- What the calls of a store say.
-use Rattle.std.specs.Prelude.{◌≡◌, ◌<◌, ◌≤◌, ◌+◌, ◌-◌, ℕ, max, List, [], length, take, map, slice_index_or, All}
+use Rattle.std.specs.Prelude.{◌≡◌, ◌<◌, ◌≤◌, ◌+◌, ◌-◌, ℕ, max, List, [], ◌++◌, drop, length, take, map, slice_index_or, All}
 use Rattle.term_model.specs.Symbol.{Symbol, Tuple}
 use Rattle.term_model.specs.Term.{Tree, Fits, term, weights, trees_of}
 use Rattle.term_model.specs.Limits.{max_weight}
@@ -44,6 +44,10 @@ Stand s places = All (λ i. i < count s) places
 abbrev pub shape_term : StoreSpace → StoredShape → Tree
 shape_term s x = term (head_in s.symbols.keys (shape_head x)) (map (term_of s) (list_in s.chains (shape_parts x)))
     (map (term_of s) (chain_at s (shape_annos x)))
+
+-- values in place of the first ones
+abbrev pub replaced : List ℕ → List ℕ → List ℕ
+replaced first places = first ++ drop (length first) places
 
 -- a block of standing places
 pub record IsBlockOver (s : StoreSpace) (b : Block ℕ) : Type 0 where

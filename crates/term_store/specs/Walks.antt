@@ -1,6 +1,6 @@
 -- The headline does not rest on this file.
 -- What the loops along blocks keep.
-use Rattle.std.specs.Prelude.{◌≡◌, ◌<◌, ◌≤◌, ◌+◌, ◌↔◌, ℕ, List, [], ◌++◌, length, drop, slice_index_or}
+use Rattle.std.specs.Prelude.{◌≡◌, ◌<◌, ◌≤◌, ◌+◌, ◌↔◌, ℕ, List, [], ◌++◌, length, take, drop, slice_index_or}
 use Rattle.term_model.specs.Blocks.{list_in}
 use Rattle.term_model.specs.declared.parts.Block.{Block}
 use Rattle.term_store.specs.Chains.{IsBlockIn, IsWhole}
@@ -22,6 +22,13 @@ pub record IsPushing (chains : List (List ℕ)) (old now places : List ℕ) (roo
   pub rest : rest_ < length chains
   pub list : now ++ slice_index_or chains rest_ [] ≡ old ++ places
   pub room : length old + length places ≤ room_
+
+-- a stack with the first places of a block after it is the old one with these places after it, for which there is room
+pub record IsTaking (chains : List (List ℕ)) (b : Block ℕ) (old now places : List ℕ) (room_ left_ : ℕ) : Type 0 where
+  pub block : IsBlockIn chains b (list_in chains b)
+  pub within : left_ ≤ length (list_in chains b)
+  pub list : now ++ take left_ (list_in chains b) ≡ old ++ places
+  pub room : length now + left_ ≤ room_
 
 -- the places of all are those of a block exactly where those that are left are those of a chain
 pub record IsComparing (chains : List (List ℕ)) (whole places left_ : List ℕ) (rest_ : ℕ) : Type 0 where

@@ -1,5 +1,5 @@
 //! Walks along blocks.
-ghost use Rattle.std.specs.Prelude.{◌≡◌, ◌<◌, ◌≤◌, ◌++◌, ◌+◌, ◌↔◌, drop, length, vec_len, vec_capacity, IsTrue, MatchOption, OnOk, OnErr};
+ghost use Rattle.std.specs.Prelude.{◌≡◌, ◌<◌, ◌≤◌, ◌++◌, ◌+◌, ◌↔◌, take, drop, length, vec_len, vec_capacity, IsTrue, MatchOption, OnOk, OnErr};
 ghost use Rattle.term_model.specs.Blocks.{front_list, list_in};
 ghost use Rattle.term_store.specs.Chains.{IsBlockIn};
 ghost use Rattle.term_store.specs.Walks.{NotBegun};
@@ -58,6 +58,32 @@ impl StoreSpace {
         Ok(())
     }
 
+    /// Puts the first `count` places of a block on a stack, which is as it was where there is no memory. Goes along no more
+    /// of the block than that.
+    pub(crate) fn push_first(
+        &self,
+        block: Block<u32>,
+        count: usize,
+        stack: &mut Vec<u32>,
+    ) -> Result<(), AllocError>
+        requires block { IsBlockIn self.now.chains block (list_in self.now.chains block) }
+        requires count { count ≤ length (list_in self.now.chains block) }
+        ensures pushed { OnOk result (stack.new.items ≡ stack.old.items ++
+            take count (list_in self.now.chains block)) }
+        ensures err { OnErr result (stack.new.items ≡ stack.old.items) }
+    {
+        stack.reserve(count)?;
+        let mut block = block;
+        let mut left = count;
+        while block.rest > 0 && left >= block.front.len() {
+            left -= block.front.len();
+            push_front_of(block.front, stack);
+            block = self.chains.block(block.rest);
+        }
+        push_front_of(first_of(block.front, left), stack);
+        Ok(())
+    }
+
     /// Whether a block is of these places.
     pub(crate) fn is_of(&self, block: Block<u32>, places: &[u32]) -> bool
         requires { IsBlockIn self.now.chains block (list_in self.now.chains block) }
@@ -89,6 +115,18 @@ fn without(front: Front<u32>, count: usize) -> Front<u32>
         (Front::Three(_, b, c), 1) => Front::Two(b, c),
         (Front::Three(_, _, c), 2) => Front::One(c),
         _ => Front::Zero,
+    }
+}
+
+/// The first `count` values.
+fn first_of(front: Front<u32>, count: usize) -> Front<u32>
+    ensures { front_list result ≡ take count (front_list front) }
+{
+    match (front, count) {
+        (_, 0) => Front::Zero,
+        (Front::Two(a, _) | Front::Three(a, _, _), 1) => Front::One(a),
+        (Front::Three(a, b, _), 2) => Front::Two(a, b),
+        (front, _) => front,
     }
 }
 

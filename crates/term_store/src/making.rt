@@ -4,7 +4,7 @@ ghost use Rattle.term_model.specs.Term.{term};
 ghost use Rattle.term_model.specs.Blocks.{front_list, list_in};
 ghost use Rattle.term_store.specs.Store.{head_in, IsAmong, MayHave};
 ghost use Rattle.term_store.specs.Chains.{IsBlockIn, IsChainIn};
-ghost use Rattle.term_store.specs.Space.{count, term_of, shape_term, Stand, MayStand, IsBlockOver, Keeps, KeepsChains, IsMade, AreHeavy};
+ghost use Rattle.term_store.specs.Space.{count, term_of, shape_term, Stand, MayStand, IsBlockOver, Keeps, KeepsChains, IsMade, AreHeavy, replaced};
 
 use crate::store::StoreSpace;
 use crate::stored::{Extent, Span, StoredHead, StoredShape};
@@ -188,6 +188,29 @@ impl StoreSpace {
             front: front_of(&places[..end]),
             rest,
         }))
+    }
+
+    /// The block of these places in place of the first ones of a block, of which it has at least as many; `None` where
+    /// their terms are too heavy together. Goes along no more of the block than there are places.
+    pub(crate) fn block_with(
+        &mut self,
+        places: &[u32],
+        block: Block<u32>,
+    ) -> Result<Option<Block<u32>>, AllocError>
+        requires stand { Stand self.old places.now }
+        requires block { IsBlockOver self.old block }
+        requires count { length places.now ≤ length (list_in self.old.chains block) }
+        ensures keeps { KeepsChains self.old self.new }
+        ensures made { IfOk result (λ found. MatchOption found
+            (AreHeavy self.old (replaced places.now (list_in self.old.chains block)))
+            (λ b. IsBlockIn self.new.chains b
+            (replaced places.now (list_in self.old.chains block)))) }
+    {
+        if places.len() == self.len_in(block) {
+            return self.block_of(places);
+        }
+        let others = self.after(block, places.len());
+        self.before(places, others)
     }
 
     /// Makes room for this many further chains at once, since to grow little by little costs more.

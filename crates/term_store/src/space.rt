@@ -175,6 +175,19 @@ impl TermSpace for StoreSpace {
     }
 
     #[tactic(auto, using(crate::proofs::LawsOfSpace::reading))]
+    fn push_parts_from(
+        &self,
+        at: &u32,
+        from: usize,
+        count: usize,
+        stack: &mut Vec<u32>,
+    ) -> Result<(), AllocError> {
+        let shape = self.shape_at(*at);
+        let parts = self.after(shape.parts(), from);
+        self.push_first(parts, count, stack)
+    }
+
+    #[tactic(auto, using(crate::proofs::LawsOfSpace::reading))]
     fn push_annos(&self, at: &u32, stack: &mut Vec<u32>) -> Result<(), AllocError> {
         let shape = self.shape_at(*at);
         let annos = self.chains.block(shape.annos());
@@ -251,7 +264,7 @@ impl TermSpace for StoreSpace {
         if self.are_same(shape.parts(), parts) {
             return Ok(Made::Fits(*at));
         }
-        let Some(parts) = self.block_of(parts)? else {
+        let Some(parts) = self.block_with(parts, shape.parts())? else {
             return Ok(Made::Oversize);
         };
         self.intern(StoredShape::new(shape.head(), parts, shape.annos()))
@@ -269,6 +282,17 @@ impl TermSpace for StoreSpace {
         let Some(annos) = self.chain_of(annos)? else {
             return Ok(Made::Oversize);
         };
+        self.intern(StoredShape::new(shape.head(), shape.parts(), annos))
+    }
+
+    #[tactic(auto, using(crate::proofs::LawsOfSpace::making))]
+    fn like(&mut self, alloc: Global, at: &u32, other: &u32) -> Result<Made<u32>, AllocError> {
+        let _ = alloc;
+        let shape = self.shape_at(*at);
+        let annos = self.shape_at(*other).annos();
+        if shape.annos() == annos {
+            return Ok(Made::Fits(*at));
+        }
         self.intern(StoredShape::new(shape.head(), shape.parts(), annos))
     }
 
