@@ -64,7 +64,8 @@ returns c =
           (held_back s c.args.mark c.last_extent-last.result.chains few kept (omega (arith, c.requires.within))
           c.last_extent-last.ensures.chains names (omega (arith, is)) there k h);
       extents = c.truncate-2.ensures.items;
-      chains = c.truncate-3.ensures ∙ ap (λ (x : Extent). take (x.chains + 1) s.chains) c.last_extent-last.ensures.extent;
+      chains = c.truncate-3.ensures ∙
+          ap (λ (x : Extent). take (x.chains + 1) s.chains) c.last_extent-last.ensures.extent;
       spans = c.truncate-4.ensures.items ∙
           ap (λ (x : Extent). take x.chains s.spans.items) c.last_extent-last.ensures.extent;
       kept = c.truncate-5.ensures.keys ∙ (ap (λ n. take n s.symbols.keys) is ∙
