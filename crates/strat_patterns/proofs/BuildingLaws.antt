@@ -109,13 +109,31 @@ bare_fits_too (node h ts xs) f =
 with_nothing : (t : Tree) → annos_of t ≡ [] → made_with (Some t) (Some end) ≡ Some t
 with_nothing (node h ts xs) bare = ap (λ k. Some (node h ts k)) (sym (no_annos xs bare))
 
--- a term without annotations is given none
-pub like_bare : {X : Type 0} (f : X → Tree) (rs : List X) (o : Option Tree) (v : Tree) → IsBare o →
-    map f rs ≡ annos_of v → length rs ≡ 0 → made_like o (Some v) ≡ o
-like_bare f (r ∷ rs) o v bare are few = absurd (omega arith)
-like_bare f [] None v bare are few = refl
-like_bare f [] (Some (node h ts xs)) (node k us ys) bare are few =
-    ap (λ zs. Some (node h ts zs)) (no_annos ys (sym are) ∙ sym (no_annos xs bare))
+-- what was made like a term is built
+pub like_is : {W R Y N : Type 0} (S : Space W R Y N) (w w1 : W) (o : Option Tree) (v : Tree) (r : R) (m : Made R)
+    (b : Built R) → o ≡ Some (S.term_of w r) →
+    Makes S w1 (term (head_of (S.term_of w r)) (parts_of (S.term_of w r)) (annos_of v)) m → b ≡ made_built m →
+    Builds S w1 (made_like o (Some v)) b
+like_is S w w1 o v r m b is made same =
+    outcome_is S w1 (made_like o (Some v)) (term (head_of (S.term_of w r)) (parts_of (S.term_of w r)) (annos_of v))
+    m b made (ap (λ x. made_like x (Some v)) is ∙ one_like (S.term_of w r) v) same
+  where
+    one_like : (t u : Tree) → made_like (Some t) (Some u) ≡ Some (term (head_of t) (parts_of t) (annos_of u))
+    one_like (node h ts xs) (node k us ys) = ap Some
+        (ap (λ zs. node h zs ys) (sym (trees_of-list_of ts)) ∙
+        ap (λ zs. node h (trees_of (list_of ts)) zs) (sym (trees_of-list_of ys)))
+
+-- what does not fit without annotations does not fit with those of a term
+pub large_like : {W R Y N : Type 0} (S : Space W R Y N) (w w1 : W) (o : Option Tree) (v : Tree) → IsBare o →
+    Builds S w o built.Oversize → Builds S w1 (made_like o (Some v)) built.Oversize
+large_like S w w1 (Some (node h ts xs)) (node k us ys) bare (t, is, large) =
+    let same : t ≡ node h ts xs = cc in (
+      node h ts ys,
+      refl,
+      bare_large h ts ys
+          (subst (λ k. fits (node h ts k) ≡ false) (no_annos xs bare) (subst (λ u. fits u ≡ false) same large)),
+    )
+large_like S w w1 None v bare (t, is, large) = absurd (cc)
 
 large_with_any : (t : Tree) (us : Trees) → annos_of t ≡ [] → fits t ≡ false → (u : Tree) ×
     (made_with (Some t) (Some us) ≡ Some u) × (fits u ≡ false)

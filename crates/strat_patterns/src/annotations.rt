@@ -1,17 +1,17 @@
 //! The annotations of a term, and the term without them.
-ghost use Rattle.std.specs.Prelude.{◌≡◌, ◌<◌, IfOk, IsTrue, Some, [], length, slice_get};
+ghost use Rattle.std.specs.Prelude.{◌≡◌, ◌↔◌, ◌<◌, IfOk, IsTrue, Some, [], length, slice_get};
 ghost use Rattle.term_model.specs.Space.{Keeps};
 ghost use Rattle.term_model.specs.Term.{annos_of, head_of, parts_of, term};
 
 use std::alloc::{AllocError, Global};
 use term_model::{Made, TermSpace};
 
-/// How many annotations a term has.
-pub(crate) fn anno_count<S: TermSpace>(space: &S, at: &S::Ref) -> usize
+/// Whether a term has exactly `count` annotations. Goes along no more of them than that.
+pub(crate) fn has_annos<S: TermSpace>(space: &S, at: &S::Ref, count: usize) -> bool
     requires { IsTrue (S.space.stands space.now at.now) }
-    ensures { result ≡ length (annos_of (S.space.term_of space.now at.now)) }
+    ensures { IsTrue result ↔ (length (annos_of (S.space.term_of space.now at.now)) ≡ count) }
 {
-    space.shape(at).annos.len()
+    space.annos(at).has_len(count)
 }
 
 /// The annotation at an index.
@@ -41,7 +41,7 @@ pub(crate) fn bare<S: TermSpace>(
         term (head_of (S.space.term_of space.old at.now))
         (parts_of (S.space.term_of space.old at.now)) []) }
 {
-    if anno_count(space, at) == 0 {
+    if has_annos(space, at, 0) {
         let same = space.dup(at)?;
         return Ok(same);
     }

@@ -16,7 +16,7 @@ ghost use Rattle.strat_steps.specs.State.{place_at};
 use crate::frames::Frames;
 use crate::loaded::LoadedPattern;
 use crate::lookup::value;
-use crate::making::{annotate, apply, list, with_built};
+use crate::making::{annotate, annotate_like, apply, list, with_built};
 use std::alloc::{AllocError, Global};
 use term_model::TermSpace;
 
@@ -125,20 +125,6 @@ pub(crate) fn build<S: TermSpace>(
     }
 }
 
-/// Whether the instances of the pattern have no annotations, and take none from the term.
-fn takes_nothing<S: TermSpace>(space: &S, pattern: &LoadedPattern<S::Name>, like: &S::Ref) -> bool
-    requires { IsTrue (S.space.stands space.now like.now) }
-    ensures { IsTrue result → (symbol_of : S.Name → Symbol) (place : Coordinate → Option ℕ)
-        (e : Bindings) → made_like (instance place (loaded_of symbol_of pattern.now) e)
-        (Some (S.space.term_of space.now like.now)) ≡
-        instance place (loaded_of symbol_of pattern.now) e }
-{
-    if space.annos(like).len() > 0 {
-        return false;
-    }
-    is_bare(pattern)
-}
-
 /// Whether the pattern is of a kind whose instances have no annotations.
 fn is_bare<N>(pattern: &LoadedPattern<N>) -> bool
     ensures { IsTrue result → (symbol_of : N → Symbol) (place : Coordinate → Option ℕ)
@@ -175,8 +161,9 @@ fn make_like<S: TermSpace>(
         (map (option_map (S.space.term_of space.old)) slots.now))
         (Some (S.space.term_of space.old like.now)))) }
 {
-    if takes_nothing::<S>(space, pattern, like) {
-        let built = build(space, alloc, frames, here, slots, pattern, stack)?;
+    if is_bare(pattern) {
+        let bare = build(space, alloc, frames, here, slots, pattern, stack)?;
+        let built = annotate_like(space, alloc, bare, like)?;
         return Ok(built);
     }
     let from = stack.len();

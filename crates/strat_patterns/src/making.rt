@@ -1,6 +1,6 @@
 //! Terms of what was built: symbols applied to it, lists of it, and terms with it as annotations.
 ghost use Rattle.std.specs.Prelude.{◌≡◌, ◌≤◌, IfOk, IsTrue, Option, Some, length, take, drop};
-ghost use Rattle.core_lang.specs.Building.{applied_to, list_term, made_with};
+ghost use Rattle.core_lang.specs.Building.{applied_to, list_term, made_like, made_with};
 ghost use Rattle.term_model.specs.Space.{Keeps};
 ghost use Rattle.term_model.specs.Term.{Tree, Trees, end};
 ghost use Rattle.strat_patterns.specs.Builds.{made_built, large_with, AreBuilt, AreElements, Builds, BuiltStands, IsBare, TailStands};
@@ -149,6 +149,30 @@ pub(crate) fn annotate<S: TermSpace>(
             }
             let built = with_built(space, alloc, &at, pushed, annos)?;
             Ok(built)
+        }
+    }
+}
+
+/// What was built, which has no annotations, with those of another term.
+pub(crate) fn annotate_like<S: TermSpace>(
+    space: &mut S,
+    alloc: Global,
+    bare: Built<S::Ref>,
+    like: &S::Ref,
+) -> Result<Built<S::Ref>, AllocError>
+    requires stands { BuiltStands (λ r. IsTrue (S.space.stands space.old r)) bare }
+    requires like { IsTrue (S.space.stands space.old like.now) }
+    ensures keeps { Keeps S.space space.old space.new }
+    ensures built { IfOk result (λ made. (o : Option Tree) → IsBare o →
+        Builds S.space space.old o bare →
+        Builds S.space space.new (made_like o (Some (S.space.term_of space.old like.now))) made) }
+{
+    match bare {
+        Built::NoInstance => Ok(Built::NoInstance),
+        Built::Oversize => Ok(Built::Oversize),
+        Built::Made(at) => {
+            let made = space.like(alloc, &at, like)?;
+            Ok(outcome(made))
         }
     }
 }

@@ -12,7 +12,7 @@ ghost use Rattle.strat_steps.specs.Matches.{Goes, LeavesSpace, AllLeaveSpace, fi
 ghost use Rattle.strat_steps.specs.References.{AllPlaces, AllRefs};
 ghost use Rattle.strat_steps.specs.State.{place_at};
 
-use crate::annotations::{anno, anno_count, bare};
+use crate::annotations::{anno, bare, has_annos};
 use crate::first_parts::first_parts;
 use crate::frames::Frames;
 use crate::loaded::LoadedPattern;
@@ -93,7 +93,7 @@ pub(crate) fn match_pattern<S: TermSpace>(
         LoadedPattern::Like(_, _) => Ok(false),
         LoadedPattern::Annotated(part, annotations) => {
             let annotations = annotations.as_slice();
-            if anno_count(space, at) != annotations.len() {
+            if !has_annos(space, at, annotations.len()) {
                 return Ok(false);
             }
             if !match_bare(space, alloc, frames, here, part, at, places)? {

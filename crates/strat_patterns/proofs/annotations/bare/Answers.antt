@@ -1,14 +1,14 @@
-use Rattle.std.proofs.Common.{[], ◌∙◌, sym, subst}
+use Rattle.std.proofs.Common.{[], subst}
 use Rattle.term_model.specs.Space.{Makes}
 use Rattle.term_model.specs.Term.{term, head_of, parts_of}
 use Rattle.strat_patterns.proofs.BuildingLaws.{bare_same, bare_fits_too}
 use Rattle.strat_patterns.proofs.annotations.bare.Goals as goal
 
-pub returns-then-anno_count-eq0-clause-term : goal.returns-then-anno_count-eq0-clause-term
-returns-then-anno_count-eq0-clause-term g c =
+pub returns-then-has_annos-clause-term : goal.returns-then-has_annos-clause-term
+returns-then-has_annos-clause-term g c =
     let f = g.S.TermSpace.space.term_of c.args.space.now in
-    bare_same (f c.args.at.now) (f c.in_ok-same.same) (sym c.anno_count.ensures ∙
-    c.if-anno_count-eq0.true) c.in_ok-same.ensures.term
+    bare_same (f c.args.at.now) (f c.in_ok-same.same) (c.has_annos.ensures.0 c.if-has_annos.true)
+    c.in_ok-same.ensures.term
 
 pub unreachable-requires : goal.unreachable-requires
 unreachable-requires g c =

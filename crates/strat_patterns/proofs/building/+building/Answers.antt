@@ -147,8 +147,8 @@ pub push_tail-returns-in_ok-elements-in-Annotated-clause-elements :
 push_tail-returns-in_ok-elements-in-Annotated-clause-elements =
     elements.push_tail-returns-in_ok-elements-in-Annotated-clause-elements
 
-pub make_like-returns-then-takes_nothing-clause-built : goal.make_like-returns-then-takes_nothing-clause-built
-make_like-returns-then-takes_nothing-clause-built = like.make_like-returns-then-takes_nothing-clause-built
+pub make_like-returns-then-is_bare-clause-built : goal.make_like-returns-then-is_bare-clause-built
+make_like-returns-then-is_bare-clause-built = like.make_like-returns-then-is_bare-clause-built
 
 pub make_like-make_with-requires : goal.make_like-make_with-requires
 make_like-make_with-requires = like.make_like-make_with-requires

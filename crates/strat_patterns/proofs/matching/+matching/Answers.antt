@@ -218,15 +218,15 @@ match_annos-loop-i-preserved g t c = (
       c.requires.known c.loop-i.invariant.0 c.loop-i-test.true c.index-patterns-i.is (part_was annos_of c.args.at.now c.loop-i.i c.loop-i.invariant.0 c.requires.stands c.in_ok-anno.ensures.term) c.loop-i.invariant.2 c.in_ok-match_part.ensures.keeps c.loop-i.invariant.1 c.if-not-branch.false c.in_ok-match_part.ensures.attempt,
 )
 
-pub match_pattern-returns-then-anno_count-annotations-clause-attempt : goal.match_pattern-returns-then-anno_count-annotations-clause-attempt
-match_pattern-returns-then-anno_count-annotations-clause-attempt g t c =
+pub match_pattern-returns-then-not-has_annos-clause-attempt : goal.match_pattern-returns-then-not-has_annos-clause-attempt
+match_pattern-returns-then-not-has_annos-clause-attempt g t c =
     let s = g.S.TermSpace.space in
     let w = c.args.space.now in
     let symbols = s.symbol_of w in
     let annotations = c.as_slice-annotations.result.now in
     annotated_none (place_at c.args.frames.now c.args.here) (loaded_of symbols c.args.pattern.now) (loaded_of symbols c.in-Annotated.part.value) (map (loaded_of symbols) annotations) (s.term_of w c.args.at.now)
     (loaded_as_annotated symbols c.args.pattern.now c.in-Annotated.part c.in-Annotated.annotations c.in-Annotated.part.value annotations c.in-Annotated.is refl c.as_slice-annotations.ensures.value)
-    (λ same. c.if-anno_count-annotations.true (c.anno_count.ensures ∙ (same ∙ length-map annotations (loaded_of symbols)))) c.requires.places
+    (λ same. let yes = c.has_annos.ensures.1 (same ∙ length-map annotations (loaded_of symbols)) in let no = c.if-not-has_annos.true in absurd (cc)) c.requires.places
 
 pub match_pattern-returns-then-not-branch-4-clause-attempt : goal.match_pattern-returns-then-not-branch-4-clause-attempt
 match_pattern-returns-then-not-branch-4-clause-attempt g t c =
@@ -235,7 +235,7 @@ match_pattern-returns-then-not-branch-4-clause-attempt g t c =
     let symbols = s.symbol_of w in
     let annotations = c.as_slice-annotations.result.now in
     let part = c.deref-in-Annotated.result.now in
-    let many = sym c.anno_count.ensures ∙ (c.if-anno_count-annotations.false ∙ sym (length-map annotations (loaded_of symbols))) in
+    let many = c.has_annos.ensures.0 c.if-not-has_annos.false ∙ sym (length-map annotations (loaded_of symbols)) in
     annotated_fails (place_at c.args.frames.now c.args.here) (loaded_of symbols c.args.pattern.now) (loaded_of symbols part) (map (loaded_of symbols) annotations) (s.term_of w c.args.at.now) c.in_ok-match_bare-in-Annotated.field-0
     (loaded_as_annotated symbols c.args.pattern.now c.in-Annotated.part c.in-Annotated.annotations part annotations c.in-Annotated.is c.deref-in-Annotated.ensures c.as_slice-annotations.ensures.value) many c.in_ok-match_bare-in-Annotated.ensures.attempt c.if-not-branch-4.true
 
@@ -246,7 +246,7 @@ match_pattern-match_annos-requires g t c κs within =
     let keeps = c.in_ok-match_bare-in-Annotated.ensures.keeps in
     let annotations = c.as_slice-annotations.result.now in
     let known = known_as_annotated (s.knows w) c.args.pattern.now c.in-Annotated.part c.in-Annotated.annotations c.deref-in-Annotated.result.now annotations c.in-Annotated.is c.deref-in-Annotated.ensures c.as_slice-annotations.ensures.value c.requires.known in
-    let many = ap (λ u. length (annos_of u)) (keeps.terms c.args.at.now c.requires.stands) ∙ (sym c.anno_count.ensures ∙ c.if-anno_count-annotations.false) in
+    let many = ap (λ u. length (annos_of u)) (keeps.terms c.args.at.now c.requires.stands) ∙ c.has_annos.ensures.0 c.if-not-has_annos.false in
     (search (rules, the_lemmas), (within.0, (within.1.0, (within.1.1.0, (within.1.1.1, (all_known_later keeps.known annotations known.1, (many, (keeps.standing c.args.at.now c.requires.stands, c.in_ok-match_bare-in-Annotated.ensures.attempt.standing))))))))
 
 pub match_pattern-returns-in_ok-yes-in-Annotated-clause-attempt : goal.match_pattern-returns-in_ok-yes-in-Annotated-clause-attempt
@@ -259,7 +259,7 @@ match_pattern-returns-in_ok-yes-in-Annotated-clause-attempt g t c =
     let w1 = c.match_bare.new.space in
     let keeps = c.in_ok-match_bare-in-Annotated.ensures.keeps in
     let known = known_as_annotated (s.knows w) c.args.pattern.now c.in-Annotated.part c.in-Annotated.annotations c.deref-in-Annotated.result.now annotations c.in-Annotated.is c.deref-in-Annotated.ensures c.as_slice-annotations.ensures.value c.requires.known in
-    let many = sym c.anno_count.ensures ∙ (c.if-anno_count-annotations.false ∙ sym (length-map annotations (loaded_of symbols))) in
+    let many = c.has_annos.ensures.0 c.if-not-has_annos.false ∙ sym (length-map annotations (loaded_of symbols)) in
     annotated_goes (place_at c.args.frames.now c.args.here) (loaded_of symbols c.args.pattern.now) (loaded_of symbols part) (map (loaded_of symbols) annotations) (s.term_of w c.args.at.now) c.in_ok-match_bare-in-Annotated.field-0
     (loaded_as_annotated symbols c.args.pattern.now c.in-Annotated.part c.in-Annotated.annotations part annotations c.in-Annotated.is c.deref-in-Annotated.ensures c.as_slice-annotations.ensures.value) many c.in_ok-match_bare-in-Annotated.ensures.attempt
     (map (loaded_of (s.symbol_of w1)) annotations) (s.term_of w1 c.args.at.now) c.in_ok-yes-in-Annotated.yes c.match_bare.new.places.barrier c.if-not-branch-4.false c.in_ok-yes-in-Annotated.ensures.keeps.standing

@@ -17,18 +17,21 @@ use Rattle.strat_patterns.proofs.BuildingLaws.{some_held}
 use Rattle.strat_patterns.proofs.ElementLaws.{put_are, put_stands, put_within, pushes_put, annos_built, are_built_later, refs_later, slice_built, builds_as, like_as_with, with_variable, with_inner_like, with_inner_annotated, lacks_annotation, one_lacks, each_fits, one_is_large, bare_integer, bare_applied, bare_list, same_instance}
 use Rattle.strat_patterns.proofs.building.+building.Goals as goal
 
-pub make_like-returns-then-takes_nothing-clause-built : goal.make_like-returns-then-takes_nothing-clause-built
-make_like-returns-then-takes_nothing-clause-built g t c =
+pub make_like-returns-then-is_bare-clause-built : goal.make_like-returns-then-is_bare-clause-built
+make_like-returns-then-is_bare-clause-built g t c =
     let s = g.S.TermSpace.space in
     let w = c.args.space.now in
+    let w1 = c.build.new.space in
     let place = place_at c.args.frames.now c.args.here in
     let symbols = s.symbol_of w in
     let terms = map (option_map (s.term_of w)) c.args.slots.now in
-    let made = instance place (loaded_of symbols c.args.pattern.now) terms in
-    let like = s.term_of w c.args.like.now in
-    builds_as s c.build.new.space made (made_like made (Some like)) c.in_ok-built.built
-    (c.if-takes_nothing.ensures refl symbols place terms)
-    c.in_ok-built.ensures.built
+    let bare = instance place (loaded_of symbols c.args.pattern.now) terms in
+    let like = c.args.like.now in
+    let kept = c.in_ok-bare.ensures.keeps.terms like c.requires.like in
+    builds_as s c.annotate_like.new.space (made_like bare (Some (s.term_of w1 like)))
+    (made_like bare (Some (s.term_of w like))) c.in_ok-built.built (ap (λ u. made_like bare (Some u)) (sym kept))
+    (c.in_ok-built.ensures.built bare (c.is_bare.ensures c.if-is_bare.true symbols place terms)
+    c.in_ok-bare.ensures.built)
 
 pub make_like-make_with-requires : goal.make_like-make_with-requires
 make_like-make_with-requires g t c κs within =
