@@ -181,7 +181,8 @@ module _ {W R Y N : Type 0} {S : Space W R Y N} {M : Meaning} {w w1 w2 : W} {t :
       }
   charged_more {next = nexts.Failing} {p = p} {m = m} after q m1 u going x charged paid now before =
       let same : m1.left ≡ m.left = left_same nexts.Failing after p q m m1 x refl in
-      let a = now.most in let b = before.most in let c = now.long in let d = before.long in let g = now.least in record {
+      let a = now.most in let b = before.most in let c = now.long in let d = before.long in
+      let g = now.least in record {
         long = omega arith;
         most = omega arith;
         all =

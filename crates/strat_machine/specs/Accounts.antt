@@ -51,8 +51,8 @@ IsEnding nexts.Spent e = e ≡ endings.Spent
 IsEnding _ e = ⊥
 
 -- the same of a run over references, with what is left of the budget
-pub record IsAccountOfRun {W R Y N : Type 0} (S : Space W R Y N) (code : Code) (M : Meaning) (w : W) (t : R) (budget : ℕ)
-    (w1 : W) (account : Account) : Type 0 where
+pub record IsAccountOfRun {W R Y N : Type 0} (S : Space W R Y N) (code : Code) (M : Meaning) (w : W) (t : R)
+    (budget : ℕ) (w1 : W) (account : Account) : Type 0 where
   pub outcome : Outcome R
   pub left : ℕ
   pub taken : ℕ

@@ -240,7 +240,8 @@ replaced_terms s at x xs is =
     map-append (term_of s) xs (drop (length xs) (list_in s.chains (shape_parts x))) ∙
     ap (λ ts. map (term_of s) xs ++ ts) (dropped s at (length xs) x is)
 
-pub bare_replaced : (h : StoredHead) (xs ys : List ℕ) → MayHave h ys → length xs ≤ length ys → MayHave h (replaced xs ys)
+pub bare_replaced : (h : StoredHead) (xs ys : List ℕ) → MayHave h ys → length xs ≤ length ys →
+    MayHave h (replaced xs ys)
 bare_replaced h xs ys bare few is =
     let none = bare is in
     let long = length-append xs (drop (length xs) ys) in

@@ -12,5 +12,6 @@ loop-block-preserved c =
     room (c.loop-block.left - c.len-left.result)) (sym c.push_front_of.ensures.capacity)
     (taking_next chains c.loop-block.block c.block-block.result c.args.stack.now.items c.loop-block.stack.items
     c.push_front_of.new.stack.items places (vec_capacity c.loop-block.stack) c.loop-block.left c.len-left.result
-    c.loop-block.invariant (omega (arith, c.loop-block-test.true)) (omega (arith, c.len.ensures.len, c.if-left-len.true))
+    c.loop-block.invariant (omega (arith, c.loop-block-test.true))
+    (omega (arith, c.len.ensures.len, c.if-left-len.true))
     c.len-left.ensures.len c.push_front_of.ensures.pushed c.block-block.ensures)
