@@ -111,6 +111,16 @@ impl<S: TermSpace + Drop> TermSpace for Counting<S> {
         self.space.push_parts(at, stack)
     }
 
+    fn push_parts_from(
+        &self,
+        at: &S::Ref,
+        from: usize,
+        count: usize,
+        stack: &mut Vec<S::Ref>,
+    ) -> Result<(), AllocError> {
+        self.space.push_parts_from(at, from, count, stack)
+    }
+
     fn push_annos(&self, at: &S::Ref, stack: &mut Vec<S::Ref>) -> Result<(), AllocError> {
         self.space.push_annos(at, stack)
     }
@@ -174,6 +184,15 @@ impl<S: TermSpace + Drop> TermSpace for Counting<S> {
         annos: &[S::Ref],
     ) -> Result<Made<S::Ref>, AllocError> {
         self.space.with_annos(alloc, at, annos)
+    }
+
+    fn like(
+        &mut self,
+        alloc: Global,
+        at: &S::Ref,
+        other: &S::Ref,
+    ) -> Result<Made<S::Ref>, AllocError> {
+        self.space.like(alloc, at, other)
     }
 
     fn make(

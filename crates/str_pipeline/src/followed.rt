@@ -92,6 +92,16 @@ impl TermSpace for FollowedSpace {
         self.store.push_parts(at, stack)
     }
 
+    fn push_parts_from(
+        &self,
+        at: &u32,
+        from: usize,
+        count: usize,
+        stack: &mut Vec<u32>,
+    ) -> Result<(), AllocError> {
+        self.store.push_parts_from(at, from, count, stack)
+    }
+
     fn push_annos(&self, at: &u32, stack: &mut Vec<u32>) -> Result<(), AllocError> {
         self.store.push_annos(at, stack)
     }
@@ -140,6 +150,10 @@ impl TermSpace for FollowedSpace {
         annos: &[u32],
     ) -> Result<Made<u32>, AllocError> {
         self.store.with_annos(alloc, at, annos)
+    }
+
+    fn like(&mut self, alloc: Global, at: &u32, other: &u32) -> Result<Made<u32>, AllocError> {
+        self.store.like(alloc, at, other)
     }
 
     fn make(

@@ -6,13 +6,14 @@ use Rattle.strat_code.specs.Code.{Code}
 use Rattle.strat_steps.specs.State as state
 use Rattle.strat_steps.specs.State.{Frame}
 use Rattle.strat_steps.specs.Binding.{undone, above, down_to}
-use Rattle.term_model.specs.Space.{Space, GoesBack, IsMark}
-use Rattle.strat_steps.specs.References.{Places, RefRecord, ref_all, ref_one, ref_some, RefState, ref_running, ref_failing}
-use Rattle.strat_steps.specs.ReferenceSteps.{StepRef, fails_call, fails_one_last, fails_one_next, fails_some_none, fails_some_last, fails_some_next}
-use Rattle.strat_steps.specs.Marks.{Safe}
+use Rattle.term_model.specs.Space.{Space, GoesBack, IsMark, Stands}
+use Rattle.strat_steps.specs.References.{Places, RefRecord, ref_all, ref_one, ref_some, RefState, ref_running, ref_failing, AllRefs}
+use Rattle.strat_steps.specs.ReferenceSteps.{IsNext, StepRef, fails_call, fails_one_last, fails_one_next, fails_some_none, fails_some_last, fails_some_next}
+use Rattle.strat_steps.specs.Marks.{Safe, Covered, one_covered, some_covered}
 use Rattle.strat_patterns.specs.PlaceStack.{PlaceStack}
 use Rattle.strat_machine.specs.CompactRecords.{HasNoCall}
 use Rattle.strat_machine.specs.RecordStack.{saved_of, records_in, records_of, with_record}
+use Rattle.strat_machine.specs.Traversing.{HasNone, TakesPart}
 use Rattle.strat_machine.specs.declared.records.Saved.{Saved}
 use Rattle.strat_machine.specs.declared.records.Traversed.{Traversed}
 use Rattle.strat_machine.specs.declared.records.Record.{Record}
@@ -55,31 +56,31 @@ module _ {R Y : Type 0} (rs np : Records R Y) (kept : np ≡ record rs { left = 
 
 -- the next part after one that failed
 module _ {R Y : Type 0} (rs np : Records R Y) (kept : np ≡ record rs { left = np.left }) (v others : Traversed R)
-    (part next : R) (D : List R)
-    (other : others ≡ record v { done = suc v.done; left = v.left - 1 }) (put : D ≡ part ∷ np.done)
-    (after : drop v.left rs.left ≡ drop (v.left - 1) np.left) where
+    (part next : R) (k : ℕ) (D : List R)
+    (other : others ≡ record v { done = suc v.done; left = k }) (put : D ≡ part ∷ np.done)
+    (after : drop v.left rs.left ≡ drop k np.left) where
   rest_same : records_in np.records (drop others.done D) (drop others.left np.left) ≡
       records_in rs.records (drop v.done rs.done) (drop v.left rs.left)
   rest_same =
       let a = same_records rs np kept in let b = same_done rs np kept in
       let n = ap (λ u. u.done) other in let j = ap (λ u. u.left) other in
-      ap (λ k. records_in np.records (drop k D) (drop others.left np.left)) n ∙
+      ap (λ i. records_in np.records (drop i D) (drop others.left np.left)) n ∙
       (ap (λ l. records_in np.records (drop (suc v.done) l) (drop others.left np.left)) put ∙
       (ap (λ l. records_in np.records (drop v.done l) (drop others.left np.left)) b ∙
-      (ap (λ k. records_in np.records (drop v.done rs.done) (drop k np.left)) j ∙
+      (ap (λ i. records_in np.records (drop v.done rs.done) (drop i np.left)) j ∙
       (ap (λ l. records_in np.records (drop v.done rs.done) l) (sym after) ∙
       ap (λ r. records_in r (drop v.done rs.done) (drop v.left rs.left)) a))))
 
   done_same : take others.done D ≡ part ∷ take v.done rs.done
-  done_same = ap (λ k. take k D) (ap (λ u. u.done) other) ∙
+  done_same = ap (λ i. take i D) (ap (λ u. u.done) other) ∙
       (ap (take (suc v.done)) put ∙ ap (λ l. part ∷ take v.done l) (same_done rs np kept))
 
-  left_same : take others.left np.left ≡ take (v.left - 1) np.left
-  left_same = ap (λ k. take k np.left) (ap (λ u. u.left) other)
+  left_same : take others.left np.left ≡ take k np.left
+  left_same = ap (λ i. take i np.left) (ap (λ u. u.left) other)
 
   pub one_next : (g : Saved) (m : Y) (sv : state.Saved) → saved_of g ≡ sv →
       with_record (records.One others next g m) (record { records = np.records; done = D; left = np.left }) ≡
-      ref_one v.body v.next_address v.whole (part ∷ take v.done rs.done) next (take (v.left - 1) np.left) sv m ∷
+      ref_one v.body v.next_address v.whole (part ∷ take v.done rs.done) next (take k np.left) sv m ∷
       records_in rs.records (drop v.done rs.done) (drop v.left rs.left)
   one_next g m sv is =
       let a = rest_same in let b = done_same in let c = left_same in
@@ -89,7 +90,7 @@ module _ {R Y : Type 0} (rs np : Records R Y) (kept : np ≡ record rs { left = 
 
   pub some_next : (found : Bool) (g : Saved) (m : Y) (sv : state.Saved) → saved_of g ≡ sv →
       with_record (records.Some others next found g m) (record { records = np.records; done = D; left = np.left }) ≡
-      ref_some v.body v.next_address v.whole (part ∷ take v.done rs.done) next (take (v.left - 1) np.left) found sv m ∷
+      ref_some v.body v.next_address v.whole (part ∷ take v.done rs.done) next (take k np.left) found sv m ∷
       records_in rs.records (drop v.done rs.done) (drop v.left rs.left)
   some_next found g m sv is =
       let a = rest_same in let b = done_same in let c = left_same in
@@ -106,10 +107,10 @@ saves_same {P = P} {F} {T = T} q d restored fewer saves =
     (ap (λ U. state.saved q (length F) (length U) P.barrier) (ap (λ p. p.trail) restored) ∙
     ap (λ c. state.saved q (length F) (length T) c) (ap (λ p. p.barrier) restored)))
 
--- a part is done, and one is no longer left
-pub other_is : {R : Type 0} (v more other : Traversed R) → more ≡ record v { done = suc v.done } →
-    other ≡ record more { left = more.left - 1 } → other ≡ record v { done = suc v.done; left = v.left - 1 }
-other_is v more other is less = less ∙ ap (λ (u : Traversed _). record u { left = u.left - 1 }) is
+-- one part more is done, and so many are left
+pub other_is : {R : Type 0} (v more other : Traversed R) (k : ℕ) → more ≡ record v { done = suc v.done } →
+    other ≡ record more { left = k } → other ≡ record v { done = suc v.done; left = k }
+other_is v more other k is less = less ∙ ap (λ (u : Traversed _). record u { left = k }) is
 
 -- states from parts that are the same
 pub same_failing : {R Y : Type 0} {b d l : ℕ} {e f : Places R} {F G : List Frame} {T U : List ℕ}
@@ -134,30 +135,33 @@ module _ {W R Y N : Type 0} {S : Space W R Y N} {code : Code} {M : Meaning} {w w
     (restored : P ≡ record { slots = take b (undone (above h T) e); trail = down_to h T; barrier = d })
     (fewer : F1 ≡ take k F) (rs : Records R Y) {np : Records R Y} (kept : np ≡ record rs { left = np.left })
     (v : Traversed R) (part : R) where
-  pub one_ends : (cut : Records R Y) → take v.left rs.left ≡ [] → np.left ≡ rs.left →
+  pub one_ends : (cut : Records R Y) → HasNone S w1 v (suc (length (take v.done rs.done))) rs.left np.left →
       cut ≡ record { records = np.records; done = drop v.done np.done; left = drop v.left np.left } →
       StepRef S code M w (ref_failing e F T b
       (with_record (records.One v part (record { frame = q; frames = k; height = h; barrier = d }) mark) rs) l)
       w1 (ref_failing P.slots F1 P.trail P.barrier (records_of cut) l)
-  one_ends cut none same is =
+  one_ends cut found_none is =
+      let none = found_none.none in let same = found_none.kept in
       let K0 = records_in rs.records (drop v.done rs.done) (drop v.left rs.left) in
       step_from
-      (step_to (fails_one_last back)
+      (step_to (fails_one_last back found_none.no_more)
       (same_failing (ap (λ p. p.slots) (sym restored)) (sym fewer) (ap (λ p. p.trail) (sym restored))
       (ap (λ p. p.barrier) (sym restored)) (cut_records rs np kept cut v.done v.left same is)))
       (ap (λ us. ref_failing e F T b
       (ref_one v.body v.next_address v.whole (take v.done rs.done) part us (state.saved q k h d) mark ∷ K0) l)
       (sym none))
 
-  pub some_ends : (cut : Records R Y) (found : Bool) → found ≡ false → take v.left rs.left ≡ [] → np.left ≡ rs.left →
+  pub some_ends : (cut : Records R Y) (found : Bool) → found ≡ false →
+      HasNone S w1 v (suc (length (take v.done rs.done))) rs.left np.left →
       cut ≡ record { records = np.records; done = drop v.done np.done; left = drop v.left np.left } →
       StepRef S code M w (ref_failing e F T b
       (with_record (records.Some v part found (record { frame = q; frames = k; height = h; barrier = d }) mark) rs)
       l) w1 (ref_failing P.slots F1 P.trail P.barrier (records_of cut) l)
-  some_ends cut found not_found none same is =
+  some_ends cut found not_found found_none is =
+      let none = found_none.none in let same = found_none.kept in
       let K0 = records_in rs.records (drop v.done rs.done) (drop v.left rs.left) in
       step_from
-      (step_to (fails_some_none back)
+      (step_to (fails_some_none back found_none.no_more)
       (same_failing (ap (λ p. p.slots) (sym restored)) (sym fewer) (ap (λ p. p.trail) (sym restored))
       (ap (λ p. p.barrier) (sym restored)) (cut_records rs np kept cut v.done v.left same is)))
       (ap (λ us. ref_failing e F T b
@@ -169,14 +173,15 @@ module _ {W R Y N : Type 0} {S : Space W R Y N} {code : Code} {M : Meaning} {w w
 
   -- the whole is made next
   pub some_last : (stack : List (Record R Y)) (E : List R) (found : Bool) (ending : Traversed R) (address : ℕ) →
-      found ≡ true → take v.left rs.left ≡ [] → np.left ≡ rs.left → E ≡ drop v.left np.left →
+      found ≡ true → HasNone S w1 v (suc (length (take v.done rs.done))) rs.left np.left → E ≡ drop v.left np.left →
       ending ≡ record v { left = 0 } →
       stack ≡ records.All ending ∷ np.records → address ≡ v.next_address - 1 →
       StepRef S code M w (ref_failing e F T b
       (with_record (records.Some v part found (record { frame = q; frames = k; height = h; barrier = d }) mark) rs)
       l) w1
       (ref_running address q part P.slots F1 P.trail P.barrier (records_in stack np.done E) l)
-  some_last stack E found ending address was_found none same cut end put at =
+  some_last stack E found ending address was_found found_none cut end put at =
+      let none = found_none.none in let same = found_none.kept in
       let K0 = records_in rs.records (drop v.done rs.done) (drop v.left rs.left) in
       let all : ref_all v.body v.next_address v.whole (take v.done rs.done) [] ∷ K0 ≡ records_in stack np.done E =
       ap (λ r. ref_all v.body v.next_address v.whole (take v.done rs.done) [] ∷
@@ -191,7 +196,7 @@ module _ {W R Y N : Type 0} {S : Space W R Y N} {code : Code} {M : Meaning} {w w
       ap (λ r. records_in r np.done E) (sym put)))))
       in
       step_from
-      (step_to (fails_some_last back)
+      (step_to (fails_some_last back found_none.no_more)
       (same_running (ap (λ p. p.slots) (sym restored)) (sym fewer) (ap (λ p. p.trail) (sym restored))
       (ap (λ p. p.barrier) (sym restored)) all
       ∙ ap (λ a. ref_running a q part P.slots F1 P.trail P.barrier (records_in stack np.done E) l) (sym at)))
@@ -202,10 +207,9 @@ module _ {W R Y N : Type 0} {S : Space W R Y N} {code : Code} {M : Meaning} {w w
       (ref_some v.body v.next_address v.whole (take v.done rs.done) part (take v.left rs.left)
       y (state.saved q k h d) mark ∷ K0) l) (sym was_found))
 
-  module _ (others : Traversed R) (next : R) (D : List R)
-      (other : others ≡ record v { done = suc v.done; left = v.left - 1 }) (put : D ≡ part ∷ np.done)
-      (taken : take v.left rs.left ≡ next ∷ take (v.left - 1) np.left)
-      (after : drop v.left rs.left ≡ drop (v.left - 1) np.left) (g : Saved) (mark2 : Y)
+  module _ (others : Traversed R) (next : R) (j : ℕ) (D : List R)
+      (other : others ≡ record v { done = suc v.done; left = j }) (put : D ≡ part ∷ np.done)
+      (taken : TakesPart S w1 v (suc (length (take v.done rs.done))) rs.left next j np.left) (g : Saved) (mark2 : Y)
       (saves : saved_of g ≡ state.saved q (length F1) (length P.trail) P.barrier) (marks : IsMark S w1 mark2) where
     pub one_goes_on : StepRef S code M w
         (ref_failing e F T b (with_record
@@ -214,19 +218,14 @@ module _ {W R Y N : Type 0} {S : Space W R Y N} {code : Code} {M : Meaning} {w w
         (with_record (records.One others next g mark2) (record { records = np.records; done = D; left = np.left }))
         l)
     one_goes_on =
-        let K0 = records_in rs.records (drop v.done rs.done) (drop v.left rs.left) in
         let slots = ap (λ p. p.slots) (sym restored) in
-        step_from
-        (step_to (fails_one_next back marks)
+        step_to (fails_one_next back taken.next marks)
         (same_running slots (sym fewer) (ap (λ p. p.trail) (sym restored)) (ap length slots)
-        (sym (one_next rs np kept v others part next D other put after g mark2
+        (sym (one_next rs np kept v others part next j D other put taken.after g mark2
         (state.saved q (length (take k F)) (length (down_to h T)) d) (saves_same q d restored fewer saves)))
         ∙ ap (λ a. ref_running a q next P.slots F1 P.trail (length P.slots)
         (with_record (records.One others next g mark2) (record { records = np.records; done = D; left = np.left }))
-        l) (ap (λ u. u.body) (sym other))))
-        (ap (λ us. ref_failing e F T b
-        (ref_one v.body v.next_address v.whole (take v.done rs.done) part us (state.saved q k h d) mark ∷ K0) l)
-        (sym taken))
+        l) (ap (λ u. u.body) (sym other)))
 
     pub some_goes_on : (found : Bool) →
         StepRef S code M w (ref_failing e F T b
@@ -236,19 +235,14 @@ module _ {W R Y N : Type 0} {S : Space W R Y N} {code : Code} {M : Meaning} {w w
         (with_record (records.Some others next found g mark2)
         (record { records = np.records; done = D; left = np.left })) l)
     some_goes_on found =
-        let K0 = records_in rs.records (drop v.done rs.done) (drop v.left rs.left) in
         let slots = ap (λ p. p.slots) (sym restored) in
-        step_from
-        (step_to (fails_some_next back marks)
+        step_to (fails_some_next back taken.next marks)
         (same_running slots (sym fewer) (ap (λ p. p.trail) (sym restored)) (ap length slots)
-        (sym (some_next rs np kept v others part next D other put after found g mark2
+        (sym (some_next rs np kept v others part next j D other put taken.after found g mark2
         (state.saved q (length (take k F)) (length (down_to h T)) d) (saves_same q d restored fewer saves)))
         ∙ ap (λ a. ref_running a q next P.slots F1 P.trail (length P.slots)
         (with_record (records.Some others next found g mark2)
-        (record { records = np.records; done = D; left = np.left })) l) (ap (λ u. u.body) (sym other))))
-        (ap (λ us. ref_failing e F T b
-        (ref_some v.body v.next_address v.whole (take v.done rs.done) part us found (state.saved q k h d) mark ∷ K0)
-        l) (sym taken))
+        (record { records = np.records; done = D; left = np.left })) l) (ap (λ u. u.body) (sym other)))
 
 -- the newest record is taken off
 module _ {W R Y N : Type 0} {S : Space W R Y N} {w : W} {e : Places R} {T : List ℕ} {b : ℕ}
@@ -263,6 +257,31 @@ module _ {W R Y N : Type 0} {S : Space W R Y N} {w : W} {e : Places R} {T : List
   step_at {F = F} {l} x popped is =
       step_from x (ap (λ y. ref_failing e F T b (records_in (y ∷ new) D E) l) (sym is) ∙
       ap (λ rs. ref_failing e F T b (records_in rs D E) l) (sym popped))
+
+-- the next part stands after a failure of the one before
+refs_after : {R : Type 0} {P Q : R → Type 0} → ((r : R) → P r → Q r) → (rs : List R) → AllRefs P rs → AllRefs Q rs
+refs_after g [] x = tt
+refs_after g (r ∷ rs) x = (g r x.0, refs_after g rs x.1)
+
+module _ {W R Y N : Type 0} {S : Space W R Y N} {w w1 : W} {e : Places R} {T : List ℕ}
+    {body after q k h d b n : ℕ} {t u v : R} {done rest us : List R} {m : Y} {K : List (RefRecord R Y)}
+    (back : GoesBack S w m w1) where
+  pub one_stands : Safe S w e T b (ref_one body after t done u rest (state.saved q k h d) m ∷ K) →
+      IsNext S w1 t n rest v us → Stands S w1 v
+  one_stands safe next = by safe.covered
+    where
+      by : Covered S e T b (ref_one body after t done u rest (state.saved q k h d) m ∷ K) → Stands S w1 v
+      by (one_covered kept ct cd cu cr c) =
+          (next.standing ((back.exactly t).1 ct) (refs_after (λ r. (back.exactly r).1) rest cr)).0
+
+  pub some_stands : {found : Bool} →
+      Safe S w e T b (ref_some body after t done u rest found (state.saved q k h d) m ∷ K) →
+      IsNext S w1 t n rest v us → Stands S w1 v
+  some_stands {found} safe next = by safe.covered
+    where
+      by : Covered S e T b (ref_some body after t done u rest found (state.saved q k h d) m ∷ K) → Stands S w1 v
+      by (some_covered kept ct cd cu cr c) =
+          (next.standing ((back.exactly t).1 ct) (refs_after (λ r. (back.exactly r).1) rest cr)).0
 
 -- the record of a call is taken off
 pub fails_popped : {W R Y N : Type 0} {S : Space W R Y N} {code : Code} {M : Meaning} {w : W} {e : Places R}

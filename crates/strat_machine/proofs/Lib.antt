@@ -6,6 +6,7 @@ pub mod MachineLaws
 pub mod StackLaws
 pub mod StepLaws
 pub mod FailLaws
+pub mod PortionLaws
 pub mod TraversalLaws
 pub mod PartLaws
 pub mod FewParts

@@ -1,10 +1,10 @@
 -- The beginning of a traversal and the end of the code for a part, of the Rust machine.
-use Rattle.std.proofs.Common.{◌≡◌, ℕ, suc, ◌+◌, min, List, [], ◌∷◌, ◌++◌, length, take, drop, map, reverse, append_assoc, refl, sym, ◌∙◌, ap, subst, arith}
+use Rattle.std.proofs.Common.{◌≡◌, ◌≤◌, ℕ, suc, ◌+◌, min, List, [], ◌∷◌, ◌++◌, length, take, drop, map, reverse, append_assoc, refl, sym, ◌∙◌, ap, subst, arith}
 use Rattle.std.specs.Prelude.{Bool, true, false}
 use Rattle.std.specs.Option.{option_map}
 use Rattle.std.proofs.Math.Seq.{take-append_seam, drop-append_seam, take-append-add, drop-append-add}
 use Rattle.std.proofs.lemmas.List.{reverse-append, reverse-reverse, length-reverse, length-take}
-use Rattle.term_model.specs.Term.{Tree, end, more, term, head_of, annos_of, list_of, parts_of, Fits}
+use Rattle.term_model.specs.Term.{Tree, end, more, list_of, parts_of, Fits}
 use Rattle.term_model.proofs.SpaceLaws.{keeps_same}
 use Rattle.term_model.proofs.SpaceLemmas.{whole}
 use Rattle.core_lang.specs.Environment.{Bindings}
@@ -16,8 +16,8 @@ use Rattle.strat_steps.specs.State.{Frame, stuck}
 use Rattle.strat_steps.specs.Binding.{trimmed}
 use Rattle.strat_steps.specs.Step.{in_order}
 use Rattle.term_model.specs.Space.{Space, Stands}
-use Rattle.strat_steps.specs.References.{Places, RefRecord, RefState, ref_one, ref_some, ref_running, ref_failing, ref_stopped, record_tree, trees, AllRefs}
-use Rattle.strat_steps.specs.ReferenceSteps.{Does, begins_all, begins_one, begins_some, part_of_one, part_of_one_oversize, part_of_some, sticks, OnAll, all_whole, OnOne, one_none, OnSome, some_none}
+use Rattle.strat_steps.specs.References.{Places, RefRecord, RefState, ref_one, ref_some, ref_running, ref_failing, ref_stopped, record_tree, trees, trees_left, AllRefs}
+use Rattle.strat_steps.specs.ReferenceSteps.{HasNoMore, Does, begins_all, begins_one, begins_some, part_of_one, part_of_one_oversize, part_of_some, sticks, OnAll, all_whole, OnOne, one_none, OnSome, some_none}
 use Rattle.strat_steps.specs.Marks.{Safe}
 use Rattle.strat_patterns.specs.PlaceStack.{PlaceStack}
 use Rattle.strat_machine.specs.RecordStack.{records_in, records_of}
@@ -30,25 +30,26 @@ use Rattle.strat_machine.specs.declared.records.Record.{Record}
 use Rattle.strat_machine.specs.declared.records.Record.TheVariants as records
 use Rattle.strat_machine.specs.declared.records.Records.{Records}
 use Rattle.strat_machine.proofs.StepLaws.{does_to}
-use Rattle.strat_machine.proofs.TraversalLaws.{in_order_are, parts_are, rebuilt_fits}
+use Rattle.strat_machine.proofs.PortionLaws.{left_long}
+use Rattle.strat_machine.proofs.TraversalLaws.{over, in_order_are, rebuilt_fits}
 use Rattle.strat_patterns.proofs.ReferenceLists.{refs_append, refs_reverse}
 
 -- the parts are open
 opened : {W R Y N : Type 0} {S : Space W R Y N} {w : W} {t : R} (n : ℕ) (rs new : Records R Y)
     (o : OpensParts S w t n rs new) (P : List (RefRecord R Y) → List R → List R → Type 0) →
     P (records_in new.records (drop 0 new.done) (drop n new.left)) (take 0 new.done) (take n new.left) →
-    P (records_of rs) [] o.parts
+    P (records_of rs) [] o.opened
 opened n rs new o P x =
-    let x1 : P (records_in rs.records rs.done (drop n (o.parts ++ rs.left))) [] (take n (o.parts ++ rs.left)) =
+    let x1 : P (records_in rs.records rs.done (drop n (o.opened ++ rs.left))) [] (take n (o.opened ++ rs.left)) =
     subst (λ y. P (records_in y.records (drop 0 y.done) (drop n y.left)) (take 0 y.done) (take n y.left)) o.after x in
-    let x2 : P (records_in rs.records rs.done (drop (length o.parts) (o.parts ++ rs.left)))
-    [] (take (length o.parts) (o.parts ++ rs.left)) =
-    subst (λ j. P (records_in rs.records rs.done (drop j (o.parts ++ rs.left))) [] (take j (o.parts ++ rs.left)))
+    let x2 : P (records_in rs.records rs.done (drop (length o.opened) (o.opened ++ rs.left)))
+    [] (take (length o.opened) (o.opened ++ rs.left)) =
+    subst (λ j. P (records_in rs.records rs.done (drop j (o.opened ++ rs.left))) [] (take j (o.opened ++ rs.left)))
     o.count x1 in
-    let x3 : P (records_in rs.records rs.done rs.left) [] (take (length o.parts) (o.parts ++ rs.left)) =
-    subst (λ E. P (records_in rs.records rs.done E) [] (take (length o.parts) (o.parts ++ rs.left)))
-    (drop-append_seam o.parts rs.left) x2 in
-    subst (λ us. P (records_in rs.records rs.done rs.left) [] us) (take-append_seam o.parts rs.left) x3
+    let x3 : P (records_in rs.records rs.done rs.left) [] (take (length o.opened) (o.opened ++ rs.left)) =
+    subst (λ E. P (records_in rs.records rs.done E) [] (take (length o.opened) (o.opened ++ rs.left)))
+    (drop-append_seam o.opened rs.left) x2 in
+    subst (λ us. P (records_in rs.records rs.done rs.left) [] us) (take-append_seam o.opened rs.left) x3
 
 module _ {W R Y N : Type 0} {S : Space W R Y N} {M : Meaning} {w : W} {i here b l k next : ℕ} {t : R} {e : Places R}
     {F : List Frame} {T : List ℕ} {st : RefState R Y} {kind : Traversal} (body n : ℕ) (rs new : Records R Y)
@@ -59,8 +60,8 @@ module _ {W R Y N : Type 0} {S : Space W R Y N} {M : Meaning} {w : W} {i here b 
       Does S M w (traverse k kind next) i here t e F T b (records_of rs) l w1 st
   all_begins {w1} is x =
       subst (λ j. Does S M w (traverse k j next) i here t e F T b (records_of rs) l w1 st) (sym is)
-      (begins_all (parts_are (S.term_of w) o.parts (S.term_of w t) o.are)
-      o.standing (subst (λ a. OnAll S w a next here t e F T b (records_of rs) l [] o.parts w1 st)
+      (begins_all o.are
+      o.standing (subst (λ a. OnAll S w a next here t e F T b (records_of rs) l [] o.opened w1 st)
       at (opened n rs new o (λ K done us. OnAll S w body next here t e F T b K l done us w1 st) x)))
 
   pub one_begins : kind ≡ one_part →
@@ -69,8 +70,8 @@ module _ {W R Y N : Type 0} {S : Space W R Y N} {M : Meaning} {w : W} {i here b 
       Does S M w (traverse k kind next) i here t e F T b (records_of rs) l w st
   one_begins is x =
       subst (λ j. Does S M w (traverse k j next) i here t e F T b (records_of rs) l w st) (sym is)
-      (begins_one (parts_are (S.term_of w) o.parts (S.term_of w t) o.are)
-      o.standing (subst (λ a. OnOne S w a next here t e F T b (records_of rs) l [] o.parts st)
+      (begins_one o.are
+      o.standing (subst (λ a. OnOne S w a next here t e F T b (records_of rs) l [] o.opened st)
       at (opened n rs new o (λ K done us. OnOne S w body next here t e F T b K l done us st) x)))
 
   pub some_begins : {w1 : W} → kind ≡ some_parts →
@@ -79,8 +80,8 @@ module _ {W R Y N : Type 0} {S : Space W R Y N} {M : Meaning} {w : W} {i here b 
       Does S M w (traverse k kind next) i here t e F T b (records_of rs) l w1 st
   some_begins {w1} is x =
       subst (λ j. Does S M w (traverse k j next) i here t e F T b (records_of rs) l w1 st) (sym is)
-      (begins_some (parts_are (S.term_of w) o.parts (S.term_of w t) o.are)
-      o.standing (subst (λ a. OnSome S w a next here t e F T b (records_of rs) l [] false o.parts w1 st)
+      (begins_some o.are
+      o.standing (subst (λ a. OnSome S w a next here t e F T b (records_of rs) l [] false o.opened w1 st)
       at (opened n rs new o (λ K done us. OnSome S w body next here t e F T b K l done false us w1 st) x)))
 
 -- a term without parts is as it was
@@ -89,19 +90,15 @@ module _ {W R Y N : Type 0} {S : Space W R Y N} {w : W} {t : R} (n : ℕ) (rs ne
   no_parts : OpensParts S w t 0 rs new
   no_parts = subst (λ m. OpensParts S w t m rs new) none o
 
-  leaf : (parts : List R) → 0 ≡ length parts → map (S.term_of w) parts ≡ parts_of (S.term_of w t) →
-      parts_of (S.term_of w t) ≡ []
-  leaf [] long are = sym are
-  leaf (u ∷ parts) long are = absurd (omega arith)
+  no_more : HasNoMore S w t 0
+  no_more = o.none none
 
   rebuilt_leaf : Fits (S.term_of w t) → (bound : Bindings) →
       rebuilt (S.term_of w t) (ok end bound) ≡ ok (S.term_of w t) bound
   rebuilt_leaf fit bound =
-      let same : S.term_of w t ≡ term (head_of (S.term_of w t)) [] (annos_of (S.term_of w t)) =
-      sym (whole (S.term_of w t)) ∙
-      ap (λ us. term (head_of (S.term_of w t)) us (annos_of (S.term_of w t)))
-      (leaf o.parts (sym none ∙ o.count) o.are) in
-      rebuilt_fits (S.term_of w) (S.term_of w t) [] bound (S.term_of w t) same (subst Fits same fit)
+      let same : S.term_of w t ≡ over (S.term_of w t) [] 0 = sym (whole (S.term_of w t)) in
+      ap (λ us. rebuilt (S.term_of w t) (ok us bound)) (sym no_more) ∙
+      rebuilt_fits (S.term_of w) t [] bound (S.term_of w t) same (subst Fits same fit)
 
   module _ {M : Meaning} {i here b l k next : ℕ} {e : Places R} {F : List Frame} {T : List ℕ} {kind : Traversal} where
     pub all_of_leaf : kind ≡ all_parts → Stands S w t → Fits (S.term_of w t) →
@@ -109,15 +106,15 @@ module _ {W R Y N : Type 0} {S : Space W R Y N} {w : W} {t : R} (n : ℕ) (rs ne
         l w (ref_running next here t e F T b (records_of new) l)
     all_of_leaf is stands fit =
         all_begins (suc i) 0 rs new no_parts refl is
-        (all_whole (keeps_same S w) stands (rebuilt_leaf fit (map (option_map (S.term_of w)) e)))
+        (all_whole no_more (keeps_same S w) stands (rebuilt_leaf fit (map (option_map (S.term_of w)) e)))
 
     pub one_of_leaf : kind ≡ one_part →
         Does S M w (traverse k kind next) i here t e F T b (records_of rs) l w (ref_failing e F T b (records_of new) l)
-    one_of_leaf is = one_begins (suc i) 0 rs new no_parts refl is one_none
+    one_of_leaf is = one_begins (suc i) 0 rs new no_parts refl is (one_none no_more)
 
     pub some_of_leaf : kind ≡ some_parts →
         Does S M w (traverse k kind next) i here t e F T b (records_of rs) l w (ref_failing e F T b (records_of new) l)
-    some_of_leaf is = some_begins (suc i) 0 rs new no_parts refl is some_none
+    some_of_leaf is = some_begins (suc i) 0 rs new no_parts refl is (some_none no_more)
 
 list_of_trees : {R : Type 0} (f : R → Tree) (rs : List R) → length (list_of (trees f rs)) ≡ length rs
 list_of_trees f [] = refl
@@ -138,11 +135,13 @@ module _ {W R Y N : Type 0} {S : Space W R Y N} {w : W} {e : Places R} {T : List
 
   many : (d l : ℕ) (whole : R) →
       length (list_of (trees (S.term_of w) (take d D))) +
-      suc (length (list_of (trees (S.term_of w) (take l E)))) ≡ length (parts_of (S.term_of w whole)) →
-      length (take d D) + suc (length (take l E)) ≡ length (parts_of (S.term_of w whole))
-  many d l whole h = ap (λ k. k + suc (length (take l E))) (sym (list_of_trees (S.term_of w) (take d D))) ∙
-      (ap (λ k. length (list_of (trees (S.term_of w) (take d D))) + suc k)
-      (sym (list_of_trees (S.term_of w) (take l E))) ∙ h)
+      suc (length (list_of (trees_left (S.term_of w) whole (suc (length (take d D))) (take l E)))) ≡
+      length (parts_of (S.term_of w whole)) →
+      length (take d D) + suc (length (take l E)) ≤ length (parts_of (S.term_of w whole))
+  many d l whole h =
+      let a = list_of_trees (S.term_of w) (take d D) in
+      let b = left_long (S.term_of w) whole (suc (length (take d D))) (take l E) in
+      omega (arith, a, b, h)
 
   pub all_tried : {t : R} → Stands S w t → (v : Traversed R) → r ≡ records.All v →
       HasTried S w (record { records = new; done = D; left = E }) v t
@@ -219,11 +218,12 @@ pub one_made : {W R Y N : Type 0} {S : Space W R Y N} {M : Meaning} {w w1 : W} {
 one_made {S = S} {w = w} {w1} {here = here} {next = next} {h = h} {d} {t = t} {u} {done =
     done} {us} {T} {m} {e} {K} (rebuilds {u = x} g sx is) places =
     let f = S.term_of w in
-    let same : rebuilt (f u) (ok (in_order (trees f done) (more (f t) (trees f us))) (map (option_map f) e)) ≡
-    rebuilt (f u) (ok (trees f (reverse done ++ t ∷ us)) (map (option_map f) e)) =
-    ap (λ ts. rebuilt (f u) (ok ts (map (option_map f) e))) (in_order_are f done (t ∷ us)) in
+    let same : rebuilt (f u) (ok (in_order (trees f done) (more (f t) (trees_left f u (suc (length done)) us)))
+    (map (option_map f) e)) ≡
+    rebuilt (f u) (ok (trees_left f u 0 (reverse done ++ t ∷ us)) (map (option_map f) e)) =
+    ap (λ ts. rebuilt (f u) (ok ts (map (option_map f) e))) (in_order_are f u done (t ∷ us)) in
     let slots = ap (λ p. p.slots) places in
-    let is_so = subst (λ y. rebuilt (f u) (ok (trees f (reverse done ++ t ∷ us)) (map (option_map f) y)) ≡
+    let is_so = subst (λ y. rebuilt (f u) (ok (trees_left f u 0 (reverse done ++ t ∷ us)) (map (option_map f) y)) ≡
     ok (S.term_of w1 x) (map (option_map f) y)) slots is in
     does_to (part_of_one g sx (same ∙ is_so))
     (ap (λ y. ref_running next here x y m.frames (trimmed h d T) d K m.left) (sym slots) ∙
@@ -232,11 +232,12 @@ one_made {S = S} {w = w} {w1} {here = here} {next = next} {h = h} {d} {t = t} {u
     (ap (λ p. p.barrier) (sym places))))
 one_made {S = S} {w = w} {t = t} {u} {done = done} {us} {e = e} (rebuilds_none g is) places =
     let f = S.term_of w in
-    let same : rebuilt (f u) (ok (in_order (trees f done) (more (f t) (trees f us))) (map (option_map f) e)) ≡
-    rebuilt (f u) (ok (trees f (reverse done ++ t ∷ us)) (map (option_map f) e)) =
-    ap (λ ts. rebuilt (f u) (ok ts (map (option_map f) e))) (in_order_are f done (t ∷ us)) in
+    let same : rebuilt (f u) (ok (in_order (trees f done) (more (f t) (trees_left f u (suc (length done)) us)))
+    (map (option_map f) e)) ≡
+    rebuilt (f u) (ok (trees_left f u 0 (reverse done ++ t ∷ us)) (map (option_map f) e)) =
+    ap (λ ts. rebuilt (f u) (ok ts (map (option_map f) e))) (in_order_are f u done (t ∷ us)) in
     part_of_one_oversize g (same ∙
-    subst (λ y. rebuilt (f u) (ok (trees f (reverse done ++ t ∷ us)) (map (option_map f) y)) ≡ oversize {A = Tree})
+    subst (λ y. rebuilt (f u) (ok (trees_left f u 0 (reverse done ++ t ∷ us)) (map (option_map f) y)) ≡ oversize {A = Tree})
     (ap (λ p. p.slots) places) is)
 
 -- a part of some(s) is done

@@ -1,30 +1,29 @@
 -- Traversals of the Rust machine.
-use Rattle.std.proofs.Common.{◌≡◌, ℕ, suc, ◌-◌, List, [], ◌∷◌, ◌++◌, length, take, drop, map, reverse, append_assoc, append-nil, refl, sym, ◌∙◌, ap, subst, arith}
+use Rattle.std.proofs.Common.{◌≡◌, ◌≤◌, ℕ, suc, ◌+◌, ◌-◌, List, [], ◌∷◌, ◌++◌, length, take, drop, map, reverse, append_assoc, append-nil, refl, sym, ◌∙◌, ap, subst, arith}
 use Rattle.std.specs.Prelude.{Bool, true, false}
 use Rattle.std.specs.Option.{option_map}
 use Rattle.std.proofs.Math.Seq.{take-append_seam, drop-append_seam}
-use Rattle.std.proofs.lemmas.List.{reverse-append, reverse-reverse, length-append}
+use Rattle.std.proofs.lemmas.List.{reverse-append, reverse-reverse, length-map, length-take, length-drop}
 use Rattle.std.proofs.lemmas.Bool.{false_from_ne_true}
 use Rattle.term_model.specs.Term.{Tree, node, end, term, head_of, parts_of, annos_of, trees_of, fits, Fits}
 use Rattle.term_model.specs.declared.made.Made.{Made}
 use Rattle.term_model.specs.declared.made.Made.TheVariants as made
 use Rattle.term_model.specs.Space.{Space, Keeps, IsMark, Makes, Pushes}
-use Rattle.strat_patterns.proofs.ReferenceLists.{trees_are}
 use Rattle.strat_machine.specs.PartsOf.{PutsParts}
 use Rattle.term_model.proofs.TermLemmas.{trees_of-list_of}
 use Rattle.term_model.proofs.FitsLaws.{fits-complete, fits-sound}
 use Rattle.core_lang.specs.Environment.{Bindings}
 use Rattle.core_lang.specs.Ending.{ok, oversize, if_fits, with_parts, rebuilt}
-use Rattle.core_lang.specs.Derivation.{parts}
 use Rattle.strat_steps.specs.Step.{in_order}
 use Rattle.strat_steps.specs.State as state
 use Rattle.strat_steps.specs.State.{Frame, run_oversize}
-use Rattle.strat_steps.specs.References.{Places, RefRecord, RefState, ref_all, ref_one, ref_some, ref_running, ref_failing, ref_stopped, trees}
+use Rattle.strat_steps.specs.References.{Places, RefRecord, RefState, ref_all, ref_one, ref_some, ref_running, ref_failing, ref_stopped, trees, trees_left}
 use Rattle.term_model.specs.Flat.{Meaning}
 use Rattle.strat_code.specs.Code.{part_done}
 use Rattle.strat_machine.specs.CompactRecords.{AdvancesAll}
-use Rattle.strat_steps.specs.ReferenceSteps.{Does, part_of_all, OnAll, all_goes_on, all_whole, all_oversize, OnOne, one_goes_on, one_none, OnSome, some_goes_on, some_whole, some_oversize, some_none}
+use Rattle.strat_steps.specs.ReferenceSteps.{IsNext, HasNoMore, Does, part_of_all, OnAll, all_goes_on, all_whole, all_oversize, OnOne, one_goes_on, one_none, OnSome, some_goes_on, some_whole, some_oversize, some_none}
 use Rattle.strat_machine.specs.RecordStack.{saved_of, records_in, records_of, with_record}
+use Rattle.strat_machine.proofs.PortionLaws.{left_are, next_first}
 use Rattle.strat_machine.specs.Traversing.{RebuildsTo, rebuilds, rebuilds_none}
 use Rattle.strat_machine.specs.declared.stacks.Stacks.{Stacks}
 use Rattle.strat_machine.specs.declared.records.Saved.{Saved}
@@ -35,58 +34,67 @@ use Rattle.strat_machine.specs.declared.records.Records.{Records}
 
 -- the terms of references
 
-pub in_order_are : {R : Type 0} (f : R → Tree) (done us : List R) →
-    in_order (trees f done) (trees f us) ≡ trees f (reverse done ++ us)
-in_order_are f [] us = refl
-in_order_are f (r ∷ done) us =
-    in_order_are f done (r ∷ us) ∙
-    ap (trees f) (sym (append_assoc (reverse done) (r ∷ []) us) ∙
+pub in_order_are : {R : Type 0} (f : R → Tree) (t : R) (done us : List R) →
+    in_order (trees f done) (trees_left f t (length done) us) ≡ trees_left f t 0 (reverse done ++ us)
+in_order_are f t [] us = refl
+in_order_are f t (r ∷ done) us =
+    in_order_are f t done (r ∷ us) ∙
+    ap (trees_left f t 0) (sym (append_assoc (reverse done) (r ∷ []) us) ∙
     ap (λ l. l ++ us) (sym (reverse-append (r ∷ []) done)))
-
--- those of a term's parts
-pub parts_are : {R : Type 0} (f : R → Tree) (rs : List R) (t : Tree) → map f rs ≡ parts_of t → trees f rs ≡ parts t
-parts_are f rs (node h ts annos) is = trees_are f rs ∙ (ap trees_of is ∙ trees_of-list_of ts)
 
 -- the term over other parts
 with_parts_is : (t : Tree) (us : List Tree) → with_parts t (trees_of us) ≡ term (head_of t) us (annos_of t)
 with_parts_is (node h ts annos) us = ap (λ a. node h (trees_of us) a) (sym (trees_of-list_of annos))
 
-module _ {R : Type 0} (f : R → Tree) (t : Tree) (rs : List R) (e : Bindings) where
-  rebuilt_is : rebuilt t (ok (trees f rs) e) ≡
-      if_fits (fits (term (head_of t) (map f rs) (annos_of t))) (term (head_of t) (map f rs) (annos_of t)) e
-  rebuilt_is =
-      ap (λ us. rebuilt t (ok us e)) (trees_are f rs) ∙ ap (λ u. if_fits (fits u) u e) (with_parts_is t (map f rs))
+-- the term with other first parts
+abbrev pub over : Tree → List Tree → (n : ℕ) → Tree
+over t us n = term (head_of t) (us ++ drop n (parts_of t)) (annos_of t)
 
-  pub rebuilt_fits : (u : Tree) → u ≡ term (head_of t) (map f rs) (annos_of t) →
-      Fits (term (head_of t) (map f rs) (annos_of t)) → rebuilt t (ok (trees f rs) e) ≡ ok u e
+module _ {R : Type 0} (f : R → Tree) (t : R) (rs : List R) (e : Bindings) where
+  rebuilt_is : rebuilt (f t) (ok (trees_left f t 0 rs) e) ≡
+      if_fits (fits (over (f t) (map f rs) (length rs))) (over (f t) (map f rs) (length rs)) e
+  rebuilt_is =
+      let same : 0 + length rs ≡ length rs = omega arith in
+      ap (λ us. rebuilt (f t) (ok us e)) (left_are f t 0 rs ∙
+      ap (λ k. trees_of (map f rs ++ drop k (parts_of (f t)))) same) ∙
+      ap (λ u. if_fits (fits u) u e) (with_parts_is (f t) (map f rs ++ drop (length rs) (parts_of (f t))))
+
+  pub rebuilt_fits : (u : Tree) → u ≡ over (f t) (map f rs) (length rs) →
+      Fits (over (f t) (map f rs) (length rs)) → rebuilt (f t) (ok (trees_left f t 0 rs) e) ≡ ok u e
   rebuilt_fits u is fit =
-      rebuilt_is ∙ (ap (λ b. if_fits b (term (head_of t) (map f rs) (annos_of t)) e) (fits-complete _ fit) ∙
+      rebuilt_is ∙ (ap (λ b. if_fits b (over (f t) (map f rs) (length rs)) e) (fits-complete _ fit) ∙
       ap (λ v. ok v e) (sym is))
 
-  pub rebuilt_large : (Fits (term (head_of t) (map f rs) (annos_of t)) → ⊥) → rebuilt t (ok (trees f rs) e) ≡ oversize
+  pub rebuilt_large : (Fits (over (f t) (map f rs) (length rs)) → ⊥) →
+      rebuilt (f t) (ok (trees_left f t 0 rs) e) ≡ oversize
   rebuilt_large large = rebuilt_is ∙
-      ap (λ b. if_fits b (term (head_of t) (map f rs) (annos_of t)) e)
+      ap (λ b. if_fits b (over (f t) (map f rs) (length rs)) e)
       (false_from_ne_true _ (λ h. large (fits-sound _ h)))
 
--- the parts of a term are put on a stack, the first one on top
-pub parts_put : {W R Y N : Type 0} (S : Space W R Y N) (w : W) (t : R) (n b : ℕ) (old mid new seen : List R) →
-    Pushes S w (parts_of (S.term_of w t)) old mid → b ≡ length old → n ≡ length mid - b →
+-- parts of a term are put on a stack, the first one on top
+pub parts_put : {W R Y N : Type 0} (S : Space W R Y N) (w : W) (t : R) (from to b : ℕ) (old mid new seen : List R) →
+    to ≤ length (parts_of (S.term_of w t)) →
+    Pushes S w (take (to - from) (drop from (parts_of (S.term_of w t)))) old mid → b ≡ length old →
     new ≡ take b mid ++ reverse (drop b mid) → reverse old ≡ seen →
-    PutsParts S w t n seen (reverse new)
-parts_put S w t n b old mid new seen pushed from count turned is =
+    PutsParts S w t from to seen (reverse new)
+parts_put S w t from to b old mid new seen within pushed at turned is =
     let there = pushed.after in
-    let long = ap length there in let long_both = length-append old pushed.pushed in
     let kept : take b mid ≡ old =
-    ap (λ k. take k mid) from ∙ (ap (take (length old)) there ∙ take-append_seam old pushed.pushed) in
+    ap (λ k. take k mid) at ∙ (ap (take (length old)) there ∙ take-append_seam old pushed.pushed) in
     let rest : drop b mid ≡ pushed.pushed =
-    ap (λ k. drop k mid) from ∙ (ap (drop (length old)) there ∙ drop-append_seam old pushed.pushed) in
+    ap (λ k. drop k mid) at ∙ (ap (drop (length old)) there ∙ drop-append_seam old pushed.pushed) in
+    let ps = parts_of (S.term_of w t) in
+    let long = length-map pushed.pushed (S.term_of w) in
+    let same = ap length pushed.are in
+    let taken = length-take (to - from) (drop from ps) in
+    let dropped = length-drop from ps in
     record {
       parts = pushed.pushed;
       after =
           ap reverse (turned ∙ (ap (λ us. us ++ reverse (drop b mid)) kept ∙ ap (λ us. old ++ reverse us) rest)) ∙
           (reverse-append old (reverse pushed.pushed) ∙
           (ap (λ us. us ++ reverse old) (reverse-reverse pushed.pushed) ∙ ap (λ us. pushed.pushed ++ us) is));
-      count = omega (arith, count, from, long, long_both);
+      count = omega (arith, within, long, same, taken, dropped);
       standing = pushed.standing;
       are = pushed.are;
     }
@@ -96,61 +104,56 @@ parts_put S w t n b old mid new seen pushed from count turned is =
 module _ {W R Y N : Type 0} {S : Space W R Y N} {w w1 : W}
     (t : R) (ps seen : List R) (m : Stacks R Y) (K : List (RefRecord R Y)) (next here : ℕ)
     {v : Made R} (keeps : Keeps S w w1)
-    (makes : Makes S w1 (term (head_of (S.term_of w t)) (map (S.term_of w) seen) (annos_of (S.term_of w t))) v)
+    (makes : Makes S w1 (over (S.term_of w t) (map (S.term_of w) seen) (length seen)) v)
     (same : seen ≡ ps) where
   pub whole_fits : {u : R} {L : List (RefRecord R Y)} → v ≡ made.Fits u → K ≡ L →
       RebuildsTo S w t ps m K next here w1
       (ref_running next here u m.places.slots m.frames m.places.trail m.places.barrier L m.left)
   whole_fits {u} {L} is rest =
-      let made_so : Makes S w1 (term (head_of (S.term_of w t)) (map (S.term_of w) ps) (annos_of (S.term_of w t)))
-      (made.Fits u) =
-      subst (λ us. Makes S w1 (term (head_of (S.term_of w t)) (map (S.term_of w) us) (annos_of (S.term_of w t)))
-      (made.Fits u)) same
-      (subst (λ x. Makes S w1 (term (head_of (S.term_of w t)) (map (S.term_of w) seen) (annos_of (S.term_of w t))) x)
-      is makes)
+      let made_so : Makes S w1 (over (S.term_of w t) (map (S.term_of w) ps) (length ps)) (made.Fits u) =
+      subst (λ us. Makes S w1 (over (S.term_of w t) (map (S.term_of w) us) (length us)) (made.Fits u)) same
+      (subst (λ x. Makes S w1 (over (S.term_of w t) (map (S.term_of w) seen) (length seen)) x) is makes)
       in
       subst (λ L. RebuildsTo S w t ps m K next here w1
       (ref_running next here u m.places.slots m.frames m.places.trail m.places.barrier L m.left)) rest
       (rebuilds keeps made_so.0
-      (rebuilt_fits (S.term_of w) (S.term_of w t) ps (map (option_map (S.term_of w)) m.places.slots)
+      (rebuilt_fits (S.term_of w) t ps (map (option_map (S.term_of w)) m.places.slots)
       (S.term_of w1 u) made_so.1 made_so.2))
 
   pub whole_large : v ≡ made.Oversize → RebuildsTo S w t ps m K next here w1 (ref_stopped run_oversize m.left)
   whole_large is =
-      let large : Makes S w1 (term (head_of (S.term_of w t)) (map (S.term_of w) ps) (annos_of (S.term_of w t)))
-      made.Oversize =
-      subst (λ us. Makes S w1 (term (head_of (S.term_of w t)) (map (S.term_of w) us) (annos_of (S.term_of w t)))
-      made.Oversize) same
-      (subst (λ x. Makes S w1 (term (head_of (S.term_of w t)) (map (S.term_of w) seen) (annos_of (S.term_of w t))) x)
-      is makes)
+      let large : Makes S w1 (over (S.term_of w t) (map (S.term_of w) ps) (length ps)) made.Oversize =
+      subst (λ us. Makes S w1 (over (S.term_of w t) (map (S.term_of w) us) (length us)) made.Oversize) same
+      (subst (λ x. Makes S w1 (over (S.term_of w t) (map (S.term_of w) seen) (length seen)) x) is makes)
       in
-      rebuilds_none keeps (rebuilt_large (S.term_of w) (S.term_of w t)
-      ps (map (option_map (S.term_of w)) m.places.slots) large)
+      rebuilds_none keeps (rebuilt_large (S.term_of w) t ps (map (option_map (S.term_of w)) m.places.slots) large)
 
-in_order_whole : {R : Type 0} (f : R → Tree) (t : Tree) (done : List R) (e : Bindings) →
-    rebuilt t (ok (in_order (trees f done) end) e) ≡ rebuilt t (ok (trees f (reverse done)) e)
-in_order_whole f t done e = ap (λ us. rebuilt t (ok us e)) (in_order_are f done [] ∙
-    ap (trees f) (append-nil (reverse done)))
+in_order_whole : {R : Type 0} (f : R → Tree) (t : R) (done : List R) (e : Bindings) →
+    trees_left f t (length done) [] ≡ end →
+    rebuilt (f t) (ok (in_order (trees f done) end) e) ≡ rebuilt (f t) (ok (trees_left f t 0 (reverse done)) e)
+in_order_whole f t done e none = ap (λ us. rebuilt (f t) (ok us e)) (ap (in_order (trees f done)) (sym none) ∙
+    (in_order_are f t done [] ∙ ap (trees_left f t 0) (append-nil (reverse done))))
 
 module _ {W R Y N : Type 0} {S : Space W R Y N} {w w1 : W} (body : ℕ)
-    {next here : ℕ} {t : R} {m : Stacks R Y} {K : List (RefRecord R Y)} (done : List R) where
+    {next here : ℕ} {t : R} {m : Stacks R Y} {K : List (RefRecord R Y)} (done : List R)
+    (none : HasNoMore S w t (length done)) where
   all_made : {n : RefState R Y} → RebuildsTo S w t (reverse done) m K next here w1 n →
       OnAll S w body next here t m.places.slots m.frames m.places.trail m.places.barrier K m.left done [] w1 n
   all_made (rebuilds g st is) =
-      all_whole g st (in_order_whole (S.term_of w) (S.term_of w t)
-      done (map (option_map (S.term_of w)) m.places.slots) ∙ is)
+      all_whole none g st (in_order_whole (S.term_of w) t done (map (option_map (S.term_of w)) m.places.slots) none ∙
+      is)
   all_made (rebuilds_none g is) =
-      all_oversize g (in_order_whole (S.term_of w) (S.term_of w t)
-      done (map (option_map (S.term_of w)) m.places.slots) ∙ is)
+      all_oversize none g (in_order_whole (S.term_of w) t done (map (option_map (S.term_of w)) m.places.slots) none ∙
+      is)
 
   some_made : {n : RefState R Y} → RebuildsTo S w t (reverse done) m K next here w1 n →
       OnSome S w body next here t m.places.slots m.frames m.places.trail m.places.barrier K m.left done true [] w1 n
   some_made (rebuilds g st is) =
-      some_whole g st (in_order_whole (S.term_of w) (S.term_of w t)
-      done (map (option_map (S.term_of w)) m.places.slots) ∙ is)
+      some_whole none g st (in_order_whole (S.term_of w) t done (map (option_map (S.term_of w)) m.places.slots) none ∙
+      is)
   some_made (rebuilds_none g is) =
-      some_oversize g (in_order_whole (S.term_of w) (S.term_of w t)
-      done (map (option_map (S.term_of w)) m.places.slots) ∙ is)
+      some_oversize none g (in_order_whole (S.term_of w) t done (map (option_map (S.term_of w)) m.places.slots) none ∙
+      is)
 
 -- a traversal without a part that is left
 module _ {R Y : Type 0} (rs np : Records R Y) (kept : np ≡ record rs { left = np.left }) (v : Traversed R)
@@ -160,6 +163,7 @@ module _ {R Y : Type 0} (rs np : Records R Y) (kept : np ≡ record rs { left = 
 
   module _ {W N : Type 0} {S : Space W R Y N} {w w1 : W} (body : ℕ)
       {next here : ℕ} {t : R} {m : Stacks R Y} {n : RefState R Y}
+      (no_more : HasNoMore S w t (length (take v.done rs.done)))
       (made_so : RebuildsTo S w t (reverse (take v.done np.done))
       m (records_in np.records (drop v.done np.done) (drop v.left np.left)) next here w1 n) where
     made_here : RebuildsTo S w t (reverse (take v.done rs.done))
@@ -173,7 +177,7 @@ module _ {R Y : Type 0} (rs np : Records R Y) (kept : np ≡ record rs { left = 
     all_ends = subst (λ us. OnAll S w body next here t m.places.slots m.frames m.places.trail m.places.barrier
         (records_in rs.records (drop v.done rs.done) (drop v.left rs.left)) m.left (take v.done rs.done) us w1 n)
         (sym none)
-        (all_made body (take v.done rs.done) made_here)
+        (all_made body (take v.done rs.done) no_more made_here)
 
     pub some_made_whole : (found : Bool) → found ≡ true →
         OnSome S w body next here t m.places.slots m.frames m.places.trail m.places.barrier
@@ -186,7 +190,7 @@ module _ {R Y : Type 0} (rs np : Records R Y) (kept : np ≡ record rs { left = 
         (subst (λ us. OnSome S w body next here t m.places.slots m.frames m.places.trail m.places.barrier
         (records_in rs.records (drop v.done rs.done) (drop v.left rs.left)) m.left (take v.done rs.done)
         true us w1 n) (sym none)
-        (some_made body (take v.done rs.done) made_here))
+        (some_made body (take v.done rs.done) no_more made_here))
 
   rest_is : (cut : Records R Y) →
       cut ≡ record { records = np.records; done = drop v.done np.done; left = drop v.left np.left } →
@@ -196,7 +200,8 @@ module _ {R Y : Type 0} (rs np : Records R Y) (kept : np ≡ record rs { left = 
 
   module _ {W N : Type 0} {S : Space W R Y N} {w : W} (body next here : ℕ) (t : R) (e : Places R) (F : List Frame)
       (T : List ℕ) (b l : ℕ) (done : List R) (cut : Records R Y)
-      (is : cut ≡ record { records = np.records; done = drop v.done np.done; left = drop v.left np.left }) where
+      (is : cut ≡ record { records = np.records; done = drop v.done np.done; left = drop v.left np.left })
+      (no_more : HasNoMore S w t (length done)) where
     pub one_fails : OnOne S w body next here t e F T b
         (records_in rs.records (drop v.done rs.done) (drop v.left rs.left)) l done (take v.left rs.left)
         (ref_failing e F T b (records_of cut) l)
@@ -207,7 +212,7 @@ module _ {R Y : Type 0} (rs np : Records R Y) (kept : np ≡ record rs { left = 
         (subst (λ us. OnOne S w body next here t e F T b
         (records_in rs.records (drop v.done rs.done) (drop v.left rs.left))
         l done us (ref_failing e F T b (records_in rs.records (drop v.done rs.done) (drop v.left rs.left)) l))
-        (sym none) one_none)
+        (sym none) (one_none no_more))
 
     pub some_fails : (found : Bool) → found ≡ false →
         OnSome S w body next here t e F T b (records_in rs.records (drop v.done rs.done) (drop v.left rs.left))
@@ -222,127 +227,102 @@ module _ {R Y : Type 0} (rs np : Records R Y) (kept : np ≡ record rs { left = 
         (subst (λ us. OnSome S w body next here t e F T b
         (records_in rs.records (drop v.done rs.done) (drop v.left rs.left))
         l done false us w (ref_failing e F T b (records_in rs.records (drop v.done rs.done) (drop v.left rs.left))
-        l)) (sym none) some_none))
+        l)) (sym none) (some_none no_more)))
 
 -- a traversal with a next part
 module _ {R Y : Type 0} (rs np : Records R Y) (kept : np ≡ record rs { left = np.left }) (v others : Traversed R)
-    (part : R) (other : others ≡ record v { left = v.left - 1 })
-    (taken : take v.left rs.left ≡ part ∷ take (v.left - 1) np.left)
-    (after : drop v.left rs.left ≡ drop (v.left - 1) np.left) where
+    (part : R) (k : ℕ) (other : others ≡ record v { left = k })
+    (after : drop v.left rs.left ≡ drop k np.left) where
   rest_of : records_in np.records (drop others.done np.done) (drop others.left np.left) ≡
       records_in rs.records (drop v.done rs.done) (drop v.left rs.left)
   rest_of =
-      ap (λ k. records_in np.records (drop k np.done) (drop others.left np.left)) (ap (λ u. u.done) other) ∙
-      (ap (λ k. records_in np.records (drop v.done np.done) (drop k np.left)) (ap (λ u. u.left) other) ∙
+      ap (λ j. records_in np.records (drop j np.done) (drop others.left np.left)) (ap (λ u. u.done) other) ∙
+      (ap (λ j. records_in np.records (drop v.done np.done) (drop j np.left)) (ap (λ u. u.left) other) ∙
       (ap (λ l. records_in np.records (drop v.done np.done) l) (sym after) ∙
       ap (λ x. records_in x.records (drop v.done x.done) (drop v.left rs.left)) kept))
 
   done_of : take others.done np.done ≡ take v.done rs.done
-  done_of = ap (λ k. take k np.done) (ap (λ u. u.done) other) ∙ ap (λ x. take v.done x.done) kept
+  done_of = ap (λ j. take j np.done) (ap (λ u. u.done) other) ∙ ap (λ x. take v.done x.done) kept
 
-  left_of : take others.left np.left ≡ take (v.left - 1) np.left
-  left_of = ap (λ k. take k np.left) (ap (λ u. u.left) other)
+  left_of : take others.left np.left ≡ take k np.left
+  left_of = ap (λ j. take j np.left) (ap (λ u. u.left) other)
 
   all_record_is : (stack : List (Record R Y)) → stack ≡ records.All others ∷ np.records →
-      ref_all v.body v.next_address v.whole (take v.done rs.done) (take (v.left - 1) np.left) ∷
+      ref_all v.body v.next_address v.whole (take v.done rs.done) (take k np.left) ∷
       records_in rs.records (drop v.done rs.done) (drop v.left rs.left) ≡ records_in stack np.done np.left
   all_record_is stack put =
       let a = rest_of in let d = done_of in let c = left_of in
       let x = ap (λ u. u.body) other in let y = ap (λ u. u.next_address) other in let z = ap (λ u. u.whole) other in
-      let same : ref_all v.body v.next_address v.whole (take v.done rs.done) (take (v.left - 1) np.left) ∷
+      let same : ref_all v.body v.next_address v.whole (take v.done rs.done) (take k np.left) ∷
       records_in rs.records (drop v.done rs.done) (drop v.left rs.left) ≡
       records_in (records.All others ∷ np.records) np.done np.left = cc in
       same ∙ ap (λ r. records_in r np.done np.left) (sym put)
 
-  one_record_is : (g : Saved) (k : Y) (sv : state.Saved) → saved_of g ≡ sv →
-      ref_one v.body v.next_address v.whole (take v.done rs.done) part (take (v.left - 1) np.left) sv k ∷
+  one_record_is : (g : Saved) (m : Y) (sv : state.Saved) → saved_of g ≡ sv →
+      ref_one v.body v.next_address v.whole (take v.done rs.done) part (take k np.left) sv m ∷
       records_in rs.records (drop v.done rs.done) (drop v.left rs.left) ≡
-      with_record (records.One others part g k) np
-  one_record_is g k sv is =
+      with_record (records.One others part g m) np
+  one_record_is g m sv is =
       let a = rest_of in let d = done_of in let c = left_of in
       let x = ap (λ u. u.body) other in let y = ap (λ u. u.next_address) other in let z = ap (λ u. u.whole) other in
       cc
 
-  some_record_is : (found : Bool) (g : Saved) (k : Y) (sv : state.Saved) → saved_of g ≡ sv →
-      ref_some v.body v.next_address v.whole (take v.done rs.done) part (take (v.left - 1) np.left) found sv k ∷
+  some_record_is : (found : Bool) (g : Saved) (m : Y) (sv : state.Saved) → saved_of g ≡ sv →
+      ref_some v.body v.next_address v.whole (take v.done rs.done) part (take k np.left) found sv m ∷
       records_in rs.records (drop v.done rs.done) (drop v.left rs.left) ≡
-      with_record (records.Some others part found g k) np
-  some_record_is found g k sv is =
+      with_record (records.Some others part found g m) np
+  some_record_is found g m sv is =
       let a = rest_of in let d = done_of in let c = left_of in
       let x = ap (λ u. u.body) other in let y = ap (λ u. u.next_address) other in let z = ap (λ u. u.whole) other in
       cc
 
   module _ {W N : Type 0} {S : Space W R Y N} {w : W} (here : ℕ) (e : Places R) (F : List Frame) (T : List ℕ) (b l : ℕ)
-    where
-      pub all_goes : (stack : List (Record R Y)) → stack ≡ records.All others ∷ np.records →
-          OnAll S w v.body v.next_address here v.whole e F T b
-          (records_in rs.records (drop v.done rs.done) (drop v.left rs.left)) l (take v.done rs.done)
-          (take v.left rs.left) w
-          (ref_running others.body here part e F T b (records_in stack np.done np.left) l)
-      all_goes stack put =
-          let K = records_in rs.records (drop v.done rs.done) (drop v.left rs.left) in
-          subst (λ us. OnAll S w v.body v.next_address here v.whole e F T b K l (take v.done rs.done)
-          us w (ref_running others.body here part e F T b (records_in stack np.done np.left) l)) (sym taken)
-          (subst (λ n. OnAll S w v.body v.next_address here v.whole e F T b K l (take v.done rs.done)
-          (part ∷ take (v.left - 1) np.left) w n)
-          (ap (λ L. ref_running v.body here part e F T b L l) (all_record_is stack put) ∙
-          ap (λ a. ref_running a here part e F T b (records_in stack np.done np.left) l)
-          (ap (λ u. u.body) (sym other)))
-          all_goes_on)
+      (next : IsNext S w v.whole (length (take v.done rs.done)) (take v.left rs.left) part (take k np.left)) where
+    pub all_goes : (stack : List (Record R Y)) → stack ≡ records.All others ∷ np.records →
+        OnAll S w v.body v.next_address here v.whole e F T b
+        (records_in rs.records (drop v.done rs.done) (drop v.left rs.left)) l (take v.done rs.done)
+        (take v.left rs.left) w
+        (ref_running others.body here part e F T b (records_in stack np.done np.left) l)
+    all_goes stack put =
+        let K = records_in rs.records (drop v.done rs.done) (drop v.left rs.left) in
+        subst (λ n. OnAll S w v.body v.next_address here v.whole e F T b K l (take v.done rs.done)
+        (take v.left rs.left) w n)
+        (ap (λ L. ref_running v.body here part e F T b L l) (all_record_is stack put) ∙
+        ap (λ a. ref_running a here part e F T b (records_in stack np.done np.left) l)
+        (ap (λ u. u.body) (sym other)))
+        (all_goes_on next)
 
-      pub one_goes : (g : Saved) (k : Y) (n : RefState R Y) → saved_of g ≡ state.saved here (length F) (length T) b →
-          IsMark S w k → n ≡ ref_running others.body here part e F T (length e)
-          (with_record (records.One others part g k) np) l →
-          OnOne S w v.body v.next_address here v.whole e F T b
-          (records_in rs.records (drop v.done rs.done) (drop v.left rs.left)) l (take v.done rs.done)
-          (take v.left rs.left) n
-      one_goes g k n saves marks leads =
-          let K = records_in rs.records (drop v.done rs.done) (drop v.left rs.left) in
-          subst (λ us. OnOne S w v.body v.next_address here v.whole e F T b K l (take v.done rs.done) us n) (sym taken)
-          (subst (λ n. OnOne S w v.body v.next_address here v.whole e F T b K l (take v.done rs.done)
-          (part ∷ take (v.left - 1) np.left) n)
-          (ap (λ L. ref_running v.body here part e F T (length e) L l)
-          (one_record_is g k (state.saved here (length F) (length T) b) saves) ∙
-          (ap (λ a. ref_running a here part e F T (length e) (with_record (records.One others part g k) np) l)
-          (ap (λ u. u.body) (sym other)) ∙ sym leads))
-          (one_goes_on marks))
+    pub one_goes : (g : Saved) (m : Y) (n : RefState R Y) → saved_of g ≡ state.saved here (length F) (length T) b →
+        IsMark S w m → n ≡ ref_running others.body here part e F T (length e)
+        (with_record (records.One others part g m) np) l →
+        OnOne S w v.body v.next_address here v.whole e F T b
+        (records_in rs.records (drop v.done rs.done) (drop v.left rs.left)) l (take v.done rs.done)
+        (take v.left rs.left) n
+    one_goes g m n saves marks leads =
+        let K = records_in rs.records (drop v.done rs.done) (drop v.left rs.left) in
+        subst (λ n. OnOne S w v.body v.next_address here v.whole e F T b K l (take v.done rs.done)
+        (take v.left rs.left) n)
+        (ap (λ L. ref_running v.body here part e F T (length e) L l)
+        (one_record_is g m (state.saved here (length F) (length T) b) saves) ∙
+        (ap (λ a. ref_running a here part e F T (length e) (with_record (records.One others part g m) np) l)
+        (ap (λ u. u.body) (sym other)) ∙ sym leads))
+        (one_goes_on next marks)
 
-      pub some_goes : (found : Bool) (g : Saved) (k : Y) (n : RefState R Y) →
-          saved_of g ≡ state.saved here (length F) (length T) b → IsMark S w k →
-          n ≡ ref_running others.body here part e F T (length e) (with_record (records.Some others part found g k) np) l →
-          OnSome S w v.body v.next_address here v.whole e F T b
-          (records_in rs.records (drop v.done rs.done) (drop v.left rs.left)) l (take v.done rs.done)
-          found (take v.left rs.left) w n
-      some_goes found g k n saves marks leads =
-          let K = records_in rs.records (drop v.done rs.done) (drop v.left rs.left) in
-          subst (λ us. OnSome S w v.body v.next_address here v.whole e F T b K l (take v.done rs.done) found us w n)
-          (sym taken)
-          (subst (λ n. OnSome S w v.body v.next_address here v.whole e F T b K l (take v.done rs.done)
-          found (part ∷ take (v.left - 1) np.left) w n)
-          (ap (λ L. ref_running v.body here part e F T (length e) L l)
-          (some_record_is found g k (state.saved here (length F) (length T) b) saves) ∙
-          (ap (λ a. ref_running a here part e F T (length e) (with_record (records.Some others part found g k) np) l)
-          (ap (λ u. u.body) (sym other)) ∙ sym leads))
-          (some_goes_on marks))
-
--- the last part of all(s) is done, and no other is left
-pub all_ends_last : {W R Y N : Type 0} {S : Space W R Y N} {w w1 : W} {here : ℕ} {m : Stacks R Y} {n : RefState R Y}
-    (old rs np : Records R Y) (v ended : Traversed R) (t : R) → ended ≡ record v { done = suc v.done } →
-    rs ≡ record old { done = t ∷ old.done } →
-    np ≡ record rs { left = np.left } → np.left ≡ rs.left → take ended.left rs.left ≡ [] →
-    RebuildsTo S w ended.whole (reverse (take ended.done np.done))
-    m (records_in np.records (drop ended.done np.done) (drop ended.left np.left)) ended.next_address here w1 n →
-    OnAll S w v.body v.next_address here v.whole m.places.slots m.frames m.places.trail m.places.barrier
-    (records_in old.records (drop v.done old.done) (drop v.left old.left)) m.left (t ∷ take v.done old.done)
-    (take v.left old.left) w1 n
-all_ends_last {S = S} {w} {w1} {here} {m} {n} old rs np v ended t one_more put kept same none h =
-    subst (λ r. OnAll S w v.body v.next_address here v.whole m.places.slots m.frames m.places.trail m.places.barrier
-    (records_in r.records (drop (suc v.done) r.done) (drop v.left r.left)) m.left (take (suc v.done) r.done)
-    (take v.left r.left) w1 n) put
-    (subst (λ u. OnAll S w u.body u.next_address here u.whole m.places.slots m.frames m.places.trail m.places.barrier
-    (records_in rs.records (drop u.done rs.done) (drop u.left rs.left)) m.left (take u.done rs.done)
-    (take u.left rs.left) w1 n) one_more
-    (all_ends rs np kept ended same none ended.body h))
+    pub some_goes : (found : Bool) (g : Saved) (m : Y) (n : RefState R Y) →
+        saved_of g ≡ state.saved here (length F) (length T) b → IsMark S w m →
+        n ≡ ref_running others.body here part e F T (length e) (with_record (records.Some others part found g m) np) l →
+        OnSome S w v.body v.next_address here v.whole e F T b
+        (records_in rs.records (drop v.done rs.done) (drop v.left rs.left)) l (take v.done rs.done)
+        found (take v.left rs.left) w n
+    some_goes found g m n saves marks leads =
+        let K = records_in rs.records (drop v.done rs.done) (drop v.left rs.left) in
+        subst (λ n. OnSome S w v.body v.next_address here v.whole e F T b K l (take v.done rs.done)
+        found (take v.left rs.left) w n)
+        (ap (λ L. ref_running v.body here part e F T (length e) L l)
+        (some_record_is found g m (state.saved here (length F) (length T) b) saves) ∙
+        (ap (λ a. ref_running a here part e F T (length e) (with_record (records.Some others part found g m) np) l)
+        (ap (λ u. u.body) (sym other)) ∙ sym leads))
+        (some_goes_on next marks)
 
 -- all(s) goes on with its next part, its record changed in place
 pub all_advances : {W R Y N : Type 0} {S : Space W R Y N} {M : Meaning} {w : W} {i here b l : ℕ} {t : R} {e : Places R}
@@ -378,4 +358,4 @@ all_advances {S = S} {M} {w} {i} {here} {b} {l} {t} {e} {F} {T} rs new others do
     (ref_all v.body v.next_address v.whole (take v.done rs.done) (part ∷ take k others) ∷ K0)
     l w (ref_running a here part e F T b
     (ref_all v.body v.next_address v.whole (t ∷ take v.done rs.done) (take k others) ∷ K0) l)) (sym a.code)
-    (part_of_all all_goes_on)))
+    (part_of_all (all_goes_on next_first))))

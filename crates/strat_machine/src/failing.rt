@@ -10,6 +10,7 @@ ghost use Rattle.strat_machine.specs.Stacks.{FailsTo, IsSafe};
 ghost use Rattle.strat_machine.specs.declared.stacks.Next.TheVariants.{Running};
 
 use crate::compact_records::Choice;
+use crate::portions::take_part;
 use crate::records::{Record, Saved, Traversed};
 use crate::stacks::{Next, Position, Stacks};
 use crate::tries::{try_one, try_some};
@@ -168,14 +169,14 @@ fn fail_one<S: TermSpace>(
     space.back_to(mark); // Gives back what was made of the part that failed.
     stacks.places.go_back(saved.height, saved.barrier);
     stacks.frames.cut(saved.frames);
-    let Some(next) = stacks.records.next_part(traversed.left) else {
+    let Some(taken) = take_part(space, &mut stacks.records, &traversed, 1)? else {
         stacks.records.cut(traversed.done, traversed.left);
         return Ok(Next::Failing);
     };
-    let others = traversed.one_more()?.one_less();
+    let others = traversed.one_more()?.with_left(taken.left);
     stacks.records.done.push(part)?;
     position.frame = saved.frame;
-    try_one(space, stacks, others, next, position)?;
+    try_one(space, stacks, others, taken.part, position)?;
     Ok(Next::Running)
 }
 
@@ -205,7 +206,7 @@ fn fail_some<S: TermSpace>(
     space.back_to(mark); // Gives back what was made of it, and of no part before it.
     stacks.places.go_back(saved.height, saved.barrier);
     stacks.frames.cut(saved.frames);
-    let Some(next) = stacks.records.next_part(traversed.left) else {
+    let Some(taken) = take_part(space, &mut stacks.records, &traversed, 1)? else {
         if !found {
             stacks.records.cut(traversed.done, traversed.left);
             return Ok(Next::Failing);
@@ -214,12 +215,12 @@ fn fail_some<S: TermSpace>(
         position.frame = saved.frame;
         position.term = part;
         stacks.records.left.cut(traversed.left);
-        stacks.records.records.push_all(traversed.none_left())?;
+        stacks.records.records.push_all(traversed.with_left(0))?;
         return Ok(Next::Running);
     };
-    let others = traversed.one_more()?.one_less();
+    let others = traversed.one_more()?.with_left(taken.left);
     stacks.records.done.push(part)?;
     position.frame = saved.frame;
-    try_some(space, stacks, others, next, found, position)?;
+    try_some(space, stacks, others, taken.part, found, position)?;
     Ok(Next::Running)
 }

@@ -11,6 +11,7 @@ mod instructions;
 mod machine;
 mod partial;
 mod patterns;
+mod portions;
 mod primitives;
 mod program;
 mod records;

@@ -1,5 +1,5 @@
 //! Control records, and the parts of the terms that are traversed.
-ghost use Rattle.std.specs.Prelude.{◌≡◌, ◌+◌, ◌-◌, suc, MatchOption, [], ◌∷◌, take, drop};
+ghost use Rattle.std.specs.Prelude.{◌≡◌, ◌+◌, ◌-◌, suc, MatchOption, [], ◌∷◌, length, take, drop};
 ghost use Rattle.strat_steps.specs.References.{ref_call};
 ghost use Rattle.strat_machine.specs.RecordStack.{records_of, saved_of, IsNoCall, IsNoChoice, IsChoice};
 ghost use Rattle.term_model.specs.Results.{Returns};
@@ -18,8 +18,8 @@ pub(crate) struct Saved {
     pub(crate) barrier: usize,
 }
 
-/// A traversal: the address of the code for a part, the next address after the traversal, the whole term, and how many parts
-/// are done and how many are left.
+/// A traversal: the address of the code for a part, the next address after the traversal, the whole term, and of how many parts
+/// that are done and that are left there are references.
 #[derive(Drop)]
 pub(crate) struct Traversed<R: Drop> {
     pub(crate) body: usize,
@@ -46,16 +46,16 @@ impl<R: Drop> Traversed<R> {
         })
     }
 
-    /// The traversal with one part less that is left.
-    pub(crate) fn one_less(self) -> Traversed<R>
-        ensures { result ≡ record self { left = self.left - 1 } }
+    /// The traversal with this many parts left.
+    pub(crate) fn with_left(self, left: usize) -> Traversed<R>
+        ensures { result ≡ record self { left = left } }
     {
         Traversed {
             body: self.body,
             next_address: self.next_address,
             whole: self.whole,
             done: self.done,
-            left: self.left.saturating_sub(1),
+            left,
         }
     }
 
@@ -74,19 +74,6 @@ impl<R: Drop> Traversed<R> {
             done,
             left: 0,
         })
-    }
-
-    /// The traversal with no part left.
-    pub(crate) fn none_left(self) -> Traversed<R>
-        ensures { result ≡ record self { left = 0 } }
-    {
-        Traversed {
-            body: self.body,
-            next_address: self.next_address,
-            whole: self.whole,
-            done: self.done,
-            left: 0,
-        }
     }
 }
 
@@ -126,7 +113,7 @@ pub(crate) enum Record<R: Drop, M: Drop> {
 }
 
 /// The records. The parts of all traversals stand on two stacks, those of the newest traversal on top: what the parts done
-/// have become, the last of them on top, and the parts that are left, the first of them on top.
+/// have become, the last of them on top, and of the parts that are left some of the next ones, the first of them on top.
 #[derive(Drop)]
 pub(crate) struct Records<R: Drop, M: Drop> {
     pub(crate) records: CompactRecords<R, M>,
@@ -192,6 +179,13 @@ impl<R: Drop, M: Drop> Records<R, M> {
             return None;
         }
         self.left.pop()
+    }
+
+    /// How many of the newest parts that are done there are, but at most `count`.
+    pub(crate) fn done_count(&self, count: usize) -> usize
+        ensures { result ≡ length (take count self.now.done) }
+    {
+        self.done.len().min(count)
     }
 
     /// Takes off the parts of the newest traversal, whose record is off.

@@ -118,40 +118,45 @@ impl<T: Drop> Stack<T> {
 /// The most parts of a term that are put on a stack one by one.
 const FEW: usize = 3;
 
-/// Puts the parts of a term on a stack, the last one first, and returns how many there are.
-pub(crate) fn push_parts_of<S: TermSpace>(
+/// Puts parts of a term on a stack, those from the index `from` on and before the index `to`, the last one first.
+#[inline]
+pub(crate) fn push_parts_between<S: TermSpace>(
     space: &S,
     stack: &mut Stack<S::Ref>,
     of: &S::Ref,
-) -> Result<usize, AllocError>
-    requires { IsTrue (S.space.stands space.now of.now) }
-    ensures { IfOk result (λ n. PutsParts S.space space.now of.now n stack.old stack.new) }
+    from: usize,
+    to: usize,
+) -> Result<(), AllocError>
+    requires stands { IsTrue (S.space.stands space.now of.now) }
+    requires order { from ≤ to }
+    requires within { to ≤ length (parts_of (S.space.term_of space.now of.now)) }
+    ensures { OnOk result (PutsParts S.space space.now of.now from to stack.old stack.new) }
 {
-    let parts = space.count(of);
-    if parts <= FEW {
-        push_few_parts(space, stack, of, parts)?;
-        return Ok(parts);
+    let count = to - from;
+    if count <= FEW {
+        return push_few_parts(space, stack, of, from, to);
     }
     let before = stack.items.len();
-    space.push_parts(of, &mut stack.items)?;
-    let count = stack.items.len().saturating_sub(before);
+    space.push_parts_from(of, from, count, &mut stack.items)?;
     reverse_from(&mut stack.items, before);
-    Ok(count)
+    Ok(())
 }
 
-/// Puts the parts of a term, of which there are `count`, on a stack one by one, the last one first.
+/// Puts the same parts on a stack one by one.
 fn push_few_parts<S: TermSpace>(
     space: &S,
     stack: &mut Stack<S::Ref>,
     of: &S::Ref,
-    count: usize,
+    from: usize,
+    to: usize,
 ) -> Result<(), AllocError>
     requires stands { IsTrue (S.space.stands space.now of.now) }
-    requires count { count ≡ length (parts_of (S.space.term_of space.now of.now)) }
-    ensures { OnOk result (PutsParts S.space space.now of.now count stack.old stack.new) }
+    requires order { from ≤ to }
+    requires within { to ≤ length (parts_of (S.space.term_of space.now of.now)) }
+    ensures { OnOk result (PutsParts S.space space.now of.now from to stack.old stack.new) }
 {
-    let mut index = count;
-    while index > 0 {
+    let mut index = to;
+    while index > from {
         index -= 1;
         let part = space.part(of, index)?;
         stack.push(part)?;

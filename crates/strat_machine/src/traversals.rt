@@ -1,5 +1,5 @@
 //! Traversals: the parts of a term one after another, and the whole made of what they have become.
-ghost use Rattle.std.specs.Prelude.{◌≡◌, ◌+◌, ℕ, suc, IfOk, IsTrue, true, false, [], ◌∷◌, ◌++◌, length, map, take, drop, reverse};
+ghost use Rattle.std.specs.Prelude.{◌≡◌, ◌≤◌, ◌+◌, ℕ, suc, IfOk, IsTrue, true, false, [], ◌∷◌, ◌++◌, length, map, take, drop, reverse};
 ghost use Rattle.term_model.specs.Flat.{Meaning};
 ghost use Rattle.term_model.specs.Space.{Keeps};
 ghost use Rattle.term_model.specs.Term.{parts_of};
@@ -9,11 +9,11 @@ ghost use Rattle.strat_steps.specs.References.{AllRefs, record_tree};
 ghost use Rattle.strat_machine.specs.CompactRecords.{HasNoAll};
 ghost use Rattle.strat_machine.specs.RecordStack.{records_of, records_in};
 ghost use Rattle.strat_machine.specs.Stacks.{Performs, IsSafe, state_of};
-ghost use Rattle.strat_machine.specs.Traversing.{RebuildsTo, OpensParts, GoesOnAll, GoesOnOne, GoesOnSome, HasParts, HasTried};
+ghost use Rattle.strat_machine.specs.Traversing.{RebuildsTo, GoesOnAll, GoesOnOne, GoesOnSome, HasParts, HasTried};
 ghost use Rattle.strat_steps.specs.Counted.{AllCounted};
 
-use crate::records::{Record, Records, Traversed};
-use crate::stack::push_parts_of;
+use crate::portions::{open_parts, take_part};
+use crate::records::{Record, Traversed};
 use crate::stacks::{Next, Position, Stacks};
 use crate::tries::{try_one, try_some};
 use std::alloc::{AllocError, Global};
@@ -58,19 +58,8 @@ pub(crate) fn traverse_parts<S: TermSpace>(
     }
 }
 
-/// Puts the parts of a term where those that are left stand, and returns how many there are.
-fn open_parts<S: TermSpace>(
-    space: &S,
-    records: &mut Records<S::Ref, S::Mark>,
-    of: &S::Ref,
-) -> Result<usize, AllocError>
-    requires { IsTrue (S.space.stands space.now of.now) }
-    ensures { IfOk result (λ n. OpensParts S.space space.now of.now n records.old records.new) }
-{
-    push_parts_of(space, &mut records.left, of)
-}
-
 /// Goes on with the next part of all(s), whose record is off, or makes the whole.
+#[inline]
 fn next_of_all<S: TermSpace>(
     space: &mut S,
     alloc: Global,
@@ -84,12 +73,12 @@ fn next_of_all<S: TermSpace>(
         (take traversed.done stacks.old.records.done) position.old.frame
         space.new next position.new stacks.new) }
 {
-    let Some(part) = stacks.records.next_part(traversed.left) else {
+    let Some(taken) = take_part(space, &mut stacks.records, &traversed, 0)? else {
         return rebuild_whole(space, alloc, stacks, traversed, position);
     };
-    let others = traversed.one_less();
+    let others = traversed.with_left(taken.left);
     position.address = others.body;
-    position.term = part;
+    position.term = taken.part;
     stacks.records.records.push_all(others)?;
     Ok(Next::Running)
 }
@@ -106,11 +95,12 @@ fn next_of_one<S: TermSpace>(
         (take traversed.done stacks.old.records.done) position.old.frame
         next position.new stacks.new) }
 {
-    let Some(part) = stacks.records.next_part(traversed.left) else {
+    let Some(taken) = take_part(space, &mut stacks.records, &traversed, 0)? else {
         stacks.records.cut(traversed.done, traversed.left);
         return Ok(Next::Failing);
     };
-    try_one(space, stacks, traversed.one_less(), part, position)?;
+    let others = traversed.with_left(taken.left);
+    try_one(space, stacks, others, taken.part, position)?;
     Ok(Next::Running)
 }
 
@@ -129,18 +119,19 @@ fn next_of_some<S: TermSpace>(
         (take traversed.done stacks.old.records.done) found position.old.frame
         space.new next position.new stacks.new) }
 {
-    let Some(part) = stacks.records.next_part(traversed.left) else {
+    let Some(taken) = take_part(space, &mut stacks.records, &traversed, 0)? else {
         if found {
             return rebuild_whole(space, alloc, stacks, traversed, position);
         }
         stacks.records.cut(traversed.done, traversed.left);
         return Ok(Next::Failing);
     };
-    try_some(space, stacks, traversed.one_less(), part, found, position)?;
+    let others = traversed.with_left(taken.left);
+    try_some(space, stacks, others, taken.part, found, position)?;
     Ok(Next::Running)
 }
 
-/// Makes the whole of what the parts have become.
+/// Makes the whole of what the first parts have become, and of the parts after them.
 fn rebuild_whole<S: TermSpace>(
     space: &mut S,
     alloc: Global,
@@ -151,7 +142,7 @@ fn rebuild_whole<S: TermSpace>(
     requires whole { IsTrue (S.space.stands space.old traversed.whole) }
     requires parts { AllRefs (λ r. IsTrue (S.space.stands space.old r))
         (take traversed.done stacks.old.records.done) }
-    requires count { length (take traversed.done stacks.old.records.done) ≡
+    requires count { length (take traversed.done stacks.old.records.done) ≤
         length (parts_of (S.space.term_of space.old traversed.whole)) }
     ensures keeps { Keeps S.space space.old space.new }
     ensures step { IfOk result (λ next. RebuildsTo S.space space.old traversed.whole
@@ -266,12 +257,11 @@ fn end_part_of_all<S: TermSpace>(
     let Some(traversed) = stacks.records.records.pop_all() else {
         return Ok(Next::Stuck);
     };
-    end_last_part(space, alloc, stacks, traversed, position)
+    end_part_off(space, alloc, stacks, traversed, position)
 }
 
-/// The last part of all(s), whose record is off, has become this: the whole is made. Memory is out where more parts are left than can be
-/// counted.
-fn end_last_part<S: TermSpace>(
+/// A part of all(s), whose record is off, has become this.
+fn end_part_off<S: TermSpace>(
     space: &mut S,
     alloc: Global,
     stacks: &mut Stacks<S::Ref, S::Mark>,
@@ -287,10 +277,7 @@ fn end_last_part<S: TermSpace>(
     let done = space.dup(&position.term)?;
     stacks.records.done.push(done)?;
     let more = traversed.one_more()?;
-    let None = stacks.records.next_part(more.left) else {
-        return Err(AllocError);
-    };
-    rebuild_whole(space, alloc, stacks, more, position)
+    next_of_all(space, alloc, stacks, more, position)
 }
 
 /// The part of one(s), whose record is off, has become this: the whole is made.

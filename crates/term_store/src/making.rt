@@ -192,6 +192,7 @@ impl StoreSpace {
 
     /// The block of these places in place of the first ones of a block, of which it has at least as many; `None` where
     /// their terms are too heavy together. Goes along no more of the block than there are places.
+    #[inline]
     pub(crate) fn block_with(
         &mut self,
         places: &[u32],

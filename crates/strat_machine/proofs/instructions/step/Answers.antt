@@ -4,7 +4,7 @@ use Rattle.strat_code.specs.CodeOf.{code_of}
 use Rattle.strat_steps.specs.Marks.{Lasts}
 use Rattle.strat_steps.specs.ReferenceSteps.{StepRef}
 use Rattle.strat_machine.specs.Stacks.{state_of}
-use Rattle.strat_machine.specs.declared.stacks.Next.TheVariants.{Running, Stuck}
+use Rattle.strat_machine.specs.declared.stacks.Next.TheVariants.{Stuck}
 use Rattle.strat_machine.proofs.ActionLaws.{steps_out}
 use Rattle.strat_machine.proofs.instructions.step.Goals as goal
 

@@ -1,11 +1,12 @@
 use Rattle.std.proofs.Common.{◌≤◌}
-use Rattle.strat_machine.proofs.FewParts.{PutsFrom}
+use Rattle.strat_machine.specs.PartsOf.{PutsParts}
 use Rattle.strat_machine.proofs.stack.push_few_parts.Given as goal
 
 abbrev pub invariant-loop-index : goal.invariant-loop-index
 invariant-loop-index g l = record {
-  within : l.index ≤ l.count;
-  put : PutsFrom g.S.TermSpace.space l.space l.of l.index l.initial.stack l.stack;
+  after : l.from ≤ l.index;
+  within : l.index ≤ l.to;
+  put : PutsParts g.S.TermSpace.space l.space l.of l.index l.to l.initial.stack l.stack;
 }
 
 abbrev pub decreases-loop-index : goal.decreases-loop-index

@@ -17,8 +17,8 @@ pub returns-in_default-pop_all-clause-step : goal.returns-in_default-pop_all-cla
 returns-in_default-pop_all-clause-step g c =
     λ M i. part_of_nothing _ _ (c.requires.all (subst HasNoAll c.in_default.ensures.0 c.in_default-pop_all.ensures.1))
 
-pub end_last_part-requires : goal.end_last_part-requires
-end_last_part-requires g c =
+pub end_part_off-requires : goal.end_part_off-requires
+end_part_off-requires g c =
     let rs = c.args.stacks.now.records in
     subst (λ E. HasTried g.S.TermSpace.space c.args.space.now
     (record { records = c.pop_all.new.self; done = rs.done; left = E })
@@ -28,7 +28,7 @@ end_last_part-requires g c =
 
 pub returns-clause-step : goal.returns-clause-step
 returns-clause-step g c =
-    IfOk-weaker c.end_last_part.result _ _
+    IfOk-weaker c.end_part_off.result _ _
     (λ next h M i. part_at _ _ (records.All c.in-Some-pop_all.traversed)
     (part_of_all (rw c.in_default.ensures.1 at h)) (sym c.in_default.ensures.0 ∙ c.in-Some-pop_all.ensures) refl)
-    c.end_last_part.ensures.step
+    c.end_part_off.ensures.step
