@@ -3,6 +3,7 @@ use Rattle.std.proofs.Common.{◌≡◌, ℕ, zero, suc, ◌-◌, Option, Some, 
 use Rattle.std.specs.Prelude.{Bool, true, false, MatchOption}
 use Rattle.term_model.specs.Flat.{Meaning}
 use Rattle.strat_code.specs.Code.{Code}
+use Rattle.strat_patterns.proofs.ElementLaws.{refs_later}
 use Rattle.strat_steps.specs.State as state
 use Rattle.strat_steps.specs.State.{Frame}
 use Rattle.strat_steps.specs.Binding.{undone, above, down_to}
@@ -259,10 +260,6 @@ module _ {W R Y N : Type 0} {S : Space W R Y N} {w : W} {e : Places R} {T : List
       ap (λ rs. ref_failing e F T b (records_in rs D E) l) (sym popped))
 
 -- the next part stands after a failure of the one before
-refs_after : {R : Type 0} {P Q : R → Type 0} → ((r : R) → P r → Q r) → (rs : List R) → AllRefs P rs → AllRefs Q rs
-refs_after g [] x = tt
-refs_after g (r ∷ rs) x = (g r x.0, refs_after g rs x.1)
-
 module _ {W R Y N : Type 0} {S : Space W R Y N} {w w1 : W} {e : Places R} {T : List ℕ}
     {body after q k h d b n : ℕ} {t u v : R} {done rest us : List R} {m : Y} {K : List (RefRecord R Y)}
     (back : GoesBack S w m w1) where
@@ -272,7 +269,7 @@ module _ {W R Y N : Type 0} {S : Space W R Y N} {w w1 : W} {e : Places R} {T : L
     where
       by : Covered S e T b (ref_one body after t done u rest (state.saved q k h d) m ∷ K) → Stands S w1 v
       by (one_covered kept ct cd cu cr c) =
-          (next.standing ((back.exactly t).1 ct) (refs_after (λ r. (back.exactly r).1) rest cr)).0
+          (next.standing ((back.exactly t).1 ct) (refs_later (λ r. (back.exactly r).1) rest cr)).0
 
   pub some_stands : {found : Bool} →
       Safe S w e T b (ref_some body after t done u rest found (state.saved q k h d) m ∷ K) →
@@ -281,7 +278,7 @@ module _ {W R Y N : Type 0} {S : Space W R Y N} {w w1 : W} {e : Places R} {T : L
     where
       by : Covered S e T b (ref_some body after t done u rest found (state.saved q k h d) m ∷ K) → Stands S w1 v
       by (some_covered kept ct cd cu cr c) =
-          (next.standing ((back.exactly t).1 ct) (refs_after (λ r. (back.exactly r).1) rest cr)).0
+          (next.standing ((back.exactly t).1 ct) (refs_later (λ r. (back.exactly r).1) rest cr)).0
 
 -- the record of a call is taken off
 pub fails_popped : {W R Y N : Type 0} {S : Space W R Y N} {code : Code} {M : Meaning} {w : W} {e : Places R}

@@ -77,7 +77,8 @@ module _ {W R Y N : Type 0} {S : Space W R Y N} {w : W} where
   first_taken {v} {k} {old} {new} {part} n x =
       let same : 0 + n ≡ n = omega arith in subst (λ m. TakesPart S w v m old part k new) same x
 
-  pub first_none : {v : Traversed R} {old new : List R} (n : ℕ) → HasNone S w v (0 + n) old new → HasNone S w v n old new
+  pub first_none : {v : Traversed R} {old new : List R} (n : ℕ) → HasNone S w v (0 + n) old new →
+      HasNone S w v n old new
   first_none {v} {old} {new} n x =
       let same : 0 + n ≡ n = omega arith in subst (λ m. HasNone S w v m old new) same x
 
