@@ -52,23 +52,23 @@ module _ {W R Y N : Type 0} {S : Space W R Y N} where
   all_pays : {w w1 : W} {body after p b l : ℕ} {t : R} {e : Places R} {F : List Frame} {T : List ℕ}
       {K : List (RefRecord R Y)} {done rest : List R} {m1 : RefState R Y} →
       OnAll S w body after p t e F T b K l done rest w1 m1 → left_in m1 ≤ l
-  all_pays all_goes_on = omega arith
-  all_pays (all_whole g su h) = omega arith
-  all_pays (all_oversize g h) = omega arith
+  all_pays (all_goes_on is) = omega arith
+  all_pays (all_whole none g su h) = omega arith
+  all_pays (all_oversize none g h) = omega arith
 
   one_pays : {w : W} {body after p b l : ℕ} {t : R} {e : Places R} {F : List Frame} {T : List ℕ}
       {K : List (RefRecord R Y)} {done rest : List R} {m1 : RefState R Y} →
       OnOne S w body after p t e F T b K l done rest m1 → left_in m1 ≤ l
-  one_pays (one_goes_on mark) = omega arith
-  one_pays one_none = omega arith
+  one_pays (one_goes_on is mark) = omega arith
+  one_pays (one_none none) = omega arith
 
   some_pays : {w w1 : W} {body after p b l : ℕ} {t : R} {e : Places R} {F : List Frame} {T : List ℕ}
       {K : List (RefRecord R Y)} {done rest : List R} {found : Bool} {m1 : RefState R Y} →
       OnSome S w body after p t e F T b K l done found rest w1 m1 → left_in m1 ≤ l
-  some_pays (some_goes_on mark) = omega arith
-  some_pays (some_whole g su h) = omega arith
-  some_pays (some_oversize g h) = omega arith
-  some_pays some_none = omega arith
+  some_pays (some_goes_on is mark) = omega arith
+  some_pays (some_whole none g su h) = omega arith
+  some_pays (some_oversize none g h) = omega arith
+  some_pays (some_none none) = omega arith
 
   does_pays : {M : Meaning} {w w1 : W} {v : Instr} {i p b l : ℕ} {t : R} {e : Places R} {F : List Frame} {T : List ℕ}
       {K : List (RefRecord R Y)} {m1 : RefState R Y} → Does S M w v i p t e F T b K l w1 m1 → left_in m1 ≤ l
@@ -118,11 +118,11 @@ module _ {W R Y N : Type 0} {S : Space W R Y N} where
   step_pays fails_call = omega arith
   step_pays fails_all = omega arith
   step_pays (fails_choice back) = omega arith
-  step_pays (fails_one_last back) = omega arith
-  step_pays (fails_one_next back mark) = omega arith
-  step_pays (fails_some_none back) = omega arith
-  step_pays (fails_some_last back) = omega arith
-  step_pays (fails_some_next back mark) = omega arith
+  step_pays (fails_one_last back none) = omega arith
+  step_pays (fails_one_next back is mark) = omega arith
+  step_pays (fails_some_none back none) = omega arith
+  step_pays (fails_some_last back none) = omega arith
+  step_pays (fails_some_next back is mark) = omega arith
 
   fail_pays : {code : Code} {M : Meaning} {w w1 : W} {e : Places R} {F : List Frame} {T : List ℕ} {b l : ℕ}
       {K : List (RefRecord R Y)} {m1 : RefState R Y} → StepRef S code M w (ref_failing e F T b K l) w1 m1 →
@@ -131,11 +131,11 @@ module _ {W R Y N : Type 0} {S : Space W R Y N} where
   fail_pays fails_call = refl
   fail_pays fails_all = refl
   fail_pays (fails_choice back) = refl
-  fail_pays (fails_one_last back) = refl
-  fail_pays (fails_one_next back mark) = refl
-  fail_pays (fails_some_none back) = refl
-  fail_pays (fails_some_last back) = refl
-  fail_pays (fails_some_next back mark) = refl
+  fail_pays (fails_one_last back none) = refl
+  fail_pays (fails_one_next back is mark) = refl
+  fail_pays (fails_some_none back none) = refl
+  fail_pays (fails_some_last back none) = refl
+  fail_pays (fails_some_next back is mark) = refl
 
   module _ {code : Code} {M : Meaning} {w w1 : W} (next after : Next) (p q : Position R) (m m1 : Stacks R Y)
       (x : StepRef S code M w (state_of next p m) w1 (state_of after q m1)) where
