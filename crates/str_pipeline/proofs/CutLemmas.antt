@@ -251,15 +251,19 @@ too_long_told (Some told) (Some left) known is_end limit loses dry (long, clear)
     front_too_long told left known is_end limit loses dry long clear
 
 -- where little is left to be searched, little more than the definitions is known
-near_split : (known more d t : List ℕ) (search : Search) → IsSearched false known search → IsNear known search →
+near_line : (known more d line t : List ℕ) (s : Search) → IsSearched false known s → IsNear known s →
+    HasTermLine (known ++ more) d line t → length known ≤ length d + 6
+near_line known more d line t (AtLine n) (within, begins, clear) near has =
+    let far : n ≤ length d = clear.clear more d line t tt has in
+    omega arith
+near_line known more d line t (InLine n) (within, clear) near has =
+    let far : n + 1 ≤ length d = clear.clear more d line t tt has in
+    omega arith
+
+near_split : (known more d t : List ℕ) (s : Search) → IsSearched false known s → IsNear known s →
     IsSplit (known ++ more) d t → length known ≤ length d + 6
-near_split known more d t (AtLine n) (within, begins, clear) near (parted has first) =
-    let far : n ≤ length d = clear.clear more d _ t tt has in
-    omega arith
-near_split known more d t (InLine n) (within, clear) near (parted has first) =
-    let far : n + 1 ≤ length d = clear.clear more d _ t tt has in
-    omega arith
-near_split known more d t search searched near (unparted none) =
+near_split known more d t s searched near (parted has first) = near_line known more d _ t s searched near has
+near_split known more d t s searched near (unparted none) =
     let whole : length (known ++ more) ≡ length known + length more = length-append known more in
     omega arith
 
@@ -269,15 +273,15 @@ early_start None reads = tt
 early_start (Some told) reads = λ d t split. omega arith
 
 -- one more read while the line is looked for
-pub early_step : (told now : Option (List ℕ)) (known : List ℕ) (search : Search) (before reads : ℕ) →
-    IsSearched false known search → IsNear known search → Loses told now known → reads ≤ before + length known →
+pub early_step : (told now : Option (List ℕ)) (known : List ℕ) (s : Search) (before reads : ℕ) →
+    IsSearched false known s → IsNear known s → Loses told now known → reads ≤ before + length known →
     IsEarly told before (reads + 1)
-early_step None now known search before reads searched near loses few = tt
-early_step (Some told) None known search before reads searched near loses few = absurd loses
-early_step (Some told) (Some left) known search before reads searched near loses few =
+early_step None now known s before reads searched near loses few = tt
+early_step (Some told) None known s before reads searched near loses few = absurd loses
+early_step (Some told) (Some left) known s before reads searched near loses few =
     λ d t split.
     let close : length known ≤ length d + 6 =
-    near_split known left d t search searched near (subst (λ (text : List ℕ). IsSplit text d t) loses split) in
+    near_split known left d t s searched near (subst (λ (text : List ℕ). IsSplit text d t) loses split) in
     omega arith
 
 -- a line `#term` and what comes after it

@@ -211,13 +211,13 @@ of_refused S (Some told) Y known = λ d t split fault refused. known d t split
 pub whatever_the_term : (S : Setting) (d t u : List ℕ) (fault : Fault)
     (result : Result (Outcome (Vec ℕ Global)) Fault) → AreRefused S d fault → IsTextResult d t S result →
     IsTextResult d u S result
-whatever_the_term S d t u fault (Ok (outcomes.Rewritten bytes)) refused (f, tree, accepted, rest) =
+whatever_the_term S d t u fault (Ok (outcomes.Rewritten bytes)) refused (f, tree, accepted, spelled, answer) =
     absurd (no_file (cause_of S d fault refused) accepted)
-whatever_the_term S d t u fault (Ok outcomes.Failed) refused (f, tree, accepted, rest) =
+whatever_the_term S d t u fault (Ok outcomes.Failed) refused (f, tree, accepted, spelled, answer) =
     absurd (no_file (cause_of S d fault refused) accepted)
-whatever_the_term S d t u fault (Ok outcomes.Oversize) refused (f, tree, accepted, rest) =
+whatever_the_term S d t u fault (Ok outcomes.Oversize) refused (f, tree, accepted, spelled, answer) =
     absurd (no_file (cause_of S d fault refused) accepted)
-whatever_the_term S d t u fault (Ok outcomes.Spent) refused (f, tree, accepted, rest) =
+whatever_the_term S d t u fault (Ok outcomes.Spent) refused (f, tree, accepted, spelled, answer) =
     absurd (no_file (cause_of S d fault refused) accepted)
 whatever_the_term S d t u fault (Err Memory) refused known = tt
 whatever_the_term S d t u fault (Err Read) refused known = tt

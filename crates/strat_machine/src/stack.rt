@@ -119,7 +119,7 @@ impl<T: Drop> Stack<T> {
 const FEW: usize = 3;
 
 /// Puts parts of a term on a stack, those from the index `from` on and before the index `to`, the last one first.
-#[inline]
+#[inline(always)]
 pub(crate) fn push_parts_between<S: TermSpace>(
     space: &S,
     stack: &mut Stack<S::Ref>,

@@ -59,7 +59,7 @@ pub(crate) fn traverse_parts<S: TermSpace>(
 }
 
 /// Goes on with the next part of all(s), whose record is off, or makes the whole.
-#[inline]
+#[inline(always)]
 fn next_of_all<S: TermSpace>(
     space: &mut S,
     alloc: Global,

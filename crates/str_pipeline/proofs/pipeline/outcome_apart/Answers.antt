@@ -159,7 +159,7 @@ returns-in_default-clause-refused g c =
 pub returns-in_err-text-clause-refused : goal.returns-in_err-text-clause-refused
 returns-in_err-text-clause-refused g c =
     let S : Setting = setting_of g.M.PrimMeaning.answer c.args.registry.now c.args.options.now in
-    rw (passed c.from_residual-in_err-text.result c.in_err-text.field-0.0 c.from_residual-in_err-text.ensures.1)
+    rw (passed c.from_residual.result c.in_err-text.field-0.0 c.from_residual.ensures.1)
     (for_each_told (g.D.Source.reader.coming c.args.defs.now)
     (λ d. DecidesResult S d (Err c.in_err-text.field-0.0))
     (λ d fault refused t. reading_result d t S c.in_err-text.field-0.0 c.in_err-text.ensures.kinds))
