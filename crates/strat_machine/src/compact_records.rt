@@ -126,6 +126,7 @@ impl<R: Drop, M: Drop> CompactRecords<R, M> {
     }
 
     /// Puts the record of all(s) on.
+    #[inline(always)]
     pub(crate) fn push_all(&mut self, traversed: Traversed<R>) -> Result<(), AllocError>
         ensures { OnOk result (self.new ≡ Record.All traversed ∷ self.old) }
     {

@@ -143,6 +143,7 @@ pub(crate) fn push_parts_between<S: TermSpace>(
 }
 
 /// Puts the same parts on a stack one by one.
+#[inline]
 fn push_few_parts<S: TermSpace>(
     space: &S,
     stack: &mut Stack<S::Ref>,

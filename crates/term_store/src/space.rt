@@ -157,7 +157,10 @@ impl TermSpace for StoreSpace {
 
     #[tactic(auto, using(crate::proofs::LawsOfSpace::reading))]
     fn count(&self, at: &u32) -> usize {
-        self.len_in(self.shape_at(*at).parts())
+        match self.held_shape(*at) {
+            Some(shape) => self.len_in(shape.parts()),
+            None => 0,
+        }
     }
 
     #[tactic(auto, using(crate::proofs::LawsOfSpace::reading))]
