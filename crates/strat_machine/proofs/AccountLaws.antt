@@ -87,7 +87,7 @@ pub account_says : (keys names : List NameKey) (M : Meaning)
     {w w1 : W} {t : R} {u : Tree} {budget : ℕ} (account : Account) → Stands S w t → S.term_of w t ≡ u →
     IsAccountOfRun S code (registered keys M) w t budget w1 account → IsAccount M P main u budget account
 account_says keys names M {P} {main} occurring each resolved {S = S} stands {w1 = w1} {budget = budget} account
-  st same a =
+    st same a =
     let f = S.term_of w1 in record {
       outcome = outcome_tree f a.outcome;
       nodes = rules_of a.outcome budget a.left;
