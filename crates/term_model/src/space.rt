@@ -106,7 +106,7 @@ pub trait TermSpace {
         requires { IsTrue (space.knows self.now name.now) }
         ensures { result ≡ space.number_of name.now };
 
-    /// The number of the term's symbol: that of each name of the symbol. `None` where the term is an integer or a list.
+    /// The number of the term's symbol, if it has one: that of each name of the symbol.
     fn root_number(&self, at: &Self::Ref) -> Option<usize>
         requires { IsTrue (space.stands self.now at.now) }
         ensures { (n : Self.Name) → IsTrue (space.knows self.now n) →
