@@ -11,7 +11,8 @@ use Rattle.term_model.specs.declared.made.Made.{Made}
 use Rattle.term_model.specs.declared.made.Made.TheVariants as made
 use Rattle.term_model.specs.Symbol.{Symbol}
 use Rattle.term_model.specs.Space.{Space, Keeps, Makes}
-use Rattle.term_model.specs.Term.{Tree, node, end, term, head_of, parts_of, trees_of, fits, all_fit, Fits}
+use Rattle.term_model.specs.Term.{Tree, node, end, term, trees_of, fits, all_fit, Fits}
+use Rattle.term_model.specs.TermParts.{head_of, parts_of}
 use Rattle.term_model.proofs.TermLemmas.{trees_of-list_of}
 use Rattle.term_model.proofs.FitsLaws.{large_part, large_annotation, bare_large, all_fit-last, fits-sound, fits-complete}
 use Rattle.aterm_text.specs.Depth.{Opening, Applied, Elements, Annotations, Open}

@@ -9,7 +9,8 @@ use Rattle.term_model.specs.Limits.{IsInRange}
 use Rattle.term_model.specs.declared.term.Head.{Head}
 use Rattle.term_model.specs.declared.term.Head.TheVariants as heads
 use Rattle.term_model.specs.Symbol.{Plain, Quoted, Tuple}
-use Rattle.term_model.specs.Term.{Tree, node, Trees, end, more, trees_of, head_of, parts_of, annos_of, weight, weights, head_weight, IsTerm, AreTerms, IsHead}
+use Rattle.term_model.specs.Term.{Tree, node, Trees, end, more, trees_of, weight, weights, head_weight, IsTerm, AreTerms, IsHead}
+use Rattle.term_model.specs.TermParts.{head_of, parts_of, annos_of}
 use Rattle.aterm_text.specs.Text.{text, texts, rest_texts, bare_text, enclosed, item_text, items_text, quoted_text}
 use Rattle.term_model.proofs.TermLemmas.{weight_positive}
 use Rattle.term_model.proofs.EqualityLemmas.{weights-parts_of, weights-annos_of, weight-get_or}

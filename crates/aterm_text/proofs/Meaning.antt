@@ -7,7 +7,8 @@ use Rattle.term_model.specs.Term.{Tree, depth}
 use Rattle.aterm_text.specs.Grammar.{IsText}
 use Rattle.aterm_text.specs.Depth.{Open, TooDeep}
 use Rattle.aterm_text.specs.Reading.{State, Expect, Fresh, InName, InSign, InDigits, InText, InEscape, InOctal, InOctals, Named, Whole, Done, Deep, Wrong, after, finished, ended, out, Read, TooDeepText, outcome_from, outcome_of, Answers}
-use Rattle.aterm_text.specs.ReadTerm.{IsReading, map_ok}
+use Rattle.aterm_text.specs.ReadTerm.{IsReading}
+use Rattle.aterm_text.specs.ReadIn.{map_ok}
 use Rattle.aterm_text.proofs.Sound.{read_sound, deep_sound}
 use Rattle.aterm_text.proofs.Endings.{Ends, at_name, at_digits, at_named, at_whole, at_done, OrDeep}
 use Rattle.aterm_text.proofs.Complete.{text_read}

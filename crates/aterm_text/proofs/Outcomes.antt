@@ -7,7 +7,7 @@ use Rattle.std.proofs.lemmas.List.{drop_all}
 use Rattle.term_model.specs.Bytes.{is_between, is_blank, is_digit, is_octal, is_raw, signed, unescaped}
 use Rattle.term_model.specs.declared.term.Head.{Head}
 use Rattle.term_model.specs.declared.term.Head.TheVariants as heads
-use Rattle.term_model.specs.Limits.{max_magnitude}
+use Rattle.term_model.specs.IntegerBounds.{max_magnitude}
 use Rattle.term_model.specs.Symbol.{Symbol, Plain, Quoted, begins_name, continues_name, is_name}
 use Rattle.term_model.specs.Term.{Tree, Trees}
 use Rattle.term_model.specs.Term as trees

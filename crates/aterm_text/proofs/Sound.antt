@@ -11,7 +11,8 @@ use Rattle.term_model.specs.Bytes.{is_between, is_blank, is_digit, signed, value
 use Rattle.term_model.specs.QuotedText.{Joined, Are, Item, raw, letter, octal}
 use Rattle.term_model.specs.declared.term.Head.{Head}
 use Rattle.term_model.specs.declared.term.Head.TheVariants as heads
-use Rattle.term_model.specs.Limits.{max_magnitude, max_depth}
+use Rattle.term_model.specs.Limits.{max_depth}
+use Rattle.term_model.specs.IntegerBounds.{max_magnitude}
 use Rattle.term_model.specs.Symbol.{Symbol, Plain, Quoted, Tuple, begins_name, continues_name, is_name}
 use Rattle.term_model.specs.Term.{Tree, node, Trees, end, trees_of}
 use Rattle.aterm_text.specs.Tokens.{AreBlanks, Token, Mark, AreSigned, AreDigits, IsName, IsSymbolText}

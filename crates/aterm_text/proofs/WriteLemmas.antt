@@ -1,6 +1,7 @@
 -- Laws of the text of a term, by its head, parts and annotations.
 use Rattle.std.proofs.Common.{◌≡◌, ℕ, List, [], ◌∷◌, ◌++◌, length, map, take, refl, ap, sym, append_assoc, ◌∙◌}
-use Rattle.term_model.specs.Term.{Tree, node, trees_of, annos_of}
+use Rattle.term_model.specs.Term.{Tree, node, trees_of}
+use Rattle.term_model.specs.TermParts.{annos_of}
 use Rattle.term_model.proofs.DepthLaws.{depths-parts_of, depths-annos_of}
 use Rattle.aterm_text.specs.Text.{text, texts, rest_texts, enclosed}
 use Rattle.aterm_text.specs.Output.{Extends, bare_text_of}

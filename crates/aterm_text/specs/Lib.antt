@@ -5,5 +5,7 @@ pub mod Reading
 pub mod Brackets
 pub mod Text
 pub mod ReadTerm
+pub mod IntegerBounds
+pub mod ReadIn
 pub mod Canonical
 pub mod Output

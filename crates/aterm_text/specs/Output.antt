@@ -1,7 +1,8 @@
 -- The headline does not rest on this file.
 -- Bytes that are written after others, and the terms that are written.
 use Rattle.std.specs.Prelude.{◌≡◌, ℕ, List, ◌++◌, map}
-use Rattle.term_model.specs.Term.{Tree, Trees, trees_of, head_of, parts_of}
+use Rattle.term_model.specs.Term.{Tree, Trees, trees_of}
+use Rattle.term_model.specs.TermParts.{head_of, parts_of}
 use Rattle.aterm_text.specs.Text.{texts, bare_text, enclosed}
 
 -- the second begins with the first

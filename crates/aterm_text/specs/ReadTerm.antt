@@ -21,8 +21,3 @@ IsReading bs (Err faults.Memory) = Unit {0}
 IsReading bs (Err (faults.TermOversize _)) = TooDeep bs ⊎ ((t : Tree) × IsText t bs × (¬ (Fits t)))
 IsReading bs (Err (faults.TermSyntax _)) = (¬ (TooDeep bs)) × ((t : Tree) → ¬ (IsText t bs))
 IsReading bs (Err _) = ⊥
-
--- the result with a value in place of what stands for it
-abbrev pub map_ok : {X Y E : Type 0} → (X → Y) → Result X E → Result Y E
-map_ok f (Ok x) = Ok (f x)
-map_ok f (Err e) = Err e

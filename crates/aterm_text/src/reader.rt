@@ -2,7 +2,7 @@
 ghost use Rattle.std.specs.Prelude.{false, ◌≡◌, ◌+◌, ◌<◌, List, [], ◌∷◌, reverse, length, slice_index, IfOk, IfErr, IsTrue};
 ghost use Rattle.aterm_text.specs.Brackets.{Holds, Reached, awaits_term, closes_first, closing_state};
 ghost use Rattle.aterm_text.specs.Reading.{Answers, Refuses, first as first_state, next as next_state, outcome_of};
-ghost use Rattle.aterm_text.specs.ReadTerm.{map_ok};
+ghost use Rattle.aterm_text.specs.ReadIn.{map_ok};
 ghost use Rattle.term_model.specs.Bytes.{is_blank};
 ghost use Rattle.term_model.specs.Space.{Keeps};
 ghost use Rattle.term_model.specs.Term.{Tree};

@@ -7,7 +7,8 @@ use Rattle.std.proofs.lemmas.Bool.{and_parts}
 use Rattle.term_model.specs.declared.term.Head.{Head}
 use Rattle.term_model.specs.declared.made.Made.{Made}
 use Rattle.term_model.specs.declared.made.Made.TheVariants as made
-use Rattle.term_model.specs.Term.{Tree, node, Trees, end, more, term, head_of, parts_of, annos_of, trees_of, fits, all_fit, made_of}
+use Rattle.term_model.specs.Term.{Tree, node, Trees, end, more, term, trees_of, fits, all_fit, made_of}
+use Rattle.term_model.specs.TermParts.{head_of, parts_of, annos_of}
 use Rattle.term_model.proofs.TermLemmas.{trees_of-list_of}
 use Rattle.term_model.specs.declared.term.Head.TheVariants as heads
 use Rattle.term_model.proofs.FitsLaws.{large_part, large_annotation, bare_large, made_large, made_is}

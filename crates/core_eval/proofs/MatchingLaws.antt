@@ -2,7 +2,8 @@
 use Rattle.std.proofs.Common.{◌≡◌, ℕ, zero, suc, ◌<◌, ◌≤◌, Option, Some, None, List, [], ◌∷◌, length, map, drop, take, ◌-◌, get_or, refl, sym, ◌∙◌, ap, arith, subst}
 use Rattle.std.specs.Prelude.{Bool, true, false, if◌then◌else◌, nat_le}
 use Rattle.term_model.specs.declared.term.Head.TheVariants as heads
-use Rattle.term_model.specs.Term.{Tree, node, Trees, end, head_of, parts_of, annos_of, term, list_of, trees_of, weight, weights, depth, depths, fits, Fits, made_of}
+use Rattle.term_model.specs.Term.{Tree, node, Trees, end, term, list_of, trees_of, weight, weights, depth, depths, fits, Fits, made_of}
+use Rattle.term_model.specs.TermParts.{head_of, parts_of, annos_of}
 use Rattle.term_model.specs.Limits.{max_weight, max_depth}
 use Rattle.term_model.specs.declared.made.Made.{Made}
 use Rattle.term_model.specs.declared.made.Made.TheVariants as made

@@ -1,7 +1,8 @@
 -- A run of a core whose primitives are registered: it is one with what they mean.
 use Rattle.std.proofs.Common.{ℕ, ◌<◌, List, [], length, Contains}
 use Rattle.term_model.specs.Flat.{Meaning}
-use Rattle.term_model.specs.PrimNames.{NameKey, key_at}
+use Rattle.term_model.specs.PrimNames.{NameKey}
+use Rattle.term_model.specs.NameSet.{key_at}
 use Rattle.term_model.specs.Term.{Tree}
 use Rattle.core_lang.specs.declared.coordinate.Coordinate.{Coordinate}
 use Rattle.core_lang.specs.declared.run.Outcome.{Outcome}

@@ -4,7 +4,8 @@ use Rattle.std.specs.Prelude.{Bool, true, false, slice_set}
 use Rattle.std.proofs.Math.Seq.{drop-cons}
 use Rattle.term_model.specs.declared.made.Made.{Made}
 use Rattle.term_model.specs.Flat.{Meaning}
-use Rattle.term_model.specs.Term.{Tree, node, Trees, end, more, head_of, parts_of, annos_of, term, trees_of, made_of}
+use Rattle.term_model.specs.Term.{Tree, node, Trees, end, more, term, trees_of, made_of}
+use Rattle.term_model.specs.TermParts.{head_of, parts_of, annos_of}
 use Rattle.term_model.proofs.TermLemmas.{trees_of-list_of}
 use Rattle.core_lang.specs.declared.coordinate.Coordinate.{Coordinate}
 use Rattle.core_lang.specs.declared.run.Outcome.{Outcome}

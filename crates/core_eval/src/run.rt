@@ -6,7 +6,8 @@ ghost use Rattle.core_lang.specs.Program.{Definitions, call, no_strategies, no_p
 ghost use Rattle.core_lang.specs.Environment.{definitions, outermost};
 ghost use Rattle.core_lang.specs.Resolution.{ResolvesProgram};
 ghost use Rattle.core_lang.specs.Resolved.{here};
-ghost use Rattle.prim_registry.specs.Entries.{Covers, IsHonest};
+ghost use Rattle.prim_registry.specs.Entries.{IsHonest};
+ghost use Rattle.prim_registry.specs.RegistryNames.{Covers};
 ghost use Rattle.core_eval.specs.Evaluates.{EvaluatesOn, IsRun, max_recursive_budget};
 
 use crate::evaluation::evaluate;

@@ -4,7 +4,8 @@ use Rattle.std.specs.Prelude.{Bool, true, false}
 use Rattle.term_model.specs.declared.term.Head.TheVariants as heads
 use Rattle.term_model.specs.Same.{same_head}
 use Rattle.term_model.specs.Symbol.{Symbol}
-use Rattle.term_model.specs.Term.{Tree, node, Trees, head_of, parts_of, annos_of, trees_of}
+use Rattle.term_model.specs.Term.{Tree, node, Trees, trees_of}
+use Rattle.term_model.specs.TermParts.{head_of, parts_of, annos_of}
 use Rattle.term_model.proofs.TermLemmas.{trees_of-list_of}
 use Rattle.core_lang.specs.Building.{applied_to, list_term, elements_of, made_like, made_with}
 

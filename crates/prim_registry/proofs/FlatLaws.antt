@@ -8,8 +8,10 @@ use Rattle.term_model.specs.declared.symbol.Kind.TheVariants as kinds
 use Rattle.term_model.specs.Flat.{flat_of, with_flat, all_flat, integer_of, with_integer, integers_of, integers, numbers}
 use Rattle.std.specs.Option.{option_map}
 use Rattle.term_model.proofs.TermLemmas.{trees_of-list_of}
-use Rattle.term_model.specs.Symbol.{Symbol, Plain, Quoted, Tuple, kind_of}
-use Rattle.term_model.specs.Term.{Tree, node, Trees, end, more, term, trees_of, head_of, parts_of}
+use Rattle.term_model.specs.Symbol.{Symbol, Plain, Quoted, Tuple}
+use Rattle.term_model.specs.SymbolSpelling.{kind_of}
+use Rattle.term_model.specs.Term.{Tree, node, Trees, end, more, term, trees_of}
+use Rattle.term_model.specs.TermParts.{head_of, parts_of}
 use Rattle.prim_registry.specs.declared.flat.Flat.{Flat}
 use Rattle.prim_registry.specs.Values.{value_of, values_of}
 

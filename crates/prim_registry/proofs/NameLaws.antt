@@ -2,8 +2,9 @@
 use Rattle.std.proofs.Common.{◌≡◌, ◌+◌, ◌<◌, ◌≤◌, ◌⊎◌, ◌++◌, ◌∷◌, inl, inr, ℕ, List, [], length, map, take, get_or, sym, ◌∙◌, ap, subst, Contains}
 use Rattle.std.proofs.lemmas.List.{map-append, take_more, take_all}
 use Rattle.std.proofs.lemmas.List.Elements.{Contains-append_left, Contains-push, Contains-push_cases}
-use Rattle.term_model.specs.PrimNames.{NameKey, IsInserted}
-use Rattle.prim_registry.specs.Entries.{HaveSame}
+use Rattle.term_model.specs.PrimNames.{NameKey}
+use Rattle.term_model.specs.NameSet.{IsInserted}
+use Rattle.prim_registry.specs.RegistryNames.{HaveSame}
 
 grown : (old new : List NameKey) (ys : List NameKey) (key : NameKey) → HaveSame old ys → IsInserted old key new →
     HaveSame new (ys ++ key ∷ [])

@@ -9,7 +9,8 @@ use Rattle.std.proofs.lemmas.Slice.Eq.{bytes_eq-Decides}
 use Rattle.std.proofs.lemmas.Bool.{and_parts}
 use Rattle.std.proofs.lemmas.List.{get_or_default}
 use Rattle.term_model.specs.Flat.{FlatValue, Meaning}
-use Rattle.term_model.specs.PrimNames.{NameKey, key_at}
+use Rattle.term_model.specs.PrimNames.{NameKey}
+use Rattle.term_model.specs.NameSet.{key_at}
 use Rattle.prim_registry.specs.Registered.{same_key, registered}
 
 equal_keys : (f g : List ℕ) (k j : ℕ) → bytes_eq f g && (k == j) ≡ true → (f ≡ g) × (k ≡ j)

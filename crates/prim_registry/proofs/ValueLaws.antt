@@ -7,7 +7,7 @@ use Rattle.std.specs.Int.{w64, IsNonZero, CanDivide}
 use Rattle.std.specs.Option.{option_and_then, option_map, SomeIff}
 use Rattle.std.specs.Ordering.{int_eq}
 use Rattle.term_model.specs.Flat.{FlatValue, number}
-use Rattle.term_model.specs.Limits.{max_magnitude}
+use Rattle.term_model.specs.IntegerBounds.{max_magnitude}
 use Rattle.prim_registry.specs.Standard.{two_integers, on_integers, quotient, remainder, ranged}
 
 pub on_pair : (f : ℤ → ℤ → Option FlatValue) (args : List FlatValue) (p : ℤ × ℤ) → two_integers args ≡ Some p →

@@ -8,7 +8,7 @@ use Rattle.std.specs.Option.{option_and_then, option_map}
 use Rattle.std.specs.Ordering.{int_eq}
 use Rattle.term_model.specs.Bytes.{is_digit, value_from, signed}
 use Rattle.term_model.specs.Flat.{FlatValue, number, text, numbers, Meaning}
-use Rattle.term_model.specs.Limits.{max_magnitude}
+use Rattle.term_model.specs.IntegerBounds.{max_magnitude}
 
 -- ---- arguments of these kinds, and no others
 

@@ -41,7 +41,9 @@ pub struct Primitive<M> {
 }
 
 impl<M: PrimMeaning> Primitive<M> {
-    ghost use Rattle.prim_registry.specs.Entries.{arity_of, name_of, AnswersAs};
+    ghost use Rattle.prim_registry.specs.Entries.{AnswersAs};
+    ghost use Rattle.prim_registry.specs.RegistryNames.{arity_of};
+    ghost use Rattle.prim_registry.specs.RegistryNames.{name_of};
 
     /// Returns the primitive of this name with `arity` arguments. The function may be called on any flat values of that number, and
     /// whenever it returns `Ok`, that is what the meaning has for the name.

@@ -1,6 +1,8 @@
 //! Primitives by their names.
 ghost use Rattle.std.specs.Prelude.{◌≡◌, ◌↔◌, ◌⊎◌, ◌++◌, ◌∷◌, ◌<◌, [], length, Contains, Err, IsTrue, IfOk, IfErr, IfSome, IsSome, OnOk, OnErr};
-ghost use Rattle.prim_registry.specs.Entries.{arity_of, entries_of, entry_at, name_of, primitives_of, AnswersAs, AreNamesOf, Covers, HasName, IsHonest};
+ghost use Rattle.prim_registry.specs.Entries.{entries_of, primitives_of, AnswersAs, IsHonest};
+ghost use Rattle.prim_registry.specs.RegistryNames.{arity_of};
+ghost use Rattle.prim_registry.specs.RegistryNames.{entry_at, name_of, AreNamesOf, Covers, HasName};
 ghost use Rattle.prim_registry.specs.Values.{answer_of, values_of};
 ghost use Rattle.std.specs.Option.{option_map};
 ghost use Rattle.term_model.specs.Flat.{number};

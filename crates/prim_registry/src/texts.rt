@@ -5,7 +5,7 @@ ghost use Rattle.std.specs.Option.{option_map};
 ghost use Rattle.prim_registry.specs.Standard.{bytes_of as bytes_of_integers, integer_in as integer_in_text, spelled as spelled_value, standard};
 ghost use Rattle.prim_registry.specs.Values.{answer_of, values_of};
 ghost use Rattle.term_model.specs.Bytes.{is_digit, value_from};
-ghost use Rattle.term_model.specs.Limits.{max_magnitude};
+ghost use Rattle.term_model.specs.IntegerBounds.{max_magnitude};
 
 use crate::arguments::{one_integer, one_list, one_text, two_texts};
 use crate::flat::{Bytes, Flat, Numbers};

@@ -1,6 +1,7 @@
 //! The two runs of a case.
 ghost use Rattle.std.specs.Prelude.{◌≤◌};
-ghost use Rattle.prim_registry.specs.Entries.{Covers, IsHonest};
+ghost use Rattle.prim_registry.specs.Entries.{IsHonest};
+ghost use Rattle.prim_registry.specs.RegistryNames.{Covers};
 
 use crate::case::Case;
 use aterm_text::read_term;

@@ -13,7 +13,7 @@ use Rattle.std.specs.List.{list_any}
 use Rattle.std.specs.Option.{option_map, option_or as first_or}
 use Rattle.std.specs.Prelude.{nat_lt}
 use Rattle.indexmap.specs.IndexMap.{IndexMap, get}
-use Rattle.str_syntax.specs.SameName.{same_name-Decides}
+use Rattle.str_syntax.specs.NameEquality.{same_name-Decides}
 use Rattle.str_syntax.specs.Trees.{Bytes, HeadTree, head}
 use Rattle.str_syntax.specs.Views.{head_of}
 use Rattle.str_syntax.specs.declared.strategy.DefinitionHead.{DefinitionHead}

@@ -6,7 +6,8 @@ use Rattle.std.proofs.lemmas.List.Folds.{list_any-append}
 use Rattle.std.proofs.Math.Bool.{and-true, or-false, or_assoc}
 use Rattle.std.specs.Bool.{Decides}
 use Rattle.std.specs.List.{list_any}
-use Rattle.str_syntax.specs.SameName.{same_name, same_name-Decides}
+use Rattle.str_syntax.specs.SameName.{same_name}
+use Rattle.str_syntax.specs.NameEquality.{same_name-Decides}
 use Rattle.str_syntax.specs.Trees.{Bytes}
 use Rattle.scope_check.specs.Complaint.{bad_parameters, repeats}
 use Rattle.scope_check.specs.Found.{Found, found_if, joined}

@@ -4,7 +4,8 @@ use Rattle.std.specs.Bool.{Decides}
 use Rattle.std.specs.Cmp.{decided, first_so, second_so, unsigned_Decides}
 use Rattle.std.proofs.lemmas.Map.Views.{Contains-from_any, list_any-from_Contains}
 use Rattle.term_model.specs.PrimNames.{NameKey}
-use Rattle.str_syntax.specs.SameName.{same_name, same_name-Decides}
+use Rattle.str_syntax.specs.SameName.{same_name}
+use Rattle.str_syntax.specs.NameEquality.{same_name-Decides}
 use Rattle.str_syntax.specs.Trees.{Bytes}
 use Rattle.scope_check.specs.Primitives.{holds, same_primitive}
 

@@ -8,10 +8,12 @@ use Rattle.std.specs.Option.{option_or, unwrap_or}
 use Rattle.std.proofs.lemmas.List.Folds.{list_any-append}
 use Rattle.std.proofs.Math.Bool.{or-false}
 use Rattle.indexmap.specs.IndexMap.{IndexMap, get_by, insert_entry}
-use Rattle.str_syntax.specs.SameName.{same_name, same_name-Decides, same_name-true}
+use Rattle.str_syntax.specs.SameName.{same_name}
+use Rattle.str_syntax.specs.NameEquality.{same_name-Decides, same_name-true}
 use Rattle.str_syntax.specs.Trees.{Bytes}
 use Rattle.signature_core.specs.Arities.{has_number, with_number, first_number, numbers_of, AreNumbersOf, IsNoted}
-use Rattle.signature_core.specs.Signature.{Declared, arity_of, arity_known, first_arity, is_declared_name}
+use Rattle.signature_core.specs.Signature.{Declared, arity_of, arity_known, is_declared_name}
+use Rattle.signature_core.specs.Lookup.{first_arity}
 
 -- the key is this name
 abbrev has_name : Bytes → Vec ℕ Global → Bool

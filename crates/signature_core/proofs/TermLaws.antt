@@ -1,9 +1,11 @@
 -- Whether a term is declared, by its head, its parts and its annotations.
 use Rattle.std.proofs.Common.{◌≡◌, ◌&&◌, Bool, true, List, ◌∷◌, map, refl, sym, ap, ◌∙◌}
-use Rattle.term_model.specs.Term.{Tree, node, parts_of, annos_of, trees_of}
+use Rattle.term_model.specs.Term.{Tree, node, trees_of}
+use Rattle.term_model.specs.TermParts.{parts_of, annos_of}
 use Rattle.term_model.proofs.DepthLaws.{depths-parts_of, depths-annos_of}
 use Rattle.term_model.proofs.TermLemmas.{trees_of-list_of}
-use Rattle.signature_core.specs.DeclaredTerm.{root_is_declared, term_is_declared, all_are_declared}
+use Rattle.signature_core.specs.DeclaredTerm.{term_is_declared, all_are_declared}
+use Rattle.signature_core.specs.Lookup.{root_is_declared}
 use Rattle.signature_core.specs.Signature.{Declared}
 
 pub declared_by_parts : (ds : List Declared) (t : Tree)

@@ -8,7 +8,8 @@ use Rattle.std.specs.Option.{unwrap_or}
 use Rattle.indexmap.specs.IndexMap.{IndexMap, get_by}
 use Rattle.str_syntax.specs.SameName.{same_name}
 use Rattle.str_syntax.specs.Trees.{Bytes}
-use Rattle.signature_core.specs.Signature.{Declared, arity_known, first_arity}
+use Rattle.signature_core.specs.Signature.{Declared, arity_known}
+use Rattle.signature_core.specs.Lookup.{first_arity}
 
 -- the number is among these
 abbrev pub has_number : List ℕ → ℕ → Bool

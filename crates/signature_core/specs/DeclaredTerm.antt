@@ -3,7 +3,7 @@ use Rattle.std.specs.Prelude.{ℕ, Bool, true, ◌&&◌, ◌==◌, List, length}
 use Rattle.term_model.specs.declared.term.Head.{Head}
 use Rattle.term_model.specs.declared.term.Head.TheVariants as heads
 use Rattle.term_model.specs.Symbol.{Plain, Quoted, Tuple}
-use Rattle.term_model.specs.Term.{Tree, node, Trees, end, more, list_of, head_of, parts_of}
+use Rattle.term_model.specs.Term.{Tree, node, Trees, end, more, list_of}
 use Rattle.signature_core.specs.Signature.{Declared, arity_known}
 
 -- a node of this head may have this number of parts: a plain name is declared with it, a quoted symbol has none, and
@@ -24,7 +24,3 @@ abbrev mutual
   pub all_are_declared : List Declared → Trees → Bool
   all_are_declared ds end = true
   all_are_declared ds (more t ts) = term_is_declared ds t && all_are_declared ds ts
-
--- the root of the term may have as many parts as it has
-abbrev pub root_is_declared : List Declared → Tree → Bool
-root_is_declared ds t = head_is_declared ds (head_of t) (length (parts_of t))

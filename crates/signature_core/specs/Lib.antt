@@ -1,4 +1,5 @@
 pub mod Signature
+pub mod Lookup
 pub mod DeclaredTerm
 pub mod SameDeclaration
 pub mod Arities

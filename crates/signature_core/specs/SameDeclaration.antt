@@ -5,8 +5,10 @@ use Rattle.std.specs.Bool.{Decides}
 use Rattle.std.specs.Cmp.{IsEquivalence, IsPartialEquivalence, decided, partial_equiv_from_equiv, first_so, second_so}
 use Rattle.std.specs.Hash as fed
 use Rattle.std.proofs.Common.{refl, ap, subst}
-use Rattle.str_syntax.specs.SameName.{same_name, same_name-Decides}
-use Rattle.str_syntax.specs.SameSort.{same_sort, same_sorts, same_sort-Decides, same_sorts-Decides}
+use Rattle.str_syntax.specs.SameName.{same_name}
+use Rattle.str_syntax.specs.NameEquality.{same_name-Decides}
+use Rattle.str_syntax.specs.SameSort.{same_sort, same_sorts}
+use Rattle.str_syntax.specs.SortEquality.{same_sort-Decides, same_sorts-Decides}
 use Rattle.str_syntax.specs.SortHashing.{sort_writes}
 use Rattle.str_syntax.specs.Trees.{SortTrees, no_sorts, more_sorts}
 use Rattle.signature_core.specs.Signature.{Declared, number_of_sorts, same_declaration}

@@ -1,5 +1,5 @@
 -- Declarations of constructors: which ones a file has, and what can be asked of them.
-use Rattle.std.specs.Prelude.{ℕ, suc, Bool, ◌&&◌, ◌==◌, List, [], ◌∷◌, ◌++◌, Option, None, Some, if◌then◌else◌}
+use Rattle.std.specs.Prelude.{ℕ, suc, Bool, ◌&&◌, ◌==◌, List, [], ◌∷◌, ◌++◌}
 use Rattle.std.specs.List.{list_any}
 use Rattle.str_syntax.specs.SameName.{same_name}
 use Rattle.str_syntax.specs.SameSort.{same_sort, same_sorts}
@@ -35,11 +35,6 @@ is_declared_name ds f = list_any (λ d. same_name f d.name) ds
 -- one of the declarations has this name and this number of arguments
 abbrev pub arity_known : List Declared → Bytes → ℕ → Bool
 arity_known ds f n = list_any (λ d. same_name f d.name && n == arity_of d) ds
-
--- the number of arguments of the first declaration of this name
-abbrev pub first_arity : List Declared → Bytes → Option ℕ
-first_arity [] f = None
-first_arity (d ∷ ds) f = if same_name f d.name then Some (arity_of d) else first_arity ds f
 
 -- what a declaration declares: a constant has no arguments, and an injection declares nothing
 abbrev pub declarations_of_part : DeclarationTree → List Declared

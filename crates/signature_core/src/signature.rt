@@ -1,7 +1,9 @@
 //! Signatures: the constructors that are declared.
 ghost use Rattle.std.specs.Prelude.{◌≡◌, ◌↔◌, ◌⊎◌, ◌++◌, ◌∷◌, [], map, All, Err, IsOk, IsTrue, IfErr, OnErr, OnOk};
-ghost use Rattle.signature_core.specs.DeclaredTerm.{all_are_declared, root_is_declared, term_is_declared};
-ghost use Rattle.signature_core.specs.Signature.{arity_known, first_arity, is_declared, is_declared_name};
+ghost use Rattle.signature_core.specs.DeclaredTerm.{all_are_declared, term_is_declared};
+ghost use Rattle.signature_core.specs.Lookup.{root_is_declared};
+ghost use Rattle.signature_core.specs.Signature.{arity_known, is_declared, is_declared_name};
+ghost use Rattle.signature_core.specs.Lookup.{first_arity};
 ghost use Rattle.signature_core.specs.Views.{declaration};
 ghost use Rattle.term_model.specs.declared.fault.Fault.TheVariants.{DuplicateDeclaration, Memory, TermUndeclared};
 ghost use Rattle.term_model.specs.Term.{trees_of};

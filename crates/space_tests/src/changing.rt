@@ -1,7 +1,7 @@
 //! A client that changes the parts and the annotations of terms over any space, and writes what it made.
 ghost use Rattle.std.specs.Prelude.{◌≡◌, ◌≤◌, All, IfOk, IsTrue, length};
 ghost use Rattle.term_model.specs.Space.{Keeps};
-ghost use Rattle.term_model.specs.Term.{parts_of};
+ghost use Rattle.term_model.specs.TermParts.{parts_of};
 
 use aterm_text::{read_term, write_term};
 use std::alloc::{AllocError, Global};

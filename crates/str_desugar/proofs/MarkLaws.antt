@@ -13,7 +13,7 @@ use Rattle.std.proofs.lemmas.Nat.Bits.{bit_at_or, bit_at_set_same, bit_at-lt}
 use Rattle.core_lang.specs.Named.{written, position_of}
 use Rattle.indexmap.specs.IndexSet.{insert_key}
 use Rattle.str_syntax.specs.Key.{Key, same_key}
-use Rattle.str_syntax.specs.SameName.{same_name-Decides}
+use Rattle.str_syntax.specs.NameEquality.{same_name-Decides}
 use Rattle.str_syntax.specs.Trees.{Bytes}
 use Rattle.str_desugar.specs.Frames.{key_position}
 use Rattle.str_desugar.specs.Keys.{named_key, AreKeysMarked}

@@ -4,7 +4,8 @@ use Rattle.std.proofs.Math.Seq.{take-append_seam, drop-append_seam}
 use Rattle.std.proofs.lemmas.List.{length-append}
 use Rattle.str_lexer.specs.declared.token.Token.{Token}
 use Rattle.str_lexer.specs.Tokens.{IsToken}
-use Rattle.str_lexer.specs.Lexes.{Gap, gap_bytes, Gaps, LexesEnd, IsSlice, Lexes, AreSlices}
+use Rattle.str_lexer.specs.Lexes.{Gap, gap_bytes, Gaps, LexesEnd, Lexes}
+use Rattle.str_lexer.specs.Lexing.{IsSlice, AreSlices}
 use Rattle.str_lexer.proofs.TokenLaws.{token_shorter}
 
 -- the bytes of gaps, before these bytes

@@ -11,7 +11,8 @@ use Rattle.str_lexer.specs.declared.token.Mark.{Mark}
 use Rattle.str_lexer.specs.declared.token.Mark.TheVariants.{OpenParenthesis, CloseParenthesis, OpenBracket, CloseBracket, OpenBrace, CloseBrace, Bar, Comma, Colon, Semicolon, Equals, Question, Exclamation, At, Star, Plus, Backslash, Less, Greater, Arrow, DoubleArrow, LeftChoice}
 use Rattle.str_lexer.specs.declared.word.Reserved.{Reserved}
 use Rattle.str_lexer.specs.declared.word.Reserved.TheVariants as R
-use Rattle.str_lexer.specs.Words.{reserved_bytes, kind_of, mark_bytes}
+use Rattle.str_lexer.specs.Words.{reserved_bytes, mark_bytes}
+use Rattle.str_lexer.specs.WordTokens.{kind_of}
 use Rattle.term_model.specs.Bytes.{is_digit}
 use Rattle.term_model.specs.Symbol.{begins_name}
 use Rattle.str_lexer.specs.Tokens.{first_is, with_sign, IsWord, IsToken}

@@ -8,7 +8,8 @@ use Rattle.str_lexer.specs.declared.token.LeftOut.TheVariants as L
 use Rattle.str_lexer.specs.declared.token.TokenKind.TheVariants as T
 use Rattle.str_lexer.specs.declared.word.Reserved.{Reserved}
 use Rattle.str_lexer.specs.declared.word.Reserved.TheVariants.{Wildcard, Keyword, LeftOut}
-use Rattle.str_lexer.specs.Words.{reserved_bytes, kind_of}
+use Rattle.str_lexer.specs.Words.{reserved_bytes}
+use Rattle.str_lexer.specs.WordTokens.{kind_of}
 use Rattle.term_model.specs.Symbol.{begins_name}
 use Rattle.str_lexer.specs.Tokens.{first_is, goes_on, IsWord, IsReserved, IsToken}
 use Rattle.str_lexer.specs.Readings.{IsAmong, run_length, BeginsToken}

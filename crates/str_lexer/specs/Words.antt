@@ -6,8 +6,6 @@ use Rattle.str_lexer.specs.declared.token.LeftOut.{LeftOut}
 use Rattle.str_lexer.specs.declared.token.LeftOut.TheVariants as L
 use Rattle.str_lexer.specs.declared.token.Mark.{Mark}
 use Rattle.str_lexer.specs.declared.token.Mark.TheVariants as M
-use Rattle.str_lexer.specs.declared.token.TokenKind.{TokenKind}
-use Rattle.str_lexer.specs.declared.token.TokenKind.TheVariants as T
 use Rattle.str_lexer.specs.declared.word.Reserved.{Reserved}
 use Rattle.str_lexer.specs.declared.word.Reserved.TheVariants as R
 
@@ -48,12 +46,6 @@ abbrev pub reserved_bytes : Reserved → List ℕ
 reserved_bytes R.Wildcard = codes "_"
 reserved_bytes (R.Keyword k) = keyword_bytes k
 reserved_bytes (R.LeftOut w) = left_out_bytes w
-
--- which token each of these words is
-abbrev pub kind_of : Reserved → TokenKind
-kind_of R.Wildcard = T.Wildcard
-kind_of (R.Keyword k) = T.Keyword k
-kind_of (R.LeftOut w) = T.LeftOut w
 
 abbrev pub mark_bytes : Mark → List ℕ
 mark_bytes M.OpenParenthesis = codes "("

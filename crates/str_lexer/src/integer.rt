@@ -1,6 +1,6 @@
 //! Integers.
 ghost use Rattle.std.specs.Prelude.{true, false, ◌≡◌, ℕ, ◌≤◌, ◌^◌, ◌<◌, MatchOption, length};
-ghost use Rattle.term_model.specs.Limits.{max_magnitude};
+ghost use Rattle.term_model.specs.IntegerBounds.{max_magnitude};
 ghost use Rattle.term_model.specs.Bytes.{is_digit, value_from};
 ghost use Rattle.str_lexer.specs.Tokens.{first_is};
 ghost use Rattle.str_lexer.specs.Readings.{run_length, begins_integer, IsIntegerRead, IsSignedRead};

@@ -2,7 +2,8 @@
 ghost use Rattle.std.specs.Prelude.{true, ◌≡◌, ◌==◌, List, [], ◌∷◌, ◌++◌, IfOk};
 ghost use Rattle.str_lexer.specs.declared.token.Token.{Token};
 ghost use Rattle.str_lexer.specs.Tokens.{first_is};
-ghost use Rattle.str_lexer.specs.Lexes.{left_out, AreSlices, IsLexing};
+ghost use Rattle.str_lexer.specs.Lexes.{left_out};
+ghost use Rattle.str_lexer.specs.Lexing.{AreSlices, IsLexing};
 ghost use Rattle.str_lexer.specs.Readings.{begins_integer, IsTokenRead, IsCutting, IsSearch};
 
 use crate::gap::gap;

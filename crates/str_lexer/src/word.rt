@@ -2,7 +2,8 @@
 ghost use Rattle.std.specs.Prelude.{true, ◌≡◌, ℕ, List, ◌∷◌, MatchOption};
 ghost use Rattle.term_model.specs.Symbol.{begins_name};
 ghost use Rattle.str_lexer.specs.Tokens.{first_is};
-ghost use Rattle.str_lexer.specs.Words.{keyword_bytes, left_out_bytes, reserved_bytes, kind_of};
+ghost use Rattle.str_lexer.specs.Words.{keyword_bytes, left_out_bytes, reserved_bytes};
+ghost use Rattle.str_lexer.specs.WordTokens.{kind_of};
 ghost use Rattle.str_lexer.specs.Readings.{IsAmong, BeginsToken};
 
 use crate::runs::word_length;

@@ -3,7 +3,7 @@ use Rattle.std.proofs.Common.{◌≡◌, ◌↔◌, IsTrue, ℕ, Bool, true, fal
 use Rattle.str_parser.specs.declared.refusal.ParseRefusal.{ParseRefusal}
 use Rattle.str_parser.specs.declared.refusal.ParseRefusal.TheVariants as refusals
 use Rattle.str_lexer.specs.declared.token.Token.{Token}
-use Rattle.str_lexer.specs.Lexes.{AreSlices}
+use Rattle.str_lexer.specs.Lexing.{AreSlices}
 use Rattle.str_lexer.specs.declared.token.Keyword.TheVariants as K
 use Rattle.str_syntax.specs.Trees.{FormTree, rule_form, strategy_form, definition, TopTree, SectionTree, signature, rules, strategies, FileTree, head}
 use Rattle.str_parser.specs.Lexemes.{Lexeme, keyword}

@@ -1,7 +1,7 @@
 //! The sections of files, and whole files, from tokens.
 ghost use Rattle.std.specs.Prelude.{◌≡◌};
 ghost use Rattle.str_syntax.specs.Views.{section_of};
-ghost use Rattle.str_lexer.specs.Lexes.{AreSlices};
+ghost use Rattle.str_lexer.specs.Lexing.{AreSlices};
 ghost use Rattle.str_parser.specs.Lexemes.{lexemes};
 ghost use Rattle.str_parser.specs.Phrases;
 ghost use Rattle.str_parser.specs.Readings.{IsReading};

@@ -6,7 +6,7 @@ use Rattle.std.proofs.lemmas.Bool.{cases_lt}
 use Rattle.std.proofs.Common.{⊎_elim}
 use Rattle.std.specs.List.{starts_with}
 use Rattle.std.specs.Prelude.{Option, None, Some, IfSome, IsSomeAnd, IsTrue}
-use Rattle.str_pipeline.specs.Device.{Loses, IsDry}
+use Rattle.str_pipeline.specs.Transfer.{Loses, IsDry}
 use Rattle.str_pipeline.specs.declared.joined.Step.TheVariants.{TooLong}
 use Rattle.str_pipeline.specs.Joined.{IsBeforeLine, IsTermLine, by_line_feed, by_return, by_end, HasTermLine, IsSplit, parted, unparted}
 use Rattle.str_pipeline.specs.Search.{CanFollow, IsKind, IsClear, IsSearched, IsNear, IsEarly, IsFound, IsStep, HasLongDefinitions}

@@ -5,8 +5,9 @@ use Rattle.term_model.specs.declared.fault.Fault.{Fault}
 use Rattle.term_model.specs.declared.fault.Fault.TheVariants as faults
 use Rattle.term_model.specs.Fault.{number_of}
 use Rattle.signature_core.specs.Signature.{Declared}
-use Rattle.str_pipeline.specs.Faults.{IsReadingFault, IsRefusal, IsOfDefinitions, is_read}
-use Rattle.str_pipeline.specs.Judged.{AreRefused, IsVerdict}
+use Rattle.str_pipeline.specs.Faults.{IsOfDefinitions, IsReadingFault, IsRefusal, is_read}
+use Rattle.str_pipeline.specs.Judged.{AreRefused}
+use Rattle.str_pipeline.specs.Verdict.{IsVerdict}
 use Rattle.str_pipeline.specs.Limits.{max_definitions}
 use Rattle.str_pipeline.specs.Setting.{Setting}
 use Rattle.str_pipeline.specs.Steps.{IsStop, IsProgram, IsTermRead}

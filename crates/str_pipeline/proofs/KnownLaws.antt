@@ -3,12 +3,13 @@ use Rattle.std.proofs.Common.{◌≡◌, ◌<◌, ◌↔◌, ℕ, true, List, []
 use Rattle.std.proofs.lemmas.List.{get_or_default}
 use Rattle.std.specs.Prelude.{None}
 use Rattle.term_model.specs.Flat.{Meaning}
-use Rattle.term_model.specs.PrimNames.{NameKey, key_at}
+use Rattle.term_model.specs.PrimNames.{NameKey}
+use Rattle.term_model.specs.NameSet.{key_at}
 use Rattle.core_lang.specs.Core.{CoreParts, program_of}
 use Rattle.core_lang.specs.Named.{written}
 use Rattle.core_lang.specs.Primitives.{AreOccurring}
 use Rattle.core_lang.specs.Resolution.{ResolvesProgram}
-use Rattle.prim_registry.specs.Entries.{HaveSame}
+use Rattle.prim_registry.specs.RegistryNames.{HaveSame}
 use Rattle.str_syntax.specs.Trees.{Bytes, FileTree}
 use Rattle.scope_check.specs.Complaint.{first_fault}
 use Rattle.scope_check.specs.Primitives.{holds}

@@ -25,7 +25,8 @@ use Rattle.str_pipeline.specs.Joined.{IsSplit, OfJoinedDefinitions}
 use Rattle.str_pipeline.specs.Limits.{max_definitions, max_term}
 use Rattle.str_pipeline.specs.Setting.{Setting}
 use Rattle.str_pipeline.specs.Judged.{HasNoTokens, AreTokens, AreTooNested, HasNoPhrase, IsFile, FailsChecks, PassesChecks, AreRefused, AreAccepted, IsTerm, IsUndeclared, IsRefused, IsAccepted}
-use Rattle.str_pipeline.specs.Written.{Rewrites, IsAnswer, AreAlike, IsFirstFault, IsWritten, line_of, refusal_line}
+use Rattle.str_pipeline.specs.Written.{Rewrites, IsAnswer, IsFirstFault, IsWritten, line_of, refusal_line}
+use Rattle.str_pipeline.specs.Alike.{AreAlike}
 use Rattle.str_pipeline.specs.Steps.{IsTextResult}
 use Rattle.str_pipeline.proofs.WrittenLaws.{of_split, for_each_told}
 

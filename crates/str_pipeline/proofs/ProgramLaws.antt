@@ -6,7 +6,7 @@ use Rattle.core_lang.specs.Core.{CoreParts, program_of}
 use Rattle.core_lang.specs.Named.{written}
 use Rattle.core_lang.specs.Resolution.{ResolvesProgram}
 use Rattle.str_lexer.specs.declared.token.Token.{Token}
-use Rattle.str_lexer.specs.Lexes.{IsLexing}
+use Rattle.str_lexer.specs.Lexing.{IsLexing}
 use Rattle.str_syntax.specs.declared.definition.File.{File}
 use Rattle.str_syntax.specs.Trees.{Bytes, FileTree}
 use Rattle.str_syntax.specs.Views.{file_of}

@@ -1,5 +1,5 @@
 -- Which definitions and which term texts are refused, and what the others stand for.
-use Rattle.std.specs.Prelude.{◌≡◌, ℕ, ◌<◌, ◌≤◌, Bool, true, false, List, length, Option, Some, None, Ok, Err}
+use Rattle.std.specs.Prelude.{◌≡◌, ℕ, ◌<◌, ◌≤◌, Bool, true, false, List, length, Some, None, Ok, Err}
 use Rattle.term_model.specs.declared.fault.Fault.{Fault}
 use Rattle.term_model.specs.declared.fault.Fault.TheVariants.{DefsTooLong, Lexical, ReservedWord, Syntax, Nesting, TermTooLong, TermOversize, TermSyntax, TermUndeclared}
 use Rattle.term_model.specs.Term.{Tree}
@@ -71,11 +71,6 @@ AreRefused S defs fault = (length defs ≤ max_definitions) × FailsChecks S def
 -- this is the file of the definitions with the library after it, and nothing is wrong in it
 abbrev pub AreAccepted : Setting → List ℕ → FileTree → Type 0
 AreAccepted S defs f = (length defs ≤ max_definitions) × PassesChecks S defs f
-
--- what is judged of definitions: nothing is wrong in them, or they are refused with this fault
-abbrev pub IsVerdict : Setting → List ℕ → Option Fault → Type 0
-IsVerdict S defs None = (f : FileTree) × AreAccepted S defs f
-IsVerdict S defs (Some fault) = AreRefused S defs fault
 
 -- the text is that of this term
 abbrev pub IsTerm : List ℕ → Tree → Type 0

@@ -1,11 +1,14 @@
 pub mod Asked
 pub mod Device
+pub mod Transfer
 pub mod Faults
 pub mod Joined
 pub mod Judged
+pub mod Verdict
 pub mod Limits
 pub mod Search
 pub mod Setting
 pub mod Steps
 pub mod Written
+pub mod Alike
 pub mod Transformation

@@ -1,7 +1,7 @@
 -- What is written for definitions and the text of a term, and with which status.
 use Rattle.std.specs.Prelude.{◌≡◌, ℕ, ◌<◌, ◌≤◌, ◌⊎◌, List, [], ◌∷◌, ◌++◌, codes, Option}
 use Rattle.term_model.specs.declared.fault.Fault.{Fault}
-use Rattle.term_model.specs.Fault.{number_of, word_of}
+use Rattle.term_model.specs.Fault.{word_of}
 use Rattle.term_model.specs.Term.{Tree}
 use Rattle.term_model.specs.Flat.{Meaning}
 use Rattle.aterm_text.specs.Text.{text}
@@ -50,11 +50,6 @@ abbrev pub IsWritten : List ℕ → List ℕ → Setting → Status → List ℕ
 IsWritten defs term S (Refused fault) line = IsFirstFault defs term S fault × (line ≡ refusal_line fault)
 IsWritten defs term S status line = (f : FileTree) × (t : Tree) × AreAccepted S defs f
     × IsAccepted S.options.strict f term t × IsAnswer S.meaning f S.options.main.items t S.options.budget status line
-
--- these are one status, but for the place of a fault
-abbrev pub AreAlike : Status → Status → Type 0
-AreAlike (Refused fault) (Refused other) = number_of fault ≡ number_of other
-AreAlike status other = status ≡ other
 
 -- a writer that shows its bytes has gained the line
 pub record HasWritten (defs term : List ℕ) (S : Setting) (status : Status) (old new : Option (List ℕ)) : Type 0 where

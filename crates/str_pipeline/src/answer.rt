@@ -1,9 +1,10 @@
 //! What a file does with a term, and the line that says so.
 ghost use Rattle.std.specs.Prelude.{◌≡◌, ◌+◌, ◌≤◌, ℕ, List, vec_len, false, if◌then◌else◌, IfOk, IfErr, OnOk, IsErrOf, IsTrue};
-ghost use Rattle.aterm_text.specs.ReadTerm.{map_ok};
+ghost use Rattle.aterm_text.specs.ReadIn.{map_ok};
 ghost use Rattle.str_syntax.specs.Trees.{FileTree};
 ghost use Rattle.str_pipeline.specs.Device.{Gains, GainsPrefix};
-ghost use Rattle.prim_registry.specs.Entries.{Covers, IsHonest};
+ghost use Rattle.prim_registry.specs.Entries.{IsHonest};
+ghost use Rattle.prim_registry.specs.RegistryNames.{Covers};
 ghost use Rattle.str_pipeline.specs.Limits.{max_term};
 ghost use Rattle.str_pipeline.specs.Setting.{setting_of};
 ghost use Rattle.str_pipeline.specs.Judged.{AreAccepted};

@@ -2,7 +2,7 @@
 ghost use Rattle.std.specs.Prelude.{◌≡◌, ◌+◌, ◌≤◌, length, if◌then◌else◌, false, IfOk, IfErr, IfSome};
 ghost use Rattle.str_pipeline.specs.Limits.{max_definitions};
 ghost use Rattle.str_pipeline.specs.Setting.{setting_of};
-ghost use Rattle.str_pipeline.specs.Judged.{IsVerdict};
+ghost use Rattle.str_pipeline.specs.Verdict.{IsVerdict};
 ghost use Rattle.str_pipeline.specs.Faults.{IsReadingFault, is_read_fault};
 
 use crate::answer::MAX_DEFINITIONS;

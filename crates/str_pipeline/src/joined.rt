@@ -2,8 +2,8 @@
 ghost use Rattle.std.specs.Prelude.{◌≡◌, ◌≢◌, ◌+◌, ◌<◌, ◌≤◌, ℕ, None, Some, false, length, vec_len, slice_index, EachIndex, MatchOption, IfSome, IsSomeAnd, IfOk, IfErr, IsTrue, if◌then◌else◌};
 ghost use Rattle.str_pipeline.specs.Joined.{IsSplit};
 ghost use Rattle.str_pipeline.specs.Search.{IsEarly, IsKind, IsClear, IsSearched, IsStep, definitions_of, term_of, HasLongDefinitions};
-ghost use Rattle.str_pipeline.specs.Faults.{is_read_fault, IsReadingFault};
-ghost use Rattle.str_pipeline.specs.Device.{IsDry};
+ghost use Rattle.str_pipeline.specs.Faults.{IsReadingFault, is_read_fault};
+ghost use Rattle.str_pipeline.specs.Transfer.{IsDry};
 
 mod front;
 

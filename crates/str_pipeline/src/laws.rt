@@ -3,7 +3,8 @@ ghost use Rattle.std.specs.Prelude.{◌≡◌, ℕ, List};
 ghost use Rattle.str_pipeline.specs.declared.status.Status.{Status};
 ghost use Rattle.str_pipeline.specs.Joined.{IsSplit};
 ghost use Rattle.str_pipeline.specs.Setting.{Setting};
-ghost use Rattle.str_pipeline.specs.Written.{AreAlike, IsWritten};
+ghost use Rattle.str_pipeline.specs.Written.{IsWritten};
+ghost use Rattle.str_pipeline.specs.Alike.{AreAlike};
 
 /// Says that each text of the joined form has a split, and only one.
 #[tactic(auto, using(crate::proofs::CutLemmas::one_split, crate::proofs::SplitLaws::some_split))]

@@ -3,7 +3,7 @@ ghost use Rattle.std.specs.Prelude.{◌≡◌, IfOk};
 ghost use Rattle.core_lang.specs.Core.{program_of};
 ghost use Rattle.strat_code.specs.CodeOf.{code_of};
 ghost use Rattle.strat_code.specs.StandsFor.{StandsFor};
-ghost use Rattle.prim_registry.specs.Entries.{Covers};
+ghost use Rattle.prim_registry.specs.RegistryNames.{Covers};
 ghost use Rattle.str_parser.specs.Refusals.{map_err};
 ghost use Rattle.diagnostics.specs.Refusals.{fault_of};
 ghost use Rattle.str_pipeline.specs.Setting.{setting_of};

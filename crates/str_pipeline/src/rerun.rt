@@ -1,7 +1,8 @@
 //! Runs of code that is followed: what a run did, and where it stood, found by running it again.
 ghost use Rattle.std.specs.Prelude.{◌≤◌};
 ghost use Rattle.term_model.specs.Limits.{max_budget};
-ghost use Rattle.prim_registry.specs.Entries.{Covers, IsHonest};
+ghost use Rattle.prim_registry.specs.Entries.{IsHonest};
+ghost use Rattle.prim_registry.specs.RegistryNames.{Covers};
 
 use crate::followed::FollowedSpace;
 use aterm_text::read_in;

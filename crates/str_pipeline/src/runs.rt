@@ -1,7 +1,8 @@
 //! Runs of code, from a term in a space to the text of the term that it rewrites to.
 ghost use Rattle.std.specs.Prelude.{◌≡◌, ◌≤◌, IsTrue, IfOk, IfErr};
 ghost use Rattle.term_model.specs.Limits.{max_budget};
-ghost use Rattle.prim_registry.specs.Entries.{Covers, IsHonest};
+ghost use Rattle.prim_registry.specs.Entries.{IsHonest};
+ghost use Rattle.prim_registry.specs.RegistryNames.{Covers};
 ghost use Rattle.strat_steps.specs.Outcomes.{OutcomeStands, outcome_tree};
 ghost use Rattle.str_pipeline.specs.Steps.{IsTextOf, IsTextOfRun};
 

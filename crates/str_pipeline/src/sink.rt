@@ -1,6 +1,7 @@
 //! What is written to.
 ghost use Rattle.std.specs.Prelude.{◌≡◌, ◌+◌, ◌≤◌, Option, length, is_err, IfSome, IfErr, OnOk, if◌then◌else◌};
-ghost use Rattle.str_pipeline.specs.Device.{Writer, WritesFront, is_failed_write, Gains, GainsPrefix};
+ghost use Rattle.str_pipeline.specs.Device.{Writer, Gains, GainsPrefix};
+ghost use Rattle.str_pipeline.specs.Transfer.{WritesFront, is_failed_write};
 
 use std::io::ErrorKind;
 use term_model::Fault;

@@ -1,7 +1,8 @@
 //! What is read from.
 ghost use Rattle.std.specs.Prelude.{◌≡◌, ◌+◌, ◌<◌, ◌≤◌, ◌++◌, Option, is_none, length, vec_len, IfSome, IfOk, IfErr, MatchOption, if◌then◌else◌};
-ghost use Rattle.str_pipeline.specs.Device.{Reader, ReadsFront};
-ghost use Rattle.str_pipeline.specs.Faults.{is_read_fault, IsReadingFault};
+ghost use Rattle.str_pipeline.specs.Device.{Reader};
+ghost use Rattle.str_pipeline.specs.Transfer.{ReadsFront};
+ghost use Rattle.str_pipeline.specs.Faults.{IsReadingFault, is_read_fault};
 
 use crate::progress::FileProgress;
 use std::alloc::Allocator;

@@ -1,7 +1,8 @@
 -- Equality of sorts.
 use Rattle.std.proofs.Common.{◌≡◌, ◌↔◌, ◌≢◌, IsTrue, Bool, false, List, [], ◌∷◌, length, suc, refl, ap}
 use Rattle.std.proofs.Math.Bool.{and-false}
-use Rattle.str_syntax.specs.SameSort.{same_sort, same_sorts, same_sort-Decides}
+use Rattle.str_syntax.specs.SameSort.{same_sort, same_sorts}
+use Rattle.str_syntax.specs.SortEquality.{same_sort-Decides}
 use Rattle.str_syntax.specs.declared.sort.Sort.{Sort}
 use Rattle.str_syntax.specs.Trees.{SortTree}
 use Rattle.str_syntax.specs.Views.{sort_tree_of, sorts_of}

@@ -2,8 +2,10 @@ pub mod Trees
 pub mod Views
 pub mod Spelling
 pub mod SameName
+pub mod NameEquality
 pub mod Arity
 pub mod Key
 pub mod SameKey
 pub mod SameSort
+pub mod SortEquality
 pub mod SortHashing

@@ -6,7 +6,8 @@ use Rattle.std.specs.Cmp.{IsEquivalence, IsPartialEquivalence, decided, partial_
 use Rattle.std.specs.Hash as fed
 use Rattle.std.proofs.Common.{refl, ap}
 use Rattle.std.proofs.lemmas.Bool.Decides.{Decides-and}
-use Rattle.str_syntax.specs.SameName.{same_name, same_name-Decides}
+use Rattle.str_syntax.specs.SameName.{same_name}
+use Rattle.str_syntax.specs.NameEquality.{same_name-Decides}
 use Rattle.str_syntax.specs.Key.{Key, same_key}
 
 -- the test decides whether two keys are equal

@@ -3,7 +3,8 @@
 use Rattle.std.specs.Prelude.{◌≡◌, ◌++◌, true}
 use Rattle.std.specs.Hash as fed
 use Rattle.std.proofs.Common.{ap}
-use Rattle.str_syntax.specs.SameSort.{same_sort, same_sort-true}
+use Rattle.str_syntax.specs.SameSort.{same_sort}
+use Rattle.str_syntax.specs.SortEquality.{same_sort-true}
 use Rattle.str_syntax.specs.Trees.{SortTree, sort, sort_of, SortTrees, no_sorts, more_sorts}
 
 -- a number for the form, the name, and the sorts in parentheses with a number after the last

@@ -9,7 +9,7 @@ use std::hash::{Hash, Hasher};
 
 impl PartialEq for Sort {
     ghost use Rattle.std.specs.Cmp.{on_per};
-    ghost use Rattle.str_syntax.specs.SameSort.{same_sort_partial_equiv};
+    ghost use Rattle.str_syntax.specs.SortEquality.{same_sort_partial_equiv};
 
     ghost eq = { λ a b. same_sort (sort_tree_of a) (sort_tree_of b) };
 
@@ -26,7 +26,7 @@ impl PartialEq for Sort {
 
 impl Eq for Sort {
     ghost use Rattle.std.specs.Cmp.{on_equiv};
-    ghost use Rattle.str_syntax.specs.SameSort.{same_sort_equiv};
+    ghost use Rattle.str_syntax.specs.SortEquality.{same_sort_equiv};
 
     ghost laws = { on_equiv sort_tree_of same_sort_equiv };
 }

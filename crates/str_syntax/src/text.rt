@@ -110,7 +110,8 @@ impl Name {
 impl PartialEq for Name {
     ghost use Rattle.std.specs.Prelude.{nat_eq};
     ghost use Rattle.std.specs.Cmp.Lexicographic.{pointwise};
-    ghost use Rattle.str_syntax.specs.SameName.{same_name, same_name_partial_equiv};
+    ghost use Rattle.str_syntax.specs.SameName.{same_name};
+    ghost use Rattle.str_syntax.specs.NameEquality.{same_name_partial_equiv};
 
     ghost eq = { same_name };
 
@@ -126,7 +127,7 @@ impl PartialEq for Name {
 }
 
 impl Eq for Name {
-    ghost use Rattle.str_syntax.specs.SameName.{same_name_equiv};
+    ghost use Rattle.str_syntax.specs.NameEquality.{same_name_equiv};
 
     ghost laws = { same_name_equiv };
 }
@@ -134,7 +135,7 @@ impl Eq for Name {
 impl Hash for Name {
     ghost use Rattle.std.specs.Hash as fed;
     ghost use Rattle.std.proofs.Common.{ap};
-    ghost use Rattle.str_syntax.specs.SameName.{same_name-true};
+    ghost use Rattle.str_syntax.specs.NameEquality.{same_name-true};
 
     ghost hash_input = { λ name. fed.slice fed.u8 name };
 

@@ -1,7 +1,9 @@
 -- A set of names that is filled with the names of another.
 use Rattle.std.proofs.Common.{◌≡◌, ◌+◌, ◌<◌, ◌++◌, inl, inr, ℕ, List, [], ◌∷◌, Contains, length, take, sym, ◌∙◌, ap₂, subst, arith}
 use Rattle.std.proofs.lemmas.List.{get_or_default, get_or-take, length-take-le, take_more}
-use Rattle.term_model.specs.PrimNames.{NameKey, key_at, EachOnce, IsInserted}
+use Rattle.term_model.specs.PrimNames.{NameKey}
+use Rattle.term_model.specs.NameSet.{key_at}
+use Rattle.term_model.specs.NameSet.{EachOnce, IsInserted}
 
 -- a name stands once, so it is not among those before it
 first_time : (all : List NameKey) (i : ℕ) → EachOnce all → i < length all → Contains (take i all) (key_at all i) → ⊥

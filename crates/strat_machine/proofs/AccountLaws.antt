@@ -2,7 +2,8 @@
 use Rattle.std.proofs.Common.{◌≡◌, ℕ, ◌+◌, ◌<◌, List, length, refl, ◌∙◌, subst, arith, Contains}
 use Rattle.std.specs.Prelude.{sum}
 use Rattle.term_model.specs.Flat.{Meaning}
-use Rattle.term_model.specs.PrimNames.{NameKey, key_at}
+use Rattle.term_model.specs.PrimNames.{NameKey}
+use Rattle.term_model.specs.NameSet.{key_at}
 use Rattle.term_model.specs.Space.{Space, Stands}
 use Rattle.term_model.specs.Term.{Tree}
 use Rattle.core_lang.specs.declared.run.Outcome.{Outcome}

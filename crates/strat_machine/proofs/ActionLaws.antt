@@ -5,7 +5,8 @@ use Rattle.std.specs.Option.{IfSome, IsSome, option_map}
 use Rattle.std.proofs.lemmas.List.{length-map, length-append}
 use Rattle.std.proofs.lemmas.Option.{slice_get-map, slice_get_past, slice_get_read}
 use Rattle.term_model.specs.Flat.{Meaning}
-use Rattle.term_model.specs.PrimNames.{NameKey, key_at}
+use Rattle.term_model.specs.PrimNames.{NameKey}
+use Rattle.term_model.specs.NameSet.{key_at}
 use Rattle.term_model.specs.Space.{Space}
 use Rattle.term_model.specs.Symbol.{Symbol}
 use Rattle.core_lang.specs.declared.program.CorePattern.{CorePattern}

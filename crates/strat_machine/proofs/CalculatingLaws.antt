@@ -5,7 +5,8 @@ use Rattle.std.specs.Option.{option_map, option_and_then, IfSome}
 use Rattle.std.proofs.lemmas.List.{get_or_default}
 use Rattle.term_model.specs.Flat.{FlatValue, Meaning, number, flat_of, with_flat}
 use Rattle.term_model.specs.Flat as flat
-use Rattle.term_model.specs.PrimNames.{NameKey, key_at}
+use Rattle.term_model.specs.PrimNames.{NameKey}
+use Rattle.term_model.specs.NameSet.{key_at}
 use Rattle.term_model.specs.Space.{Space, Keeps}
 use Rattle.term_model.specs.Term.{Tree, end, more, fits}
 use Rattle.prim_registry.specs.Registered.{registered}

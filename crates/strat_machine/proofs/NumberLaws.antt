@@ -6,7 +6,8 @@ use Rattle.term_model.specs.declared.term.Head.TheVariants as heads
 use Rattle.term_model.specs.Symbol.{Symbol}
 use Rattle.term_model.specs.Same.{same_head, same_head-Decides}
 use Rattle.term_model.specs.Space.{IsList}
-use Rattle.term_model.specs.Term.{Tree, node, head_of}
+use Rattle.term_model.specs.Term.{Tree, node}
+use Rattle.term_model.specs.TermParts.{head_of}
 use Rattle.core_lang.specs.Roots.{has_root, are_many, integer_root, list_root}
 use Rattle.strat_machine.specs.Indexing.{number_in}
 use Rattle.strat_machine.specs.Tables.{root_meant, RootKnown, CasesKnown}

@@ -4,7 +4,8 @@ use Rattle.std.specs.Prelude.{Bool, true, false}
 use Rattle.std.specs.Option.{option_map}
 use Rattle.std.proofs.Math.Seq.{take-append_seam, drop-append_seam, take-append-add, drop-append-add}
 use Rattle.std.proofs.lemmas.List.{reverse-append, reverse-reverse, length-reverse, length-take}
-use Rattle.term_model.specs.Term.{Tree, end, more, list_of, parts_of, Fits}
+use Rattle.term_model.specs.Term.{Tree, end, more, list_of, Fits}
+use Rattle.term_model.specs.TermParts.{parts_of}
 use Rattle.term_model.proofs.SpaceLaws.{keeps_same}
 use Rattle.term_model.proofs.SpaceLemmas.{whole}
 use Rattle.core_lang.specs.Environment.{Bindings}

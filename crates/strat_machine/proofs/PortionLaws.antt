@@ -3,7 +3,8 @@ use Rattle.std.proofs.Common.{◌≡◌, ℕ, zero, suc, ◌+◌, ◌-◌, ◌�
 use Rattle.std.proofs.Math.Seq.{take-append_seam, drop-append_seam}
 use Rattle.std.proofs.lemmas.List.{take-append-drop, drop_all}
 use Rattle.term_model.specs.Space.{Space, Stands}
-use Rattle.term_model.specs.Term.{Tree, node, Trees, end, more, parts_of, list_of, trees_of}
+use Rattle.term_model.specs.Term.{Tree, node, Trees, end, more, list_of, trees_of}
+use Rattle.term_model.specs.TermParts.{parts_of}
 use Rattle.term_model.proofs.TermLemmas.{trees_of-list_of}
 use Rattle.core_lang.specs.Derivation.{parts}
 use Rattle.strat_steps.specs.References.{trees_after, trees_left, AllRefs}

@@ -4,7 +4,8 @@ use Rattle.std.specs.Option.{option_map, option_and_then, IfSome}
 use Rattle.std.proofs.lemmas.List.{length-map, get_or_default}
 use Rattle.term_model.specs.Flat.{FlatValue, Meaning, all_flat}
 use Rattle.term_model.specs.Flat as flat
-use Rattle.term_model.specs.PrimNames.{NameKey, key_at}
+use Rattle.term_model.specs.PrimNames.{NameKey}
+use Rattle.term_model.specs.NameSet.{key_at}
 use Rattle.term_model.specs.Space.{Space, Keeps}
 use Rattle.term_model.specs.Term.{Tree, Trees, trees_of}
 use Rattle.prim_registry.specs.Registered.{registered}

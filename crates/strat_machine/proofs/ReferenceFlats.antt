@@ -5,7 +5,8 @@ use Rattle.std.proofs.lemmas.List.{get_or-map, length-map, map-append}
 use Rattle.term_model.specs.declared.term.Head.TheVariants as heads
 use Rattle.term_model.specs.Flat.{FlatValue, integer_of, flat_of, with_flat, all_flat}
 use Rattle.term_model.specs.Space.{Space, Keeps}
-use Rattle.term_model.specs.Term.{Tree, node, trees_of, head_of}
+use Rattle.term_model.specs.Term.{Tree, node, trees_of}
+use Rattle.term_model.specs.TermParts.{head_of}
 use Rattle.strat_steps.specs.References.{AllRefs}
 
 -- the term of a reference among others

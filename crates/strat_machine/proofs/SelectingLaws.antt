@@ -12,7 +12,8 @@ use Rattle.term_model.specs.Symbol.{Symbol}
 use Rattle.term_model.specs.Flat.{Meaning}
 use Rattle.term_model.specs.Same.{same_head, same_head-Decides}
 use Rattle.term_model.specs.Space.{Space, IsApplied, IsList}
-use Rattle.term_model.specs.Term.{Tree, node, Trees, end, more, head_of, list_of}
+use Rattle.term_model.specs.Term.{Tree, node, Trees, end, more, list_of}
+use Rattle.term_model.specs.TermParts.{head_of}
 use Rattle.core_lang.specs.Roots.{Root, are_many, has_root, integer_root, symbol_root, list_root}
 use Rattle.strat_code.specs.Code.{Instr, select}
 use Rattle.strat_steps.specs.State.{Frame, run_spent, saved}

@@ -5,7 +5,8 @@ use Rattle.std.specs.Option.{option_map}
 use Rattle.std.proofs.Math.Seq.{take-append_seam, drop-append_seam}
 use Rattle.std.proofs.lemmas.List.{reverse-append, reverse-reverse, length-map, length-take, length-drop}
 use Rattle.std.proofs.lemmas.Bool.{false_from_ne_true}
-use Rattle.term_model.specs.Term.{Tree, node, end, term, head_of, parts_of, annos_of, trees_of, fits, Fits}
+use Rattle.term_model.specs.Term.{Tree, node, end, term, trees_of, fits, Fits}
+use Rattle.term_model.specs.TermParts.{head_of, parts_of, annos_of}
 use Rattle.term_model.specs.declared.made.Made.{Made}
 use Rattle.term_model.specs.declared.made.Made.TheVariants as made
 use Rattle.term_model.specs.Space.{Space, Keeps, IsMark, Makes, Pushes}

@@ -2,7 +2,7 @@
 -- The parts of a term on a stack.
 use Rattle.std.specs.Prelude.{◌≡◌, ℕ, ◌-◌, IsTrue, List, ◌++◌, length, map, take, drop, All}
 use Rattle.term_model.specs.Space.{Space}
-use Rattle.term_model.specs.Term.{parts_of}
+use Rattle.term_model.specs.TermParts.{parts_of}
 
 -- references of a term's parts, of the one at an index and those after it, but not of those from a second index on, are
 -- put on a stack, the first part on top

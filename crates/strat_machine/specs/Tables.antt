@@ -3,7 +3,8 @@
 use Rattle.std.specs.Prelude.{◌≡◌, ℕ, ◌<◌, Bool, IsTrue, Option, Some, None, List, [], ◌∷◌, length, drop, map, Contains, zero, suc, Vec}
 use Rattle.std.specs.declared.alloc.Global.{Global}
 use Rattle.term_model.specs.Symbol.{Symbol}
-use Rattle.term_model.specs.PrimNames.{NameKey, key_at}
+use Rattle.term_model.specs.PrimNames.{NameKey}
+use Rattle.term_model.specs.NameSet.{key_at}
 use Rattle.term_model.specs.Term.{Tree}
 use Rattle.core_lang.specs.Roots.{Root, has_root, any_root, integer_root, symbol_root, list_root}
 use Rattle.strat_code.specs.Code.{Case, case}

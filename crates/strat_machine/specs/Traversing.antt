@@ -2,7 +2,7 @@
 -- What the steps of a traversal do to the Rust machine.
 use Rattle.std.specs.Prelude.{◌≡◌, ◌≤◌, ℕ, suc, ◌+◌, Bool, List, [], ◌++◌, length, map, take, drop}
 use Rattle.std.specs.Option.{option_map}
-use Rattle.term_model.specs.Term.{parts_of}
+use Rattle.term_model.specs.TermParts.{parts_of}
 use Rattle.core_lang.specs.Ending.{ok, oversize, rebuilt}
 use Rattle.strat_steps.specs.State.{run_oversize}
 use Rattle.term_model.specs.Space.{Space, Keeps, Stands}

@@ -5,7 +5,8 @@ ghost use Rattle.term_model.specs.declared.term.Head.TheVariants as heads;
 ghost use Rattle.term_model.specs.Flat.{all_flat, flat_of, integers_of};
 ghost use Rattle.term_model.specs.Flat as flat;
 ghost use Rattle.term_model.specs.Space.{Keeps, Makes};
-ghost use Rattle.term_model.specs.Term.{Tree, parts_of, term, trees_of};
+ghost use Rattle.term_model.specs.Term.{Tree, term, trees_of};
+ghost use Rattle.term_model.specs.TermParts.{parts_of};
 ghost use Rattle.strat_steps.specs.References.{AllRefs};
 
 use prim_registry::{Bytes, Flat, Numbers};

@@ -1,7 +1,7 @@
 //! The parts of a term that is traversed, of which a stack has some: they are put there in portions, of which each has as many parts as the
 //! traversal has come to. So a traversal that ends early, or waits, does not pay for the parts that it never comes to.
 ghost use Rattle.std.specs.Prelude.{◌≡◌, ◌<◌, ◌≤◌, ◌+◌, IfOk, MatchOption, IsTrue, length, take};
-ghost use Rattle.term_model.specs.Term.{parts_of};
+ghost use Rattle.term_model.specs.TermParts.{parts_of};
 ghost use Rattle.strat_machine.specs.Traversing.{OpensParts, HasNone, TakesPart, TakesPortion};
 
 use crate::records::{Records, Traversed};

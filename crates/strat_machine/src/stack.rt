@@ -1,6 +1,6 @@
 //! A stack, whose newest item is the first.
 ghost use Rattle.std.specs.Prelude.{◌≡◌, ◌-◌, ◌≤◌, min, IsTrue, MatchOption, IfOk, OnOk, OnErr, [], ◌∷◌, ◌++◌, length, reverse, take, drop};
-ghost use Rattle.term_model.specs.Term.{parts_of};
+ghost use Rattle.term_model.specs.TermParts.{parts_of};
 ghost use Rattle.strat_machine.specs.PartsOf.{PutsParts};
 ghost use Rattle.term_model.specs.Results.{Returns};
 

@@ -2,7 +2,7 @@
 ghost use Rattle.std.specs.Prelude.{◌≡◌, ◌≤◌, ◌+◌, ℕ, suc, IfOk, IsTrue, true, false, [], ◌∷◌, ◌++◌, length, map, take, drop, reverse};
 ghost use Rattle.term_model.specs.Flat.{Meaning};
 ghost use Rattle.term_model.specs.Space.{Keeps};
-ghost use Rattle.term_model.specs.Term.{parts_of};
+ghost use Rattle.term_model.specs.TermParts.{parts_of};
 ghost use Rattle.strat_code.specs.Code.{traverse, part_done};
 ghost use Rattle.strat_code.specs.CodeOf.{traversal_of};
 ghost use Rattle.strat_steps.specs.References.{AllRefs, record_tree};

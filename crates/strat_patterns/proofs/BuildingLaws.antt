@@ -14,7 +14,8 @@ use Rattle.term_model.specs.declared.made.Made.{Made}
 use Rattle.term_model.specs.declared.made.Made.TheVariants as made
 use Rattle.term_model.specs.Symbol.{Symbol}
 use Rattle.term_model.specs.Space.{Space, Makes}
-use Rattle.term_model.specs.Term.{Tree, node, Trees, end, more, term, head_of, parts_of, annos_of, list_of, trees_of, fits, Fits, all_fit}
+use Rattle.term_model.specs.Term.{Tree, node, Trees, end, more, term, list_of, trees_of, fits, Fits, all_fit}
+use Rattle.term_model.specs.TermParts.{head_of, parts_of, annos_of}
 use Rattle.term_model.proofs.FitsLaws.{fits-complete, fits-sound, large_part, large_annotation, bare_fits, bare_large}
 use Rattle.term_model.proofs.TermLemmas.{trees_of-list_of}
 use Rattle.strat_patterns.specs.Builds.{held, held_in, IsBare, made_built, large_with, in_front, Builds, AreBuilt, AreElements}

@@ -13,7 +13,8 @@ use Rattle.core_lang.specs.Views.{patterns_in, elements_in}
 use Rattle.core_lang.proofs.ElementLaws.{elements_of_list, elements_of_application, elements_annotated, annotated_without, elements_with, with_none, with_again, like_with}
 use Rattle.term_model.specs.Symbol.{Symbol}
 use Rattle.term_model.specs.Space.{Space, Pushes}
-use Rattle.term_model.specs.Term.{Tree, Trees, end, parts_of, annos_of, list_of, trees_of, fits, Fits, all_fit}
+use Rattle.term_model.specs.Term.{Tree, Trees, end, list_of, trees_of, fits, Fits, all_fit}
+use Rattle.term_model.specs.TermParts.{parts_of, annos_of}
 use Rattle.term_model.proofs.FitsLaws.{all_fit-last, annos_fit}
 use Rattle.term_model.proofs.TermLemmas.{trees_of-list_of}
 use Rattle.strat_patterns.specs.Builds.{IsBare, IsKept, BuiltStands, in_front, instances_then, joined_elements, Builds, AreBuilt, AreBuiltBefore, AreElements, TailStands, Puts}

@@ -7,7 +7,8 @@ use Rattle.std.proofs.lemmas.List.{drop_all, length-map, length-take}
 use Rattle.std.proofs.lemmas.Bool.{eq-eqb, eqb-true}
 use Rattle.term_model.specs.Symbol.{Symbol}
 use Rattle.term_model.specs.declared.term.Head.TheVariants as heads
-use Rattle.term_model.specs.Term.{Tree, node, Trees, end, more, term, head_of, parts_of, annos_of, list_of, trees_of}
+use Rattle.term_model.specs.Term.{Tree, node, Trees, end, more, term, list_of, trees_of}
+use Rattle.term_model.specs.TermParts.{head_of, parts_of, annos_of}
 use Rattle.term_model.specs.Same.{same, same_head, same-refl, same-true}
 use Rattle.term_model.specs.Space.{Space, Keeps, Pushes}
 use Rattle.term_model.proofs.TermLemmas.{trees_of-list_of}

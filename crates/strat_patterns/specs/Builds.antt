@@ -5,7 +5,8 @@ use Rattle.term_model.specs.Space.{Space}
 use Rattle.term_model.specs.declared.term.Head.TheVariants as heads
 use Rattle.term_model.specs.declared.made.Made.{Made}
 use Rattle.term_model.specs.declared.made.Made.TheVariants as made
-use Rattle.term_model.specs.Term.{Tree, Trees, head_of, parts_of, annos_of, trees_of, fits, all_fit}
+use Rattle.term_model.specs.Term.{Tree, Trees, trees_of, fits, all_fit}
+use Rattle.term_model.specs.TermParts.{head_of, parts_of, annos_of}
 use Rattle.core_lang.specs.Building.{with_front, instance}
 use Rattle.core_lang.specs.Environment.{Bindings}
 use Rattle.core_lang.specs.Program.{Pattern}

@@ -1,7 +1,8 @@
 //! The annotations of a term, and the term without them.
 ghost use Rattle.std.specs.Prelude.{◌≡◌, ◌↔◌, ◌<◌, IfOk, IsTrue, Some, [], length, slice_get};
 ghost use Rattle.term_model.specs.Space.{Keeps};
-ghost use Rattle.term_model.specs.Term.{annos_of, head_of, parts_of, term};
+ghost use Rattle.term_model.specs.Term.{term};
+ghost use Rattle.term_model.specs.TermParts.{annos_of, head_of, parts_of};
 
 use std::alloc::{AllocError, Global};
 use term_model::{Made, TermSpace};

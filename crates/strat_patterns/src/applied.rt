@@ -6,7 +6,7 @@ ghost use Rattle.std.specs.Option.{option_map};
 ghost use Rattle.core_lang.specs.Building.{instance};
 ghost use Rattle.core_lang.specs.Program.{applied};
 ghost use Rattle.core_lang.specs.Views.{patterns_in};
-ghost use Rattle.term_model.specs.Term.{parts_of};
+ghost use Rattle.term_model.specs.TermParts.{parts_of};
 ghost use Rattle.term_model.specs.Space.{Keeps};
 ghost use Rattle.strat_steps.specs.Binding.{attempt, attempted};
 ghost use Rattle.strat_steps.specs.Matches.{Goes, LeavesSpace, AllLeaveSpace, first_attempted};

@@ -1,6 +1,6 @@
 //! The first parts of a term.
 ghost use Rattle.std.specs.Prelude.{IfOk, IsTrue};
-ghost use Rattle.term_model.specs.Term.{parts_of};
+ghost use Rattle.term_model.specs.TermParts.{parts_of};
 ghost use Rattle.strat_steps.specs.Matches.{AreFirst};
 
 use std::alloc::{AllocError, Global};

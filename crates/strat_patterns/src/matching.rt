@@ -3,7 +3,8 @@ ghost use Rattle.std.specs.Prelude.{◌≡◌, ◌≤◌, IfOk, IsTrue, None, tr
 ghost use Rattle.core_lang.specs.Program.{list};
 ghost use Rattle.term_model.specs.declared.term.Head.TheVariants as heads;
 ghost use Rattle.term_model.specs.Symbol.{Symbol};
-ghost use Rattle.term_model.specs.Term.{annos_of, head_of, parts_of, term};
+ghost use Rattle.term_model.specs.Term.{term};
+ghost use Rattle.term_model.specs.TermParts.{annos_of, head_of, parts_of};
 ghost use Rattle.term_model.specs.Same.{same_head};
 ghost use Rattle.term_model.specs.Space.{Keeps};
 ghost use Rattle.strat_steps.specs.Binding.{attempt, attempted, bind};

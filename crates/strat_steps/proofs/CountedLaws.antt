@@ -1,7 +1,8 @@
 -- Each step keeps that in a traversal no part is lost.
 use Rattle.std.proofs.Common.{◌≡◌, ℕ, suc, ◌+◌, ◌-◌, Option, Some, None, List, [], ◌∷◌, length, arith, subst}
 use Rattle.std.specs.Prelude.{Bool, true, false, if◌then◌else◌, nat_lt, slice_get}
-use Rattle.term_model.specs.Term.{Tree, node, Trees, end, more, list_of, parts_of}
+use Rattle.term_model.specs.Term.{Tree, node, Trees, end, more, list_of}
+use Rattle.term_model.specs.TermParts.{parts_of}
 use Rattle.term_model.specs.Flat.{Meaning}
 use Rattle.core_lang.specs.Environment.{Bindings}
 use Rattle.core_lang.specs.Building.{instance, instances}

@@ -1,7 +1,8 @@
 -- The headline does not rest on this file.
 -- In each traversal no part is lost.
 use Rattle.std.specs.Prelude.{◌≡◌, suc, ◌+◌, List, [], ◌∷◌, length}
-use Rattle.term_model.specs.Term.{list_of, parts_of}
+use Rattle.term_model.specs.Term.{list_of}
+use Rattle.term_model.specs.TermParts.{parts_of}
 use Rattle.strat_steps.specs.State.{Record, call_record, choice_record, all_record, one_record, some_record, State, running, failing, ended}
 
 -- in each traversal the parts that are done, the one that is tried and those that are left are as many as the whole has

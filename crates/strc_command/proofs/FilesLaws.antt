@@ -3,7 +3,7 @@ use Rattle.std.proofs.Common.{◌≡◌, ◌<◌, ◌≤◌, ℕ, Bool, false, L
 use Rattle.std.specs.Prelude.{take, map}
 use Rattle.std.specs.Bool.{◌==◌}
 use Rattle.std.specs.Option.{option_to_list}
-use Rattle.str_pipeline.specs.Device.{Loses, IsDry, ReadsFront}
+use Rattle.str_pipeline.specs.Transfer.{Loses, IsDry, ReadsFront}
 use Rattle.strc_command.specs.Files.{whole_text, with_next}
 
 -- the first byte of a slice into which it was put

@@ -10,7 +10,8 @@ use Rattle.term_model.specs.declared.fault.Fault.TheVariants.{Memory, DuplicateD
 use Rattle.term_model.specs.PrimNames.{NameKey}
 use Rattle.prim_registry.specs.declared.primitive.Primitive.{Primitive}
 use Rattle.prim_registry.specs.declared.registry.Registry.{Registry}
-use Rattle.prim_registry.specs.Entries.{entry_of, entries_of, name_of, primitives_of, HasName}
+use Rattle.prim_registry.specs.Entries.{entry_of, entries_of, primitives_of}
+use Rattle.prim_registry.specs.RegistryNames.{name_of, HasName}
 use Rattle.prim_registry.specs.declared.standard_primitive.StandardPrimitive.{StandardPrimitive}
 use Rattle.prim_registry.specs.StandardPrimitives.{key_of, standard_primitives, standard_entries}
 use Rattle.strc_command.specs.Primitives.{names_of}

@@ -2,7 +2,7 @@
 ghost use Rattle.std.specs.Prelude.{◌≡◌, ◌+◌, ◌<◌, ◌≤◌, Option, IfSome};
 ghost use Rattle.term_model.specs.declared.fault.Fault.{Fault};
 ghost use Rattle.str_pipeline.specs.Setting.{setting_of};
-ghost use Rattle.str_pipeline.specs.Judged.{IsVerdict};
+ghost use Rattle.str_pipeline.specs.Verdict.{IsVerdict};
 ghost use Rattle.str_pipeline.specs.Limits.{max_definitions};
 ghost use Rattle.strc_command.specs.Files.{texts_at, whole_text};
 ghost use Rattle.strc_command.specs.Report.{exit_of_verdict, IsUnread, TellsVerdict};

@@ -1,6 +1,7 @@
 -- The depth of a term and of what is in it.
 use Rattle.std.proofs.Common.{◌≡◌, ◌+◌, ◌≤◌, List, ◌∷◌, map, arith}
-use Rattle.term_model.specs.Term.{Tree, node, parts_of, annos_of, trees_of, depth, depths}
+use Rattle.term_model.specs.Term.{Tree, node, trees_of, depth, depths}
+use Rattle.term_model.specs.TermParts.{parts_of, annos_of}
 use Rattle.term_model.proofs.TermLemmas.{trees_of-list_of}
 
 -- the parts of a term are less deep than the term

@@ -1,7 +1,8 @@
 -- Laws of the equality of terms.
 use Rattle.std.proofs.Common.{◌≡◌, ℕ, zero, suc, ◌+◌, ◌≤◌, ◌<◌, ◌≢◌, Bool, true, false, ◌&&◌, List, [], ◌∷◌, length, get_or, refl, ap, arith}
 use Rattle.std.proofs.Math.Bool.{and-false}
-use Rattle.term_model.specs.Term.{Tree, node, trees_of, head_of, parts_of, annos_of, weight, weights}
+use Rattle.term_model.specs.Term.{Tree, node, trees_of, weight, weights}
+use Rattle.term_model.specs.TermParts.{head_of, parts_of, annos_of}
 use Rattle.std.specs.Prelude.{IsTrue, ◌↔◌}
 use Rattle.term_model.specs.declared.term.Head.{Head}
 use Rattle.term_model.specs.Symbol.{Symbol}

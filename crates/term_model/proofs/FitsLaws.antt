@@ -5,7 +5,8 @@ use Rattle.std.proofs.lemmas.Bool.{le-leb, leb-true, and_parts, false_from_ne_tr
 use Rattle.term_model.specs.declared.term.Head.{Head}
 use Rattle.term_model.specs.declared.made.Made.TheVariants as made
 use Rattle.term_model.specs.Limits.{max_weight, max_depth}
-use Rattle.term_model.specs.Term.{Tree, node, Trees, end, more, trees_of, parts_of, annos_of, weight, weights, depth, depths, fits, Fits, all_fit, made_of}
+use Rattle.term_model.specs.Term.{Tree, node, Trees, end, more, trees_of, weight, weights, depth, depths, fits, Fits, all_fit, made_of}
+use Rattle.term_model.specs.TermParts.{parts_of, annos_of}
 use Rattle.term_model.proofs.TermLemmas.{trees_of-list_of}
 
 -- the test decides whether a term fits

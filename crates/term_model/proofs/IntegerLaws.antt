@@ -2,7 +2,8 @@
 use Rattle.std.proofs.Common.{ℕ, suc, zero, ◌<◌, ◌≤◌, true, false, Bool, arith}
 use Rattle.std.proofs.lemmas.Int.{ints}
 use Rattle.term_model.specs.Bytes.{signed}
-use Rattle.term_model.specs.Limits.{IsInRange, max_magnitude}
+use Rattle.term_model.specs.Limits.{IsInRange}
+use Rattle.term_model.specs.IntegerBounds.{max_magnitude}
 
 pub in_range : (negative : Bool) (n : ℕ) → n ≤ max_magnitude negative → IsInRange (signed negative n)
 in_range true zero h = omega (arith, ints)

@@ -1,7 +1,9 @@
 -- Sets of names with numbers of arguments: what a walk over them finds, and one more pair.
 use Rattle.std.proofs.Common.{◌≡◌, ◌<◌, ◌⊎◌, ◌++◌, ◌∷◌, inl, inr, ℕ, zero, suc, List, [], length, map, get_or, sym, refl, ◌∙◌, ap, arith, Contains}
 use Rattle.std.proofs.lemmas.List.{get_or-map, length-map, get_or_default}
-use Rattle.term_model.specs.PrimNames.{NameKey, key_at, EachOnce}
+use Rattle.term_model.specs.PrimNames.{NameKey}
+use Rattle.term_model.specs.NameSet.{key_at}
+use Rattle.term_model.specs.NameSet.{EachOnce}
 
 module _ {X Y : Type 0} (f : X → Y) where
   -- an element whose image is another one

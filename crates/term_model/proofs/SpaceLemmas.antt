@@ -11,7 +11,8 @@ use Rattle.std.proofs.Math.Seq.{take-length, drop-length}
 use Rattle.std.proofs.lemmas.Bool.{and_parts}
 use Rattle.term_model.specs.Space.{Makes, Pushes}
 use Rattle.term_model.specs.SharedTerms.{shared_terms}
-use Rattle.term_model.specs.Term.{Tree, node, term, head_of, parts_of, annos_of, weights, depths, trees_of, fits, Fits, all_fit, made_of}
+use Rattle.term_model.specs.Term.{Tree, node, term, weights, depths, trees_of, fits, Fits, all_fit, made_of}
+use Rattle.term_model.specs.TermParts.{head_of, parts_of, annos_of}
 use Rattle.term_model.proofs.TermLemmas.{trees_of-list_of}
 use Rattle.term_model.proofs.FitsLaws.{fits-sound, fits-complete, parts_fit, annos_fit, made_fits}
 

@@ -1,9 +1,11 @@
 pub mod Bytes
 pub mod QuotedText
 pub mod Symbol
+pub mod SymbolSpelling
 pub mod Spelling
 pub mod Limits
 pub mod Term
+pub mod TermParts
 pub mod TermCode
 pub mod TermNode
 pub mod TermFalls
@@ -13,6 +15,7 @@ pub mod Fault
 pub mod Flat
 pub mod Hashing
 pub mod PrimNames
+pub mod NameSet
 pub mod PrimKey
 pub mod Space
 pub mod SharedTerms

@@ -1,15 +1,10 @@
 -- How large an integer may be, how heavy and how deep a term, and how many nodes a derivation.
-use Rattle.std.specs.Prelude.{ℕ, ℤ, Bool, true, false, FitsSigned}
+use Rattle.std.specs.Prelude.{ℕ, ℤ, FitsSigned}
 use Rattle.std.specs.Int.{w64}
 
 -- an integer of the language
 abbrev pub IsInRange : ℤ → Type 0
 IsInRange n = FitsSigned w64 n
-
--- the greatest magnitude of an integer of the language that is negative, and of one that is not
-abbrev pub max_magnitude : Bool → ℕ
-max_magnitude true = 9_223_372_036_854_775_808
-max_magnitude false = 9_223_372_036_854_775_807
 
 -- the greatest weight of a term that fits
 abbrev pub max_weight : ℕ

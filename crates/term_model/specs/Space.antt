@@ -2,7 +2,8 @@
 -- A space of terms, and what its calls say.
 use Rattle.std.specs.Prelude.{◌≡◌, ◌↔◌, Bool, IsTrue, ℕ, List, [], length, ◌++◌, All, map}
 use Rattle.term_model.specs.Symbol.{Symbol}
-use Rattle.term_model.specs.Term.{Tree, head_of, parts_of, Fits}
+use Rattle.term_model.specs.Term.{Tree, Fits}
+use Rattle.term_model.specs.TermParts.{head_of, parts_of}
 use Rattle.term_model.specs.declared.term.Head.{Head}
 use Rattle.term_model.specs.declared.term.Head.TheVariants as heads
 use Rattle.term_model.specs.declared.made.Made.{Made}

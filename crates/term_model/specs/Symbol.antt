@@ -1,9 +1,7 @@
 -- Symbols: a plain name, quoted bytes, or the empty symbol of tuples.
-use Rattle.std.specs.Prelude.{◌≡◌, ℕ, Bool, true, false, ◌||◌, ◌&&◌, ◌==◌, List, [], ◌∷◌, IsTrue}
+use Rattle.std.specs.Prelude.{ℕ, Bool, false, ◌||◌, ◌&&◌, ◌==◌, List, [], ◌∷◌, IsTrue}
 use Rattle.std.specs.List.{list_all}
 use Rattle.term_model.specs.Bytes.{is_byte, is_between, is_digit}
-use Rattle.term_model.specs.declared.symbol.Kind.{Kind}
-use Rattle.term_model.specs.declared.symbol.Kind.TheVariants as kinds
 
 -- a plain name, quoted bytes, or the empty symbol of tuples
 pub data Symbol : Type 0 where
@@ -24,12 +22,6 @@ abbrev pub is_name : List ℕ → Bool
 is_name [] = false
 is_name (b ∷ bs) = begins_name b && list_all continues_name bs
 
--- which kind a symbol is of
-abbrev pub kind_of : Symbol → Kind
-kind_of (Plain _) = kinds.Plain
-kind_of (Quoted _) = kinds.Quoted
-kind_of Tuple = kinds.Tuple
-
 -- the bytes of the name or of the quoted text
 abbrev pub bytes_of : Symbol → List ℕ
 bytes_of (Plain bs) = bs
@@ -41,15 +33,3 @@ abbrev pub IsSymbol : Symbol → Type 0
 IsSymbol (Plain bs) = IsTrue (is_name bs)
 IsSymbol (Quoted bs) = IsTrue (list_all is_byte bs)
 IsSymbol Tuple = Unit {0}
-
--- the symbol of this kind and these bytes
-abbrev pub symbol_spelled : Kind → List ℕ → Symbol
-symbol_spelled kinds.Plain bs = Plain bs
-symbol_spelled kinds.Quoted bs = Quoted bs
-symbol_spelled kinds.Tuple bs = Tuple
-
--- some symbol has this kind and these bytes: a plain one has a name, the symbol of tuples has no bytes
-abbrev pub IsSpelling : Kind → List ℕ → Type 0
-IsSpelling kinds.Plain bs = is_name bs ≡ true
-IsSpelling kinds.Quoted bs = Unit {0}
-IsSpelling kinds.Tuple bs = bs ≡ []

@@ -30,15 +30,6 @@ trees_of (t ∷ ts) = more t (trees_of ts)
 abbrev pub term : Head → List Tree → List Tree → Tree
 term h parts annos = node h (trees_of parts) (trees_of annos)
 
-abbrev pub head_of : Tree → Head
-head_of (node h _ _) = h
-
-abbrev pub parts_of : Tree → List Tree
-parts_of (node _ parts _) = list_of parts
-
-abbrev pub annos_of : Tree → List Tree
-annos_of (node _ _ annos) = list_of annos
-
 -- how many bytes the symbol has
 abbrev pub head_weight : Head → ℕ
 head_weight (heads.Int _) = 0

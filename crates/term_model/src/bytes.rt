@@ -1,7 +1,7 @@
 //! Bytes of text: blanks, digits and escapes, as they stand in terms and in definition files.
 ghost use Rattle.std.specs.Prelude.{◌≡◌, ◌≤◌, ◌<◌, ◌+◌, ◌*◌, ◌-◌, IsTrue, MatchOption};
 ghost use Rattle.term_model.specs.Bytes.{is_blank, is_digit, is_octal, signed as integer_of, unescaped as escaped_byte};
-ghost use Rattle.term_model.specs.Limits.{max_magnitude};
+ghost use Rattle.term_model.specs.IntegerBounds.{max_magnitude};
 
 /// Whether the byte is a blank: a space, a TAB, a line feed or a carriage return.
 pub fn is_blank_byte(byte: u8) -> bool

@@ -1,6 +1,7 @@
 //! Sets of names of primitives with their numbers of arguments.
 ghost use Rattle.std.specs.Prelude.{◌≡◌, ◌↔◌, ◌<◌, [], length, Contains, IsTrue, OnOk, OnErr};
-ghost use Rattle.term_model.specs.PrimNames.{key_at, EachOnce, IsInserted};
+ghost use Rattle.term_model.specs.NameSet.{key_at};
+ghost use Rattle.term_model.specs.NameSet.{EachOnce, IsInserted};
 
 use std::alloc::{AllocError, Global};
 use std::marker::Model;
@@ -20,7 +21,8 @@ pub struct PrimNames {
 
 impl Model for PrimNames {
     ghost use Rattle.std.specs.Prelude.{List};
-    ghost use Rattle.term_model.specs.PrimNames.{EachOnce, NameKey};
+    ghost use Rattle.term_model.specs.PrimNames.{NameKey};
+    ghost use Rattle.term_model.specs.NameSet.{EachOnce};
     ghost use Rattle.term_model.specs.PrimKey.{keys_of};
 
     ghost Value = { List NameKey };

@@ -1,6 +1,7 @@
 //! The space of terms themselves: they are shared, so that a reference is a term.
 ghost use Rattle.std.specs.Prelude.{◌≡◌, ◌↔◌, ◌<◌, ◌≤◌, ◌++◌, All, map, drop, true, IfOk, IsTrue, Some, OnOk, OnErr, [], length};
-ghost use Rattle.term_model.specs.Term.{term, head_of, parts_of, annos_of};
+ghost use Rattle.term_model.specs.Term.{term};
+ghost use Rattle.term_model.specs.TermParts.{head_of, parts_of, annos_of};
 ghost use Rattle.term_model.specs.declared.term.Head.TheVariants as heads;
 ghost use Rattle.term_model.specs.Space.{Keeps, Makes, MayHave};
 ghost use Rattle.term_model.specs.Symbol.{bytes_of};

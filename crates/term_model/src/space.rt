@@ -1,7 +1,8 @@
 //! Spaces: where the terms of a run are kept, each under a reference.
 ghost use Rattle.std.specs.Prelude.{◌≡◌, ◌↔◌, ◌<◌, ◌≤◌, All, map, take, drop, ◌++◌, ◌+◌, length, IfOk, IsTrue, MatchOption, [], slice_get, Some, OnOk, OnErr};
-ghost use Rattle.term_model.specs.Symbol.{symbol_spelled, IsSpelling};
-ghost use Rattle.term_model.specs.Term.{term, head_of, parts_of, annos_of, Fits};
+ghost use Rattle.term_model.specs.SymbolSpelling.{symbol_spelled, IsSpelling};
+ghost use Rattle.term_model.specs.Term.{term, Fits};
+ghost use Rattle.term_model.specs.TermParts.{head_of, parts_of, annos_of};
 ghost use Rattle.term_model.specs.declared.term.Head.TheVariants as heads;
 ghost use Rattle.term_model.specs.declared.made.Made.TheVariants as made;
 ghost use Rattle.term_model.specs.Space.{Space, Keeps, MakesNone, GoesBack, IsMark, Makes, Pushes, IsApplied, IsList, MayHave, IsTop};

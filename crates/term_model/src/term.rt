@@ -1,6 +1,7 @@
 //! Terms: nodes that are shared, and that know their weight and their depth.
 ghost use Rattle.std.specs.Prelude.{vec_len, length, ◌≡◌, ◌↔◌, IsTrue, IfOk, []};
-ghost use Rattle.term_model.specs.Term.{term, head_of, parts_of, annos_of, weight, depth, trees_of, Fits, IsTerm, IsHead, made_of};
+ghost use Rattle.term_model.specs.Term.{term, weight, depth, trees_of, Fits, IsTerm, IsHead, made_of};
+ghost use Rattle.term_model.specs.TermParts.{head_of, parts_of, annos_of};
 ghost use Rattle.term_model.specs.TermNode.{shared_items};
 ghost use Rattle.term_model.specs.Results.{Returns};
 

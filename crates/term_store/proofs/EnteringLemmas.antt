@@ -6,7 +6,8 @@ use Rattle.term_model.specs.declared.term.Head.TheVariants as heads
 use Rattle.term_model.specs.declared.made.Made.{Made}
 use Rattle.term_model.specs.declared.made.Made.TheVariants as made
 use Rattle.term_model.specs.Symbol.{Symbol}
-use Rattle.term_model.specs.Term.{Tree, node, term, head_of, parts_of, annos_of, IsTerm, Fits}
+use Rattle.term_model.specs.Term.{Tree, node, term, IsTerm, Fits}
+use Rattle.term_model.specs.TermParts.{head_of, parts_of, annos_of}
 use Rattle.term_model.proofs.Joins.{append_nil}
 use Rattle.term_model.proofs.SpaceLemmas.{whole as by_parts}
 use Rattle.term_model.proofs.TermLemmas.{weight_positive}

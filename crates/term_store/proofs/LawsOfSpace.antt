@@ -12,7 +12,8 @@ use Rattle.term_model.specs.Blocks.{list_in, IsAt}
 use Rattle.term_model.specs.Space.{GoesBack, Makes, MakesNone, Pushes, IsApplied, IsList}
 use Rattle.term_model.specs.Limits.{max_weight}
 use Rattle.term_model.specs.Symbol.{Symbol}
-use Rattle.term_model.specs.Term.{Tree, term, head_of, parts_of, annos_of, trees_of, weights, Fits}
+use Rattle.term_model.specs.Term.{Tree, term, trees_of, weights, Fits}
+use Rattle.term_model.specs.TermParts.{head_of, parts_of, annos_of}
 use Rattle.term_model.specs.declared.term.Head.{Head}
 use Rattle.term_model.specs.declared.term.Head.TheVariants as heads
 use Rattle.term_model.specs.declared.made.Made.{Made}

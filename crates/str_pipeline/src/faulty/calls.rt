@@ -1,6 +1,6 @@
 //! What the calls of a device in memory do.
 ghost use Rattle.std.specs.Prelude.{◌≡◌, ◌+◌, ◌-◌, ◌<◌, ◌≤◌, [], None, Some, length, min, true, false, is_none, if◌then◌else◌, IfOk, IfSome};
-ghost use Rattle.str_pipeline.specs.Device.{ReadsFront, WritesFront, is_failed_write};
+ghost use Rattle.str_pipeline.specs.Transfer.{ReadsFront, WritesFront, is_failed_write};
 ghost use Rattle.str_pipeline.specs.Asked.{orders_of, is_bad_call, bytes_coming, bytes_written, call_count, failure_count};
 
 use crate::faulty::Faulty;

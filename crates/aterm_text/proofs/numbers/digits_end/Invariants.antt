@@ -1,5 +1,5 @@
 use Rattle.std.proofs.Common.{◌≡◌, ◌≤◌, ◌-◌, List, length}
-use Rattle.term_model.specs.Limits.{max_magnitude}
+use Rattle.term_model.specs.IntegerBounds.{max_magnitude}
 use Rattle.aterm_text.specs.Depth.{Open}
 use Rattle.aterm_text.specs.Reading.{InDigits, outcome_from}
 use Rattle.aterm_text.proofs.numbers.digits_end.Given as goal

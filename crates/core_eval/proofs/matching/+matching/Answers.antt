@@ -1,5 +1,6 @@
 use Rattle.std.proofs.Common.{◌≤◌, ◌<◌, ◌∙◌, ap, sym, subst, map, drop, length, []}
-use Rattle.term_model.specs.Term.{parts_of, trees_of}
+use Rattle.term_model.specs.Term.{trees_of}
+use Rattle.term_model.specs.TermParts.{parts_of}
 use Rattle.core_lang.specs.Tried.{tried_elements}
 use Rattle.core_lang.specs.Resolved.{by_coordinates}
 use Rattle.core_lang.specs.Views.{pattern_of, patterns_of, elements_in, rest_of}

@@ -1,5 +1,5 @@
 use Rattle.std.proofs.Common.{◌≡◌, ◌≤◌, drop}
-use Rattle.term_model.specs.Limits.{max_magnitude}
+use Rattle.term_model.specs.IntegerBounds.{max_magnitude}
 use Rattle.term_model.specs.Bytes.{value_from}
 use Rattle.prim_registry.proofs.texts.magnitude.Given as goal
 

@@ -1,5 +1,5 @@
 use Rattle.std.proofs.Common.{subst}
-use Rattle.prim_registry.specs.Entries.{Covers}
+use Rattle.prim_registry.specs.RegistryNames.{Covers}
 use Rattle.run_compare.proofs.runs.compare.Goals as goal
 
 pub eval-requires-clause-covers : goal.eval-requires-clause-covers

@@ -1,5 +1,5 @@
 use Rattle.std.proofs.Common.{subst, sym}
-use Rattle.prim_registry.specs.Entries.{Covers}
+use Rattle.prim_registry.specs.RegistryNames.{Covers}
 use Rattle.run_compare.proofs.runs.run_compiled.Goals as goal
 
 pub run-requires-clause-covers : goal.run-requires-clause-covers

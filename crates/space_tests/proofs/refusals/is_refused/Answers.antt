@@ -1,5 +1,5 @@
 use Rattle.std.proofs.Common.{subst}
-use Rattle.prim_registry.specs.Entries.{Covers}
+use Rattle.prim_registry.specs.RegistryNames.{Covers}
 use Rattle.space_tests.proofs.refusals.is_refused.Goals as goal
 
 pub run-run-requires-clause-covers : goal.run-run-requires-clause-covers

@@ -1,5 +1,5 @@
 use Rattle.std.proofs.Common.{◌≡◌, ◌+◌, ◌≤◌, drop, length}
-use Rattle.term_model.specs.Limits.{max_magnitude}
+use Rattle.term_model.specs.IntegerBounds.{max_magnitude}
 use Rattle.term_model.specs.Bytes.{is_digit, value_from}
 use Rattle.str_lexer.specs.Tokens.{first_is}
 use Rattle.str_lexer.specs.Readings.{run_length}

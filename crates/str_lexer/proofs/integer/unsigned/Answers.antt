@@ -2,7 +2,8 @@ use Rattle.std.proofs.Common.{◌≡◌, ◌∙◌, ap, rules, take, ◌<◌}
 use Rattle.std.specs.Int.{w64}
 use mir.Val.{to_z, of_z}
 use Rattle.term_model.specs.Bytes.{is_digit, signed, value_from}
-use Rattle.term_model.specs.Limits.{IsInRange, max_magnitude}
+use Rattle.term_model.specs.Limits.{IsInRange}
+use Rattle.term_model.specs.IntegerBounds.{max_magnitude}
 use Rattle.term_model.proofs.IntegerLaws.{in_range, too_large}
 use Rattle.str_lexer.proofs.RunLaws.{run_again}
 use Rattle.str_lexer.proofs.IntegerLaws.{no_integer, found_integer}

@@ -1,6 +1,6 @@
 use Rattle.std.proofs.Common.{List, ℕ, subst}
 use Rattle.std.specs.Prelude.{IfOk}
-use Rattle.str_pipeline.specs.Judged.{IsVerdict}
+use Rattle.str_pipeline.specs.Verdict.{IsVerdict}
 use Rattle.str_pipeline.specs.Setting.{Setting, setting_of}
 use Rattle.str_pipeline.proofs.FaultLaws.{verdict_told}
 use Rattle.str_pipeline.proofs.checking.check_definitions.Goals as goal

@@ -1,5 +1,5 @@
 use Rattle.std.proofs.Common.{◌≡◌, ◌+◌, ◌≤◌, ◌-◌, vec_len, false, if◌then◌else◌, IsTrue}
-use Rattle.str_pipeline.specs.Device.{Loses, IsDry}
+use Rattle.str_pipeline.specs.Transfer.{Loses, IsDry}
 use Rattle.str_pipeline.specs.Search.{IsEarly, IsSearched}
 use Rattle.str_pipeline.proofs.joined.read_front.Given as goal
 

@@ -1,5 +1,5 @@
 use Rattle.std.proofs.Common.{◌≡◌, ◌+◌, ◌≤◌, ◌-◌, ◌++◌, List, ℕ, vec_len}
-use Rattle.str_pipeline.specs.Device.{Loses}
+use Rattle.str_pipeline.specs.Transfer.{Loses}
 use Rattle.str_pipeline.proofs.source.read_onto.Given as goal
 
 abbrev pub invariant-loop-count : goal.invariant-loop-count

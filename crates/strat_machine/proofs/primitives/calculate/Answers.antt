@@ -1,7 +1,8 @@
 use Rattle.std.proofs.Common.{rules, ◌≡◌, [], ◌∷◌, map, arith}
 use Rattle.std.specs.Option.{option_map, IfSome}
 use Rattle.term_model.specs.Flat.{number}
-use Rattle.prim_registry.specs.Entries.{entries_of, entry_at}
+use Rattle.prim_registry.specs.Entries.{entries_of}
+use Rattle.prim_registry.specs.RegistryNames.{entry_at}
 use Rattle.strat_steps.specs.State.{place_at}
 use Rattle.strat_patterns.specs.Loaded.{loaded_of}
 use Rattle.strat_machine.proofs.CalculatingLaws.{two_are, calculated_some}

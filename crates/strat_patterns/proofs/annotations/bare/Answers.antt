@@ -1,6 +1,7 @@
 use Rattle.std.proofs.Common.{[], subst}
 use Rattle.term_model.specs.Space.{Makes}
-use Rattle.term_model.specs.Term.{term, head_of, parts_of}
+use Rattle.term_model.specs.Term.{term}
+use Rattle.term_model.specs.TermParts.{head_of, parts_of}
 use Rattle.strat_patterns.proofs.BuildingLaws.{bare_same, bare_fits_too}
 use Rattle.strat_patterns.proofs.annotations.bare.Goals as goal
 

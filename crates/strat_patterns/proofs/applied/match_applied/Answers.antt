@@ -2,7 +2,7 @@ use Rattle.std.proofs.Common.{refl, sym, subst, arith, length, map, true, false}
 use Rattle.std.proofs.lemmas.List.{length-map}
 use Rattle.core_lang.specs.Program.{applied}
 use Rattle.core_lang.specs.Views.{patterns_in}
-use Rattle.term_model.specs.Term.{parts_of}
+use Rattle.term_model.specs.TermParts.{parts_of}
 use Rattle.strat_patterns.specs.Applied.{MatchesFirst}
 use Rattle.strat_patterns.specs.Loaded.{loaded_of}
 use Rattle.strat_steps.specs.State.{place_at}

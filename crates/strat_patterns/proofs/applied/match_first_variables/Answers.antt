@@ -1,7 +1,7 @@
 use Rattle.std.proofs.Common.{refl, sym, ◌∙◌, ap, arith, IsTrue, length, false}
 use Rattle.std.proofs.lemmas.List.{length-map}
 use Rattle.std.proofs.lemmas.Option.{slice_get_within}
-use Rattle.term_model.specs.Term.{parts_of}
+use Rattle.term_model.specs.TermParts.{parts_of}
 use Rattle.term_model.proofs.SpaceLaws.{keeps_same}
 use Rattle.strat_patterns.specs.Loaded.{loaded_of}
 use Rattle.strat_steps.specs.State.{place_at}

@@ -1,5 +1,5 @@
 use Rattle.std.proofs.Common.{◌∙◌, refl, arith}
-use Rattle.term_model.specs.Term.{parts_of}
+use Rattle.term_model.specs.TermParts.{parts_of}
 use Rattle.term_model.proofs.SpaceLaws.{keeps_same, keeps_then}
 use Rattle.strat_patterns.specs.Loaded.{loaded_of}
 use Rattle.strat_steps.specs.State.{place_at}

@@ -1,7 +1,7 @@
 use Rattle.std.proofs.Common.{◌≡◌, ◌≤◌, drop, map}
 use Rattle.core_lang.specs.Views.{patterns_in}
 use Rattle.term_model.specs.Space.{Keeps}
-use Rattle.term_model.specs.Term.{parts_of}
+use Rattle.term_model.specs.TermParts.{parts_of}
 use Rattle.strat_patterns.specs.Loaded.{loaded_of}
 use Rattle.strat_steps.specs.Matches.{Goes, AllLeaveSpace, first_attempted}
 use Rattle.strat_steps.specs.State.{place_at}

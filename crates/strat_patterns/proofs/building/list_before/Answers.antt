@@ -1,5 +1,5 @@
 use Rattle.std.proofs.Common.{◌∙◌, ap}
-use Rattle.term_model.specs.Term.{head_of}
+use Rattle.term_model.specs.TermParts.{head_of}
 use Rattle.strat_patterns.proofs.BuildingLaws.{list_elements}
 use Rattle.strat_patterns.proofs.building.list_before.Goals as goal
 

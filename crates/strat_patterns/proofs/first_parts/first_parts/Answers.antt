@@ -1,7 +1,7 @@
 use Rattle.std.proofs.Common.{◌≡◌, ◌+◌, ◌∷◌, [], length, ap, ◌∙◌, arith, IsTrue}
 use Rattle.std.proofs.lemmas.List.{length-append}
 use Rattle.std.proofs.lemmas.List.Elements.{All-rest}
-use Rattle.term_model.specs.Term.{parts_of}
+use Rattle.term_model.specs.TermParts.{parts_of}
 use Rattle.strat_patterns.proofs.FirstPartLaws.{one_more_held}
 use Rattle.strat_patterns.proofs.ReferenceLists.{standing_push}
 use Rattle.strat_patterns.proofs.first_parts.first_parts.Goals as goal

@@ -1,5 +1,5 @@
 use Rattle.std.proofs.Common.{◌≡◌, ◌≤◌, ◌++◌, All, IsTrue, length, map}
-use Rattle.term_model.specs.Term.{parts_of}
+use Rattle.term_model.specs.TermParts.{parts_of}
 use Rattle.strat_steps.specs.References.{AllRefs}
 use Rattle.strat_patterns.proofs.first_parts.first_parts.Given as goal
 

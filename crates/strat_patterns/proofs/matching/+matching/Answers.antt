@@ -3,7 +3,8 @@ use Rattle.std.proofs.Common.{rules, [], ◌≤◌, ◌∙◌, refl, sym, ap, su
 use Rattle.std.specs.Prelude.{true, false}
 use Rattle.std.proofs.lemmas.List.{length-map}
 use Rattle.term_model.specs.Same.{same_head-true}
-use Rattle.term_model.specs.Term.{term, head_of, parts_of, annos_of}
+use Rattle.term_model.specs.Term.{term}
+use Rattle.term_model.specs.TermParts.{head_of, parts_of, annos_of}
 use Rattle.strat_patterns.specs.Loaded.{loaded_of, rest_loaded_of}
 use Rattle.strat_steps.specs.State.{place_at}
 use Rattle.strat_steps.proofs.ReferenceLaws.{all_changed}

@@ -1,5 +1,5 @@
 use Rattle.std.proofs.Common.{subst}
-use Rattle.prim_registry.specs.Entries.{Covers}
+use Rattle.prim_registry.specs.RegistryNames.{Covers}
 use Rattle.term_tests.proofs.evaluator.run.Goals as goal
 
 pub eval-requires-clause-covers : goal.eval-requires-clause-covers

@@ -1,6 +1,7 @@
 use Rattle.std.proofs.Common.{rules, sym, length, Contains}
 use Rattle.std.proofs.lemmas.List.{length-map}
-use Rattle.prim_registry.specs.Entries.{entries_of, entry_at}
+use Rattle.prim_registry.specs.Entries.{entries_of}
+use Rattle.prim_registry.specs.RegistryNames.{entry_at}
 use Rattle.prim_registry.specs.Values.{value_of, values_of}
 use Rattle.prim_registry.proofs.RegisteredLaws.{registered_call, registered_none}
 use Rattle.core_eval.proofs.primitives.RegistryPrimitives.call.Goals as goal

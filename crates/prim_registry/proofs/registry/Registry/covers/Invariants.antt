@@ -1,5 +1,5 @@
 use Rattle.std.proofs.Common.{ℕ, ◌<◌, Contains}
-use Rattle.term_model.specs.PrimNames.{key_at}
+use Rattle.term_model.specs.NameSet.{key_at}
 use Rattle.prim_registry.specs.Entries.{entries_of}
 use Rattle.prim_registry.proofs.registry.Registry.covers.Given as goal
 

@@ -1,6 +1,6 @@
 use Rattle.std.proofs.Common.{arith, below_more}
 use Rattle.std.proofs.lemmas.Grind.{common_steps}
-use Rattle.prim_registry.specs.Entries.{name_of}
+use Rattle.prim_registry.specs.RegistryNames.{name_of}
 use Rattle.term_model.proofs.PrimNameLaws.{not_at}
 use Rattle.prim_registry.proofs.registry.Registry.has_name.Goals as goal
 

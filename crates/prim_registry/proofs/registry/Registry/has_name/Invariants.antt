@@ -1,5 +1,5 @@
 use Rattle.std.proofs.Common.{◌≡◌, ◌<◌, ℕ, get_or, map}
-use Rattle.prim_registry.specs.Entries.{name_of}
+use Rattle.prim_registry.specs.RegistryNames.{name_of}
 use Rattle.prim_registry.proofs.registry.Registry.has_name.Given as goal
 
 abbrev pub invariant-loop-primitive : goal.invariant-loop-primitive

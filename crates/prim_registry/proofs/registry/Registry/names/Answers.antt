@@ -1,5 +1,5 @@
 use Rattle.std.proofs.Common.{◌≡◌, subst, arith}
-use Rattle.term_model.specs.PrimNames.{IsInserted}
+use Rattle.term_model.specs.NameSet.{IsInserted}
 use Rattle.prim_registry.specs.Entries.{entry_of}
 use Rattle.prim_registry.proofs.NameLaws.{one_more_name, all_names}
 use Rattle.prim_registry.proofs.registry.Registry.names.Goals as goal

@@ -1,5 +1,6 @@
 use Rattle.std.proofs.Common.{map, take}
-use Rattle.prim_registry.specs.Entries.{entry_of, HaveSame}
+use Rattle.prim_registry.specs.Entries.{entry_of}
+use Rattle.prim_registry.specs.RegistryNames.{HaveSame}
 use Rattle.prim_registry.proofs.registry.Registry.names.Given as goal
 
 abbrev pub invariant-loop-primitive : goal.invariant-loop-primitive

@@ -4,7 +4,8 @@ use Rattle.std.specs.Prelude.{IsTrue, not}
 use Rattle.std.specs.Option.{option_map}
 use Rattle.core_lang.specs.Building.{instance, made_like, made_with, value_in}
 use Rattle.core_lang.specs.Program.{like}
-use Rattle.term_model.specs.Term.{annos_of, end}
+use Rattle.term_model.specs.Term.{end}
+use Rattle.term_model.specs.TermParts.{annos_of}
 use Rattle.strat_patterns.specs.declared.loaded.LoadedPattern.TheViews.{the_lemmas}
 use Rattle.strat_patterns.specs.Builds.{in_front, AreBuilt}
 use Rattle.strat_patterns.specs.Loaded.{loaded_of, all_loaded_of, rest_loaded_of}

@@ -2,7 +2,7 @@ use Rattle.std.proofs.Common.{rules, ◌≡◌, ◌∙◌, ◌++◌, ◌∷◌, 
 use Rattle.std.proofs.lemmas.Grind.{common_steps}
 use Rattle.std.proofs.lemmas.List.{map-append}
 use Rattle.term_model.specs.PrimKey.{key_of, keys_of}
-use Rattle.term_model.specs.PrimNames.{EachOnce}
+use Rattle.term_model.specs.NameSet.{EachOnce}
 use Rattle.term_model.proofs.PrimNameLaws.{one_more_once}
 use Rattle.term_model.proofs.prim_names.PrimNames.insert.Goals as goal
 

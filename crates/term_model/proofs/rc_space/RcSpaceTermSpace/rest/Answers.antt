@@ -1,5 +1,6 @@
 use Rattle.std.proofs.Common.{◌≡◌, [], drop, sym, ap, ◌∙◌}
-use Rattle.term_model.specs.Term.{term, parts_of, made_of}
+use Rattle.term_model.specs.Term.{term, made_of}
+use Rattle.term_model.specs.TermParts.{parts_of}
 use Rattle.term_model.specs.declared.term.Head.TheVariants as heads
 use Rattle.term_model.proofs.SpaceLemmas.{rest_is_made, to_the_end}
 use Rattle.term_model.proofs.rc_space.RcSpaceTermSpace.rest.Goals as goal

@@ -1,5 +1,5 @@
 use Rattle.std.proofs.Common.{◌∙◌, ap, map, sym}
-use Rattle.term_model.specs.Term.{annos_of}
+use Rattle.term_model.specs.TermParts.{annos_of}
 use Rattle.term_store.specs.Space.{term_of}
 use Rattle.term_store.proofs.ShapeLaws.{integer_standing}
 use Rattle.term_store.proofs.space.StoreSpaceTermSpace.annos.Goals as goal

@@ -1,6 +1,6 @@
 use Rattle.std.proofs.Common.{◌∙◌, ap, length, sym}
 use Rattle.term_model.specs.Blocks.{list_in}
-use Rattle.term_model.specs.Term.{parts_of}
+use Rattle.term_model.specs.TermParts.{parts_of}
 use Rattle.term_store.proofs.LawsOfSpace.{counted}
 use Rattle.term_store.proofs.ShapeLaws.{integer_standing}
 use Rattle.term_store.proofs.space.StoreSpaceTermSpace.count.Goals as goal

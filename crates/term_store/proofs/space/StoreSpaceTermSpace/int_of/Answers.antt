@@ -2,7 +2,7 @@ use Rattle.std.proofs.Common.{rules, ◌≡◌, ◌∙◌, ap, sym}
 use Rattle.std.proofs.lemmas.Bool.{ltb-true}
 use mir.Val.{to_z, of_z}
 use Rattle.std.specs.Int.{w64}
-use Rattle.term_model.specs.Term.{head_of}
+use Rattle.term_model.specs.TermParts.{head_of}
 use Rattle.term_model.specs.declared.term.Head.TheVariants as heads
 use Rattle.term_store.specs.Space.{count}
 use Rattle.term_store.proofs.ShapeLaws.{integer_term}

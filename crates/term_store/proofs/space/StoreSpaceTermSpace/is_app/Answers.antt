@@ -1,5 +1,5 @@
 use Rattle.std.proofs.Common.{◌≡◌, ◌∙◌, ap, false, sym, true}
-use Rattle.term_model.specs.Term.{head_of}
+use Rattle.term_model.specs.TermParts.{head_of}
 use Rattle.term_model.specs.declared.term.Head.TheVariants as heads
 use Rattle.term_store.specs.Space.{symbol_at}
 use Rattle.term_store.proofs.ShapeLaws.{integer_standing}

@@ -1,5 +1,6 @@
 use Rattle.std.proofs.Common.{◌<◌, [], arith, length, subst, sym}
-use Rattle.term_model.specs.Term.{Tree, parts_of, term}
+use Rattle.term_model.specs.Term.{Tree, term}
+use Rattle.term_model.specs.TermParts.{parts_of}
 use Rattle.term_model.specs.declared.term.Head.TheVariants as heads
 use Rattle.term_model.specs.Blocks.{list_in}
 use Rattle.term_store.specs.Shapes.{shape_parts}

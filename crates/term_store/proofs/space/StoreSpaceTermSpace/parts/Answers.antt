@@ -1,5 +1,5 @@
 use Rattle.std.proofs.Common.{◌∙◌, ap, map, sym}
-use Rattle.term_model.specs.Term.{parts_of}
+use Rattle.term_model.specs.TermParts.{parts_of}
 use Rattle.term_store.specs.Space.{term_of}
 use Rattle.term_store.proofs.ShapeLaws.{integer_standing}
 use Rattle.term_store.proofs.space.StoreSpaceTermSpace.parts.Goals as goal

@@ -2,7 +2,7 @@ use Rattle.std.proofs.Common.{◌≡◌, ◌-◌, length, drop, ap, subst, ◌�
 use Rattle.std.proofs.lemmas.List.{length-drop}
 use Rattle.std.proofs.lemmas.Result.{on_ok_weaker}
 use Rattle.term_model.specs.Blocks.{list_in}
-use Rattle.term_model.specs.Term.{parts_of}
+use Rattle.term_model.specs.TermParts.{parts_of}
 use Rattle.term_store.specs.Chains.{IsBlockIn}
 use Rattle.term_store.specs.Space.{term_of}
 use Rattle.term_store.proofs.LawsOfSpace.{count_at, some_pushed}

@@ -1,7 +1,8 @@
 use Rattle.std.proofs.Common.{rules, ◌≡◌, ◌<◌, ◌∙◌, List, ℕ, ap, sym, subst, map, length, arith}
 use Rattle.std.proofs.lemmas.List.{length-map}
 use Rattle.term_model.specs.Blocks.{list_in}
-use Rattle.term_model.specs.Term.{term, head_of, parts_of, annos_of, Fits}
+use Rattle.term_model.specs.Term.{term, Fits}
+use Rattle.term_model.specs.TermParts.{head_of, parts_of, annos_of}
 use Rattle.term_store.specs.Shapes.{shape_head, shape_parts, shape_annos}
 use Rattle.term_store.specs.Chains.{IsBlockIn}
 use Rattle.term_store.specs.Store.{head_in, MayHave, IsAmong}

@@ -1,6 +1,7 @@
 use Rattle.std.proofs.Common.{[], ◌≡◌, ◌∙◌, ap, drop, length, sym, ◌≤◌, subst}
 use Rattle.term_model.specs.Blocks.{list_in}
-use Rattle.term_model.specs.Term.{term, parts_of, Fits}
+use Rattle.term_model.specs.Term.{term, Fits}
+use Rattle.term_model.specs.TermParts.{parts_of}
 use Rattle.term_model.specs.declared.term.Head.TheVariants as heads
 use Rattle.term_store.specs.Chains.{IsBlockIn}
 use Rattle.term_store.specs.Shapes.{shape_parts}

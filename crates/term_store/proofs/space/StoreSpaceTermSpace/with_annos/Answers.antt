@@ -1,5 +1,6 @@
 use Rattle.std.proofs.Common.{◌≡◌, ◌++◌, ◌∙◌, ap, sym, subst, map}
-use Rattle.term_model.specs.Term.{term, head_of}
+use Rattle.term_model.specs.Term.{term}
+use Rattle.term_model.specs.TermParts.{head_of}
 use Rattle.term_model.specs.Blocks.{front_list, list_in}
 use Rattle.term_store.specs.Shapes.{shape_parts}
 use Rattle.term_store.specs.Chains.{IsChainIn}
