@@ -9,7 +9,7 @@ use Rattle.term_model.specs.Flat.{flat_of, with_flat, all_flat, integer_of, with
 use Rattle.std.specs.Option.{option_map}
 use Rattle.term_model.proofs.TermLemmas.{trees_of-list_of}
 use Rattle.term_model.specs.Symbol.{Symbol, Plain, Quoted, Tuple}
-use Rattle.term_model.specs.SymbolSpelling.{kind_of}
+use Rattle.term_model.specs.SymbolKinds.{kind_of}
 use Rattle.term_model.specs.Term.{Tree, node, Trees, end, more, term, trees_of}
 use Rattle.term_model.specs.TermParts.{head_of, parts_of}
 use Rattle.prim_registry.specs.declared.flat.Flat.{Flat}

@@ -1,7 +1,7 @@
 pub mod Bytes
 pub mod QuotedText
 pub mod Symbol
-pub mod SymbolSpelling
+pub mod SymbolKinds
 pub mod Spelling
 pub mod Limits
 pub mod Term

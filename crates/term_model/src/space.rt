@@ -1,6 +1,6 @@
 //! Spaces: where the terms of a run are kept, each under a reference.
 ghost use Rattle.std.specs.Prelude.{◌≡◌, ◌↔◌, ◌<◌, ◌≤◌, All, map, take, drop, ◌++◌, ◌+◌, length, IfOk, IsTrue, MatchOption, [], slice_get, Some, OnOk, OnErr};
-ghost use Rattle.term_model.specs.SymbolSpelling.{symbol_spelled, IsSpelling};
+ghost use Rattle.term_model.specs.SymbolKinds.{symbol_spelled, IsSpelling};
 ghost use Rattle.term_model.specs.Term.{term, Fits};
 ghost use Rattle.term_model.specs.TermParts.{head_of, parts_of, annos_of};
 ghost use Rattle.term_model.specs.declared.term.Head.TheVariants as heads;

@@ -2,7 +2,7 @@
 ghost use Rattle.std.specs.Prelude.{true, false, ◌≡◌, ◌↔◌, IsTrue, IfOk, MatchOption};
 ghost use Rattle.std.specs.List.{list_all};
 ghost use Rattle.term_model.specs.Symbol.{Plain, Quoted, Tuple, bytes_of, is_name, begins_name, continues_name, IsSymbol};
-ghost use Rattle.term_model.specs.SymbolSpelling.{kind_of, symbol_spelled, IsSpelling};
+ghost use Rattle.term_model.specs.SymbolKinds.{kind_of, symbol_spelled, IsSpelling};
 ghost use Rattle.term_model.specs.Results.{Returns};
 
 use crate::short_text::ShortText;

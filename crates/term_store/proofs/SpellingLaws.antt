@@ -6,7 +6,7 @@ use Rattle.term_model.specs.declared.symbol.Kind.{Kind}
 use Rattle.term_model.specs.declared.symbol.Kind.TheVariants as kinds
 use Rattle.term_model.specs.Same.{same_symbol, same_symbol-true}
 use Rattle.term_model.specs.Symbol.{Symbol, Plain, Quoted, Tuple, bytes_of, IsSymbol}
-use Rattle.term_model.specs.SymbolSpelling.{kind_of, symbol_spelled, IsSpelling}
+use Rattle.term_model.specs.SymbolKinds.{kind_of, symbol_spelled, IsSpelling}
 
 -- a symbol is spelled by its kind and its bytes
 pub spelled_so : (s : Symbol) → symbol_spelled (kind_of s) (bytes_of s) ≡ s

@@ -1,7 +1,7 @@
 //! Symbols under their numbers.
 ghost use Rattle.std.specs.Prelude.{◌≡◌, ◌<◌, length, IfOk};
 ghost use Rattle.term_store.specs.Space.{count, symbol_at, Keeps};
-ghost use Rattle.term_model.specs.SymbolSpelling.{symbol_spelled, IsSpelling};
+ghost use Rattle.term_model.specs.SymbolKinds.{symbol_spelled, IsSpelling};
 ghost use Rattle.term_store.specs.Store.{head_in, IsAmong};
 
 use crate::spelled::Spelled;

@@ -1,7 +1,7 @@
 //! Symbols whose bytes stand elsewhere: a symbol is looked up by them before it is made.
 ghost use Rattle.std.specs.Prelude.{◌≡◌};
 ghost use Rattle.term_model.specs.Same.{same_symbol};
-ghost use Rattle.term_model.specs.SymbolSpelling.{symbol_spelled, IsSpelling};
+ghost use Rattle.term_model.specs.SymbolKinds.{symbol_spelled, IsSpelling};
 
 use indexmap::Equivalent;
 use std::hash::{Hash, Hasher};
@@ -17,7 +17,7 @@ pub(crate) struct Spelled<'a> {
 
 impl<'a> Model for Spelled<'a> {
     ghost use Rattle.term_model.specs.Symbol.{Symbol};
-    ghost use Rattle.term_model.specs.SymbolSpelling.{symbol_spelled, IsSpelling};
+    ghost use Rattle.term_model.specs.SymbolKinds.{symbol_spelled, IsSpelling};
 
     ghost Value = { Symbol };
 
