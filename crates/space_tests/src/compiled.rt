@@ -182,6 +182,7 @@ fn code_of_instructions(rt: HostRuntime) -> Result<(), Fail> {
         Vec::new(alloc),
         PrimNames::new(alloc),
         Vec::new(alloc),
+        Vec::new(alloc),
     );
     if code.len() != 10 || !code.prims().is_empty() {
         return Err(Fail::new("the code of ten instructions has no primitives"));

@@ -95,6 +95,22 @@ impl<'t> Groups<'t> {
         Ok(offsets)
     }
 
+    /// Where the names of all alternatives stand in the file: for each definition, in the order of their first alternatives, those of its
+    /// alternatives in the order in which they are tried. `AllocError` where a growth is refused.
+    pub(crate) fn all_offsets(&self, alloc: Global) -> Result<Vec<Vec<u64>>, AllocError> {
+        let mut offsets: Vec<Vec<u64>> = Vec::with_capacity(alloc, self.firsts.len())?;
+        for _ in &self.firsts {
+            offsets.push(Vec::new(alloc))?;
+        }
+        for head in &self.heads {
+            let number = self.number_of(*head);
+            if let Some(of_definition) = offsets.get_mut(number) {
+                of_definition.push(head.name.offset())?;
+            }
+        }
+        Ok(offsets)
+    }
+
     /// The definitions, in the order of their first alternatives: of each the alternatives are tried in the order of the text.
     /// The bodies are those of the alternatives in order, where the parameters of each have the names that the first of its
     /// definition gives them. `AllocError` where a growth is refused.

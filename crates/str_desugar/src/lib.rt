@@ -27,4 +27,4 @@ mod symbols;
 mod variables;
 
 pub use laws::{checked_files_resolve, checked_primitives_are_known};
-pub use program::to_core;
+pub use program::{alternative_heads, to_core};

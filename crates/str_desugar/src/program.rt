@@ -41,6 +41,14 @@ pub fn to_core(alloc: Global, hashing: HashKeys, checked: &Checked) -> Result<Co
     core_of(alloc, hashing, checked, &forms)
 }
 
+/// The bytes at which the names of the alternatives of each definition of the core program stand; those of the library at 0. No contract speaks
+/// of them. `AllocError` where the memory for it is refused.
+pub fn alternative_heads(alloc: Global, checked: &Checked) -> Result<Vec<Vec<u64>>, AllocError> {
+    let forms = forms_in(alloc, checked.file())?;
+    let groups = groups_of(alloc, &forms)?;
+    groups.all_offsets(alloc)
+}
+
 /// The core program of a checked file, whose rules and definitions are these.
 fn core_of(
     alloc: Global,

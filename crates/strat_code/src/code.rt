@@ -23,6 +23,8 @@ pub struct Code {
     prims: PrimNames,
     /// Where strategies stand in the definition file, by addresses. The view leaves this out.
     marks: Vec<SourceMark>,
+    /// Where the code of the definitions of the program begins, if that is kept. The view leaves this out.
+    entries: Vec<usize>,
 }
 
 impl Model for Code {
@@ -55,6 +57,7 @@ impl Code {
         tables: Vec<Vec<Case>>,
         prims: PrimNames,
         marks: Vec<SourceMark>,
+        entries: Vec<usize>,
     ) -> Code
         requires { IsCode (code_of tables.items instrs.items) prims }
         ensures instrs { result.instrs ≡ instrs.items }
@@ -66,7 +69,14 @@ impl Code {
             tables,
             prims,
             marks,
+            entries,
         }
+    }
+
+    /// The addresses at which the code of the definitions of the program begins, if they are kept: the code of each ends where that of the one
+    /// before it begins, and that of the first one at the end. No contract speaks of them.
+    pub fn entries(&self) -> &[usize] {
+        self.entries.as_slice()
     }
 
     /// The last mark that is not after the instruction at an address: where its strategy, or one before it in the same definition, stands in

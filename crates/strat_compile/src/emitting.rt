@@ -168,11 +168,11 @@ impl Output {
             let instr = locate(alloc, instr, count, starts.as_slice())?;
             made.push(instr)?;
         }
-        let marks = marks_of(alloc, count, sources)?;
+        let marked = marks_of(alloc, count, sources)?;
         Ok(Finished {
             instrs: made,
             tables,
-            marks,
+            marked,
         })
     }
 }

@@ -28,4 +28,4 @@ mod selects;
 mod sources;
 mod ways;
 
-pub use program::{compile, compile_with_marks};
+pub use program::{compile, compile_for_counts, compile_with_marks};

@@ -1,8 +1,8 @@
 //! Code as it is emitted, from its end to its beginning.
 ghost use Rattle.strat_compile.specs.Tables.{HaveTables};
 
-use crate::sources::Sources;
-use strat_code::{Case, Instr, SourceMark};
+use crate::sources::{Marked, Sources};
+use strat_code::{Case, Instr};
 
 /// The code from here to the end. What stands last in the code is emitted first, so that the place that an instruction leads
 /// to is known when it is emitted. A place is how many instructions there are from there to the end; a definition is
@@ -37,6 +37,5 @@ pub(crate) struct Output {
 pub(crate) struct Finished {
     pub(crate) instrs: Vec<Instr>,
     pub(crate) tables: Vec<Vec<Case>>,
-    /// Where strategies stand in the definition file, in the order of their addresses.
-    pub(crate) marks: Vec<SourceMark>,
+    pub(crate) marked: Marked,
 }

@@ -18,7 +18,7 @@ use crate::names::copy_names;
 use crate::output::Output;
 use crate::program_size::program_size;
 use crate::recursion::recursive_definitions;
-use crate::sources::Sources;
+use crate::sources::{Marked, Sources};
 use core_lang::{Coordinate, Core, CoreDef};
 use std::alloc::{AllocError, Global};
 use strat_code::{Code, Instr};
@@ -58,8 +58,32 @@ pub fn compile_with_marks(alloc: Global, core: &Core) -> Result<Code, AllocError
     ensures bounded { IfOk result (λ code.
         IsLinear (code_of code.tables code.instrs) (program_of core.now)) }
 {
+    let sources = Sources::new(alloc, core, false)?;
+    compile_marked(alloc, core, sources)
+}
+
+/// Makes code by which a run can be counted: as `compile_with_marks` does, but no selection passes a call by. So each alternative of a
+/// definition is tried as often as the derivation tries it. `AllocError` where the memory for it is refused.
+pub fn compile_for_counts(alloc: Global, core: &Core) -> Result<Code, AllocError>
+    ensures stands { IfOk result (λ code.
+        StandsFor (code_of code.tables code.instrs) (program_of core.now) core.now.main) }
+    ensures prims { IfOk result (λ code. code.prims ≡ core.now.prims) }
+    ensures bounded { IfOk result (λ code.
+        IsLinear (code_of code.tables code.instrs) (program_of core.now)) }
+{
+    let sources = Sources::new(alloc, core, true)?;
+    compile_marked(alloc, core, sources)
+}
+
+/// Makes code that keeps each call, and marks in it what the sources say.
+fn compile_marked(alloc: Global, core: &Core, sources: Sources) -> Result<Code, AllocError>
+    ensures stands { IfOk result (λ code.
+        StandsFor (code_of code.tables code.instrs) (program_of core.now) core.now.main) }
+    ensures prims { IfOk result (λ code. code.prims ≡ core.now.prims) }
+    ensures bounded { IfOk result (λ code.
+        IsLinear (code_of code.tables code.instrs) (program_of core.now)) }
+{
     let most = largest_code(core);
-    let sources = Sources::new(alloc, core)?;
     let Some(code) = code_within(alloc, core, most, true, Some(sources))? else {
         return Err(AllocError);
     };
@@ -118,7 +142,8 @@ fn compile_with_sources(
     let prims = copy_names(alloc, core.prims())?;
     let output = emit_program(alloc, core.defs(), core.main(), keeps_calls, sources)?;
     let finished = output.finish(alloc)?;
-    Ok(Code::new(finished.instrs, finished.tables, prims, finished.marks))
+    let Marked { marks, entries } = finished.marked;
+    Ok(Code::new(finished.instrs, finished.tables, prims, marks, entries))
 }
 
 fn emit_program(

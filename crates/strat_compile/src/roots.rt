@@ -313,6 +313,9 @@ pub(crate) fn joining(
         roots.push(root)?;
         return Ok(Some(Asked { roots, nodes }));
     }
+    if out.performs_calls() {
+        return Ok(None);
+    }
     let most = out.visits_left();
     let mut limit = most;
     let found = roots_asked(alloc, layers, &arm.guard, &mut limit, &mut roots)?;

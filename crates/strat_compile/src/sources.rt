@@ -12,13 +12,21 @@ use strat_code::SourceMark;
 pub(crate) struct Sources {
     /// Where the names of the program's definitions stand, by their labels.
     heads: Vec<u64>,
+    /// Where their code begins. In place of an address each has the place of its instruction.
+    entries: Vec<usize>,
     /// In place of an address each has the place of its instruction.
     marks: Vec<SourceMark>,
+    /// Whether no selection passes a call by.
+    performs_calls: bool,
 }
 
 impl Sources {
     /// Nothing is marked yet in the code of this core.
-    pub(crate) fn new(alloc: Global, core: &Core) -> Result<Sources, AllocError> {
+    pub(crate) fn new(
+        alloc: Global,
+        core: &Core,
+        performs_calls: bool,
+    ) -> Result<Sources, AllocError> {
         let count = core.defs().len();
         let mut heads = Vec::with_capacity(alloc, count)?;
         for position in 0..count {
@@ -26,7 +34,9 @@ impl Sources {
         }
         Ok(Sources {
             heads,
+            entries: Vec::from_elem(alloc, 0usize, count)?,
             marks: Vec::new(alloc),
+            performs_calls,
         })
     }
 
@@ -46,6 +56,9 @@ impl Sources {
 
     /// Marks an instruction with which the code of a label begins, if that is the label of a definition of the program.
     fn mark_start(&mut self, place: usize, label: usize) -> Result<(), AllocError> {
+        if let Some(entry) = self.entries.get_mut(label) {
+            *entry = place;
+        }
         let Some(offset) = self.heads.get(label).copied() else {
             return Ok(());
         };
@@ -54,6 +67,14 @@ impl Sources {
 }
 
 impl Output {
+    /// Whether no selection may pass a call by.
+    pub(crate) fn performs_calls(&self) -> bool {
+        match &self.sources {
+            Some(sources) => sources.performs_calls,
+            None => false,
+        }
+    }
+
     /// The strategy of the newest instruction stands at this byte of the definition file, if at one that is known.
     #[tactic(auto, unfolding(crate::specs::Output::emitted_of))]
     #[inline(never)]
@@ -83,21 +104,32 @@ impl Output {
     }
 }
 
-/// What is marked in code of this number of instructions, by addresses.
+/// What is marked in code, by addresses: where its strategies stand, and where its definitions begin.
+#[derive(Drop)]
+pub(crate) struct Marked {
+    pub(crate) marks: Vec<SourceMark>,
+    pub(crate) entries: Vec<usize>,
+}
+
+/// What is marked in code of this number of instructions.
 pub(crate) fn marks_of(
     alloc: Global,
     count: usize,
     sources: Option<Sources>,
-) -> Result<Vec<SourceMark>, AllocError> {
-    let mut made = Vec::new(alloc);
+) -> Result<Marked, AllocError> {
+    let mut marks = Vec::new(alloc);
+    let mut entries = Vec::new(alloc);
     let Some(sources) = sources else {
-        return Ok(made);
+        return Ok(Marked { marks, entries });
     };
     for mark in sources.marks.iter().rev() {
-        made.push(SourceMark {
+        marks.push(SourceMark {
             address: count.saturating_sub(mark.address),
             offset: mark.offset,
         })?;
     }
-    Ok(made)
+    for place in &sources.entries {
+        entries.push(count.saturating_sub(*place))?;
+    }
+    Ok(Marked { marks, entries })
 }
