@@ -95,8 +95,8 @@ impl<'t> Groups<'t> {
         Ok(offsets)
     }
 
-    /// Where the names of all alternatives stand in the file: for each definition, in the order of their first alternatives, those of its
-    /// alternatives in the order in which they are tried. `AllocError` where a growth is refused.
+    /// Returns where the names of all alternatives stand in the file: for each definition, in the order of their first alternatives, those of
+    /// its alternatives in the order in which they are tried. `AllocError` where a growth is refused.
     pub(crate) fn all_offsets(&self, alloc: Global) -> Result<Vec<Vec<u64>>, AllocError> {
         let mut offsets: Vec<Vec<u64>> = Vec::with_capacity(alloc, self.firsts.len())?;
         for _ in &self.firsts {

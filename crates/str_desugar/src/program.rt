@@ -41,11 +41,16 @@ pub fn to_core(alloc: Global, hashing: HashKeys, checked: &Checked) -> Result<Co
     core_of(alloc, hashing, checked, &forms)
 }
 
-/// The bytes at which the names of the alternatives of each definition of the core program stand; those of the library at 0. No contract speaks
-/// of them. `AllocError` where the memory for it is refused.
-pub fn alternative_heads(alloc: Global, checked: &Checked) -> Result<Vec<Vec<u64>>, AllocError> {
+/// Returns the bytes at which the names of alternatives stand in the file: for each definition of the core program, in its order, those of its
+/// alternatives in the order in which they are tried. Names of the library stand at 0. No contract speaks of them. `AllocError` where the memory
+/// for them is refused.
+pub fn alternative_heads(
+    alloc: Global,
+    hashing: HashKeys,
+    checked: &Checked,
+) -> Result<Vec<Vec<u64>>, AllocError> {
     let forms = forms_in(alloc, checked.file())?;
-    let groups = groups_of(alloc, &forms)?;
+    let groups = groups_of(alloc, hashing, &forms)?;
     groups.all_offsets(alloc)
 }
 
