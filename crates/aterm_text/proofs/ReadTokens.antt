@@ -10,7 +10,7 @@ use Rattle.term_model.specs.QuotedText.{Item, raw, letter, octal, AreItems, IsQu
 use Rattle.term_model.specs.declared.term.Head.TheVariants as heads
 use Rattle.term_model.specs.Symbol.{Symbol, Plain, Quoted, Tuple, begins_name, continues_name, is_name}
 use Rattle.term_model.specs.Limits.{IsInRange}
-use Rattle.aterm_text.specs.IntegerBounds.{max_magnitude}
+use Rattle.term_model.specs.IntegerBounds.{max_magnitude}
 use Rattle.term_model.specs.Term.{end}
 use Rattle.aterm_text.specs.Tokens.{AreSigned, AreDigits, IsInteger, IsSymbolText}
 use Rattle.aterm_text.specs.Depth.{Open}

@@ -5,7 +5,6 @@ pub mod Reading
 pub mod Brackets
 pub mod Text
 pub mod ReadTerm
-pub mod IntegerBounds
 pub mod ReadIn
 pub mod Canonical
 pub mod Output

@@ -5,7 +5,7 @@ ghost use Rattle.aterm_text.specs.Depth.{Open};
 ghost use Rattle.aterm_text.specs.Reading.{InDigits, InSign, Refuses, outcome_from, outcome_of};
 ghost use Rattle.term_model.specs.Bytes.{is_digit};
 ghost use Rattle.term_model.specs.declared.term.Head.TheVariants.{Int};
-ghost use Rattle.aterm_text.specs.IntegerBounds.{max_magnitude};
+ghost use Rattle.term_model.specs.IntegerBounds.{max_magnitude};
 ghost use Rattle.term_model.specs.Space.{Keeps};
 ghost use Rattle.term_model.specs.Term.{node, end};
 

@@ -4,6 +4,7 @@ pub mod Symbol
 pub mod SymbolKinds
 pub mod Spelling
 pub mod Limits
+pub mod IntegerBounds
 pub mod Term
 pub mod TermParts
 pub mod TermCode
