@@ -2,6 +2,8 @@ pub mod CauseLaws
 pub mod FormLaws
 pub mod PrefixLaws
 pub mod PrettyLaws
+pub mod SpacedBytes
+pub mod SpacedTerms
 pub mod PrimitiveLaws
 pub mod RawLaws
 pub mod RequestLaws

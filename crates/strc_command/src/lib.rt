@@ -7,6 +7,7 @@ mod definition_files;
 mod ending;
 mod failure;
 mod formed;
+mod laws;
 mod names;
 mod open_streams;
 mod opening;
@@ -22,6 +23,7 @@ mod stopping;
 mod version;
 mod words;
 
+pub use laws::pretty_text_law;
 pub use paths::{Files, Paths};
 pub use primitives::run_standard;
 pub use program::run;
