@@ -228,7 +228,7 @@ pub fn transform<D: Source, T: Source, M: PrimMeaning, W: Sink>(
 /// Does as `transform` does, and notes what a person wants to know where the definitions or the term are refused: which text is, at
 /// which place, and what is wrong there; and else what the run used. What was noted before is dropped. If the notes ask for an
 /// explanation and neither text is refused, it is noted, with warnings, after the line is written; for it the program may run up to
-/// three times more. Neither what is written nor the result depends on notes.
+/// three times more. The clauses are those of `transform`, whatever is noted.
 ///
 /// # Errors
 /// As of `transform`.
@@ -264,8 +264,8 @@ pub fn transform_with_notes<D: Source, T: Source, M: PrimMeaning, W: Sink>(
 /// that is `#term`, ended by a line feed, by CR and line feed or by the end of the input, and the
 /// text of the term is what comes after it; where no such line comes, all is definitions and that
 /// text is empty. At most 1,048,583 reads are made for the definitions and the line, and 16,777,217 for
-/// the term. The definitions are judged as soon as the line has been read, after at most as many reads as
-/// they have bytes, and eight; where they are refused no further read is made, however the call ends.
+/// the term. The definitions are judged as soon as the line has been read: where they are refused, at most as
+/// many reads are made as they have bytes, and eight, however the call ends.
 ///
 /// # Errors
 /// As of `transform`.
@@ -292,8 +292,8 @@ pub fn transform_joined<S: Source, M: PrimMeaning, W: Sink>(
 
 /// Does as `transform_joined` does, and notes what a person wants to know where the definitions or the term are refused, and else what
 /// the run used. What was noted before is dropped. If the notes ask for an explanation and neither text is refused, it is noted, with
-/// warnings, after the line is written; for it the program may run up to three times more. Neither what is written nor the result
-/// depends on notes.
+/// warnings, after the line is written; for it the program may run up to three times more. The clauses are those of
+/// `transform_joined`, whatever is noted.
 ///
 /// # Errors
 /// As of `transform`.

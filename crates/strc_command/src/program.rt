@@ -308,7 +308,8 @@ fn range_of(kind: ErrorKind) -> &'static str {
 /// says how large the budget was that was spent, or how large the term was, if that is known. Where the words ask why there is no result,
 /// lines say it next for 1 and 3, if memory for that was there. Where they ask for the numbers of the run, a line with them comes last
 /// for 0, 1 and 3. For 5 `diagnostics` says what is wrong with the words and, if the parser of the command line refused them, how to get
-/// the help text. A write to `diagnostics` that fails changes nothing.
+/// the help text. A write to `diagnostics` that fails changes nothing. Of these texts no clause says more than the
+/// first line for 2 and 4.
 #[tactic(auto, using(crate::proofs::CauseLaws::line_told, crate::proofs::CauseLaws::of_reading, crate::proofs::CauseLaws::fault_told))]
 pub fn run<P: Paths, I: Source, W: Sink, E: Sink, M: PrimMeaning>(
     alloc: Global,
