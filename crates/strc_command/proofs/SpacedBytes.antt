@@ -92,16 +92,18 @@ no_mark p none b e =
     let quote = or_parts (p 34) (p 44) front.0 in
     let round = or_parts (p 40) (p 41) front.1 in
     let square = or_parts (p 91) (p 93) back.0 in
-    let curly = or_parts (p 123) (p 125) back.1 in
-    (rw (
-      differs p 44 quote.1 b e,
-      differs p 40 round.0 b e,
-      differs p 41 round.1 b e,
-      differs p 91 square.0 b e,
-      differs p 93 square.1 b e,
-      differs p 123 curly.0 b e,
-      differs p 125 curly.1 b e,
-    ) refl, rw (differs p 34 quote.0 b e) refl)
+    let curly = or_parts (p 123) (p 125) back.1 in (
+      rw (
+        differs p 44 quote.1 b e,
+        differs p 40 round.0 b e,
+        differs p 41 round.1 b e,
+        differs p 91 square.0 b e,
+        differs p 93 square.1 b e,
+        differs p 123 curly.0 b e,
+        differs p 125 curly.1 b e,
+      ) refl,
+      rw (differs p 34 quote.0 b e) refl,
+    )
 
 pub keeps_all : (p : ℕ → Bool) → passes_mark p ≡ false → (bs : List ℕ) → list_all p bs ≡ true →
     Keeps Outside bs Outside
